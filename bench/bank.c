@@ -3,7 +3,7 @@
    accounts. A transfer locks the table and a page in IX and the account in X, twice; an audit locks the table in S. Accounts lie in
    plain memory, 50 to a page. A deadlock's victim undoes, aborts and starts again. A thread whose request waits sleeps until it is
    woken. HOW is
-       office   sessions of one office, by pelgaisti_session_perform_waking
+       office   sessions of one office, by pelgaisti_session_perform
        book     one book behind a mutex, whose callers wake whom pelgaisti_book_ended names
        berkeley the lock subsystem of Berkeley DB, which blocks, if built with -DBERKELEY_DB
    Prints transfers a second and the time of one, from its begin to its commit: the median, the 99th of 100 and the greatest. Fails
@@ -58,12 +58,11 @@ static void wake(void *engine, uint32_t session) {
     sem_post(&woken[session]);
 }
 
+static const pelgaisti_waker waker = {wake, NULL};
+
 static pelgaisti_reply ask_office(worker *w, const pelgaisti_call *call) {
-    pelgaisti_waker waker = {wake, NULL, NULL, 0};
     pelgaisti_answer answer;
-    waker.list = w->told;
-    waker.room = threads;
-    if (pelgaisti_session_perform_waking(&sessions[w->session - 1], call, UINT64_MAX, &waker, &answer)) exit(4);
+    if (pelgaisti_session_perform(&sessions[w->session - 1], call, UINT64_MAX, &answer)) exit(4);
     return answer.reply;
 }
 
@@ -230,7 +229,7 @@ int main(int argc, char **argv) {
     if (how > BERKELEY || threads < 1 || threads > MOST_THREADS || !transfers || count < 2 || count > MOST_ACCOUNTS) return 2;
     if (!(times = malloc(transfers * sizeof *times))) return 4;
     for (unsigned k = 0; k < count; k++) accounts[k] = START;
-    if (how == OFFICE && pelgaisti_office_open_keeping(sessions, threads, 0)) return 4;
+    if (how == OFFICE && pelgaisti_office_open_waking(sessions, threads, 0, &waker)) return 4;
     if (how == BOOK && (pelgaisti_book_open(&book, threads) || pelgaisti_book_keep_at_most(&book, 0))) return 4;
 #ifdef BERKELEY_DB
     if (how == BERKELEY) open_environment();

@@ -23,7 +23,6 @@ enum { MOST = 256 };
 typedef struct worker {
     pelgaisti_session *session;
     uint32_t number, random;
-    uint32_t told[MOST];
     uint64_t *waits;
     size_t waited;
 } worker;
@@ -51,9 +50,14 @@ static void wake(void *engine, uint32_t session) {
     sem_post(&woken[session]);
 }
 
+static const pelgaisti_waker waker = {wake, NULL};
+
+static pelgaisti_status open_office(void) {
+    return how == SLEEP ? pelgaisti_office_open_waking(sessions, threads, 0, &waker) : pelgaisti_office_open_keeping(sessions, threads, 0);
+}
+
 static pelgaisti_reply ask(worker *w, uint32_t op, uint32_t record) {
     pelgaisti_call call = {0, 0, {0, {0}}};
-    pelgaisti_waker waker = {wake, NULL, NULL, 0};
     pelgaisti_answer answer;
     call.op = op;
     if (record) {
@@ -61,9 +65,7 @@ static pelgaisti_reply ask(worker *w, uint32_t op, uint32_t record) {
         call.resource.level = 1;
         call.resource.numbers[0] = record;
     }
-    waker.list = w->told;
-    waker.room = threads;
-    if (pelgaisti_session_perform_waking(w->session, &call, UINT64_MAX, how == SLEEP ? &waker : NULL, &answer)) exit(4);
+    if (pelgaisti_session_perform(w->session, &call, UINT64_MAX, &answer)) exit(4);
     return answer.reply;
 }
 
@@ -123,7 +125,7 @@ int main(int argc, char **argv) {
     if (way == 3 || threads < 1 || threads > MOST || records < 1 || transactions < 1) return 2;
     how = way == 0 ? SLEEP : way == 1 ? POLL : YIELD;
     all = (double)threads * transactions;
-    if (!(waits = malloc((size_t)all * sizeof *waits)) || pelgaisti_office_open_keeping(sessions, threads, 0)) return 4;
+    if (!(waits = malloc((size_t)all * sizeof *waits)) || open_office()) return 4;
     for (unsigned t = 0; t < threads; t++) {
         workers[t].session = &sessions[t];
         workers[t].number = workers[t].random = t + 1;

@@ -58,11 +58,15 @@ static void try_meanwhile(void) {
 
 /* The calls that may lack memory, and how often memory was refused to each. */
 enum { BOOK_OPEN, BOOK_SERVE, BOOK_SERVE_BATCH, BOOK_LOCK_PATH, BOOK_HOLDERS, BOOK_LOCKS, OFFICE_OPEN, SESSION_SERVE, AT_ONCE, TELLING,
-       SESSION_HOLDERS, SESSION_BLOCKERS, SESSION_LOCKS, HAND_IN, OFFICE_CLOSE, LACKING };
+       SESSION_HOLDERS, SESSION_BLOCKERS, SESSION_LOCKS, HAND_IN, OFFICE_CLOSE, OPEN_WAKING, WAKING_SERVE, WAKING_SERVE_TELLING,
+       WAKING_AT_ONCE, WAKING_TELLING, WAKING_PERFORM, WAKING_PATH, LACKING };
 static const char *const lacking[LACKING] = {"book_open", "book_serve", "book_serve_batch", "book_lock_path", "book_holders",
                                              "book_locks", "office_open", "session_serve", "session_perform_at_once",
                                              "session_perform_telling", "session_holders", "session_blockers", "session_locks",
-                                             "session_hand_in", "office_close"};
+                                             "session_hand_in", "office_close", "office_open_waking", "session_serve, which wakes",
+                                             "session_serve_telling, which wakes", "session_perform_at_once, which wakes",
+                                             "session_perform_telling, which wakes", "session_perform, which wakes",
+                                             "session_lock_path, which wakes"};
 static long lacked[LACKING];
 
 /* How many batches were refused memory behind the calls that they served. */
@@ -287,7 +291,7 @@ static void perform_nth(pelgaisti_session *session, uint32_t k, uint64_t place) 
     if (is_lacking(is_telling ? TELLING : AT_ONCE, status)) {
         CHECK(answer.place == 99 && pass.served == 99 && list[0] == 77 && count == (is_telling ? 0 : 99));
         CHECK(pelgaisti_session_collect(session, &answer) == PELGAISTI_NOTHING_PENDING);
-        status = pelgaisti_session_perform_waking(session, &call, 1, NULL, &answer);
+        status = pelgaisti_session_perform(session, &call, 1, &answer);
     }
     CHECK(status == PELGAISTI_OK && answer.place == place && answer.reply.kind == PELGAISTI_GRANTED);
 }
@@ -372,6 +376,149 @@ static void offices(void) {
     CHECK(pelgaisti_book_close(&book) == PELGAISTI_OK);
 }
 
+/* How often each clerk was woken in a round. */
+static uint32_t wakes[CLERKS + 1];
+static void note_wake(void *engine, uint32_t session) { ((uint32_t *)engine)[session]++; }
+
+/* How often a call that was refused memory, or whose pass was starved, has woken clerk 2 all the same, by the call. */
+static long woken_then[LACKING];
+
+/* Whether clerk 2 was woken exactly if its wait has ended, and nobody else was. It is asked after each call, whatever its status. */
+static int are_woken(pelgaisti_session *sessions) {
+    pelgaisti_claim claim = {99, 99, 99, 99, 99, {0, {0}}};
+    uint64_t seen;
+    CHECK(pelgaisti_session_request(&sessions[4], 2, &claim, &seen) == PELGAISTI_OK);
+    return wakes[1] + wakes[3] + wakes[4] + wakes[5] == 0 && wakes[2] == (claim.kind == 0);
+}
+
+/* The same, of a call that tells whom it has woken, too. */
+static int is_woken_as_told(pelgaisti_session *sessions, const uint32_t *list, size_t count, uint32_t before) {
+    return are_woken(sessions) && count == wakes[2] - before && (count == 0 || list[0] == 2);
+}
+
+/* Whether the call was refused memory, as is_lacking tells; notes whether it has woken clerk 2. */
+static int is_lacking_awake(int call, uint32_t status, uint32_t before) {
+    woken_then[call] += status == PELGAISTI_NO_MEMORY && wakes[2] > before;
+    return is_lacking(call, status);
+}
+
+/* Clerk 4 makes passes until one isn't starved, which serve the commit of clerk 1 and a lock of clerk 3 on a new resource. */
+static void serve_awake(pelgaisti_session *sessions, pelgaisti_call lock, int is_telling) {
+    int call = is_telling ? WAKING_SERVE_TELLING : WAKING_SERVE;
+    pelgaisti_answer answer;
+    pelgaisti_pass pass;
+    CHECK(pelgaisti_session_publish(&sessions[2], &lock, NULL) == PELGAISTI_OK);
+    do {
+        uint32_t list[CLERKS] = {77}, before = wakes[2], status;
+        size_t count = 0;
+        pass.starved = 99;
+        status = is_telling ? pelgaisti_session_serve_telling(&sessions[3], &pass, list, CLERKS, &count)
+                            : pelgaisti_session_serve(&sessions[3], &pass);
+        if (is_telling) CHECK(is_woken_as_told(sessions, list, count, before));
+        else CHECK(are_woken(sessions));
+        if (is_lacking_awake(call, status, before)) {
+            CHECK(is_telling && pass.starved == 99 && count == 0); /* no pass was made */
+            continue;
+        }
+        CHECK(status == PELGAISTI_OK);
+        if (pass.starved) {
+            lacked[call]++;
+            woken_then[call] += wakes[2] > before;
+        }
+    } while (pass.starved);
+    CHECK(pelgaisti_session_collect(&sessions[2], &answer) == PELGAISTI_OK && answer.reply.kind == PELGAISTI_GRANTED);
+}
+
+/* Clerk 3 performs the lock at once, until memory is there, in passes that serve the commit of clerk 1. */
+static void perform_awake(pelgaisti_session *sessions, pelgaisti_call lock, int is_telling) {
+    int call = is_telling ? WAKING_TELLING : WAKING_AT_ONCE;
+    pelgaisti_answer answer = {99, {77, 88}};
+    uint32_t status, before;
+    do {
+        uint32_t list[CLERKS] = {77};
+        size_t count = 99;
+        before = wakes[2];
+        status = is_telling ? pelgaisti_session_perform_telling(&sessions[2], &lock, NULL, &answer, list, CLERKS, &count)
+                            : pelgaisti_session_perform_at_once(&sessions[2], &lock, NULL, &answer);
+        if (is_telling) CHECK(is_woken_as_told(sessions, list, count, before));
+        else CHECK(are_woken(sessions));
+    } while (is_lacking_awake(call, status, before));
+    CHECK(status == PELGAISTI_OK && answer.reply.kind == PELGAISTI_GRANTED);
+}
+
+/* Clerk 3 performs the lock, or locks a path, and finishes what is left pending. */
+static void whole_call_awake(pelgaisti_session *sessions, pelgaisti_call lock, int is_path) {
+    int call = is_path ? WAKING_PATH : WAKING_PERFORM;
+    pelgaisti_resource path = {3, {lock.resource.numbers[0], 2, 3}};
+    pelgaisti_answer answer = {99, {77, 88}};
+    uint32_t status, level = 0;
+    do {
+        uint32_t before = wakes[2];
+        status = is_path ? pelgaisti_session_lock_path(&sessions[2], &path, PELGAISTI_X, &level, 9, &answer)
+                         : pelgaisti_session_perform(&sessions[2], &lock, 9, &answer);
+        CHECK(are_woken(sessions));
+        if (!is_lacking_awake(call, status, before)) break;
+        do {
+            before = wakes[2];
+            status = pelgaisti_session_perform(&sessions[2], NULL, 9, &answer);
+            CHECK(are_woken(sessions));
+        } while (is_lacking_awake(call, status, before));
+        CHECK(status == PELGAISTI_OK && answer.reply.kind == PELGAISTI_GRANTED);
+    } while (is_path);
+    CHECK(status == PELGAISTI_OK && answer.reply.kind == PELGAISTI_GRANTED && (!is_path || level == 3));
+}
+
+/* Performs a call whose memory is refused as often as it is. */
+static void perform_surely(pelgaisti_session *session, pelgaisti_call call, uint32_t kind) {
+    pelgaisti_answer answer = {99, {77, 88}};
+    pelgaisti_status status = pelgaisti_session_perform(session, &call, 9, &answer);
+    while (status == PELGAISTI_NO_MEMORY) status = pelgaisti_session_perform(session, NULL, 9, &answer);
+    CHECK(status == PELGAISTI_OK && answer.reply.kind == kind);
+}
+
+/* In an office with a waker clerk 1 holds a resource, clerk 2 waits for it, and a pass serves the published commit of clerk 1, with a
+   lock on a new resource behind it, by each call that makes a pass. Whatever allocation is refused, and whatever the call returns,
+   clerk 2 was woken once if its wait has ended, and else a later pass wakes it. */
+static void wakers(void) {
+    static const pelgaisti_waker waker = {note_wake, wakes};
+    pelgaisti_session sessions[CLERKS];
+    pelgaisti_book book = PELGAISTI_EMPTY;
+    memset(sessions, 0, sizeof sessions);
+    uint32_t status = pelgaisti_office_open_waking(sessions, CLERKS, UINT64_MAX, &waker);
+    if (is_lacking(OPEN_WAKING, status)) {
+        for (int k = 0; k < CLERKS; k++) CHECK(sessions[k].is_open_ == 0 && sessions[k].at_ == NULL);
+        status = pelgaisti_office_open_waking(sessions, CLERKS, UINT64_MAX, &waker);
+    }
+    CHECK(status == PELGAISTI_OK);
+    perform_surely(&sessions[2], begin, PELGAISTI_BEGAN);
+    for (uint32_t round = 0; round < 60; round++) {
+        pelgaisti_call commit = call_of(PELGAISTI_COMMIT, 0, 0), lock = call_of(PELGAISTI_LOCK, PELGAISTI_IX, 300 + round);
+        pelgaisti_answer answer;
+        memset(wakes, 0, sizeof wakes);
+        for (int k = 0; k < 2; k++) {
+            perform_surely(&sessions[k], begin, PELGAISTI_BEGAN);
+            perform_surely(&sessions[k], call_of(PELGAISTI_LOCK, PELGAISTI_X, 7), k == 0 ? PELGAISTI_GRANTED : PELGAISTI_WAITING);
+        }
+        CHECK(pelgaisti_session_publish(&sessions[0], &commit, NULL) == PELGAISTI_OK);
+        switch (round % 6) {
+        case 0:
+        case 1: serve_awake(sessions, lock, round % 6 == 1); break;
+        case 2:
+        case 3: perform_awake(sessions, lock, round % 6 == 3); break;
+        default: whole_call_awake(sessions, lock, round % 6 == 5);
+        }
+        CHECK(wakes[2] == 1);
+        CHECK(pelgaisti_session_collect(&sessions[0], &answer) == PELGAISTI_OK && answer.reply.kind == PELGAISTI_COMMITTED);
+        perform_surely(&sessions[1], call_of(PELGAISTI_POLL, 0, 0), PELGAISTI_CLEAR);
+        perform_surely(&sessions[1], commit, PELGAISTI_COMMITTED);
+        CHECK(wakes[2] == 1);
+    }
+    for (int k = CLERKS - 1; k > 0; k--)
+        while (is_lacking(HAND_IN, pelgaisti_session_hand_in(&sessions[k], &sessions[0]))) continue;
+    while (is_lacking(OFFICE_CLOSE, pelgaisti_office_close(&sessions[0], &book))) continue;
+    CHECK(pelgaisti_book_close(&book) == PELGAISTI_OK);
+}
+
 /* While one session makes a pass, which allocates, a serve of another session returns ELSEWHERE and writes nothing, and so do the
    calls that a third performs at once. The calls of both sessions are answered afterwards. */
 static void elsewhere(void) {
@@ -416,12 +563,18 @@ int main(void) {
     each_in_turn("books", books);
     each_in_turn("paths", paths);
     each_in_turn("offices", offices);
+    each_in_turn("wakers", wakers);
     for (int call = 0; call < LACKING; call++)
         if (!lacked[call]) {
             failed++;
             printf("memory was never refused to %s\n", lacking[call]);
         }
     CHECK(met > 0 && cut_short > 0 && told_before > 0);
+    for (int call = WAKING_SERVE; call <= WAKING_PATH; call++)
+        if (!woken_then[call]) {
+            failed++;
+            printf("nobody was woken by a call that lacked memory: %s\n", lacking[call]);
+        }
     elsewhere();
     printf("elsewhere: %ld checks failed\n", failed);
     return failed != 0;

@@ -289,7 +289,7 @@ static void levels_are_locked(void) {
     size_t count = 0;
     uint32_t mode = 99;
 
-    CHECK(pelgaisti_version() == PELGAISTI_HEADER_VERSION && PELGAISTI_HEADER_VERSION == 3);
+    CHECK(pelgaisti_version() == PELGAISTI_HEADER_VERSION && PELGAISTI_HEADER_VERSION == 4);
     CHECK(PELGAISTI_LEVELS == 5 && sizeof lock.resource.numbers == 20);
     CHECK(pelgaisti_book_open(&book, 1024) == PELGAISTI_OK);
     CHECK(pelgaisti_book_serve(&book, 1024, &begin, &reply) == PELGAISTI_OK && reply.kind == PELGAISTI_BEGAN);
@@ -536,7 +536,7 @@ static void paths_and_pending_calls(void) {
     pelgaisti_book book = PELGAISTI_EMPTY;
     pelgaisti_resource other = {1, {2}};
     pelgaisti_answer answer;
-    uint32_t mode = 99, level = 0, list[2];
+    uint32_t mode = 99, level = 0;
     uint64_t seen = 99, before = 0;
 
     CHECK(pelgaisti_office_open(two, 2) == PELGAISTI_OK);
@@ -544,13 +544,9 @@ static void paths_and_pending_calls(void) {
     CHECK(pelgaisti_session_perform(&two[0], &lock, 0, &answer) == PELGAISTI_NOT_SERVED);
     answer.place = 99;
     for (int is_served = 0; is_served <= 1; is_served++) {
-        pelgaisti_waker waker = {post, NULL, list, 2};
         CHECK(pelgaisti_session_seen(&two[0], &before) == PELGAISTI_OK);
-        for (uint64_t turns = 0; turns <= 40; turns += 20) {
+        for (uint64_t turns = 0; turns <= 40; turns += 20)
             CHECK(pelgaisti_session_lock_path(&two[0], &other, PELGAISTI_X, &level, turns, &answer) == PELGAISTI_PENDING);
-            CHECK(pelgaisti_session_lock_path_waking(&two[0], &other, PELGAISTI_X, &level, turns, &waker, &answer) == PELGAISTI_PENDING);
-            waker.room = 1;
-        }
         CHECK(level == 0 && answer.place == 99 && pelgaisti_session_seen(&two[0], &seen) == PELGAISTI_OK && seen == before);
         if (!is_served) CHECK(pelgaisti_session_serve(&two[1], NULL) == PELGAISTI_OK);
     }
@@ -1719,15 +1715,16 @@ typedef struct sleeper {
     pelgaisti_session *session;
     uint32_t number;
     uint64_t waits, withdrawn, bad;
-    uint32_t told[SLEEPERS];
 } sleeper;
 
-/* Makes a call, and posts the semaphore of each session whose wait a pass of this thread has ended. Returns the reply's kind. */
+/* What posts the semaphore of each session whose wait has ended. */
+static const pelgaisti_waker posts = {post, woken};
+
+/* Makes a call. Returns the reply's kind. */
 static uint32_t call_and_wake(sleeper *j, uint32_t op, uint32_t database) {
     pelgaisti_call call = call_of(op, PELGAISTI_X, 1, database, 0);
-    pelgaisti_waker waker = {post, woken, j->told, SLEEPERS};
     pelgaisti_answer answer = {0, {0, 0}};
-    j->bad += pelgaisti_session_perform_waking(j->session, &call, UINT64_MAX, &waker, &answer) != PELGAISTI_OK;
+    j->bad += pelgaisti_session_perform(j->session, &call, UINT64_MAX, &answer) != PELGAISTI_OK;
     return answer.reply.kind;
 }
 
@@ -1804,7 +1801,7 @@ static void threads_sleep(void) {
     uint64_t waits = 0, polls = 0, withdrawn = 0, taken_back = 0;
     size_t count = 0;
 
-    CHECK(pelgaisti_office_open(sessions, SLEEPERS) == PELGAISTI_OK);
+    CHECK(pelgaisti_office_open_waking(sessions, SLEEPERS, UINT64_MAX, &posts) == PELGAISTI_OK);
     CHECK(pthread_barrier_init(&all_here, NULL, SLEEPERS) == 0);
     for (uint32_t t = 0; t < SLEEPERS; t++) {
         jobs[t].session = &sessions[t];
@@ -1878,12 +1875,14 @@ static int is_asked(uint32_t session) {
     return is;
 }
 
-/* Makes a call, and notes the sessions whose wait a pass of this thread has ended. Returns the reply's kind. */
+/* What notes the sessions whose wait has ended. */
+static const pelgaisti_waker notes = {note_ended, beds};
+
+/* Makes a call. Returns the reply's kind. */
 static uint32_t call_and_note(sleeper *j, uint32_t op) {
     pelgaisti_call call = call_of(op, PELGAISTI_X, 1, 1, 0);
-    pelgaisti_waker waker = {note_ended, beds, j->told, SLEEPERS};
     pelgaisti_answer answer = {0, {0, 0}};
-    j->bad += pelgaisti_session_perform_waking(j->session, &call, UINT64_MAX, &waker, &answer) != PELGAISTI_OK;
+    j->bad += pelgaisti_session_perform(j->session, &call, UINT64_MAX, &answer) != PELGAISTI_OK;
     return answer.reply.kind;
 }
 
@@ -1928,7 +1927,7 @@ static void an_operator_ends_transactions(void) {
     uint64_t bad = 0, aborts = 0, commits = 0, taken_back = 0;
     size_t count = 0;
 
-    CHECK(pelgaisti_office_open(sessions, 3) == PELGAISTI_OK);
+    CHECK(pelgaisti_office_open_waking(sessions, 3, UINT64_MAX, &notes) == PELGAISTI_OK);
     CHECK(pthread_barrier_init(&all_here, NULL, 4) == 0);
     for (uint32_t s = 1; s <= 3; s++) {
         jobs[s - 1].session = &sessions[s - 1];
@@ -1966,27 +1965,195 @@ static void an_operator_ends_transactions(void) {
     CHECK(pelgaisti_book_close(&book) == PELGAISTI_OK);
 }
 
-/* What a waker has to have, and that its list is too small. */
-static void wakers_refuse(void) {
+/* How often each session was woken, of offices whose waker is `tallies`. */
+enum { MANY = 40 };
+static uint32_t tally[MANY + 1];
+static void count_wake(void *engine, uint32_t session) { ((uint32_t *)engine)[session]++; }
+static const pelgaisti_waker tallies = {count_wake, tally};
+
+/* Whether of sessions 1 to `count` exactly `session` was woken, once; 0: nobody was. Forgets the wake-ups. */
+static int was_woken(uint32_t count, uint32_t session) {
+    int is_right = 1;
+    for (uint32_t s = 1; s <= count; s++) {
+        is_right &= tally[s] == (s == session);
+        tally[s] = 0;
+    }
+    return is_right;
+}
+
+/* Performs a call of the session and returns the reply's kind. */
+static uint32_t kind_of(pelgaisti_session *session, pelgaisti_call call) {
+    pelgaisti_answer answer = {0, {0, 0}};
+    CHECK(pelgaisti_session_perform(session, &call, 9, &answer) == PELGAISTI_OK);
+    return answer.reply.kind;
+}
+
+static void close_all(pelgaisti_session *sessions, int count, pelgaisti_book *book) {
+    for (int s = count - 1; s > 0; s--) CHECK(pelgaisti_session_hand_in(&sessions[s], &sessions[0]) == PELGAISTI_OK);
+    CHECK(pelgaisti_office_close(&sessions[0], book) == PELGAISTI_OK);
+}
+
+/* What an office that is opened with a waker refuses, and that it keeps its bound and the waker's address, which sessions tell. */
+static void wakers_are_registered(void) {
+    static pelgaisti_session sessions[3], other[1], many[PELGAISTI_MAX_SESSIONS + 1];
+    pelgaisti_book book = PELGAISTI_EMPTY;
+    pelgaisti_call begin = call_of(PELGAISTI_BEGIN, 0, 0, 0, 0), commit = call_of(PELGAISTI_COMMIT, 0, 0, 0, 0);
+    const pelgaisti_waker nobody = {NULL, tally};
+    uint64_t waker = 99, first = 99, mark = 99;
+    uint32_t list[2] = {77, 77};
+    size_t count = 99;
+
+    CHECK(pelgaisti_office_open_waking(NULL, 2, UINT64_MAX, &tallies) == PELGAISTI_NULL);
+    CHECK(pelgaisti_office_open_waking(sessions, 2, UINT64_MAX, NULL) == PELGAISTI_NULL);
+    CHECK(pelgaisti_office_open_waking(sessions, 2, UINT64_MAX, &nobody) == PELGAISTI_NULL);
+    CHECK(pelgaisti_office_open_waking(sessions, 0, UINT64_MAX, &tallies) == PELGAISTI_NO_SUCH_COUNT);
+    CHECK(pelgaisti_office_open_waking(many, PELGAISTI_MAX_SESSIONS + 1, UINT64_MAX, &tallies) == PELGAISTI_NO_SUCH_COUNT);
+    CHECK(pelgaisti_raw_session_waker(&sessions[0], &waker) == PELGAISTI_CLOSED && waker == 99);
+    CHECK(pelgaisti_raw_session_told(&sessions[0], 0, list, 2, &count) == PELGAISTI_CLOSED && count == 99 && list[0] == 77);
+    CHECK(pelgaisti_office_open_waking(sessions, 2, 1, &tallies) == PELGAISTI_OK);
+    CHECK(pelgaisti_office_open_waking(&sessions[1], 2, UINT64_MAX, &tallies) == PELGAISTI_OPEN);
+    CHECK(pelgaisti_office_open(other, 1) == PELGAISTI_OK);
+    for (int s = 0; s < 2; s++) {
+        waker = 99;
+        CHECK(pelgaisti_raw_session_waker(&sessions[s], &waker) == PELGAISTI_OK && waker == (uint64_t)(uintptr_t)&tallies);
+        CHECK(pelgaisti_session_mark(&sessions[s], &mark) == PELGAISTI_OK && mark == (uint64_t)(uintptr_t)sessions);
+        CHECK(pelgaisti_raw_session_told(&sessions[s], 0, list, 2, &count) == PELGAISTI_OK && count == 0 && list[0] == 77);
+    }
+    CHECK(pelgaisti_raw_session_waker(&other[0], &waker) == PELGAISTI_OK && waker == 0);
+    CHECK(kind_of(&sessions[0], begin) == PELGAISTI_BEGAN && kind_of(&sessions[0], commit) == PELGAISTI_COMMITTED);
+    CHECK(kind_of(&other[0], begin) == PELGAISTI_BEGAN && was_woken(2, 0));
+    close_all(sessions, 2, &book);
+    CHECK(pelgaisti_book_first_kept(&book, &first) == PELGAISTI_OK && first == 1 && pelgaisti_book_close(&book) == PELGAISTI_OK);
+    close_all(other, 1, &book);
+    CHECK(pelgaisti_book_close(&book) == PELGAISTI_OK);
+}
+
+/* The calls that make a pass. */
+enum { SERVE, SERVE_TELLING, AT_ONCE, TELLING, PERFORM, RESUME, PATH, WAYS };
+
+/* Session 1 gives up its lock in such a call, or, on a path, closes a cycle whose victim session 2 is. A pass of session 3 serves the
+   call if it is published. */
+static void end_wait_by(int way, pelgaisti_session *sessions) {
+    pelgaisti_call commit = call_of(PELGAISTI_COMMIT, 0, 0, 0, 0);
+    pelgaisti_resource path = {1, {2}};
+    pelgaisti_answer answer = {99, {77, 88}};
+    uint32_t list[4] = {77, 77, 77, 77}, level = 0;
+    size_t count = 0;
+    if (way == SERVE || way == SERVE_TELLING || way == RESUME)
+        CHECK(pelgaisti_session_publish(&sessions[0], &commit, NULL) == PELGAISTI_OK);
+    switch (way) {
+    case SERVE: CHECK(pelgaisti_session_serve(&sessions[2], NULL) == PELGAISTI_OK); break;
+    case SERVE_TELLING:
+        CHECK(pelgaisti_session_serve_telling(&sessions[2], NULL, list, 4, &count) == PELGAISTI_OK && count == 1 && list[0] == 2);
+        break;
+    case AT_ONCE: CHECK(pelgaisti_session_perform_at_once(&sessions[0], &commit, NULL, &answer) == PELGAISTI_OK); break;
+    case TELLING:
+        CHECK(pelgaisti_session_perform_telling(&sessions[0], &commit, NULL, &answer, list, 4, &count) == PELGAISTI_OK);
+        CHECK(count == 1 && list[0] == 2);
+        break;
+    case PERFORM: CHECK(pelgaisti_session_perform(&sessions[0], &commit, 9, &answer) == PELGAISTI_OK); break;
+    case RESUME: CHECK(pelgaisti_session_perform(&sessions[0], NULL, 9, &answer) == PELGAISTI_OK); break;
+    default:
+        CHECK(pelgaisti_session_lock_path(&sessions[0], &path, PELGAISTI_X, &level, 9, &answer) == PELGAISTI_OK && level == 0);
+        CHECK(answer.reply.kind == PELGAISTI_WAITING);
+    }
+    if (way == SERVE || way == SERVE_TELLING) CHECK(pelgaisti_session_collect(&sessions[0], &answer) == PELGAISTI_OK);
+    if (way != PATH) CHECK(answer.reply.kind == PELGAISTI_COMMITTED);
+}
+
+/* Each call that makes a pass wakes the session whose wait it has ended, once, in an office with a waker; and nobody in one without. */
+static void each_pass_wakes(void) {
+    pelgaisti_call begin = call_of(PELGAISTI_BEGIN, 0, 0, 0, 0), poll = call_of(PELGAISTI_POLL, 0, 0, 0, 0);
+    pelgaisti_call first = call_of(PELGAISTI_LOCK, PELGAISTI_X, 1, 1, 0), second = call_of(PELGAISTI_LOCK, PELGAISTI_X, 1, 2, 0);
+    for (int way = 0; way < WAYS; way++)
+        for (int has_waker = 0; has_waker <= 1; has_waker++) {
+            pelgaisti_session sessions[3] = {PELGAISTI_EMPTY, PELGAISTI_EMPTY, PELGAISTI_EMPTY};
+            pelgaisti_book book = PELGAISTI_EMPTY;
+            if (has_waker) CHECK(pelgaisti_office_open_waking(sessions, 3, UINT64_MAX, &tallies) == PELGAISTI_OK);
+            else CHECK(pelgaisti_office_open_keeping(sessions, 3, UINT64_MAX) == PELGAISTI_OK);
+            CHECK(kind_of(&sessions[0], begin) == PELGAISTI_BEGAN && kind_of(&sessions[1], begin) == PELGAISTI_BEGAN);
+            CHECK(kind_of(&sessions[0], first) == PELGAISTI_GRANTED && kind_of(&sessions[1], second) == PELGAISTI_GRANTED);
+            CHECK(kind_of(&sessions[1], first) == PELGAISTI_WAITING && was_woken(3, 0));
+            end_wait_by(way, sessions);
+            CHECK(was_woken(3, has_waker ? 2 : 0));
+            CHECK(kind_of(&sessions[1], poll) == (uint32_t)(way == PATH ? PELGAISTI_DEADLOCK : PELGAISTI_CLEAR) && was_woken(3, 0));
+            close_all(sessions, 3, &book);
+            CHECK(pelgaisti_book_close(&book) == PELGAISTI_OK);
+        }
+}
+
+/* Session 1 tells whom its last pass has woken, so many, from any index on. */
+static void tells_from_any_index(pelgaisti_session *session, size_t woken_by_it) {
+    uint32_t list[MANY + 1], all[MANY];
+    size_t count = 99;
+    CHECK(pelgaisti_raw_session_told(session, 0, all, MANY, &count) == PELGAISTI_OK && count == woken_by_it);
+    for (size_t first = 0; first <= woken_by_it + 1; first++) {
+        size_t left = first < woken_by_it ? woken_by_it - first : 0, room = left < 3 ? left + 1 : left / 2;
+        size_t written = left < room ? left : room;
+        memset(list, 0x55, sizeof list);
+        CHECK(pelgaisti_raw_session_told(session, first, list, room, &count) == PELGAISTI_OK && count == woken_by_it);
+        CHECK(written == 0 || !memcmp(list, all + first, written * sizeof *list));
+        CHECK(list[written] == 0x55555555);
+    }
+}
+
+/* A pass that ends many waits wakes each session once, whether its call tells of them too or not. */
+static void many_are_woken(void) {
+    static pelgaisti_session sessions[MANY];
+    pelgaisti_book book = PELGAISTI_EMPTY;
+    pelgaisti_call begin = call_of(PELGAISTI_BEGIN, 0, 0, 0, 0), commit = call_of(PELGAISTI_COMMIT, 0, 0, 0, 0);
+    pelgaisti_call write = call_of(PELGAISTI_LOCK, PELGAISTI_X, 1, 1, 0), read = call_of(PELGAISTI_LOCK, PELGAISTI_S, 1, 1, 0);
+    pelgaisti_call poll = call_of(PELGAISTI_POLL, 0, 0, 0, 0);
+    CHECK(pelgaisti_office_open_waking(sessions, MANY, UINT64_MAX, &tallies) == PELGAISTI_OK);
+    /* from one waiter to all others: below, at and above what is read at a time */
+    for (uint32_t waiters = 1; waiters < MANY; waiters++) {
+        uint32_t list[MANY];
+        pelgaisti_answer answer;
+        size_t count = 99;
+        int once = 1, is_telling = waiters % 4 == 0;
+        for (uint32_t s = 0; s <= waiters; s++) {
+            CHECK(kind_of(&sessions[s], begin) == PELGAISTI_BEGAN);
+            CHECK(kind_of(&sessions[s], s == 0 ? write : read) == (uint32_t)(s == 0 ? PELGAISTI_GRANTED : PELGAISTI_WAITING));
+        }
+        CHECK(was_woken(MANY, 0));
+        if (is_telling) {
+            CHECK(pelgaisti_session_perform_telling(&sessions[0], &commit, NULL, &answer, list, MANY, &count) == PELGAISTI_OK);
+            CHECK(answer.reply.kind == PELGAISTI_COMMITTED && count == waiters);
+        } else {
+            CHECK(kind_of(&sessions[0], commit) == PELGAISTI_COMMITTED);
+            tells_from_any_index(&sessions[0], waiters);
+        }
+        for (uint32_t s = 1; s <= MANY; s++) {
+            once &= tally[s] == (2 <= s && s <= waiters + 1);
+            tally[s] = 0;
+        }
+        CHECK(once);
+        for (uint32_t s = 1; s <= waiters; s++) {
+            CHECK(kind_of(&sessions[s], poll) == PELGAISTI_CLEAR && kind_of(&sessions[s], commit) == PELGAISTI_COMMITTED);
+        }
+        CHECK(was_woken(MANY, 0));
+    }
+    close_all(sessions, MANY, &book);
+    CHECK(pelgaisti_book_close(&book) == PELGAISTI_OK);
+}
+
+/* A session whose own pass has ended its wait is woken, too: its poll goes behind the published commit that grants its lock. */
+static void a_session_wakes_itself(void) {
     static pelgaisti_session sessions[2];
     pelgaisti_book book = PELGAISTI_EMPTY;
-    pelgaisti_call begin = call_of(PELGAISTI_BEGIN, 0, 0, 0, 0);
-    pelgaisti_resource page = {3, {1, 2, 3}};
-    pelgaisti_answer answer = {7, {0, 0}};
-    uint32_t list[2], level = 0;
-    pelgaisti_waker nobody = {NULL, NULL, list, 2}, nowhere = {post, woken, NULL, 2}, small = {post, woken, list, 1};
-
-    CHECK(pelgaisti_office_open(sessions, 2) == PELGAISTI_OK);
-    CHECK(pelgaisti_session_perform_waking(&sessions[0], &begin, 9, &nobody, &answer) == PELGAISTI_NULL);
-    CHECK(pelgaisti_session_perform_waking(&sessions[0], &begin, 9, &nowhere, &answer) == PELGAISTI_NULL);
-    CHECK(pelgaisti_session_perform_waking(&sessions[0], NULL, 9, NULL, &answer) == PELGAISTI_NOTHING_PENDING);
-    CHECK(pelgaisti_session_perform_waking(&sessions[0], &begin, 9, &small, &answer) == PELGAISTI_NO_ROOM && answer.place == 7);
-    small.room = 2;
-    CHECK(pelgaisti_session_perform_waking(&sessions[0], NULL, 9, &small, &answer) == PELGAISTI_OK && answer.place == 0);
-    CHECK(pelgaisti_session_lock_path_waking(&sessions[0], &page, PELGAISTI_S, &level, 9, &small, &answer) == PELGAISTI_OK);
-    CHECK(level == 3 && answer.reply.kind == PELGAISTI_GRANTED && answer.place == 3);
-    CHECK(pelgaisti_session_hand_in(&sessions[1], &sessions[0]) == PELGAISTI_OK);
-    CHECK(pelgaisti_office_close(&sessions[0], &book) == PELGAISTI_OK);
+    pelgaisti_call begin = call_of(PELGAISTI_BEGIN, 0, 0, 0, 0), commit = call_of(PELGAISTI_COMMIT, 0, 0, 0, 0);
+    pelgaisti_call write = call_of(PELGAISTI_LOCK, PELGAISTI_X, 1, 1, 0), poll = call_of(PELGAISTI_POLL, 0, 0, 0, 0);
+    pelgaisti_answer answer;
+    CHECK(pelgaisti_office_open_waking(sessions, 2, UINT64_MAX, &tallies) == PELGAISTI_OK);
+    for (int s = 0; s < 2; s++) {
+        CHECK(kind_of(&sessions[s], begin) == PELGAISTI_BEGAN);
+        CHECK(kind_of(&sessions[s], write) == (uint32_t)(s == 0 ? PELGAISTI_GRANTED : PELGAISTI_WAITING));
+    }
+    CHECK(pelgaisti_session_publish(&sessions[0], &commit, NULL) == PELGAISTI_OK);
+    CHECK(kind_of(&sessions[1], poll) == PELGAISTI_CLEAR && was_woken(2, 2));
+    CHECK(kind_of(&sessions[1], commit) == PELGAISTI_COMMITTED && was_woken(2, 0));
+    CHECK(pelgaisti_session_collect(&sessions[0], &answer) == PELGAISTI_OK && answer.reply.kind == PELGAISTI_COMMITTED);
+    close_all(sessions, 2, &book);
     CHECK(pelgaisti_book_close(&book) == PELGAISTI_OK);
 }
 
@@ -2022,7 +2189,10 @@ int main(int argc, char **argv) {
     calls_at_once();
     threads_sleep();
     an_operator_ends_transactions();
-    wakers_refuse();
+    wakers_are_registered();
+    each_pass_wakes();
+    many_are_woken();
+    a_session_wakes_itself();
     printf("%d passed, %d failed\n", passed, failed);
     return failed != 0;
 }

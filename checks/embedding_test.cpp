@@ -4,8 +4,11 @@
 
 #include <cstdio>
 #include <future>
+#include <memory>
 #include <stdexcept>
 #include <string>
+#include <type_traits>
+#include <utility>
 
 using pelgaisti::kind;
 using pelgaisti::mode;
@@ -132,10 +135,7 @@ static void offices() {
     CHECK(throws(PELGAISTI_PENDING, [&] { office[1].lock_path({9}, mode::X, level); }) && level == 0);
     CHECK(office[0].held(2, {9})->found == mode::NL);
     CHECK(office[1].resume()->reply.kind == kind::waiting);
-    static std::uint32_t told = 0;
-    std::uint32_t list[2];
-    pelgaisti::waker waker{[](void *, std::uint32_t session) { told = session; }, nullptr, list, 2};
-    CHECK(office[0].perform({op::commit}, UINT64_MAX, &waker)->reply.kind == kind::committed && told == 2);
+    CHECK(office[0].perform({op::commit})->reply.kind == kind::committed);
     CHECK(office[1].perform({op::poll})->reply.kind == kind::clear);
     const auto held = office[0].held(2, {7});
     CHECK(held && held->found == mode::IX && held->length == 6 && !office[0].waits_for(2, 1)->found);
@@ -160,6 +160,46 @@ static void offices() {
     piece = pieces[0].take_history(9, first);
     CHECK(piece && piece->size() == 1 && first == 1 && piece->front().session == 2);
     CHECK(pieces.close()->first_kept() == 2);
+}
+
+// A function that may throw is no waker: the others that a pass has told would sleep on.
+using may_throw = void (*)(void *, std::uint32_t);
+using throws_nothing = void (*)(void *, std::uint32_t) noexcept;
+static_assert(std::is_same_v<decltype(pelgaisti::waker::wake), throws_nothing>);
+static_assert(!std::is_convertible_v<may_throw, decltype(pelgaisti::waker::wake)>);
+template <class Wake, class = void> struct is_waker : std::false_type {};
+template <class Wake> struct is_waker<Wake, std::void_t<decltype(pelgaisti::waker{std::declval<Wake>(), nullptr})>> : std::true_type {};
+static_assert(is_waker<throws_nothing>::value && !is_waker<may_throw>::value);
+
+// Each call that makes a pass wakes whom it has ended a wait of, by the waker of which the office keeps a copy.
+static void wakers() {
+    std::vector<std::uint32_t> woken;
+    const auto note = [](void *engine, std::uint32_t session) noexcept {
+        static_cast<std::vector<std::uint32_t> *>(engine)->push_back(session);
+    };
+    CHECK(throws(PELGAISTI_NULL, [] { pelgaisti::office office(2, pelgaisti::waker{nullptr, nullptr}); }));
+    CHECK(throws(PELGAISTI_NO_SUCH_COUNT, [&] { pelgaisti::office office(PELGAISTI_MAX_SESSIONS + 1, pelgaisti::waker{note, &woken}); }));
+    for (int way = 0; way < 5; ++way) {
+        auto kept = std::make_unique<pelgaisti::waker>(pelgaisti::waker{note, &woken});
+        pelgaisti::office office{3, *kept, 1};
+        kept.reset();
+        for (std::uint32_t k = 0; k < 2; ++k) {
+            CHECK(office[k].perform({op::begin})->reply.kind == kind::began);
+            CHECK(office[k].perform({op::lock, mode::X, {k + 1}})->reply.kind == kind::granted);
+        }
+        CHECK(office[1].perform({op::lock, mode::X, {1}})->reply.kind == kind::waiting && woken.empty());
+        std::uint32_t level = 0;
+        if (way == 0) CHECK(office[0].perform({op::commit})->reply.kind == kind::committed);
+        if (way == 1 || way == 2) office[0].publish({op::commit});
+        if (way == 1) CHECK(office[0].resume()->reply.kind == kind::committed);
+        if (way == 2) CHECK(office[2].serve()->served == 1);
+        if (way == 3) CHECK(office[0].lock_path({2}, mode::S, level)->reply.kind == kind::waiting);  // 2 is the victim
+        if (way == 4) office[0].publish({op::commit});  // served when the office is destroyed
+        CHECK(woken == (way == 4 ? std::vector<std::uint32_t>{} : std::vector<std::uint32_t>{2}));
+        if (way < 4) woken.clear();
+        if (way == 0) CHECK(office.close()->first_kept() == 5);
+    }
+    CHECK(woken == std::vector<std::uint32_t>{2});
 }
 
 // A task that throws leaves its session in the office. Whoever has seen its end goes on with the session: finishes its pending call,
@@ -208,7 +248,7 @@ static void names() {
 }
 
 int main() {
-    for (const auto test : {books, paths_tell, tries, offices, a_task_throws, offices_are_left, names}) {
+    for (const auto test : {books, paths_tell, tries, offices, wakers, a_task_throws, offices_are_left, names}) {
         try {
             test();
         } catch (const pelgaisti::error &error) {

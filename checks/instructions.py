@@ -5,7 +5,8 @@ Usage: checks/instructions.py [--over-gate]
 
 Each case has calls that go a fast way, and a bound on the instructions of one of them. Under callgrind lock_bench serves the calls
 behind what leads up to them, and what leads up alone, each once and twice: the count is the difference of the differences. Locks
-of a batch are served by a pass of an office, through the library for C (checks/instructions.c). A bound is some 20 per cent above
+of a batch are served by a pass of an office, through the library for C (checks/instructions.c), and calls of one thread are
+performed at once, with no waker and with one that has nobody to wake. A bound is some 20 per cent above
 what was counted when it was set (more for the smallest count), and below what the calls cost without the fast way, as tried in
 builds in which it was broken; for locks of a batch, with locks of two databases in turn, which make no run; for a second holder,
 with the least that two requests for memory take. If calls have become dearer for a good reason, set the bound anew.
@@ -113,8 +114,13 @@ DEAREST = [
     ("a request that leads on to 1,021, 1,021 victims", worst.fan, 1024, 13_000_000),
     ("the same, each waiting for those of higher numbers", worst.stairs, 1024, 15_000_000),
 ]
-# 32 locks of a batch are granted together: the most instructions of a lock, with all that a pass does for it
-MOST_OF_A_RUN = 790
+# What a thread alone does through the library for C: what it is, what checks/instructions.c does, the function of which the
+# instructions are counted, how often it is called, how many calls it makes each time, the most instructions of one.
+THROUGH_C = [
+    ("compatible locks of a batch are granted together", "locks", "pass_of_locks", 200, 32, 790),
+    ("a call is performed at once", "performs", "perform_transaction", 2000, 3, 670),
+    ("a call is performed at once in an office with a waker", "wakes", "perform_transaction", 2000, 3, 850),
+]
 
 
 def counted(words, *flags, given=subprocess.DEVNULL):
@@ -157,15 +163,20 @@ def instructions_of_a_dear_call(case, folder):
     return (instructions_of_a_replay(rows, sessions, folder) - instructions_of_a_replay(others, sessions, folder)) / number
 
 
-def instructions_of_a_run(folder):
-    """The instructions of a lock in a pass that serves 32 of them."""
+def program_through_c(folder):
+    """Builds checks/instructions.c."""
     program = folder / "instructions"
     compiler = shlex.split(os.environ.get("CC", "cc"))
     source = TOP / "checks/instructions.c"
     flags = ["-O1", f"-I{TOP}/out", f"-L{TOP}/out", "-lpelgaisti"]
     subprocess.run([*compiler, source, *flags, "-o", program], check=True)
-    passes, locks = 200, 32
-    return counted([program, str(passes)], "--toggle-collect=pass_of_locks") / (passes * locks)
+    return program
+
+
+def instructions_through_c(case, program):
+    """The instructions of a call through the library for C."""
+    _, what, function, times, calls, _ = case
+    return counted([program, what, str(times)], f"--toggle-collect={function}") / (times * calls)
 
 
 def peak(trace, folder):
@@ -214,12 +225,12 @@ def main():
         folder = Path(name)
         has_valgrind = shutil.which("valgrind") is not None
         if has_valgrind:
-            in_a_run = pool.submit(instructions_of_a_run, folder)
+            program = program_through_c(folder)
+            through_c = pool.map(lambda case: instructions_through_c(case, program), THROUGH_C)
             found = pool.map(lambda case: instructions_of_a_call(case, folder), CASES)
             dear = pool.map(lambda case: instructions_of_a_dear_call(case, folder), DEAREST)
-            for (name, _, _, most), instructions in zip(CASES + DEAREST, [*found, *dear]):
+            for (name, *_, most), instructions in zip(CASES + DEAREST + THROUGH_C, [*found, *dear, *through_c]):
                 judge(name, instructions, most, "instructions")
-            judge("compatible locks of a batch are granted together", in_a_run.result(), MOST_OF_A_RUN, "instructions")
         few, new = (peak(transactions(databases), folder) for databases in (8, 100_000))
         judge("idle cells serve ever new resources", new / few, MOST_MEMORY, "times the memory of few", digits=2)
     left_out = "" if has_valgrind else "; instructions left out, since valgrind isn't on the path"

@@ -29,13 +29,11 @@ static pthread_barrier_t both_hold_one;
 static sem_t woken[THREADS + 1];
 
 /* A worker: its session, its number, how many moves it has to make and made, how often it was a victim, how often it waited, polled
-   and took a request back, how many calls it made, and whom its passes wake, with room for their numbers. */
+   and took a request back, and how many calls it made. */
 typedef struct worker {
     pelgaisti_session *session;
     unsigned number, moves, moved, victims, waits, polls, withdrawn;
     uint64_t calls;
-    pelgaisti_waker waker;
-    uint32_t told[THREADS];
 } worker;
 
 /* Prints what failed and ends the program. */
@@ -62,7 +60,7 @@ static pelgaisti_resource record_of(uint32_t table, uint32_t record) {
 /* Performs a call. Without a bound on its turns there is an answer, unless memory is refused. */
 static pelgaisti_reply perform(worker *w, const pelgaisti_call *call) {
     pelgaisti_answer answer;
-    pelgaisti_status status = pelgaisti_session_perform_waking(w->session, call, UINT64_MAX, &w->waker, &answer);
+    pelgaisti_status status = pelgaisti_session_perform(w->session, call, UINT64_MAX, &answer);
     if (status != PELGAISTI_OK) stop("perform", pelgaisti_status_name(status));
     w->calls++;
     return answer.reply;
@@ -79,6 +77,9 @@ static void wake(void *engine, uint32_t session) {
     sem_t *semaphores = (sem_t *)engine;
     sem_post(&semaphores[session]);
 }
+
+/* The office's waker. */
+static const pelgaisti_waker waker = {wake, woken};
 
 /* Sleeps on the semaphore, at most for the limit. Returns 0 if it wasn't posted. */
 static int sleep_within(sem_t *semaphore, unsigned limit) {
@@ -116,8 +117,7 @@ static int lock_record(worker *w, uint32_t table, uint32_t record, unsigned limi
     while (level < resource.level) {
         uint32_t before = level;
         pelgaisti_answer answer;
-        pelgaisti_status status =
-            pelgaisti_session_lock_path_waking(w->session, &resource, PELGAISTI_X, &level, UINT64_MAX, &w->waker, &answer);
+        pelgaisti_status status = pelgaisti_session_lock_path(w->session, &resource, PELGAISTI_X, &level, UINT64_MAX, &answer);
         if (status != PELGAISTI_OK) stop("lock", pelgaisti_status_name(status));
         pelgaisti_reply reply = answer.reply;
         w->calls += level - before + (reply.kind != PELGAISTI_GRANTED); /* one call for each level that was locked */
@@ -199,10 +199,10 @@ int main(int argc, char **argv) {
     for (int t = 0; t < TABLES; t++)
         for (int r = 0; r < RECORDS; r++) accounts[t][r] = BALANCE;
     pthread_barrier_init(&both_hold_one, NULL, 2);
-    pelgaisti_status status = pelgaisti_office_open_keeping(sessions, THREADS, KEPT);
+    pelgaisti_status status = pelgaisti_office_open_waking(sessions, THREADS, KEPT, &waker);
     if (status != PELGAISTI_OK) stop("open", pelgaisti_status_name(status));
     for (unsigned t = 0; t < THREADS; t++) {
-        worker w = {&sessions[t], t, moves, 0, 0, 0, 0, 0, 0, {wake, woken, workers[t].told, THREADS}, {0}};
+        worker w = {&sessions[t], t, moves, 0, 0, 0, 0, 0, 0};
         workers[t] = w;
         sem_init(&woken[t + 1], 0, 0);
     }

@@ -50,21 +50,19 @@ struct bed {
     }
 };
 bed beds[threads + 1];
-void wake(void *, std::uint32_t session) { beds[session].wake(); }
+void wake(void *, std::uint32_t session) noexcept { beds[session].wake(); }
 
 struct account {
     std::uint32_t table, number;
 };
 
-// A thread's session, with its number and with whom its passes wake.
+// A thread's session, with its number.
 struct worker {
     pelgaisti::session &session;
     unsigned number;
-    std::uint32_t told[threads];
-    pelgaisti::waker waker{wake, nullptr, told, threads};
 
     // Performs a call: without a bound on its turns there is always an answer.
-    pelgaisti::reply ask(const pelgaisti::call &call) { return session.perform(call, UINT64_MAX, &waker)->reply; }
+    pelgaisti::reply ask(const pelgaisti::call &call) { return session.perform(call)->reply; }
 
     // Begins or ends a transaction, which is refused nowhere here.
     void make(pelgaisti::op op) {
@@ -83,7 +81,7 @@ struct worker {
     // Locks an account and its table. While a request waits, sleeps, and then goes on. Whether both were granted within the limit.
     bool lock(account it, std::chrono::milliseconds limit) {
         for (std::uint32_t level = 0;;) {
-            const auto reply = session.lock_path({it.table, it.number}, pelgaisti::mode::X, level, UINT64_MAX, &waker)->reply;
+            const auto reply = session.lock_path({it.table, it.number}, pelgaisti::mode::X, level)->reply;
             if (reply.kind != pelgaisti::kind::waiting) return reply.kind == pelgaisti::kind::granted;
             if (!end_wait(limit)) return false;
         }
@@ -100,7 +98,7 @@ struct worker {
 // While one session holds an account, another asks for it without waiting, and then with a short limit. Its transaction goes on
 // without the account. Whether it was refused both times.
 bool do_without(pelgaisti::session &one, pelgaisti::session &two) {
-    worker holder{one, 1, {}}, other{two, 2, {}};
+    worker holder{one, 1}, other{two, 2};
     for (auto *it : {&holder, &other}) it->make(pelgaisti::op::begin);
     const bool held = holder.try_lock({0, 0}), refused = !other.try_lock({0, 0}), withdrawn = !other.lock({0, 0}, 20ms);
     for (auto *it : {&other, &holder}) it->make(pelgaisti::op::commit);
@@ -123,7 +121,7 @@ bool transfer(worker &worker, account from, account to) {
 }
 
 void work(pelgaisti::session &session, unsigned number, unsigned &victims) {
-    worker worker{session, number + 1, {}};
+    worker worker{session, number + 1};
     for (unsigned move = 0; move < moves; ++move) {
         const unsigned step = move + number * 3;
         while (!transfer(worker, {step % 2, step % accounts}, {(step + 1) % 2, (step * 5 + 1) % accounts})) ++victims;
@@ -134,7 +132,7 @@ void work(pelgaisti::session &session, unsigned number, unsigned &victims) {
 
 int main() {
     for (auto &table : tables) std::fill(table, table + accounts, balance);
-    pelgaisti::office office{threads};
+    pelgaisti::office office{threads, pelgaisti::waker{wake, nullptr}};
     const bool did_without = do_without(office[0], office[1]);
     std::vector<std::thread> running;
     unsigned victims[threads] = {};

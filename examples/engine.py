@@ -66,7 +66,7 @@ def checked(name, *arguments):
     return function
 
 
-open_office = checked("pelgaisti_raw_office_open", POINTER(Handle), c_size_t, c_uint64, c_uint64)
+open_office = checked("pelgaisti_raw_office_open", POINTER(Handle), c_size_t, c_uint64, c_uint64, c_uint64)
 perform = checked("pelgaisti_raw_session_perform_telling", POINTER(Handle), POINTER(Call), POINTER(Pass), POINTER(Answer), POINTER(c_uint32), c_size_t,
                   POINTER(c_size_t))
 hand_in = checked("pelgaisti_raw_session_hand_in", POINTER(Handle), POINTER(Handle))
@@ -141,7 +141,7 @@ WOKEN = [threading.Semaphore(0) for _ in range(THREADS + 1)]
 
 def main():
     sessions = (Handle * THREADS)()
-    expect(open_office(sessions, THREADS, 1, KEPT), "open")
+    expect(open_office(sessions, THREADS, 1, KEPT, 0), "open")  # no waker: each thread reads whom to wake
     workers = [Worker(sessions[at], at + 1) for at in range(THREADS)]
     threads = [threading.Thread(target=worker.work) for worker in workers]
     for thread in threads:

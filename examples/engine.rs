@@ -89,14 +89,17 @@ const EMPTY: Handle = Handle {
 unsafe extern "C" {
     safe fn pelgaisti_raw_book_length(book: &mut Handle, length: &mut u64) -> u32;
     safe fn pelgaisti_raw_book_close(book: &mut Handle) -> u32;
-    // `mark` must be a number that no other open office has; of the history at most `bound` entries are kept.
-    fn pelgaisti_raw_office_open(sessions: *mut Handle, count: usize, mark: u64, bound: u64) -> u32;
+    // `mark` must be a number that no other open office has; of the history at most `bound` entries are kept. With a `waker` other
+    // than 0, which is this engine's to know, passes tell whom to wake.
+    fn pelgaisti_raw_office_open(sessions: *mut Handle, count: usize, mark: u64, bound: u64, waker: u64) -> u32;
     // Needs that open handles with the same mark belong to the same office.
     safe fn pelgaisti_raw_session_hand_in(session: &mut Handle, to: &mut Handle) -> u32;
     safe fn pelgaisti_raw_office_close(session: &mut Handle, book: &mut Handle) -> u32;
     safe fn pelgaisti_raw_session_publish(session: &mut Handle, call: &Call, posted: &mut u32) -> u32;
-    // Needs `room` numbers at `list`, as many as the office has sessions.
-    fn pelgaisti_raw_session_serve_telling(session: &mut Handle, pass: &mut Pass, list: *mut u32, room: usize, count: &mut usize) -> u32;
+    safe fn pelgaisti_raw_session_serve(session: &mut Handle, pass: &mut Pass, told: &mut usize) -> u32;
+    safe fn pelgaisti_raw_session_waker(session: &mut Handle, waker: &mut u64) -> u32;
+    // Needs `room` numbers at `list`. Writes those told from index `first` on.
+    fn pelgaisti_raw_session_told(session: &mut Handle, first: usize, list: *mut u32, room: usize, count: &mut usize) -> u32;
     safe fn pelgaisti_raw_session_collect(session: &mut Handle, answer: &mut Answer) -> u32;
 }
 
@@ -144,25 +147,29 @@ impl Bed {
 }
 
 type Tables = [[AtomicI64; MEETING + 1]; 2];
+type Beds = [Bed; THREADS];
 
 /// A thread of the engine, with its session.
 struct Worker<'a> {
     session: &'a mut Handle,
     accounts: &'a Tables,
     both_hold_one: &'a Barrier,
-    beds: &'a [Bed; THREADS],
+    beds: &'a Beds,
     number: u32,
     victims: u32,
 }
 
 impl Worker<'_> {
-    /// Serves once, and wakes the threads whose waits the pass has ended.
+    /// Serves once, and wakes the threads whose waits the pass has ended, by the office's waker.
     fn serve(&mut self) {
-        let (mut told, mut count) = ([0; THREADS], 0);
-        let at = told.as_mut_ptr();
-        let status = unsafe { pelgaisti_raw_session_serve_telling(self.session, &mut Pass::default(), at, THREADS, &mut count) };
-        if status == OK {
-            told[..count].iter().for_each(|session| self.beds[*session as usize - 1].wake());
+        let (mut list, mut told, mut waker) = ([0; THREADS], 0, 0);
+        pelgaisti_raw_session_serve(self.session, &mut Pass::default(), &mut told);
+        if told > 0 {
+            assert_eq!(pelgaisti_raw_session_waker(self.session, &mut waker), OK);
+            assert_eq!(unsafe { pelgaisti_raw_session_told(self.session, 0, list.as_mut_ptr(), THREADS, &mut told) }, OK);
+            // the address at which `main` has opened the office
+            let beds = unsafe { &*(waker as *const Beds) };
+            list[..told].iter().for_each(|session| beds[*session as usize - 1].wake());
         }
     }
 
@@ -299,10 +306,10 @@ impl Worker<'_> {
 fn main() {
     let accounts: Tables = std::array::from_fn(|_| std::array::from_fn(|_| AtomicI64::new(BALANCE)));
     let both_hold_one = Barrier::new(2);
-    let beds: [Bed; THREADS] = Default::default();
+    let beds: Beds = Default::default();
     let mut sessions = [EMPTY; THREADS];
     let at = sessions.as_mut_ptr();
-    assert_eq!(unsafe { pelgaisti_raw_office_open(at, THREADS, at as u64, u64::MAX) }, OK);
+    assert_eq!(unsafe { pelgaisti_raw_office_open(at, THREADS, at as u64, u64::MAX, &raw const beds as u64) }, OK);
     let mut workers: Vec<_> = (0..)
         .zip(&mut sessions)
         .map(|(number, session)| Worker {

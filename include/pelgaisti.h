@@ -39,16 +39,17 @@
  * - No call is made in a signal handler, nor in the forked child of a process with threads.
  * - malloc, realloc and free belong to one allocator, and align blocks as those of the C library do.
  *
- * WHAT A THREAD SEES. What a thread wrote before it published the call that gives a lock back is seen by the thread of another
- * session once it has collected the grant of a conflicting lock: the reply GRANTED, or CLEAR after a wait, or the refusal
- * NOT_WAITING of a withdrawal. This is no clause of a contract, since contracts speak of the history and not of the caller's
- * memory. It follows from the words by which an office works, each step of which is sequentially consistent: a publish swaps the
+ * WHAT A THREAD SEES. A thread gives a lock back by a call that it publishes, or that it performs at once. What it wrote before
+ * this call is seen by the thread of another session once that has the answer which tells it of the grant of a conflicting lock, by
+ * a collect or of a call performed at once: the reply GRANTED, or CLEAR after a wait, or the refusal NOT_WAITING of a withdrawal.
+ * This is no clause of a contract, since contracts speak of the history and not of the caller's memory [read off the code, and
+ * tested]. It follows from the words by which an office works, each step of which is sequentially consistent: a publish swaps the
  * word of the session's record, and the combiner takes the call by a compare-exchange of that word; a combiner gives the lock
  * table on by a store of the lock word, and the next one takes it by a compare-exchange; the answer that tells of the grant is a
  * store of the word of the other session's record, and its collect takes it by a compare-exchange. A call that is performed at
- * once is made between the compare-exchange of the lock word and its store. So the writes before the publish happen before the
- * reads behind the collect, in the sense of C11 and C++11. The calls lead into an archive, so that no compiler moves an access to
- * shared memory across one. For a book behind a mutex it is the mutex that does this.
+ * once is made, and its answer read, between the compare-exchange of the lock word and its store. So the writes before the one call
+ * happen before the reads behind the other, in the sense of C11 and C++11. The calls lead into an archive, so that no compiler
+ * moves an access to shared memory across one. For a book behind a mutex it is the mutex that does this.
  * ThreadSanitizer can't see the archive's steps. Built with -fsanitize=thread the functions of this header tell it of them: a
  * publish releases and a collect acquires, a call that is performed at once does both, and what is done inside the archive is
  * left out.
@@ -57,9 +58,9 @@
  * its comment lists the statuses; the first test that fails gives the status. A status other than PELGAISTI_OK means that nothing
  * has changed and nothing was written: no handle, no history, no memory that an argument points to. There are four exceptions: a
  * serve that returns ELSEWHERE may put the session's record on the publication list; COPIED closes the session's handle; where
- * memory was refused for a call that was to be performed at once, a pass was made that may have served other calls; and where it was
- * refused for the answer to a question of a session, the session may know more of the history. The calls made
- * of several others say for themselves what they leave (pelgaisti_session_perform, .._lock_path, .._waking).
+ * memory was refused for a call that was to be performed at once, a pass was made that may have served other calls, and the waker was
+ * called for whom it has told of; and where memory was refused for the answer to a question of a session, the session may know more
+ * of the history. The calls made of several others say for themselves what they leave (pelgaisti_session_perform, .._lock_path).
  *
  * WHAT IS PROVED. Each function of the archive has a contract, which crates/pelgaisti_c states and proves: what PELGAISTI_OK means,
  * which other statuses the call can return, and what each of these implies. The inline functions of this header are tested, and so
@@ -192,11 +193,11 @@ typedef enum pelgaisti_posted {
 /* The version of the library, as glm --version and the files for pkg-config and CMake tell it. */
 #define PELGAISTI_VERSION "0.8.0"
 
-/* The version of this header. It rises when a program that was compiled with the header before could not use the library. Version 3
-   has the functions of the archive under the names pelgaisti_raw_.., so that a program of an older version doesn't link. Version 2
+/* The version of this header. It rises when a program that was compiled with the header before could not use the library. Version 4
+   has a waker that belongs to an office, in place of one that belonged to a call. Version 3 has the functions of the archive under the names pelgaisti_raw_.., so that a program of an older version doesn't link. Version 2
    has five levels in place of four, so that structs with a resource are larger, and 1024 sessions in place of 256. Version 1 had
    neither this constant nor pelgaisti_version. */
-#define PELGAISTI_HEADER_VERSION 3
+#define PELGAISTI_HEADER_VERSION 4
 
 /* What a claim on a resource is. */
 typedef enum pelgaisti_claim_kind {
@@ -277,6 +278,36 @@ typedef struct pelgaisti_session {
     uint32_t is_open_;
     void *at_;
 } pelgaisti_session;
+
+/* What C++ is told of functions that throw nothing. From C++17 on this is a part of a function's type. */
+#if defined(__cplusplus)
+#define PELGAISTI_NOEXCEPT_ noexcept
+#else
+#define PELGAISTI_NOEXCEPT_
+#endif
+#if defined(__cplusplus) && __cplusplus >= 201703L
+#define PELGAISTI_NOEXCEPT_TYPE_ noexcept
+#else
+#define PELGAISTI_NOEXCEPT_TYPE_
+#endif
+
+/* What wakes the threads of an office: `wake`, a function of the engine's, is called with `engine` and the number of a session whose
+   wait has ended, and wakes the thread that sleeps for it, if there is one. pelgaisti_office_open_waking registers it. RULES:
+   - `wake` is called by the thread that made the pass, when the lock table was given back, and before the call that made the pass
+     returns. So it may post a semaphore, or lock a mutex of the engine's that no thread has locked while it makes a pass, as that
+     thread would wait for itself. While it takes long, nobody waits for the lock table, but the sessions behind this one sleep on.
+   - Several threads may be in `wake` at a time, each after its own pass: what they share is guarded.
+   - `wake` uses no handle of the session whose call made the pass: that call isn't over, and one call at a time uses a handle.
+   - `wake` may be called for a session that is awake, also for that whose call made the pass, and more than once before its thread
+     sleeps: the session may have polled unasked, or aborted, and waited again. So what a thread sleeps on keeps a wake-up that comes
+     early, as a semaphore does; and a thread that is woken polls, and sleeps on if the reply is WAITING.
+   - `wake` returns. It doesn't leave by longjmp or an exception, doesn't end its thread, and its thread isn't cancelled in it: then the
+     sessions behind this one would sleep for ever, and the answer of the call would be lost, which stands in the history. In C++17
+     the type says noexcept, so that a function that may throw isn't taken. In earlier C++ one that throws ends the program. */
+typedef struct pelgaisti_waker {
+    void (*wake)(void *engine, uint32_t session) PELGAISTI_NOEXCEPT_TYPE_;
+    void *engine;
+} pelgaisti_waker;
 
 /* The initial value of a handle, and the same as values, for an assignment: book = pelgaisti_empty_book(). */
 #define PELGAISTI_EMPTY {0, NULL}
@@ -386,14 +417,17 @@ uint32_t pelgaisti_raw_book_keep_at_most(pelgaisti_book *book, uint64_t bound);
 uint32_t pelgaisti_raw_book_take_history(pelgaisti_book *book, uint64_t *first, pelgaisti_entry *entries, size_t room,
                                          size_t *count);
 /* `mark` is the number by which pelgaisti_raw_session_hear and pelgaisti_raw_session_hand_in tell offices apart: one that no other
-   open office has. `bound` is that of pelgaisti_office_open_keeping. */
-uint32_t pelgaisti_raw_office_open(pelgaisti_session *sessions, size_t count, uint64_t mark, uint64_t bound);
+   open office has. `bound` is that of pelgaisti_office_open_keeping. `waker` is what pelgaisti_raw_session_waker tells, 0 for none: the
+   address of the waker, which the archive doesn't read. */
+uint32_t pelgaisti_raw_office_open(pelgaisti_session *sessions, size_t count, uint64_t mark, uint64_t bound, uint64_t waker);
 uint32_t pelgaisti_raw_session_publish(pelgaisti_session *session, const pelgaisti_call *call, uint32_t *posted);
-uint32_t pelgaisti_raw_session_serve(pelgaisti_session *session, pelgaisti_pass *pass);
+/* `told` gets how many sessions the waker is to wake after the pass, 0 in an office without one: it is written with OK, with NO_MEMORY,
+   and with ELSEWHERE, which is 0. pelgaisti_raw_session_told tells which they are, until the session's next try to make a pass. */
+uint32_t pelgaisti_raw_session_serve(pelgaisti_session *session, pelgaisti_pass *pass, size_t *told);
 uint32_t pelgaisti_raw_session_serve_telling(pelgaisti_session *session, pelgaisti_pass *pass, uint32_t *list, size_t room,
                                              size_t *count);
 uint32_t pelgaisti_raw_session_perform_at_once(pelgaisti_session *session, const pelgaisti_call *call, pelgaisti_pass *pass,
-                                               pelgaisti_answer *answer);
+                                               pelgaisti_answer *answer, size_t *told);
 uint32_t pelgaisti_raw_session_perform_telling(pelgaisti_session *session, const pelgaisti_call *call, pelgaisti_pass *pass,
                                                pelgaisti_answer *answer, uint32_t *list, size_t room, size_t *count);
 uint32_t pelgaisti_raw_session_collect(pelgaisti_session *session, pelgaisti_answer *answer);
@@ -412,6 +446,8 @@ uint32_t pelgaisti_raw_session_locks(pelgaisti_session *session, size_t first, p
                                      uint64_t *seen);
 uint32_t pelgaisti_raw_session_seen(pelgaisti_session *session, uint64_t *seen);
 uint32_t pelgaisti_raw_session_mark(pelgaisti_session *session, uint64_t *mark);
+uint32_t pelgaisti_raw_session_waker(pelgaisti_session *session, uint64_t *waker);
+uint32_t pelgaisti_raw_session_told(pelgaisti_session *session, size_t first, uint32_t *list, size_t room, size_t *count);
 uint32_t pelgaisti_raw_session_hear(pelgaisti_session *session, pelgaisti_session *other);
 uint32_t pelgaisti_raw_session_retire(pelgaisti_session *session);
 uint32_t pelgaisti_raw_session_hand_in(pelgaisti_session *session, pelgaisti_session *to);
@@ -699,7 +735,7 @@ static inline pelgaisti_status pelgaisti_book_lock_path(pelgaisti_book *book, ui
    NULL, NO_SUCH_COUNT, OPEN (one of the handles), NO_MEMORY. */
 static inline pelgaisti_status pelgaisti_office_open(pelgaisti_session *sessions, size_t count) {
     if (!sessions) return PELGAISTI_NULL;
-    return PELGAISTI_CALL_(pelgaisti_raw_office_open(sessions, count, (uint64_t)(uintptr_t)sessions, UINT64_MAX));
+    return PELGAISTI_CALL_(pelgaisti_raw_office_open(sessions, count, (uint64_t)(uintptr_t)sessions, UINT64_MAX, 0));
 }
 
 /* Opens an office as pelgaisti_office_open does, whose lock table keeps at most the newest `bound` entries of the history, and lets
@@ -707,7 +743,84 @@ static inline pelgaisti_status pelgaisti_office_open(pelgaisti_session *sessions
    follows what is held and waited for [tested, for an office]. UINT64_MAX is no bound. */
 static inline pelgaisti_status pelgaisti_office_open_keeping(pelgaisti_session *sessions, size_t count, uint64_t bound) {
     if (!sessions) return PELGAISTI_NULL;
-    return PELGAISTI_CALL_(pelgaisti_raw_office_open(sessions, count, (uint64_t)(uintptr_t)sessions, bound));
+    return PELGAISTI_CALL_(pelgaisti_raw_office_open(sessions, count, (uint64_t)(uintptr_t)sessions, bound, 0));
+}
+
+/* Opens an office as pelgaisti_office_open_keeping does, whose threads sleep while they wait for a lock. From then on each call of this
+   header on one of its sessions that makes a pass calls `wake` of the waker for each session whose wait the pass has ended, once, in no
+   particular order: whose waiting request a call of another session in this pass granted, or whose transaction it made a deadlock's
+   victim. Passes are made by pelgaisti_session_serve, .._serve_telling, .._perform_at_once, .._perform_telling, .._perform and
+   .._lock_path. They wake after the pass, before they return, whatever status they return.
+   The office takes the memory for whom a pass tells when it is opened, so that none of these calls lacks it later [proved: statuses of
+   pelgaisti_raw_session_serve, and memory of .._perform_at_once, by which NO_MEMORY comes of the call alone, behind a pass], but for
+   the lists of .._serve_telling and .._perform_telling.
+   Requires what pelgaisti_office_open requires, and that the waker keeps its place and its fields until the office is closed.
+   NULL (`sessions`, `waker` or its `wake`), NO_SUCH_COUNT, OPEN (one of the handles), NO_MEMORY.
+
+   A thread whose answer is WAITING sleeps until the waker is called for its session, and then polls once, as it makes any call. With
+   a semaphore for each session, at first 0:
+       static sem_t woken[SESSIONS + 1];
+       static void wake(void *engine, uint32_t session) { sem_post(&woken[session]); }
+       static const pelgaisti_waker waker = {wake, NULL};
+       ...
+           pelgaisti_office_open_waking(sessions, SESSIONS, UINT64_MAX, &waker);
+       ...
+           pelgaisti_session_perform(session, &lock, UINT64_MAX, &answer);
+           while (answer.reply.kind == PELGAISTI_WAITING) {
+               while (sem_wait(&woken[number]) != 0) continue;
+               pelgaisti_session_perform(session, &poll, UINT64_MAX, &answer);
+           }
+   The poll tells CLEAR or DEADLOCK. A session that polls unasked or aborts while it waits may find its semaphore posted once too
+   often: then a poll after a sleep tells WAITING, and it sleeps again.
+
+   A thread that waits only for some time sleeps by sem_timedwait. When the time is over it makes the call WITHDRAW. The reply
+   WITHDRAWN means that no pass has ended the wait: the semaphore isn't posted for it, and the transaction goes on, or aborts. If the
+   call is refused with NOT_WAITING or IS_DOOMED, a pass has ended the wait meanwhile, and the semaphore is posted or will be: the
+   thread sleeps on it by sem_wait and polls, as if there were no limit. examples/engine.c does so.
+
+   Why no wake-up is lost. (1) A wait that the session itself doesn't end, by an abort or a withdrawal, ends by one entry of the
+   history, which is another session's, and the pass that served this entry tells of the session, also if the wait began in the same
+   pass and its answer isn't collected yet [proved: none_lost of lock_office::laws::no_wake_up_is_lost, and of the archive's functions
+   told, told_refused]. (2) Every entry was served by one pass, whose call reads whom it tells of [proved: ok of
+   pelgaisti_raw_session_told] and calls the waker for each [tested, and that nothing of this takes memory]. (3) A semaphore counts, so
+   that a post before the thread sleeps wakes it as well [that is the system's]. (4) The next poll of a session that was told of
+   replies CLEAR or DEADLOCK, whatever others call before it [proved: none_idle of the same law]. */
+static inline pelgaisti_status pelgaisti_office_open_waking(pelgaisti_session *sessions, size_t count, uint64_t bound,
+                                                            const pelgaisti_waker *waker) {
+    uint64_t mark = (uint64_t)(uintptr_t)sessions;
+    if (!sessions || !waker || !waker->wake) return PELGAISTI_NULL;
+    return PELGAISTI_CALL_(pelgaisti_raw_office_open(sessions, count, mark, bound, (uint64_t)(uintptr_t)waker));
+}
+
+/* A function that is seldom called, so that compilers keep it out of the calls whose passes wake nobody. */
+#if defined(__GNUC__)
+#define PELGAISTI_APART_ static inline __attribute__((cold))
+#else
+#define PELGAISTI_APART_ static inline
+#endif
+
+/* The waker of the session's office, or NULL. */
+static inline const pelgaisti_waker *pelgaisti_waker_(pelgaisti_session *session) {
+    uint64_t at = 0;
+    return PELGAISTI_CALL_(pelgaisti_raw_session_waker(session, &at)) == PELGAISTI_OK ? (const pelgaisti_waker *)(uintptr_t)at : NULL;
+}
+
+/* Wakes the sessions that the session's last pass has told of, so many. */
+PELGAISTI_APART_ void pelgaisti_wake_told_(pelgaisti_session *session, size_t told) PELGAISTI_NOEXCEPT_ {
+    const pelgaisti_waker *waker = pelgaisti_waker_(session);
+    uint32_t list[16];
+    size_t first, k, count = 0;
+    for (first = 0; waker && first < told; first += 16) {
+        if (PELGAISTI_CALL_(pelgaisti_raw_session_told(session, first, list, 16, &count)) != PELGAISTI_OK) return;
+        for (k = 0; k < 16 && first + k < count; k++) waker->wake(waker->engine, list[k]);
+    }
+}
+
+/* Wakes the sessions of a list, if the session's office has a waker. */
+PELGAISTI_APART_ void pelgaisti_wake_list_(pelgaisti_session *session, const uint32_t *list, size_t count) PELGAISTI_NOEXCEPT_ {
+    const pelgaisti_waker *waker = count > 0 ? pelgaisti_waker_(session) : NULL;
+    size_t k;
+    for (k = 0; waker && k < count; k++) waker->wake(waker->engine, list[k]);
 }
 
 /* Publishes a call. The call is pending until the session collects its answer. Writes a pelgaisti_posted to `posted`, which may
@@ -725,49 +838,31 @@ static inline pelgaisti_status pelgaisti_session_publish(pelgaisti_session *sess
    NULL, CLOSED, ELSEWHERE. */
 static inline pelgaisti_status pelgaisti_session_serve(pelgaisti_session *session, pelgaisti_pass *pass) {
     pelgaisti_pass unread;
+    pelgaisti_status status;
+    size_t told = 0;
     if (!session) return PELGAISTI_NULL;
-    return PELGAISTI_CALL_(pelgaisti_raw_session_serve(session, pass ? pass : &unread));
+    status = PELGAISTI_CALL_(pelgaisti_raw_session_serve(session, pass ? pass : &unread, &told));
+    if (told > 0) pelgaisti_wake_told_(session, told);
+    return status;
 }
 
 /* Like pelgaisti_session_serve, and tells whose wait the pass has ended: writes the sessions, each once, in no particular order, to
    `list`, and how many they are to `count`. They are those whose waiting request a call of another session in this pass granted, or
-   whose transaction it made a deadlock's victim. `room` is at least the office's number of sessions. With ELSEWHERE no pass was
-   made, and nobody is to be told. NO_MEMORY: no pass was made. The session takes memory for the list at its first call that tells,
-   and keeps it [tested]. Requires `room` elements at `list`.
-   NULL, CLOSED, NO_ROOM, NO_MEMORY, ELSEWHERE.
-
-   By this call threads sleep until their waits are over, in place of polling: each session has a semaphore, at first 0, all
-   threads serve by this call and perform at once by pelgaisti_session_perform_telling alone, and whoever is told of a session
-   posts its semaphore. pelgaisti_session_perform_waking does so. A thread whose answer is WAITING sleeps on the semaphore of its
-   session and then polls once, as it makes any call:
-       static sem_t woken[SESSIONS + 1];
-       static void wake(void *engine, uint32_t session) { sem_post(&woken[session]); }
-       ...
-           pelgaisti_waker waker = {wake, NULL, told, SESSIONS};
-           pelgaisti_session_perform_waking(session, &lock, UINT64_MAX, &waker, &answer);
-           while (answer.reply.kind == PELGAISTI_WAITING) {
-               while (sem_wait(&woken[number]) != 0) continue;
-               pelgaisti_session_perform_waking(session, &poll, UINT64_MAX, &waker, &answer);
-           }
-   The poll tells CLEAR or DEADLOCK. A session that polls unasked or aborts while it waits may find its semaphore posted once too
-   often: then a poll after a sleep tells WAITING, and it sleeps again.
-
-   A thread that waits only for some time sleeps by sem_timedwait. When the time is over it makes the call WITHDRAW. The reply
-   WITHDRAWN means that no pass has ended the wait: the semaphore isn't posted for it, and the transaction goes on, or aborts. If the
-   call is refused with NOT_WAITING or IS_DOOMED, a pass has ended the wait meanwhile, and the semaphore is posted or will be: the
-   thread sleeps on it by sem_wait and polls, as if there were no limit. examples/engine.c does so.
-
-   Why no wake-up is lost. (1) A wait that the session itself doesn't end, by an abort or a withdrawal, ends by one entry of the
-   history, which is another session's, and the pass that served this entry tells of the session, also if the wait began in the same
-   pass and its answer isn't collected yet [proved]. (2) Every entry was served by one pass, and the thread that made the pass posts
-   the semaphore [that is the caller's code]. (3) A semaphore counts, so that a post before the thread sleeps wakes it as well [that
-   is the system's]. (4) The next poll of a session that was told of replies CLEAR or DEADLOCK, whatever others call before it
-   [proved]. */
+   whose transaction it made a deadlock's victim [proved: ok]. `room` is at least the office's number of sessions. With ELSEWHERE no
+   pass was made, and nobody is to be told. NO_MEMORY: no pass was made. The session takes memory for the list at its first call
+   that tells, and keeps it [tested]. This is for an engine that wakes threads by itself: by this call, and by
+   pelgaisti_session_perform_telling for what is performed at once, all its threads make their passes, and whoever is told of a session
+   wakes its thread. In an office with a waker nobody needs it, and the waker is called as by pelgaisti_session_serve.
+   Requires `room` elements at `list`.
+   NULL, CLOSED, NO_ROOM, NO_MEMORY, ELSEWHERE. */
 static inline pelgaisti_status pelgaisti_session_serve_telling(pelgaisti_session *session, pelgaisti_pass *pass, uint32_t *list,
                                                                size_t room, size_t *count) {
     pelgaisti_pass unread;
+    pelgaisti_status status;
     if (!session || !list || !count) return PELGAISTI_NULL;
-    return PELGAISTI_CALL_(pelgaisti_raw_session_serve_telling(session, pass ? pass : &unread, list, room, count));
+    status = PELGAISTI_CALL_(pelgaisti_raw_session_serve_telling(session, pass ? pass : &unread, list, room, count));
+    if (status == PELGAISTI_OK) pelgaisti_wake_list_(session, list, *count);
+    return status;
 }
 
 /* Tries once to take the lock table, without blocking, and if that succeeds, performs the session's call at once, in a pass that
@@ -775,16 +870,18 @@ static inline pelgaisti_status pelgaisti_session_serve_telling(pelgaisti_session
    here. A release, a commit, an abort or a withdrawal is performed ahead of the published calls, any other call behind them. `served`
    of the pass counts the published calls. ELSEWHERE: nothing has changed, and the call may be published. NO_MEMORY: memory was refused
    for the call, which is not in the history; it may be made again, or published. A pass was made, and other calls may have been
-   served in it. Whose wait it has ended is told to nobody. `pass` may be NULL.
+   served in it; the waker is called for those whose wait it has ended. `pass` may be NULL.
    NULL, CLOSED, NO_SUCH_OP, NO_SUCH_LEVEL, NO_SUCH_MODE, RETIRED, PENDING, NO_MEMORY or ELSEWHERE. */
 static inline pelgaisti_status pelgaisti_session_perform_at_once(pelgaisti_session *session, const pelgaisti_call *call,
                                                                  pelgaisti_pass *pass, pelgaisti_answer *answer) {
     pelgaisti_pass unread;
     pelgaisti_status status;
+    size_t told = 0;
     if (!session || !call || !answer) return PELGAISTI_NULL;
     pelgaisti_released_(session);
-    status = PELGAISTI_CALL_(pelgaisti_raw_session_perform_at_once(session, call, pass ? pass : &unread, answer));
+    status = PELGAISTI_CALL_(pelgaisti_raw_session_perform_at_once(session, call, pass ? pass : &unread, answer, &told));
     if (status == PELGAISTI_OK) pelgaisti_acquired_(session);
+    if (told > 0) pelgaisti_wake_told_(session, told);
     return status;
 }
 
@@ -803,6 +900,7 @@ static inline pelgaisti_status pelgaisti_session_perform_telling(pelgaisti_sessi
     pelgaisti_released_(session);
     status = PELGAISTI_CALL_(pelgaisti_raw_session_perform_telling(session, call, pass ? pass : &unread, answer, list, room, count));
     if (status == PELGAISTI_OK) pelgaisti_acquired_(session);
+    if (status == PELGAISTI_OK || status == PELGAISTI_NO_MEMORY) pelgaisti_wake_list_(session, list, *count);
     return status;
 }
 
@@ -974,64 +1072,29 @@ static inline void pelgaisti_pause_(uint64_t look) {
         pelgaisti_spin_(256);
 }
 
-/* Whom a call's passes wake: `wake` is called with `engine` for each session whose wait a pass has ended, after the pass, by the
-   thread that made it. At `list` is room for the numbers of `room` sessions, which is at least the office's number of sessions. A
-   waker is used by one call at a time. */
-typedef struct pelgaisti_waker {
-    void (*wake)(void *engine, uint32_t session);
-    void *engine;
-    uint32_t *list;
-    size_t room;
-} pelgaisti_waker;
-
-/* Serves by pelgaisti_session_serve, or with a waker by pelgaisti_session_serve_telling, and wakes who is told of. */
-static inline pelgaisti_status pelgaisti_serve_waking_(pelgaisti_session *session, pelgaisti_pass *pass,
-                                                       const pelgaisti_waker *waker) {
-    pelgaisti_status status;
-    size_t count = 0;
-    if (!waker) return pelgaisti_session_serve(session, pass);
-    status = pelgaisti_session_serve_telling(session, pass, waker->list, waker->room, &count);
-    if (status == PELGAISTI_OK)
-        while (count > 0) waker->wake(waker->engine, waker->list[--count]);
-    return status;
-}
-
-/* Performs by pelgaisti_session_perform_at_once, or with a waker by pelgaisti_session_perform_telling, and wakes who is told of. */
-static inline pelgaisti_status pelgaisti_perform_waking_(pelgaisti_session *session, const pelgaisti_call *call,
-                                                         const pelgaisti_waker *waker, pelgaisti_answer *answer) {
-    pelgaisti_status status;
-    size_t count = 0;
-    if (!waker) return pelgaisti_session_perform_at_once(session, call, NULL, answer);
-    status = pelgaisti_session_perform_telling(session, call, NULL, answer, waker->list, waker->room, &count);
-    while (count > 0) waker->wake(waker->engine, waker->list[--count]);
-    return status;
-}
-
 /* Performs the call at once where the lock table is free. Where it isn't, tries again, with pauses that grow, in all at most
    `turns` times and at most 32 times. If the lock table was never free, publishes the call, then serves and collects in turn
    until the answer is there, at most `turns` times. With 0 turns it only publishes the call. With NULL for `call` it goes on
    with the call that is pending; with 0 turns, too, it looks at nothing and returns NOT_SERVED. The answer may be WAITING: this
-   call waits for an answer, not for a lock. Whoever waits for a lock sleeps until a pass wakes it, which
-   pelgaisti_session_serve_telling explains. With NULL for `waker` the passes of this call wake nobody: where threads sleep, none
-   uses it so.
-   NOT_SERVED: after so many turns there is no answer. NO_MEMORY: memory was refused for the call, in a pass of this session or for
-   the list of whom it is to wake, and the call wasn't served. With both, and with NO_ROOM, the call is pending, and NULL for `call`
-   goes on with it.
-   NULL (the session, the answer, or what the waker has), CLOSED, NO_SUCH_OP, NO_SUCH_LEVEL, NO_SUCH_MODE, RETIRED, PENDING;
-   NOTHING_PENDING with NULL for `call`; NO_MEMORY, NO_ROOM, NOT_SERVED. */
-static inline pelgaisti_status pelgaisti_session_perform_waking(pelgaisti_session *session, const pelgaisti_call *call,
-                                                                uint64_t turns, const pelgaisti_waker *waker,
-                                                                pelgaisti_answer *answer) {
+   call waits for an answer, not for a lock. Whoever waits for a lock sleeps until the office's waker wakes it, and then polls. In an
+   office without a waker it polls, and sleeps between two polls: 10 microseconds at first, and twice as long each time up to a
+   millisecond.
+   NOT_SERVED: after so many turns there is no answer. NO_MEMORY: memory was refused for the call, in a pass of this session, and the
+   call wasn't served. With both the call is pending, and NULL for `call` goes on with it.
+   NULL (the session or the answer), CLOSED, NO_SUCH_OP, NO_SUCH_LEVEL, NO_SUCH_MODE, RETIRED, PENDING; NOTHING_PENDING with NULL
+   for `call`; NO_MEMORY, NOT_SERVED. */
+static inline pelgaisti_status pelgaisti_session_perform(pelgaisti_session *session, const pelgaisti_call *call, uint64_t turns,
+                                                         pelgaisti_answer *answer) {
     pelgaisti_pass pass;
     pelgaisti_status status, served = PELGAISTI_ELSEWHERE;
     uint64_t turn;
-    if (!session || !answer || (waker && (!waker->wake || !waker->list))) return PELGAISTI_NULL;
+    if (!session || !answer) return PELGAISTI_NULL;
     if (call) {
         for (turn = 0; turn < turns && turn < 32 && served == PELGAISTI_ELSEWHERE; turn++) {
             if (turn > 0) pelgaisti_back_off_(turn);
-            served = pelgaisti_perform_waking_(session, call, waker, answer);
+            served = pelgaisti_session_perform_at_once(session, call, NULL, answer);
         }
-        if (served != PELGAISTI_ELSEWHERE && served != PELGAISTI_NO_MEMORY && served != PELGAISTI_NO_ROOM) return served;
+        if (served != PELGAISTI_ELSEWHERE && served != PELGAISTI_NO_MEMORY) return served;
         status = pelgaisti_session_publish(session, call, NULL);
         if (status != PELGAISTI_OK) return status;
         if (served != PELGAISTI_ELSEWHERE) return served;
@@ -1039,42 +1102,31 @@ static inline pelgaisti_status pelgaisti_session_perform_waking(pelgaisti_sessio
     for (turn = 0; turn < turns; turn++) {
         if (turn > 0) pelgaisti_pause_(turn);
         pass.starved = 0;
-        served = pelgaisti_serve_waking_(session, &pass, waker);
+        pelgaisti_session_serve(session, &pass);
         status = pelgaisti_session_collect(session, answer);
         if (status != PELGAISTI_NOT_SERVED) return status;
         if (pass.starved) return PELGAISTI_NO_MEMORY;
-        if (served == PELGAISTI_NO_MEMORY || served == PELGAISTI_NO_ROOM) return served;
     }
     return PELGAISTI_NOT_SERVED;
 }
 
-/* Performs a call as pelgaisti_session_perform_waking does, at once where the lock table is free, by passes that wake nobody.
-   Whoever waits for a lock polls then, and sleeps between two polls: 10 microseconds at first, and twice as long each time up to
-   a millisecond.
-   NULL (the session or the answer), CLOSED, NO_SUCH_OP, NO_SUCH_LEVEL, NO_SUCH_MODE, RETIRED, PENDING; NOTHING_PENDING with NULL
-   for `call`; NO_MEMORY, NOT_SERVED. */
-static inline pelgaisti_status pelgaisti_session_perform(pelgaisti_session *session, const pelgaisti_call *call, uint64_t turns,
-                                                         pelgaisti_answer *answer) {
-    return pelgaisti_session_perform_waking(session, call, turns, NULL, answer);
-}
-
-/* Like pelgaisti_book_lock_path, for a session of an office: performs the calls one after another, each in at most `turns` turns by
-   passes that wake as the waker says, and writes the last answer.
+/* Like pelgaisti_book_lock_path, for a session of an office: performs the calls one after another, each in at most `turns` turns as
+   pelgaisti_session_perform does, and writes the last answer.
    PENDING: the session has a pending call, be it one that an earlier call of this function has left. Nothing has changed, and
    nothing was written.
-   NOT_SERVED, NO_MEMORY, NO_ROOM: the path's next call, which locks level `level` + 1, is pending, and `level` and `answer` tell of
-   the calls that were answered before it. The caller finishes it by pelgaisti_session_perform_waking with NULL for `call`, or by serve
-   and collect, and goes by its answer as by one of this function: after GRANTED, or a WAITING that ended with CLEAR, it makes the
-   same call again, with the `level` that it was left. That begins with this level again, which is granted once more and changes nothing.
-   NULL, NO_SUCH_LEVEL, and the statuses of pelgaisti_session_perform_waking with a call. */
-static inline pelgaisti_status pelgaisti_session_lock_path_waking(pelgaisti_session *session, const pelgaisti_resource *resource,
-                                                                  uint32_t mode, uint32_t *level, uint64_t turns,
-                                                                  const pelgaisti_waker *waker, pelgaisti_answer *answer) {
+   NOT_SERVED, NO_MEMORY: the path's next call, which locks level `level` + 1, is pending, and `level` and `answer` tell of the calls
+   that were answered before it. The caller finishes it by pelgaisti_session_perform with NULL for `call`, or by serve and collect,
+   and goes by its answer as by one of this function: after GRANTED, or a WAITING that ended with CLEAR, it makes the same call
+   again, with the `level` that it was left. That begins with this level again, which is granted once more and changes nothing.
+   NULL, NO_SUCH_LEVEL, and the statuses of pelgaisti_session_perform with a call. */
+static inline pelgaisti_status pelgaisti_session_lock_path(pelgaisti_session *session, const pelgaisti_resource *resource,
+                                                           uint32_t mode, uint32_t *level, uint64_t turns,
+                                                           pelgaisti_answer *answer) {
     if (!session || !resource || !level || !answer) return PELGAISTI_NULL;
     if (resource->level > PELGAISTI_LEVELS || *level >= resource->level) return PELGAISTI_NO_SUCH_LEVEL;
     while (*level < resource->level) {
         pelgaisti_call call = pelgaisti_path_call(resource, mode, *level);
-        pelgaisti_status status = pelgaisti_session_perform_waking(session, &call, turns, waker, answer);
+        pelgaisti_status status = pelgaisti_session_perform(session, &call, turns, answer);
         if (status != PELGAISTI_OK) return status;
         if (answer->reply.kind != PELGAISTI_GRANTED) break;
         *level += 1;
@@ -1082,15 +1134,10 @@ static inline pelgaisti_status pelgaisti_session_lock_path_waking(pelgaisti_sess
     return PELGAISTI_OK;
 }
 
-/* Locks a path as pelgaisti_session_lock_path_waking does, by passes that wake nobody.
-   NULL, NO_SUCH_LEVEL, and the statuses of pelgaisti_session_perform with a call. */
-static inline pelgaisti_status pelgaisti_session_lock_path(pelgaisti_session *session, const pelgaisti_resource *resource,
-                                                           uint32_t mode, uint32_t *level, uint64_t turns,
-                                                           pelgaisti_answer *answer) {
-    return pelgaisti_session_lock_path_waking(session, resource, mode, level, turns, NULL, answer);
-}
-
 #undef PELGAISTI_CALL_
+#undef PELGAISTI_APART_
+#undef PELGAISTI_NOEXCEPT_TYPE_
+#undef PELGAISTI_NOEXCEPT_
 
 #ifdef __cplusplus
 }

@@ -24,7 +24,7 @@
 namespace pelgaisti {
 using std::size_t, std::uint32_t, std::uint64_t;
 using entry = pelgaisti_entry;
-using waker = pelgaisti_waker;
+using waker = pelgaisti_waker;  // {wake, engine}: a function that may throw is no waker
 enum class mode : uint32_t { NL = 0, IS = 1, IX = 3, S = 5, SIX = 7, X = 15, U = 13 };
 enum class op : uint32_t { begin = 1, lock, convert, poll, release, commit, abort, try_lock, withdraw };
 enum class kind : uint32_t { began = 1, granted, waiting, deadlock, clear, released, committed, aborted, refused, withdrawn };
@@ -162,27 +162,26 @@ private:
 class session : pinned {
 public:
     void publish(const pelgaisti::call &call) { check(pelgaisti_session_publish(&handle_, &call, nullptr)); }
-    // One try to take the lock table; what the pass did, or nothing if another session has it. A waker is told whose wait ended.
-    std::optional<pelgaisti_pass> serve(const waker *wake = nullptr) {
+    // One try to take the lock table; what the pass did, or nothing if another session has it.
+    std::optional<pelgaisti_pass> serve() {
         pelgaisti_pass pass{};
-        return elsewhere(pelgaisti_serve_waking_(&handle_, &pass, wake)) ? std::nullopt : std::optional(pass);
+        return elsewhere(pelgaisti_session_serve(&handle_, &pass)) ? std::nullopt : std::optional(pass);
     }
     // The answer to the pending call, or nothing if the session knows none yet.
     std::optional<answer> collect() { return told([&](auto *found) { return pelgaisti_session_collect(&handle_, found); }); }
     // Performs the call at once, or publishes, serves and collects, at most `turns` times. Nothing, or NO_MEMORY: resume() goes on.
-    std::optional<answer> perform(const pelgaisti::call &call, uint64_t turns = UINT64_MAX, const waker *wake = nullptr) {
-        return told([&](auto *found) { return pelgaisti_session_perform_waking(&handle_, &call, turns, wake, found); });
+    std::optional<answer> perform(const pelgaisti::call &call, uint64_t turns = UINT64_MAX) {
+        return told([&](auto *found) { return pelgaisti_session_perform(&handle_, &call, turns, found); });
     }
-    std::optional<answer> resume(uint64_t turns = UINT64_MAX, const waker *wake = nullptr) {
-        return told([&](auto *found) { return pelgaisti_session_perform_waking(&handle_, nullptr, turns, wake, found); });
+    std::optional<answer> resume(uint64_t turns = UINT64_MAX) {
+        return told([&](auto *found) { return pelgaisti_session_perform(&handle_, nullptr, turns, found); });
     }
     // Like book::lock_path, each call in at most `turns` turns. PENDING: the session has a pending call already, and nothing has
     // changed. Nothing, or NO_MEMORY: the call that locks level `level` + 1 is pending. resume() gives its answer. If that is granted,
     // or waiting and then clear, the same call goes on, with the `level` that it was left.
-    std::optional<answer> lock_path(const resource &on, mode in, uint32_t &level, uint64_t turns = UINT64_MAX,
-                                    const waker *wake = nullptr) {
+    std::optional<answer> lock_path(const resource &on, mode in, uint32_t &level, uint64_t turns = UINT64_MAX) {
         const auto how = static_cast<uint32_t>(in);
-        return told([&](auto *it) { return pelgaisti_session_lock_path_waking(&handle_, &on, how, &level, turns, wake, it); });
+        return told([&](auto *it) { return pelgaisti_session_lock_path(&handle_, &on, how, &level, turns, it); });
     }
     // Takes up to `room` of the oldest entries that are kept, from the place `first` on; nothing if another session has the table.
     std::optional<std::vector<entry>> take_history(size_t room, uint64_t &first) {
@@ -246,14 +245,21 @@ private:
 static_assert(sizeof(session) == sizeof(pelgaisti_session), "an array of sessions is an array of handles");
 
 // An office with all its sessions, which no thread uses any more when it is destroyed. Without a close its lock table is freed then,
-// pending calls or not.
+// pending calls or not, by passes that still wake.
 class office : pinned {
+    const pelgaisti::waker waker_{nullptr, nullptr};
     std::unique_ptr<session[]> sessions_;
     size_t count_, handed_in_ = 0;
 public:
     // Of the history at most the newest `bound` entries are kept in memory.
     explicit office(size_t sessions, uint64_t bound = UINT64_MAX) : sessions_(new session[sessions]), count_(sessions) {
         check(pelgaisti_office_open_keeping(&sessions_[0].handle_, sessions, bound));
+    }
+    // An office whose threads sleep while they wait for a lock: each call of its sessions that makes a pass calls the waker, of which
+    // the office keeps a copy, for each session whose wait the pass has ended.
+    office(size_t sessions, const pelgaisti::waker &waker, uint64_t bound = UINT64_MAX)
+        : waker_(waker), sessions_(new session[sessions]), count_(sessions) {
+        check(pelgaisti_office_open_waking(&sessions_[0].handle_, sessions, bound, &waker_));
     }
     ~office() {
         pelgaisti_session *const first = &sessions_[0].handle_;

@@ -57,21 +57,21 @@ fn sleep_within(beds: &Beds, session: usize, limit: Duration) -> bool {
 }
 
 /// Performs a call: without a bound on its turns there is an answer, unless memory is refused.
-fn ask(session: &mut Session, beds: &Beds, call: &Call) -> Reply {
-    session.perform_waking(call, u64::MAX, |other| wake(beds, other)).expect("memory for a call").reply
+fn ask(session: &mut Session, call: &Call) -> Reply {
+    session.perform(call, u64::MAX).expect("memory for a call").reply
 }
 
 /// Sleeps until the wait of the session's request has ended, and asks how it has ended. After the limit it takes the request
 /// back.
 fn end_wait(session: &mut Session, beds: &Beds, limit: Duration) -> Reply {
     if !sleep_within(beds, session.number(), limit) {
-        if ask(session, beds, &Call::Withdraw) == Reply::Withdrawn {
+        if ask(session, &Call::Withdraw) == Reply::Withdrawn {
             return Reply::Withdrawn;
         }
         // refused: the wait has ended meanwhile, and whoever ended it wakes this thread
         sleep(beds, session.number());
     }
-    ask(session, beds, &Call::Poll)
+    ask(session, &Call::Poll)
 }
 
 /// Locks a path down to the resource. While a request on it waits, sleeps, and then goes on. Whether it was granted, each request
@@ -79,10 +79,7 @@ fn end_wait(session: &mut Session, beds: &Beds, limit: Duration) -> Reply {
 fn lock(session: &mut Session, beds: &Beds, mode: Mode, numbers: &[u32], limit: Duration) -> bool {
     let resource = Resource::new(numbers).expect("1 to 5 numbers");
     let mut level = 0;
-    while let Some(answer) = session
-        .lock_path_waking(resource, mode, &mut level, u64::MAX, |other| wake(beds, other))
-        .expect("memory for a call")
-    {
+    while let Some(answer) = session.lock_path(resource, mode, &mut level, u64::MAX).expect("memory for a call") {
         let mut reply = answer.reply;
         while reply == Reply::Waiting {
             reply = end_wait(session, beds, limit);
@@ -103,21 +100,21 @@ fn do_without(sessions: &mut [Session], beds: &Beds) {
     let [holder, other, ..] = sessions else {
         panic!("two sessions")
     };
-    ask(holder, beds, &Call::Begin);
-    ask(other, beds, &Call::Begin);
-    assert_eq!(ask(holder, beds, &table), Reply::Granted(Mode::X));
-    assert_eq!(ask(other, beds, &table), Reply::Refused(Refusal::WouldWait));
+    ask(holder, &Call::Begin);
+    ask(other, &Call::Begin);
+    assert_eq!(ask(holder, &table), Reply::Granted(Mode::X));
+    assert_eq!(ask(other, &table), Reply::Refused(Refusal::WouldWait));
     assert!(!lock(other, beds, Mode::S, &[0], Duration::from_millis(20)));
-    assert_eq!(ask(other, beds, &Call::Commit), Reply::Committed(0));
-    assert_eq!(ask(holder, beds, &Call::Commit), Reply::Committed(1));
+    assert_eq!(ask(other, &Call::Commit), Reply::Committed(0));
+    assert_eq!(ask(holder, &Call::Commit), Reply::Committed(1));
 }
 
 /// One transfer. Whether it was committed.
 fn transfer(session: &mut Session, beds: &Beds, accounts: &Tables, from: (u32, u32), to: (u32, u32)) -> bool {
-    ask(session, beds, &Call::Begin);
+    ask(session, &Call::Begin);
     for (table, account) in [from, to] {
         if !lock(session, beds, Mode::X, &[table, account], Duration::from_secs(60)) {
-            ask(session, beds, &Call::Abort);
+            ask(session, &Call::Abort);
             return false;
         }
     }
@@ -126,14 +123,16 @@ fn transfer(session: &mut Session, beds: &Beds, accounts: &Tables, from: (u32, u
         let it = &accounts[table as usize][account as usize];
         it.store(it.load(Ordering::Relaxed) + sum, Ordering::Relaxed);
     }
-    ask(session, beds, &Call::Commit);
+    ask(session, &Call::Commit);
     true
 }
 
 fn main() {
     let accounts: Arc<Tables> = Arc::new(std::array::from_fn(|_| std::array::from_fn(|_| AtomicI64::new(BALANCE))));
     let beds: Arc<Beds> = Arc::default();
-    let mut sessions = Office::open(THREADS).expect("an office of four sessions");
+    let sleepers = beds.clone();
+    let mut sessions =
+        Office::open_waking(THREADS, u64::MAX, move |session| wake(&sleepers, session)).expect("an office of four sessions");
     do_without(&mut sessions, &beds);
     let threads: Vec<_> = sessions
         .into_iter()

@@ -10,7 +10,7 @@ pub(crate) const LEVELS: usize = 5;
 pub(crate) const MAX_SESSIONS: usize = 1024;
 
 /// The header's version that these structs are of.
-pub(crate) const HEADER_VERSION: u32 = 3;
+pub(crate) const HEADER_VERSION: u32 = 4;
 
 #[repr(C)]
 #[derive(Clone, Copy, Default)]
@@ -156,27 +156,19 @@ extern "C" {
         room: usize,
         count: *mut usize,
     ) -> u32;
-    pub(crate) fn pelgaisti_raw_office_open(sessions: *mut RawHandle, count: usize, mark: u64, bound: u64) -> u32;
+    pub(crate) fn pelgaisti_raw_office_open(sessions: *mut RawHandle, count: usize, mark: u64, bound: u64, waker: u64) -> u32;
     pub(crate) fn pelgaisti_raw_session_publish(session: *mut RawHandle, call: *const RawCall, posted: *mut u32) -> u32;
-    pub(crate) fn pelgaisti_raw_session_serve(session: *mut RawHandle, pass: *mut RawPass) -> u32;
-    pub(crate) fn pelgaisti_raw_session_serve_telling(
-        session: *mut RawHandle,
-        pass: *mut RawPass,
-        list: *mut u32,
-        room: usize,
-        count: *mut usize,
-    ) -> u32;
+    pub(crate) fn pelgaisti_raw_session_serve(session: *mut RawHandle, pass: *mut RawPass, told: *mut usize) -> u32;
     pub(crate) fn pelgaisti_raw_session_perform_at_once(
         session: *mut RawHandle,
         call: *const RawCall,
         pass: *mut RawPass,
         answer: *mut RawAnswer,
+        told: *mut usize,
     ) -> u32;
-    pub(crate) fn pelgaisti_raw_session_perform_telling(
+    pub(crate) fn pelgaisti_raw_session_told(
         session: *mut RawHandle,
-        call: *const RawCall,
-        pass: *mut RawPass,
-        answer: *mut RawAnswer,
+        first: usize,
         list: *mut u32,
         room: usize,
         count: *mut usize,

@@ -3,8 +3,8 @@
 //! isn't, but its types keep the rules that the library asks of its callers.
 //!
 //! A [`Book`] is a lock table for one thread at a time. An [`Office`] is one that threads share, each by a [`Session`] of its
-//! own. No call blocks: a thread that was told [`Reply::Waiting`] sleeps until the pass of another wakes it, as
-//! [`Session::serve_waking`] tells, or polls.
+//! own. No call blocks: a thread that was told [`Reply::Waiting`] sleeps until the office's waker is called for its session
+//! ([`Office::open_waking`]), or polls.
 //!
 //!     use pelgaisti::{Book, Call, Mode, Reply, Resource};
 //!

@@ -7,6 +7,8 @@ use crate::ffi::{self, RawAnswer, RawEntry, RawHandle, RawPass, MAX_SESSIONS};
 use std::cell::UnsafeCell;
 use std::hint;
 use std::marker::PhantomData;
+use std::mem;
+use std::panic::{self, AssertUnwindSafe};
 use std::sync::atomic::{AtomicU64, Ordering};
 use std::sync::{Arc, Mutex, MutexGuard, PoisonError};
 use std::thread;
@@ -16,7 +18,11 @@ struct Handles {
     all: Box<[UnsafeCell<RawHandle>]>,
     // the indices of the sessions that were dropped, with room for all, so that a drop asks for no memory
     dropped: Mutex<Vec<usize>>,
+    wake: Option<Waker>,
 }
+
+/// What is called with the number of a session whose wait has ended.
+type Waker = Box<dyn Fn(usize) + Send + Sync>;
 
 // each handle is used by its own session, and by a session that has it by `&mut`
 unsafe impl Send for Handles {}
@@ -34,9 +40,10 @@ impl Drop for Handles {
     /// refuses each of these calls.
     fn drop(&mut self) {
         let (mut pass, mut answer, first) = (RawPass::default(), RawAnswer::default(), self.all[0].get());
+        let mut told = 0; // whose threads have no session any more
         for handle in &self.all {
             unsafe {
-                ffi::pelgaisti_raw_session_serve(handle.get(), &mut pass);
+                ffi::pelgaisti_raw_session_serve(handle.get(), &mut pass, &mut told);
                 ffi::pelgaisti_raw_session_collect(handle.get(), &mut answer);
             }
         }
@@ -60,8 +67,6 @@ pub struct Session {
     index: usize,
     // handed in, so that it doesn't go back when it is dropped
     is_handed_in: bool,
-    // room for whose wait a pass has ended, from the first call on that tells it
-    told: Vec<u32>,
     // not Sync: a call uses the handle alone
     alone: PhantomData<std::cell::Cell<()>>,
 }
@@ -132,6 +137,47 @@ impl Office {
     ///     assert_eq!((book.length(), book.first_kept()), (3, 1));
     ///     # Ok::<(), pelgaisti::Error>(())
     pub fn open_keeping(sessions: usize, bound: u64) -> Result<Vec<Session>, Error> {
+        Office::open_by(sessions, bound, None)
+    }
+
+    /// Opens an office as [`Office::open_keeping`] does, whose threads sleep while they wait for a lock. A thread that was told
+    /// [`Reply::Waiting`] sleeps until `wake` is called for its session, and then polls once.
+    ///
+    /// Each call of one of the sessions that makes a pass ([`Session::serve`], [`Session::perform`], [`Session::resume`],
+    /// [`Session::lock_path`]) calls `wake` with the number of each session whose wait the pass has ended, once: a waiting request
+    /// of the session was granted, or its transaction became a deadlock's victim. It does so after the pass, before it returns,
+    /// whatever it returns. No call lacks memory for whom to wake: this one takes it.
+    ///
+    /// `wake` runs on the thread that made the pass, and on several threads at a time if several make passes. It may be called for
+    /// a session that is awake, also for the one whose call made the pass, and more than once: what a thread sleeps on has to keep
+    /// a wake-up that comes early, and a thread that is woken sleeps on if the poll replies [`Reply::Waiting`]. If `wake` panics,
+    /// the panic ends there, behind the message of the panic hook. Then the session that it was called for may sleep on; the others
+    /// are woken, and the call returns what it would have returned.
+    ///
+    /// A thread that waits only for some time makes the call [`Call::Withdraw`] when the time is over. [`Reply::Withdrawn`] means
+    /// that no pass has ended the wait, and nobody wakes it for it. If the call is refused, a pass has ended the wait meanwhile and
+    /// wakes the thread: it sleeps until then, and polls.
+    ///
+    ///     # use pelgaisti::{Call, Mode, Office, Resource};
+    ///     # use std::sync::mpsc;
+    ///     let (woken, told) = mpsc::channel();
+    ///     let mut sessions = Office::open_waking(2, u64::MAX, move |session| woken.send(session).unwrap())?;
+    ///     for session in &mut sessions {
+    ///         session.perform(&Call::Begin, u64::MAX)?;
+    ///         session.perform(&Call::Lock(Resource::new(&[7]).unwrap(), Mode::X), u64::MAX)?;
+    ///     }
+    ///     sessions[0].perform(&Call::Commit, u64::MAX)?;
+    ///     assert_eq!(told.try_recv(), Ok(2));
+    ///     # Ok::<(), pelgaisti::Error>(())
+    pub fn open_waking(
+        sessions: usize,
+        bound: u64,
+        wake: impl Fn(usize) + Send + Sync + 'static,
+    ) -> Result<Vec<Session>, Error> {
+        Office::open_by(sessions, bound, Some(Box::new(wake)))
+    }
+
+    fn open_by(sessions: usize, bound: u64, wake: Option<Waker>) -> Result<Vec<Session>, Error> {
         // no two offices of a process have one mark
         static MARKS: AtomicU64 = AtomicU64::new(1);
         same_version()?;
@@ -142,10 +188,13 @@ impl Office {
         let handles = Arc::new(Handles {
             all: handles.into_boxed_slice(),
             dropped: Mutex::new(Vec::with_capacity(sessions)),
+            wake,
         });
         let mark = MARKS.fetch_add(1, Ordering::Relaxed);
+        // the library asks only whether there is a waker: these types know which
+        let has_waker = u64::from(handles.wake.is_some());
         // an UnsafeCell has the layout of what is in it
-        done(unsafe { ffi::pelgaisti_raw_office_open(handles.all[0].get(), sessions, mark, bound) })?;
+        done(unsafe { ffi::pelgaisti_raw_office_open(handles.all[0].get(), sessions, mark, bound, has_waker) })?;
         Ok((0..sessions).map(|index| Session::of(&handles, index)).collect())
     }
 
@@ -241,7 +290,6 @@ impl Session {
             handles: handles.clone(),
             index,
             is_handed_in: false,
-            told: Vec::new(),
             alone: PhantomData,
         }
     }
@@ -280,89 +328,48 @@ impl Session {
     ///     assert_eq!(sessions[0].serve()?.served, 1);
     ///     # Ok::<(), pelgaisti::Error>(())
     pub fn serve(&mut self) -> Result<Pass, Error> {
-        let mut pass = RawPass::default();
-        done(unsafe { ffi::pelgaisti_raw_session_serve(self.raw(), &mut pass) })?;
-        Ok(Pass {
-            served: pass.served,
-            starved: pass.starved != 0,
-        })
-    }
-
-    /// Serves as [`Session::serve`] does, and calls `wake` with the number of each session whose wait the pass has ended, after the
-    /// pass: a waiting request of theirs was granted, or their transaction became a deadlock's victim. Each is told once. A poll of
-    /// each tells which.
-    ///
-    /// By this call and those that are made of it, [`Session::perform_waking`] and the like, a thread that was told
-    /// [`Reply::Waiting`] sleeps in place of polling, until a pass of another thread wakes it. It polls then. All threads of the
-    /// office serve so.
-    ///
-    /// A thread that waits only for some time makes the call [`Call::Withdraw`] when the time is over. [`Reply::Withdrawn`] means that
-    /// no pass has ended the wait, and nobody wakes it for it. If the call is refused, a pass has ended the wait meanwhile and wakes
-    /// the thread: it sleeps until then, and polls.
-    ///
-    ///     # use pelgaisti::{Call, Mode, Office, Resource};
-    ///     let mut sessions = Office::open(2)?;
-    ///     for session in &mut sessions {
-    ///         session.perform(&Call::Begin, u64::MAX)?;
-    ///         session.perform(&Call::Lock(Resource::new(&[7]).unwrap(), Mode::X), u64::MAX)?;
-    ///     }
-    ///     sessions[0].publish(&Call::Commit)?;
-    ///     let mut told = Vec::new();
-    ///     sessions[0].serve_waking(|session| told.push(session))?;
-    ///     assert_eq!(told, [2]);
-    ///     # Ok::<(), pelgaisti::Error>(())
-    pub fn serve_waking(&mut self, wake: impl FnMut(usize)) -> Result<Pass, Error> {
-        let (mut pass, mut count) = (RawPass::default(), 0);
-        let (at, room) = self.room_for_told();
-        done(unsafe { ffi::pelgaisti_raw_session_serve_telling(self.raw(), &mut pass, at, room, &mut count) })?;
-        self.told[..count].iter().map(|session| *session as usize).for_each(wake);
-        Ok(Pass {
-            served: pass.served,
-            starved: pass.starved != 0,
-        })
-    }
-
-    /// Where a call writes whose wait it has ended, and for how many sessions there is room.
-    fn room_for_told(&mut self) -> (*mut u32, usize) {
-        if self.told.is_empty() {
-            self.told = vec![0; self.handles.all.len()];
+        let (mut pass, mut told) = (RawPass::default(), 0);
+        let status = unsafe { ffi::pelgaisti_raw_session_serve(self.raw(), &mut pass, &mut told) };
+        if told > 0 {
+            self.wake(told);
         }
-        (self.told.as_mut_ptr(), self.told.len())
+        done(status)?;
+        Ok(Pass {
+            served: pass.served,
+            starved: pass.starved != 0,
+        })
+    }
+
+    /// Wakes the sessions that the session's last pass has told of, so many, by the office's waker. A waker that panics has wakened
+    /// nobody, and the others are woken all the same: its panic ends here.
+    fn wake(&mut self, told: usize) {
+        let Some(wake) = &self.handles.wake else { return };
+        let mut list = [0; 16];
+        for first in (0..told).step_by(list.len()) {
+            let mut count = 0;
+            let status = unsafe { ffi::pelgaisti_raw_session_told(self.raw(), first, list.as_mut_ptr(), list.len(), &mut count) };
+            done(status).expect("an open session tells whom to wake");
+            for session in &list[..list.len().min(count - first)] {
+                if let Err(panic) = panic::catch_unwind(AssertUnwindSafe(|| wake(*session as usize))) {
+                    // what it was raised with may panic itself when it is dropped
+                    mem::forget(panic);
+                }
+            }
+        }
     }
 
     /// Performs a call at once, if the lock table is free at one of at most `turns` tries. Otherwise publishes it, also if memory
     /// was refused.
     fn start(&mut self, call: &Call, turns: u64) -> Result<Started, Error> {
-        let (mut pass, mut answer) = (RawPass::default(), RawAnswer::default());
-        let at_once = try_at_once(turns, || {
-            done(unsafe { ffi::pelgaisti_raw_session_perform_at_once(self.raw(), &call.raw(), &mut pass, &mut answer) })
-        });
-        self.started(call, at_once, &answer)
-    }
-
-    /// Performs a call as `start` does, and wakes whose wait the call and its pass have ended, also if memory was refused.
-    fn start_waking(&mut self, call: &Call, turns: u64, wake: impl FnMut(usize)) -> Result<Started, Error> {
-        let (mut pass, mut answer, mut count) = (RawPass::default(), RawAnswer::default(), 0);
-        let (at, room) = self.room_for_told();
+        let (mut pass, mut answer, mut told) = (RawPass::default(), RawAnswer::default(), 0);
         let at_once = try_at_once(turns, || {
             done(unsafe {
-                ffi::pelgaisti_raw_session_perform_telling(
-                    self.raw(),
-                    &call.raw(),
-                    &mut pass,
-                    &mut answer,
-                    at,
-                    room,
-                    &mut count,
-                )
+                ffi::pelgaisti_raw_session_perform_at_once(self.raw(), &call.raw(), &mut pass, &mut answer, &mut told)
             })
         });
-        self.told[..count].iter().map(|session| *session as usize).for_each(wake);
-        self.started(call, at_once, &answer)
-    }
-
-    /// What has become of a call that was to be performed at once. Publishes it if it wasn't performed.
-    fn started(&mut self, call: &Call, at_once: Result<(), Error>, answer: &RawAnswer) -> Result<Started, Error> {
+        if told > 0 {
+            self.wake(told); // also if memory was refused for the call: its pass may have ended waits
+        }
         match at_once {
             Ok(()) => Ok(Started::Answered(Answer {
                 place: answer.place,
@@ -413,21 +420,6 @@ impl Session {
         }
     }
 
-    /// Performs a call as [`Session::perform`] does, by passes that wake whose wait they have ended, as
-    /// [`Session::serve_waking`] does. After [`Error::NotServed`] and [`Error::NoMemory`] [`Session::resume_waking`] goes on.
-    ///
-    ///     # use pelgaisti::{Call, Office, Reply};
-    ///     let mut sessions = Office::open(2)?;
-    ///     let answer = sessions[1].perform_waking(&Call::Begin, u64::MAX, |_| unreachable!("nobody waits"))?;
-    ///     assert_eq!(answer.reply, Reply::Began(1));
-    ///     # Ok::<(), pelgaisti::Error>(())
-    pub fn perform_waking(&mut self, call: &Call, turns: u64, mut wake: impl FnMut(usize)) -> Result<Answer, Error> {
-        match self.start_waking(call, turns, &mut wake)? {
-            Started::Answered(answer) => Ok(answer),
-            Started::Pending => self.resume_waking(turns, wake),
-        }
-    }
-
     /// Goes on with a pending call as [`Session::perform`] does.
     ///
     ///     # use pelgaisti::{Call, Error, Office, Reply};
@@ -436,34 +428,18 @@ impl Session {
     ///     assert_eq!(sessions[1].resume(1)?.reply, Reply::Began(1));
     ///     # Ok::<(), pelgaisti::Error>(())
     pub fn resume(&mut self, turns: u64) -> Result<Answer, Error> {
-        self.resume_by(turns, Session::serve)
-    }
-
-    /// Goes on with a pending call as [`Session::perform_waking`] does.
-    ///
-    ///     # use pelgaisti::{Call, Error, Office, Reply};
-    ///     let mut sessions = Office::open(2)?;
-    ///     assert_eq!(sessions[1].perform(&Call::Begin, 0), Err(Error::NotServed));
-    ///     assert_eq!(sessions[1].resume_waking(1, |_| ())?.reply, Reply::Began(1));
-    ///     # Ok::<(), pelgaisti::Error>(())
-    pub fn resume_waking(&mut self, turns: u64, mut wake: impl FnMut(usize)) -> Result<Answer, Error> {
-        self.resume_by(turns, |session| session.serve_waking(&mut wake))
-    }
-
-    /// Serves by `serve` and collects in turn until the pending call is answered.
-    fn resume_by(&mut self, turns: u64, mut serve: impl FnMut(&mut Session) -> Result<Pass, Error>) -> Result<Answer, Error> {
         for turn in 0..turns {
             match turn {
                 0 => (),
                 1..=8 => (0..256).for_each(|_| hint::spin_loop()),
                 _ => thread::yield_now(),
             }
-            let pass = serve(self);
+            let pass = self.serve();
             match self.collect() {
                 Err(Error::NotServed) => (),
                 found => return found,
             }
-            if let Ok(Pass { starved: true, .. }) | Err(Error::NoMemory) = pass {
+            if let Ok(Pass { starved: true, .. }) = pass {
                 return Err(Error::NoMemory);
             }
         }
@@ -488,41 +464,9 @@ impl Session {
     ///     assert_eq!((answer.reply, answer.place, level), (Reply::Granted(Mode::S), 3, 3));
     ///     # Ok::<(), pelgaisti::Error>(())
     pub fn lock_path(&mut self, resource: Resource, mode: Mode, level: &mut usize, turns: u64) -> Result<Option<Answer>, Error> {
-        self.lock_path_by(resource, mode, level, |session, call| session.perform(call, turns))
-    }
-
-    /// Locks a path as [`Session::lock_path`] does, by passes that wake whose wait they have ended, as [`Session::serve_waking`]
-    /// does. [`Session::resume_waking`] finishes a call that is left pending.
-    ///
-    ///     # use pelgaisti::{Call, Mode, Office, Resource};
-    ///     let mut sessions = Office::open(2)?;
-    ///     sessions[0].perform(&Call::Begin, u64::MAX)?;
-    ///     let mut level = 0;
-    ///     sessions[0].lock_path_waking(Resource::new(&[7, 2]).unwrap(), Mode::S, &mut level, u64::MAX, |_| ())?;
-    ///     assert_eq!(level, 2);
-    ///     # Ok::<(), pelgaisti::Error>(())
-    pub fn lock_path_waking(
-        &mut self,
-        resource: Resource,
-        mode: Mode,
-        level: &mut usize,
-        turns: u64,
-        mut wake: impl FnMut(usize),
-    ) -> Result<Option<Answer>, Error> {
-        self.lock_path_by(resource, mode, level, |session, call| session.perform_waking(call, turns, &mut wake))
-    }
-
-    /// Locks a path by `perform`.
-    fn lock_path_by(
-        &mut self,
-        resource: Resource,
-        mode: Mode,
-        level: &mut usize,
-        mut perform: impl FnMut(&mut Session, &Call) -> Result<Answer, Error>,
-    ) -> Result<Option<Answer>, Error> {
         let mut last = None;
         while let Some(call) = resource.path_call(mode, *level) {
-            let answer = perform(self, &call)?;
+            let answer = self.perform(&call, turns)?;
             last = Some(answer);
             if !matches!(answer.reply, Reply::Granted(_)) {
                 break;

@@ -23,7 +23,6 @@ fn a_path_takes_no_pending_call() {
     for is_served in [false, true] {
         for turns in [0, 1, 40] {
             assert_eq!(one.lock_path(resource(&[2]), Mode::X, &mut level, turns), Err(Error::Pending));
-            assert_eq!(one.lock_path_waking(resource(&[2]), Mode::X, &mut level, turns, |_| ()), Err(Error::Pending));
         }
         assert_eq!((level, one.seen()), (0, 1));
         if !is_served {
@@ -51,9 +50,9 @@ fn a_path_without_turns_goes_on() {
     one.perform(&Call::Begin, 9).unwrap();
     other.perform(&Call::Begin, 9).unwrap();
     other.perform(&Call::Lock(resource(&[7]), Mode::S), 9).unwrap();
-    assert_eq!(one.lock_path_waking(page, Mode::X, &mut level, 0, |_| ()), Err(Error::NotServed));
-    assert_eq!(one.lock_path_waking(page, Mode::X, &mut level, 9, |_| ()), Err(Error::Pending));
-    assert_eq!(one.resume_waking(9, |_| ()).unwrap().reply, Reply::Waiting);
+    assert_eq!(one.lock_path(page, Mode::X, &mut level, 0), Err(Error::NotServed));
+    assert_eq!(one.lock_path(page, Mode::X, &mut level, 9), Err(Error::Pending));
+    assert_eq!(one.resume(9).unwrap().reply, Reply::Waiting);
     other.perform(&Call::Commit, 9).unwrap();
     assert_eq!(one.perform(&Call::Poll, 9).unwrap().reply, Reply::Clear);
     // the first level once more, and of the second one the call is left

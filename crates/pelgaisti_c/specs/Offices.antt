@@ -10,15 +10,17 @@ use Rattle.pelgaisti_c.specs.declared.session_handle.SessionHandle.{SessionHandl
 abbrev pub all_of : SessionShare → List TicketView
 all_of share = share.handed.items ++ share.session ∷ []
 
--- a share of this office with this mark, to which no session was handed in
-pub record IsOfOffice (office : BoardView) (mark : ℕ) (share : SessionShare) : Type 0 where
+-- a share of this office with this mark and this waker, to which no session was handed in, and which has told nobody
+pub record IsOfOffice (office : BoardView) (mark waker : ℕ) (share : SessionShare) : Type 0 where
   pub office_is : share.office.value ≡ office
   pub mark_is : share.mark ≡ mark
+  pub waker_is : share.waker ≡ waker
+  pub told : share.told.list ≡ []
   pub handed : share.handed.items ≡ []
 
 -- the handles hold shares with the new sessions of this office, in the order of their numbers
-abbrev pub AreSessionsOf : BoardView → ℕ → List SessionHandle → Type 0
-AreSessionsOf office mark handles = (shares : List (Box SessionShare))
+abbrev pub AreSessionsOf : BoardView → ℕ → ℕ → List SessionHandle → Type 0
+AreSessionsOf office mark waker handles = (shares : List (Box SessionShare))
     × (map (λ handle. handle.held.share) handles ≡ map (λ share. Some share.value) shares)
     × (map (λ share. share.value.session) shares ≡ new_tickets office.id office.sessions office.sessions)
-    × All (λ share. IsOfOffice office mark share.value) shares
+    × All (λ share. IsOfOffice office mark waker share.value) shares

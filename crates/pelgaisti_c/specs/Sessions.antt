@@ -18,12 +18,13 @@ use Rattle.pelgaisti_c.specs.declared.numbers.EntryNumbers.{EntryNumbers}
 use Rattle.pelgaisti_c.specs.Calls.{are_written}
 use Rattle.pelgaisti_c.specs.Numbers.{IsCall, numbers_of_reply, numbers_of_entry}
 
--- the share keeps its office, the sessions handed in to it, and its mark
+-- the share keeps its office, the sessions handed in to it, its mark and its waker
 pub record IsSameOffice (before after : SessionShare) : Type 0 where
   pub office : after.office ≡ before.office
   pub handed : after.handed.items ≡ before.handed.items
   pub sessions : after.sessions ≡ before.sessions
   pub mark : after.mark ≡ before.mark
+  pub waker : after.waker ≡ before.waker
 
 -- the call that the numbers encode is published and pending. 1: the call is listed, after one try or none, and the session counts all
 -- its calls as heard of. 2: the call is not listed after one try, which happens only in an office with other sessions
@@ -59,6 +60,21 @@ AreToldIn before after places numbers count = (told : List ℕ) × AreToldBy bef
 abbrev pub IsToldTurn : SessionShare → SessionShare → ℕ → ℕ → List ℕ → List ℕ → ℕ → Type 0
 IsToldTurn before after served starved places numbers count = IsTurn before after served starved
     × AreToldIn before after places numbers count
+
+-- after a pass whose calls are the last `served` of the history, so many sessions are to be woken, which the share lists: with a waker
+-- exactly those whose wait these calls have ended, each once; without a waker none
+pub record AreToWake (after : SessionShare) (served count : ℕ) : Type 0 where
+  pub count_is : count ≡ length after.told.list
+  pub waking : after.waker ≢ 0 → AreToldBy after.sessions served after.session.front after.told.list
+  pub silent : after.waker ≡ 0 → count ≡ 0
+
+-- the share is unchanged, except that it lists nobody to wake
+pub record HasToldNone (before after : SessionShare) : Type 0 where
+  pub session : after.session ≡ before.session
+  pub handed : after.handed ≡ before.handed
+  pub ended : after.ended ≡ before.ended
+  pub told : after.told ≡ record before.told { list = [] }
+  pub office : IsSameOffice before after
 
 -- the numbers encode a call, and the session may make one
 abbrev pub MayCall : SessionShare → CallNumbers → Type 0
@@ -142,3 +158,4 @@ pub record IsHandedIn (share before after : SessionShare) : Type 0 where
   pub office : after.office ≡ before.office
   pub sessions : after.sessions ≡ before.sessions
   pub mark : after.mark ≡ before.mark
+  pub waker : after.waker ≡ before.waker

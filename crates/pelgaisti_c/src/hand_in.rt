@@ -65,6 +65,8 @@ fn take_in(share: Box<SessionShare>, to: &mut SessionShare) -> Result<(), Box<Se
         sessions: _,
         mark: _,
         ended: _,
+        waker: _,
+        told: _,
     } = Box::into_inner(share);
     to.handed.push_reserved(session);
     Ok(())
@@ -126,6 +128,8 @@ fn finish(share: SessionShare, room: Box<Book>) -> Option<Box<Book>>
         sessions: _,
         mark: _,
         ended: _,
+        waker: _,
+        told: _,
     } = share;
     let mut all = handed;
     all.push_reserved(session);

@@ -10,7 +10,7 @@ use crate::ended_list::EndedList;
 use crate::session_handle::SessionHandle;
 use crate::session_share::SessionShare;
 use crate::status::{NO_MEMORY, NO_SUCH_COUNT, OK, OPEN};
-use lock_office::{Office, Session, open_keeping};
+use lock_office::{Ended, Office, Session, open_keeping};
 use lock_rules::MAX_SESSIONS;
 use std::alloc::{AllocError, Global};
 use std::sync::Arc;
@@ -29,21 +29,24 @@ fn has_open(handles: &mut [SessionHandle]) -> bool
     false
 }
 
-/// Makes the share of one session. `count` is the number of sessions of the office.
+/// Makes the share of one session. `count` is the number of sessions of the office. With a waker it has room for all sessions that
+/// a pass may tell, so that no pass lacks memory for them.
 fn share_of(
     alloc: Global,
     shared: &Arc<Office>,
     session: Session,
     count: u16,
     mark: u64,
+    waker: u64,
 ) -> Result<Box<SessionShare>, AllocError>
     requires ours { IsSessionOf shared.now.value session × IsIdle session }
     requires count { count ≡ shared.now.value.sessions }
     requires few { count ≤ MAX_SESSIONS }
     ensures session { IfOk result (λ share. share.value.session ≡ session) }
-    ensures office { IfOk result (λ share. IsOfOffice shared.now.value mark share.value) }
+    ensures office { IfOk result (λ share. IsOfOffice shared.now.value mark waker share.value) }
 {
     let office = shared.clone()?;
+    let told = Ended::new(alloc, if waker == 0 { 0 } else { count })?;
     let share = SessionShare {
         office,
         session,
@@ -51,6 +54,8 @@ fn share_of(
         sessions: count,
         mark,
         ended: EndedList::new(count),
+        waker,
+        told,
     };
     let boxed = Box::new(alloc, share)?;
     Ok(boxed)
@@ -63,17 +68,18 @@ fn shares_of(
     sessions: Vec<Session>,
     count: u16,
     mark: u64,
+    waker: u64,
 ) -> Result<Vec<Box<SessionShare>>, AllocError>
     requires ours { All (λ session. IsSessionOf office session × IsIdle session) sessions.items }
     requires count { count ≡ office.sessions }
     requires few { count ≤ MAX_SESSIONS }
     ensures sessions { IfOk result (λ shares. map (λ share. share.value.session) shares.items ≡ sessions.items) }
-    ensures office { IfOk result (λ shares. All (λ share. IsOfOffice office mark share.value) shares.items) }
+    ensures office { IfOk result (λ shares. All (λ share. IsOfOffice office mark waker share.value) shares.items) }
 {
     let shared = Arc::new(alloc, office)?;
     let mut made = Vec::with_capacity(alloc, sessions.len())?;
     for session in sessions {
-        let share = share_of(alloc, &shared, session, count, mark)?;
+        let share = share_of(alloc, &shared, session, count, mark, waker)?;
         made.push(share)?;
     }
     Ok(made)
@@ -94,15 +100,17 @@ fn open_handles(handles: &mut [SessionHandle], shares: Vec<Box<SessionShare>>)
 }
 
 /// Opens the handles as the sessions of a new office, in their order. The handles must be closed. No other open office
-/// should have this mark. Its lock table keeps at most the newest `bound` entries of its history in memory.
+/// should have this mark. Its lock table keeps at most the newest `bound` entries of its history in memory. `waker` is the address of
+/// what wakes threads, which is the caller's alone to use; 0 means that there is none.
 #[unsafe(no_mangle)]
 pub extern "C" fn pelgaisti_raw_office_open(
     alloc: Global,
     sessions: &mut [SessionHandle],
     mark: u64,
     bound: u64,
+    waker: u64,
 ) -> u32
-    ensures ok { result ≡ OK → (office : BoardView) × (office.sessions ≡ length sessions.old) × AreSessionsOf office mark sessions.new }
+    ensures ok { result ≡ OK → (office : BoardView) × (office.sessions ≡ length sessions.old) × AreSessionsOf office mark waker sessions.new }
     ensures failed { result ≢ OK → sessions.new ≡ sessions.old }
     ensures count { result ≡ NO_SUCH_COUNT ↔ ¬ ((1 ≤ length sessions.old) × (length sessions.old ≤ MAX_SESSIONS)) }
     ensures open { result ≡ OPEN → Any (λ handle. handle.is_open ≡ 1) sessions.old }
@@ -119,7 +127,7 @@ pub extern "C" fn pelgaisti_raw_office_open(
     let Ok((office, made)) = open_keeping(alloc, count as u16, bound) else {
         return NO_MEMORY;
     };
-    let Ok(shares) = shares_of(alloc, office, made, count as u16, mark) else {
+    let Ok(shares) = shares_of(alloc, office, made, count as u16, mark, waker) else {
         return NO_MEMORY;
     };
     open_handles(sessions, shares);

@@ -1,10 +1,11 @@
 //! The exports over a session of an office.
 
-ghost use Rattle.std.specs.Prelude.{◌≡◌, ◌≢◌, ◌<◌, ◌≤◌, ◌↔◌, ◌⊎◌, true, Some, None, length};
+ghost use Rattle.std.specs.Prelude.{◌≡◌, ◌≢◌, ℕ, ◌+◌, ◌<◌, ◌≤◌, ◌↔◌, ◌⊎◌, true, Some, None, length, drop};
 ghost use Rattle.lock_office.specs.Sessions.{IsPendingServed};
 ghost use Rattle.lock_rules.specs.declared.calls.Call.{Call};
 ghost use Rattle.pelgaisti_c.specs.Numbers.{IsCall, IsCallFault};
-ghost use Rattle.pelgaisti_c.specs.Sessions.{IsPublished, IsTurn, IsToldTurn, IsPerformedAtOnce, IsRefusedAtOnce, IsToldPerformed, IsToldRefused, HasToldNobody, MayCall, IsElsewhere, IsAnswered, IsPieceTaken, IsHeard, IsRetired};
+ghost use Rattle.pelgaisti_c.specs.Calls.{are_written};
+ghost use Rattle.pelgaisti_c.specs.Sessions.{IsPublished, IsTurn, AreToWake, HasToldNone, IsToldTurn, IsPerformedAtOnce, IsRefusedAtOnce, IsToldPerformed, IsToldRefused, HasToldNobody, MayCall, IsElsewhere, IsAnswered, IsPieceTaken, IsHeard, IsRetired};
 ghost use Rattle.pelgaisti_c.specs.declared.session_share.SessionShare.{SessionShare};
 
 use crate::numbers::{AnswerNumbers, CallNumbers, EntryNumbers, PassNumbers};
@@ -45,15 +46,20 @@ pub extern "C" fn pelgaisti_raw_session_publish(
 }
 
 /// Tries once to take the lock table and, if that succeeds, makes a pass over the publication list and the session's
-/// own record.
+/// own record. Writes how many sessions the office's waker is to wake after the pass to `told`: `pelgaisti_raw_session_told` says
+/// which.
 #[unsafe(no_mangle)]
 pub extern "C" fn pelgaisti_raw_session_serve(
     alloc: Global,
     session: &mut SessionHandle,
     pass: &mut PassNumbers,
+    told: &mut usize,
 ) -> u32
     ensures ok { result ≡ OK → (before after : SessionShare) × (session.old.held.share ≡ Some before) × (session.new.held.share ≡ Some after)
         × IsTurn before after pass.new.served pass.new.starved }
+    ensures told { result ≡ OK → (after : SessionShare) × (session.new.held.share ≡ Some after) × AreToWake after pass.new.served told.new }
+    ensures untold { result ≡ ELSEWHERE → told.new ≡ 0 }
+    ensures unread { result ≡ CLOSED → told.new ≡ told.old }
     ensures failed { result ≢ OK → pass.new ≡ pass.old }
     ensures open { session.new.is_open ≡ session.old.is_open }
     ensures closed { result ≡ CLOSED ↔ (session.old.is_open ≢ 1) }
@@ -65,7 +71,7 @@ pub extern "C" fn pelgaisti_raw_session_serve(
     let Some(mut share) = session.take(alloc) else {
         return CLOSED;
     };
-    let status = session_calls::serve(&mut share, pass);
+    let status = session_calls::serve(&mut share, pass, told);
     session.put(share);
     status
 }
@@ -101,7 +107,8 @@ pub extern "C" fn pelgaisti_raw_session_serve_telling(
 
 /// Tries once to take the lock table and, if that succeeds, performs the call that the numbers encode at once, in a pass over the
 /// publication list. The session has to be idle, and is idle afterwards. With ELSEWHERE nothing has changed, and with NO_MEMORY the
-/// call is not in the history: in both cases it may be published instead.
+/// call is not in the history: in both cases it may be published instead. Writes how many sessions the office's waker is to wake to
+/// `told`, as `pelgaisti_raw_session_serve` does, with NO_MEMORY too.
 #[unsafe(no_mangle)]
 pub extern "C" fn pelgaisti_raw_session_perform_at_once(
     alloc: Global,
@@ -109,11 +116,19 @@ pub extern "C" fn pelgaisti_raw_session_perform_at_once(
     call: &CallNumbers,
     pass: &mut PassNumbers,
     answer: &mut AnswerNumbers,
+    told: &mut usize,
 ) -> u32
     ensures ok { result ≡ OK → (before after : SessionShare) × (session.old.held.share ≡ Some before) × (session.new.held.share ≡ Some after)
         × IsPerformedAtOnce before after call.now answer.new pass.new.served pass.new.starved }
+    ensures told { result ≡ OK → (after : SessionShare) × (session.new.held.share ≡ Some after) × AreToWake after (pass.new.served + 1) told.new }
+    ensures told_refused { result ≡ NO_MEMORY → (after : SessionShare) × (session.new.held.share ≡ Some after) × ((served : ℕ) × AreToWake after served told.new) }
+    ensures untold { result ≡ ELSEWHERE → told.new ≡ 0 }
+    ensures unread { result ≢ OK → result ≢ NO_MEMORY → result ≢ ELSEWHERE → told.new ≡ told.old }
     ensures failed { result ≢ OK → (pass.new ≡ pass.old) × (answer.new ≡ answer.old) }
-    ensures same { result ≢ OK → result ≢ NO_MEMORY → session.new.held.share ≡ session.old.held.share }
+    ensures same { result ≢ OK → result ≢ NO_MEMORY → (result ≢ ELSEWHERE) ⊎ ((share : SessionShare) × (session.old.held.share ≡ Some share) × (share.waker ≡ 0))
+        → session.new.held.share ≡ session.old.held.share }
+    ensures emptied { result ≡ ELSEWHERE → (before after : SessionShare) × (session.old.held.share ≡ Some before) × (session.new.held.share ≡ Some after)
+        × HasToldNone before after }
     ensures open { session.new.is_open ≡ session.old.is_open }
     ensures closed { result ≡ CLOSED ↔ (session.old.is_open ≢ 1) }
     ensures call { NO_SUCH_OP ≤ result → result ≤ NO_SUCH_MODE → (session.old.is_open ≡ 1) × IsCallFault call.now result }
@@ -127,7 +142,7 @@ pub extern "C" fn pelgaisti_raw_session_perform_at_once(
     let Some(mut share) = session.take(alloc) else {
         return CLOSED;
     };
-    let status = session_calls::perform_at_once(&mut share, call, pass, answer);
+    let status = session_calls::perform_at_once(&mut share, call, pass, answer, told);
     session.put(share);
     status
 }
@@ -256,6 +271,52 @@ pub extern "C" fn pelgaisti_raw_session_mark(
         return CLOSED;
     };
     *mark = share.mark;
+    session.put(share);
+    OK
+}
+
+/// Writes the address of the waker of the session's office: the number that was given when it was opened. 0 means that there is none.
+#[unsafe(no_mangle)]
+pub extern "C" fn pelgaisti_raw_session_waker(
+    alloc: Global,
+    session: &mut SessionHandle,
+    waker: &mut u64,
+) -> u32
+    ensures ok { result ≡ OK → (share : SessionShare) × (session.old.held.share ≡ Some share) × (waker.new ≡ share.waker) }
+    ensures failed { result ≢ OK → waker.new ≡ waker.old }
+    ensures same { (session.new.is_open ≡ session.old.is_open) × (session.new.held.share ≡ session.old.held.share) }
+    ensures closed { result ≡ CLOSED ↔ (session.old.is_open ≢ 1) }
+    ensures statuses { (result ≡ OK) ⊎ (result ≡ CLOSED) }
+{
+    let Some(share) = session.take(alloc) else {
+        return CLOSED;
+    };
+    *waker = share.waker;
+    session.put(share);
+    OK
+}
+
+/// Writes the sessions that the waker of the session's office is to wake after the session's last pass, from index `first` on, as many
+/// as `list` has room for, and the number of all of them to `count`. Of an office without a waker there are none.
+#[unsafe(no_mangle)]
+pub extern "C" fn pelgaisti_raw_session_told(
+    alloc: Global,
+    session: &mut SessionHandle,
+    first: usize,
+    list: &mut [u32],
+    count: &mut usize,
+) -> u32
+    ensures ok { result ≡ OK → (share : SessionShare) × (session.old.held.share ≡ Some share)
+        × (list.new ≡ are_written (λ u. u) (drop first share.told.list) list.old) × (count.new ≡ length share.told.list) }
+    ensures failed { result ≢ OK → (list.new ≡ list.old) × (count.new ≡ count.old) }
+    ensures same { (session.new.is_open ≡ session.old.is_open) × (session.new.held.share ≡ session.old.held.share) }
+    ensures closed { result ≡ CLOSED ↔ (session.old.is_open ≢ 1) }
+    ensures statuses { (result ≡ OK) ⊎ (result ≡ CLOSED) }
+{
+    let Some(share) = session.take(alloc) else {
+        return CLOSED;
+    };
+    session_calls::told(&share, first, list, count);
     session.put(share);
     OK
 }

@@ -1,13 +1,14 @@
 //! The calls of a session in numbers, on the share that a handle holds.
 
-ghost use Rattle.std.specs.Prelude.{◌≡◌, ◌≢◌, ◌<◌, ◌≤◌, ◌⊎◌, ◌↔◌, ◌==◌, true, None, IfOk, IfErr, length};
-ghost use Rattle.lock_office.specs.Sessions.{Answer, IsIdle, IsPassed, IsPendingServed};
+ghost use Rattle.std.specs.Prelude.{◌≡◌, ◌≢◌, ℕ, ◌+◌, ◌<◌, ◌≤◌, ◌⊎◌, ◌↔◌, ◌==◌, true, false, [], None, IsTrue, IfOk, IfErr, length, drop};
+ghost use Rattle.lock_office.specs.Sessions.{Answer, IsIdle, IsPassed, IsPerformed, IsRefused, IsPendingServed};
+ghost use Rattle.lock_office.specs.Ended.{AreToldBy};
 ghost use Rattle.sequential.specs.Histories.{calls_of};
 ghost use Rattle.publication.specs.Boards.{HasCallsOf, heard_from};
 ghost use Rattle.lock_rules.specs.declared.calls.Call.{Call as CallValue};
 ghost use Rattle.pelgaisti_c.specs.Calls.{are_written};
 ghost use Rattle.pelgaisti_c.specs.Numbers.{IsCall, IsCallFault, numbers_of_reply};
-ghost use Rattle.pelgaisti_c.specs.Sessions.{IsSameOffice, IsPublished, IsElsewhere, IsToldTurn, IsPerformedAtOnce, IsRefusedAtOnce, IsToldPerformed, IsToldRefused, HasToldNobody, MayCall, IsAnswered, IsPieceTaken, IsHeard, IsRetired};
+ghost use Rattle.pelgaisti_c.specs.Sessions.{IsSameOffice, IsPublished, IsElsewhere, AreToWake, HasToldNone, IsToldTurn, IsPerformedAtOnce, IsRefusedAtOnce, IsToldPerformed, IsToldRefused, HasToldNobody, MayCall, IsAnswered, IsPieceTaken, IsHeard, IsRetired};
 
 use crate::book_calls::{write_entries, write_sessions};
 use crate::numbers::{
@@ -91,8 +92,30 @@ fn write_turn(turn: Turn, pass: &mut PassNumbers) -> u32
     }
 }
 
-/// Tries once to become the combiner, and makes a pass if that succeeds.
-pub(crate) fn serve(share: &mut SessionShare, pass: &mut PassNumbers) -> u32
+/// Tries once to become the combiner, and makes a pass if that succeeds. In an office with a waker it lists whom to wake in the share.
+fn make_pass(share: &mut SessionShare) -> Turn
+    ensures pass { (served : _) (starved : _) → result ≡ Turn.Pass served starved → IsPassed share.old.session share.new.session served }
+    ensures starved { (served : _) (starved : _) → result ≡ Turn.Pass served starved → IsTrue starved ↔ (share.old.session.put_backs < share.new.session.put_backs) }
+    ensures rises { (j : _) → heard_from share.old.session j ≤ heard_from share.new.session j }
+    ensures calls { HasCallsOf share.new.session.front share.new.session }
+    ensures own { (served : _) → result ≡ Turn.Pass served false → share.old.session.pending ≢ None → IsPendingServed share.new.session }
+    ensures heard { (served j : _) → result ≡ Turn.Pass served false → 0 < j → j ≤ share.old.sessions
+        → heard_from share.old.session j ≤ length (calls_of j share.new.session.front) }
+    ensures told { (served : _) (starved : _) → result ≡ Turn.Pass served starved → share.new.waker ≢ 0
+        → AreToldBy share.new.sessions served share.new.session.front share.new.told.list }
+    ensures same { IsSameOffice share.old share.new }
+    ensures elsewhere { result ≡ Turn.Elsewhere → IsElsewhere share.old share.new × (share.new.told.list ≡ []) }
+{
+    if share.waker == 0 {
+        return share.office.serve(&mut share.session);
+    }
+    share
+        .office
+        .serve_telling(&mut share.session, &mut share.told)
+}
+
+/// Makes a pass as `make_pass` does. Writes how many sessions are to be woken to `told`.
+pub(crate) fn serve(share: &mut SessionShare, pass: &mut PassNumbers, told: &mut usize) -> u32
     ensures passed { result ≡ OK → IsPassed share.old.session share.new.session pass.new.served }
     ensures starved { result ≡ OK → pass.new.starved ≤ 1 }
     ensures put_back { result ≡ OK → (pass.new.starved ≡ 1) ↔ (share.old.session.put_backs < share.new.session.put_backs) }
@@ -102,12 +125,27 @@ pub(crate) fn serve(share: &mut SessionShare, pass: &mut PassNumbers) -> u32
     ensures heard { (j : _) → result ≡ OK → pass.new.starved ≡ 0 → 0 < j → j ≤ share.old.sessions
         → heard_from share.old.session j ≤ length (calls_of j share.new.session.front) }
     ensures same { IsSameOffice share.old share.new }
+    ensures told { result ≡ OK → AreToWake share.new pass.new.served told.new }
     ensures failed { result ≢ OK → pass.new ≡ pass.old }
     ensures elsewhere { result ≡ ELSEWHERE → IsElsewhere share.old share.new }
+    ensures untold { result ≡ ELSEWHERE → told.new ≡ 0 }
     ensures statuses { (result ≡ OK) ⊎ (result ≡ ELSEWHERE) }
 {
-    let turn = share.office.serve(&mut share.session);
+    let turn = make_pass(share);
+    *told = share.told.sessions().len();
     write_turn(turn, pass)
+}
+
+/// Writes the sessions that the share lists to be woken, from index `first` on, as many as `list` has room for, and the number of all
+/// of them to `count`.
+pub(crate) fn told(share: &SessionShare, first: usize, list: &mut [u32], count: &mut usize)
+    ensures list { list.new ≡ are_written (λ u. u) (drop first share.now.told.list) list.old }
+    ensures count { count.new ≡ length share.now.told.list }
+{
+    let sessions = share.told.sessions();
+    let start = usize::min(first, sessions.len());
+    write_sessions(&sessions[start..], list);
+    *count = sessions.len();
 }
 
 /// Writes the sessions whose wait a call has ended to `list`, which has room for them, and how many they are to `count`.
@@ -204,16 +242,76 @@ fn write_performed(
     }
 }
 
-/// Tries once to become the combiner, and if that succeeds, performs the call that the numbers encode at once, in a pass.
+/// Tries once to become the combiner, and if that succeeds, performs the call at once, in a pass. The office has a waker: lists whom to
+/// wake in the share.
+fn make_call(share: &mut SessionShare, call: Call) -> Performed<Reply>
+    requires waking { share.old.waker ≢ 0 }
+    requires idle { IsIdle share.old.session }
+    ensures answered { (answer : _) (served : _) (starved : _) → result ≡ Performed.Answered answer served starved
+        → IsPerformed share.old.session share.new.session call answer.place answer.reply served }
+    ensures put_back { (answer : _) (served : _) (starved : _) → result ≡ Performed.Answered answer served starved
+        → IsTrue starved ↔ (share.old.session.put_backs < share.new.session.put_backs) }
+    ensures heard { (answer : _) (served j : _) → result ≡ Performed.Answered answer served false → 0 < j → j ≤ share.old.sessions
+        → heard_from share.old.session j ≤ length (calls_of j share.new.session.front) }
+    ensures refused { result ≡ Performed.Starved → IsRefused share.old.session share.new.session }
+    ensures calls { HasCallsOf share.new.session.front share.new.session }
+    ensures told { (answer : _) (served : _) (starved : _) → result ≡ Performed.Answered answer served starved
+        → AreToldBy share.new.sessions (served + 1) share.new.session.front share.new.told.list }
+    ensures told_refused { result ≡ Performed.Starved → (served : ℕ) × AreToldBy share.new.sessions served share.new.session.front share.new.told.list }
+    ensures same { IsSameOffice share.old share.new }
+    ensures elsewhere { result ≡ Performed.Elsewhere → HasToldNone share.old share.new × (1 < share.old.sessions) }
+{
+    share
+        .office
+        .perform_telling(&mut share.session, call, &mut share.told)
+}
+
+/// Performs the call, which the numbers encode, at once, as `make_call` does. Writes how many sessions are to be woken to `told`, also if
+/// memory was refused. It stands apart, so that an office without a waker pays for a test alone.
+#[inline(never)]
+fn perform_waking(
+    share: &mut SessionShare,
+    asked: &CallNumbers,
+    call: Call,
+    pass: &mut PassNumbers,
+    answer: &mut AnswerNumbers,
+    told: &mut usize,
+) -> u32
+    requires waking { share.old.waker ≢ 0 }
+    requires call { IsCall asked.now call }
+    requires idle { IsIdle share.old.session }
+    ensures ok { result ≡ OK → IsPerformedAtOnce share.old share.new asked.now answer.new pass.new.served pass.new.starved }
+    ensures told { result ≡ OK → AreToWake share.new (pass.new.served + 1) told.new }
+    ensures told_refused { result ≡ NO_MEMORY → (served : ℕ) × AreToWake share.new served told.new }
+    ensures untold { result ≡ ELSEWHERE → told.new ≡ 0 }
+    ensures failed { result ≢ OK → (pass.new ≡ pass.old) × (answer.new ≡ answer.old) }
+    ensures emptied { result ≡ ELSEWHERE → HasToldNone share.old share.new }
+    ensures memory { result ≡ NO_MEMORY → IsRefusedAtOnce share.old share.new asked.now }
+    ensures elsewhere { result ≡ ELSEWHERE → (2 ≤ share.old.sessions) × MayCall share.old asked.now }
+    ensures statuses { (result ≡ OK) ⊎ ((result ≡ NO_MEMORY) ⊎ (result ≡ ELSEWHERE)) }
+{
+    let performed = make_call(share, call);
+    *told = share.told.sessions().len();
+    write_performed(performed, pass, answer)
+}
+
+/// Tries once to become the combiner, and if that succeeds, performs the call that the numbers encode at once, in a pass. In an office
+/// with a waker it lists whom to wake in the share. Writes how many they are to `told`, also if memory was refused.
 pub(crate) fn perform_at_once(
     share: &mut SessionShare,
     asked: &CallNumbers,
     pass: &mut PassNumbers,
     answer: &mut AnswerNumbers,
+    told: &mut usize,
 ) -> u32
     ensures ok { result ≡ OK → IsPerformedAtOnce share.old share.new asked.now answer.new pass.new.served pass.new.starved }
+    ensures told { result ≡ OK → AreToWake share.new (pass.new.served + 1) told.new }
+    ensures told_refused { result ≡ NO_MEMORY → (served : ℕ) × AreToWake share.new served told.new }
+    ensures untold { result ≡ ELSEWHERE → told.new ≡ 0 }
+    ensures unread { result ≢ OK → result ≢ NO_MEMORY → result ≢ ELSEWHERE → told.new ≡ told.old }
     ensures failed { result ≢ OK → (pass.new ≡ pass.old) × (answer.new ≡ answer.old) }
-    ensures same { result ≢ OK → result ≢ NO_MEMORY → share.new ≡ share.old }
+    ensures same { result ≢ OK → result ≢ NO_MEMORY → (result ≢ ELSEWHERE) ⊎ (share.old.waker ≡ 0) → share.new ≡ share.old }
+    ensures emptied { result ≡ ELSEWHERE → HasToldNone share.old share.new }
     ensures call { NO_SUCH_OP ≤ result → result ≤ NO_SUCH_MODE → IsCallFault asked.now result }
     ensures retired { result ≡ RETIRED → (share.old.session.retired ≡ true) × ((call : CallValue) × IsCall asked.now call) }
     ensures pending { result ≡ PENDING → (share.old.session.pending ≢ None) × ((call : CallValue) × IsCall asked.now call) }
@@ -225,7 +323,11 @@ pub(crate) fn perform_at_once(
         Ok(call) => call,
         Err(fault) => return fault,
     };
+    if share.waker != 0 {
+        return perform_waking(share, asked, call, pass, answer, told);
+    }
     let performed = share.office.perform(&mut share.session, call);
+    *told = 0;
     write_performed(performed, pass, answer)
 }
 

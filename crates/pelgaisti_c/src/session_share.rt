@@ -1,11 +1,11 @@
 //! What a session's handle holds.
 
-ghost use Rattle.std.specs.Prelude.{◌≡◌, ◌≤◌, All};
+ghost use Rattle.std.specs.Prelude.{◌≡◌, ◌≢◌, ◌≤◌, [], All};
 ghost use Rattle.lock_rules.specs.declared.calls.TheConstants.{MAX_SESSIONS};
 ghost use Rattle.lock_office.specs.Sessions.{IsSessionOf, HasNothingPending};
 
 use crate::ended_list::EndedList;
-use lock_office::{Office, Session};
+use lock_office::{Ended, Office, Session};
 use std::sync::Arc;
 
 /// A session and its share of the office.
@@ -23,9 +23,15 @@ pub struct SessionShare {
     pub(crate) mark: u64,
     /// Scratch list of the sessions whose wait a call of the session has ended.
     pub(crate) ended: EndedList,
+    /// The address of the office's waker, or 0 if it has none.
+    pub(crate) waker: u64,
+    /// The sessions whose wait the session's last pass has ended. In an office without a waker it has no room and stays empty.
+    pub(crate) told: Ended,
     ghost ours: { IsSessionOf office.value session },
     ghost theirs: { All (λ one. IsSessionOf office.value one × HasNothingPending one) handed.items },
     ghost count: { sessions ≡ office.value.sessions },
     ghost few: { sessions ≤ MAX_SESSIONS },
     ghost room: { ended.room ≡ sessions },
+    ghost waking: { waker ≢ 0 → told.room ≡ sessions },
+    ghost silent: { waker ≡ 0 → told.list ≡ [] },
 }

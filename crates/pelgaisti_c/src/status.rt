@@ -1,6 +1,6 @@
 //! The statuses that exports return. A status other than `OK` means that nothing was written and nothing has changed,
-//! with two exceptions: `ELSEWHERE` may leave a pending call listed that was not, and `COPIED` closes the session's
-//! handle.
+//! with three exceptions: `ELSEWHERE` may leave a pending call listed that was not, and empties the list of whom to wake;
+//! `NO_MEMORY` of a call that was to be performed at once comes behind a pass; and `COPIED` closes the session's handle.
 
 /// The call succeeded.
 pub const OK: u32 = 0;

@@ -22,4 +22,6 @@ invariant_of-to-2 c =
       count = to.count;
       few = to.few;
       room = to.room;
+      waking = to.waking;
+      silent = to.silent;
     }

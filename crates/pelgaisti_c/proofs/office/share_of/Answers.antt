@@ -5,16 +5,19 @@ use Rattle.lock_board.specs.LockBoards.{TicketView}
 use Rattle.lock_office.specs.Sessions.{IsSessionOf, HasNothingPending}
 use Rattle.pelgaisti_c.proofs.office.share_of.Goals as goal
 
-pub invariant_of-share : goal.invariant_of-share
-invariant_of-share c =
+pub invariant_of-share-clause-ours : goal.invariant_of-share-clause-ours
+invariant_of-share-clause-ours c =
     let same : c.in_ok-office.office.value ≡ c.args.shared.now.value = search rules in
+    subst (λ (o : BoardView). IsSessionOf o c.args.session) (sym same) c.requires.ours.0
+
+pub invariant_of-share-clause-theirs : goal.invariant_of-share-clause-theirs
+invariant_of-share-clause-theirs c =
     let P : TicketView → Type 0 = λ one. IsSessionOf c.in_ok-office.office.value one × HasNothingPending one in
-    let none : c.new.result.items ≡ [] = search rules in
+    let none : c.new-2.result.items ≡ [] = search rules in
     let none_handed : All P [] = λ k d few. absurd (omega (arith, few)) in
-    record {
-      ours = subst (λ (o : BoardView). IsSessionOf o c.args.session) (sym same) c.requires.ours.0;
-      theirs = subst (λ (l : List TicketView). All P l) (sym none) none_handed;
-      count = c.requires.count ∙ ap (λ (o : BoardView). o.sessions) (sym same);
-      few = c.requires.few;
-      room = c.new-2.ensures;
-    }
+    subst (λ (l : List TicketView). All P l) (sym none) none_handed
+
+pub invariant_of-share-clause-count : goal.invariant_of-share-clause-count
+invariant_of-share-clause-count c =
+    let same : c.in_ok-office.office.value ≡ c.args.shared.now.value = search rules in
+    c.requires.count ∙ ap (λ (o : BoardView). o.sessions) (sym same)
