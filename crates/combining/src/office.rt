@@ -159,6 +159,7 @@ impl<O: Batching> Office<O> {
         ensures heard { (served j : _) → result ≡ Turn.Pass served false → 0 < j → j ≤ self.now.sessions
             → heard_from session.old j ≤ length (calls_of j session.new.front) }
         ensures told { AreToldBy T.ends self.now.sessions session.new.front (entered_since session.old session.new) (T.list told.new) }
+        ensures none { result ≡ Turn.Elsewhere → T.list told.new ≡ [] }
         ensures room { T.room told.new ≡ T.room told.old }
     {
         told.clear();

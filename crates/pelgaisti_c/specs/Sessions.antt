@@ -61,11 +61,11 @@ abbrev pub IsToldTurn : SessionShare → SessionShare → ℕ → ℕ → List �
 IsToldTurn before after served starved places numbers count = IsTurn before after served starved
     × AreToldIn before after places numbers count
 
--- after a pass whose calls are the last `served` of the history, so many sessions are to be woken, which the share lists: with a waker
--- exactly those whose wait these calls have ended, each once; without a waker none
-pub record AreToWake (after : SessionShare) (served count : ℕ) : Type 0 where
+-- so many sessions are to be woken, which the share lists: with a waker exactly those whose wait the entries have ended whose places the
+-- session has entered meanwhile, each once; without a waker none
+pub record AreToWake (before after : SessionShare) (count : ℕ) : Type 0 where
   pub count_is : count ≡ length after.told.list
-  pub waking : after.waker ≢ 0 → AreToldBy after.sessions served after.session.front after.told.list
+  pub waking : after.waker ≢ 0 → AreToldBy after.sessions after.session.front (entered_since before.session after.session) after.told.list
   pub silent : after.waker ≡ 0 → count ≡ 0
 
 -- the share is unchanged, except that it lists nobody to wake

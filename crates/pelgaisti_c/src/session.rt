@@ -57,7 +57,8 @@ pub extern "C" fn pelgaisti_raw_session_serve(
 ) -> u32
     ensures ok { result ≡ OK → (before after : SessionShare) × (session.old.held.share ≡ Some before) × (session.new.held.share ≡ Some after)
         × IsTurn before after pass.new.served pass.new.starved }
-    ensures told { result ≡ OK → (after : SessionShare) × (session.new.held.share ≡ Some after) × AreToWake after pass.new.served told.new }
+    ensures told { result ≡ OK → (before after : SessionShare) × (session.old.held.share ≡ Some before) × (session.new.held.share ≡ Some after)
+        × AreToWake before after told.new }
     ensures untold { result ≡ ELSEWHERE → told.new ≡ 0 }
     ensures unread { result ≡ CLOSED → told.new ≡ told.old }
     ensures failed { result ≢ OK → pass.new ≡ pass.old }
@@ -120,8 +121,8 @@ pub extern "C" fn pelgaisti_raw_session_perform_at_once(
 ) -> u32
     ensures ok { result ≡ OK → (before after : SessionShare) × (session.old.held.share ≡ Some before) × (session.new.held.share ≡ Some after)
         × IsPerformedAtOnce before after call.now answer.new pass.new.served pass.new.starved }
-    ensures told { result ≡ OK → (after : SessionShare) × (session.new.held.share ≡ Some after) × AreToWake after (pass.new.served + 1) told.new }
-    ensures told_refused { result ≡ NO_MEMORY → (after : SessionShare) × (session.new.held.share ≡ Some after) × ((served : ℕ) × AreToWake after served told.new) }
+    ensures told { (result ≡ OK) ⊎ (result ≡ NO_MEMORY) → (before after : SessionShare) × (session.old.held.share ≡ Some before) × (session.new.held.share ≡ Some after)
+        × AreToWake before after told.new }
     ensures untold { result ≡ ELSEWHERE → told.new ≡ 0 }
     ensures unread { result ≢ OK → result ≢ NO_MEMORY → result ≢ ELSEWHERE → told.new ≡ told.old }
     ensures failed { result ≢ OK → (pass.new ≡ pass.old) × (answer.new ≡ answer.old) }

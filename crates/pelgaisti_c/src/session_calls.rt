@@ -2,6 +2,7 @@
 
 ghost use Rattle.std.specs.Prelude.{◌≡◌, ◌≢◌, ℕ, ◌+◌, ◌<◌, ◌≤◌, ◌⊎◌, ◌↔◌, ◌==◌, true, false, [], None, IsTrue, IfOk, IfErr, length, drop};
 ghost use Rattle.lock_office.specs.Sessions.{Answer, IsIdle, IsPassed, IsPerformed, IsRefused, IsPendingServed};
+ghost use Rattle.combining.specs.Ended.{entered_since};
 ghost use Rattle.lock_office.specs.Ended.{AreToldBy};
 ghost use Rattle.sequential.specs.Histories.{calls_of};
 ghost use Rattle.publication.specs.Boards.{HasCallsOf, heard_from};
@@ -101,8 +102,7 @@ fn make_pass(share: &mut SessionShare) -> Turn
     ensures own { (served : _) → result ≡ Turn.Pass served false → share.old.session.pending ≢ None → IsPendingServed share.new.session }
     ensures heard { (served j : _) → result ≡ Turn.Pass served false → 0 < j → j ≤ share.old.sessions
         → heard_from share.old.session j ≤ length (calls_of j share.new.session.front) }
-    ensures told { (served : _) (starved : _) → result ≡ Turn.Pass served starved → share.new.waker ≢ 0
-        → AreToldBy share.new.sessions served share.new.session.front share.new.told.list }
+    ensures told { share.new.waker ≢ 0 → AreToldBy share.new.sessions share.new.session.front (entered_since share.old.session share.new.session) share.new.told.list }
     ensures same { IsSameOffice share.old share.new }
     ensures elsewhere { result ≡ Turn.Elsewhere → IsElsewhere share.old share.new × (share.new.told.list ≡ []) }
 {
@@ -125,7 +125,7 @@ pub(crate) fn serve(share: &mut SessionShare, pass: &mut PassNumbers, told: &mut
     ensures heard { (j : _) → result ≡ OK → pass.new.starved ≡ 0 → 0 < j → j ≤ share.old.sessions
         → heard_from share.old.session j ≤ length (calls_of j share.new.session.front) }
     ensures same { IsSameOffice share.old share.new }
-    ensures told { result ≡ OK → AreToWake share.new pass.new.served told.new }
+    ensures told { result ≡ OK → AreToWake share.old share.new told.new }
     ensures failed { result ≢ OK → pass.new ≡ pass.old }
     ensures elsewhere { result ≡ ELSEWHERE → IsElsewhere share.old share.new }
     ensures untold { result ≡ ELSEWHERE → told.new ≡ 0 }
@@ -255,9 +255,7 @@ fn make_call(share: &mut SessionShare, call: Call) -> Performed<Reply>
         → heard_from share.old.session j ≤ length (calls_of j share.new.session.front) }
     ensures refused { result ≡ Performed.Starved → IsRefused share.old.session share.new.session }
     ensures calls { HasCallsOf share.new.session.front share.new.session }
-    ensures told { (answer : _) (served : _) (starved : _) → result ≡ Performed.Answered answer served starved
-        → AreToldBy share.new.sessions (served + 1) share.new.session.front share.new.told.list }
-    ensures told_refused { result ≡ Performed.Starved → (served : ℕ) × AreToldBy share.new.sessions served share.new.session.front share.new.told.list }
+    ensures told { AreToldBy share.new.sessions share.new.session.front (entered_since share.old.session share.new.session) share.new.told.list }
     ensures same { IsSameOffice share.old share.new }
     ensures elsewhere { result ≡ Performed.Elsewhere → HasToldNone share.old share.new × (1 < share.old.sessions) }
 {
@@ -281,8 +279,7 @@ fn perform_waking(
     requires call { IsCall asked.now call }
     requires idle { IsIdle share.old.session }
     ensures ok { result ≡ OK → IsPerformedAtOnce share.old share.new asked.now answer.new pass.new.served pass.new.starved }
-    ensures told { result ≡ OK → AreToWake share.new (pass.new.served + 1) told.new }
-    ensures told_refused { result ≡ NO_MEMORY → (served : ℕ) × AreToWake share.new served told.new }
+    ensures told { (result ≡ OK) ⊎ (result ≡ NO_MEMORY) → AreToWake share.old share.new told.new }
     ensures untold { result ≡ ELSEWHERE → told.new ≡ 0 }
     ensures failed { result ≢ OK → (pass.new ≡ pass.old) × (answer.new ≡ answer.old) }
     ensures emptied { result ≡ ELSEWHERE → HasToldNone share.old share.new }
@@ -305,8 +302,7 @@ pub(crate) fn perform_at_once(
     told: &mut usize,
 ) -> u32
     ensures ok { result ≡ OK → IsPerformedAtOnce share.old share.new asked.now answer.new pass.new.served pass.new.starved }
-    ensures told { result ≡ OK → AreToWake share.new (pass.new.served + 1) told.new }
-    ensures told_refused { result ≡ NO_MEMORY → (served : ℕ) × AreToWake share.new served told.new }
+    ensures told { (result ≡ OK) ⊎ (result ≡ NO_MEMORY) → AreToWake share.old share.new told.new }
     ensures untold { result ≡ ELSEWHERE → told.new ≡ 0 }
     ensures unread { result ≢ OK → result ≢ NO_MEMORY → result ≢ ELSEWHERE → told.new ≡ told.old }
     ensures failed { result ≢ OK → (pass.new ≡ pass.old) × (answer.new ≡ answer.old) }

@@ -84,6 +84,7 @@ impl<O: Batching> Office<O> {
         ensures heard { (served j : _) → result ≡ Turn.Pass served false → 0 < j → j ≤ self.now.sessions
             → heard_from session.old j ≤ length (calls_of j session.new.front) }
         ensures told { HasAddedTold T.ends self.now.sessions session.new.front (entered_since session.old session.new) (T.list told.old) (T.list told.new) }
+        ensures none { result ≡ Turn.Elsewhere → told.new ≡ told.old }
         ensures room { T.room told.new ≡ T.room told.old }
     {
         let Some(made) = self.make_pass(session) else {

@@ -85,6 +85,7 @@ impl<O: Batching> Office<O> {
         ensures refused { result ≡ Performed.Starved → IsRefused O.Sequential session.old session.new }
         ensures calls { HasCallsOf session.new.front session.new }
         ensures told { AreToldBy T.ends self.now.sessions session.new.front (entered_since session.old session.new) (T.list told.new) }
+        ensures none { result ≡ Performed.Elsewhere → T.list told.new ≡ [] }
         ensures room { T.room told.new ≡ T.room told.old }
     {
         told.clear();
@@ -113,6 +114,7 @@ impl<O: Batching> Office<O> {
         ensures refused { result ≡ Performed.Starved → IsRefused O.Sequential session.old session.new }
         ensures calls { HasCallsOf session.new.front session.new }
         ensures told { HasAddedTold T.ends self.now.sessions session.new.front (entered_since session.old session.new) (T.list told.old) (T.list told.new) }
+        ensures none { result ≡ Performed.Elsewhere → told.new ≡ told.old }
         ensures room { T.room told.new ≡ T.room told.old }
     {
         let Some(mut load) = self.board.seize(session) else {

@@ -22,10 +22,8 @@ returns-clause-elsewhere c = λ e. let was : c.args.session.now.held.share ≡ S
     let s = c.perform_at_once-status.ensures.elsewhere e in (c.deref_mut.result.now, was, s.0, s.1)
 
 pub returns-clause-told : goal.returns-clause-told
-returns-clause-told c = λ e. (c.perform_at_once-status.new.share, c.put.ensures.1, c.perform_at_once-status.ensures.told e)
-
-pub returns-clause-told_refused : goal.returns-clause-told_refused
-returns-clause-told_refused c = λ e. (c.perform_at_once-status.new.share, c.put.ensures.1, c.perform_at_once-status.ensures.told_refused e)
+returns-clause-told c = λ e. let was : c.args.session.now.held.share ≡ Some c.deref_mut.result.now = search rules in
+    (c.deref_mut.result.now, c.perform_at_once-status.new.share, was, c.put.ensures.1, c.perform_at_once-status.ensures.told e)
 
 pub returns-clause-emptied : goal.returns-clause-emptied
 returns-clause-emptied c = λ e. let was : c.args.session.now.held.share ≡ Some c.deref_mut.result.now = search rules in

@@ -10,4 +10,5 @@ pub returns-clause-elsewhere : goal.returns-clause-elsewhere
 returns-clause-elsewhere c = λ e. let was : c.args.session.now.held.share ≡ Some c.deref_mut.result.now = search rules in (c.deref_mut.result.now, c.serve-status.new.share, was, c.put.ensures.1, c.serve-status.ensures.elsewhere e)
 
 pub returns-clause-told : goal.returns-clause-told
-returns-clause-told c = λ e. (c.serve-status.new.share, c.put.ensures.1, c.serve-status.ensures.told e)
+returns-clause-told c = λ e. let was : c.args.session.now.held.share ≡ Some c.deref_mut.result.now = search rules in
+    (c.deref_mut.result.now, c.serve-status.new.share, was, c.put.ensures.1, c.serve-status.ensures.told e)

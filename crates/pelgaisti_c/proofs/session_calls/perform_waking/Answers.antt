@@ -1,4 +1,4 @@
-use Rattle.std.proofs.Common.{◌≡◌, ◌∙◌, ℕ, length, ap, sym, subst}
+use Rattle.std.proofs.Common.{◌∙◌, ℕ, length, ap, sym, subst}
 use Rattle.lock_office.specs.Sessions.{IsPerformed}
 use Rattle.combining.specs.declared.office.perform.Performed.TheVariants.{Answered}
 use Rattle.pelgaisti_c.proofs.Starved.{is_one, falls}
@@ -26,10 +26,7 @@ returns-clause-ok c = λ e.
       done.same,
     )
 
-pub returns-clause-told_refused : goal.returns-clause-told_refused
-returns-clause-told_refused c = λ e.
+pub returns-clause-told : goal.returns-clause-told
+returns-clause-told c = λ _.
     let done = c.make_call-performed.ensures in
-    let share = c.make_call-performed.new.share in
-    let told = done.told_refused (c.write_performed.ensures.memory e) in
-    let count : length c.sessions.result.now ≡ length share.told.list = ap length c.sessions.ensures.list in
-    (told.0, record { count_is = count; waking = λ _. told.1; silent = λ none. absurd (c.requires.waking (sym done.same.waker ∙ none)) })
+    record { count_is = ap length c.sessions.ensures.list; waking = λ _. done.told; silent = λ none. absurd (c.requires.waking (sym done.same.waker ∙ none)) }
