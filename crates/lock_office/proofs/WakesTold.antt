@@ -31,7 +31,7 @@ ended-at history front own rest places u whole entered h =
     let ahead = front ++ h.earlier in
     let all : history ≡ ahead ++ h.entry ∷ (h.later ++ rest)
     = whole ∙ (ap (λ (l : List Entry). (front ++ l) ++ rest) h.entries_are ∙ (append_assoc front (h.earlier ++ h.entry ∷ h.later) rest
-        ∙ (ap (λ (l : List Entry). front ++ l) (append_assoc h.earlier (h.entry ∷ h.later) rest) ∙ sym (append_assoc front h.earlier (h.entry ∷ (h.later ++ rest)))))) in
+    ∙ (ap (λ (l : List Entry). front ++ l) (append_assoc h.earlier (h.entry ∷ h.later) rest) ∙ sym (append_assoc front h.earlier (h.entry ∷ (h.later ++ rest)))))) in
     record {
       place = length ahead;
       among = entered (length ahead) (omega (arith, length-append front h.earlier))

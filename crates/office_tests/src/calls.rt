@@ -6,8 +6,8 @@ ghost use Rattle.lock_office.specs.Sessions.{IsSessionOf, IsIdle};
 
 use crate::closing::refused;
 use crate::offices::{begun, pass};
-use lock_desk::{Call, Claim, ClaimKind, Mode, NoMemory, Reply, Resource, Transaction, Why};
 use crate::telling::{tell_beside, tell_by_call};
+use lock_desk::{Call, Claim, ClaimKind, Mode, NoMemory, Reply, Resource, Transaction, Why};
 use lock_office::queries::{self, Snapshot};
 use lock_office::{
     Answer, Called, CloseFault, Ended, Nobody, Office, OpenFault, Performed, Posted, Session,

@@ -11,7 +11,8 @@ use Rattle.atomic_table.specs.Table.{opening, Splits}
 use Rattle.sequential.specs.declared.entry.Entry.{Entry}
 use Rattle.publication.specs.Words.{word_of, END, OUT}
 use Rattle.publication.specs.List.{link, belongs, IsLinked, IsRuled}
-use Rattle.publication.specs.Views.{Own}
+use Rattle.publication.specs.Views.{Own, Handed}
+use Rattle.publication.specs.BoardHistory.{new_board}
 use Rattle.publication.specs.Rule.{BoardState, blank, apart, AreTrue, fresh, own_at, announced, maker, new_session, word, home, seat, IsHome, IsVacant, RecordState, HasObject, IsOpened, IsSession, IsMaker, HasPieces, IsOrderly}
 use Rattle.publication.specs.Rule.RecordState.{vacant}
 use Rattle.publication.specs.declared.view.View.{View}
@@ -277,3 +278,14 @@ module _ {O C R : Type 0} {obj : Ghosts O C R} where
   -- Making a session keeps the rule.
   pub enrols : (id slots made : ℕ) → id ≡ 0 → made + 1 < slots → Splits (IsRuled obj) id (maker slots made) (maker slots (made + 1)) (new_session slots (made + 1))
   enrols id slots made first few = subst (λ (i : ℕ). Splits (IsRuled obj) i (maker slots made) (maker slots (made + 1)) (new_session slots (made + 1))) (sym first) (λ s r me. enrols_ruled slots made few s r.records me r.list)
+
+module _ {O C R : Type 0} where
+  -- No seat is a session's.
+  pub no_number : (n : ℕ) (load : Box (Load O C R)) (k : ℕ) → (seat (new_board n load) k).number ≡ 0
+  no_number n load zero = refl
+  no_number n load (suc k) = refl
+
+  -- No session was handed in.
+  pub none_handed : (n : ℕ) (load : Box (Load O C R)) (k p : ℕ) (x : Handed C R) → get_elem? (seat (new_board n load) k).others.handed p ≡ opt.some x → ⊥
+  none_handed n load zero p x e = opt.some-ne-none x (sym e)
+  none_handed n load (suc k) p x e = opt.some-ne-none x (sym e)

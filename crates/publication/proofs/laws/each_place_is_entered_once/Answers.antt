@@ -1,28 +1,13 @@
-use Rattle.std.proofs.Common.{◌≡◌, ◌∙◌, ℕ, zero, suc, Bool, List, [], length, cond, refl, sym, ap, eq-eqb}
+use Rattle.std.proofs.Common.{◌≡◌, ◌∙◌, Bool, List, [], length, cond, sym, ap, eq-eqb}
 use mathlib.Core.Option as opt
-use lib.ListN.{get_elem?}
-use Rattle.std.specs.Global.{Box}
 use Rattle.sequential.specs.declared.entry.Entry.{Entry}
 use Rattle.publication.specs.Words.{FREE}
-use Rattle.publication.specs.Views.{Handed}
 use Rattle.publication.specs.Rule.{word, home, seat}
 use Rattle.publication.specs.BoardHistory.{new_board, history_in}
-use Rattle.publication.specs.declared.slot.Load.{Load}
-use Rattle.publication.proofs.NewBoards.{words_zero, begins}
+use Rattle.publication.proofs.NewBoards.{words_zero, begins, no_number, none_handed}
 use Rattle.publication.proofs.RealTime.{still-ruled}
 use Rattle.publication.proofs.Entered.{shared-out, entered-once}
 use Rattle.publication.proofs.laws.each_place_is_entered_once.Goals as goal
-
-module _ {O C R : Type 0} where
-  -- No seat is a session's.
-  no_number : (n : ℕ) (load : Box (Load O C R)) (k : ℕ) → (seat (new_board n load) k).number ≡ 0
-  no_number n load zero = refl
-  no_number n load (suc k) = refl
-
-  -- No session was handed in.
-  none_handed : (n : ℕ) (load : Box (Load O C R)) (k p : ℕ) (x : Handed C R) → get_elem? (seat (new_board n load) k).others.handed p ≡ opt.some x → ⊥
-  none_handed n load zero p x e = opt.some-ne-none x (sym e)
-  none_handed n load (suc k) p x e = opt.some-ne-none x (sym e)
 
 pub returns : goal.returns
 returns g c n load s ready untaken run =
