@@ -778,13 +778,15 @@ static inline pelgaisti_status pelgaisti_office_open_keeping(pelgaisti_session *
    call is refused with NOT_WAITING or IS_DOOMED, a pass has ended the wait meanwhile, and the semaphore is posted or will be: the
    thread sleeps on it by sem_wait and polls, as if there were no limit. examples/engine.c does so.
 
-   Why no wake-up is lost. (1) A wait that the session itself doesn't end, by an abort or a withdrawal, ends by one entry of the
-   history, which is another session's, and the pass that served this entry tells of the session, also if the wait began in the same
-   pass and its answer isn't collected yet [proved: none_lost of lock_office::laws::no_wake_up_is_lost, and of the archive's functions
-   told, told_refused]. (2) Every entry was served by one pass, whose call reads whom it tells of [proved: ok of
-   pelgaisti_raw_session_told] and calls the waker for each [tested, and that nothing of this takes memory]. (3) A semaphore counts, so
-   that a post before the thread sleeps wakes it as well [that is the system's]. (4) The next poll of a session that was told of
-   replies CLEAR or DEADLOCK, whatever others call before it [proved: none_idle of the same law]. */
+   Why no wake-up is lost. (1) A session whose last answer is WAITING, collected or not, has a waiting request, or an entry of the
+   history behind that answer has ended its wait, which exactly one session has entered in a pass [proved: not_forgotten of
+   lock_board::laws::nobody_who_waits_is_forgotten]. (2) The call that made this pass lists exactly the sessions whose waits its
+   entries have ended, also if the wait began in the same pass, and also if memory was refused [proved: none_lost of
+   lock_office::laws::no_wake_up_is_lost, and told of the archive's functions]. (3) The call reads its list [proved: ok of
+   pelgaisti_raw_session_told] and calls the waker for each [tested, and that nothing of this takes memory]. (4) A semaphore counts, so
+   that a post before the thread sleeps wakes it as well [that is the system's]. (5) The next poll of a session that was told of, and
+   has made no call since its wait ended, replies CLEAR or DEADLOCK, whatever others call before it [proved: none_idle of
+   lock_office::laws::no_wake_up_is_lost]. */
 static inline pelgaisti_status pelgaisti_office_open_waking(pelgaisti_session *sessions, size_t count, uint64_t bound,
                                                             const pelgaisti_waker *waker) {
     uint64_t mark = (uint64_t)(uintptr_t)sessions;
