@@ -10,6 +10,10 @@ use Rattle.publication.specs.Views.{TicketView, Pending, entry, answer, asks}
 use Rattle.publication.specs.Boards.{publishing, enlisted, tried}
 use Rattle.publication.proofs.Lists.{prefix_self, prefix_trans}
 use Rattle.combining.proofs.EndedWaits.{elem-seam}
+use Rattle.combining.specs.declared.backoff.Wait.{Wait as Pause}
+use Rattle.combining.specs.declared.office.Answer.{Answer}
+use Rattle.combining.specs.declared.calling.Next.{Next}
+use Rattle.combining.specs.declared.calling.Next.TheVariants.{Answered as IsDone, Starved as HasNone, Wait as Waits}
 use Rattle.combining.specs.Sessions.{HasTriedToList, IsPassed, IsCollected, IsPerformed, IsRefused}
 use Rattle.publication.specs.declared.board.Posted.{Posted}
 use Rattle.publication.specs.declared.board.Posted.TheVariants.{Listed, Unlisted}
@@ -251,3 +255,18 @@ module _ {O C R : Type 0} {obj : Ghosts O C R} where
 
   pub called-on : (t u : TicketView C R) (call : C) (place : ℕ) (reply : R) → IsCalled obj t u call place reply → HasGoneOn t u
   called-on t u call place reply k = record { longer = k.longer; entered = k.entered }
+
+-- What holds whichever the outcome of a turn is.
+pub by-next : {R P : Type 0} (r : Next R) → ((a : Answer R) → r ≡ IsDone a → P) → (r ≡ HasNone → P) → ((w : Pause) → r ≡ Waits w → P) → P
+by-next (IsDone a) answered starved waits = answered a refl
+by-next HasNone answered starved waits = starved refl
+by-next (Waits w) answered starved waits = waits w refl
+
+module _ {C R : Type 0} where
+  -- A session whose call goes on publishes calls as before.
+
+  pub waiting-live : (t u : TicketView C R) → IsWaitingOn t u → u.retired ≡ t.retired
+  waiting-live t u w = ap (λ (x : TicketView C R). x.retired) w.session
+
+  pub calling-live : (t u : TicketView C R) (call : C) → IsCalling t u call → u.retired ≡ t.retired
+  calling-live t u call k = ap (λ (x : TicketView C R). x.retired) k.session

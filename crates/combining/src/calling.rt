@@ -170,6 +170,7 @@ pub fn turn<O: Batching, T: Told<O>>(
     ensures tried { (w : _) → result ≡ Next.Wait w → session.old.pending ≡ None → made < TRIES_AT_ONCE → (session.new ≡ session.old) × (1 < office.now.sessions) }
     ensures published { (w : _) → result ≡ Next.Wait w → session.old.pending ≡ None → TRIES_AT_ONCE ≤ made → IsCalling session.old session.new call.now × (1 < office.now.sessions) }
     ensures waits { (w : _) → result ≡ Next.Wait w → session.old.pending ≢ None → IsWaitingOn session.old session.new }
+    ensures live { session.new.retired ≡ false }
     ensures on { HasGoneOn session.old session.new }
     ensures told { HasAddedTold T.ends office.now.sessions session.new.front (entered_since session.old session.new) (T.list told.old) (T.list told.new) }
     ensures room { T.room told.new ≡ T.room told.old }
