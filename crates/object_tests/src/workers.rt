@@ -5,9 +5,7 @@ ghost use Rattle.std.specs.Prelude.{◌≡◌, All, IfOk, IfSome};
 ghost use Rattle.combining.specs.Sessions.{IsSessionOf, IsIdle};
 
 use crate::choices::Chosen;
-use combining::{
-    Answer, Called, HistoryPiece, Next, Nobody, Office, Session, call, resume, turn,
-};
+use combining::{Answer, Called, HistoryPiece, Next, Nobody, Office, Session, call, resume, turn};
 use sequential::{Batching, Entry, Trimming};
 use std::alloc::{AllocError, Global};
 use std::process::Abort;

@@ -96,11 +96,13 @@ returns-clause-not_yet g c _ =
     let u = c.loop-made.session in
     let v = c.publish_if_idle.new.session in
     let e = c.publish_if_idle.ensures in
-    let i = c.loop-made.invariant in
-    (⊎_elim
-    (λ still. subst (λ (x : TicketView _ _). IsCalling x v c.args.call) still (e.published (none-pending t u still c.requires.idle.0)))
-    (λ calling. subst (λ (x : TicketView _ _). IsCalling t x c.args.call) (sym (e.same (calling-pending t u c.args.call calling.0))) calling.0)
-    i.calling, i.others (omega arith))
+    let i = c.loop-made.invariant in (
+      ⊎_elim
+          (λ still. subst (λ (x : TicketView _ _). IsCalling x v c.args.call) still (e.published (none-pending t u still c.requires.idle.0)))
+          (λ calling. subst (λ (x : TicketView _ _). IsCalling t x c.args.call) (sym (e.same (calling-pending t u c.args.call calling.0))) calling.0)
+          i.calling,
+      i.others (omega arith),
+    )
 
 pub returns-clause-told : goal.returns-clause-told
 returns-clause-told g c =
