@@ -12,7 +12,7 @@ use Rattle.sequential.specs.declared.entry.Entry.{Entry}
 use Rattle.sequential.specs.EndedWaits.{HasEndedIn, HasEndedAt}
 use Rattle.publication.specs.Views.{TicketView}
 use Rattle.combining.specs.Ended.{IsEndedFrom, AreToldBy, IsOnce, entered_since}
-use Rattle.combining.specs.inner.EndedList.{HasAddedTold}
+use Rattle.combining.specs.Ended.{HasAddedTold}
 use Rattle.combining.proofs.Places.{entered-none, entered-both}
 
 -- What an empty list has once these were added.

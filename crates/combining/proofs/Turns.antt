@@ -1,5 +1,5 @@
 -- A whole call of a session: what it knows from turn to turn, and at its end.
-use Rattle.std.proofs.Common.{◌≡◌, ℕ, ◌+◌, ◌⊎◌, inl, inr, ⊎_elim, Bool, true, Option, Some, None, List, [], ◌∷◌, ◌++◌, length, refl, sym, ap, ◌∙◌, subst, arith, append_assoc, length-append}
+use Rattle.std.proofs.Common.{◌≡◌, ◌≢◌, ℕ, ◌+◌, ◌⊎◌, inl, inr, ⊎_elim, Bool, true, Option, Some, None, List, [], ◌∷◌, ◌++◌, length, refl, sym, ap, ◌∙◌, subst, arith, append_assoc, length-append}
 use Rattle.std.specs.List.{range_with_len}
 use mathlib.Core.List.{IsPrefix}
 use mathlib.Core.Option as opt
@@ -10,10 +10,14 @@ use Rattle.publication.specs.Views.{TicketView, Pending, entry, answer, asks}
 use Rattle.publication.specs.Boards.{publishing, enlisted, tried}
 use Rattle.publication.proofs.Lists.{prefix_self, prefix_trans}
 use Rattle.combining.proofs.EndedWaits.{elem-seam}
+use Rattle.combining.specs.declared.backoff.Wait.{Wait as Pause}
+use Rattle.combining.specs.declared.office.Answer.{Answer}
+use Rattle.combining.specs.declared.calling.Next.{Next}
+use Rattle.combining.specs.declared.calling.Next.TheVariants.{Answered as IsDone, Starved as HasNone, Wait as Waits}
 use Rattle.combining.specs.Sessions.{HasTriedToList, IsPassed, IsCollected, IsPerformed, IsRefused}
 use Rattle.publication.specs.declared.board.Posted.{Posted}
 use Rattle.publication.specs.declared.board.Posted.TheVariants.{Listed, Unlisted}
-use Rattle.combining.specs.inner.Calling.{HasGoneOn}
+use Rattle.combining.specs.Calls.{HasGoneOn}
 use Rattle.combining.specs.Calls.{later, IsWaitingOn, IsAnswered, IsCalled, IsCalling}
 use Rattle.sequential.specs.declared.object.Sequential.{Ghosts}
 
@@ -205,3 +209,64 @@ module _ {O C R : Type 0} {obj : Ghosts O C R} where
 
   pub collected-on : (t u : TicketView C R) (place : ℕ) (reply : R) → IsCollected obj t u place reply → HasGoneOn t u
   collected-on t u place reply c = record { longer = c.longer; entered = keeps t u (ap (λ (x : TicketView C R). x.entered) c.session) }
+
+module _ {C R : Type 0} where
+  -- A session with its call published has it pending.
+  pub calling-pending : (t u : TicketView C R) (call : C) → IsCalling t u call → u.pending ≢ None
+  calling-pending t u call k none = let some : u.pending ≡ Some (asks call k.floor) = ap (λ (x : TicketView C R). x.pending) k.session in absurd (cc (some, none))
+
+  -- It goes on waiting.
+  pub calling-on : (t u v : TicketView C R) (call : C) → IsCalling t u call → IsWaitingOn u v → IsCalling t v call
+  calling-on t u v call k w = record {
+    floor = k.floor;
+    session = fits t v (Some (asks call k.floor)) t.collected v.front v.heard v.listed v.tries v.put_backs v.entered
+        (w.session ∙ ap (λ (x : TicketView C R). later x x.pending x.collected v) k.session);
+    longer = prefix_trans t.front u.front v.front k.longer w.longer;
+    entered = prefix_trans t.entered u.entered v.entered k.entered w.entered;
+    late = k.late;
+  }
+
+  pub calling-gone : (t u : TicketView C R) (call : C) → IsCalling t u call → HasGoneOn t u
+  calling-gone t u call k = record { longer = k.longer; entered = k.entered }
+
+module _ {O C R : Type 0} {obj : Ghosts O C R} where
+  -- It is answered.
+  pub calling-answered : (t u v : TicketView C R) (call : C) (place : ℕ) (reply : R) → IsCalling t u call → IsAnswered obj u v place reply → IsCalled obj t v call place reply
+  calling-answered t u v call place reply k a =
+      let known : C = a.0 in
+      let floor : ℕ = a.1 in
+      let at = a.3 in
+      let number : u.number ≡ t.number = ap (λ (x : TicketView C R). x.number) k.session in
+      let asked : Some (asks known floor) ≡ Some (asks call k.floor) = sym a.2 ∙ ap (λ (x : TicketView C R). x.pending) k.session in
+      let both : asks known floor ≡ asks call k.floor = cc asked in
+      let same : known ≡ call = ap (λ (q : Pending C). q.call) both in
+      let from : floor ≡ k.floor = ap (λ (q : Pending C). q.floor) both in
+      record {
+        session = fits t v None (t.collected ++ answer place call reply ∷ []) v.front v.heard v.listed v.tries v.put_backs v.entered
+            (at.session ∙ (ap (λ (x : TicketView C R). later x None (x.collected ++ answer place known reply ∷ []) v) k.session
+            ∙ ap (λ (x : C). later t None (t.collected ++ answer place x reply ∷ []) v) same));
+        longer = prefix_trans t.front u.front v.front k.longer at.longer;
+        entered = prefix_trans t.entered u.entered v.entered k.entered at.entered;
+        legal = at.legal;
+        stands = subst (λ (x : C). get_elem? v.front place ≡ opt.some (entry t.number x reply)) same (subst (λ (n : ℕ). get_elem? v.front place ≡ opt.some (entry n known reply)) number at.stands);
+        late = omega (arith, at.late, from, k.late);
+        calls = subst (λ (n : ℕ). calls_of n v.front ≡ v.collected) number at.calls;
+      }
+
+  pub called-on : (t u : TicketView C R) (call : C) (place : ℕ) (reply : R) → IsCalled obj t u call place reply → HasGoneOn t u
+  called-on t u call place reply k = record { longer = k.longer; entered = k.entered }
+
+-- What holds whichever the outcome of a turn is.
+pub by-next : {R P : Type 0} (r : Next R) → ((a : Answer R) → r ≡ IsDone a → P) → (r ≡ HasNone → P) → ((w : Pause) → r ≡ Waits w → P) → P
+by-next (IsDone a) answered starved waits = answered a refl
+by-next HasNone answered starved waits = starved refl
+by-next (Waits w) answered starved waits = waits w refl
+
+module _ {C R : Type 0} where
+  -- A session whose call goes on publishes calls as before.
+
+  pub waiting-live : (t u : TicketView C R) → IsWaitingOn t u → u.retired ≡ t.retired
+  waiting-live t u w = ap (λ (x : TicketView C R). x.retired) w.session
+
+  pub calling-live : (t u : TicketView C R) (call : C) → IsCalling t u call → u.retired ≡ t.retired
+  calling-live t u call k = ap (λ (x : TicketView C R). x.retired) k.session

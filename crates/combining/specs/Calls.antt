@@ -65,3 +65,9 @@ module _ {C R : Type 0} where
     pub entered : IsPrefix before.entered after.entered
     -- it was published when the session knew so many entries of the history
     pub late : length before.front ≤ floor
+
+module _ {C R : Type 0} where
+  -- The session knows no less of the history, and has entered no fewer places.
+  pub record HasGoneOn (before after : TicketView C R) : Type 0 where
+    pub longer : IsPrefix before.front after.front
+    pub entered : IsPrefix before.entered after.entered

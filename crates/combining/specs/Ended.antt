@@ -1,5 +1,5 @@
 -- Whose waits a session's passes have ended.
-use Rattle.std.specs.Prelude.{◌≢◌, ℕ, ◌<◌, ◌≤◌, ◌↔◌, Option, IfSome, List, length, take, drop, slice_index, Contains}
+use Rattle.std.specs.Prelude.{◌≢◌, ◌⊎◌, ℕ, ◌<◌, ◌≤◌, ◌↔◌, Option, IfSome, List, length, take, drop, slice_index, Contains}
 use Rattle.sequential.specs.declared.entry.Entry.{Entry}
 use Rattle.sequential.specs.EndedWaits.{HasEndedIn, HasEndedAt}
 use Rattle.publication.specs.Views.{TicketView}
@@ -32,3 +32,11 @@ module _ {C R : Type 0} (ends : List (Entry C R) → Entry C R → ℕ → Type 
   pub record AreToldBy (n : ℕ) (history : List (Entry C R)) (places list : List ℕ) : Type 0 where
     pub members : (u : ℕ) → Contains list u ↔ ((1 ≤ u) × (u ≤ n) × HasEndedAt ends history places u)
     pub once : IsOnce list
+
+module _ {C R : Type 0} (ends : List (Entry C R) → Entry C R → ℕ → Type 0) where
+  -- Exactly the sessions were added to the list whose wait the entry at one of these places of the known history has ended, each
+  -- if it wasn't in it.
+  pub record HasAddedTold (n : ℕ) (history : List (Entry C R)) (places old new : List ℕ) : Type 0 where
+    pub members : (u : ℕ) → Contains new u ↔ (Contains old u ⊎ ((1 ≤ u) × (u ≤ n) × HasEndedAt ends history places u))
+    pub once : IsOnce old → IsOnce new
+    pub within : (p : ℕ) → Contains places p → p < length history

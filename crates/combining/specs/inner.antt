@@ -2,4 +2,3 @@ pub mod Passes
 pub mod Ages
 pub mod OwnCalls
 pub mod EndedList
-pub mod Calling

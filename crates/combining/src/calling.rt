@@ -1,18 +1,15 @@
-//! A whole call of a session: performed at once where the object is free, else published, served and collected.
+//! A whole call of a session, turn by turn: performed at once where the object is free, else published, served and collected.
 
-ghost use Rattle.std.specs.Prelude.{◌≡◌, ◌≢◌, ◌⊎◌, ◌<◌, true, false, Some, None, IfNone};
-ghost use Rattle.publication.specs.Boards.{HasCallsOf};
-ghost use Rattle.combining.specs.Sessions.{IsSessionOf, IsIdle, IsPendingServed, IsPerformed, IsRefused};
-ghost use Rattle.combining.specs.Calls.{IsCalled, IsCalling, IsAnswered, IsWaitingOn, HasStarved};
-ghost use Rattle.combining.specs.Ended.{AreToldBy, entered_since, HasRoom};
-ghost use Rattle.combining.specs.inner.EndedList.{HasAddedTold};
-ghost use Rattle.combining.specs.inner.Calling.{HasGoneOn};
+ghost use Rattle.std.specs.Prelude.{◌≡◌, ◌≢◌, ◌⊎◌, ◌<◌, ◌≤◌, ◌+◌, true, false, [], Some, None, IfSome, IfNone};
+ghost use Rattle.combining.specs.Sessions.{IsSessionOf, IsIdle, IsPendingServed};
+ghost use Rattle.combining.specs.Calls.{IsCalled, IsCalling, IsAnswered, IsWaitingOn, HasStarved, HasGoneOn};
+ghost use Rattle.combining.specs.Ended.{AreToldBy, HasAddedTold, HasRoom, entered_since};
 
+use crate::backoff::{LOOKS_PER_TRY, TRIES_AT_ONCE, Wait, after_look, after_try, back_off};
 use crate::office::{Answer, Office, Performed, Turn};
 use crate::told::Told;
 use publication::Ticket as Session;
 use sequential::Batching;
-use std::{hint, thread};
 
 /// The outcome of `call` and `resume`.
 #[derive(Clone, Copy, Debug, PartialEq, Eq)]
@@ -26,88 +23,16 @@ pub enum Called<R> {
     Starved,
 }
 
-/// The tries to perform a call at once after the first one, before the call is published. While a session tries, the one that has
-/// the object performs its next calls in its own cache, so that a few threads take no longer than with a mutex.
-const MORE_TRIES: u64 = 31;
-
-/// The pause instructions between the first two tries.
-const FIRST_PAUSES: u32 = 256;
-
-/// How often the pause instructions between two tries are doubled.
-const DOUBLINGS: u64 = 4;
-
-/// The tries after which the processor is yielded between two tries.
-const TRIES_BEFORE_YIELDS: u64 = 16;
-
-/// The looks for the answer between two tries to become the combiner. Each try of a waiting session takes a cache line from the
-/// combiner.
-const LOOKS_PER_TRY: u64 = 8;
-
-/// The pause instructions of one spin between two looks.
-const PAUSES: u32 = 256;
-
-/// The looks between two yields of the processor.
-const LOOKS_PER_YIELD: u64 = 64;
-
-/// Backs off after a look: yields the processor after every `LOOKS_PER_YIELD` looks, and spins after the others.
-fn back_off(look: u64) {
-    if look % LOOKS_PER_YIELD == LOOKS_PER_YIELD - 1 {
-        thread::yield_now();
-        return;
-    }
-    for _pause in 0..PAUSES {
-        hint::spin_loop();
-    }
-}
-
-/// Backs off after a try to perform a call at once, of which `tried` came before: spins longer from try to try, and yields the
-/// processor once `TRIES_BEFORE_YIELDS` were made.
-fn back_off_longer(tried: u64) {
-    if tried >= TRIES_BEFORE_YIELDS {
-        thread::yield_now();
-        return;
-    }
-    let pauses = if tried < DOUBLINGS {
-        FIRST_PAUSES << tried as u32
-    } else {
-        FIRST_PAUSES << DOUBLINGS as u32
-    };
-    for _pause in 0..pauses {
-        hint::spin_loop();
-    }
-}
-
-/// Tries to perform a call at once, as `Office::perform` does, at most `tries` times, with pauses between that grow. `Elsewhere`:
-/// the object was never free, and nothing changed. Adds the sessions whose waits the call's passes have ended to those that were
-/// told.
-fn perform_soon<O: Batching, T: Told<O>>(
-    office: &Office<O>,
-    session: &mut Session<O>,
-    call: &O::Call,
-    tries: u64,
-    told: &mut T,
-) -> Performed<O::Reply>
-    requires ours { IsSessionOf office.now session.old }
-    requires idle { IsIdle session.old }
-    requires room { HasRoom (T.room told.old) office.now.sessions }
-    ensures ours { IsSessionOf office.now session.new }
-    ensures idle { IsIdle session.new }
-    ensures answered { (answer : _) (served : _) (starved : _) → result ≡ Performed.Answered answer served starved
-        → IsPerformed O.Sequential (O.goes_first call.now) session.old session.new call.now answer.place answer.reply served }
-    ensures refused { result ≡ Performed.Starved → IsRefused O.Sequential session.old session.new }
-    ensures elsewhere { result ≡ Performed.Elsewhere → (session.new ≡ session.old) × (0 < tries → 1 < office.now.sessions) }
-    ensures calls { result ≢ Performed.Elsewhere → HasCallsOf session.new.front session.new }
-    ensures told { HasAddedTold T.ends office.now.sessions session.new.front (entered_since session.old session.new) (T.list told.old) (T.list told.new) }
-    ensures room { T.room told.new ≡ T.room told.old }
-{
-    for tried in 0..tries {
-        let performed = office.perform_adding(session, *call, told);
-        let Performed::Elsewhere = performed else {
-            return performed;
-        };
-        back_off_longer(tried);
-    }
-    Performed::Elsewhere
+/// The outcome of one turn of a call.
+#[derive(Clone, Copy, Debug, PartialEq, Eq)]
+pub enum Next<R> {
+    /// The answer. The session is idle.
+    Answered(Answer<R>),
+    /// Memory was refused in a pass of the session, and the call has no answer yet. It is published and pending. Another turn goes
+    /// on with it.
+    Starved,
+    /// No answer yet. Another turn goes on, after this wait.
+    Wait(Wait),
 }
 
 /// Tries once to serve, if `serve_now`. Returns whether the session made a pass in which memory was refused.
@@ -136,69 +61,147 @@ fn serve_if<O: Batching, T: Told<O>>(
     }
 }
 
-/// Takes one turn of waiting: serves if `serve_now`, and looks for the answer. `None` if the answer isn't there.
-fn turn<O: Batching, T: Told<O>>(
+/// Looks for the answer to the pending call, behind `looked` looks, and before that tries to serve at every `LOOKS_PER_TRY`th look.
+/// Adds the sessions whose waits the pass has ended to those that were told.
+fn look<O: Batching, T: Told<O>>(
     office: &Office<O>,
     session: &mut Session<O>,
-    serve_now: bool,
+    looked: u64,
     told: &mut T,
-) -> Option<Called<O::Reply>>
+) -> Next<O::Reply>
     requires ours { IsSessionOf office.now session.old }
     requires pending { session.old.pending ≢ None }
     requires room { HasRoom (T.room told.old) office.now.sessions }
     ensures ours { IsSessionOf office.now session.new }
-    ensures answered { (answer : _) → result ≡ Some (Called.Answered answer) → IsAnswered O.Sequential session.old session.new answer.place answer.reply × IsIdle session.new }
-    ensures starved { result ≡ Some Called.Starved → IsWaitingOn session.old session.new × (session.old.put_backs < session.new.put_backs) }
-    ensures never { result ≢ Some Called.NotYet }
-    ensures none { IfNone result (IsWaitingOn session.old session.new) }
-    ensures others { IfNone result (serve_now ≡ true → 1 < office.now.sessions) }
+    ensures answered { (answer : _) → result ≡ Next.Answered answer → IsAnswered O.Sequential session.old session.new answer.place answer.reply }
+    ensures idle { (answer : _) → result ≡ Next.Answered answer → IsIdle session.new }
+    ensures starved { result ≡ Next.Starved → IsWaitingOn session.old session.new × (session.old.put_backs < session.new.put_backs) }
+    ensures waits { (w : _) → result ≡ Next.Wait w → IsWaitingOn session.old session.new }
+    ensures others { (w : _) → result ≡ Next.Wait w → looked ≡ 0 → 1 < office.now.sessions }
     ensures on { HasGoneOn session.old session.new }
     ensures told { HasAddedTold T.ends office.now.sessions session.new.front (entered_since session.old session.new) (T.list told.old) (T.list told.new) }
     ensures room { T.room told.new ≡ T.room told.old }
 {
-    let starved = serve_if(office, session, serve_now, told);
+    let starved = serve_if(office, session, looked % LOOKS_PER_TRY == 0, told);
     if let Some(answer) = office.collect(session) {
-        return Some(Called::Answered(answer));
+        return Next::Answered(answer);
     }
     if starved {
-        return Some(Called::Starved);
+        return Next::Starved;
     }
-    None
+    Next::Wait(after_look(looked))
 }
 
-/// Goes on with the pending call of a session: serves and looks for the answer in at most `turns` turns, with pauses between
-/// them. Adds the sessions whose waits the session's passes have ended to those that were told.
-fn wait_for_answer<O: Batching, T: Told<O>>(
+/// Publishes the call, which was not answered at once, and looks for the answer.
+fn publish_and_look<O: Batching, T: Told<O>>(
     office: &Office<O>,
     session: &mut Session<O>,
-    turns: u64,
+    call: O::Call,
     told: &mut T,
-) -> Called<O::Reply>
+) -> Next<O::Reply>
     requires ours { IsSessionOf office.now session.old }
-    requires pending { session.old.pending ≢ None }
+    requires idle { IsIdle session.old }
     requires room { HasRoom (T.room told.old) office.now.sessions }
     ensures ours { IsSessionOf office.now session.new }
-    ensures answered { (answer : _) → result ≡ Called.Answered answer → IsAnswered O.Sequential session.old session.new answer.place answer.reply }
-    ensures idle { (answer : _) → result ≡ Called.Answered answer → IsIdle session.new }
-    ensures not_yet { result ≡ Called.NotYet → IsWaitingOn session.old session.new }
-    ensures starved { result ≡ Called.Starved → HasStarved session.old session.new }
-    ensures others { result ≡ Called.NotYet → 0 < turns → 1 < office.now.sessions }
+    ensures answered { (answer : _) → result ≡ Next.Answered answer → IsCalled O.Sequential session.old session.new call answer.place answer.reply }
+    ensures idle { (answer : _) → result ≡ Next.Answered answer → IsIdle session.new }
+    ensures starved { result ≡ Next.Starved → IsCalling session.old session.new call }
+    ensures waits { (w : _) → result ≡ Next.Wait w → IsCalling session.old session.new call × (1 < office.now.sessions) }
     ensures on { HasGoneOn session.old session.new }
     ensures told { HasAddedTold T.ends office.now.sessions session.new.front (entered_since session.old session.new) (T.list told.old) (T.list told.new) }
     ensures room { T.room told.new ≡ T.room told.old }
 {
-    for look in 0..turns {
-        if let Some(called) = turn(office, session, look % LOOKS_PER_TRY == 0, told) {
-            return called;
-        }
-        back_off(look);
-    }
-    Called::NotYet
+    let _posted = office.publish(session, call);
+    look(office, session, 0, told)
 }
 
-/// Goes on with the pending call of a session: serves and looks for the answer in at most `turns` turns, with pauses between
-/// them. `NotYet`: the answer wasn't there. `Starved`: the session made a pass in which memory was refused. Tells whose waits the
-/// session's passes have ended, as `Office::serve_telling` tells it of a pass.
+/// Tries to perform the call at once, behind `tried` tries. A call for which memory was refused is published.
+fn try_at_once<O: Batching, T: Told<O>>(
+    office: &Office<O>,
+    session: &mut Session<O>,
+    call: O::Call,
+    tried: u64,
+    told: &mut T,
+) -> Next<O::Reply>
+    requires ours { IsSessionOf office.now session.old }
+    requires idle { IsIdle session.old }
+    requires room { HasRoom (T.room told.old) office.now.sessions }
+    ensures ours { IsSessionOf office.now session.new }
+    ensures answered { (answer : _) → result ≡ Next.Answered answer → IsCalled O.Sequential session.old session.new call answer.place answer.reply }
+    ensures idle { (answer : _) → result ≡ Next.Answered answer → IsIdle session.new }
+    ensures starved { result ≡ Next.Starved → IsCalling session.old session.new call }
+    ensures waits { (w : _) → result ≡ Next.Wait w → (session.new ≡ session.old) × (1 < office.now.sessions) }
+    ensures on { HasGoneOn session.old session.new }
+    ensures told { HasAddedTold T.ends office.now.sessions session.new.front (entered_since session.old session.new) (T.list told.old) (T.list told.new) }
+    ensures room { T.room told.new ≡ T.room told.old }
+{
+    let asked = call;
+    match office.perform_adding(session, call, told) {
+        Performed::Answered { answer, .. } => Next::Answered(answer),
+        Performed::Elsewhere => Next::Wait(after_try(tried)),
+        Performed::Starved => {
+            let _posted = office.publish(session, asked);
+            Next::Starved
+        }
+    }
+}
+
+/// Makes one turn of a call, behind `made` turns. An idle session tries to perform the call at once, in its first `TRIES_AT_ONCE`
+/// turns, and publishes it in the next one. A session with a call pending serves, at every eighth turn, and looks for the answer;
+/// it goes on with the call that is pending, whatever `call` is. No turn loses a call: it is answered, pending, or not made yet.
+///
+/// Adds the sessions whose waits the turn's passes have ended to those that were told.
+pub fn turn<O: Batching, T: Told<O>>(
+    office: &Office<O>,
+    session: &mut Session<O>,
+    call: &O::Call,
+    made: u64,
+    told: &mut T,
+) -> Next<O::Reply>
+    requires ours { IsSessionOf office.now session.old }
+    requires live { session.old.retired ≡ false }
+    requires room { HasRoom (T.room told.old) office.now.sessions }
+    ensures ours { IsSessionOf office.now session.new }
+    ensures called { (answer : _) → result ≡ Next.Answered answer → session.old.pending ≡ None → IsCalled O.Sequential session.old session.new call.now answer.place answer.reply }
+    ensures answered { (answer : _) → result ≡ Next.Answered answer → session.old.pending ≢ None → IsAnswered O.Sequential session.old session.new answer.place answer.reply }
+    ensures idle { (answer : _) → result ≡ Next.Answered answer → IsIdle session.new }
+    ensures starved { result ≡ Next.Starved → session.old.pending ≡ None → IsCalling session.old session.new call.now }
+    ensures starved_on { result ≡ Next.Starved → session.old.pending ≢ None → IsWaitingOn session.old session.new × (session.old.put_backs < session.new.put_backs) }
+    ensures tried { (w : _) → result ≡ Next.Wait w → session.old.pending ≡ None → made < TRIES_AT_ONCE → (session.new ≡ session.old) × (1 < office.now.sessions) }
+    ensures published { (w : _) → result ≡ Next.Wait w → session.old.pending ≡ None → TRIES_AT_ONCE ≤ made → IsCalling session.old session.new call.now × (1 < office.now.sessions) }
+    ensures waits { (w : _) → result ≡ Next.Wait w → session.old.pending ≢ None → IsWaitingOn session.old session.new }
+    ensures live { session.new.retired ≡ false }
+    ensures on { HasGoneOn session.old session.new }
+    ensures told { HasAddedTold T.ends office.now.sessions session.new.front (entered_since session.old session.new) (T.list told.old) (T.list told.new) }
+    ensures room { T.room told.new ≡ T.room told.old }
+{
+    if !session.is_idle() {
+        return look(office, session, made, told);
+    }
+    if made < TRIES_AT_ONCE {
+        try_at_once(office, session, *call, made, told)
+    } else {
+        publish_and_look(office, session, *call, told)
+    }
+}
+
+/// Publishes the call of a session that is idle. One that has it pending is unchanged.
+fn publish_if_idle<O: Batching>(office: &Office<O>, session: &mut Session<O>, call: O::Call)
+    requires ours { IsSessionOf office.now session.old }
+    requires live { session.old.retired ≡ false }
+    ensures ours { IsSessionOf office.now session.new }
+    ensures published { session.old.pending ≡ None → IsCalling session.old session.new call }
+    ensures same { session.old.pending ≢ None → session.new ≡ session.old }
+    ensures known { (session.new.front ≡ session.old.front) × (session.new.entered ≡ session.old.entered) }
+{
+    if session.is_idle() {
+        let _posted = office.publish(session, call);
+    }
+}
+
+/// Goes on with the pending call of a session: looks for the answer in at most `turns` turns, with waits between them. `NotYet`: the
+/// answer wasn't there. `Starved`: the session made a pass in which memory was refused. Tells whose waits the session's passes have
+/// ended, as `Office::serve_telling` tells it of a pass.
 pub fn resume<O: Batching, T: Told<O>>(
     office: &Office<O>,
     session: &mut Session<O>,
@@ -218,12 +221,18 @@ pub fn resume<O: Batching, T: Told<O>>(
     ensures room { T.room told.new ≡ T.room told.old }
 {
     told.clear();
-    wait_for_answer(office, session, turns, told)
+    for looked in 0..turns {
+        match look(office, session, looked, told) {
+            Next::Answered(answer) => return Called::Answered(answer),
+            Next::Starved => return Called::Starved,
+            Next::Wait(next) => back_off(next),
+        }
+    }
+    Called::NotYet
 }
 
-/// Makes a call of an idle session. If the object is free, the session performs the call at once, as `Office::perform` does. Else
-/// it tries again, with pauses that grow, as often as `turns` says but at most `MORE_TRIES` times. If the object was never
-/// free, it publishes the call, and serves and looks for the answer in at most `turns` turns, as `resume` does.
+/// Makes a call of an idle session, in one turn and `turns` more at most, as `turn` makes them, with waits between them. If the call
+/// isn't published by then, it is published.
 ///
 /// `Answered`: the session is idle again. `NotYet` and `Starved` leave the call published and pending. `Starved`: memory was
 /// refused for the call, or in a pass of the session. Tells whose waits the call and the session's passes have ended, as
@@ -248,15 +257,13 @@ pub fn call<O: Batching, T: Told<O>>(
 {
     told.clear();
     let asked = call;
-    let tries = 1 + u64::min(turns, MORE_TRIES);
-    let starved = match perform_soon(office, session, &asked, tries, told) {
-        Performed::Answered { answer, .. } => return Called::Answered(answer),
-        Performed::Elsewhere => false,
-        Performed::Starved => true,
-    };
-    let _posted = office.publish(session, asked);
-    if starved {
-        return Called::Starved;
+    for made in 0..turns.saturating_add(1) {
+        match turn(office, session, &asked, made, told) {
+            Next::Answered(answer) => return Called::Answered(answer),
+            Next::Starved => return Called::Starved,
+            Next::Wait(next) => back_off(next),
+        }
     }
-    wait_for_answer(office, session, turns, told)
+    publish_if_idle(office, session, asked);
+    Called::NotYet
 }

@@ -4,7 +4,7 @@
 //!
 //! `office.rt` has the calls of sessions, `office/perform.rt` a call that its session performs itself, `office/taking.rt` the
 //! taking of the history, `office/looks.rt` a look at the object, `office/passes.rt` what all ways to serve have in common.
-//! `calling.rt` makes a whole call. `pass.rt` is the combiner's pass, `own_call.rt` a pass with a call of its own, `clean_up.rt`
+//! `calling.rt` makes a whole call turn by turn, `backoff.rt` says how it waits between turns. `pass.rt` is the combiner's pass, `own_call.rt` a pass with a call of its own, `clean_up.rt`
 //! takes unused records off the publication list. `told.rt` says who is told whose waits a pass has ended, `ended.rt` is the list of
 //! them.
 //!
@@ -15,6 +15,7 @@
 //! takes off what it may. Nothing is claimed of progress, fairness or speed.
 #![tactic(auto)]
 
+mod backoff;
 mod calling;
 mod clean_up;
 mod ended;
@@ -24,7 +25,8 @@ mod own_call;
 mod pass;
 mod told;
 
-pub use calling::{Called, call, resume};
+pub use backoff::Wait;
+pub use calling::{Called, Next, call, resume, turn};
 pub use ended::Ended;
 pub use office::{Answer, HistoryPiece, Office, OpenFault, Performed, Turn};
 pub use publication::{CloseFault, Knowledge, Load, Posted, Ticket as Session};

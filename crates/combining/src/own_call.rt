@@ -6,7 +6,7 @@ ghost use Rattle.combining.specs.Sessions.{IsIdle};
 ghost use Rattle.combining.specs.inner.OwnCalls.{IsOwnEntered, IsPassWithOwn};
 ghost use Rattle.combining.specs.inner.Passes.{IsAtWork, HasPassed, HasServed};
 ghost use Rattle.combining.specs.Ended.{entered_since, HasRoom};
-ghost use Rattle.combining.specs.inner.EndedList.{HasAddedTold};
+ghost use Rattle.combining.specs.Ended.{HasAddedTold};
 
 use crate::pass::{Pass, serve_published};
 use crate::told::Told;

@@ -13,7 +13,9 @@ pub mod laws;
 mod opening;
 pub mod queries;
 
-pub use combining::{CloseFault, Ended, Nobody, OpenFault, Posted, Told, Turn, call, resume};
+pub use combining::{
+    CloseFault, Ended, Nobody, OpenFault, Posted, Told, Turn, Wait, call, resume, turn,
+};
 pub use lock_board::{Knowledge, Ticket as Session};
 use lock_desk::{Book, Entry, Reply};
 pub use opening::open_keeping;
@@ -26,6 +28,9 @@ pub type Answer = combining::Answer<Reply>;
 
 /// The outcome of one call of `Office::perform`.
 pub type Performed = combining::Performed<Reply>;
+
+/// The outcome of one turn of a call.
+pub type Next = combining::Next<Reply>;
 
 /// The outcome of `call` and `resume`.
 pub type Called = combining::Called<Reply>;

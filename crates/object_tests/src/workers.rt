@@ -5,7 +5,7 @@ ghost use Rattle.std.specs.Prelude.{◌≡◌, All, IfOk, IfSome};
 ghost use Rattle.combining.specs.Sessions.{IsSessionOf, IsIdle};
 
 use crate::choices::Chosen;
-use combining::{Answer, Called, HistoryPiece, Nobody, Office, Session, call, resume};
+use combining::{Answer, Called, HistoryPiece, Next, Nobody, Office, Session, call, resume, turn};
 use sequential::{Batching, Entry, Trimming};
 use std::alloc::{AllocError, Global};
 use std::process::Abort;
@@ -86,7 +86,28 @@ fn call_whole<O: Batching>(
     }
 }
 
-/// Makes a call: by `call_whole` with 0 to 2 turns if `made` is even, and else by `call_published`.
+/// Makes a call by `turn`, and yields after each. Returns `None` if memory is refused, or after `TURNS` turns.
+fn call_in_turns<O: Batching>(
+    office: &Office<O>,
+    session: &mut Session<O>,
+    asked: O::Call,
+) -> Option<Answer<O::Reply>>
+    requires ours { IsSessionOf office.now session.old × IsIdle session.old }
+    ensures ours { IsSessionOf office.now session.new }
+    ensures idle { IfSome result (λ _. IsIdle session.new) }
+{
+    for made in 0..TURNS {
+        match turn(office, session, &asked, made, &mut Nobody) {
+            Next::Answered(answer) => return Some(answer),
+            Next::Starved => return None,
+            Next::Wait(_) => thread::yield_now(),
+        }
+    }
+    None
+}
+
+/// Makes a call: by `call_in_turns` if `made` is divisible by 3, else by `call_whole` with 0 to 2 turns if `made` is even, and else by
+/// `call_published`.
 fn call_as<O: Batching>(
     office: &Office<O>,
     session: &mut Session<O>,
@@ -97,6 +118,9 @@ fn call_as<O: Batching>(
     ensures ours { IsSessionOf office.now session.new }
     ensures idle { IfSome result (λ _. IsIdle session.new) }
 {
+    if made % 3 == 0 {
+        return call_in_turns(office, session, asked);
+    }
     if made % 2 == 0 {
         return call_whole(office, session, asked, made % 3);
     }

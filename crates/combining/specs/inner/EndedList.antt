@@ -14,11 +14,3 @@ pub record IsEndedList (a : Inside) : Type 0 where
   pub room : length a.is_in.items ≤ vec_capacity a.list
   pub once : IsOnce a.list.items
   pub members : (u : ℕ) → Contains a.list.items u ↔ ((1 ≤ u) × (u ≤ length a.is_in.items) × (slice_index_or a.is_in.items (u - 1) false ≡ true))
-
-module _ {C R : Type 0} (ends : List (Entry C R) → Entry C R → ℕ → Type 0) where
-  -- Exactly the sessions were added to the list whose wait the entry at one of these places of the known history has ended, each
-  -- if it wasn't in it.
-  pub record HasAddedTold (n : ℕ) (history : List (Entry C R)) (places old new : List ℕ) : Type 0 where
-    pub members : (u : ℕ) → Contains new u ↔ (Contains old u ⊎ ((1 ≤ u) × (u ≤ n) × HasEndedAt ends history places u))
-    pub once : IsOnce old → IsOnce new
-    pub within : (p : ℕ) → Contains places p → p < length history

@@ -7,7 +7,7 @@ ghost use Rattle.publication.specs.Boards.{IsOf, OpensNone, HasCallsOf, heard_fr
 ghost use Rattle.combining.specs.Sessions.{IsSessionOf, IsPendingServed, HasTriedToList, IsPassed};
 ghost use Rattle.combining.specs.Ended.{entered_since, HasRoom};
 ghost use Rattle.combining.specs.inner.Passes.{HasMadePass};
-ghost use Rattle.combining.specs.inner.EndedList.{HasAddedTold};
+ghost use Rattle.combining.specs.Ended.{HasAddedTold};
 
 use crate::office::{Office, Turn};
 use crate::pass::{MadePass, serve_published};

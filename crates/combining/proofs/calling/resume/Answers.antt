@@ -1,5 +1,41 @@
-use Rattle.combining.proofs.EndedWaits.{told-all}
+use Rattle.std.proofs.Common.{◌≡◌, ◌∙◌, ℕ, zero, List, [], refl, arith}
+use mathlib.Core.Logic.{dite}
+use native.Mathlib.Decide.{ℕ_discrete}
+use Rattle.combining.proofs.EndedWaits.{told-on, told-all}
+use Rattle.combining.proofs.Turns.{waiting-trans}
 use Rattle.combining.proofs.calling.resume.Goals as goal
 
+pub returns-in-Answered-clause-told : goal.returns-in-Answered-clause-told
+returns-in-Answered-clause-told g c =
+    let n = c.args.office.now.sessions in
+    let i = c.loop-looked.invariant in
+    let e = c.look.ensures in
+    told-all n c.look.new.session.front _ [] (g.T.Told.list c.look.new.told) refl
+    (told-on n c.args.session.now c.loop-looked.session c.look.new.session [] (g.T.Told.list c.loop-looked.told) (g.T.Told.list c.look.new.told) i.waits.entered e.on.longer e.on.entered i.told e.told)
+
+pub returns-in-Starved-clause-told : goal.returns-in-Starved-clause-told
+returns-in-Starved-clause-told g c =
+    let n = c.args.office.now.sessions in
+    let i = c.loop-looked.invariant in
+    let e = c.look.ensures in
+    told-all n c.look.new.session.front _ [] (g.T.Told.list c.look.new.told) refl
+    (told-on n c.args.session.now c.loop-looked.session c.look.new.session [] (g.T.Told.list c.loop-looked.told) (g.T.Told.list c.look.new.told) i.waits.entered e.on.longer e.on.entered i.told e.told)
+
+pub loop-looked-preserved : goal.loop-looked-preserved
+loop-looked-preserved g c =
+    let n = c.args.office.now.sessions in
+    let t = c.args.session.now in
+    let u = c.loop-looked.session in
+    let v = c.look.new.session in
+    let i = c.loop-looked.invariant in
+    let e = c.look.ensures in
+    record {
+      ours = e.ours;
+      waits = waiting-trans t u v i.waits (e.waits c.in-Wait.next c.in-Wait.is);
+      others = λ _. dite (ℕ_discrete c.loop-looked.looked 0) (λ none. e.others c.in-Wait.next c.in-Wait.is none) (λ some. i.others (omega (arith, some)));
+      told = told-on n t u v [] (g.T.Told.list c.loop-looked.told) (g.T.Told.list c.look.new.told) i.waits.entered e.on.longer e.on.entered i.told e.told;
+      room = e.room ∙ i.room;
+    }
+
 pub returns-clause-told : goal.returns-clause-told
-returns-clause-told g c = told-all c.args.office.now.sessions c.wait_for_answer.new.session.front _ _ _ c.clear.ensures.none c.wait_for_answer.ensures.told
+returns-clause-told g c = told-all c.args.office.now.sessions c.loop-looked.session.front _ [] (g.T.Told.list c.loop-looked.told) refl c.loop-looked.invariant.told

@@ -1,18 +1,33 @@
-use Rattle.std.proofs.Common.{ap}
+use Rattle.std.proofs.Common.{◌≡◌, ◌∙◌, Option, None, ap}
 use Rattle.publication.specs.Views.{TicketView}
-use Rattle.combining.proofs.EndedWaits.{told-knowing}
-use Rattle.combining.proofs.Turns.{waiting-on, on-trans, collected-on}
+use Rattle.combining.proofs.Turns.{by-next, waiting-live, calling-live}
 use Rattle.combining.proofs.calling.turn.Goals as goal
 
-pub returns-in-Some-clause-told : goal.returns-in-Some-clause-told
-returns-in-Some-clause-told g c =
-    let got = c.in-Some.ensures.some in
-    told-knowing c.args.office.now.sessions c.args.session.now c.serve_if-starved.new.session c.collect.new.session (g.T.Told.list c.args.told.now) (g.T.Told.list c.serve_if-starved.new.told)
-    got.longer (ap (λ (x : TicketView _ _). x.entered) got.session) c.serve_if-starved.ensures.told
+pub returns-then-made-lt-TRIES_AT_ONCE-clause-called : goal.returns-then-made-lt-TRIES_AT_ONCE-clause-called
+returns-then-made-lt-TRIES_AT_ONCE-clause-called g c answer is _ = c.try_at_once.ensures.answered answer is
 
-pub returns-in-Some-clause-on : goal.returns-in-Some-clause-on
-returns-in-Some-clause-on g c =
+pub returns-then-made-lt-TRIES_AT_ONCE-clause-live : goal.returns-then-made-lt-TRIES_AT_ONCE-clause-live
+returns-then-made-lt-TRIES_AT_ONCE-clause-live g c =
     let t = c.args.session.now in
-    let u = c.serve_if-starved.new.session in
-    let v = c.collect.new.session in
-    on-trans t u v (waiting-on t u c.serve_if-starved.ensures.waits) (collected-on u v c.in-Some.answer.place c.in-Some.answer.reply c.in-Some.ensures.some)
+    let u = c.try_at_once.new.session in
+    let e = c.try_at_once.ensures in
+    by-next c.try_at_once.result (λ a is. (e.idle a is).1) (λ is. calling-live t u c.args.call.now (e.starved is) ∙ c.requires.live)
+    (λ w is. ap (λ (x : TicketView _ _). x.retired) (e.waits w is).0 ∙ c.requires.live)
+
+pub returns-else-made-lt-TRIES_AT_ONCE-clause-called : goal.returns-else-made-lt-TRIES_AT_ONCE-clause-called
+returns-else-made-lt-TRIES_AT_ONCE-clause-called g c answer is _ = c.publish_and_look.ensures.answered answer is
+
+pub returns-else-made-lt-TRIES_AT_ONCE-clause-live : goal.returns-else-made-lt-TRIES_AT_ONCE-clause-live
+returns-else-made-lt-TRIES_AT_ONCE-clause-live g c =
+    let t = c.args.session.now in
+    let u = c.publish_and_look.new.session in
+    let e = c.publish_and_look.ensures in
+    by-next c.publish_and_look.result (λ a is. (e.idle a is).1) (λ is. calling-live t u c.args.call.now (e.starved is) ∙ c.requires.live)
+    (λ w is. calling-live t u c.args.call.now (e.waits w is).0 ∙ c.requires.live)
+
+pub returns-then-not-is_idle-clause-live : goal.returns-then-not-is_idle-clause-live
+returns-then-not-is_idle-clause-live g c =
+    let t = c.args.session.now in
+    let u = c.look.new.session in
+    let e = c.look.ensures in
+    by-next c.look.result (λ a is. (e.idle a is).1) (λ is. waiting-live t u (e.starved is).0 ∙ c.requires.live) (λ w is. waiting-live t u (e.waits w is) ∙ c.requires.live)

@@ -1,0 +1,53 @@
+use Rattle.std.proofs.Common.{inr, refl}
+use Rattle.publication.specs.Boards.{publishing}
+use Rattle.combining.proofs.EndedWaits.{told-on, told-self}
+use Rattle.combining.proofs.Turns.{on-same, on-trans, posted-cases, posted-waits, posted-same, published, published-called, waiting-trans}
+use Rattle.combining.proofs.calling.publish_and_look.Goals as goal
+
+pub returns-clause-answered : goal.returns-clause-answered
+returns-clause-answered g c answer is =
+    let t = c.args.session.now in
+    let u = c.publish-posted.new.session in
+    let p = c.publish-posted.ensures in
+    published-called t u c.look.new.session c.args.call answer.place answer.reply (posted-waits t u c.args.call (posted-cases c.publish-posted.result p.listed p.unlisted)) (c.look.ensures.answered answer is)
+
+pub returns-clause-starved : goal.returns-clause-starved
+returns-clause-starved g c is =
+    let t = c.args.session.now in
+    let u = c.publish-posted.new.session in
+    let v = c.look.new.session in
+    let p = c.publish-posted.ensures in
+    published {obj = g.O.Sequential} t t v c.args.call (inr refl)
+    (waiting-trans (publishing t c.args.call) u v (posted-waits t u c.args.call (posted-cases c.publish-posted.result p.listed p.unlisted)) (c.look.ensures.starved is).0)
+
+pub returns-clause-waits : goal.returns-clause-waits
+returns-clause-waits g c w is =
+    let t = c.args.session.now in
+    let u = c.publish-posted.new.session in
+    let v = c.look.new.session in
+    let p = c.publish-posted.ensures in (
+      published {obj = g.O.Sequential} t t v c.args.call (inr refl)
+          (waiting-trans (publishing t c.args.call) u v (posted-waits t u c.args.call (posted-cases c.publish-posted.result p.listed p.unlisted)) (c.look.ensures.waits w is)),
+      c.look.ensures.others w is refl,
+    )
+
+pub returns-clause-on : goal.returns-clause-on
+returns-clause-on g c =
+    let t = c.args.session.now in
+    let u = c.publish-posted.new.session in
+    let p = c.publish-posted.ensures in
+    let same = posted-same t u c.args.call (posted-cases c.publish-posted.result p.listed p.unlisted) in
+    on-trans t u c.look.new.session (on-same t u same.0 same.1) c.look.ensures.on
+
+pub returns-clause-told : goal.returns-clause-told
+returns-clause-told g c =
+    let n = c.args.office.now.sessions in
+    let t = c.args.session.now in
+    let u = c.publish-posted.new.session in
+    let v = c.look.new.session in
+    let p = c.publish-posted.ensures in
+    let e = c.look.ensures in
+    let same = posted-same t u c.args.call (posted-cases c.publish-posted.result p.listed p.unlisted) in
+    let first = on-same t u same.0 same.1 in
+    told-on n t u v (g.T.Told.list c.args.told.now) (g.T.Told.list c.args.told.now) (g.T.Told.list c.look.new.told) first.entered e.on.longer e.on.entered
+    (told-self n t u (g.T.Told.list c.args.told.now) same.1) e.told
