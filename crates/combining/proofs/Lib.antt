@@ -17,3 +17,4 @@ pub mod EndedWaits
 pub mod OwnCalls
 pub mod Turns
 pub mod OneHistory
+pub mod OwnRows

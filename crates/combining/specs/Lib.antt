@@ -6,3 +6,4 @@ pub mod Calls
 pub mod Looks
 -- What only private contracts cite.
 pub mod inner
+pub mod Rows

@@ -13,11 +13,13 @@ ghost use Rattle.combining.specs.Ended.{AreToldBy, entered_since, HasRoom};
 mod looks;
 mod passes;
 mod perform;
+mod rows;
 mod taking;
 
 use crate::told::{Nobody, Told};
 pub use perform::Performed;
 use publication::{Board, CloseFault, Knowledge, Posted, Ticket as Session};
+pub use rows::{PerformedRow, Row};
 use sequential::{Batching, Fresh, MAX_SESSIONS};
 use std::alloc::{AllocError as NoMemory, Global};
 use std::marker::Model;

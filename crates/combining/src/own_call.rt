@@ -42,7 +42,7 @@ fn perform_own<O: Batching>(
 
 /// Performs a call as `perform_own` does, and tells whose wait it has ended.
 #[inline(always)]
-fn perform_own_telling<O: Batching, T: Told<O>>(
+pub(crate) fn perform_own_telling<O: Batching, T: Told<O>>(
     board: &Board<O>,
     session: &mut Ticket<O>,
     load: &mut Load<O>,
@@ -66,7 +66,7 @@ fn perform_own_telling<O: Batching, T: Told<O>>(
 
 /// Runs a pass as `serve_published` does, for a session with no call pending, and tells whose waits it has ended.
 #[inline(always)]
-fn serve_published_telling<O: Batching, T: Told<O>>(
+pub(crate) fn serve_published_telling<O: Batching, T: Told<O>>(
     board: &Board<O>,
     session: &mut Ticket<O>,
     load: &mut Load<O>,
