@@ -18,3 +18,4 @@ pub mod OwnCalls
 pub mod Turns
 pub mod OneHistory
 pub mod OwnRows
+pub mod RowTurns
