@@ -6,6 +6,7 @@ ghost use Rattle.combining.specs.Sessions.{IsSessionOf, IsIdle};
 ghost use Rattle.combining.specs.Calls.{IsCalled, IsCalling, IsAnswered, IsWaitingOn, HasGoneOn};
 ghost use Rattle.combining.specs.Ended.{HasAddedTold, HasRoom, entered_since};
 ghost use Rattle.combining.specs.Rows.{IsRowPerformed};
+ghost use Rattle.combining.specs.Waits.{IsWaitAfterTry, IsWaitAfterLook};
 
 use crate::backoff::{TRIES_AT_ONCE, Wait, after_try};
 use crate::calling::{Next, turn};
@@ -48,6 +49,7 @@ fn try_row_at_once<O: Batching, G: GoesOn<O>, T: Told<O>>(
     ensures unanswered { (answer : _) → result ≢ NextOfRow.Answered answer }
     ensures starved { (call : _) (rest : _) → result ≡ NextOfRow.Starved → calls.now ≡ call ∷ rest → IsCalling session.old session.new call }
     ensures waits { (w : _) → result ≡ NextOfRow.Wait w → (session.new ≡ session.old) × (1 < office.now.sessions) }
+    ensures wait { (w : _) → result ≡ NextOfRow.Wait w → IsWaitAfterTry tried w }
     ensures live { session.new.retired ≡ false }
     ensures on { HasGoneOn session.old session.new }
     ensures told { HasAddedTold T.ends office.now.sessions session.new.front (entered_since session.old session.new) (T.list told.old) (T.list told.new) }
@@ -99,6 +101,9 @@ pub fn row_turn<O: Batching, G: GoesOn<O>, T: Told<O>>(
     ensures published { (w : _) (call : _) (rest : _) → result ≡ NextOfRow.Wait w → session.old.pending ≡ None → TRIES_AT_ONCE ≤ made → calls.now ≡ call ∷ rest
         → IsCalling session.old session.new call × (1 < office.now.sessions) }
     ensures waits { (w : _) → result ≡ NextOfRow.Wait w → session.old.pending ≢ None → IsWaitingOn session.old session.new }
+    ensures wait_tried { (w : _) → result ≡ NextOfRow.Wait w → session.old.pending ≡ None → made < TRIES_AT_ONCE → IsWaitAfterTry made w }
+    ensures wait_published { (w : _) → result ≡ NextOfRow.Wait w → session.old.pending ≡ None → TRIES_AT_ONCE ≤ made → IsWaitAfterLook 0 w }
+    ensures wait_looked { (w : _) → result ≡ NextOfRow.Wait w → session.old.pending ≢ None → IsWaitAfterLook made w }
     ensures live { session.new.retired ≡ false }
     ensures on { HasGoneOn session.old session.new }
     ensures told { HasAddedTold T.ends office.now.sessions session.new.front (entered_since session.old session.new) (T.list told.old) (T.list told.new) }

@@ -20,11 +20,9 @@ abbrev pub number_of_wait : Wait → ℕ
 number_of_wait (Wait.Pause pauses) = pauses
 number_of_wait Wait.Yield = YIELD
 
--- the session's call is answered: the one that the numbers encode if it had none pending, and else the one that it had. The answer has the
--- index of its entry in the history, and the reply there
-pub record IsTurnAnswered (before after : SessionShare) (asked : CallNumbers) (answer : AnswerNumbers) : Type 0 where
-  pub call : Call
-  pub is_call : IsCall asked call
+-- the session's call is answered: this one if it had none pending, and else the one that it had. The answer has the index of its entry in
+-- the history, and the reply there
+pub record IsCallAnswered (before after : SessionShare) (call : Call) (answer : AnswerNumbers) : Type 0 where
   pub reply : Reply
   pub reply_is : answer.reply ≡ numbers_of_reply reply
   pub called : before.session.pending ≡ None → IsCalled book_object before.session after.session call answer.place reply
@@ -32,10 +30,8 @@ pub record IsTurnAnswered (before after : SessionShare) (asked : CallNumbers) (a
   pub idle : IsIdle after.session
   pub office : IsSameOffice before after
 
--- memory was refused in a pass of the session, and its call is pending: the one that the numbers encode if it had none pending
-pub record IsTurnStarved (before after : SessionShare) (asked : CallNumbers) : Type 0 where
-  pub call : Call
-  pub is_call : IsCall asked call
+-- memory was refused in a pass of the session, and its call is pending: this one if it had none pending
+pub record IsCallStarved (before after : SessionShare) (call : Call) : Type 0 where
   pub published : before.session.pending ≡ None → IsCalling before.session after.session call
   pub waits : before.session.pending ≢ None → IsWaitingOn before.session after.session
   pub put_back : before.session.pending ≢ None → before.session.put_backs < after.session.put_backs
@@ -44,9 +40,7 @@ pub record IsTurnStarved (before after : SessionShare) (asked : CallNumbers) : T
 -- the call has no answer yet, behind `made` turns of at most `turns`. A session with no call pending has tried to perform the call at once in
 -- the first turns, and then published it; in an office with other sessions. If no turn was left, it has published the call, and one that had it
 -- pending is unchanged. The number says what to do before the next turn
-pub record IsTurnMade (before after : SessionShare) (asked : CallNumbers) (made turns number : ℕ) : Type 0 where
-  pub call : Call
-  pub is_call : IsCall asked call
+pub record IsCallLate (before after : SessionShare) (call : Call) (made turns number : ℕ) : Type 0 where
   pub tried : made < turns → before.session.pending ≡ None → made < TRIES_AT_ONCE → (after.session ≡ before.session) × (2 ≤ before.sessions)
       × ((wait : Wait) × IsWaitAfterTry made wait × (number ≡ number_of_wait wait))
   pub published : made < turns → before.session.pending ≡ None → TRIES_AT_ONCE ≤ made → IsCalling before.session after.session call × (2 ≤ before.sessions)
@@ -56,6 +50,16 @@ pub record IsTurnMade (before after : SessionShare) (asked : CallNumbers) (made 
   pub last : turns ≤ made → (number ≡ NO_TURN) × (before.session.pending ≡ None → IsCalling before.session after.session call)
       × (before.session.pending ≢ None → after.session ≡ before.session)
   pub office : IsSameOffice before after
+
+-- these, of the call that the numbers encode
+abbrev pub IsTurnAnswered : SessionShare → SessionShare → CallNumbers → AnswerNumbers → Type 0
+IsTurnAnswered before after asked answer = (call : Call) × IsCall asked call × IsCallAnswered before after call answer
+
+abbrev pub IsTurnStarved : SessionShare → SessionShare → CallNumbers → Type 0
+IsTurnStarved before after asked = (call : Call) × IsCall asked call × IsCallStarved before after call
+
+abbrev pub IsTurnMade : SessionShare → SessionShare → CallNumbers → ℕ → ℕ → ℕ → Type 0
+IsTurnMade before after asked made turns number = (call : Call) × IsCall asked call × IsCallLate before after call made turns number
 
 -- the session's pending call is answered, by the index of its entry in the history and the reply there
 pub record IsLookAnswered (before after : SessionShare) (answer : AnswerNumbers) : Type 0 where

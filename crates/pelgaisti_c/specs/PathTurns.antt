@@ -1,0 +1,49 @@
+-- The outcomes of one turn of a session on the way down a path, as the export states them.
+use Rattle.std.specs.Prelude.{◌≡◌, ◌≢◌, ℕ, ◌+◌, ◌<◌, ◌≤◌, ◌⊎◌, true, false, None, List, length}
+use Rattle.lock_modes.specs.declared.Mode.{Mode}
+use Rattle.lock_modes.specs.Codes.{code_of}
+use Rattle.lock_rules.specs.declared.calls.Reply.{Reply}
+use Rattle.lock_office.specs.Sessions.{IsIdle}
+use Rattle.lock_office.specs.Paths.{lock_of_level, grants}
+use Rattle.lock_office.specs.PathTurns.{IsPathAnswered}
+use Rattle.pelgaisti_c.specs.declared.numbers.ResourceNumbers.{ResourceNumbers}
+use Rattle.pelgaisti_c.specs.declared.numbers.AnswerNumbers.{AnswerNumbers}
+use Rattle.pelgaisti_c.specs.declared.session_share.SessionShare.{SessionShare}
+use Rattle.pelgaisti_c.specs.declared.path_turn_calls.TheConstants.{AT_ONCE}
+use Rattle.pelgaisti_c.specs.Numbers.{IsPath, numbers_of_reply}
+use Rattle.pelgaisti_c.specs.Sessions.{IsSameOffice}
+use Rattle.pelgaisti_c.specs.Turns.{IsCallStarved, IsCallLate}
+
+-- the numbers encode a path to resource r, which has a level behind this one, and mode m
+pub record IsWayDown (path : ResourceNumbers) (mode level : ℕ) (r : List ℕ) (m : Mode) : Type 0 where
+  pub path_is : IsPath path r
+  pub mode_is : mode ≡ code_of m
+  pub rest : level < length r
+
+-- calls of the path were answered: `level` levels were locked before, and `levels` are now. The last answer has the index of its entry in the
+-- history, and this reply
+pub record HasGoneDown (r : List ℕ) (m : Mode) (before after : SessionShare) (level levels : ℕ) (answer : AnswerNumbers) (reply : Reply) : Type 0 where
+  pub answered : IsPathAnswered r m level before.session after.session levels answer.place reply
+  pub reply_is : answer.reply ≡ numbers_of_reply reply
+  pub idle : IsIdle after.session
+  pub office : IsSameOffice before after
+
+-- so the session has come to the end of its way: the path is locked, or the last reply doesn't grant its lock
+abbrev pub IsPathEnded : ResourceNumbers → ℕ → SessionShare → SessionShare → ℕ → ℕ → AnswerNumbers → Type 0
+IsPathEnded path mode before after level levels answer = (r : List ℕ) × (m : Mode) × IsWayDown path mode level r m
+    × ((reply : Reply) × HasGoneDown r m before after level levels answer reply × ((levels ≡ length r) ⊎ (grants reply ≡ false)))
+
+-- the session goes on with the next level at once, behind no turns: the last reply has granted its lock, and levels are left
+abbrev pub HasPathLeft : ResourceNumbers → ℕ → SessionShare → SessionShare → ℕ → ℕ → AnswerNumbers → ℕ → ℕ → Type 0
+HasPathLeft path mode before after level levels answer made number = (r : List ℕ) × (m : Mode) × IsWayDown path mode level r m
+    × ((reply : Reply) × HasGoneDown r m before after level levels answer reply × (levels ≢ length r) × (grants reply ≡ true))
+    × (made ≡ 0) × (number ≡ AT_ONCE)
+
+-- no call was answered. As of a turn of the call that locks the next level
+abbrev pub IsPathLate : ResourceNumbers → ℕ → SessionShare → SessionShare → ℕ → ℕ → ℕ → ℕ → Type 0
+IsPathLate path mode before after level made turns number = (r : List ℕ) × (m : Mode) × IsWayDown path mode level r m
+    × IsCallLate before after (lock_of_level r m (level + 1)) made turns number
+
+abbrev pub IsPathStarved : ResourceNumbers → ℕ → SessionShare → SessionShare → ℕ → Type 0
+IsPathStarved path mode before after level = (r : List ℕ) × (m : Mode) × IsWayDown path mode level r m
+    × IsCallStarved before after (lock_of_level r m (level + 1))
