@@ -5,6 +5,7 @@ pub mod Claims
 pub mod Batches
 pub mod Sessions
 pub mod Turns
+pub mod PathTurns
 pub mod Queries
 pub mod EndedLists
 pub mod Offices

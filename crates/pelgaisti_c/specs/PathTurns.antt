@@ -1,11 +1,13 @@
 -- The outcomes of one turn of a session on the way down a path, as the export states them.
-use Rattle.std.specs.Prelude.{◌≡◌, ◌≢◌, ℕ, ◌+◌, ◌<◌, ◌≤◌, ◌⊎◌, true, false, None, List, length}
+use Rattle.std.specs.Prelude.{◌≡◌, ◌≢◌, ℕ, ◌+◌, ◌<◌, ◌≤◌, ◌⊎◌, if◌then◌else◌, true, false, Some, None, List, length}
 use Rattle.lock_modes.specs.declared.Mode.{Mode}
 use Rattle.lock_modes.specs.Codes.{code_of}
 use Rattle.lock_rules.specs.declared.calls.Reply.{Reply}
+use Rattle.lock_board.specs.LockBoards.{TicketView, book_object}
+use Rattle.lock_desk.specs.Paths.{lock_of_level, grants}
+use Rattle.combining.specs.Calls.{IsCalled, IsAnswered}
 use Rattle.lock_office.specs.Sessions.{IsIdle}
-use Rattle.lock_office.specs.Paths.{lock_of_level, grants}
-use Rattle.lock_office.specs.PathTurns.{IsPathAnswered}
+use Rattle.lock_office.specs.Paths.{Row, IsPathPerformed, level_behind}
 use Rattle.pelgaisti_c.specs.declared.numbers.ResourceNumbers.{ResourceNumbers}
 use Rattle.pelgaisti_c.specs.declared.numbers.AnswerNumbers.{AnswerNumbers}
 use Rattle.pelgaisti_c.specs.declared.session_share.SessionShare.{SessionShare}
@@ -14,16 +16,30 @@ use Rattle.pelgaisti_c.specs.Numbers.{IsPath, numbers_of_reply}
 use Rattle.pelgaisti_c.specs.Sessions.{IsSameOffice}
 use Rattle.pelgaisti_c.specs.Turns.{IsCallStarved, IsCallLate}
 
--- the numbers encode a path to resource r, which has a level behind this one, and mode m
+-- the numbers encode the path to resource r, which has levels behind this one, and mode m
 pub record IsWayDown (path : ResourceNumbers) (mode level : ℕ) (r : List ℕ) (m : Mode) : Type 0 where
   pub path_is : IsPath path r
   pub mode_is : mode ≡ code_of m
   pub rest : level < length r
 
+-- the session, which had no call pending, performed calls that lock the rest of the path in one taking of the lock table, behind level
+-- `locked`, and down to level `level`. The last of them has this place and this reply
+abbrev pub IsPathPerformedTo : List ℕ → Mode → ℕ → TicketView → TicketView → ℕ → ℕ → Reply → Type 0
+IsPathPerformedTo r m locked before after level place reply = (before.pending ≡ None)
+    × ((row : Row) × (served : ℕ) × IsPathPerformed r m locked before after row served
+    × (row.last ≡ Some (record { place = place; reply = reply })) × (level ≡ level_behind locked row))
+
+-- one call was answered with this place and this reply: the one that the session had pending, or else the one that it published now, which
+-- locks the next level. If the lock is granted, one more level is locked
+abbrev pub IsLevelAnswered : List ℕ → Mode → ℕ → TicketView → TicketView → ℕ → ℕ → Reply → Type 0
+IsLevelAnswered r m locked before after level place reply = (before.pending ≡ None → IsCalled book_object before after (lock_of_level r m (locked + 1)) place reply)
+    × (before.pending ≢ None → IsAnswered book_object before after place reply) × (level ≡ (if grants reply then locked + 1 else locked))
+
 -- calls of the path were answered: `level` levels were locked before, and `levels` are now. The last answer has the index of its entry in the
 -- history, and this reply
 pub record HasGoneDown (r : List ℕ) (m : Mode) (before after : SessionShare) (level levels : ℕ) (answer : AnswerNumbers) (reply : Reply) : Type 0 where
-  pub answered : IsPathAnswered r m level before.session after.session levels answer.place reply
+  pub answered : IsPathPerformedTo r m level before.session after.session levels answer.place reply
+      ⊎ IsLevelAnswered r m level before.session after.session levels answer.place reply
   pub reply_is : answer.reply ≡ numbers_of_reply reply
   pub idle : IsIdle after.session
   pub office : IsSameOffice before after
@@ -39,7 +55,7 @@ HasPathLeft path mode before after level levels answer made number = (r : List �
     × ((reply : Reply) × HasGoneDown r m before after level levels answer reply × (levels ≢ length r) × (grants reply ≡ true))
     × (made ≡ 0) × (number ≡ AT_ONCE)
 
--- no call was answered. As of a turn of the call that locks the next level
+-- no call was answered: so it is of a turn of the call that locks the next level
 abbrev pub IsPathLate : ResourceNumbers → ℕ → SessionShare → SessionShare → ℕ → ℕ → ℕ → ℕ → Type 0
 IsPathLate path mode before after level made turns number = (r : List ℕ) × (m : Mode) × IsWayDown path mode level r m
     × IsCallLate before after (lock_of_level r m (level + 1)) made turns number

@@ -29,6 +29,8 @@ mod listing_exports;
 mod numbers;
 mod office;
 mod queries;
+mod path_turn_calls;
+mod path_turn_exports;
 mod query_exports;
 mod raw_box;
 mod session;

@@ -1,18 +1,18 @@
 //! One turn of a session on the way down a path, in numbers, on the share that a handle holds.
 
-ghost use Rattle.std.specs.Prelude.{◌≡◌, ◌≢◌, ◌+◌, ◌<◌, ◌≤◌, ◌⊎◌, ◌↔◌, ℕ, [], true, false, None, List, length};
+ghost use Rattle.std.specs.Prelude.{◌≡◌, ◌≢◌, ◌+◌, ◌<◌, ◌≤◌, ◌⊎◌, ◌↔◌, ℕ, if◌then◌else◌, [], true, false, None, Some, List, length};
 ghost use Rattle.lock_modes.specs.declared.Mode.{Mode as ModeValue};
-ghost use Rattle.combining.specs.Calls.{IsCalling, IsWaitingOn};
+ghost use Rattle.combining.specs.Calls.{IsCalled, IsCalling, IsAnswered, IsWaitingOn};
 ghost use Rattle.combining.specs.Ended.{entered_since};
 ghost use Rattle.combining.specs.Waits.{IsWaitAfterTry, IsWaitAfterLook};
 ghost use Rattle.lock_office.specs.Sessions.{IsIdle};
 ghost use Rattle.lock_office.specs.Ended.{AreToldBy};
-ghost use Rattle.lock_office.specs.Paths.{lock_of_level, grants};
-ghost use Rattle.lock_office.specs.PathTurns.{IsPathAnswered};
+ghost use Rattle.lock_board.specs.LockBoards.{book_object};
+ghost use Rattle.lock_desk.specs.Paths.{lock_of_level, grants};
+ghost use Rattle.lock_office.specs.Paths.{IsPathPerformed, level_behind};
 ghost use Rattle.pelgaisti_c.specs.Numbers.{IsModeCode, numbers_of_reply};
 ghost use Rattle.pelgaisti_c.specs.Sessions.{IsSameOffice, AreToWake};
 ghost use Rattle.pelgaisti_c.specs.Paths.{HasLevelBehind};
-ghost use Rattle.pelgaisti_c.specs.Turns.{number_of_wait};
 ghost use Rattle.pelgaisti_c.specs.PathTurns.{IsWayDown, IsPathEnded, HasPathLeft, IsPathLate, IsPathStarved};
 
 use crate::numbers::{AnswerNumbers, ResourceNumbers, read_mode, reply_numbers};
@@ -23,8 +23,8 @@ use crate::status::{
 };
 use crate::turn_calls::{NO_TURN, forget_told, publish_last, wait_number};
 use combining::{Nobody, TRIES_AT_ONCE};
-use lock_desk::{Mode, Resource, lock_of_level};
-use lock_office::{NextOfPath, is_granted, path_turn as turn_of_path};
+use lock_desk::{Mode, Resource, grants, lock_of_level};
+use lock_office::{Answer, NextOfPath, Row, path_turn as turn_of_path};
 
 /// A level was locked, and the next turn is to be made at once.
 pub const AT_ONCE: u32 = 1;
@@ -33,24 +33,30 @@ pub const AT_ONCE: u32 = 1;
 #[inline(always)]
 fn make_path_turn(
     share: &mut SessionShare,
-    resource: &Resource,
+    resource: Resource,
     mode: Mode,
     locked: u8,
     made: u64,
 ) -> NextOfPath
     requires live { share.old.session.retired ≡ false }
-    requires rest { locked < length resource.now }
+    requires rest { locked < length resource }
     requires none { share.old.told.list ≡ [] }
-    ensures answered { (level : _) (answer : _) → result ≡ NextOfPath.Answered level answer
-        → IsPathAnswered resource.now mode locked share.old.session share.new.session level answer.place answer.reply }
-    ensures idle { (level : _) (answer : _) → result ≡ NextOfPath.Answered level answer → IsIdle share.new.session }
-    ensures starved { result ≡ NextOfPath.Starved → share.old.session.pending ≡ None → IsCalling share.old.session share.new.session (lock_of_level resource.now mode (locked + 1)) }
+    ensures performed { (level : _) (row : _) → result ≡ NextOfPath.Performed level row → (share.old.session.pending ≡ None) × (0 < row.performed)
+        × (level ≡ level_behind locked row) × ((served : ℕ) × IsPathPerformed resource mode locked share.old.session share.new.session row served) }
+    ensures called { (level : _) (answer : _) → result ≡ NextOfPath.Answered level answer → share.old.session.pending ≡ None
+        → IsCalled book_object share.old.session share.new.session (lock_of_level resource mode (locked + 1)) answer.place answer.reply }
+    ensures answered { (level : _) (answer : _) → result ≡ NextOfPath.Answered level answer → share.old.session.pending ≢ None
+        → IsAnswered book_object share.old.session share.new.session answer.place answer.reply }
+    ensures level { (level : _) (answer : _) → result ≡ NextOfPath.Answered level answer → level ≡ (if grants answer.reply then locked + 1 else locked) }
+    ensures idle { (level : _) (row : _) → result ≡ NextOfPath.Performed level row → IsIdle share.new.session }
+    ensures idle_answered { (level : _) (answer : _) → result ≡ NextOfPath.Answered level answer → IsIdle share.new.session }
+    ensures starved { result ≡ NextOfPath.Starved → share.old.session.pending ≡ None → IsCalling share.old.session share.new.session (lock_of_level resource mode (locked + 1)) }
     ensures starved_on { result ≡ NextOfPath.Starved → share.old.session.pending ≢ None
         → IsWaitingOn share.old.session share.new.session × (share.old.session.put_backs < share.new.session.put_backs) }
     ensures tried { (w : _) → result ≡ NextOfPath.Wait w → share.old.session.pending ≡ None → made < TRIES_AT_ONCE
         → (share.new.session ≡ share.old.session) × (1 < share.old.sessions) × IsWaitAfterTry made w }
     ensures published { (w : _) → result ≡ NextOfPath.Wait w → share.old.session.pending ≡ None → TRIES_AT_ONCE ≤ made
-        → IsCalling share.old.session share.new.session (lock_of_level resource.now mode (locked + 1)) × (1 < share.old.sessions) × IsWaitAfterLook 0 w }
+        → IsCalling share.old.session share.new.session (lock_of_level resource mode (locked + 1)) × (1 < share.old.sessions) × IsWaitAfterLook 0 w }
     ensures waits { (w : _) → result ≡ NextOfPath.Wait w → share.old.session.pending ≢ None
         → IsWaitingOn share.old.session share.new.session × IsWaitAfterLook made w }
     ensures told { share.new.waker ≢ 0 → AreToldBy share.new.sessions share.new.session.front (entered_since share.old.session share.new.session) share.new.told.list }
@@ -72,51 +78,37 @@ fn make_path_turn(
     )
 }
 
-/// Writes what a turn of a path has brought, in numbers. Returns the status.
-fn write_next_of_path(
-    next: NextOfPath,
+/// The answer to the last call of a row, of which at least one was performed.
+fn last_of(row: Row) -> Answer
+    requires some { row.last ≢ None }
+    ensures { row.last ≡ Some result }
+{
+    match row.last {
+        Some(answer) => answer,
+        None => unreachable!(),
+    }
+}
+
+/// Writes how far the session has come on its way down a path whose last level is `end`, and the last answer. Returns whether it goes on:
+/// the last reply grants its lock, and levels are left.
+fn write_level(
+    locked: u8,
+    found: Answer,
     end: u8,
     level: &mut u32,
-    made: &mut u64,
     answer: &mut AnswerNumbers,
-    wait: &mut u32,
-) -> u32
-    requires more { made.old < 18446744073709551615 }
-    ensures ok { result ≡ OK → (levels : ℕ) × (found : _) × (next ≡ NextOfPath.Answered levels found) × (level.new ≡ levels)
-        × (answer.new.place ≡ found.place) × (answer.new.reply ≡ numbers_of_reply found.reply) × ((levels ≡ end) ⊎ (grants found.reply ≡ false)) }
-    ensures memory { result ≡ NO_MEMORY → next ≡ NextOfPath.Starved }
-    ensures late { result ≡ NOT_SERVED → ((levels : ℕ) × (found : _) × (next ≡ NextOfPath.Answered levels found) × (level.new ≡ levels)
-        × (answer.new.place ≡ found.place) × (answer.new.reply ≡ numbers_of_reply found.reply) × (levels ≢ end) × (grants found.reply ≡ true)
-        × (made.new ≡ 0) × (wait.new ≡ AT_ONCE))
-        ⊎ ((w : _) × (next ≡ NextOfPath.Wait w) × (wait.new ≡ number_of_wait w) × (made.new ≡ made.old + 1) × (level.new ≡ level.old) × (answer.new ≡ answer.old)) }
-    ensures starved { result ≡ NO_MEMORY → (level.new ≡ level.old) × (answer.new ≡ answer.old) }
-    ensures kept { result ≢ NOT_SERVED → (made.new ≡ made.old) × (wait.new ≡ wait.old) }
-    ensures statuses { (result ≡ OK) ⊎ ((result ≡ NO_MEMORY) ⊎ (result ≡ NOT_SERVED)) }
+) -> bool
+    ensures level { level.new ≡ locked }
+    ensures answer { (answer.new.place ≡ found.place) × (answer.new.reply ≡ numbers_of_reply found.reply) }
+    ensures on { result ≡ true → (locked ≢ end) × (grants found.reply ≡ true) }
+    ensures ended { result ≡ false → (locked ≡ end) ⊎ (grants found.reply ≡ false) }
 {
-    match next {
-        NextOfPath::Answered {
-            level: locked,
-            answer: found,
-        } => {
-            *level = u32::from(locked);
-            *answer = AnswerNumbers {
-                place: found.place,
-                reply: reply_numbers(found.reply),
-            };
-            if locked == end || !is_granted(&found.reply) {
-                return OK;
-            }
-            *made = 0;
-            *wait = AT_ONCE;
-            NOT_SERVED
-        }
-        NextOfPath::Starved => NO_MEMORY,
-        NextOfPath::Wait(before_next) => {
-            *made += 1;
-            *wait = wait_number(before_next);
-            NOT_SERVED
-        }
-    }
+    *level = u32::from(locked);
+    *answer = AnswerNumbers {
+        place: found.place,
+        reply: reply_numbers(found.reply),
+    };
+    locked != end && grants(&found.reply)
 }
 
 /// Makes turn number `made` on the way down a path of which `level` levels are locked, as `turn` makes a turn of one call: `turns` turns
@@ -168,7 +160,28 @@ pub(crate) fn path_turn(
         *wait = NO_TURN;
         return NOT_SERVED;
     }
-    let next = make_path_turn(share, &resource, wanted, locked, *made);
+    let end = resource.level();
+    let next = make_path_turn(share, resource, wanted, locked, *made);
     *told = share.told.sessions().len();
-    write_next_of_path(next, resource.level(), level, made, answer, wait)
+    let goes_on = match next {
+        NextOfPath::Performed { level: now, row } => {
+            write_level(now, last_of(row), end, level, answer)
+        }
+        NextOfPath::Answered {
+            level: now,
+            answer: found,
+        } => write_level(now, found, end, level, answer),
+        NextOfPath::Starved => return NO_MEMORY,
+        NextOfPath::Wait(before_next) => {
+            *made += 1;
+            *wait = wait_number(before_next);
+            return NOT_SERVED;
+        }
+    };
+    if !goes_on {
+        return OK;
+    }
+    *made = 0;
+    *wait = AT_ONCE;
+    NOT_SERVED
 }

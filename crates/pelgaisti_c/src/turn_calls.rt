@@ -28,7 +28,7 @@ pub const NO_TURN: u32 = 0;
 pub const YIELD: u32 = u32::MAX;
 
 /// The number of a wait.
-fn wait_number(wait: Wait) -> u32
+pub(crate) fn wait_number(wait: Wait) -> u32
     ensures { result ≡ number_of_wait wait }
 {
     match wait {
@@ -66,7 +66,7 @@ fn write_next(next: Next<Reply>, answer: &mut AnswerNumbers, wait: &mut u32) -> 
 
 /// Forgets whom the last pass told of.
 #[inline(always)]
-fn forget_told(share: &mut SessionShare)
+pub(crate) fn forget_told(share: &mut SessionShare)
     ensures none { share.new.told.list ≡ [] }
     ensures session { share.new.session ≡ share.old.session }
     ensures same { IsSameOffice share.old share.new }
@@ -134,7 +134,7 @@ fn make_look(share: &mut SessionShare, looked: u64) -> Next<Reply>
 
 /// Publishes the call of a session that has none pending, and may make one.
 #[inline(never)]
-fn publish_last(share: &mut SessionShare, call: Call)
+pub(crate) fn publish_last(share: &mut SessionShare, call: Call)
     requires live { share.old.session.retired ≡ false }
     ensures published { share.old.session.pending ≡ None → IsCalling share.old.session share.new.session call }
     ensures same { share.old.session.pending ≢ None → share.new.session ≡ share.old.session }

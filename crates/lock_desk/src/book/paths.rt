@@ -24,7 +24,7 @@ pub struct PathLocked {
 
 /// The call that locks level `level` of the path to `resource`: the resource itself in `mode`, an ancestor in the mode that
 /// `mode` needs of a parent.
-fn lock_of_level(resource: &Resource, mode: Mode, level: u8) -> Call
+pub fn lock_of_level(resource: &Resource, mode: Mode, level: u8) -> Call
     requires some { 1 ≤ level }
     requires few { level ≤ length resource.now }
     ensures { result ≡ lock_of_level resource.now mode level }
@@ -42,8 +42,8 @@ fn lock_of_level(resource: &Resource, mode: Mode, level: u8) -> Call
     }
 }
 
-/// Whether the reply grants the lock.
-fn grants(reply: &Reply) -> bool
+/// Whether the reply grants a lock.
+pub fn grants(reply: &Reply) -> bool
     ensures { result ≡ grants reply.now }
 {
     matches!(reply, Reply::Granted(_))

@@ -1,0 +1,73 @@
+//! The export of one turn of a session on the way down a path.
+
+ghost use Rattle.std.specs.Prelude.{◌≡◌, ◌≢◌, ◌+◌, ◌<◌, ◌≤◌, ◌⊎◌, ◌↔◌, ℕ, true, Some, None, List};
+ghost use Rattle.lock_modes.specs.declared.Mode.{Mode};
+ghost use Rattle.pelgaisti_c.specs.Numbers.{IsModeCode};
+ghost use Rattle.pelgaisti_c.specs.Paths.{HasLevelBehind};
+ghost use Rattle.pelgaisti_c.specs.Sessions.{AreToWake};
+ghost use Rattle.pelgaisti_c.specs.PathTurns.{IsWayDown, IsPathEnded, HasPathLeft, IsPathLate, IsPathStarved};
+ghost use Rattle.pelgaisti_c.specs.declared.session_share.SessionShare.{SessionShare};
+
+use crate::numbers::{AnswerNumbers, ResourceNumbers};
+use crate::path_turn_calls;
+use crate::session_handle::SessionHandle;
+use crate::status::{
+    CLOSED, NO_MEMORY, NO_SUCH_LEVEL, NO_SUCH_MODE, NOT_SERVED, OK, PENDING, RETIRED,
+};
+use std::alloc::Global;
+
+/// Makes one turn on the way down a path: the ancestors of the resource, from the database down, in the mode that `mode` needs of a parent,
+/// and then the resource in `mode`. Of the path `level` levels are locked already, and of the turns for the next level, which are `turns` at
+/// most, `made` were made. A session with no call pending tries to lock all the rest in one taking of the lock table, in the first 32 turns,
+/// and publishes the call for the next level in the next; one with that call pending serves, at every eighth turn, and looks for the answer.
+///
+/// OK: the path is locked, or the last reply doesn't grant its lock. NOT_SERVED: `wait` says what to do before the next turn, as with
+/// `pelgaisti_raw_session_turn`, and `made` is one more; or levels were locked and others are left: `made` is 0, and `wait` is 1. If no turn
+/// is left, the call for the next level is pending. NO_MEMORY: that call is pending, as memory was refused. `level` is raised by 1 for each
+/// level that is granted, and `answer` is that of the last call that was answered in the turn. Writes how many sessions the office's waker is
+/// to wake after the turn to `told`.
+#[unsafe(no_mangle)]
+pub extern "C" fn pelgaisti_raw_session_path_turn(
+    alloc: Global,
+    session: &mut SessionHandle,
+    resource: &ResourceNumbers,
+    mode: u32,
+    level: &mut u32,
+    made: &mut u64,
+    turns: u64,
+    answer: &mut AnswerNumbers,
+    wait: &mut u32,
+    told: &mut usize,
+) -> u32
+    ensures ok { result ≡ OK → (before after : SessionShare) × (session.old.held.share ≡ Some before) × (session.new.held.share ≡ Some after)
+        × IsPathEnded resource.now mode before after level.old level.new answer.new }
+    ensures memory { result ≡ NO_MEMORY → (before after : SessionShare) × (session.old.held.share ≡ Some before) × (session.new.held.share ≡ Some after)
+        × IsPathStarved resource.now mode before after level.old }
+    ensures late { result ≡ NOT_SERVED → (before after : SessionShare) × (session.old.held.share ≡ Some before) × (session.new.held.share ≡ Some after)
+        × (HasPathLeft resource.now mode before after level.old level.new answer.new made.new wait.new
+        ⊎ (IsPathLate resource.now mode before after level.old made.old turns wait.new × (level.new ≡ level.old) × (answer.new ≡ answer.old)
+        × (made.old < turns → made.new ≡ made.old + 1) × (turns ≤ made.old → made.new ≡ made.old))) }
+    ensures told { (result ≡ OK) ⊎ ((result ≡ NO_MEMORY) ⊎ (result ≡ NOT_SERVED)) → (before after : SessionShare) × (session.old.held.share ≡ Some before) × (session.new.held.share ≡ Some after)
+        × AreToWake before after told.new }
+    ensures first { (result ≡ OK) ⊎ ((result ≡ NO_MEMORY) ⊎ (result ≡ NOT_SERVED)) → made.old ≡ 0 → (share : SessionShare) × (session.old.held.share ≡ Some share) × (share.session.pending ≡ None) }
+    ensures failed { result ≢ OK → result ≢ NOT_SERVED → (level.new ≡ level.old) × (answer.new ≡ answer.old) × (made.new ≡ made.old) × (wait.new ≡ wait.old) }
+    ensures same { result ≢ OK → result ≢ NO_MEMORY → result ≢ NOT_SERVED → (session.new.held.share ≡ session.old.held.share) × (told.new ≡ told.old) }
+    ensures open { session.new.is_open ≡ session.old.is_open }
+    ensures closed { result ≡ CLOSED ↔ (session.old.is_open ≢ 1) }
+    ensures level { result ≡ NO_SUCH_LEVEL → (session.old.is_open ≡ 1) × ¬ (HasLevelBehind resource.now level.old) }
+    ensures mode { result ≡ NO_SUCH_MODE → (session.old.is_open ≡ 1) × HasLevelBehind resource.now level.old × ¬ (IsModeCode mode) }
+    ensures retired { result ≡ RETIRED → (share : SessionShare) × (session.old.held.share ≡ Some share) × (share.session.retired ≡ true)
+        × ((r : List ℕ) × (m : Mode) × IsWayDown resource.now mode level.old r m) }
+    ensures pending { result ≡ PENDING → (made.old ≡ 0) × ((share : SessionShare) × (session.old.held.share ≡ Some share) × (share.session.pending ≢ None)
+        × ((r : List ℕ) × (m : Mode) × IsWayDown resource.now mode level.old r m)) }
+    ensures statuses { (result ≡ OK) ⊎ ((result ≡ CLOSED) ⊎ ((result ≡ NO_SUCH_LEVEL) ⊎ ((result ≡ NO_SUCH_MODE) ⊎ ((result ≡ RETIRED) ⊎ ((result ≡ PENDING) ⊎ ((result ≡ NO_MEMORY) ⊎ (result ≡ NOT_SERVED))))))) }
+{
+    let Some(mut share) = session.take(alloc) else {
+        return CLOSED;
+    };
+    let status = path_turn_calls::path_turn(
+        &mut share, resource, mode, level, made, turns, answer, wait, told,
+    );
+    session.put(share);
+    status
+}
