@@ -5,4 +5,6 @@ pub mod Writing
 pub mod Handles
 pub mod Batches
 pub mod Starved
+pub mod Blockers
 pub mod SameOffice
+pub mod PathTurns

@@ -16,11 +16,9 @@ use Rattle.pelgaisti_c.specs.Numbers.{IsPath, numbers_of_reply}
 use Rattle.pelgaisti_c.specs.Sessions.{IsSameOffice}
 use Rattle.pelgaisti_c.specs.Turns.{IsCallStarved, IsCallLate}
 
--- the numbers encode the path to resource r, which has levels behind this one, and mode m
-pub record IsWayDown (path : ResourceNumbers) (mode level : ℕ) (r : List ℕ) (m : Mode) : Type 0 where
-  pub path_is : IsPath path r
-  pub mode_is : mode ≡ code_of m
-  pub rest : level < length r
+-- the numbers encode the path to resource r, which has levels behind this one
+abbrev pub IsRestOf : ResourceNumbers → ℕ → List ℕ → Type 0
+IsRestOf path level r = IsPath path r × (level < length r)
 
 -- the session, which had no call pending, performed calls that lock the rest of the path in one taking of the lock table, behind level
 -- `locked`, and down to level `level`. The last of them has this place and this reply
@@ -45,21 +43,18 @@ pub record HasGoneDown (r : List ℕ) (m : Mode) (before after : SessionShare) (
   pub office : IsSameOffice before after
 
 -- so the session has come to the end of its way: the path is locked, or the last reply doesn't grant its lock
-abbrev pub IsPathEnded : ResourceNumbers → ℕ → SessionShare → SessionShare → ℕ → ℕ → AnswerNumbers → Type 0
-IsPathEnded path mode before after level levels answer = (r : List ℕ) × (m : Mode) × IsWayDown path mode level r m
-    × ((reply : Reply) × HasGoneDown r m before after level levels answer reply × ((levels ≡ length r) ⊎ (grants reply ≡ false)))
+abbrev pub IsPathEnded : List ℕ → ℕ → SessionShare → SessionShare → ℕ → ℕ → AnswerNumbers → Type 0
+IsPathEnded r mode before after level levels answer = (m : Mode) × (reply : Reply) × (mode ≡ code_of m)
+    × HasGoneDown r m before after level levels answer reply × ((levels ≡ length r) ⊎ (grants reply ≡ false))
 
 -- the session goes on with the next level at once, behind no turns: the last reply has granted its lock, and levels are left
-abbrev pub HasPathLeft : ResourceNumbers → ℕ → SessionShare → SessionShare → ℕ → ℕ → AnswerNumbers → ℕ → ℕ → Type 0
-HasPathLeft path mode before after level levels answer made number = (r : List ℕ) × (m : Mode) × IsWayDown path mode level r m
-    × ((reply : Reply) × HasGoneDown r m before after level levels answer reply × (levels ≢ length r) × (grants reply ≡ true))
-    × (made ≡ 0) × (number ≡ AT_ONCE)
+abbrev pub HasPathLeft : List ℕ → ℕ → SessionShare → SessionShare → ℕ → ℕ → AnswerNumbers → ℕ → ℕ → Type 0
+HasPathLeft r mode before after level levels answer made number = (m : Mode) × (reply : Reply) × (mode ≡ code_of m)
+    × HasGoneDown r m before after level levels answer reply × (levels ≢ length r) × (grants reply ≡ true) × (made ≡ 0) × (number ≡ AT_ONCE)
 
--- no call was answered: so it is of a turn of the call that locks the next level
-abbrev pub IsPathLate : ResourceNumbers → ℕ → SessionShare → SessionShare → ℕ → ℕ → ℕ → ℕ → Type 0
-IsPathLate path mode before after level made turns number = (r : List ℕ) × (m : Mode) × IsWayDown path mode level r m
-    × IsCallLate before after (lock_of_level r m (level + 1)) made turns number
+-- no call was answered: as of a turn of the call that locks the next level
+abbrev pub IsPathLate : List ℕ → ℕ → SessionShare → SessionShare → ℕ → ℕ → ℕ → ℕ → Type 0
+IsPathLate r mode before after level made turns number = (m : Mode) × (mode ≡ code_of m) × IsCallLate before after (lock_of_level r m (level + 1)) made turns number
 
-abbrev pub IsPathStarved : ResourceNumbers → ℕ → SessionShare → SessionShare → ℕ → Type 0
-IsPathStarved path mode before after level = (r : List ℕ) × (m : Mode) × IsWayDown path mode level r m
-    × IsCallStarved before after (lock_of_level r m (level + 1))
+abbrev pub IsPathStarved : List ℕ → ℕ → SessionShare → SessionShare → ℕ → Type 0
+IsPathStarved r mode before after level = (m : Mode) × (mode ≡ code_of m) × IsCallStarved before after (lock_of_level r m (level + 1))

@@ -1,7 +1,6 @@
 //! One turn of a session on the way down a path, in numbers, on the share that a handle holds.
 
-ghost use Rattle.std.specs.Prelude.{◌≡◌, ◌≢◌, ◌+◌, ◌<◌, ◌≤◌, ◌⊎◌, ◌↔◌, ℕ, if◌then◌else◌, [], true, false, None, Some, List, length};
-ghost use Rattle.lock_modes.specs.declared.Mode.{Mode as ModeValue};
+ghost use Rattle.std.specs.Prelude.{◌≡◌, ◌≢◌, ◌+◌, ◌<◌, ◌≤◌, ◌⊎◌, ℕ, if◌then◌else◌, [], true, false, None, Some, length};
 ghost use Rattle.combining.specs.Calls.{IsCalled, IsCalling, IsAnswered, IsWaitingOn};
 ghost use Rattle.combining.specs.Ended.{entered_since};
 ghost use Rattle.combining.specs.Waits.{IsWaitAfterTry, IsWaitAfterLook};
@@ -12,15 +11,11 @@ ghost use Rattle.lock_desk.specs.Paths.{lock_of_level, grants};
 ghost use Rattle.lock_office.specs.Paths.{IsPathPerformed, level_behind};
 ghost use Rattle.pelgaisti_c.specs.Numbers.{IsModeCode, numbers_of_reply};
 ghost use Rattle.pelgaisti_c.specs.Sessions.{IsSameOffice, AreToWake};
-ghost use Rattle.pelgaisti_c.specs.Paths.{HasLevelBehind};
-ghost use Rattle.pelgaisti_c.specs.PathTurns.{IsWayDown, IsPathEnded, HasPathLeft, IsPathLate, IsPathStarved};
+ghost use Rattle.pelgaisti_c.specs.PathTurns.{IsPathEnded, HasPathLeft, IsPathLate, IsPathStarved};
 
-use crate::numbers::{AnswerNumbers, ResourceNumbers, read_mode, reply_numbers};
-use crate::path_calls::read_path;
+use crate::numbers::{AnswerNumbers, read_mode, reply_numbers};
 use crate::session_share::SessionShare;
-use crate::status::{
-    NO_MEMORY, NO_SUCH_LEVEL, NO_SUCH_MODE, NOT_SERVED, OK, PENDING, RETIRED,
-};
+use crate::status::{NO_MEMORY, NO_SUCH_MODE, NOT_SERVED, OK, PENDING, RETIRED};
 use crate::turn_calls::{NO_TURN, forget_told, publish_last, wait_number};
 use combining::{Nobody, TRIES_AT_ONCE};
 use lock_desk::{Mode, Resource, grants, lock_of_level};
@@ -116,7 +111,7 @@ fn write_level(
 /// are left then, the next turn is the first again, and to be made at once.
 pub(crate) fn path_turn(
     share: &mut SessionShare,
-    path: &ResourceNumbers,
+    resource: Resource,
     mode: u32,
     level: &mut u32,
     made: &mut u64,
@@ -125,24 +120,21 @@ pub(crate) fn path_turn(
     wait: &mut u32,
     told: &mut usize,
 ) -> u32
-    ensures ok { result ≡ OK → IsPathEnded path.now mode share.old share.new level.old level.new answer.new }
-    ensures memory { result ≡ NO_MEMORY → IsPathStarved path.now mode share.old share.new level.old }
-    ensures late { result ≡ NOT_SERVED → HasPathLeft path.now mode share.old share.new level.old level.new answer.new made.new wait.new
-        ⊎ (IsPathLate path.now mode share.old share.new level.old made.old turns wait.new × (level.new ≡ level.old) × (answer.new ≡ answer.old)
+    requires rest { level.old < length resource }
+    ensures ok { result ≡ OK → IsPathEnded resource mode share.old share.new level.old level.new answer.new }
+    ensures memory { result ≡ NO_MEMORY → IsPathStarved resource mode share.old share.new level.old }
+    ensures late { result ≡ NOT_SERVED → HasPathLeft resource mode share.old share.new level.old level.new answer.new made.new wait.new
+        ⊎ (IsPathLate resource mode share.old share.new level.old made.old turns wait.new × (level.new ≡ level.old) × (answer.new ≡ answer.old)
         × (made.old < turns → made.new ≡ made.old + 1) × (turns ≤ made.old → made.new ≡ made.old)) }
     ensures told { (result ≡ OK) ⊎ ((result ≡ NO_MEMORY) ⊎ (result ≡ NOT_SERVED)) → AreToWake share.old share.new told.new }
     ensures first { (result ≡ OK) ⊎ ((result ≡ NO_MEMORY) ⊎ (result ≡ NOT_SERVED)) → made.old ≡ 0 → share.old.session.pending ≡ None }
     ensures failed { result ≢ OK → result ≢ NOT_SERVED → (level.new ≡ level.old) × (answer.new ≡ answer.old) × (made.new ≡ made.old) × (wait.new ≡ wait.old) }
     ensures same { result ≢ OK → result ≢ NO_MEMORY → result ≢ NOT_SERVED → (share.new ≡ share.old) × (told.new ≡ told.old) }
-    ensures level { result ≡ NO_SUCH_LEVEL ↔ ¬ (HasLevelBehind path.now level.old) }
-    ensures mode { result ≡ NO_SUCH_MODE → HasLevelBehind path.now level.old × ¬ (IsModeCode mode) }
-    ensures retired { result ≡ RETIRED → (share.old.session.retired ≡ true) × ((r : List ℕ) × (m : ModeValue) × IsWayDown path.now mode level.old r m) }
-    ensures pending { result ≡ PENDING → (made.old ≡ 0) × (share.old.session.pending ≢ None) × ((r : List ℕ) × (m : ModeValue) × IsWayDown path.now mode level.old r m) }
-    ensures statuses { (result ≡ OK) ⊎ ((result ≡ NO_SUCH_LEVEL) ⊎ ((result ≡ NO_SUCH_MODE) ⊎ ((result ≡ RETIRED) ⊎ ((result ≡ PENDING) ⊎ ((result ≡ NO_MEMORY) ⊎ (result ≡ NOT_SERVED)))))) }
+    ensures mode { result ≡ NO_SUCH_MODE → ¬ (IsModeCode mode) }
+    ensures retired { result ≡ RETIRED → (share.old.session.retired ≡ true) × IsModeCode mode }
+    ensures pending { result ≡ PENDING → (made.old ≡ 0) × (share.old.session.pending ≢ None) × IsModeCode mode }
+    ensures statuses { (result ≡ OK) ⊎ ((result ≡ NO_SUCH_MODE) ⊎ ((result ≡ RETIRED) ⊎ ((result ≡ PENDING) ⊎ ((result ≡ NO_MEMORY) ⊎ (result ≡ NOT_SERVED))))) }
 {
-    let Some(resource) = read_path(path, *level) else {
-        return NO_SUCH_LEVEL;
-    };
     let Some(wanted) = read_mode(mode) else {
         return NO_SUCH_MODE;
     };

@@ -1,14 +1,14 @@
 //! The export of one turn of a session on the way down a path.
 
 ghost use Rattle.std.specs.Prelude.{◌≡◌, ◌≢◌, ◌+◌, ◌<◌, ◌≤◌, ◌⊎◌, ◌↔◌, ℕ, true, Some, None, List};
-ghost use Rattle.lock_modes.specs.declared.Mode.{Mode};
 ghost use Rattle.pelgaisti_c.specs.Numbers.{IsModeCode};
 ghost use Rattle.pelgaisti_c.specs.Paths.{HasLevelBehind};
 ghost use Rattle.pelgaisti_c.specs.Sessions.{AreToWake};
-ghost use Rattle.pelgaisti_c.specs.PathTurns.{IsWayDown, IsPathEnded, HasPathLeft, IsPathLate, IsPathStarved};
+ghost use Rattle.pelgaisti_c.specs.PathTurns.{IsRestOf, IsPathEnded, HasPathLeft, IsPathLate, IsPathStarved};
 ghost use Rattle.pelgaisti_c.specs.declared.session_share.SessionShare.{SessionShare};
 
 use crate::numbers::{AnswerNumbers, ResourceNumbers};
+use crate::path_calls::read_path;
 use crate::path_turn_calls;
 use crate::session_handle::SessionHandle;
 use crate::status::{
@@ -39,34 +39,35 @@ pub extern "C" fn pelgaisti_raw_session_path_turn(
     wait: &mut u32,
     told: &mut usize,
 ) -> u32
-    ensures ok { result ≡ OK → (before after : SessionShare) × (session.old.held.share ≡ Some before) × (session.new.held.share ≡ Some after)
-        × IsPathEnded resource.now mode before after level.old level.new answer.new }
-    ensures memory { result ≡ NO_MEMORY → (before after : SessionShare) × (session.old.held.share ≡ Some before) × (session.new.held.share ≡ Some after)
-        × IsPathStarved resource.now mode before after level.old }
-    ensures late { result ≡ NOT_SERVED → (before after : SessionShare) × (session.old.held.share ≡ Some before) × (session.new.held.share ≡ Some after)
-        × (HasPathLeft resource.now mode before after level.old level.new answer.new made.new wait.new
-        ⊎ (IsPathLate resource.now mode before after level.old made.old turns wait.new × (level.new ≡ level.old) × (answer.new ≡ answer.old)
-        × (made.old < turns → made.new ≡ made.old + 1) × (turns ≤ made.old → made.new ≡ made.old))) }
+    ensures ok { result ≡ OK → (r : List ℕ) × IsRestOf resource.now level.old r × ((before after : SessionShare) × (session.old.held.share ≡ Some before) × (session.new.held.share ≡ Some after)
+        × IsPathEnded r mode before after level.old level.new answer.new) }
+    ensures memory { result ≡ NO_MEMORY → (r : List ℕ) × IsRestOf resource.now level.old r × ((before after : SessionShare) × (session.old.held.share ≡ Some before) × (session.new.held.share ≡ Some after)
+        × IsPathStarved r mode before after level.old) }
+    ensures late { result ≡ NOT_SERVED → (r : List ℕ) × IsRestOf resource.now level.old r × ((before after : SessionShare) × (session.old.held.share ≡ Some before) × (session.new.held.share ≡ Some after)
+        × (HasPathLeft r mode before after level.old level.new answer.new made.new wait.new
+        ⊎ (IsPathLate r mode before after level.old made.old turns wait.new × (level.new ≡ level.old) × (answer.new ≡ answer.old)
+        × (made.old < turns → made.new ≡ made.old + 1) × (turns ≤ made.old → made.new ≡ made.old)))) }
     ensures told { (result ≡ OK) ⊎ ((result ≡ NO_MEMORY) ⊎ (result ≡ NOT_SERVED)) → (before after : SessionShare) × (session.old.held.share ≡ Some before) × (session.new.held.share ≡ Some after)
         × AreToWake before after told.new }
     ensures first { (result ≡ OK) ⊎ ((result ≡ NO_MEMORY) ⊎ (result ≡ NOT_SERVED)) → made.old ≡ 0 → (share : SessionShare) × (session.old.held.share ≡ Some share) × (share.session.pending ≡ None) }
     ensures failed { result ≢ OK → result ≢ NOT_SERVED → (level.new ≡ level.old) × (answer.new ≡ answer.old) × (made.new ≡ made.old) × (wait.new ≡ wait.old) }
     ensures same { result ≢ OK → result ≢ NO_MEMORY → result ≢ NOT_SERVED → (session.new.held.share ≡ session.old.held.share) × (told.new ≡ told.old) }
     ensures open { session.new.is_open ≡ session.old.is_open }
-    ensures closed { result ≡ CLOSED ↔ (session.old.is_open ≢ 1) }
-    ensures level { result ≡ NO_SUCH_LEVEL → (session.old.is_open ≡ 1) × ¬ (HasLevelBehind resource.now level.old) }
-    ensures mode { result ≡ NO_SUCH_MODE → (session.old.is_open ≡ 1) × HasLevelBehind resource.now level.old × ¬ (IsModeCode mode) }
-    ensures retired { result ≡ RETIRED → (share : SessionShare) × (session.old.held.share ≡ Some share) × (share.session.retired ≡ true)
-        × ((r : List ℕ) × (m : Mode) × IsWayDown resource.now mode level.old r m) }
-    ensures pending { result ≡ PENDING → (made.old ≡ 0) × ((share : SessionShare) × (session.old.held.share ≡ Some share) × (share.session.pending ≢ None)
-        × ((r : List ℕ) × (m : Mode) × IsWayDown resource.now mode level.old r m)) }
+    ensures level { result ≡ NO_SUCH_LEVEL ↔ ¬ (HasLevelBehind resource.now level.old) }
+    ensures closed { result ≡ CLOSED ↔ (HasLevelBehind resource.now level.old × (session.old.is_open ≢ 1)) }
+    ensures mode { result ≡ NO_SUCH_MODE → (session.old.is_open ≡ 1) × ¬ (IsModeCode mode) }
+    ensures retired { result ≡ RETIRED → IsModeCode mode × ((share : SessionShare) × (session.old.held.share ≡ Some share) × (share.session.retired ≡ true)) }
+    ensures pending { result ≡ PENDING → (made.old ≡ 0) × IsModeCode mode × ((share : SessionShare) × (session.old.held.share ≡ Some share) × (share.session.pending ≢ None)) }
     ensures statuses { (result ≡ OK) ⊎ ((result ≡ CLOSED) ⊎ ((result ≡ NO_SUCH_LEVEL) ⊎ ((result ≡ NO_SUCH_MODE) ⊎ ((result ≡ RETIRED) ⊎ ((result ≡ PENDING) ⊎ ((result ≡ NO_MEMORY) ⊎ (result ≡ NOT_SERVED))))))) }
 {
+    let Some(path) = read_path(resource, *level) else {
+        return NO_SUCH_LEVEL;
+    };
     let Some(mut share) = session.take(alloc) else {
         return CLOSED;
     };
     let status = path_turn_calls::path_turn(
-        &mut share, resource, mode, level, made, turns, answer, wait, told,
+        &mut share, path, mode, level, made, turns, answer, wait, told,
     );
     session.put(share);
     status

@@ -1,0 +1,123 @@
+use Rattle.std.proofs.Common.{◌≡◌, ◌∙◌, ℕ, inl, inr, ⊎_elim, None, ap, sym, refl, subst, arith}
+use Rattle.lock_board.specs.LockBoards.{TicketView}
+use Rattle.combining.specs.Calls.{IsCalling, IsWaitingOn}
+use Rattle.lock_desk.specs.Paths.{lock_of_level}
+use Rattle.pelgaisti_c.specs.declared.numbers.AnswerNumbers.{AnswerNumbers}
+use Rattle.pelgaisti_c.proofs.SameOffice.{same-trans}
+use Rattle.pelgaisti_c.proofs.PathTurns.{no-last, gone-performed, gone-answered}
+use Rattle.pelgaisti_c.proofs.path_turn_calls.path_turn.Goals.{in-Performed, in-Answered}
+use Rattle.pelgaisti_c.proofs.path_turn_calls.path_turn.Goals as goal
+
+pub last_of-requires : goal.last_of-requires
+last_of-requires c = record {
+  some = λ none. let p = c.make_path_turn-next.ensures.performed c.in-Performed.now c.in-Performed.row c.in-Performed.is in
+      let of = p.3.1.row_is.entries_are in
+      let count = of.count in
+      let some = p.1 in
+      let zero = no-last _ _ of.earlier p.3.1.own c.in-Performed.row.last of.last_is none in
+      omega (arith, count, some, zero);
+}
+
+pub returns-in-Wait-clause-late : goal.returns-in-Wait-clause-late
+returns-in-Wait-clause-late c = λ e.
+    let made = c.make_path_turn-next in
+    let after = made.new.share in
+    let forgot = c.forget_told in
+    let back = forgot.ensures.session in
+    let wait = c.in-Wait.before_next in
+    let number = c.wait_number.ensures in
+    let many = forgot.ensures.same.sessions in inr (
+      (
+        c.in-Some.wanted,
+        c.in-Some.ensures.some,
+        record {
+          tried = λ left none few. let r = made.ensures.tried wait c.in-Wait.is (ap (λ (t : TicketView). t.pending) back ∙ none) few in
+              (r.0 ∙ back, (let some = r.1 in omega (arith, some, many)), (wait, r.2, number));
+          published = λ left none much. let r = made.ensures.published wait c.in-Wait.is (ap (λ (t : TicketView). t.pending) back ∙ none) much in
+              (subst (λ (t : TicketView). IsCalling t after.session (lock_of_level c.args.resource c.in-Some.wanted (c.args.level.now + 1))) back r.0, (let some = r.1 in omega (arith, some, many)), (wait, r.2, number));
+          waits = λ left some. let r = made.ensures.waits wait c.in-Wait.is (λ none. some (sym (ap (λ (t : TicketView). t.pending) back) ∙ none)) in
+              (subst (λ (t : TicketView). IsWaitingOn t after.session) back r.0, (wait, r.1, number));
+          last = λ over. absurd (let left = c.if-made-turns.false in omega (arith, left, over));
+          office = same-trans c.args.share.now forgot.new.share after forgot.ensures.same made.ensures.same;
+        },
+      ),
+      refl,
+      refl,
+      (λ _. refl),
+      (λ over. absurd (let left = c.if-made-turns.false in omega (arith, left, over))),
+    )
+
+pub returns-then-not-goes_on-clause-ok : goal.returns-then-not-goes_on-clause-ok
+returns-then-not-goes_on-clause-ok c = λ e.
+    let made = c.make_path_turn-next in
+    let forgot = c.forget_told in
+    let end = c.level-end.ensures in
+    elim c.match-next.branch [
+      | in-Performed w ↦
+          let wrote = w.write_level-goes_on in
+          let p = made.ensures.performed w.in-Performed.now w.in-Performed.row w.in-Performed.is in (
+            c.in-Some.wanted,
+            w.last_of.result.reply,
+            c.in-Some.ensures.some,
+            gone-performed c.args.resource c.in-Some.wanted c.args.share.now forgot.new.share made.new.share c.args.level.now forgot.ensures.session forgot.ensures.same made.ensures.same
+            (made.ensures.idle w.in-Performed.now w.in-Performed.row w.in-Performed.is) c.match-next.level w.in-Performed.now c.match-next.answer w.last_of.result (w.level-is ∙ wrote.ensures.level)
+            (ap (λ (a : AnswerNumbers). a.place) w.answer-is ∙ wrote.ensures.answer.0) (ap (λ (a : AnswerNumbers). a.reply) w.answer-is ∙ wrote.ensures.answer.1)
+            w.in-Performed.row p.0 p.2 p.3 w.last_of.ensures,
+            ⊎_elim (λ last. inl (let level = w.level-is ∙ wrote.ensures.level in omega (arith, level, last, end))) (λ stopped. inr stopped) (wrote.ensures.ended (sym w.goes_on-is ∙ c.if-not-goes_on.true)),
+          )
+      | in-Answered w ↦
+          let wrote = w.write_level-goes_on-in-Answered in
+          let now = w.in-Answered.now in
+          let found = w.in-Answered.found in
+          let is = w.in-Answered.is in (
+            c.in-Some.wanted,
+            found.reply,
+            c.in-Some.ensures.some,
+            gone-answered c.args.resource c.in-Some.wanted c.args.share.now forgot.new.share made.new.share c.args.level.now forgot.ensures.session forgot.ensures.same made.ensures.same
+            (made.ensures.idle_answered now found is) c.match-next.level now c.match-next.answer found (w.level-is ∙ wrote.ensures.level)
+            (ap (λ (a : AnswerNumbers). a.place) w.answer-is ∙ wrote.ensures.answer.0) (ap (λ (a : AnswerNumbers). a.reply) w.answer-is ∙ wrote.ensures.answer.1)
+            (made.ensures.called now found is) (made.ensures.answered now found is) (made.ensures.level now found is),
+            ⊎_elim (λ last. inl (let level = w.level-is ∙ wrote.ensures.level in omega (arith, level, last, end))) (λ stopped. inr stopped) (wrote.ensures.ended (sym w.goes_on-is ∙ c.if-not-goes_on.true)),
+          )
+    ]
+
+pub returns-clause-late : goal.returns-clause-late
+returns-clause-late c = λ e.
+    let made = c.make_path_turn-next in
+    let forgot = c.forget_told in
+    let end = c.level-end.ensures in inl (elim c.match-next.branch [
+      | in-Performed w ↦
+          let wrote = w.write_level-goes_on in
+          let p = made.ensures.performed w.in-Performed.now w.in-Performed.row w.in-Performed.is in
+          let on = wrote.ensures.on (sym w.goes_on-is ∙ c.if-not-goes_on.false) in (
+            c.in-Some.wanted,
+            w.last_of.result.reply,
+            c.in-Some.ensures.some,
+            gone-performed c.args.resource c.in-Some.wanted c.args.share.now forgot.new.share made.new.share c.args.level.now forgot.ensures.session forgot.ensures.same made.ensures.same
+            (made.ensures.idle w.in-Performed.now w.in-Performed.row w.in-Performed.is) c.match-next.level w.in-Performed.now c.match-next.answer w.last_of.result (w.level-is ∙ wrote.ensures.level)
+            (ap (λ (a : AnswerNumbers). a.place) w.answer-is ∙ wrote.ensures.answer.0) (ap (λ (a : AnswerNumbers). a.reply) w.answer-is ∙ wrote.ensures.answer.1)
+            w.in-Performed.row p.0 p.2 p.3 w.last_of.ensures,
+            (λ last. on.0 (let level = w.level-is ∙ wrote.ensures.level in omega (arith, level, last, end))),
+            on.1,
+            refl,
+            refl,
+          )
+      | in-Answered w ↦
+          let wrote = w.write_level-goes_on-in-Answered in
+          let now = w.in-Answered.now in
+          let found = w.in-Answered.found in
+          let is = w.in-Answered.is in
+          let on = wrote.ensures.on (sym w.goes_on-is ∙ c.if-not-goes_on.false) in (
+            c.in-Some.wanted,
+            found.reply,
+            c.in-Some.ensures.some,
+            gone-answered c.args.resource c.in-Some.wanted c.args.share.now forgot.new.share made.new.share c.args.level.now forgot.ensures.session forgot.ensures.same made.ensures.same
+            (made.ensures.idle_answered now found is) c.match-next.level now c.match-next.answer found (w.level-is ∙ wrote.ensures.level)
+            (ap (λ (a : AnswerNumbers). a.place) w.answer-is ∙ wrote.ensures.answer.0) (ap (λ (a : AnswerNumbers). a.reply) w.answer-is ∙ wrote.ensures.answer.1)
+            (made.ensures.called now found is) (made.ensures.answered now found is) (made.ensures.level now found is),
+            (λ last. on.0 (let level = w.level-is ∙ wrote.ensures.level in omega (arith, level, last, end))),
+            on.1,
+            refl,
+            refl,
+          )
+    ])
