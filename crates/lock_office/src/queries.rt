@@ -11,7 +11,8 @@ ghost use Rattle.lock_rules.specs.Legal.{state_of};
 ghost use Rattle.lock_rules.specs.Listing.{listing_of, waiting_line};
 ghost use Rattle.publication.specs.Boards.{HasCallsOf};
 ghost use Rattle.lock_office.specs.Sessions.{IsSessionOf};
-ghost use Rattle.lock_office.specs.Queries.{HasLooked, blockers_among};
+ghost use Rattle.lock_desk.specs.Queries.{blockers_among};
+ghost use Rattle.lock_office.specs.Queries.{HasLooked};
 
 use crate::Office;
 use lock_board::Ticket as Session;

@@ -6,7 +6,8 @@ use Rattle.lock_rules.specs.State.{State, held_mode, mode_or_nothing, holders}
 use Rattle.lock_rules.specs.Waits.{waits_for}
 use Rattle.lock_rules.specs.Listing.{listing_of, waiting_line}
 use Rattle.publication.specs.Boards.{HasCallsOf}
-use Rattle.lock_office.specs.Queries.{HasLooked, blockers_among}
+use Rattle.lock_desk.specs.Queries.{blockers_among}
+use Rattle.lock_office.specs.Queries.{HasLooked}
 use Rattle.pelgaisti_c.specs.declared.claims.ClaimNumbers.{ClaimNumbers}
 use Rattle.pelgaisti_c.specs.declared.claims.TransactionNumbers.{TransactionNumbers}
 use Rattle.pelgaisti_c.specs.declared.numbers.HolderNumbers.{HolderNumbers}

@@ -1,7 +1,7 @@
 use Rattle.std.proofs.Common.{rules, ℕ, Bool}
 use Rattle.lock_rules.specs.Legal.{state_of}
 use Rattle.lock_rules.specs.Waits.{waits_for}
-use Rattle.lock_office.proofs.Blockers.{entered, skipped}
+use Rattle.lock_desk.proofs.Blockers.{entered, skipped}
 use Rattle.lock_office.proofs.queries.list_blockers.Goals as goal
 use Rattle.lock_office.proofs.queries.list_blockers.Goals.{then-waits_for, else-waits_for}
 

@@ -1,6 +1,6 @@
 use Rattle.std.proofs.Common.{◌≡◌, ◌≤◌, vec_len, vec_capacity}
 use Rattle.lock_rules.specs.Legal.{state_of}
-use Rattle.lock_office.specs.Queries.{blockers_among}
+use Rattle.lock_desk.specs.Queries.{blockers_among}
 use Rattle.lock_office.proofs.queries.list_blockers.Given as goal
 
 -- The sessions so far are listed, and there is room for all others.
