@@ -2,7 +2,8 @@
 //! its object.
 //!
 //! Sessions publish, serve and collect by the calls of `combining`. `opening.rt` opens an office that lets go of its history,
-//! `queries.rt` has questions that a session asks of the lock table meanwhile, and `laws.rt` says what holds of locks.
+//! `paths.rt` locks a path in one taking of the lock table, `queries.rt` has questions that a session asks of the lock table meanwhile,
+//! and `laws.rt` says what holds of locks.
 //!
 //! Proved, beside what `combining` proves of any object: each reply is the one that the sequential lock manager gives at its
 //! place, no two transactions ever have incompatible access to a resource, no waits form a circle, and no wake-up is lost
@@ -11,14 +12,17 @@
 
 pub mod laws;
 mod opening;
+mod paths;
 pub mod queries;
 
 pub use combining::{
-    CloseFault, Ended, Nobody, OpenFault, Posted, Told, Turn, Wait, call, resume, turn,
+    CloseFault, Ended, GoesOn, Nobody, OpenFault, Posted, Told, Turn, Wait, call, resume, row_turn,
+    turn,
 };
 pub use lock_board::{Knowledge, Ticket as Session};
 use lock_desk::{Book, Entry, Reply};
 pub use opening::open_keeping;
+pub use paths::{NextOfPath, PathPerformed, WhileGranted, lock_path, path_turn};
 
 /// A lock table that threads share by reference, each with sessions of its own.
 pub type Office = combining::Office<Book>;
@@ -28,6 +32,15 @@ pub type Answer = combining::Answer<Reply>;
 
 /// The outcome of one call of `Office::perform`.
 pub type Performed = combining::Performed<Reply>;
+
+/// How far a row of calls came.
+pub type Row = combining::Row<Reply>;
+
+/// The outcome of one call of `Office::perform_row`.
+pub type PerformedRow = combining::PerformedRow<Reply>;
+
+/// The outcome of one turn of a row of calls.
+pub type NextOfRow = combining::NextOfRow<Reply>;
 
 /// The outcome of one turn of a call.
 pub type Next = combining::Next<Reply>;
