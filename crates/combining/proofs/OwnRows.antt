@@ -1,5 +1,5 @@
 -- A row of calls of the combiner's own: one call more, and its place behind a pass.
-use Rattle.std.proofs.Common.{◌≡◌, ℕ, ◌+◌, ◌<◌, ◌≤◌, Bool, true, false, Option, Some, List, [], ◌∷◌, ◌++◌, length, map, take, get_or, refl, sym, ap, ◌∙◌, subst, arith, append_assoc, length-append, eq-eqb, cond}
+use Rattle.std.proofs.Common.{◌≡◌, ℕ, ◌+◌, ◌<◌, Bool, true, false, Option, Some, List, [], ◌∷◌, ◌++◌, length, map, take, get_or, refl, sym, ap, ◌∙◌, subst, arith, append_assoc, length-append, eq-eqb, cond}
 use Rattle.std.proofs.lemmas.List.{map-append, take_more}
 use mathlib.Core.List.{IsPrefix}
 use Rattle.std.specs.List.{range_with_len}

@@ -1,5 +1,5 @@
-//! Tests of sequential objects: each call of the traits once with success, of a counter, a queue, a map and a book; a board and an
-//! office of a counter; calls and batches that are refused memory; and threads that share a counter, a queue and a map.
+//! Tests of sequential objects: each call of the traits once with success, of a counter, a queue, a map and a book; a board, an
+//! office and rows of calls of a counter; calls and batches that are refused memory; and threads that share a counter, a queue and a map.
 #![tactic(auto)]
 
 #[cfg(test)]
@@ -14,6 +14,8 @@ mod choices;
 mod offices;
 #[cfg(test)]
 mod refusals;
+#[cfg(test)]
+mod rows;
 #[cfg(test)]
 mod threads;
 #[cfg(test)]

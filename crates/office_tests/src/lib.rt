@@ -14,6 +14,8 @@ mod hearing;
 mod offices;
 pub mod own_office;
 #[cfg(test)]
+mod paths;
+#[cfg(test)]
 mod pieces;
 #[cfg(test)]
 mod telling;

@@ -1,4 +1,4 @@
-use Rattle.std.proofs.Common.{◌≡◌, ◌∙◌, ◌∷◌, List, get_or, ap, subst}
+use Rattle.std.proofs.Common.{◌≡◌, ◌∙◌, List, get_or, ap, subst}
 use Rattle.combining.specs.declared.office.Answer.{Answer}
 use Rattle.combining.specs.Calls.{IsCalled}
 use Rattle.combining.proofs.row_calling.row_turn.Goals as goal

@@ -1,4 +1,4 @@
-use Rattle.std.proofs.Common.{◌≡◌, ◌<◌, ◌∙◌, ◌∷◌, ℕ, List, get_or, inl, refl, ap, subst, arith}
+use Rattle.std.proofs.Common.{◌≡◌, ◌<◌, ◌∙◌, ℕ, List, get_or, inl, refl, ap, subst, arith}
 use Rattle.publication.specs.Views.{TicketView}
 use Rattle.combining.specs.declared.office.rows.Row.{Row}
 use Rattle.combining.specs.Calls.{IsCalling}

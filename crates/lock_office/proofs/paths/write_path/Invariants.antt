@@ -1,4 +1,4 @@
-use Rattle.std.proofs.Common.{◌≡◌, ◌+◌, ◌≤◌, length, map, take}
+use Rattle.std.proofs.Common.{◌≡◌, ◌+◌, map, take}
 use Rattle.std.specs.List.{range_with_len}
 use Rattle.lock_desk.specs.Paths.{lock_of_level}
 use Rattle.lock_office.proofs.paths.write_path.Given as goal
