@@ -31,20 +31,20 @@ static void *words_of(pelgaisti_session *session) {
 static COLD void note_use(void *handle) { __tsan_write8(handle); }
 
 /* What the archive does between these two, such as to free what another thread has allocated, is ordered by the archive. */
-static COLD void enter(void *handle, int order) {
+static COLD void begin_use(void *handle, int order) {
     note_use(handle);
     AnnotateIgnoreReadsBegin("pelgaisti", 0);
     if (order & RELEASES) __tsan_release(words_of(handle));
 }
 
-static COLD pelgaisti_status leave(void *handle, int order, uint32_t status) {
+static COLD pelgaisti_status end_use(void *handle, int order, uint32_t status) {
     if ((order & ACQUIRES) && status == PELGAISTI_OK) __tsan_acquire(words_of(handle));
     AnnotateIgnoreReadsEnd("pelgaisti", 0);
     return (pelgaisti_status)status;
 }
 
 /* The status of a call of the archive that uses the handle. */
-#define MADE(handle, order, call) (IS_WATCHED ? (enter(handle, order), leave(handle, order, call)) : (pelgaisti_status)(call))
+#define MADE(handle, order, call) (IS_WATCHED ? (begin_use(handle, order), end_use(handle, order, call)) : (pelgaisti_status)(call))
 #define ASKED(handle, call) MADE(handle, ORDERS_NOTHING, call)
 
 /* What an export is given in place of NULL, for a list without room. */
