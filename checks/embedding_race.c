@@ -1,5 +1,5 @@
 /* Two threads write one number, each under a lock on a resource of its own: a race, which ThreadSanitizer has to report although the
-   header tells it what the calls order. Status 0 means that it didn't. */
+   archive tells it what the calls order. Status 0 means that it didn't. */
 #define _XOPEN_SOURCE 600
 #include "pelgaisti.h"
 #include <pthread.h>
