@@ -274,21 +274,49 @@ pelgaisti_status pelgaisti_session_collect(pelgaisti_session *session, pelgaisti
     return MADE(session, ACQUIRES, pelgaisti_raw_session_collect(session, answer));
 }
 
+/* A whole call, and what its last turn has written. It lies in memory, so that a call that is answered by its first turn saves no
+   registers. */
+struct whole_call {
+    pelgaisti_session *session;
+    const pelgaisti_call *call;
+    uint64_t turns;
+    pelgaisti_answer *answer;
+    size_t told;
+    uint32_t wait;
+};
+
+/* Makes one turn, behind `made` turns. */
+static inline __attribute__((always_inline)) pelgaisti_status make_turn(struct whole_call *it, uint64_t made) {
+    it->told = 0;
+    if (!it->call)
+        return MADE(it->session, ACQUIRES,
+                    pelgaisti_raw_session_look(it->session, made, it->turns, it->answer, &it->wait, &it->told));
+    return MADE(it->session, RELEASES | ACQUIRES,
+                pelgaisti_raw_session_turn(it->session, it->call, made, it->turns, it->answer, &it->wait, &it->told));
+}
+
+/* Goes on behind the first turn, which had this status. */
+static COLD pelgaisti_status go_on(struct whole_call *it, pelgaisti_status status) {
+    uint64_t made;
+    for (made = 1;; made++) {
+        if (it->told > 0) wake_told(it->session, it->told);
+        if (status != PELGAISTI_NOT_SERVED || it->wait == 0) return status;
+        wait_before_turn(it->wait);
+        status = make_turn(it, made);
+    }
+}
+
 pelgaisti_status pelgaisti_session_perform(pelgaisti_session *session, const pelgaisti_call *call, uint64_t turns,
                                            pelgaisti_answer *answer) {
+    struct whole_call it;
     pelgaisti_status status;
-    uint64_t made;
-    uint32_t wait = 0;
-    size_t told = 0;
     if (!session || !answer) return PELGAISTI_NULL;
-    for (made = 0;; made++) {
-        status = call ? MADE(session, RELEASES | ACQUIRES,
-                             pelgaisti_raw_session_turn(session, call, made, turns, answer, &wait, &told))
-                      : MADE(session, ACQUIRES, pelgaisti_raw_session_look(session, made, turns, answer, &wait, &told));
-        if (told > 0) wake_told(session, told);
-        if (status != PELGAISTI_NOT_SERVED || wait == 0) return status;
-        wait_before_turn(wait);
-    }
+    it.session = session;
+    it.call = call;
+    it.turns = turns;
+    it.answer = answer;
+    status = make_turn(&it, 0);
+    return status == PELGAISTI_OK && it.told == 0 ? status : go_on(&it, status);
 }
 
 pelgaisti_status pelgaisti_session_lock_path(pelgaisti_session *session, const pelgaisti_resource *resource, uint32_t mode,
