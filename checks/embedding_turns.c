@@ -1,5 +1,5 @@
-/* While one session makes a pass, which allocates, another makes a whole call in so many turns: each is counted by the yields between
-   them, the call is pending behind the last one, and its answer is there behind the pass. Link with
+/* While one session makes a pass, which allocates, another makes a whole call in so many turns, which are counted by the yields behind
+   them. The call is pending behind the last one, and its answer is there behind the pass. Link with
    -Wl,--wrap=malloc,--wrap=sched_yield. */
 #include "pelgaisti.h"
 #include <stdio.h>
@@ -38,12 +38,11 @@ int __wrap_sched_yield(void) {
     return __real_sched_yield();
 }
 
-/* Calls of so many turns, and how often the thread yields between them: between two tries behind the 16th, of 32 in all, and between
-   two looks behind each 64th. */
+/* Calls of so many turns, and how often the thread yields behind them: behind each try from the 17th to the 32nd, and behind each 64th
+   look. */
 static const struct { uint64_t turns; long yields; } calls[] = {
-    {0, 0}, {1, 0}, {2, 0}, {17, 0}, {18, 1}, {20, 3}, {21, 4}, {32, 15}, {33, 16}, {34, 16}, {64, 16}, {65, 17}, {129, 18}};
-static const struct { uint64_t turns; long yields; } looks[] = {
-    {0, 0}, {1, 0}, {63, 0}, {64, 0}, {65, 1}, {66, 1}, {128, 1}, {129, 2}};
+    {0, 0}, {1, 0}, {2, 0}, {16, 0}, {17, 1}, {20, 4}, {21, 5}, {32, 16}, {33, 16}, {34, 16}, {63, 16}, {64, 17}, {65, 17}, {128, 18}};
+static const struct { uint64_t turns; long yields; } looks[] = {{0, 0}, {1, 0}, {63, 0}, {64, 1}, {65, 1}, {127, 1}, {128, 2}};
 static uint64_t turns;
 static long wanted;
 

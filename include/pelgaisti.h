@@ -662,8 +662,8 @@ pelgaisti_status pelgaisti_office_close(pelgaisti_session *session, pelgaisti_bo
 
 /* Makes a whole call, in at most `turns` turns, between which the thread pauses or yields the processor. In the first 32 turns it tries
    to perform the call at once; in the next it publishes it, and from then on it serves, at every eighth turn, and looks for the
-   answer. If the call isn't published by the last turn, it is published then. With 0 turns it is published and nothing else. With
-   NULL for `call` all turns look for the answer to the call that is pending; with 0 turns none does.
+   answer. Behind the last turn the call is published, if it isn't yet. With 0 turns it is published and nothing else. With NULL for
+   `call` all turns look for the answer to the call that is pending; with 0 turns none does.
    The answer may be WAITING: this call waits for an answer, not for a lock. Whoever waits for a lock sleeps until the office's waker
    wakes it, and then polls. In an office without a waker it polls, and sleeps between two polls: 10 microseconds at first, and twice
    as long each time up to a millisecond.

@@ -43,10 +43,9 @@ uint32_t pelgaisti_raw_session_perform_at_once(pelgaisti_session *session, const
                                                pelgaisti_answer *answer, size_t *told);
 uint32_t pelgaisti_raw_session_perform_telling(pelgaisti_session *session, const pelgaisti_call *call, pelgaisti_pass *pass,
                                                pelgaisti_answer *answer, uint32_t *list, size_t room, size_t *count);
-/* One turn of a call, behind `made` turns, of at most `turns`. PENDING comes only if `made` is 0. `wait` and `told` are written with OK,
-   NO_MEMORY and NOT_SERVED. With NO_MEMORY the call is pending. With NOT_SERVED there is no answer yet, and `wait` says what to do
-   before the next turn: 0: no turn is left, and the call is pending; UINT32_MAX: yield the processor; else so many pause
-   instructions. */
+/* One turn of a call, behind `made` turns, of at most `turns`. PENDING comes only if `made` is 0. `told` is written with OK, NO_MEMORY and
+   NOT_SERVED. With NO_MEMORY the call is pending. With NOT_SERVED there is no answer yet, and `wait` is written: what to do before
+   the next turn; 0: no turn is left, and the call is pending; UINT32_MAX: yield the processor; else so many pause instructions. */
 uint32_t pelgaisti_raw_session_turn(pelgaisti_session *session, const pelgaisti_call *call, uint64_t made, uint64_t turns,
                                     pelgaisti_answer *answer, uint32_t *wait, size_t *told);
 /* The same of the call that is pending, behind `looked` turns. */
