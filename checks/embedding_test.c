@@ -1920,10 +1920,11 @@ static void *work_until_cancelled(void *argument) {
         }
         j->bad += call_and_wake(j, PELGAISTI_BEGIN, 0) != PELGAISTI_BEGAN;
         pthread_testcancel();
-        j->bad += call_and_wake(j, PELGAISTI_LOCK, 1 + j->number) != PELGAISTI_GRANTED;
+        j->bad += call_and_wake(j, PELGAISTI_LOCK, DATABASES + 1 + j->number) != PELGAISTI_GRANTED;
         pthread_testcancel();
         j->bad += call_and_wake(j, PELGAISTI_COMMIT, 0) != PELGAISTI_COMMITTED;
     }
+    return NULL;
 }
 
 /* No thread is cancelled inside a call, so that no call is left pending. Whoever has joined it ends its transaction, and the office

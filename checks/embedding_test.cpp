@@ -284,7 +284,7 @@ static void sizes() {
     for (int call = 0; call < 300; ++call) CHECK(office[1].perform({op::poll})->place == 300u + static_cast<unsigned>(call));
     CHECK(office[1].take_history(299, first)->size() == 299 && first == 300);
     auto book = office.close();
-    CHECK(book->history(0, 0).empty() && book->take_history(SIZE_MAX).size() == 1 && largest < most);
+    CHECK(book->history(599, 0).empty() && book->take_history(SIZE_MAX).size() == 1 && largest < most);
 }
 
 static void names() {

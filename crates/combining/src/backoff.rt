@@ -1,6 +1,6 @@
 //! How a session waits between two turns of a call. Each number stands here, with its reason; bench/README.md has the figures.
 
-ghost use Rattle.std.specs.Prelude.{◌≡◌, ◌≤◌, ◌↔◌};
+ghost use Rattle.combining.specs.Waits.{IsWaitAfterTry, IsWaitAfterLook};
 
 use std::{hint, thread};
 
@@ -10,23 +10,23 @@ use std::{hint, thread};
 pub const TRIES_AT_ONCE: u64 = 32;
 
 /// The pause instructions between the first two tries.
-const FIRST_PAUSES: u32 = 256;
+pub const FIRST_PAUSES: u32 = 256;
 
 /// How often the pause instructions between two tries are doubled: each try of a waiting session takes the lock word's cache line
 /// from the combiner.
-const DOUBLINGS: u64 = 4;
+pub const DOUBLINGS: u64 = 4;
 
 /// The tries after which the processor is yielded between two tries: the session that has the object may need it.
-const TRIES_BEFORE_YIELDS: u64 = 16;
+pub const TRIES_BEFORE_YIELDS: u64 = 16;
 
 /// The looks for an answer between two tries to become the combiner, since each try takes a cache line from it.
-pub(crate) const LOOKS_PER_TRY: u64 = 8;
+pub const LOOKS_PER_TRY: u64 = 8;
 
 /// The pause instructions between two looks.
-const PAUSES: u32 = 256;
+pub const PAUSES: u32 = 256;
 
 /// The looks between two yields of the processor.
-const LOOKS_PER_YIELD: u64 = 64;
+pub const LOOKS_PER_YIELD: u64 = 64;
 
 /// What a session does before the next turn of its call.
 #[derive(Clone, Copy, Debug, PartialEq, Eq)]
@@ -40,7 +40,7 @@ pub enum Wait {
 /// What to do after a try to perform a call at once, of which `tried` came before: pauses that grow from try to try, and a yield once
 /// `TRIES_BEFORE_YIELDS` were made.
 pub(crate) fn after_try(tried: u64) -> Wait
-    ensures yields { (result ≡ Wait.Yield) ↔ (TRIES_BEFORE_YIELDS ≤ tried) }
+    ensures { IsWaitAfterTry tried result }
 {
     if tried >= TRIES_BEFORE_YIELDS {
         return Wait::Yield;
@@ -51,7 +51,9 @@ pub(crate) fn after_try(tried: u64) -> Wait
 
 /// What to do after a look for an answer, of which `looked` came before: a yield after every `LOOKS_PER_YIELD` looks, and pauses after
 /// the others.
-pub(crate) fn after_look(looked: u64) -> Wait {
+pub(crate) fn after_look(looked: u64) -> Wait
+    ensures { IsWaitAfterLook looked result }
+{
     if looked % LOOKS_PER_YIELD == LOOKS_PER_YIELD - 1 {
         Wait::Yield
     } else {
@@ -59,8 +61,8 @@ pub(crate) fn after_look(looked: u64) -> Wait {
     }
 }
 
-/// Waits so, before the next turn.
-pub(crate) fn back_off(wait: Wait) {
+/// Waits so, before the next turn of a call.
+pub fn back_off(wait: Wait) {
     match wait {
         Wait::Yield => thread::yield_now(),
         Wait::Pause(pauses) => {

@@ -1,9 +1,10 @@
 //! A whole call of a session, turn by turn: performed at once where the object is free, else published, served and collected.
 
-ghost use Rattle.std.specs.Prelude.{◌≡◌, ◌≢◌, ◌⊎◌, ◌<◌, ◌≤◌, ◌+◌, true, false, [], Some, None, IfSome, IfNone};
+ghost use Rattle.std.specs.Prelude.{◌≡◌, ◌≢◌, ◌⊎◌, ◌<◌, ◌≤◌, ◌%◌, true, false, [], None};
 ghost use Rattle.combining.specs.Sessions.{IsSessionOf, IsIdle, IsPendingServed};
 ghost use Rattle.combining.specs.Calls.{IsCalled, IsCalling, IsAnswered, IsWaitingOn, HasStarved, HasGoneOn};
 ghost use Rattle.combining.specs.Ended.{AreToldBy, HasAddedTold, HasRoom, entered_since};
+ghost use Rattle.combining.specs.Waits.{IsWaitAfterTry, IsWaitAfterLook};
 
 use crate::backoff::{LOOKS_PER_TRY, TRIES_AT_ONCE, Wait, after_look, after_try, back_off};
 use crate::office::{Answer, Office, Performed, Turn};
@@ -61,9 +62,11 @@ fn serve_if<O: Batching, T: Told<O>>(
     }
 }
 
-/// Looks for the answer to the pending call, behind `looked` looks, and before that tries to serve at every `LOOKS_PER_TRY`th look.
+/// Makes one turn of the pending call of a session, behind `looked` turns: tries to serve, at the first and then at every
+/// `LOOKS_PER_TRY`th turn, and looks for the answer.
+///
 /// Adds the sessions whose waits the pass has ended to those that were told.
-fn look<O: Batching, T: Told<O>>(
+pub fn look<O: Batching, T: Told<O>>(
     office: &Office<O>,
     session: &mut Session<O>,
     looked: u64,
@@ -77,7 +80,8 @@ fn look<O: Batching, T: Told<O>>(
     ensures idle { (answer : _) → result ≡ Next.Answered answer → IsIdle session.new }
     ensures starved { result ≡ Next.Starved → IsWaitingOn session.old session.new × (session.old.put_backs < session.new.put_backs) }
     ensures waits { (w : _) → result ≡ Next.Wait w → IsWaitingOn session.old session.new }
-    ensures others { (w : _) → result ≡ Next.Wait w → looked ≡ 0 → 1 < office.now.sessions }
+    ensures others { (w : _) → result ≡ Next.Wait w → looked % LOOKS_PER_TRY ≡ 0 → 1 < office.now.sessions }
+    ensures wait { (w : _) → result ≡ Next.Wait w → IsWaitAfterLook looked w }
     ensures on { HasGoneOn session.old session.new }
     ensures told { HasAddedTold T.ends office.now.sessions session.new.front (entered_since session.old session.new) (T.list told.old) (T.list told.new) }
     ensures room { T.room told.new ≡ T.room told.old }
@@ -107,6 +111,7 @@ fn publish_and_look<O: Batching, T: Told<O>>(
     ensures idle { (answer : _) → result ≡ Next.Answered answer → IsIdle session.new }
     ensures starved { result ≡ Next.Starved → IsCalling session.old session.new call }
     ensures waits { (w : _) → result ≡ Next.Wait w → IsCalling session.old session.new call × (1 < office.now.sessions) }
+    ensures wait { (w : _) → result ≡ Next.Wait w → IsWaitAfterLook 0 w }
     ensures on { HasGoneOn session.old session.new }
     ensures told { HasAddedTold T.ends office.now.sessions session.new.front (entered_since session.old session.new) (T.list told.old) (T.list told.new) }
     ensures room { T.room told.new ≡ T.room told.old }
@@ -131,6 +136,7 @@ fn try_at_once<O: Batching, T: Told<O>>(
     ensures idle { (answer : _) → result ≡ Next.Answered answer → IsIdle session.new }
     ensures starved { result ≡ Next.Starved → IsCalling session.old session.new call }
     ensures waits { (w : _) → result ≡ Next.Wait w → (session.new ≡ session.old) × (1 < office.now.sessions) }
+    ensures wait { (w : _) → result ≡ Next.Wait w → IsWaitAfterTry tried w }
     ensures on { HasGoneOn session.old session.new }
     ensures told { HasAddedTold T.ends office.now.sessions session.new.front (entered_since session.old session.new) (T.list told.old) (T.list told.new) }
     ensures room { T.room told.new ≡ T.room told.old }
@@ -147,8 +153,8 @@ fn try_at_once<O: Batching, T: Told<O>>(
 }
 
 /// Makes one turn of a call, behind `made` turns. An idle session tries to perform the call at once, in its first `TRIES_AT_ONCE`
-/// turns, and publishes it in the next one. A session with a call pending serves, at every eighth turn, and looks for the answer;
-/// it goes on with the call that is pending, whatever `call` is. No turn loses a call: it is answered, pending, or not made yet.
+/// turns, and publishes it in the next one. A session with a call pending makes a turn as `look` does; it goes on with the call that is
+/// pending, whatever `call` is. No turn loses a call: it is answered, pending, or not made yet.
 ///
 /// Adds the sessions whose waits the turn's passes have ended to those that were told.
 pub fn turn<O: Batching, T: Told<O>>(
@@ -170,6 +176,9 @@ pub fn turn<O: Batching, T: Told<O>>(
     ensures tried { (w : _) → result ≡ Next.Wait w → session.old.pending ≡ None → made < TRIES_AT_ONCE → (session.new ≡ session.old) × (1 < office.now.sessions) }
     ensures published { (w : _) → result ≡ Next.Wait w → session.old.pending ≡ None → TRIES_AT_ONCE ≤ made → IsCalling session.old session.new call.now × (1 < office.now.sessions) }
     ensures waits { (w : _) → result ≡ Next.Wait w → session.old.pending ≢ None → IsWaitingOn session.old session.new }
+    ensures wait_tried { (w : _) → result ≡ Next.Wait w → session.old.pending ≡ None → made < TRIES_AT_ONCE → IsWaitAfterTry made w }
+    ensures wait_published { (w : _) → result ≡ Next.Wait w → session.old.pending ≡ None → TRIES_AT_ONCE ≤ made → IsWaitAfterLook 0 w }
+    ensures wait_looked { (w : _) → result ≡ Next.Wait w → session.old.pending ≢ None → IsWaitAfterLook made w }
     ensures live { session.new.retired ≡ false }
     ensures on { HasGoneOn session.old session.new }
     ensures told { HasAddedTold T.ends office.now.sessions session.new.front (entered_since session.old session.new) (T.list told.old) (T.list told.new) }
@@ -185,8 +194,9 @@ pub fn turn<O: Batching, T: Told<O>>(
     }
 }
 
-/// Publishes the call of a session that is idle. One that has it pending is unchanged.
-fn publish_if_idle<O: Batching>(office: &Office<O>, session: &mut Session<O>, call: O::Call)
+/// Ends a call of which no more turns are made: publishes it, unless it is pending already. A session that has a call pending is
+/// unchanged.
+pub fn publish_if_idle<O: Batching>(office: &Office<O>, session: &mut Session<O>, call: O::Call)
     requires ours { IsSessionOf office.now session.old }
     requires live { session.old.retired ≡ false }
     ensures ours { IsSessionOf office.now session.new }

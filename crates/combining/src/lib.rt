@@ -25,8 +25,11 @@ mod own_call;
 mod pass;
 mod told;
 
-pub use backoff::Wait;
-pub use calling::{Called, Next, call, resume, turn};
+pub use backoff::{
+    DOUBLINGS, FIRST_PAUSES, LOOKS_PER_TRY, LOOKS_PER_YIELD, PAUSES, TRIES_AT_ONCE,
+    TRIES_BEFORE_YIELDS, Wait, back_off,
+};
+pub use calling::{Called, Next, call, look, publish_if_idle, resume, turn};
 pub use ended::Ended;
 pub use office::{Answer, HistoryPiece, Office, OpenFault, Performed, Turn};
 pub use publication::{CloseFault, Knowledge, Load, Posted, Ticket as Session};

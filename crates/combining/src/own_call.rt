@@ -1,12 +1,10 @@
 //! A pass in which the combiner performs a call of its own session, without its record, and tells whose waits the calls have ended.
 
 ghost use Rattle.std.specs.Prelude.{◌≡◌, ◌+◌, ◌<◌, true, false, None, IfSome, IfNone, length};
-ghost use Rattle.publication.specs.Boards.{heard_from, published_by};
 ghost use Rattle.combining.specs.Sessions.{IsIdle};
 ghost use Rattle.combining.specs.inner.OwnCalls.{IsOwnEntered, IsPassWithOwn};
 ghost use Rattle.combining.specs.inner.Passes.{IsAtWork, HasPassed, HasServed};
-ghost use Rattle.combining.specs.Ended.{entered_since, HasRoom};
-ghost use Rattle.combining.specs.Ended.{HasAddedTold};
+ghost use Rattle.combining.specs.Ended.{HasAddedTold, HasRoom, entered_since};
 
 use crate::pass::{Pass, serve_published};
 use crate::told::Told;

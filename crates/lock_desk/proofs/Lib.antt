@@ -90,6 +90,10 @@ pub mod RunItems
 pub mod Granting
 -- a batch, one item further
 pub mod Batches
+-- the sessions for which one waits, by number
+pub mod Blockers
+-- a path, one level further
+pub mod Paths
 -- the book as a sequential object
 pub mod BookHistories
 -- whose wait a batch has ended, said of its entries

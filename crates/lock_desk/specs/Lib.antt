@@ -1,6 +1,8 @@
 -- what public contracts cite
 pub mod BookView
 pub mod Batches
+pub mod Paths
+pub mod Queries
 pub mod BookLaws
 -- what only private contracts cite
 pub mod inner

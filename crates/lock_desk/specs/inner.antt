@@ -15,4 +15,5 @@ pub mod Changes
 pub mod Listing
 pub mod Shows
 pub mod Runs
+pub mod Paths
 pub mod Invariant

@@ -42,7 +42,7 @@ mod recording;
 mod resource_order;
 mod waits;
 
-pub use book::{Book, Item};
+pub use book::{Book, Item, PathLocked};
 pub use lock_modes::Mode;
 pub use lock_rules::{
     Call, Claim, ClaimKind, Entry, MAX_LOCKS, MAX_SESSIONS, Reply, Transaction, Why,

@@ -1,2 +1,1 @@
-pub mod Blockers
 pub mod WakesTold

@@ -4,6 +4,7 @@ pub mod Calls
 pub mod Claims
 pub mod Batches
 pub mod Sessions
+pub mod Turns
 pub mod Queries
 pub mod EndedLists
 pub mod Offices

@@ -1,9 +1,9 @@
 //! The lock manager for C: exports over books and over the sessions of offices, which C holds by handles in its own
 //! memory.
 //!
-//! Exports: `book.rt`, `listing_exports.rt`, `office.rt`, `session.rt`, `query_exports.rt`, `close_exports.rt`,
-//! `version.rt`. What they do, on what a handle holds: `book_calls.rt`, `batch.rt`, `listing.rt`, `session_calls.rt`,
-//! `queries.rt`, `hand_in.rt`. Numbers of C's structs: `numbers.rt`, `claims.rt`, `status.rt`. Handles: `book_handle.rt`,
+//! Exports: `book.rt`, `listing_exports.rt`, `office.rt`, `session.rt`, `turn_exports.rt`, `query_exports.rt`,
+//! `close_exports.rt`, `version.rt`. What they do, on what a handle holds: `book_calls.rt`, `batch.rt`, `listing.rt`, `session_calls.rt`,
+//! `turn_calls.rt`, `queries.rt`, `hand_in.rt`. Numbers of C's structs: `numbers.rt`, `claims.rt`, `status.rt`. Handles: `book_handle.rt`,
 //! `session_handle.rt`, and what is in them.
 //!
 //! An export takes the value out of the handle, makes one call of `lock_desk` or `combining`, writes the reply in
@@ -36,6 +36,8 @@ mod session_calls;
 mod session_handle;
 mod session_share;
 mod status;
+mod turn_calls;
+mod turn_exports;
 mod version;
 
 pub use book_handle::BookHandle;

@@ -5,9 +5,8 @@ ghost use Rattle.sequential.specs.Histories.{calls_of};
 ghost use Rattle.publication.specs.Rule.{IsHome};
 ghost use Rattle.publication.specs.Boards.{IsOf, OpensNone, HasCallsOf, heard_from};
 ghost use Rattle.combining.specs.Sessions.{IsSessionOf, IsPendingServed, HasTriedToList, IsPassed};
-ghost use Rattle.combining.specs.Ended.{entered_since, HasRoom};
+ghost use Rattle.combining.specs.Ended.{HasAddedTold, HasRoom, entered_since};
 ghost use Rattle.combining.specs.inner.Passes.{HasMadePass};
-ghost use Rattle.combining.specs.Ended.{HasAddedTold};
 
 use crate::office::{Office, Turn};
 use crate::pass::{MadePass, serve_published};
@@ -69,6 +68,7 @@ impl<O: Batching> Office<O> {
             starved: pass.starved,
         }
     }
+
     /// Serves as `serve` does, and adds the sessions whose waits the pass has ended to those that were told.
     #[inline(always)]
     pub(crate) fn pass<T: Told<O>>(&self, session: &mut Session<O>, told: &mut T) -> Turn

@@ -4,8 +4,7 @@ ghost use Rattle.std.specs.Prelude.{◌≡◌, ◌+◌, ◌<◌, ◌≤◌, ◌�
 ghost use Rattle.sequential.specs.Histories.{calls_of};
 ghost use Rattle.publication.specs.Boards.{HasCallsOf, heard_from};
 ghost use Rattle.combining.specs.Sessions.{IsSessionOf, IsIdle, IsPerformed, IsRefused};
-ghost use Rattle.combining.specs.Ended.{AreToldBy, entered_since, HasRoom};
-ghost use Rattle.combining.specs.Ended.{HasAddedTold};
+ghost use Rattle.combining.specs.Ended.{AreToldBy, HasAddedTold, HasRoom, entered_since};
 
 use crate::office::{Answer, Office};
 use crate::own_call::serve_with_own;

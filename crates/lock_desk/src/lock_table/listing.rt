@@ -1,6 +1,6 @@
 //! What the lock table has: all locks and all waiting requests, and what one session has.
 
-ghost use Rattle.std.specs.Prelude.{◌≡◌, ◌++◌, map, IfOk, OnOk, OnErr};
+ghost use Rattle.std.specs.Prelude.{◌≡◌, ◌++◌, map, is_some, IfOk, OnOk, OnErr};
 ghost use Rattle.std.specs.Option.{option_copied};
 ghost use Rattle.lock_rules.specs.declared.listing.ClaimKind.TheVariants as kinds;
 ghost use Rattle.lock_desk.specs.inner.Cells.{mode_of, view_of};
@@ -141,6 +141,16 @@ impl LockTable {
     {
         *list = self.lines(alloc)?;
         Ok(())
+    }
+
+    /// Whether `session` has a waiting request. False if there is no such session.
+    pub(crate) fn is_waiting(&self, session: u16) -> bool
+        ensures { result ≡ is_some (standing session self.now).wanted }
+    {
+        match self.locker_if_any(session) {
+            Some(locker) => locker.is_waiting(),
+            None => false,
+        }
     }
 
     /// The waiting request of `session`, if it has one. `None` if there is no such session.

@@ -1,6 +1,7 @@
-use Rattle.std.proofs.Common.{◌≡◌, ◌∙◌, ℕ, zero, List, [], refl, arith}
+use Rattle.std.proofs.Common.{◌≡◌, ◌∙◌, ◌%◌, ℕ, zero, List, [], refl, ap, arith}
 use mathlib.Core.Logic.{dite}
 use native.Mathlib.Decide.{ℕ_discrete}
+use Rattle.combining.specs.declared.backoff.TheConstants.{LOOKS_PER_TRY}
 use Rattle.combining.proofs.EndedWaits.{told-on, told-all}
 use Rattle.combining.proofs.Turns.{waiting-trans}
 use Rattle.combining.proofs.calling.resume.Goals as goal
@@ -32,7 +33,7 @@ loop-looked-preserved g c =
     record {
       ours = e.ours;
       waits = waiting-trans t u v i.waits (e.waits c.in-Wait.next c.in-Wait.is);
-      others = λ _. dite (ℕ_discrete c.loop-looked.looked 0) (λ none. e.others c.in-Wait.next c.in-Wait.is none) (λ some. i.others (omega (arith, some)));
+      others = λ _. dite (ℕ_discrete c.loop-looked.looked 0) (λ none. e.others c.in-Wait.next c.in-Wait.is (ap (λ (k : ℕ). k % LOOKS_PER_TRY) none)) (λ some. i.others (omega (arith, some)));
       told = told-on n t u v [] (g.T.Told.list c.loop-looked.told) (g.T.Told.list c.look.new.told) i.waits.entered e.on.longer e.on.entered i.told e.told;
       room = e.room ∙ i.room;
     }

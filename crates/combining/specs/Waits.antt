@@ -1,0 +1,15 @@
+-- What a session does between two turns of its call.
+use Rattle.std.specs.Prelude.{◌≡◌, ◌≢◌, ℕ, ◌+◌, ◌*◌, ◌^◌, ◌%◌, ◌<◌, ◌≤◌, min}
+use Rattle.combining.specs.declared.backoff.TheConstants.{FIRST_PAUSES, DOUBLINGS, TRIES_BEFORE_YIELDS, PAUSES, LOOKS_PER_YIELD}
+use Rattle.combining.specs.declared.backoff.Wait.{Wait}
+
+-- After a try for the object, behind so many: pauses, which double from try to try until they were doubled `DOUBLINGS` times; and a
+-- yield behind `TRIES_BEFORE_YIELDS` tries or more.
+pub record IsWaitAfterTry (tried : ℕ) (wait : Wait) : Type 0 where
+  pub pauses : tried < TRIES_BEFORE_YIELDS → wait ≡ Wait.Pause (FIRST_PAUSES * 2 ^ min tried DOUBLINGS)
+  pub yields : TRIES_BEFORE_YIELDS ≤ tried → wait ≡ Wait.Yield
+
+-- After a look for the answer, behind so many: a yield at the end of every `LOOKS_PER_YIELD` looks, and else pauses.
+pub record IsWaitAfterLook (looked : ℕ) (wait : Wait) : Type 0 where
+  pub pauses : looked % LOOKS_PER_YIELD + 1 ≢ LOOKS_PER_YIELD → wait ≡ Wait.Pause PAUSES
+  pub yields : looked % LOOKS_PER_YIELD + 1 ≡ LOOKS_PER_YIELD → wait ≡ Wait.Yield

@@ -1,0 +1,19 @@
+use Rattle.std.proofs.Common.{◌≡◌, ◌∙◌, ap, arith, subst}
+use Rattle.lock_board.specs.LockBoards.{TicketView}
+use Rattle.combining.specs.Calls.{IsWaitingOn}
+use Rattle.pelgaisti_c.proofs.SameOffice.{same-trans}
+use Rattle.pelgaisti_c.proofs.turn_calls.look.Goals as goal
+
+pub returns-clause-late : goal.returns-clause-late
+returns-clause-late c = λ e.
+    let found = c.write_next.ensures.waits e in
+    let made = c.make_look-next in
+    let after = made.new.share in
+    let forgot = c.forget_told in
+    let many = forgot.ensures.same.sessions in record {
+      waits = λ left. let r = made.ensures.waits found.0 found.1 in
+          (subst (λ (t : TicketView). IsWaitingOn t after.session) forgot.ensures.session r.0, (found.0, r.1, found.2));
+      others = λ left at. let some = made.ensures.others found.0 found.1 at in omega (arith, some, many);
+      last = λ over. absurd (let left = c.if-looked-turns.false in omega (arith, left, over));
+      office = same-trans c.args.share.now forgot.new.share after forgot.ensures.same made.ensures.same;
+    }
