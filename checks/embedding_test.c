@@ -42,6 +42,64 @@ static void post(void *engine, uint32_t session) {
     sem_post(&semaphores[session]);
 }
 
+/* Each call on a handle, and what its arguments are: a pointer (p), one that may be NULL (o), a number (n), a list and its room (lr). */
+typedef uint32_t (*any_call)(uintptr_t, uintptr_t, uintptr_t, uintptr_t, uintptr_t, uintptr_t, uintptr_t, uintptr_t, uintptr_t);
+#define ANY(call) #call, (any_call)(void (*)(void))pelgaisti_##call
+static const struct {
+    const char *name;
+    any_call call;
+    const char *arguments;
+} all_calls[] = {
+    {ANY(book_open), "pn"}, {ANY(book_close), "p"}, {ANY(book_serve), "pnpp"}, {ANY(book_serve_batch), "plrp"}, {ANY(book_held), "pnpp"},
+    {ANY(book_holders), "pplrp"}, {ANY(book_waits_for), "pnnp"}, {ANY(book_blockers), "pnlrp"}, {ANY(book_transaction), "pnp"},
+    {ANY(book_request), "pnp"}, {ANY(book_locks), "pnlrp"}, {ANY(book_ended), "plrp"}, {ANY(book_length), "pp"},
+    {ANY(book_history), "pnlrp"}, {ANY(book_first_kept), "pp"}, {ANY(book_keep_at_most), "pn"}, {ANY(book_take_history), "pplrp"},
+    {ANY(book_lock_path), "pnpnpppnp"}, {ANY(office_open), "pn"}, {ANY(office_open_keeping), "pnn"}, {ANY(office_open_waking), "pnnp"},
+    {ANY(session_publish), "ppo"}, {ANY(session_serve), "po"}, {ANY(session_serve_telling), "popnp"},
+    {ANY(session_perform_at_once), "ppop"}, {ANY(session_perform_telling), "ppoppnp"}, {ANY(session_collect), "pp"},
+    {ANY(session_take_history), "pplrp"}, {ANY(session_held), "pnppp"}, {ANY(session_transaction), "pnpp"},
+    {ANY(session_request), "pnpp"}, {ANY(session_waits_for), "pnnpp"}, {ANY(session_holders), "pplrpp"},
+    {ANY(session_blockers), "pnlrpp"}, {ANY(session_locks), "pnlrpp"}, {ANY(session_seen), "pp"}, {ANY(session_mark), "pp"},
+    {ANY(session_hear), "pp"}, {ANY(session_retire), "p"}, {ANY(session_hand_in), "pp"}, {ANY(office_close), "pp"},
+    {ANY(session_perform), "ponp"}, {ANY(session_lock_path), "ppnpnp"}};
+
+/* What the pointers point to: handles are closed, and else nothing is a number that a call takes. */
+static unsigned char pointed_to[9][64];
+
+/* The status of a call whose argument `off` is NULL, if there is one, and whose lists have so much room. */
+static uint32_t status_with(size_t k, size_t off, uintptr_t room) {
+    uintptr_t a[9] = {0, 0, 0, 0, 0, 0, 0, 0, 0};
+    for (size_t n = 0; all_calls[k].arguments[n]; n++) {
+        const char is = all_calls[k].arguments[n];
+        a[n] = is == 'r' ? room : is == 'n' || n == off ? 0 : (uintptr_t)pointed_to[n];
+    }
+    return all_calls[k].call(a[0], a[1], a[2], a[3], a[4], a[5], a[6], a[7], a[8]);
+}
+
+/* Each pointer of each call is tested, and those that may be NULL are not; with PELGAISTI_NULL nothing is written. The calls are called
+   as x86-64 passes arguments, each in a word. `calls` as the program's argument prints their
+   names, which checks/embedding compares with the header's. */
+static void null_is_refused(void) {
+    unsigned char before[9][64];
+    memset(pointed_to, 0x55, sizeof pointed_to);
+    memset(pointed_to[0], 0, sizeof pointed_to[0]);
+    for (size_t k = 0; k < COUNT(all_calls); k++) {
+        const char *arguments = all_calls[k].arguments;
+        int is_right = status_with(k, 9, 1) != PELGAISTI_NULL && status_with(k, 9, 0) != PELGAISTI_NULL;
+        for (size_t n = 0; arguments[n]; n++) {
+            int may_be_null = arguments[n] == 'o', is_list = arguments[n] == 'l';
+            if (arguments[n] == 'n' || arguments[n] == 'r') continue;
+            memcpy(before, pointed_to, sizeof before);
+            is_right &= (status_with(k, n, 1) == PELGAISTI_NULL) == !may_be_null;
+            is_right &= may_be_null || !memcmp(before, pointed_to, sizeof before);
+            is_right &= (status_with(k, n, 0) == PELGAISTI_NULL) == (!may_be_null && !is_list);
+            memset(pointed_to[n], n ? 0x55 : 0, sizeof pointed_to[n]);
+        }
+        if (!is_right) printf("%s: ", all_calls[k].name);
+        CHECK(is_right);
+    }
+}
+
 /* Every bad argument of a book's calls gives its status, and then nothing is written. */
 static void books_refuse(void) {
     pelgaisti_book book = PELGAISTI_EMPTY;
@@ -289,7 +347,7 @@ static void levels_are_locked(void) {
     size_t count = 0;
     uint32_t mode = 99;
 
-    CHECK(pelgaisti_version() == PELGAISTI_HEADER_VERSION && PELGAISTI_HEADER_VERSION == 4);
+    CHECK(pelgaisti_version() == PELGAISTI_HEADER_VERSION && PELGAISTI_HEADER_VERSION == 5);
     CHECK(PELGAISTI_LEVELS == 5 && sizeof lock.resource.numbers == 20);
     CHECK(pelgaisti_book_open(&book, 1024) == PELGAISTI_OK);
     CHECK(pelgaisti_book_serve(&book, 1024, &begin, &reply) == PELGAISTI_OK && reply.kind == PELGAISTI_BEGAN);
@@ -745,8 +803,9 @@ static void sessions_refuse(void) {
     CHECK(pelgaisti_session_publish(&two[0], &begin, NULL) == PELGAISTI_PENDING);
     CHECK(pelgaisti_session_perform(&two[0], &begin, 9, &answer) == PELGAISTI_PENDING);
     CHECK(pelgaisti_session_perform(&two[0], NULL, 0, &answer) == PELGAISTI_NOT_SERVED);
-    CHECK(pelgaisti_session_mark(&two[0], &mark) == PELGAISTI_OK && mark == (uint64_t)(uintptr_t)two);
-    CHECK(pelgaisti_session_mark(&two[1], &mark) == PELGAISTI_OK && mark == (uint64_t)(uintptr_t)two);
+    CHECK(pelgaisti_session_perform(&one[0], NULL, 0, &answer) == PELGAISTI_NOTHING_PENDING);
+    CHECK(pelgaisti_session_perform(&closed, NULL, 0, &answer) == PELGAISTI_CLOSED);
+    CHECK(pelgaisti_session_mark(&two[0], &mark) == PELGAISTI_OK && mark != 0);
     CHECK(pelgaisti_session_collect(&two[0], &answer) == PELGAISTI_NOT_SERVED);
     CHECK(pelgaisti_session_retire(&two[0]) == PELGAISTI_PENDING);
     CHECK(pelgaisti_session_hand_in(&two[0], &two[1]) == PELGAISTI_PENDING);
@@ -758,6 +817,8 @@ static void sessions_refuse(void) {
     CHECK(pelgaisti_session_serve(&two[0], &pass) == PELGAISTI_OK && pass.served == 1 && pass.starved == 0);
     CHECK(pelgaisti_session_serve(&two[1], NULL) == PELGAISTI_OK);
     CHECK(pelgaisti_session_seen(&two[1], &seen) == PELGAISTI_OK && seen == 1);
+    /* without a turn it isn't looked at that the call is served */
+    CHECK(pelgaisti_session_perform(&two[0], NULL, 0, &answer) == PELGAISTI_NOT_SERVED && answer.place == 99);
     CHECK(pelgaisti_session_collect(&two[0], &answer) == PELGAISTI_OK);
     CHECK(answer.place == 0 && answer.reply.kind == PELGAISTI_BEGAN && answer.reply.value == 1);
     CHECK(pelgaisti_session_collect(&two[0], &answer) == PELGAISTI_NOTHING_PENDING);
@@ -797,25 +858,34 @@ static void sessions_refuse(void) {
     CHECK(pelgaisti_book_close(&book) == PELGAISTI_OK);
 }
 
-/* Handles are moved, against the rules, so that two offices have the same mark and a session of one is handed in to the other.
-   No call can close these offices any more. Their memory stays reachable by the handles, so it is no leak. */
-static void copies_are_told(void) {
-    static pelgaisti_session moved[2], array[2];
+/* Each office has a mark of its own, also one that is opened with a handle that an open one has left. So no session is heard by one of
+   another office, or handed in to it. */
+static void marks_differ(void) {
+    static pelgaisti_session array[3], other[1];
+    pelgaisti_session *left[3];
     pelgaisti_book book = PELGAISTI_EMPTY;
-    pelgaisti_answer answer = {99, {77, 88}};
-    uint64_t seen = 99;
+    uint64_t marks[4] = {0, 0, 0, 0}, again = 0;
 
-    CHECK(pelgaisti_office_open(array, 2) == PELGAISTI_OK);
-    memcpy(moved, array, sizeof array);
-    memset(array, 0, sizeof array);
-    CHECK(pelgaisti_office_open(array, 2) == PELGAISTI_OK);
-    CHECK(pelgaisti_session_hand_in(&array[1], &moved[0]) == PELGAISTI_OK);
-    CHECK(pelgaisti_office_close(&moved[0], &book) == PELGAISTI_COPIED);
-    CHECK(pelgaisti_session_seen(&moved[0], &seen) == PELGAISTI_CLOSED && seen == 99);
-    CHECK(pelgaisti_office_close(&moved[0], &book) == PELGAISTI_CLOSED);
-    CHECK(pelgaisti_book_close(&book) == PELGAISTI_CLOSED);
-    CHECK(pelgaisti_session_collect(&moved[1], &answer) == PELGAISTI_NOTHING_PENDING && answer.place == 99);
-    CHECK(pelgaisti_session_collect(&array[0], &answer) == PELGAISTI_NOTHING_PENDING && answer.place == 99);
+    CHECK(pelgaisti_office_open(other, 1) == PELGAISTI_OK);
+    CHECK(pelgaisti_session_mark(&other[0], &marks[3]) == PELGAISTI_OK);
+    /* office k begins at the same handle, and its last session stays open in another one */
+    for (size_t k = 0; k < 3; k++) {
+        left[k] = &array[2 - k];
+        CHECK(pelgaisti_office_open(array, 3 - k) == PELGAISTI_OK);
+        CHECK(pelgaisti_session_mark(left[k], &marks[k]) == PELGAISTI_OK);
+        CHECK(pelgaisti_session_mark(&array[0], &again) == PELGAISTI_OK && again == marks[k]);
+        for (size_t s = 0; s < 2 - k; s++) CHECK(pelgaisti_session_hand_in(&array[s], left[k]) == PELGAISTI_OK);
+    }
+    for (size_t k = 0; k < 4; k++)
+        for (size_t s = 0; s < 4; s++) CHECK(marks[k] != 0 && (marks[k] == marks[s]) == (k == s));
+    for (size_t k = 1; k < 3; k++) {
+        CHECK(pelgaisti_session_hear(left[k], left[0]) == PELGAISTI_OTHER_OFFICE);
+        CHECK(pelgaisti_session_hand_in(left[k], left[0]) == PELGAISTI_OTHER_OFFICE);
+    }
+    for (size_t k = 0; k < 4; k++) {
+        CHECK(pelgaisti_office_close(k < 3 ? left[k] : other, &book) == PELGAISTI_OK);
+        CHECK(pelgaisti_book_close(&book) == PELGAISTI_OK);
+    }
 }
 
 /* A session is dropped with a call pending: its handle is not used any more, and its memory is kept. The next pass of the other
@@ -1309,6 +1379,8 @@ static void paths_tell(void) {
         CHECK(pelgaisti_book_lock_path(&book, 1, &path, PELGAISTI_S, &level, &reply, list, 3, &count) == PELGAISTI_OK);
         CHECK(level == ways[k].level && reply.kind == ways[k].kind);
         CHECK(count == ways[k].ended && list[0] == 3 && list[1] == (count == 2 ? 2u : 77u) && list[2] == 77);
+        CHECK(pelgaisti_book_ended(&book, wide, 3, &count) == PELGAISTI_OK && count == ways[k].ended);
+        CHECK(!memcmp(wide, list, count * sizeof *list));
         CHECK(replies(&book, 3, poll, PELGAISTI_DEADLOCK, 0));
         /* the next path tells of none of them again, and has room enough with more than there are sessions */
         level = 0;
@@ -1830,6 +1902,72 @@ static void threads_sleep(void) {
     CHECK(pelgaisti_book_close(&book) == PELGAISTI_OK);
 }
 
+/* Threads of which the odd ones wait for a lock, asleep, and the even ones make transactions until they are cancelled: where they sleep,
+   and between two calls. */
+enum { CANCELLED = 8 };
+
+static void *work_until_cancelled(void *argument) {
+    sleeper *j = (sleeper *)argument;
+    if (j->number % 2 == 1) {
+        j->bad += call_and_wake(j, PELGAISTI_BEGIN, 0) != PELGAISTI_BEGAN;
+        j->bad += call_and_wake(j, PELGAISTI_LOCK, DATABASES + 1) != PELGAISTI_WAITING;
+    }
+    pthread_barrier_wait(&all_here);
+    for (;;) {
+        if (j->number % 2 == 1) {
+            sem_wait(&woken[j->number]);
+            continue;
+        }
+        j->bad += call_and_wake(j, PELGAISTI_BEGIN, 0) != PELGAISTI_BEGAN;
+        pthread_testcancel();
+        j->bad += call_and_wake(j, PELGAISTI_LOCK, DATABASES + 1 + j->number) != PELGAISTI_GRANTED;
+        pthread_testcancel();
+        j->bad += call_and_wake(j, PELGAISTI_COMMIT, 0) != PELGAISTI_COMMITTED;
+    }
+    return NULL;
+}
+
+/* No thread is cancelled inside a call, so that no call is left pending. Whoever has joined it ends its transaction, and the office
+   closes. */
+static void threads_are_cancelled(void) {
+    static pelgaisti_session sessions[CANCELLED + 1];
+    static sleeper jobs[CANCELLED + 1];
+    pelgaisti_call begin = call_of(PELGAISTI_BEGIN, 0, 0, 0, 0), abort = call_of(PELGAISTI_ABORT, 0, 0, 0, 0);
+    pelgaisti_call write = call_of(PELGAISTI_LOCK, PELGAISTI_X, 1, DATABASES + 1, 0);
+    pelgaisti_book book = PELGAISTI_EMPTY;
+    pelgaisti_answer answer;
+    pthread_t threads[CANCELLED];
+    uint64_t aborts = 0;
+
+    CHECK(pelgaisti_office_open_waking(sessions, CANCELLED + 1, 1024, &posts) == PELGAISTI_OK);
+    CHECK(pthread_barrier_init(&all_here, NULL, CANCELLED + 1) == 0);
+    CHECK(pelgaisti_session_perform(&sessions[CANCELLED], &begin, 9, &answer) == PELGAISTI_OK);
+    CHECK(pelgaisti_session_perform(&sessions[CANCELLED], &write, 9, &answer) == PELGAISTI_OK);
+    for (uint32_t t = 0; t < CANCELLED; t++) {
+        jobs[t].session = &sessions[t];
+        jobs[t].number = t + 1;
+        CHECK(sem_init(&woken[t + 1], 0, 0) == 0);
+        CHECK(pthread_create(&threads[t], NULL, work_until_cancelled, &jobs[t]) == 0);
+    }
+    pthread_barrier_wait(&all_here);
+    for (int t = 0; t < CANCELLED; t++) CHECK(pthread_cancel(threads[t]) == 0);
+    for (int t = 0; t < CANCELLED; t++) {
+        void *result = NULL;
+        CHECK(pthread_join(threads[t], &result) == 0 && result == PTHREAD_CANCELED && jobs[t].bad == 0);
+    }
+    for (int t = CANCELLED; t >= 0; t--) {
+        CHECK(pelgaisti_session_perform(&sessions[t], NULL, UINT64_MAX, &answer) == PELGAISTI_NOTHING_PENDING);
+        CHECK(pelgaisti_session_perform(&sessions[t], &abort, UINT64_MAX, &answer) == PELGAISTI_OK);
+        aborts += answer.reply.kind == PELGAISTI_ABORTED;
+        if (t < CANCELLED) CHECK(pelgaisti_session_hand_in(&sessions[t], &sessions[CANCELLED]) == PELGAISTI_OK);
+        if (t < CANCELLED) CHECK(sem_destroy(&woken[t + 1]) == 0);
+    }
+    /* all that slept, and the one that held the lock, had a transaction */
+    CHECK(aborts >= CANCELLED / 2 + 1);
+    CHECK(pthread_barrier_destroy(&all_here) == 0);
+    CHECK(pelgaisti_office_close(&sessions[CANCELLED], &book) == PELGAISTI_OK && pelgaisti_book_close(&book) == PELGAISTI_OK);
+}
+
 /* What a session's thread sleeps on where an operator may ask that its transaction end: whether a pass has ended its wait, and
    whether the operator has asked. */
 typedef struct bed {
@@ -1993,33 +2131,22 @@ static void close_all(pelgaisti_session *sessions, int count, pelgaisti_book *bo
     CHECK(pelgaisti_office_close(&sessions[0], book) == PELGAISTI_OK);
 }
 
-/* What an office that is opened with a waker refuses, and that it keeps its bound and the waker's address, which sessions tell. */
+/* What an office that is opened with a waker refuses, and that it keeps its bound. */
 static void wakers_are_registered(void) {
     static pelgaisti_session sessions[3], other[1], many[PELGAISTI_MAX_SESSIONS + 1];
     pelgaisti_book book = PELGAISTI_EMPTY;
     pelgaisti_call begin = call_of(PELGAISTI_BEGIN, 0, 0, 0, 0), commit = call_of(PELGAISTI_COMMIT, 0, 0, 0, 0);
     const pelgaisti_waker nobody = {NULL, tally};
-    uint64_t waker = 99, first = 99, mark = 99;
-    uint32_t list[2] = {77, 77};
-    size_t count = 99;
+    uint64_t first = 99;
 
     CHECK(pelgaisti_office_open_waking(NULL, 2, UINT64_MAX, &tallies) == PELGAISTI_NULL);
     CHECK(pelgaisti_office_open_waking(sessions, 2, UINT64_MAX, NULL) == PELGAISTI_NULL);
     CHECK(pelgaisti_office_open_waking(sessions, 2, UINT64_MAX, &nobody) == PELGAISTI_NULL);
     CHECK(pelgaisti_office_open_waking(sessions, 0, UINT64_MAX, &tallies) == PELGAISTI_NO_SUCH_COUNT);
     CHECK(pelgaisti_office_open_waking(many, PELGAISTI_MAX_SESSIONS + 1, UINT64_MAX, &tallies) == PELGAISTI_NO_SUCH_COUNT);
-    CHECK(pelgaisti_raw_session_waker(&sessions[0], &waker) == PELGAISTI_CLOSED && waker == 99);
-    CHECK(pelgaisti_raw_session_told(&sessions[0], 0, list, 2, &count) == PELGAISTI_CLOSED && count == 99 && list[0] == 77);
     CHECK(pelgaisti_office_open_waking(sessions, 2, 1, &tallies) == PELGAISTI_OK);
     CHECK(pelgaisti_office_open_waking(&sessions[1], 2, UINT64_MAX, &tallies) == PELGAISTI_OPEN);
     CHECK(pelgaisti_office_open(other, 1) == PELGAISTI_OK);
-    for (int s = 0; s < 2; s++) {
-        waker = 99;
-        CHECK(pelgaisti_raw_session_waker(&sessions[s], &waker) == PELGAISTI_OK && waker == (uint64_t)(uintptr_t)&tallies);
-        CHECK(pelgaisti_session_mark(&sessions[s], &mark) == PELGAISTI_OK && mark == (uint64_t)(uintptr_t)sessions);
-        CHECK(pelgaisti_raw_session_told(&sessions[s], 0, list, 2, &count) == PELGAISTI_OK && count == 0 && list[0] == 77);
-    }
-    CHECK(pelgaisti_raw_session_waker(&other[0], &waker) == PELGAISTI_OK && waker == 0);
     CHECK(kind_of(&sessions[0], begin) == PELGAISTI_BEGAN && kind_of(&sessions[0], commit) == PELGAISTI_COMMITTED);
     CHECK(kind_of(&other[0], begin) == PELGAISTI_BEGAN && was_woken(2, 0));
     close_all(sessions, 2, &book);
@@ -2082,21 +2209,6 @@ static void each_pass_wakes(void) {
         }
 }
 
-/* Session 1 tells whom its last pass has woken, so many, from any index on. */
-static void tells_from_any_index(pelgaisti_session *session, size_t woken_by_it) {
-    uint32_t list[MANY + 1], all[MANY];
-    size_t count = 99;
-    CHECK(pelgaisti_raw_session_told(session, 0, all, MANY, &count) == PELGAISTI_OK && count == woken_by_it);
-    for (size_t first = 0; first <= woken_by_it + 1; first++) {
-        size_t left = first < woken_by_it ? woken_by_it - first : 0, room = left < 3 ? left + 1 : left / 2;
-        size_t written = left < room ? left : room;
-        memset(list, 0x55, sizeof list);
-        CHECK(pelgaisti_raw_session_told(session, first, list, room, &count) == PELGAISTI_OK && count == woken_by_it);
-        CHECK(written == 0 || !memcmp(list, all + first, written * sizeof *list));
-        CHECK(list[written] == 0x55555555);
-    }
-}
-
 /* A pass that ends many waits wakes each session once, whether its call tells of them too or not. */
 static void many_are_woken(void) {
     static pelgaisti_session sessions[MANY];
@@ -2121,7 +2233,6 @@ static void many_are_woken(void) {
             CHECK(answer.reply.kind == PELGAISTI_COMMITTED && count == waiters);
         } else {
             CHECK(kind_of(&sessions[0], commit) == PELGAISTI_COMMITTED);
-            tells_from_any_index(&sessions[0], waiters);
         }
         for (uint32_t s = 1; s <= MANY; s++) {
             once &= tally[s] == (2 <= s && s <= waiters + 1);
@@ -2158,7 +2269,12 @@ static void a_session_wakes_itself(void) {
 }
 
 int main(int argc, char **argv) {
+    if (argc > 1 && !strcmp(argv[1], "calls")) {
+        for (size_t k = 0; k < COUNT(all_calls); k++) printf("pelgaisti_%s\n", all_calls[k].name);
+        return 0;
+    }
     if (argc > 1) transactions = (uint32_t)strtoul(argv[1], NULL, 10);
+    null_is_refused();
     books_refuse();
     books_serve();
     history_is_let_go();
@@ -2172,7 +2288,7 @@ int main(int argc, char **argv) {
     paths_tell();
     modes_meet();
     sessions_refuse();
-    copies_are_told();
+    marks_differ();
     dropped_sessions();
     sixty_four_sessions_poll_in_turn();
     all_1024_sessions_close_in_any_order();
@@ -2188,6 +2304,7 @@ int main(int argc, char **argv) {
     passes_tell();
     calls_at_once();
     threads_sleep();
+    threads_are_cancelled();
     an_operator_ends_transactions();
     wakers_are_registered();
     each_pass_wakes();

@@ -3,8 +3,10 @@
 #include "pelgaisti.hpp"
 
 #include <cstdio>
+#include <cstdlib>
 #include <future>
 #include <memory>
+#include <new>
 #include <stdexcept>
 #include <string>
 #include <type_traits>
@@ -13,6 +15,17 @@
 using pelgaisti::kind;
 using pelgaisti::mode;
 using pelgaisti::op;
+
+// The largest allocation of this program since it was forgotten.
+static std::size_t largest;
+
+[[gnu::noinline]] void *operator new(std::size_t size) {
+    if (size > largest) largest = size;
+    if (void *at = std::malloc(size)) return at;
+    throw std::bad_alloc();
+}
+[[gnu::noinline]] void operator delete(void *at) noexcept { std::free(at); }
+[[gnu::noinline]] void operator delete(void *at, std::size_t) noexcept { std::free(at); }
 
 static int passed, failed;
 #define CHECK(condition) tell(condition, __LINE__, #condition)
@@ -124,7 +137,8 @@ static void offices() {
     pelgaisti::office office{2};
     CHECK(office[0].perform({op::begin})->place == 0);
     CHECK(!office[1].perform({op::begin}, 0) && throws(PELGAISTI_PENDING, [&] { office[1].perform({op::begin}); }));
-    CHECK(throws(PELGAISTI_PENDING, [&] { office.close(); }));
+    // a close that fails has closed no session
+    CHECK(throws(PELGAISTI_PENDING, [&] { office.close(); }) && office[0].perform({op::poll})->place == 2);
     CHECK(office[1].resume()->reply.value == 2 && throws(PELGAISTI_NOTHING_PENDING, [&] { office[1].resume(); }));
     office[0].publish({op::lock, mode::S, {7}});
     CHECK(!office[0].collect() && office[1].serve()->served == 1 && office[0].collect()->reply.kind == kind::granted);
@@ -138,7 +152,7 @@ static void offices() {
     CHECK(office[0].perform({op::commit})->reply.kind == kind::committed);
     CHECK(office[1].perform({op::poll})->reply.kind == kind::clear);
     const auto held = office[0].held(2, {7});
-    CHECK(held && held->found == mode::IX && held->length == 6 && !office[0].waits_for(2, 1)->found);
+    CHECK(held && held->found == mode::IX && held->length == 7 && !office[0].waits_for(2, 1)->found);
     CHECK(office[0].transaction(2)->found.number == 2 && office[0].request(2)->found.kind == 0);
     CHECK(office[0].holders({7})->found.size() == 1 && office[0].blockers(2)->found.empty());
     CHECK(office[0].locks()->found.size() == 1 && office[0].locks()->found[0].kind == PELGAISTI_HELD);
@@ -148,7 +162,7 @@ static void offices() {
     office[0].retire();
     CHECK(throws(PELGAISTI_RETIRED, [&] { office[0].publish({op::begin}); }));
     auto book = office.close();
-    CHECK(book->held(2, {7, 8}) == mode::X && book->length() == 8 && book->first_kept() == 0);
+    CHECK(book->held(2, {7, 8}) == mode::X && book->length() == 9 && book->first_kept() == 0);
     pelgaisti::office keeping{1, 1};
     CHECK(keeping[0].perform({op::begin}) && keeping[0].perform({op::commit}));
     CHECK(keeping.close()->first_kept() == 1);
@@ -228,15 +242,49 @@ static void a_task_throws() {
     CHECK(office[1].perform({op::begin})->reply.value == 3 && office.close()->length() == 8);
 }
 
-// Offices that aren't closed: with a pending call, with one that is served and not collected, with a session that was handed in by a
-// close that failed; ASan finds what they leak.
+// Offices that aren't closed: with a pending call, with one that is served and not collected, after a close that failed, and one that an
+// exception leaves; ASan finds what they leak.
 static void offices_are_left() {
     pelgaisti::office pending{3}, served{3}, begun{3};
     pending[2].publish({op::begin});
     served[1].publish({op::begin});
     CHECK(served[0].serve()->served == 1);
     begun[2].publish({op::begin});
-    CHECK(throws(PELGAISTI_PENDING, [&] { begun.close(); }) && throws(PELGAISTI_CLOSED, [&] { begun[1].publish({op::begin}); }));
+    CHECK(throws(PELGAISTI_PENDING, [&] { begun.close(); }) && begun[1].perform({op::begin})->reply.value == 2);
+    CHECK(throws(PELGAISTI_PENDING, [&] { begun.close(); }) && begun[0].perform({op::begin})->reply.value == 3);
+    bool is_left = false;
+    try {
+        pelgaisti::office office{2};
+        office[1].publish({op::begin});
+        throw std::runtime_error("lost");
+    } catch (const std::runtime_error &) {
+        is_left = true;
+    }
+    CHECK(is_left);
+    pelgaisti::office closed{2};
+    CHECK(closed.close()->length() == 0 && throws(PELGAISTI_CLOSED, [&] { closed.close(); }));
+}
+
+// No count of the caller's makes a call allocate for more than there is.
+static void sizes() {
+    constexpr std::size_t most = std::size_t{1} << 20;
+    const pelgaisti::waker nobody{[](void *, std::uint32_t) noexcept {}, nullptr};
+    largest = 0;
+    for (const std::size_t count : {std::size_t{0}, std::size_t{PELGAISTI_MAX_SESSIONS} + 1, std::size_t{1} << 26, SIZE_MAX}) {
+        CHECK(throws(PELGAISTI_NO_SUCH_COUNT, [&] { pelgaisti::office none(count); }));
+        CHECK(throws(PELGAISTI_NO_SUCH_COUNT, [&] { pelgaisti::office none(count, nobody); }));
+    }
+    CHECK(largest < 1024);
+    pelgaisti::office office{2};
+    std::uint64_t first = 9;
+    for (int call = 0; call < 300; ++call) CHECK(office[1].perform({op::poll})->place == static_cast<std::uint64_t>(call));
+    CHECK(office[0].take_history(10, first)->size() == 10 && first == 0);
+    CHECK(office[0].take_history(SIZE_MAX, first)->size() == 290 && first == 10 && largest < most);
+    CHECK(office[0].take_history(std::size_t{1} << 40, first)->empty() && first == 300);
+    for (int call = 0; call < 300; ++call) CHECK(office[1].perform({op::poll})->place == 300u + static_cast<unsigned>(call));
+    CHECK(office[1].take_history(299, first)->size() == 299 && first == 300);
+    auto book = office.close();
+    CHECK(book->history(599, 0).empty() && book->take_history(SIZE_MAX).size() == 1 && largest < most);
 }
 
 static void names() {
@@ -248,7 +296,7 @@ static void names() {
 }
 
 int main() {
-    for (const auto test : {books, paths_tell, tries, offices, wakers, a_task_throws, offices_are_left, names}) {
+    for (const auto test : {books, paths_tell, tries, offices, wakers, a_task_throws, offices_are_left, sizes, names}) {
         try {
             test();
         } catch (const pelgaisti::error &error) {

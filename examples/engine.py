@@ -13,8 +13,7 @@ import random
 import re
 import sys
 import threading
-import time
-from ctypes import POINTER, Structure, byref, c_size_t, c_uint32, c_uint64, c_void_p
+from ctypes import CFUNCTYPE, POINTER, Structure, byref, c_size_t, c_uint32, c_uint64, c_void_p
 from pathlib import Path
 
 FOLDER = Path(sys.argv[1] if len(sys.argv) > 1 else "out")
@@ -43,10 +42,6 @@ class Answer(Structure):
     _fields_ = [("place", c_uint64), ("reply", Reply)]
 
 
-class Pass(Structure):
-    _fields_ = [("served", c_uint32), ("starved", c_uint32)]
-
-
 class Handle(Structure):
     """The handle of a session or of a book."""
 
@@ -59,19 +54,29 @@ if LIBRARY.pelgaisti_version() != VERSION:
     sys.exit("engine.py: the library is of another version than the header")
 
 
-def checked(name, *arguments):
-    """Returns the library's function, which returns a status. It tests no pointer."""
+def declared(name, *arguments):
+    """Returns the library's function, which returns a status."""
     function = getattr(LIBRARY, name)
     function.restype, function.argtypes = c_uint32, arguments
     return function
 
 
-open_office = checked("pelgaisti_raw_office_open", POINTER(Handle), c_size_t, c_uint64, c_uint64, c_uint64)
-perform = checked("pelgaisti_raw_session_perform_telling", POINTER(Handle), POINTER(Call), POINTER(Pass), POINTER(Answer), POINTER(c_uint32), c_size_t,
-                  POINTER(c_size_t))
-hand_in = checked("pelgaisti_raw_session_hand_in", POINTER(Handle), POINTER(Handle))
-close_office = checked("pelgaisti_raw_office_close", POINTER(Handle), POINTER(Handle))
-close_book = checked("pelgaisti_raw_book_close", POINTER(Handle))
+Wake = CFUNCTYPE(None, c_void_p, c_uint32)
+
+
+class Waker(Structure):
+    """What wakes the threads of an office: a function, and its first argument."""
+
+    _fields_ = [("wake", Wake), ("engine", c_void_p)]
+
+
+open_office = declared("pelgaisti_office_open_waking", POINTER(Handle), c_size_t, c_uint64, POINTER(Waker))
+perform = declared("pelgaisti_session_perform", POINTER(Handle), POINTER(Call), c_uint64, POINTER(Answer))
+hand_in = declared("pelgaisti_session_hand_in", POINTER(Handle), POINTER(Handle))
+close_office = declared("pelgaisti_office_close", POINTER(Handle), POINTER(Handle))
+close_book = declared("pelgaisti_book_close", POINTER(Handle))
+# how many turns a call makes until it is answered
+NO_LIMIT = 2**64 - 1
 
 
 def expect(status, what):
@@ -84,21 +89,12 @@ class Worker:
 
     def __init__(self, handle, number):
         self.handle, self.number = handle, number
-        self.told, self.count = (c_uint32 * THREADS)(), c_size_t()
         self.waits = self.victims = 0
 
     def call(self, op, mode="NL", *path):
-        """Makes a call, and wakes the sessions whose wait it has ended. Returns the kind of the reply."""
-        asked = Call(N[op], N[mode], Resource(len(path), (c_uint32 * 5)(*path)))
-        answer, made = Answer(), Pass()
-        while True:
-            status = perform(self.handle, byref(asked), byref(made), byref(answer), self.told, THREADS, byref(self.count))
-            for at in range(self.count.value):
-                WOKEN[self.told[at]].release()
-            if status != N["ELSEWHERE"]:
-                break
-            time.sleep(0)  # another thread has the lock table
-        expect(status, op)
+        """Makes a call. Returns the kind of the reply."""
+        asked, answer = Call(N[op], N[mode], Resource(len(path), (c_uint32 * 5)(*path))), Answer()
+        expect(perform(self.handle, byref(asked), NO_LIMIT, byref(answer)), op)
         return answer.reply.kind
 
     def lock(self, mode, *path):
@@ -137,11 +133,13 @@ class Worker:
 ACCOUNT = [BALANCE] * ACCOUNTS
 # for each session, by its number, what its thread sleeps on
 WOKEN = [threading.Semaphore(0) for _ in range(THREADS + 1)]
+# a name of its own, since it has to stay as long as the office
+WAKER = Waker(Wake(lambda engine, session: WOKEN[session].release()), None)
 
 
 def main():
     sessions = (Handle * THREADS)()
-    expect(open_office(sessions, THREADS, 1, KEPT, 0), "open")  # no waker: each thread reads whom to wake
+    expect(open_office(sessions, THREADS, KEPT, byref(WAKER)), "open")
     workers = [Worker(sessions[at], at + 1) for at in range(THREADS)]
     threads = [threading.Thread(target=worker.work) for worker in workers]
     for thread in threads:

@@ -14,7 +14,6 @@ use std::thread;
 use std::time::Duration;
 
 const OK: u32 = 0;
-const NOT_SERVED: u32 = 11;
 const IX: u32 = 3;
 const X: u32 = 15;
 const BEGIN: u32 = 1;
@@ -63,13 +62,6 @@ struct Answer {
     reply: Reply,
 }
 
-#[repr(C)]
-#[derive(Default)]
-struct Pass {
-    served: u32,
-    starved: u32,
-}
-
 /// The handle of a book or of a session.
 #[repr(C)]
 struct Handle {
@@ -85,22 +77,23 @@ const EMPTY: Handle = Handle {
     at: null_mut(),
 };
 
+/// What wakes the threads of an office: a function, and its first argument.
+#[repr(C)]
+struct Waker {
+    wake: extern "C" fn(beds: *const Beds, session: u32),
+    beds: *const Beds,
+}
+
 #[link(name = "pelgaisti", kind = "static")]
 unsafe extern "C" {
-    safe fn pelgaisti_raw_book_length(book: &mut Handle, length: &mut u64) -> u32;
-    safe fn pelgaisti_raw_book_close(book: &mut Handle) -> u32;
-    // `mark` must be a number that no other open office has; of the history at most `bound` entries are kept. With a `waker` other
-    // than 0, which is this engine's to know, passes tell whom to wake.
-    fn pelgaisti_raw_office_open(sessions: *mut Handle, count: usize, mark: u64, bound: u64, waker: u64) -> u32;
-    // Needs that open handles with the same mark belong to the same office.
-    safe fn pelgaisti_raw_session_hand_in(session: &mut Handle, to: &mut Handle) -> u32;
-    safe fn pelgaisti_raw_office_close(session: &mut Handle, book: &mut Handle) -> u32;
-    safe fn pelgaisti_raw_session_publish(session: &mut Handle, call: &Call, posted: &mut u32) -> u32;
-    safe fn pelgaisti_raw_session_serve(session: &mut Handle, pass: &mut Pass, told: &mut usize) -> u32;
-    safe fn pelgaisti_raw_session_waker(session: &mut Handle, waker: &mut u64) -> u32;
-    // Needs `room` numbers at `list`. Writes those told from index `first` on.
-    fn pelgaisti_raw_session_told(session: &mut Handle, first: usize, list: *mut u32, room: usize, count: &mut usize) -> u32;
-    safe fn pelgaisti_raw_session_collect(session: &mut Handle, answer: &mut Answer) -> u32;
+    safe fn pelgaisti_book_length(book: &mut Handle, length: &mut u64) -> u32;
+    safe fn pelgaisti_book_close(book: &mut Handle) -> u32;
+    // Needs `count` handles at `sessions`, and that the waker stays as it is while the office is open. Of the history at most `bound`
+    // entries are kept.
+    fn pelgaisti_office_open_waking(sessions: *mut Handle, count: usize, bound: u64, waker: *const Waker) -> u32;
+    safe fn pelgaisti_session_perform(session: &mut Handle, call: &Call, turns: u64, answer: &mut Answer) -> u32;
+    safe fn pelgaisti_session_hand_in(session: &mut Handle, to: &mut Handle) -> u32;
+    safe fn pelgaisti_office_close(session: &mut Handle, book: &mut Handle) -> u32;
 }
 
 const THREADS: usize = 4;
@@ -149,6 +142,13 @@ impl Bed {
 type Tables = [[AtomicI64; MEETING + 1]; 2];
 type Beds = [Bed; THREADS];
 
+/// Wakes the thread of a session, whose wait a pass of the calling thread has ended.
+extern "C" fn wake(beds: *const Beds, session: u32) {
+    // the address with which `main` has opened the office
+    let beds = unsafe { &*beds };
+    beds[session as usize - 1].wake();
+}
+
 /// A thread of the engine, with its session.
 struct Worker<'a> {
     session: &'a mut Handle,
@@ -160,32 +160,11 @@ struct Worker<'a> {
 }
 
 impl Worker<'_> {
-    /// Serves once, and wakes the threads whose waits the pass has ended, by the office's waker.
-    fn serve(&mut self) {
-        let (mut list, mut told, mut waker) = ([0; THREADS], 0, 0);
-        pelgaisti_raw_session_serve(self.session, &mut Pass::default(), &mut told);
-        if told > 0 {
-            assert_eq!(pelgaisti_raw_session_waker(self.session, &mut waker), OK);
-            assert_eq!(unsafe { pelgaisti_raw_session_told(self.session, 0, list.as_mut_ptr(), THREADS, &mut told) }, OK);
-            // the address at which `main` has opened the office
-            let beds = unsafe { &*(waker as *const Beds) };
-            list[..told].iter().for_each(|session| beds[*session as usize - 1].wake());
-        }
-    }
-
-    /// Publishes a call, then serves and collects until the answer is there.
+    /// Makes a call. Without a bound on its turns there is an answer, unless memory is refused.
     fn ask(&mut self, call: Call) -> Reply {
-        let mut posted = 0;
-        assert_eq!(pelgaisti_raw_session_publish(self.session, &call, &mut posted), OK);
         let mut answer = Answer::default();
-        loop {
-            self.serve();
-            match pelgaisti_raw_session_collect(self.session, &mut answer) {
-                OK => return answer.reply,
-                status => assert_eq!(status, NOT_SERVED),
-            }
-            thread::yield_now();
-        }
+        assert_eq!(pelgaisti_session_perform(self.session, &call, u64::MAX, &mut answer), OK);
+        answer.reply
     }
 
     /// Makes a call without a resource and a mode.
@@ -308,8 +287,8 @@ fn main() {
     let both_hold_one = Barrier::new(2);
     let beds: Beds = Default::default();
     let mut sessions = [EMPTY; THREADS];
-    let at = sessions.as_mut_ptr();
-    assert_eq!(unsafe { pelgaisti_raw_office_open(at, THREADS, at as u64, u64::MAX, &raw const beds as u64) }, OK);
+    let waker = Waker { wake, beds: &raw const beds };
+    assert_eq!(unsafe { pelgaisti_office_open_waking(sessions.as_mut_ptr(), THREADS, u64::MAX, &waker) }, OK);
     let mut workers: Vec<_> = (0..)
         .zip(&mut sessions)
         .map(|(number, session)| Worker {
@@ -332,12 +311,12 @@ fn main() {
     let mut book = EMPTY;
     let (first, others) = sessions.split_first_mut().unwrap();
     for session in others {
-        assert_eq!(pelgaisti_raw_session_hand_in(session, first), OK);
+        assert_eq!(pelgaisti_session_hand_in(session, first), OK);
     }
-    assert_eq!(pelgaisti_raw_office_close(first, &mut book), OK);
+    assert_eq!(pelgaisti_office_close(first, &mut book), OK);
     let mut length = 0;
-    assert_eq!(pelgaisti_raw_book_length(&mut book, &mut length), OK);
-    assert_eq!(pelgaisti_raw_book_close(&mut book), OK);
+    assert_eq!(pelgaisti_book_length(&mut book, &mut length), OK);
+    assert_eq!(pelgaisti_book_close(&mut book), OK);
     let sum: i64 = accounts.iter().flatten().map(|account| account.load(Relaxed)).sum();
     println!("the sum is {sum}; a deadlock was undone: {}", if victims > 0 { "yes" } else { "no" });
     assert!(sum == 10 * BALANCE && victims > 0 && length > 8 * u64::from(MOVES));

@@ -23,19 +23,23 @@
  *
  * A lock table comes in two forms. A BOOK is a lock table for one thread, or for an engine that guards it by a mutex of its own:
  * each call is answered at once. An OFFICE is a lock table that threads share. Each thread has a session. Where the lock table is
- * free, it performs a call at once. Else it publishes the call, then serves and collects in turn until it has the answer. No call
- * of the archive blocks. pelgaisti_session_perform makes these calls in turn, as often as it is told.
+ * free, it performs a call at once. Else it publishes the call, then serves and collects in turn until it has the answer.
+ * pelgaisti_session_perform and pelgaisti_session_lock_path do so, as often as they are told, and pause between their turns. No other
+ * call waits for another thread.
  *
  * RULES FOR THE CALLER. The library is proved, but no proof covers the C code that calls it. Some calls have further rules, in
  * their comments after "Requires".
  * - A handle (pelgaisti_book, pelgaisti_session) is a struct in the caller's memory. Set it to PELGAISTI_EMPTY, or all its bytes
  *   to zero, before its first use. From then on never copy, move, read or write it, and keep its memory until it is closed.
- * - Every pointer is aligned and points to memory of its type. No two arguments of a call overlap.
- * - NULL. The calls are inline functions, which test every pointer: they return PELGAISTI_NULL for a NULL pointer, and accept NULL
- *   only if the comment of the call allows it. Each stands over a function of the archive with the name pelgaisti_raw_.., which
- *   tests no pointer: a call of that one, as another language makes it, must pass no NULL, not even if the comment allows it.
+ * - Every pointer is aligned and points to memory of its type. No two arguments of a call overlap. A call returns PELGAISTI_NULL
+ *   for a NULL pointer, unless its comment allows it. pelgaisti_path_call tests none.
+ * - A process that has two copies of the library uses each handle with the copy that opened it.
  * - At most one call at a time uses a handle. To pass a handle to another thread, synchronize: by a mutex, by the start or the
  *   join of a thread, or by a sequentially consistent atomic. Different sessions of one office may be used at the same time.
+ *   Built with -fsanitize=thread a program is told of two threads that use one handle without that.
+ * - A thread isn't ended inside a call: neither by asynchronous cancellation (PTHREAD_CANCEL_ASYNCHRONOUS) nor by leaving a signal
+ *   handler with longjmp. It would leave the lock table taken for ever. Deferred cancellation is safe: no call has a cancellation
+ *   point, but a waker may have one.
  * - No call is made in a signal handler, nor in the forked child of a process with threads.
  * - malloc, realloc and free belong to one allocator, and align blocks as those of the C library do.
  *
@@ -50,21 +54,22 @@
  * once is made, and its answer read, between the compare-exchange of the lock word and its store. So the writes before the one call
  * happen before the reads behind the other, in the sense of C11 and C++11. The calls lead into an archive, so that no compiler
  * moves an access to shared memory across one. For a book behind a mutex it is the mutex that does this.
- * ThreadSanitizer can't see the archive's steps. Built with -fsanitize=thread the functions of this header tell it of them: a
+ * ThreadSanitizer can't see the archive's steps. If a program is built with -fsanitize=thread, the archive tells it of them: a
  * publish releases and a collect acquires, a call that is performed at once does both, and what is done inside the archive is
  * left out.
  *
- * STATUSES. Every call but pelgaisti_version returns a pelgaisti_status. A call tests its arguments first, in the order in which
+ * STATUSES. Every call on a handle returns a pelgaisti_status. A call tests its arguments first, in the order in which
  * its comment lists the statuses; the first test that fails gives the status. A status other than PELGAISTI_OK means that nothing
  * has changed and nothing was written: no handle, no history, no memory that an argument points to. There are four exceptions: a
  * serve that returns ELSEWHERE may put the session's record on the publication list; COPIED closes the session's handle; where
  * memory was refused for a call that was to be performed at once, a pass was made that may have served other calls, and the waker was
  * called for whom it has told of; and where memory was refused for the answer to a question of a session, the session may know more
- * of the history. The calls made of several others say for themselves what they leave (pelgaisti_session_perform, .._lock_path).
+ * of the history. The calls that make several turns say for themselves what they leave (pelgaisti_session_perform, .._lock_path).
  *
- * WHAT IS PROVED. Each function of the archive has a contract, which crates/pelgaisti_c states and proves: what PELGAISTI_OK means,
- * which other statuses the call can return, and what each of these implies. The inline functions of this header are tested, and so
- * are three sentences:
+ * WHAT IS PROVED. Each call leads to an export of crates/pelgaisti_c, which states and proves its contract: what PELGAISTI_OK means,
+ * which other statuses the call can return, and what each of these implies. What stands between is in bindings/c, some 400 lines of C,
+ * and is tested: that NULL is refused, that calls are made and turns follow as their comments say, that threads pause and are woken,
+ * names. So are three sentences:
  * - NOT_SERVED. Proved: the session has a pending call, and that call is not in the part of the history that the session knows
  *   (pelgaisti_session_seen counts its entries). So a collect directly after a serve of the same session that returned OK with
  *   `starved` 0 never returns NOT_SERVED. Tested: a collect finds the answer that another session's pass has written.
@@ -72,14 +77,13 @@
  *   was tried once more to be listed, and may be. Tested: another session had the lock table at that moment.
  * - LISTED. Proved: after a pass with `starved` 0 of a session that has heard from this one since (pelgaisti_session_hear), the
  *   call is in the history. Tested: passes of sessions that have not heard from this one serve the call too.
- * Nor do contracts say that NO_MEMORY comes only when memory was refused, or COPIED only when a handle was copied or moved.
+ * Nor do contracts say that NO_MEMORY comes only when memory was refused, or COPIED only when it should.
  *
  * The archive is for 64-bit x86 under Linux, from x86-64-v2 on.
  */
 #ifndef PELGAISTI_H
 #define PELGAISTI_H
 
-#include <sched.h>
 #include <stddef.h>
 #include <stdint.h>
 
@@ -112,14 +116,13 @@ typedef enum pelgaisti_status {
                                       table is tested] */
     PELGAISTI_OTHER_OFFICE = 14,   /* the two sessions belong to different offices [other_office: their marks differ] */
     PELGAISTI_MISSING = 15,        /* a session of the office was not handed in [missing] */
-    PELGAISTI_COPIED = 16,         /* a handle was copied or moved, against the rules above; see pelgaisti_office_close [whole,
-                                      done: all tests before it passed, and the session is closed; that a handle was copied is
-                                      tested] */
-    PELGAISTI_NULL = 17,           /* a pointer is NULL and must not be [tested: only this header returns it] */
-    PELGAISTI_SAME = 18,           /* both arguments are the same handle [tested: only this header returns it] */
+    PELGAISTI_COPIED = 16,         /* a handle was copied or moved, against the rules above, or is of another copy of the
+                                      library; see pelgaisti_office_close [whole, done: all tests before it passed, and the session
+                                      is closed; that such a handle was handed in is tested] */
+    PELGAISTI_NULL = 17,           /* a pointer is NULL and must not be [tested] */
+    PELGAISTI_SAME = 18,           /* both arguments are the same handle [tested] */
     PELGAISTI_LET_GO = 19,         /* the entry at this place of the history was let go [let_go, exactly then] */
-    PELGAISTI_NO_ROOM = 20         /* the array has room for fewer sessions than the office has [room, exactly then], or than the book
-                                      has [tested: only this header returns it of a book] */
+    PELGAISTI_NO_ROOM = 20         /* the array has room for fewer sessions than the office, or the book, has [room, exactly then] */
 } pelgaisti_status;
 
 /* The lock modes of Gray, Lorie, Putzolu and Traiger (1976), and U. The or of two codes is their least upper bound's code. */
@@ -193,11 +196,12 @@ typedef enum pelgaisti_posted {
 /* The version of the library, as glm --version and the files for pkg-config and CMake tell it. */
 #define PELGAISTI_VERSION "0.8.0"
 
-/* The version of this header. It rises when a program that was compiled with the header before could not use the library. Version 4
-   has a waker that belongs to an office, in place of one that belonged to a call. Version 3 has the functions of the archive under the names pelgaisti_raw_.., so that a program of an older version doesn't link. Version 2
-   has five levels in place of four, so that structs with a resource are larger, and 1024 sessions in place of 256. Version 1 had
-   neither this constant nor pelgaisti_version. */
-#define PELGAISTI_HEADER_VERSION 4
+/* The version of this header. It rises when a program that was compiled with the header before could not use the library. Version 5
+   has all calls as functions of the library, where they were inline over others, pelgaisti_raw_... Version 4 had a waker that belongs
+   to an office, in place of one that belonged to a call. Version 3 had the names pelgaisti_raw_... Version 2 had five levels in place
+   of four, so that structs with a resource are larger, and 1024 sessions in place of 256. Version 1 had neither this constant nor
+   pelgaisti_version. */
+#define PELGAISTI_HEADER_VERSION 5
 
 /* What a claim on a resource is. */
 typedef enum pelgaisti_claim_kind {
@@ -279,12 +283,7 @@ typedef struct pelgaisti_session {
     void *at_;
 } pelgaisti_session;
 
-/* What C++ is told of functions that throw nothing. From C++17 on this is a part of a function's type. */
-#if defined(__cplusplus)
-#define PELGAISTI_NOEXCEPT_ noexcept
-#else
-#define PELGAISTI_NOEXCEPT_
-#endif
+/* From C++17 on it is a part of a function's type that it throws nothing. */
 #if defined(__cplusplus) && __cplusplus >= 201703L
 #define PELGAISTI_NOEXCEPT_TYPE_ noexcept
 #else
@@ -303,7 +302,8 @@ typedef struct pelgaisti_session {
      early, as a semaphore does; and a thread that is woken polls, and sleeps on if the reply is WAITING.
    - `wake` returns. It doesn't leave by longjmp or an exception, doesn't end its thread, and its thread isn't cancelled in it: then the
      sessions behind this one would sleep for ever, and the answer of the call would be lost, which stands in the history. In C++17
-     the type says noexcept, so that a function that may throw isn't taken. In earlier C++ one that throws ends the program. */
+     the type says noexcept, so that a function that may throw isn't taken. In earlier C++ one that throws ends the program. One with a
+     cancellation point, such as a write to a pipe, in an engine that cancels threads, disables cancellation while it runs. */
 typedef struct pelgaisti_waker {
     void (*wake)(void *engine, uint32_t session) PELGAISTI_NOEXCEPT_TYPE_;
     void *engine;
@@ -312,15 +312,8 @@ typedef struct pelgaisti_waker {
 /* The initial value of a handle, and the same as values, for an assignment: book = pelgaisti_empty_book(). */
 #define PELGAISTI_EMPTY {0, NULL}
 
-static inline pelgaisti_book pelgaisti_empty_book(void) {
-    pelgaisti_book book = PELGAISTI_EMPTY;
-    return book;
-}
-
-static inline pelgaisti_session pelgaisti_empty_session(void) {
-    pelgaisti_session session = PELGAISTI_EMPTY;
-    return session;
-}
+pelgaisti_book pelgaisti_empty_book(void);
+pelgaisti_session pelgaisti_empty_session(void);
 
 /* What the archive was compiled with: sizes in bytes, and the places of fields. */
 #ifdef __cplusplus
@@ -350,173 +343,33 @@ PELGAISTI_ASSERT_(session, sizeof(pelgaisti_session) == 16 && offsetof(pelgaisti
 /* ---- Names for messages; "unknown" for a number that is none of the enumeration. Those of modes, ops, replies and refusals are
    those of traces and histories. ---- */
 
-static inline const char *pelgaisti_status_name(uint64_t status) {
-    static const char *const names[] = {"OK", "NO_MEMORY", "CLOSED", "NO_SUCH_SESSION", "NO_SUCH_OP", "NO_SUCH_LEVEL",
-                                        "NO_SUCH_MODE", "OPEN", "NO_SUCH_COUNT", "PENDING", "NOTHING_PENDING", "NOT_SERVED",
-                                        "RETIRED", "ELSEWHERE", "OTHER_OFFICE", "MISSING", "COPIED", "NULL", "SAME", "LET_GO",
-                                        "NO_ROOM"};
-    return status < sizeof names / sizeof *names ? names[status] : "unknown";
-}
-
-static inline const char *pelgaisti_mode_name(uint64_t mode) {
-    switch (mode) {
-    case PELGAISTI_NL: return "NL";
-    case PELGAISTI_IS: return "IS";
-    case PELGAISTI_IX: return "IX";
-    case PELGAISTI_S: return "S";
-    case PELGAISTI_SIX: return "SIX";
-    case PELGAISTI_U: return "U";
-    case PELGAISTI_X: return "X";
-    default: return "unknown";
-    }
-}
-
-static inline const char *pelgaisti_op_name(uint64_t op) {
-    static const char *const names[] = {"unknown", "begin", "lock", "convert", "poll", "release", "commit", "abort", "try",
-                                        "withdraw"};
-    return names[op < sizeof names / sizeof *names ? op : 0];
-}
+const char *pelgaisti_status_name(uint64_t status);
+const char *pelgaisti_mode_name(uint64_t mode);
+const char *pelgaisti_op_name(uint64_t op);
 
 /* The name of a reply's kind. */
-static inline const char *pelgaisti_reply_name(uint64_t kind) {
-    static const char *const names[] = {"unknown", "began", "granted", "waiting", "deadlock", "clear", "released", "committed",
-                                        "aborted", "refused", "withdrawn"};
-    return names[kind < sizeof names / sizeof *names ? kind : 0];
-}
+const char *pelgaisti_reply_name(uint64_t kind);
 
 /* The name of the value of a REFUSED reply. */
-static inline const char *pelgaisti_refusal_name(uint64_t why) {
-    static const char *const names[] = {"unknown", "AlreadyOpen", "NoTransaction", "IsWaiting", "IsDoomed", "NothingAsked",
-                                        "NotHeld", "ParentNotHeld", "ChildHeld", "TooManyLocks", "unknown", "WouldWait",
-                                        "NotWaiting"};
-    return names[why < sizeof names / sizeof *names ? why : 0];
-}
-
-/* ---- The functions of the archive. They test no pointer; the calls below do. ---- */
+const char *pelgaisti_refusal_name(uint64_t why);
 
 /* Returns the version of the header that the library was built with. A program that may meet a library of another version compares
    it with PELGAISTI_HEADER_VERSION before any other call. */
 uint32_t pelgaisti_version(void);
 
-uint32_t pelgaisti_raw_book_open(pelgaisti_book *book, uint32_t sessions);
-uint32_t pelgaisti_raw_book_close(pelgaisti_book *book);
-uint32_t pelgaisti_raw_book_serve(pelgaisti_book *book, uint32_t session, const pelgaisti_call *call, pelgaisti_reply *reply);
-uint32_t pelgaisti_raw_book_serve_batch(pelgaisti_book *book, pelgaisti_entry *calls, size_t length, size_t *count);
-uint32_t pelgaisti_raw_book_held(pelgaisti_book *book, uint32_t session, const pelgaisti_resource *resource, uint32_t *mode);
-uint32_t pelgaisti_raw_book_waits_for(pelgaisti_book *book, uint32_t session, uint32_t other, uint32_t *edge);
-uint32_t pelgaisti_raw_book_holders(pelgaisti_book *book, const pelgaisti_resource *resource, pelgaisti_holder *list, size_t room,
-                                    size_t *count);
-uint32_t pelgaisti_raw_book_transaction(pelgaisti_book *book, uint32_t session, pelgaisti_transaction *open);
-uint32_t pelgaisti_raw_book_request(pelgaisti_book *book, uint32_t session, pelgaisti_claim *waiting);
-uint32_t pelgaisti_raw_book_locks(pelgaisti_book *book, size_t first, pelgaisti_claim *list, size_t room, size_t *count);
-uint32_t pelgaisti_raw_book_ended(pelgaisti_book *book, uint32_t *list, size_t room, size_t *count);
-uint32_t pelgaisti_raw_book_length(pelgaisti_book *book, uint64_t *length);
-uint32_t pelgaisti_raw_book_history(pelgaisti_book *book, uint64_t first, pelgaisti_entry *entries, size_t room, size_t *count);
-uint32_t pelgaisti_raw_book_first_kept(pelgaisti_book *book, uint64_t *first);
-uint32_t pelgaisti_raw_book_keep_at_most(pelgaisti_book *book, uint64_t bound);
-uint32_t pelgaisti_raw_book_take_history(pelgaisti_book *book, uint64_t *first, pelgaisti_entry *entries, size_t room,
-                                         size_t *count);
-/* `mark` is the number by which pelgaisti_raw_session_hear and pelgaisti_raw_session_hand_in tell offices apart: one that no other
-   open office has. `bound` is that of pelgaisti_office_open_keeping. `waker` is what pelgaisti_raw_session_waker tells, 0 for none: the
-   address of the waker, which the archive doesn't read. */
-uint32_t pelgaisti_raw_office_open(pelgaisti_session *sessions, size_t count, uint64_t mark, uint64_t bound, uint64_t waker);
-uint32_t pelgaisti_raw_session_publish(pelgaisti_session *session, const pelgaisti_call *call, uint32_t *posted);
-/* `told` gets how many sessions the waker is to wake after the pass, 0 in an office without one: it is written with OK, with NO_MEMORY,
-   and with ELSEWHERE, which is 0. pelgaisti_raw_session_told tells which they are, until the session's next try to make a pass. */
-uint32_t pelgaisti_raw_session_serve(pelgaisti_session *session, pelgaisti_pass *pass, size_t *told);
-uint32_t pelgaisti_raw_session_serve_telling(pelgaisti_session *session, pelgaisti_pass *pass, uint32_t *list, size_t room,
-                                             size_t *count);
-uint32_t pelgaisti_raw_session_perform_at_once(pelgaisti_session *session, const pelgaisti_call *call, pelgaisti_pass *pass,
-                                               pelgaisti_answer *answer, size_t *told);
-uint32_t pelgaisti_raw_session_perform_telling(pelgaisti_session *session, const pelgaisti_call *call, pelgaisti_pass *pass,
-                                               pelgaisti_answer *answer, uint32_t *list, size_t room, size_t *count);
-uint32_t pelgaisti_raw_session_collect(pelgaisti_session *session, pelgaisti_answer *answer);
-uint32_t pelgaisti_raw_session_take_history(pelgaisti_session *session, uint64_t *first, pelgaisti_entry *entries, size_t room,
-                                            size_t *count);
-uint32_t pelgaisti_raw_session_held(pelgaisti_session *session, uint32_t whose, const pelgaisti_resource *resource, uint32_t *mode,
-                                    uint64_t *seen);
-uint32_t pelgaisti_raw_session_transaction(pelgaisti_session *session, uint32_t whose, pelgaisti_transaction *open, uint64_t *seen);
-uint32_t pelgaisti_raw_session_request(pelgaisti_session *session, uint32_t whose, pelgaisti_claim *waiting, uint64_t *seen);
-uint32_t pelgaisti_raw_session_waits_for(pelgaisti_session *session, uint32_t whose, uint32_t other, uint32_t *edge, uint64_t *seen);
-uint32_t pelgaisti_raw_session_holders(pelgaisti_session *session, const pelgaisti_resource *resource, pelgaisti_holder *list,
-                                       size_t room, size_t *count, uint64_t *seen);
-uint32_t pelgaisti_raw_session_blockers(pelgaisti_session *session, uint32_t whose, uint32_t *list, size_t room, size_t *count,
-                                        uint64_t *seen);
-uint32_t pelgaisti_raw_session_locks(pelgaisti_session *session, size_t first, pelgaisti_claim *list, size_t room, size_t *count,
-                                     uint64_t *seen);
-uint32_t pelgaisti_raw_session_seen(pelgaisti_session *session, uint64_t *seen);
-uint32_t pelgaisti_raw_session_mark(pelgaisti_session *session, uint64_t *mark);
-uint32_t pelgaisti_raw_session_waker(pelgaisti_session *session, uint64_t *waker);
-uint32_t pelgaisti_raw_session_told(pelgaisti_session *session, size_t first, uint32_t *list, size_t room, size_t *count);
-uint32_t pelgaisti_raw_session_hear(pelgaisti_session *session, pelgaisti_session *other);
-uint32_t pelgaisti_raw_session_retire(pelgaisti_session *session);
-uint32_t pelgaisti_raw_session_hand_in(pelgaisti_session *session, pelgaisti_session *to);
-uint32_t pelgaisti_raw_office_close(pelgaisti_session *session, pelgaisti_book *book);
-
-/* ---- What ThreadSanitizer is told; nothing in other builds. ---- */
-
-#if defined(__SANITIZE_THREAD__)
-#define PELGAISTI_TSAN_
-#elif defined(__has_feature)
-#if __has_feature(thread_sanitizer)
-#define PELGAISTI_TSAN_
-#endif
-#endif
-
-#ifdef PELGAISTI_TSAN_
-void __tsan_acquire(void *at);
-void __tsan_release(void *at);
-void AnnotateIgnoreReadsBegin(const char *file, int line);
-void AnnotateIgnoreReadsEnd(const char *file, int line);
-
-/* What the archive does between these two, such as to free what another thread has allocated, is ordered by the archive. */
-static inline void pelgaisti_enter_(void) { AnnotateIgnoreReadsBegin(__FILE__, __LINE__); }
-
-static inline pelgaisti_status pelgaisti_leave_(uint32_t status) {
-    AnnotateIgnoreReadsEnd(__FILE__, __LINE__);
-    return (pelgaisti_status)status;
-}
-
-/* What stands for the words of the session's office: its mark, which is the address of the array of its sessions. */
-static inline void *pelgaisti_words_(pelgaisti_session *session) {
-    uint64_t mark = 0;
-    pelgaisti_enter_();
-    if (pelgaisti_leave_(pelgaisti_raw_session_mark(session, &mark)) != PELGAISTI_OK) return session;
-    return (void *)(uintptr_t)mark;
-}
-
-static inline void pelgaisti_released_(pelgaisti_session *session) { __tsan_release(pelgaisti_words_(session)); }
-static inline void pelgaisti_acquired_(pelgaisti_session *session) { __tsan_acquire(pelgaisti_words_(session)); }
-#define PELGAISTI_CALL_(call) (pelgaisti_enter_(), pelgaisti_leave_(call))
-#else
-static inline void pelgaisti_released_(pelgaisti_session *session) { (void)session; }
-static inline void pelgaisti_acquired_(pelgaisti_session *session) { (void)session; }
-#define PELGAISTI_CALL_(call) ((pelgaisti_status)(call))
-#endif
-
 /* ---- A book: the lock table for one thread. The line in capitals lists the statuses other than OK. ---- */
 
 /* Opens the handle with an empty lock table for sessions 1 to `sessions`.
    NULL, OPEN, NO_SUCH_COUNT, NO_MEMORY. */
-static inline pelgaisti_status pelgaisti_book_open(pelgaisti_book *book, uint32_t sessions) {
-    if (!book) return PELGAISTI_NULL;
-    return PELGAISTI_CALL_(pelgaisti_raw_book_open(book, sessions));
-}
+pelgaisti_status pelgaisti_book_open(pelgaisti_book *book, uint32_t sessions);
 
 /* Closes the handle and frees the lock table. The handle may be opened again.
    NULL, CLOSED. */
-static inline pelgaisti_status pelgaisti_book_close(pelgaisti_book *book) {
-    if (!book) return PELGAISTI_NULL;
-    return PELGAISTI_CALL_(pelgaisti_raw_book_close(book));
-}
+pelgaisti_status pelgaisti_book_close(pelgaisti_book *book);
 
 /* Serves one call of a session and writes the reply. The call is entered into the history, also if it is refused.
    NULL, CLOSED, NO_SUCH_SESSION, NO_SUCH_OP, NO_SUCH_LEVEL, NO_SUCH_MODE, NO_MEMORY. */
-static inline pelgaisti_status pelgaisti_book_serve(pelgaisti_book *book, uint32_t session, const pelgaisti_call *call,
-                                                    pelgaisti_reply *reply) {
-    if (!book || !call || !reply) return PELGAISTI_NULL;
-    return PELGAISTI_CALL_(pelgaisti_raw_book_serve(book, session, call, reply));
-}
+pelgaisti_status pelgaisti_book_serve(pelgaisti_book *book, uint32_t session, const pelgaisti_call *call, pelgaisti_reply *reply);
 
 /* Serves several calls in order, `length` of them, and writes the number of those that were served to `count`. A call is given by
    `session` and `call` of an entry. Each that is served becomes its entry of the history: `reply` is written, and the numbers that
@@ -526,166 +379,87 @@ static inline pelgaisti_status pelgaisti_book_serve(pelgaisti_book *book, uint32
    is no call, its status is returned, and none is served. `calls` may be NULL if `length` is 0. Requires `length` elements at
    `calls`.
    NULL, CLOSED, NO_SUCH_SESSION, NO_SUCH_OP, NO_SUCH_LEVEL, NO_SUCH_MODE (the first entry that is no call), NO_MEMORY. */
-static inline pelgaisti_status pelgaisti_book_serve_batch(pelgaisti_book *book, pelgaisti_entry *calls, size_t length,
-                                                          size_t *count) {
-    pelgaisti_entry none;
-    if (!book || !count || (!calls && length)) return PELGAISTI_NULL;
-    return PELGAISTI_CALL_(pelgaisti_raw_book_serve_batch(book, calls ? calls : &none, length, count));
-}
+pelgaisti_status pelgaisti_book_serve_batch(pelgaisti_book *book, pelgaisti_entry *calls, size_t length, size_t *count);
 
 /* Writes the mode that the session holds on the resource, or PELGAISTI_NL if it holds none. The mode of a waiting request does
    not count, nor do locks on ancestors.
    NULL, CLOSED, NO_SUCH_SESSION, NO_SUCH_LEVEL. */
-static inline pelgaisti_status pelgaisti_book_held(pelgaisti_book *book, uint32_t session, const pelgaisti_resource *resource,
-                                                   uint32_t *mode) {
-    if (!book || !resource || !mode) return PELGAISTI_NULL;
-    return PELGAISTI_CALL_(pelgaisti_raw_book_held(book, session, resource, mode));
-}
+pelgaisti_status pelgaisti_book_held(pelgaisti_book *book, uint32_t session, const pelgaisti_resource *resource, uint32_t *mode);
 
 /* Writes the first `room` holders of the resource to `list`, in the order of session numbers, and the number of all holders to
    `count`. `list` may be NULL if `room` is 0. Requires `room` elements at `list`.
    NULL, CLOSED, NO_SUCH_LEVEL, NO_MEMORY. */
-static inline pelgaisti_status pelgaisti_book_holders(pelgaisti_book *book, const pelgaisti_resource *resource,
-                                                      pelgaisti_holder *list, size_t room, size_t *count) {
-    pelgaisti_holder none;
-    if (!book || !resource || !count || (!list && room)) return PELGAISTI_NULL;
-    return PELGAISTI_CALL_(pelgaisti_raw_book_holders(book, resource, list ? list : &none, room, count));
-}
+pelgaisti_status pelgaisti_book_holders(pelgaisti_book *book, const pelgaisti_resource *resource, pelgaisti_holder *list,
+                                        size_t room, size_t *count);
 
 /* Writes 1 to `edge` if `session` waits for `other` directly, and else 0. It does if it has a waiting request, and `other` holds
    the resource in a mode that conflicts with it or has a request ahead of it in the queue.
    NULL, CLOSED, NO_SUCH_SESSION (one of the two). */
-static inline pelgaisti_status pelgaisti_book_waits_for(pelgaisti_book *book, uint32_t session, uint32_t other, uint32_t *edge) {
-    if (!book || !edge) return PELGAISTI_NULL;
-    return PELGAISTI_CALL_(pelgaisti_raw_book_waits_for(book, session, other, edge));
-}
+pelgaisti_status pelgaisti_book_waits_for(pelgaisti_book *book, uint32_t session, uint32_t other, uint32_t *edge);
 
 /* Writes the first `room` of the sessions for which `session` waits directly, who block it, to `list`, in the order of their
    numbers, and the number of all of them to `count`. `list` may be NULL if `room` is 0. Requires `room` elements at `list`.
    NULL, CLOSED, NO_SUCH_SESSION. */
-static inline pelgaisti_status pelgaisti_book_blockers(pelgaisti_book *book, uint32_t session, uint32_t *list, size_t room,
-                                                       size_t *count) {
-    uint32_t other, edge = 0;
-    size_t found = 0;
-    pelgaisti_status status;
-    if (!book || !count || (!list && room)) return PELGAISTI_NULL;
-    status = pelgaisti_book_waits_for(book, session, session, &edge);
-    if (status != PELGAISTI_OK) return status;
-    for (other = 1; pelgaisti_book_waits_for(book, session, other, &edge) == PELGAISTI_OK; other++) {
-        if (edge && found < room) list[found] = other;
-        found += edge;
-    }
-    *count = found;
-    return PELGAISTI_OK;
-}
+pelgaisti_status pelgaisti_book_blockers(pelgaisti_book *book, uint32_t session, uint32_t *list, size_t room, size_t *count);
 
 /* Writes the open transaction of the session: its number, and whether it is a deadlock's victim.
    NULL, CLOSED, NO_SUCH_SESSION. */
-static inline pelgaisti_status pelgaisti_book_transaction(pelgaisti_book *book, uint32_t session, pelgaisti_transaction *open) {
-    if (!book || !open) return PELGAISTI_NULL;
-    return PELGAISTI_CALL_(pelgaisti_raw_book_transaction(book, session, open));
-}
+pelgaisti_status pelgaisti_book_transaction(pelgaisti_book *book, uint32_t session, pelgaisti_transaction *open);
 
 /* Writes the waiting request of the session, with kind 0 and all else 0 if it doesn't wait.
    NULL, CLOSED, NO_SUCH_SESSION. */
-static inline pelgaisti_status pelgaisti_book_request(pelgaisti_book *book, uint32_t session, pelgaisti_claim *waiting) {
-    if (!book || !waiting) return PELGAISTI_NULL;
-    return PELGAISTI_CALL_(pelgaisti_raw_book_request(book, session, waiting));
-}
+pelgaisti_status pelgaisti_book_request(pelgaisti_book *book, uint32_t session, pelgaisti_claim *waiting);
 
 /* Writes all locks and waiting requests to `list`, from the index `first` on, up to `room`, and the number of all of them to `count`:
    resource by resource, in the order of paths; of each resource its holders by session number, then its queue in the order in which
    it is granted. `list` may be NULL if `room` is 0. Requires `room` elements at `list`.
    NULL, CLOSED, NO_MEMORY. */
-static inline pelgaisti_status pelgaisti_book_locks(pelgaisti_book *book, size_t first, pelgaisti_claim *list, size_t room,
-                                                    size_t *count) {
-    pelgaisti_claim none;
-    if (!book || !count || (!list && room)) return PELGAISTI_NULL;
-    return PELGAISTI_CALL_(pelgaisti_raw_book_locks(book, first, list ? list : &none, room, count));
-}
+pelgaisti_status pelgaisti_book_locks(pelgaisti_book *book, size_t first, pelgaisti_claim *list, size_t room, size_t *count);
 
-/* Writes the first `room` of the sessions whose wait the last call or batch has ended to `list`, each once, in no particular order,
+/* Writes the first `room` of the sessions whose wait the last call, batch or path has ended to `list`, each once, in no particular order,
    and the number of all of them to `count`: a request of the session that waited was granted, or its transaction became a
    deadlock's victim. A poll of each tells which. The session of the call itself isn't among them: its reply tells. After a batch
-   they are those whose wait one of its calls has ended, also those that wait again since. pelgaisti_book_lock_path makes several calls
-   and tells of all of them itself: after it this call tells of the last one. `list` may be NULL if `room` is 0.
+   or a path they are those whose wait one of its calls has ended, after a batch also those that wait again since. `list` may be NULL if
+   `room` is 0.
    Requires `room` elements at `list`.
    NULL, CLOSED. */
-static inline pelgaisti_status pelgaisti_book_ended(pelgaisti_book *book, uint32_t *list, size_t room, size_t *count) {
-    uint32_t none;
-    if (!book || !count || (!list && room)) return PELGAISTI_NULL;
-    return PELGAISTI_CALL_(pelgaisti_raw_book_ended(book, list ? list : &none, room, count));
-}
+pelgaisti_status pelgaisti_book_ended(pelgaisti_book *book, uint32_t *list, size_t room, size_t *count);
 
 /* Writes the number of entries of the history, those that were let go among them.
    NULL, CLOSED. */
-static inline pelgaisti_status pelgaisti_book_length(pelgaisti_book *book, uint64_t *length) {
-    if (!book || !length) return PELGAISTI_NULL;
-    return PELGAISTI_CALL_(pelgaisti_raw_book_length(book, length));
-}
+pelgaisti_status pelgaisti_book_length(pelgaisti_book *book, uint64_t *length);
 
 /* Writes up to `room` entries of the history from index `first` on, oldest first, to `entries`, and the number of entries that it
    wrote to `count`. `entries` may be NULL if `room` is 0. Requires `room` elements at `entries`.
    NULL, CLOSED, LET_GO (the entry at `first`). */
-static inline pelgaisti_status pelgaisti_book_history(pelgaisti_book *book, uint64_t first, pelgaisti_entry *entries, size_t room,
-                                                      size_t *count) {
-    pelgaisti_entry none;
-    if (!book || !count || (!entries && room)) return PELGAISTI_NULL;
-    return PELGAISTI_CALL_(pelgaisti_raw_book_history(book, first, entries ? entries : &none, room, count));
-}
+pelgaisti_status pelgaisti_book_history(pelgaisti_book *book, uint64_t first, pelgaisti_entry *entries, size_t room,
+                                        size_t *count);
 
 /* Writes the index of the first entry of the history that is kept: how many were let go.
    NULL, CLOSED. */
-static inline pelgaisti_status pelgaisti_book_first_kept(pelgaisti_book *book, uint64_t *first) {
-    if (!book || !first) return PELGAISTI_NULL;
-    return PELGAISTI_CALL_(pelgaisti_raw_book_first_kept(book, first));
-}
+pelgaisti_status pelgaisti_book_first_kept(pelgaisti_book *book, uint64_t *first);
 
 /* Keeps at most the newest `bound` entries of the history from now on, and lets go of older ones as calls are served. With a bound
    the history takes at most the memory of four times as many entries. UINT64_MAX is no bound. What was let go doesn't come back.
    NULL, CLOSED. */
-static inline pelgaisti_status pelgaisti_book_keep_at_most(pelgaisti_book *book, uint64_t bound) {
-    if (!book) return PELGAISTI_NULL;
-    return PELGAISTI_CALL_(pelgaisti_raw_book_keep_at_most(book, bound));
-}
+pelgaisti_status pelgaisti_book_keep_at_most(pelgaisti_book *book, uint64_t bound);
 
 /* Writes the oldest entries of the history that are kept, up to `room`, to `entries`, and lets go of them. Writes the index of the
    first to `first`, and how many there are to `count`. So pieces that are taken one after another follow one another without a
    gap, unless a bound lets go of entries between them. `entries` may be NULL if `room` is 0. Requires `room` elements at
    `entries`.
    NULL, CLOSED. */
-static inline pelgaisti_status pelgaisti_book_take_history(pelgaisti_book *book, uint64_t *first, pelgaisti_entry *entries,
-                                                           size_t room, size_t *count) {
-    pelgaisti_entry none;
-    if (!book || !first || !count || (!entries && room)) return PELGAISTI_NULL;
-    return PELGAISTI_CALL_(pelgaisti_raw_book_take_history(book, first, entries ? entries : &none, room, count));
-}
+pelgaisti_status pelgaisti_book_take_history(pelgaisti_book *book, uint64_t *first, pelgaisti_entry *entries, size_t room,
+                                             size_t *count);
 
 /* The mode that a lock in this mode needs of the parent, at least: IS for IS and S, IX for IX, SIX, U and X. A number that is no
    mode, and NL, come back as they are. */
-static inline uint32_t pelgaisti_parent_mode(uint32_t mode) {
-    switch (mode) {
-    case PELGAISTI_IS:
-    case PELGAISTI_S: return PELGAISTI_IS;
-    case PELGAISTI_IX:
-    case PELGAISTI_SIX:
-    case PELGAISTI_U:
-    case PELGAISTI_X: return PELGAISTI_IX;
-    default: return mode;
-    }
-}
+uint32_t pelgaisti_parent_mode(uint32_t mode);
 
 /* The next call on the way down a path of which `level` levels are locked: locks the next level in the mode that the parent of the
    resource needs, or the resource itself in `mode`. `level` is less than `resource->level`. With PELGAISTI_TRY for its op the call
    locks the level without waiting. */
-static inline pelgaisti_call pelgaisti_path_call(const pelgaisti_resource *resource, uint32_t mode, uint32_t level) {
-    pelgaisti_call call;
-    call.op = PELGAISTI_LOCK;
-    call.mode = level + 1 < resource->level ? pelgaisti_parent_mode(mode) : mode;
-    call.resource = *resource;
-    call.resource.level = level + 1;
-    return call;
-}
+pelgaisti_call pelgaisti_path_call(const pelgaisti_resource *resource, uint32_t mode, uint32_t level);
 
 /* Locks a path: the ancestors of the resource, from the database down, each in pelgaisti_parent_mode(mode), and then the resource
    in `mode`. `level` says how many levels of the path are locked already, 0 at first; the call locks the rest, each by a call of
@@ -693,68 +467,38 @@ static inline pelgaisti_call pelgaisti_path_call(const pelgaisti_resource *resou
    `level` is that of the resource, and writes the last reply to `reply`. After a WAITING that ended with CLEAR the caller makes the
    same call again, with the `level` that it was left: what is held already is granted once more and changes nothing.
    Writes the sessions whose wait one of these calls has ended to `list`, each once, in no particular order, and how many they are to
-   `count`: those that pelgaisti_book_ended would tell of after each call. Where threads sleep, the caller wakes these, whatever the
-   status is: each status but NULL writes `count`, 0 if nobody's wait has ended. `room` is at least the book's number of sessions,
-   which PELGAISTI_MAX_SESSIONS always is. With NO_ROOM no call was made.
+   `count`, as pelgaisti_book_ended does. Where threads sleep, the caller wakes these, whatever the status is: each
+   status but NULL writes `count`, 0 if nobody's wait has ended. `room` is at least the book's number of sessions, which
+   PELGAISTI_MAX_SESSIONS always is. With NO_ROOM no call was made.
    With a status other than OK, `level`, `reply`, `list` and `count` tell of the calls that were served before it.
    Requires `room` elements at `list`.
    NULL, NO_SUCH_LEVEL (the resource's, or `level` isn't less than it), CLOSED, NO_ROOM, NO_SUCH_SESSION, NO_SUCH_MODE, NO_MEMORY. */
-static inline pelgaisti_status pelgaisti_book_lock_path(pelgaisti_book *book, uint32_t session, const pelgaisti_resource *resource,
-                                                        uint32_t mode, uint32_t *level, pelgaisti_reply *reply, uint32_t *list,
-                                                        size_t room, size_t *count) {
-    pelgaisti_transaction open;
-    pelgaisti_status status;
-    if (!book || !resource || !level || !reply || !list || !count) return PELGAISTI_NULL;
-    *count = 0;
-    if (resource->level > PELGAISTI_LEVELS || *level >= resource->level) return PELGAISTI_NO_SUCH_LEVEL;
-    if (room < PELGAISTI_MAX_SESSIONS) { /* too few elements if the book has a session with the next number */
-        status = pelgaisti_book_transaction(book, (uint32_t)room + 1, &open);
-        if (status != PELGAISTI_NO_SUCH_SESSION) return status == PELGAISTI_OK ? PELGAISTI_NO_ROOM : status;
-    }
-    while (*level < resource->level) {
-        pelgaisti_call call = pelgaisti_path_call(resource, mode, *level);
-        size_t ended = 0;
-        status = pelgaisti_book_serve(book, session, &call, reply);
-        if (status != PELGAISTI_OK) return status;
-        /* a session whose wait has ended waits again only after a call of its own, so that none is told of twice */
-        status = pelgaisti_book_ended(book, list + *count, room - *count, &ended);
-        if (status != PELGAISTI_OK) return status;
-        *count += ended;
-        if (reply->kind != PELGAISTI_GRANTED) break;
-        *level += 1;
-    }
-    return PELGAISTI_OK;
-}
+pelgaisti_status pelgaisti_book_lock_path(pelgaisti_book *book, uint32_t session, const pelgaisti_resource *resource,
+                                          uint32_t mode, uint32_t *level, pelgaisti_reply *reply, uint32_t *list, size_t room,
+                                          size_t *count);
 
 /* ---- An office: a lock table that threads share, each by a session of its own. ---- */
 
-/* Opens `count` handles, an array at `sessions`, as the sessions of a new office: sessions[0] is session 1, and so on. The office's
-   mark is the address of the array.
-   Requires `count` handles at `sessions`, and that no other open office has this mark: while the office is open, open no other one
-   with an array at the same address, not even after sessions[0] was handed in.
+/* Opens `count` handles, an array at `sessions`, as the sessions of a new office: sessions[0] is session 1, and so on. The office gets
+   a mark that no other office of the process has [tested].
+   Requires `count` handles at `sessions`.
    NULL, NO_SUCH_COUNT, OPEN (one of the handles), NO_MEMORY. */
-static inline pelgaisti_status pelgaisti_office_open(pelgaisti_session *sessions, size_t count) {
-    if (!sessions) return PELGAISTI_NULL;
-    return PELGAISTI_CALL_(pelgaisti_raw_office_open(sessions, count, (uint64_t)(uintptr_t)sessions, UINT64_MAX, 0));
-}
+pelgaisti_status pelgaisti_office_open(pelgaisti_session *sessions, size_t count);
 
 /* Opens an office as pelgaisti_office_open does, whose lock table keeps at most the newest `bound` entries of the history, and lets
    go of older ones as calls are served, as pelgaisti_book_keep_at_most does. So the memory of an office that is open for long
    follows what is held and waited for [tested, for an office]. UINT64_MAX is no bound. */
-static inline pelgaisti_status pelgaisti_office_open_keeping(pelgaisti_session *sessions, size_t count, uint64_t bound) {
-    if (!sessions) return PELGAISTI_NULL;
-    return PELGAISTI_CALL_(pelgaisti_raw_office_open(sessions, count, (uint64_t)(uintptr_t)sessions, bound, 0));
-}
+pelgaisti_status pelgaisti_office_open_keeping(pelgaisti_session *sessions, size_t count, uint64_t bound);
 
-/* Opens an office as pelgaisti_office_open_keeping does, whose threads sleep while they wait for a lock. From then on each call of this
-   header on one of its sessions that makes a pass calls `wake` of the waker for each session whose wait the pass has ended, once, in no
+/* Opens an office as pelgaisti_office_open_keeping does, whose threads sleep while they wait for a lock. From then on each call on one
+   of its sessions that makes a pass calls `wake` of the waker for each session whose wait the pass has ended, once, in no
    particular order: whose waiting request a call of another session in this pass granted, or whose transaction it made a deadlock's
    victim. Passes are made by pelgaisti_session_serve, .._serve_telling, .._perform_at_once, .._perform_telling, .._perform and
    .._lock_path. They wake after the pass, before they return, whatever status they return.
    The office takes the memory for whom a pass tells when it is opened, so that none of these calls lacks it later [proved: statuses of
-   pelgaisti_raw_session_serve, and memory of .._perform_at_once, by which NO_MEMORY comes of the call alone, behind a pass], but for
-   the lists of .._serve_telling and .._perform_telling.
-   Requires what pelgaisti_office_open requires, and that the waker keeps its place and its fields until the office is closed.
+   the export of .._serve, and memory of that of .._perform_at_once, by which NO_MEMORY comes of the call alone, behind a pass], but
+   for the lists of .._serve_telling and .._perform_telling.
+   Requires `count` handles at `sessions`, and that the waker keeps its place and its fields until the office is closed.
    NULL (`sessions`, `waker` or its `wake`), NO_SUCH_COUNT, OPEN (one of the handles), NO_MEMORY.
 
    A thread whose answer is WAITING sleeps until the waker is called for its session, and then polls once, as it makes any call. With
@@ -782,71 +526,23 @@ static inline pelgaisti_status pelgaisti_office_open_keeping(pelgaisti_session *
    history behind that answer has ended its wait, which exactly one session has entered in a pass [proved: not_forgotten of
    lock_board::laws::nobody_who_waits_is_forgotten]. (2) The call that made this pass lists exactly the sessions whose waits its
    entries have ended, also if the wait began in the same pass, and also if memory was refused [proved: none_lost of
-   lock_office::laws::no_wake_up_is_lost, and told of the archive's functions]. (3) The call reads its list [proved: ok of
+   lock_office::laws::no_wake_up_is_lost, and told of the exports]. (3) The call reads its list [proved: ok of
    pelgaisti_raw_session_told] and calls the waker for each [tested, and that nothing of this takes memory]. (4) A semaphore counts, so
    that a post before the thread sleeps wakes it as well [that is the system's]. (5) The next poll of a session that was told of, and
    has made no call since its wait ended, replies CLEAR or DEADLOCK, whatever others call before it [proved: none_idle of
    lock_office::laws::no_wake_up_is_lost]. */
-static inline pelgaisti_status pelgaisti_office_open_waking(pelgaisti_session *sessions, size_t count, uint64_t bound,
-                                                            const pelgaisti_waker *waker) {
-    uint64_t mark = (uint64_t)(uintptr_t)sessions;
-    if (!sessions || !waker || !waker->wake) return PELGAISTI_NULL;
-    return PELGAISTI_CALL_(pelgaisti_raw_office_open(sessions, count, mark, bound, (uint64_t)(uintptr_t)waker));
-}
-
-/* A function that is seldom called, so that compilers keep it out of the calls whose passes wake nobody. */
-#if defined(__GNUC__)
-#define PELGAISTI_APART_ static inline __attribute__((cold))
-#else
-#define PELGAISTI_APART_ static inline
-#endif
-
-/* The waker of the session's office, or NULL. */
-static inline const pelgaisti_waker *pelgaisti_waker_(pelgaisti_session *session) {
-    uint64_t at = 0;
-    return PELGAISTI_CALL_(pelgaisti_raw_session_waker(session, &at)) == PELGAISTI_OK ? (const pelgaisti_waker *)(uintptr_t)at : NULL;
-}
-
-/* Wakes the sessions that the session's last pass has told of, so many. */
-PELGAISTI_APART_ void pelgaisti_wake_told_(pelgaisti_session *session, size_t told) PELGAISTI_NOEXCEPT_ {
-    const pelgaisti_waker *waker = pelgaisti_waker_(session);
-    uint32_t list[16];
-    size_t first, k, count = 0;
-    for (first = 0; waker && first < told; first += 16) {
-        if (PELGAISTI_CALL_(pelgaisti_raw_session_told(session, first, list, 16, &count)) != PELGAISTI_OK) return;
-        for (k = 0; k < 16 && first + k < count; k++) waker->wake(waker->engine, list[k]);
-    }
-}
-
-/* Wakes the sessions of a list, if the session's office has a waker. */
-PELGAISTI_APART_ void pelgaisti_wake_list_(pelgaisti_session *session, const uint32_t *list, size_t count) PELGAISTI_NOEXCEPT_ {
-    const pelgaisti_waker *waker = count > 0 ? pelgaisti_waker_(session) : NULL;
-    size_t k;
-    for (k = 0; waker && k < count; k++) waker->wake(waker->engine, list[k]);
-}
+pelgaisti_status pelgaisti_office_open_waking(pelgaisti_session *sessions, size_t count, uint64_t bound,
+                                              const pelgaisti_waker *waker);
 
 /* Publishes a call. The call is pending until the session collects its answer. Writes a pelgaisti_posted to `posted`, which may
    be NULL.
    NULL, CLOSED, NO_SUCH_OP, NO_SUCH_LEVEL, NO_SUCH_MODE, RETIRED, PENDING. */
-static inline pelgaisti_status pelgaisti_session_publish(pelgaisti_session *session, const pelgaisti_call *call, uint32_t *posted) {
-    uint32_t unread;
-    if (!session || !call) return PELGAISTI_NULL;
-    pelgaisti_released_(session);
-    return PELGAISTI_CALL_(pelgaisti_raw_session_publish(session, call, posted ? posted : &unread));
-}
+pelgaisti_status pelgaisti_session_publish(pelgaisti_session *session, const pelgaisti_call *call, uint32_t *posted);
 
 /* Tries once to take the lock table, without blocking, and if that succeeds, makes a pass: serves the calls on the publication
    list, of all sessions, and the session's own pending call if there is one. `pass` may be NULL.
    NULL, CLOSED, ELSEWHERE. */
-static inline pelgaisti_status pelgaisti_session_serve(pelgaisti_session *session, pelgaisti_pass *pass) {
-    pelgaisti_pass unread;
-    pelgaisti_status status;
-    size_t told = 0;
-    if (!session) return PELGAISTI_NULL;
-    status = PELGAISTI_CALL_(pelgaisti_raw_session_serve(session, pass ? pass : &unread, &told));
-    if (told > 0) pelgaisti_wake_told_(session, told);
-    return status;
-}
+pelgaisti_status pelgaisti_session_serve(pelgaisti_session *session, pelgaisti_pass *pass);
 
 /* Like pelgaisti_session_serve, and tells whose wait the pass has ended: writes the sessions, each once, in no particular order, to
    `list`, and how many they are to `count`. They are those whose waiting request a call of another session in this pass granted, or
@@ -857,15 +553,8 @@ static inline pelgaisti_status pelgaisti_session_serve(pelgaisti_session *sessio
    wakes its thread. In an office with a waker nobody needs it, and the waker is called as by pelgaisti_session_serve.
    Requires `room` elements at `list`.
    NULL, CLOSED, NO_ROOM, NO_MEMORY, ELSEWHERE. */
-static inline pelgaisti_status pelgaisti_session_serve_telling(pelgaisti_session *session, pelgaisti_pass *pass, uint32_t *list,
-                                                               size_t room, size_t *count) {
-    pelgaisti_pass unread;
-    pelgaisti_status status;
-    if (!session || !list || !count) return PELGAISTI_NULL;
-    status = PELGAISTI_CALL_(pelgaisti_raw_session_serve_telling(session, pass ? pass : &unread, list, room, count));
-    if (status == PELGAISTI_OK) pelgaisti_wake_list_(session, list, *count);
-    return status;
-}
+pelgaisti_status pelgaisti_session_serve_telling(pelgaisti_session *session, pelgaisti_pass *pass, uint32_t *list, size_t room,
+                                                 size_t *count);
 
 /* Tries once to take the lock table, without blocking, and if that succeeds, performs the session's call at once, in a pass that
    serves the calls on the publication list too. The call is not published, and there is nothing to collect: the answer is written
@@ -874,18 +563,8 @@ static inline pelgaisti_status pelgaisti_session_serve_telling(pelgaisti_session
    for the call, which is not in the history; it may be made again, or published. A pass was made, and other calls may have been
    served in it; the waker is called for those whose wait it has ended. `pass` may be NULL.
    NULL, CLOSED, NO_SUCH_OP, NO_SUCH_LEVEL, NO_SUCH_MODE, RETIRED, PENDING, NO_MEMORY or ELSEWHERE. */
-static inline pelgaisti_status pelgaisti_session_perform_at_once(pelgaisti_session *session, const pelgaisti_call *call,
-                                                                 pelgaisti_pass *pass, pelgaisti_answer *answer) {
-    pelgaisti_pass unread;
-    pelgaisti_status status;
-    size_t told = 0;
-    if (!session || !call || !answer) return PELGAISTI_NULL;
-    pelgaisti_released_(session);
-    status = PELGAISTI_CALL_(pelgaisti_raw_session_perform_at_once(session, call, pass ? pass : &unread, answer, &told));
-    if (status == PELGAISTI_OK) pelgaisti_acquired_(session);
-    if (told > 0) pelgaisti_wake_told_(session, told);
-    return status;
-}
+pelgaisti_status pelgaisti_session_perform_at_once(pelgaisti_session *session, const pelgaisti_call *call, pelgaisti_pass *pass,
+                                                   pelgaisti_answer *answer);
 
 /* Like pelgaisti_session_perform_at_once, and tells whose wait the call and its pass have ended, as
    pelgaisti_session_serve_telling tells it of a pass: writes the sessions to `list`, and how many they are to `count`. With
@@ -893,28 +572,12 @@ static inline pelgaisti_status pelgaisti_session_perform_at_once(pelgaisti_sessi
    them then as well. If memory was refused for the list of whom to tell, no pass was made, and `count` is 0. Requires `room`
    elements at `list`.
    NULL, CLOSED, NO_ROOM, NO_SUCH_OP, NO_SUCH_LEVEL, NO_SUCH_MODE, RETIRED, PENDING, NO_MEMORY or ELSEWHERE. */
-static inline pelgaisti_status pelgaisti_session_perform_telling(pelgaisti_session *session, const pelgaisti_call *call,
-                                                                 pelgaisti_pass *pass, pelgaisti_answer *answer, uint32_t *list,
-                                                                 size_t room, size_t *count) {
-    pelgaisti_pass unread;
-    pelgaisti_status status;
-    if (!session || !call || !answer || !list || !count) return PELGAISTI_NULL;
-    pelgaisti_released_(session);
-    status = PELGAISTI_CALL_(pelgaisti_raw_session_perform_telling(session, call, pass ? pass : &unread, answer, list, room, count));
-    if (status == PELGAISTI_OK) pelgaisti_acquired_(session);
-    if (status == PELGAISTI_OK || status == PELGAISTI_NO_MEMORY) pelgaisti_wake_list_(session, list, *count);
-    return status;
-}
+pelgaisti_status pelgaisti_session_perform_telling(pelgaisti_session *session, const pelgaisti_call *call, pelgaisti_pass *pass,
+                                                   pelgaisti_answer *answer, uint32_t *list, size_t room, size_t *count);
 
 /* Takes the answer to the session's pending call, which is then no longer pending.
    NULL, CLOSED, NOTHING_PENDING, NOT_SERVED. */
-static inline pelgaisti_status pelgaisti_session_collect(pelgaisti_session *session, pelgaisti_answer *answer) {
-    pelgaisti_status status;
-    if (!session || !answer) return PELGAISTI_NULL;
-    status = PELGAISTI_CALL_(pelgaisti_raw_session_collect(session, answer));
-    if (status == PELGAISTI_OK) pelgaisti_acquired_(session);
-    return status;
-}
+pelgaisti_status pelgaisti_session_collect(pelgaisti_session *session, pelgaisti_answer *answer);
 
 /* Tries once to take the lock table, without blocking, and if that succeeds, writes the oldest entries of the history that it keeps,
    up to `room`, to `entries`; they leave its memory. Writes the index of the first to `first`, and how many there are to `count`:
@@ -922,12 +585,8 @@ static inline pelgaisti_status pelgaisti_session_collect(pelgaisti_session *sess
    office take follows one another without a gap, unless the office has a bound, and what nobody took is in the book of the closed
    office. `entries` may be NULL if `room` is 0. Requires `room` elements at `entries`.
    NULL, CLOSED, ELSEWHERE, NO_MEMORY. */
-static inline pelgaisti_status pelgaisti_session_take_history(pelgaisti_session *session, uint64_t *first, pelgaisti_entry *entries,
-                                                              size_t room, size_t *count) {
-    pelgaisti_entry none;
-    if (!session || !first || !count || (!entries && room)) return PELGAISTI_NULL;
-    return PELGAISTI_CALL_(pelgaisti_raw_session_take_history(session, first, entries ? entries : &none, room, count));
-}
+pelgaisti_status pelgaisti_session_take_history(pelgaisti_session *session, uint64_t *first, pelgaisti_entry *entries,
+                                                size_t room, size_t *count);
 
 /* ---- Questions of a session about the lock table, while its office is open. Each tries once to take the lock table, without
    blocking, and if that succeeds, reads it and gives it back. It serves no call, and the session may have a call pending. `seen` gets
@@ -936,181 +595,85 @@ static inline pelgaisti_status pelgaisti_session_take_history(pelgaisti_session 
 
 /* Writes the mode that session `whose` holds on the resource, or PELGAISTI_NL if it holds none, as pelgaisti_book_held does.
    NULL, CLOSED, NO_SUCH_SESSION, NO_SUCH_LEVEL, ELSEWHERE. */
-static inline pelgaisti_status pelgaisti_session_held(pelgaisti_session *session, uint32_t whose, const pelgaisti_resource *resource,
-                                                      uint32_t *mode, uint64_t *seen) {
-    if (!session || !resource || !mode || !seen) return PELGAISTI_NULL;
-    return PELGAISTI_CALL_(pelgaisti_raw_session_held(session, whose, resource, mode, seen));
-}
+pelgaisti_status pelgaisti_session_held(pelgaisti_session *session, uint32_t whose, const pelgaisti_resource *resource,
+                                        uint32_t *mode, uint64_t *seen);
 
 /* Writes the open transaction of session `whose`, as pelgaisti_book_transaction does.
    NULL, CLOSED, NO_SUCH_SESSION, ELSEWHERE. */
-static inline pelgaisti_status pelgaisti_session_transaction(pelgaisti_session *session, uint32_t whose, pelgaisti_transaction *open,
-                                                             uint64_t *seen) {
-    if (!session || !open || !seen) return PELGAISTI_NULL;
-    return PELGAISTI_CALL_(pelgaisti_raw_session_transaction(session, whose, open, seen));
-}
+pelgaisti_status pelgaisti_session_transaction(pelgaisti_session *session, uint32_t whose, pelgaisti_transaction *open,
+                                               uint64_t *seen);
 
 /* Writes the waiting request of session `whose`, as pelgaisti_book_request does.
    NULL, CLOSED, NO_SUCH_SESSION, ELSEWHERE. */
-static inline pelgaisti_status pelgaisti_session_request(pelgaisti_session *session, uint32_t whose, pelgaisti_claim *waiting,
-                                                         uint64_t *seen) {
-    if (!session || !waiting || !seen) return PELGAISTI_NULL;
-    return PELGAISTI_CALL_(pelgaisti_raw_session_request(session, whose, waiting, seen));
-}
+pelgaisti_status pelgaisti_session_request(pelgaisti_session *session, uint32_t whose, pelgaisti_claim *waiting, uint64_t *seen);
 
 /* Writes 1 to `edge` if session `whose` waits for `other` directly, and else 0, as pelgaisti_book_waits_for does.
    NULL, CLOSED, NO_SUCH_SESSION (one of the two), ELSEWHERE. */
-static inline pelgaisti_status pelgaisti_session_waits_for(pelgaisti_session *session, uint32_t whose, uint32_t other, uint32_t *edge,
-                                                           uint64_t *seen) {
-    if (!session || !edge || !seen) return PELGAISTI_NULL;
-    return PELGAISTI_CALL_(pelgaisti_raw_session_waits_for(session, whose, other, edge, seen));
-}
+pelgaisti_status pelgaisti_session_waits_for(pelgaisti_session *session, uint32_t whose, uint32_t other, uint32_t *edge,
+                                             uint64_t *seen);
 
 /* Writes the first `room` holders of the resource to `list`, and the number of all of them to `count`, as pelgaisti_book_holders
    does. NO_MEMORY: the session knows the history up to there all the same.
    NULL, CLOSED, NO_SUCH_LEVEL, NO_MEMORY or ELSEWHERE. */
-static inline pelgaisti_status pelgaisti_session_holders(pelgaisti_session *session, const pelgaisti_resource *resource,
-                                                         pelgaisti_holder *list, size_t room, size_t *count, uint64_t *seen) {
-    pelgaisti_holder none;
-    if (!session || !resource || !count || !seen || (!list && room)) return PELGAISTI_NULL;
-    return PELGAISTI_CALL_(pelgaisti_raw_session_holders(session, resource, list ? list : &none, room, count, seen));
-}
+pelgaisti_status pelgaisti_session_holders(pelgaisti_session *session, const pelgaisti_resource *resource, pelgaisti_holder *list,
+                                           size_t room, size_t *count, uint64_t *seen);
 
 /* Writes the first `room` of the sessions for which session `whose` waits directly to `list`, in the order of their numbers, and the
    number of all of them to `count`. `list` may be NULL if `room` is 0. Requires `room` elements at `list`.
    NULL, CLOSED, NO_SUCH_SESSION, NO_MEMORY, ELSEWHERE. */
-static inline pelgaisti_status pelgaisti_session_blockers(pelgaisti_session *session, uint32_t whose, uint32_t *list, size_t room,
-                                                          size_t *count, uint64_t *seen) {
-    uint32_t none;
-    if (!session || !count || !seen || (!list && room)) return PELGAISTI_NULL;
-    return PELGAISTI_CALL_(pelgaisti_raw_session_blockers(session, whose, list ? list : &none, room, count, seen));
-}
+pelgaisti_status pelgaisti_session_blockers(pelgaisti_session *session, uint32_t whose, uint32_t *list, size_t room,
+                                            size_t *count, uint64_t *seen);
 
 /* Writes all locks and waiting requests to `list`, from the index `first` on, up to `room`, and the number of all of them to `count`,
    as pelgaisti_book_locks does. Pages of one list are those whose `seen` is the same. While it reads, no other session can take the
    lock table. NO_MEMORY: the session knows the history up to there all the same.
    NULL, CLOSED, NO_MEMORY or ELSEWHERE. */
-static inline pelgaisti_status pelgaisti_session_locks(pelgaisti_session *session, size_t first, pelgaisti_claim *list, size_t room,
-                                                       size_t *count, uint64_t *seen) {
-    pelgaisti_claim none;
-    if (!session || !count || !seen || (!list && room)) return PELGAISTI_NULL;
-    return PELGAISTI_CALL_(pelgaisti_raw_session_locks(session, first, list ? list : &none, room, count, seen));
-}
+pelgaisti_status pelgaisti_session_locks(pelgaisti_session *session, size_t first, pelgaisti_claim *list, size_t room,
+                                         size_t *count, uint64_t *seen);
 
 /* Writes the number of history entries that the session knows. These are the first ones. The number never decreases.
    NULL, CLOSED. */
-static inline pelgaisti_status pelgaisti_session_seen(pelgaisti_session *session, uint64_t *seen) {
-    if (!session || !seen) return PELGAISTI_NULL;
-    return PELGAISTI_CALL_(pelgaisti_raw_session_seen(session, seen));
-}
+pelgaisti_status pelgaisti_session_seen(pelgaisti_session *session, uint64_t *seen);
 
-/* Writes the mark of the session's office: the address of the array with which it was opened. Sessions of one office have the same.
+/* Writes the mark of the session's office, a number from 1 on. Sessions of one office have the same, and those of two offices don't.
    NULL, CLOSED. */
-static inline pelgaisti_status pelgaisti_session_mark(pelgaisti_session *session, uint64_t *mark) {
-    if (!session || !mark) return PELGAISTI_NULL;
-    return PELGAISTI_CALL_(pelgaisti_raw_session_mark(session, mark));
-}
+pelgaisti_status pelgaisti_session_mark(pelgaisti_session *session, uint64_t *mark);
 
 /* Makes all that `other` knows of the history known to `session`: what `session` publishes from then on is entered into the
    history after every entry that `other` has seen. `other` learns nothing. The call uses both handles.
-   Requires that sessions with the same mark belong to the same office. This holds if each open office has a mark of its own and
-   no handle was copied or moved.
+   Requires that sessions with the same mark belong to the same office, as they do if one copy of the library opened them.
    NULL, SAME, CLOSED (one of the handles), OTHER_OFFICE. */
-static inline pelgaisti_status pelgaisti_session_hear(pelgaisti_session *session, pelgaisti_session *other) {
-    if (!session || !other) return PELGAISTI_NULL;
-    if (session == other) return PELGAISTI_SAME;
-    return PELGAISTI_CALL_(pelgaisti_raw_session_hear(session, other));
-}
+pelgaisti_status pelgaisti_session_hear(pelgaisti_session *session, pelgaisti_session *other);
 
 /* Retires the session: it publishes no more calls. Its transaction and its locks stay as they are.
    NULL, CLOSED, RETIRED, PENDING. */
-static inline pelgaisti_status pelgaisti_session_retire(pelgaisti_session *session) {
-    if (!session) return PELGAISTI_NULL;
-    return PELGAISTI_CALL_(pelgaisti_raw_session_retire(session));
-}
+pelgaisti_status pelgaisti_session_retire(pelgaisti_session *session);
 
 /* Hands the session, with all sessions that were handed in to it, in to another session of its office, and closes its handle.
    The call uses both handles. Requires what pelgaisti_session_hear requires.
    NULL, SAME, CLOSED (one of the handles), OTHER_OFFICE, PENDING (`session`), NO_MEMORY. */
-static inline pelgaisti_status pelgaisti_session_hand_in(pelgaisti_session *session, pelgaisti_session *to) {
-    if (!session || !to) return PELGAISTI_NULL;
-    if (session == to) return PELGAISTI_SAME;
-    return PELGAISTI_CALL_(pelgaisti_raw_session_hand_in(session, to));
-}
+pelgaisti_status pelgaisti_session_hand_in(pelgaisti_session *session, pelgaisti_session *to);
 
 /* Closes the office of `session`, to which all other sessions of the office were handed in. Closes the handle of `session`, and
    opens `book` with the lock table and the history, of which it keeps all entries or those that the office's bound has left.
-   COPIED means that a handle was copied or moved. It is the only status other than OK that closes `session`.
+   COPIED means that a handle was copied or moved, or is of another copy of the library. It is the only status other than OK that closes `session`.
    NULL, OPEN (the book), CLOSED (the session), MISSING, PENDING, NO_MEMORY, COPIED. */
-static inline pelgaisti_status pelgaisti_office_close(pelgaisti_session *session, pelgaisti_book *book) {
-    if (!session || !book) return PELGAISTI_NULL;
-    return PELGAISTI_CALL_(pelgaisti_raw_office_close(session, book));
-}
+pelgaisti_status pelgaisti_office_close(pelgaisti_session *session, pelgaisti_book *book);
 
-/* Pauses the processor so many times. */
-static inline void pelgaisti_spin_(unsigned pauses) {
-    for (; pauses > 0; pauses--) {
-#if defined(__x86_64__)
-        __builtin_ia32_pause();
-#endif
-    }
-}
-
-/* Waits before one more try to perform a call at once, of which `tries` were made: pauses from try to try longer, and yields the
-   processor once 17 were made. */
-static inline void pelgaisti_back_off_(uint64_t tries) {
-    if (tries > 16)
-        sched_yield();
-    else
-        pelgaisti_spin_(tries < 5 ? 128u << tries : 4096u);
-}
-
-/* Waits a little before one more look for an answer: before the first 8 the processor pauses, and before later ones the thread
-   yields it. */
-static inline void pelgaisti_pause_(uint64_t look) {
-    if (look > 8)
-        sched_yield();
-    else
-        pelgaisti_spin_(256);
-}
-
-/* Performs the call at once where the lock table is free. Where it isn't, tries again, with pauses that grow, in all at most
-   `turns` times and at most 32 times. If the lock table was never free, publishes the call, then serves and collects in turn
-   until the answer is there, at most `turns` times. With 0 turns it only publishes the call. With NULL for `call` it goes on
-   with the call that is pending; with 0 turns, too, it looks at nothing and returns NOT_SERVED. The answer may be WAITING: this
-   call waits for an answer, not for a lock. Whoever waits for a lock sleeps until the office's waker wakes it, and then polls. In an
-   office without a waker it polls, and sleeps between two polls: 10 microseconds at first, and twice as long each time up to a
-   millisecond.
-   NOT_SERVED: after so many turns there is no answer. NO_MEMORY: memory was refused for the call, in a pass of this session, and the
-   call wasn't served. With both the call is pending, and NULL for `call` goes on with it.
+/* Makes a whole call, in at most `turns` turns, between which the thread pauses or yields the processor. In the first 32 turns it tries
+   to perform the call at once; in the next it publishes it, and from then on it serves, at every eighth turn, and looks for the
+   answer. Behind the last turn the call is published, if it isn't yet. With 0 turns it is published and nothing else. With NULL for
+   `call` all turns look for the answer to the call that is pending; with 0 turns none does.
+   The answer may be WAITING: this call waits for an answer, not for a lock. Whoever waits for a lock sleeps until the office's waker
+   wakes it, and then polls. In an office without a waker it polls, and sleeps between two polls: 10 microseconds at first, and twice
+   as long each time up to a millisecond.
+   NOT_SERVED: after so many turns there is no answer. NO_MEMORY: memory was refused, for the call or in a pass of this session, and
+   there is no answer yet. With both the call is pending, and NULL for `call` goes on with it.
+   [proved of each turn; tested: that they follow one another, and what is done between them]
    NULL (the session or the answer), CLOSED, NO_SUCH_OP, NO_SUCH_LEVEL, NO_SUCH_MODE, RETIRED, PENDING; NOTHING_PENDING with NULL
    for `call`; NO_MEMORY, NOT_SERVED. */
-static inline pelgaisti_status pelgaisti_session_perform(pelgaisti_session *session, const pelgaisti_call *call, uint64_t turns,
-                                                         pelgaisti_answer *answer) {
-    pelgaisti_pass pass;
-    pelgaisti_status status, served = PELGAISTI_ELSEWHERE;
-    uint64_t turn;
-    if (!session || !answer) return PELGAISTI_NULL;
-    if (call) {
-        for (turn = 0; turn < turns && turn < 32 && served == PELGAISTI_ELSEWHERE; turn++) {
-            if (turn > 0) pelgaisti_back_off_(turn);
-            served = pelgaisti_session_perform_at_once(session, call, NULL, answer);
-        }
-        if (served != PELGAISTI_ELSEWHERE && served != PELGAISTI_NO_MEMORY) return served;
-        status = pelgaisti_session_publish(session, call, NULL);
-        if (status != PELGAISTI_OK) return status;
-        if (served != PELGAISTI_ELSEWHERE) return served;
-    }
-    for (turn = 0; turn < turns; turn++) {
-        if (turn > 0) pelgaisti_pause_(turn);
-        pass.starved = 0;
-        pelgaisti_session_serve(session, &pass);
-        status = pelgaisti_session_collect(session, answer);
-        if (status != PELGAISTI_NOT_SERVED) return status;
-        if (pass.starved) return PELGAISTI_NO_MEMORY;
-    }
-    return PELGAISTI_NOT_SERVED;
-}
+pelgaisti_status pelgaisti_session_perform(pelgaisti_session *session, const pelgaisti_call *call, uint64_t turns,
+                                           pelgaisti_answer *answer);
 
 /* Like pelgaisti_book_lock_path, for a session of an office: performs the calls one after another, each in at most `turns` turns as
    pelgaisti_session_perform does, and writes the last answer.
@@ -1121,25 +684,10 @@ static inline pelgaisti_status pelgaisti_session_perform(pelgaisti_session *sess
    and goes by its answer as by one of this function: after GRANTED, or a WAITING that ended with CLEAR, it makes the same call
    again, with the `level` that it was left. That begins with this level again, which is granted once more and changes nothing.
    NULL, NO_SUCH_LEVEL, and the statuses of pelgaisti_session_perform with a call. */
-static inline pelgaisti_status pelgaisti_session_lock_path(pelgaisti_session *session, const pelgaisti_resource *resource,
-                                                           uint32_t mode, uint32_t *level, uint64_t turns,
-                                                           pelgaisti_answer *answer) {
-    if (!session || !resource || !level || !answer) return PELGAISTI_NULL;
-    if (resource->level > PELGAISTI_LEVELS || *level >= resource->level) return PELGAISTI_NO_SUCH_LEVEL;
-    while (*level < resource->level) {
-        pelgaisti_call call = pelgaisti_path_call(resource, mode, *level);
-        pelgaisti_status status = pelgaisti_session_perform(session, &call, turns, answer);
-        if (status != PELGAISTI_OK) return status;
-        if (answer->reply.kind != PELGAISTI_GRANTED) break;
-        *level += 1;
-    }
-    return PELGAISTI_OK;
-}
+pelgaisti_status pelgaisti_session_lock_path(pelgaisti_session *session, const pelgaisti_resource *resource, uint32_t mode,
+                                             uint32_t *level, uint64_t turns, pelgaisti_answer *answer);
 
-#undef PELGAISTI_CALL_
-#undef PELGAISTI_APART_
 #undef PELGAISTI_NOEXCEPT_TYPE_
-#undef PELGAISTI_NOEXCEPT_
 
 #ifdef __cplusplus
 }

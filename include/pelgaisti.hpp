@@ -5,15 +5,16 @@
  *     auto reply = book.serve(1, {pelgaisti::op::begin});
  *     pelgaisti::office office{4};                                            // one that four threads share
  *     auto answer = office[0].perform({pelgaisti::op::lock, pelgaisti::mode::X, {7}});
- * A call that fails throws pelgaisti::error with its status, after which nothing has changed. Two statuses are no failures and
- * are told by the result: ELSEWHERE by serve, by a session's take_history and by its questions, NOT_SERVED by collect and what is
- * made of it.
+ * A call that fails throws pelgaisti::error with its status, after which nothing has changed but what its comment says. Two statuses
+ * are no failures and are told by the result: ELSEWHERE by serve, by a session's take_history and by its questions, NOT_SERVED by
+ * collect and what is made of it. Compiled with -fno-exceptions, a call that fails ends the program by std::abort.
  * pelgaisti.h says what each call does and asks of its caller.
  */
 #ifndef PELGAISTI_HPP
 #define PELGAISTI_HPP
 #include "pelgaisti.h"
 #include <cstdint>
+#include <cstdlib>
 #include <exception>
 #include <initializer_list>
 #include <memory>
@@ -42,7 +43,20 @@ public:
     pelgaisti_status status() const noexcept { return status_; }
     const char *what() const noexcept override { return pelgaisti_status_name(status_); }
 };
-inline void check(pelgaisti_status status) { if (status != PELGAISTI_OK) throw error(status); }
+// What opening throws if the program runs with a library of another version than this header.
+class other_version : public std::exception {
+public:
+    const char *what() const noexcept override { return "the library is of another version than pelgaisti.h"; }
+};
+template <class Error> [[noreturn]] void fail(const Error &why) {
+#if defined(__cpp_exceptions)
+    throw why;
+#else
+    static_cast<void>(why), std::abort();
+#endif
+}
+inline void check(pelgaisti_status status) { if (status != PELGAISTI_OK) fail(error(status)); }
+inline void check_version() { if (pelgaisti_version() != PELGAISTI_HEADER_VERSION) fail(other_version()); }
 // What a call writes to its last argument; and the list that it writes, of at most `room` items.
 template <class T, class Call> T made_by(Call call) {
     T made{};
@@ -76,7 +90,7 @@ template <class T> struct seen { T found; uint64_t length; };
 struct pinned { pinned() = default; pinned(const pinned &) = delete; pinned &operator=(const pinned &) = delete; };
 class book : pinned {
 public:
-    explicit book(uint32_t sessions) { check(pelgaisti_book_open(&handle_, sessions)); }
+    explicit book(uint32_t sessions) { check_version(), check(pelgaisti_book_open(&handle_, sessions)); }
     ~book() { static_cast<void>(pelgaisti_book_close(&handle_)); }
     pelgaisti::reply serve(uint32_t session, const pelgaisti::call &call) {
         return reply(made_by<pelgaisti_reply>([&](auto *made) { return pelgaisti_book_serve(&handle_, session, &call, made); }));
@@ -101,8 +115,7 @@ public:
     bool waits_for(uint32_t session, uint32_t other) {
         return made_by<uint32_t>([&](auto *edge) { return pelgaisti_book_waits_for(&handle_, session, other, edge); }) != 0;
     }
-    // The sessions for which the session waits directly, by number; and those whose wait the last call or batch has ended. After
-    // lock_path, which makes several calls and tells of all of them itself, the latter are those of its last call.
+    // The sessions for which the session waits directly, by number; and those whose wait the last call, batch or path has ended.
     std::vector<uint32_t> blockers(uint32_t session) {
         return list_by<uint32_t>(all, [&](auto *at, auto *n) { return pelgaisti_book_blockers(&handle_, session, at, all, n); });
     }
@@ -152,8 +165,8 @@ private:
     friend class office;
     book() = default;
     size_t room_for(uint64_t first, size_t room) {
-        const uint64_t all = length();
-        return first >= all ? 0 : all - first < room ? static_cast<size_t>(all - first) : room;
+        const uint64_t end = length();
+        return first >= end ? 0 : end - first < room ? end - first : room;
     }
     enum : size_t { all = PELGAISTI_MAX_SESSIONS };
     pelgaisti_book handle_ = PELGAISTI_EMPTY;
@@ -185,6 +198,13 @@ public:
     }
     // Takes up to `room` of the oldest entries that are kept, from the place `first` on; nothing if another session has the table.
     std::optional<std::vector<entry>> take_history(size_t room, uint64_t &first) {
+        if (room > 256) {  // no more room than for what is kept: takes nothing, which tells where it begins and ends
+            size_t none = 0;
+            uint64_t begin = 0, end = 0;
+            if (elsewhere(pelgaisti_session_take_history(&handle_, &begin, nullptr, 0, &none))) return std::nullopt;
+            check(pelgaisti_session_seen(&handle_, &end));
+            if (end - begin < room) room = end - begin;
+        }
         std::vector<entry> list(room);
         if (elsewhere(pelgaisti_session_take_history(&handle_, &first, list.data(), room, &room))) return std::nullopt;
         return list.resize(room), list;
@@ -245,20 +265,21 @@ private:
 static_assert(sizeof(session) == sizeof(pelgaisti_session), "an array of sessions is an array of handles");
 
 // An office with all its sessions, which no thread uses any more when it is destroyed. Without a close its lock table is freed then,
-// pending calls or not, by passes that still wake.
+// pending calls or not, by passes that still wake: so an exception that leaves the office's scope frees it too, if the threads that use
+// its sessions are joined before.
 class office : pinned {
     const pelgaisti::waker waker_{nullptr, nullptr};
     std::unique_ptr<session[]> sessions_;
     size_t count_, handed_in_ = 0;
 public:
     // Of the history at most the newest `bound` entries are kept in memory.
-    explicit office(size_t sessions, uint64_t bound = UINT64_MAX) : sessions_(new session[sessions]), count_(sessions) {
+    explicit office(size_t sessions, uint64_t bound = UINT64_MAX) : sessions_(closed(sessions)), count_(sessions) {
         check(pelgaisti_office_open_keeping(&sessions_[0].handle_, sessions, bound));
     }
     // An office whose threads sleep while they wait for a lock: each call of its sessions that makes a pass calls the waker, of which
     // the office keeps a copy, for each session whose wait the pass has ended.
-    office(size_t sessions, const pelgaisti::waker &waker, uint64_t bound = UINT64_MAX)
-        : waker_(waker), sessions_(new session[sessions]), count_(sessions) {
+    office(size_t sessions, const pelgaisti::waker &wakes, uint64_t bound = UINT64_MAX)
+        : waker_(wakes), sessions_(closed(sessions)), count_(sessions) {
         check(pelgaisti_office_open_waking(&sessions_[0].handle_, sessions, bound, &waker_));
     }
     ~office() {
@@ -275,12 +296,24 @@ public:
     }
     session &operator[](size_t index) { return sessions_[index]; }
     size_t size() const { return count_; }
-    // Closes the office, in which no call may be pending, and gives the lock table with the one history.
+    // Closes the office, and gives the lock table with the one history. PENDING: one of its sessions has a call pending, and nothing
+    // has changed. NO_MEMORY: some sessions may be closed already, and another close goes on.
     std::unique_ptr<book> close() {
         std::unique_ptr<book> made(new book);
+        pelgaisti_answer unread;
+        for (size_t k = 0; k < count_; ++k)  // a look without turns changes nothing
+            if (pelgaisti_session_perform(&sessions_[k].handle_, nullptr, 0, &unread) == PELGAISTI_NOT_SERVED)
+                fail(error(PELGAISTI_PENDING));
         for (; handed_in_ + 1 < count_; ++handed_in_)
             check(pelgaisti_session_hand_in(&sessions_[handed_in_ + 1].handle_, &sessions_[0].handle_));
         return check(pelgaisti_office_close(&sessions_[0].handle_, &made->handle_)), std::move(made);
+    }
+private:
+    // So many sessions, of which no more are made than an office can have.
+    static session *closed(size_t count) {
+        check_version();
+        if (count < 1 || count > PELGAISTI_MAX_SESSIONS) fail(error(PELGAISTI_NO_SUCH_COUNT));
+        return new session[count];
     }
 };
 }  // namespace pelgaisti

@@ -11,7 +11,7 @@ stage() {
     local prefix="$1" to="$work/stage" from="$top/bindings/package" version number escaped shared
     version="$(sed -nE 's/^#define PELGAISTI_VERSION "([0-9.]+)"$/\1/p' "$top/include/pelgaisti.h")"
     number="$(sed -nE 's/^#define PELGAISTI_HEADER_VERSION ([0-9]+)$/\1/p' "$top/include/pelgaisti.h")"
-    shared="$top/out/libpelgaisti.so.$number" # there if ./embed had a C compiler
+    shared="$top/out/libpelgaisti.so.$number"
     escaped="$(sed -E 's/[^A-Za-z0-9/._+-]/\\&/g' <<< "$prefix")" # what pkg-config prints, a shell reads again
     mkdir -p "$to"/{include,lib/pkgconfig,lib/cmake/pelgaisti,share/pelgaisti/rust/src} &&
         cp "$top"/include/pelgaisti.{h,hpp} "$to/include/" &&
@@ -21,10 +21,8 @@ stage() {
         cp "$top"/bindings/rust/src/*.rs "$to/share/pelgaisti/rust/src/" &&
         VERSION="$version" PREFIX="$escaped" fill "$from/pelgaisti.pc.in" "$to/lib/pkgconfig/pelgaisti.pc" &&
         VERSION="$version" fill "$from/pelgaisti-config-version.cmake.in" "$to/lib/cmake/pelgaisti/pelgaisti-config-version.cmake" &&
-        if [ -e "$shared" ]; then
-            cp "$shared" "$to/lib/" &&
-                VERSION="$version" NUMBER="$number" PREFIX="$escaped" fill "$from/pelgaisti-shared.pc.in" "$to/lib/pkgconfig/pelgaisti-shared.pc"
-        fi &&
+        cp "$shared" "$to/lib/" &&
+        VERSION="$version" NUMBER="$number" PREFIX="$escaped" fill "$from/pelgaisti-shared.pc.in" "$to/lib/pkgconfig/pelgaisti-shared.pc" &&
         (cd "$to" && find . -type f | sed 's,^\./,,' | LC_ALL=C sort) > "$work/files"
 }
 

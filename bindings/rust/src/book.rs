@@ -1,19 +1,21 @@
 //! The lock table for one thread.
 
 use crate::calls::{Call, Mode, Reply, Resource};
-use crate::claims::{whole_list, Claim, Holder, Transaction};
+use crate::claims::{Claim, Holder, Transaction};
 use crate::error::{done, same_version, Error};
-use crate::ffi::{self, RawClaim, RawEntry, RawHandle, RawReply, RawTransaction, MAX_SESSIONS};
+use crate::ffi::{self, RawClaim, RawEntry, RawHandle, RawHolder, RawReply, RawTransaction, MAX_SESSIONS};
+use crate::handles;
+use crate::lists::{blank, each, list_for, whole_list};
 use std::cell::UnsafeCell;
 
 /// A lock table with the history of its calls, for one thread at a time: it may move to another thread, and isn't shared.
 /// Dropping it frees the table.
 pub struct Book {
-    // boxed, since an open handle never moves
-    handle: Box<UnsafeCell<RawHandle>>,
+    // one, boxed, since an open handle never moves
+    handle: Box<[UnsafeCell<RawHandle>]>,
 }
 
-// the library proves that a lock table may go to another thread
+// SAFETY: the library proves that a lock table may go to another thread. A book isn't Sync: one thread at a time uses the handle
 unsafe impl Send for Book {}
 
 /// One call of the history.
@@ -34,21 +36,21 @@ impl Book {
     ///     assert_eq!(pelgaisti::Book::open(0).err(), Some(pelgaisti::Error::NoSuchCount));
     pub fn open(sessions: u32) -> Result<Book, Error> {
         same_version()?;
-        let book = Book::closed();
-        done(unsafe { ffi::pelgaisti_raw_book_open(book.raw(), sessions) })?;
+        let book = Book::closed()?;
+        // SAFETY: the handle is this book's own, and empty
+        done(unsafe { ffi::pelgaisti_book_open(book.raw(), sessions) })?;
         Ok(book)
     }
 
     /// A handle that isn't open yet.
-    pub(crate) fn closed() -> Book {
-        Book {
-            handle: Box::new(UnsafeCell::new(RawHandle::EMPTY)),
-        }
+    pub(crate) fn closed() -> Result<Book, Error> {
+        Ok(Book { handle: handles::closed(1)? })
     }
 
-    /// The handle. A book isn't shared between threads, so that one call at a time uses it.
+    /// The handle, which is at its place as long as the book lives. A book isn't shared between threads, so that one call at a time
+    /// uses it.
     pub(crate) fn raw(&self) -> *mut RawHandle {
-        self.handle.get()
+        self.handle[0].get()
     }
 
     /// Serves one call of a session. The call is entered into the history, also if it is refused.
@@ -59,7 +61,8 @@ impl Book {
     ///     # Ok::<(), pelgaisti::Error>(())
     pub fn serve(&mut self, session: u32, call: &Call) -> Result<Reply, Error> {
         let mut reply = RawReply::default();
-        done(unsafe { ffi::pelgaisti_raw_book_serve(self.raw(), session, &call.raw(), &mut reply) })?;
+        // SAFETY: the handle is this book's; call and reply are locals of their types
+        done(unsafe { ffi::pelgaisti_book_serve(self.raw(), session, &call.raw(), &mut reply) })?;
         Ok(Reply::of(&reply))
     }
 
@@ -73,15 +76,16 @@ impl Book {
     ///     assert_eq!(entries[1].reply, Reply::Began(2));
     ///     # Ok::<(), pelgaisti::Error>(())
     pub fn serve_batch(&mut self, calls: &[(u32, Call)]) -> Result<Vec<Entry>, Error> {
-        let item = |&(session, ref call): &(u32, Call)| RawEntry {
-            session,
+        let item = |(session, call): &(u32, Call)| RawEntry {
+            session: *session,
             call: call.raw(),
             reply: RawReply::default(),
         };
-        let mut items: Vec<RawEntry> = calls.iter().map(item).collect();
-        let mut count = 0;
-        done(unsafe { ffi::pelgaisti_raw_book_serve_batch(self.raw(), items.as_mut_ptr(), items.len(), &mut count) })?;
-        Ok(items[..count].iter().map(Entry::of).collect())
+        let items = each(calls, |it| Some(item(it)))?;
+        // SAFETY: the handle is this book's; the list has so many elements, and the count is a local
+        entries_by(items, |list, count| unsafe {
+            ffi::pelgaisti_book_serve_batch(self.raw(), list.as_mut_ptr(), list.len(), count)
+        })
     }
 
     /// Locks a path: the ancestors of the resource, from the database down, each in the mode that `mode` needs of a parent, and
@@ -111,19 +115,29 @@ impl Book {
     ) -> Result<Option<Reply>, Error> {
         // before any call, so that none of them is lost for want of memory
         ended.try_reserve(MAX_SESSIONS).map_err(|_| Error::NoMemory)?;
-        let mut list = [0; MAX_SESSIONS];
-        let mut last = None;
-        while let Some(call) = resource.path_call(mode, *level) {
-            let reply = self.serve(session, &call)?;
-            last = Some(reply);
-            // a session whose wait has ended waits again only after a call of its own, so that none is added twice
-            ended.extend_from_slice(self.write_ended(&mut list));
-            if !matches!(reply, Reply::Granted(_)) {
-                break;
-            }
-            *level += 1;
+        if *level >= resource.level() {
+            return Ok(None);
         }
-        Ok(last)
+        let (mut reached, mut reply) = (*level as u32, RawReply::default());
+        let (mut list, mut count) = ([0; MAX_SESSIONS], 0);
+        // SAFETY: the handle is this book's; the list has room for the sessions of any book, the others are locals of their types
+        let status = unsafe {
+            ffi::pelgaisti_book_lock_path(
+                self.raw(),
+                session,
+                &resource.raw(),
+                mode.code(),
+                &mut reached,
+                &mut reply,
+                list.as_mut_ptr(),
+                list.len(),
+                &mut count,
+            )
+        };
+        *level = reached as usize;
+        ended.extend_from_slice(&list[..count]);
+        done(status)?;
+        Ok(Some(Reply::of(&reply)))
     }
 
     /// Whether `session` waits for `other` directly: `other` holds what it waits for in a mode that conflicts with its request, or
@@ -133,7 +147,8 @@ impl Book {
     ///     # Ok::<(), pelgaisti::Error>(())
     pub fn waits_for(&self, session: u32, other: u32) -> Result<bool, Error> {
         let mut edge = 0;
-        done(unsafe { ffi::pelgaisti_raw_book_waits_for(self.raw(), session, other, &mut edge) })?;
+        // SAFETY: the handle is this book's; the edge is a local
+        done(unsafe { ffi::pelgaisti_book_waits_for(self.raw(), session, other, &mut edge) })?;
         Ok(edge != 0)
     }
 
@@ -143,15 +158,15 @@ impl Book {
     ///     assert_eq!(pelgaisti::Book::open(2)?.blockers(3), Err(pelgaisti::Error::NoSuchSession));
     ///     # Ok::<(), pelgaisti::Error>(())
     pub fn blockers(&self, session: u32) -> Result<Vec<u32>, Error> {
-        self.waits_for(session, session)?;
-        let others = (1..).map_while(|other| Some((other, self.waits_for(session, other).ok()?)));
-        Ok(others.filter(|it| it.1).map(|it| it.0).collect())
+        let (mut list, mut count) = ([0; MAX_SESSIONS], 0);
+        // SAFETY: the handle is this book's; the list has so much room, and the count is a local
+        done(unsafe { ffi::pelgaisti_book_blockers(self.raw(), session, list.as_mut_ptr(), list.len(), &mut count) })?;
+        each(&list[..count], |it| Some(*it))
     }
 
-    /// The sessions whose wait the last call or batch has ended, each once, in no particular order: a request of theirs that waited
-    /// was granted, or their transaction became a deadlock's victim. A poll of each tells which. The session of the call itself
-    /// isn't among them. After [`Book::lock_path`], which makes several calls and tells of all of them itself, they are those of its
-    /// last call.
+    /// The sessions whose wait the last call, batch or path has ended, each once, in no particular order: a request of theirs that
+    /// waited was granted, or their transaction became a deadlock's victim. A poll of each tells which. The session of the call
+    /// itself isn't among them.
     ///
     ///     # use pelgaisti::{Book, Call, Mode, Reply, Resource};
     ///     let mut book = Book::open(2)?;
@@ -165,15 +180,11 @@ impl Book {
     ///     assert_eq!(book.ended(), [2]);
     ///     # Ok::<(), pelgaisti::Error>(())
     pub fn ended(&self) -> Vec<u32> {
-        self.write_ended(&mut [0; MAX_SESSIONS]).to_vec()
-    }
-
-    /// Writes the sessions whose wait the last call or batch has ended to `list`, and returns them.
-    fn write_ended<'a>(&self, list: &'a mut [u32; MAX_SESSIONS]) -> &'a [u32] {
-        let mut count = 0;
-        let status = unsafe { ffi::pelgaisti_raw_book_ended(self.raw(), list.as_mut_ptr(), list.len(), &mut count) };
+        let (mut list, mut count) = ([0; MAX_SESSIONS], 0);
+        // SAFETY: the handle is this book's; the list has so much room, and the count is a local
+        let status = unsafe { ffi::pelgaisti_book_ended(self.raw(), list.as_mut_ptr(), list.len(), &mut count) };
         done(status).expect("an open book tells whose wait has ended");
-        &list[..count]
+        list[..count].to_vec()
     }
 
     /// The mode that the session holds on the resource itself, `NL` if none. The mode of a waiting request doesn't count.
@@ -184,7 +195,8 @@ impl Book {
     ///     # Ok::<(), pelgaisti::Error>(())
     pub fn held(&self, session: u32, resource: Resource) -> Result<Mode, Error> {
         let mut mode = 0;
-        done(unsafe { ffi::pelgaisti_raw_book_held(self.raw(), session, &resource.raw(), &mut mode) })?;
+        // SAFETY: the handle is this book's; resource and mode are locals of their types
+        done(unsafe { ffi::pelgaisti_book_held(self.raw(), session, &resource.raw(), &mut mode) })?;
         Ok(Mode::of(u64::from(mode)))
     }
 
@@ -195,10 +207,11 @@ impl Book {
     ///     assert!(book.holders(Resource::new(&[7]).unwrap())?.is_empty());
     ///     # Ok::<(), pelgaisti::Error>(())
     pub fn holders(&self, resource: Resource) -> Result<Vec<Holder>, Error> {
-        let list = whole_list(|list, count| {
-            done(unsafe { ffi::pelgaisti_raw_book_holders(self.raw(), &resource.raw(), list.as_mut_ptr(), list.len(), count) })
-        })?;
-        Ok(list.iter().map(Holder::of).collect())
+        let holder = |raw: &RawHolder| Some(Holder::of(raw));
+        whole_list(holder, |list, count| {
+            // SAFETY: the handle is this book's; the list has so much room, the others are locals of their types
+            done(unsafe { ffi::pelgaisti_book_holders(self.raw(), &resource.raw(), list.as_mut_ptr(), list.len(), count) })
+        })
     }
 
     /// The open transaction of the session, `None` if it has none.
@@ -211,7 +224,8 @@ impl Book {
     ///     # Ok::<(), pelgaisti::Error>(())
     pub fn transaction(&self, session: u32) -> Result<Option<Transaction>, Error> {
         let mut open = RawTransaction::default();
-        done(unsafe { ffi::pelgaisti_raw_book_transaction(self.raw(), session, &mut open) })?;
+        // SAFETY: the handle is this book's; what is written is a local
+        done(unsafe { ffi::pelgaisti_book_transaction(self.raw(), session, &mut open) })?;
         Ok(Transaction::of(&open))
     }
 
@@ -221,7 +235,8 @@ impl Book {
     ///     # Ok::<(), pelgaisti::Error>(())
     pub fn request(&self, session: u32) -> Result<Option<Claim>, Error> {
         let mut waiting = RawClaim::default();
-        done(unsafe { ffi::pelgaisti_raw_book_request(self.raw(), session, &mut waiting) })?;
+        // SAFETY: the handle is this book's; what is written is a local
+        done(unsafe { ffi::pelgaisti_book_request(self.raw(), session, &mut waiting) })?;
         Ok(Claim::of(&waiting))
     }
 
@@ -240,10 +255,10 @@ impl Book {
     ///     assert_eq!(book.request(2)?, Some(locks[1]));
     ///     # Ok::<(), pelgaisti::Error>(())
     pub fn locks(&self) -> Result<Vec<Claim>, Error> {
-        let list = whole_list(|list, count| {
-            done(unsafe { ffi::pelgaisti_raw_book_locks(self.raw(), 0, list.as_mut_ptr(), list.len(), count) })
-        })?;
-        Ok(list.iter().filter_map(Claim::of).collect())
+        whole_list(Claim::of, |list, count| {
+            // SAFETY: the handle is this book's; the list has so much room, and the count is a local
+            done(unsafe { ffi::pelgaisti_book_locks(self.raw(), 0, list.as_mut_ptr(), list.len(), count) })
+        })
     }
 
     /// How many calls the history has, those among them whose entries were let go.
@@ -252,7 +267,8 @@ impl Book {
     ///     # Ok::<(), pelgaisti::Error>(())
     pub fn length(&self) -> u64 {
         let mut length = 0;
-        done(unsafe { ffi::pelgaisti_raw_book_length(self.raw(), &mut length) }).expect("an open book tells its length");
+        // SAFETY: the handle is this book's; the length is a local
+        done(unsafe { ffi::pelgaisti_book_length(self.raw(), &mut length) }).expect("an open book tells its length");
         length
     }
 
@@ -262,7 +278,8 @@ impl Book {
     ///     # Ok::<(), pelgaisti::Error>(())
     pub fn first_kept(&self) -> u64 {
         let mut first = 0;
-        done(unsafe { ffi::pelgaisti_raw_book_first_kept(self.raw(), &mut first) }).expect("an open book tells what it keeps");
+        // SAFETY: the handle is this book's; what is written is a local
+        done(unsafe { ffi::pelgaisti_book_first_kept(self.raw(), &mut first) }).expect("an open book tells what it keeps");
         first
     }
 
@@ -276,13 +293,14 @@ impl Book {
     ///     assert_eq!((book.length(), book.first_kept(), book.history(0, 9)), (2, 1, Err(Error::LetGo)));
     ///     # Ok::<(), pelgaisti::Error>(())
     pub fn keep_at_most(&mut self, bound: u64) {
-        done(unsafe { ffi::pelgaisti_raw_book_keep_at_most(self.raw(), bound) }).expect("an open book takes a bound");
+        // SAFETY: the handle is this book's
+        done(unsafe { ffi::pelgaisti_book_keep_at_most(self.raw(), bound) }).expect("an open book takes a bound");
     }
 
-    /// Room for up to `room` entries from the place `first` on.
-    fn room_for(&self, first: u64, room: usize) -> Vec<RawEntry> {
-        let left = self.length().saturating_sub(first);
-        vec![RawEntry::default(); room.min(usize::try_from(left).unwrap_or(usize::MAX))]
+    /// How many entries there are from the place `first` on, but no more than `room` nor than are kept.
+    fn room_for(&self, first: u64, room: usize) -> usize {
+        let left = self.length().saturating_sub(first.max(self.first_kept()));
+        room.min(usize::try_from(left).unwrap_or(usize::MAX))
     }
 
     /// Up to `room` entries of the history, from the place `first` on. [`Error::LetGo`]: the entry there was let go.
@@ -293,29 +311,40 @@ impl Book {
     ///     assert_eq!(book.history(0, 10)?[0].reply, Reply::Began(1));
     ///     # Ok::<(), pelgaisti::Error>(())
     pub fn history(&self, first: u64, room: usize) -> Result<Vec<Entry>, Error> {
-        let mut entries = self.room_for(first, room);
-        let mut count = 0;
-        done(unsafe { ffi::pelgaisti_raw_book_history(self.raw(), first, entries.as_mut_ptr(), entries.len(), &mut count) })?;
-        Ok(entries[..count].iter().map(Entry::of).collect())
+        // SAFETY: the handle is this book's; the list has so much room, and the count is a local
+        entries_by(blank(self.room_for(first, room))?, |list, count| unsafe {
+            ffi::pelgaisti_book_history(self.raw(), first, list.as_mut_ptr(), list.len(), count)
+        })
     }
 
     /// Takes up to `room` of the oldest entries of the history that are kept, of which the book lets go. Returns them with the
-    /// place of the first.
+    /// place of the first. [`Error::NoMemory`]: it lets go of none.
     ///
     ///     # use pelgaisti::{Book, Call};
     ///     let mut book = Book::open(1)?;
     ///     book.serve_batch(&[(1, Call::Begin), (1, Call::Commit)])?;
-    ///     let (first, entries) = book.take_history(1);
-    ///     assert_eq!((first, entries[0].call, book.take_history(9).1[0].call), (0, Call::Begin, Call::Commit));
+    ///     let (first, entries) = book.take_history(1)?;
+    ///     assert_eq!((first, entries[0].call, book.take_history(usize::MAX)?.1[0].call), (0, Call::Begin, Call::Commit));
     ///     # Ok::<(), pelgaisti::Error>(())
-    pub fn take_history(&mut self, room: usize) -> (u64, Vec<Entry>) {
-        let mut entries = self.room_for(self.first_kept(), room);
-        let (mut first, mut count) = (0, 0);
-        let at = entries.as_mut_ptr();
-        done(unsafe { ffi::pelgaisti_raw_book_take_history(self.raw(), &mut first, at, entries.len(), &mut count) })
-            .expect("an open book gives its history");
-        (first, entries[..count].iter().map(Entry::of).collect())
+    pub fn take_history(&mut self, room: usize) -> Result<(u64, Vec<Entry>), Error> {
+        let mut first = 0;
+        // SAFETY: the handle is this book's; the list has so much room, the others are locals of their types
+        let entries = entries_by(blank(self.room_for(0, room))?, |list, count| unsafe {
+            ffi::pelgaisti_book_take_history(self.raw(), &mut first, list.as_mut_ptr(), list.len(), count)
+        })?;
+        Ok((first, entries))
     }
+}
+
+/// The entries that a call writes to the list, with how many they are. Memory for them is taken before the call.
+pub(crate) fn entries_by(
+    mut list: Vec<RawEntry>,
+    call: impl FnOnce(&mut [RawEntry], &mut usize) -> u32,
+) -> Result<Vec<Entry>, Error> {
+    let (mut entries, mut count) = (list_for(list.len())?, 0);
+    done(call(&mut list, &mut count))?;
+    entries.extend(list[..count].iter().map(Entry::of));
+    Ok(entries)
 }
 
 impl Entry {
@@ -330,7 +359,7 @@ impl Entry {
 
 impl Drop for Book {
     fn drop(&mut self) {
-        // a handle that isn't open stays so
-        unsafe { ffi::pelgaisti_raw_book_close(self.raw()) };
+        // SAFETY: the handle is this book's, which nobody uses any more. One that isn't open stays so
+        unsafe { ffi::pelgaisti_book_close(self.raw()) };
     }
 }

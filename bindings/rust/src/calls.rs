@@ -1,6 +1,7 @@
 //! Modes, resources, calls and replies.
 
-use crate::ffi::{RawCall, RawReply, RawResource, LEVELS};
+use crate::error::same_version;
+use crate::ffi::{self, RawCall, RawReply, RawResource, LEVELS};
 use std::fmt;
 
 /// A lock mode of Gray, Lorie, Putzolu and Traiger (1976), or U.
@@ -50,11 +51,8 @@ impl Mode {
     ///     use pelgaisti::Mode;
     ///     assert_eq!([Mode::S, Mode::X].map(Mode::of_parent), [Mode::IS, Mode::IX]);
     pub fn of_parent(self) -> Mode {
-        match self {
-            Mode::NL => Mode::NL,
-            Mode::IS | Mode::S => Mode::IS,
-            Mode::IX | Mode::SIX | Mode::U | Mode::X => Mode::IX,
-        }
+        // SAFETY: the call takes a number and gives one
+        Mode::of(u64::from(unsafe { ffi::pelgaisti_parent_mode(self.code()) }))
     }
 
     /// The name of the mode, as traces have it.
@@ -106,7 +104,8 @@ impl Resource {
     }
 
     /// The call that locks the next level of the path to this resource, of which `level` levels are locked: an ancestor in the mode
-    /// that `mode` needs of the parent, or the resource itself in `mode`. `None` if all levels are.
+    /// that `mode` needs of the parent, or the resource itself in `mode`. `None` if all levels are. Panics if the library is of
+    /// another version than this crate, so that nothing can be opened.
     ///
     ///     use pelgaisti::{Call, Mode, Resource};
     ///     let page = Resource::new(&[7, 2, 40]).unwrap();
@@ -114,9 +113,12 @@ impl Resource {
     ///     assert_eq!(page.path_call(Mode::S, 2), Some(Call::Lock(page, Mode::S)));
     ///     assert_eq!(page.path_call(Mode::S, 3), None);
     pub fn path_call(&self, mode: Mode, level: usize) -> Option<Call> {
-        let next = Resource::new(self.numbers().get(..level.checked_add(1)?)?)?;
-        let asked = if next.level < self.level { mode.of_parent() } else { mode };
-        Some(Call::Lock(next, asked))
+        if level >= self.level() {
+            return None;
+        }
+        same_version().expect("a library of this crate's version");
+        // SAFETY: the resource is a local, and the level is less than its own; the structs are those of this version
+        Some(Call::of(&unsafe { ffi::pelgaisti_path_call(&self.raw(), mode.code(), level as u32) }))
     }
 
     pub(crate) fn raw(self) -> RawResource {

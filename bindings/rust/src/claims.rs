@@ -88,17 +88,3 @@ impl Holder {
         }
     }
 }
-
-/// The whole list that a call writes, with how many items it has in all: asks again with more room until all fit.
-pub(crate) fn whole_list<T: Copy + Default, E>(mut ask: impl FnMut(&mut [T], &mut usize) -> Result<(), E>) -> Result<Vec<T>, E> {
-    let mut list = vec![T::default(); 8];
-    loop {
-        let mut count = 0;
-        ask(&mut list, &mut count)?;
-        if count <= list.len() {
-            list.truncate(count);
-            return Ok(list);
-        }
-        list.resize(count, T::default());
-    }
-}

@@ -4,7 +4,7 @@ use crate::ffi;
 use std::fmt;
 
 /// Why a call made nothing. Nothing has changed then, but for [`Error::Elsewhere`], after which a pending call that wasn't listed
-/// may be, and for the calls that are made of several: `perform`, `resume`, `lock_path` and those that wake say what they leave.
+/// may be, and for the calls that are made of several: `perform`, `resume` and `lock_path` say what they leave.
 #[derive(Clone, Copy, Debug, PartialEq, Eq, Hash)]
 pub enum Error {
     /// Memory was refused. The same call may be made again.
@@ -75,7 +75,7 @@ pub(crate) fn done(status: u32) -> Result<(), Error> {
 
 /// Whether the library is of the version that this crate was written for.
 pub(crate) fn same_version() -> Result<(), Error> {
-    // it takes nothing and changes nothing
+    // SAFETY: the call takes nothing and changes nothing
     if unsafe { ffi::pelgaisti_version() } == ffi::HEADER_VERSION {
         Ok(())
     } else {

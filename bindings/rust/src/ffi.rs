@@ -1,7 +1,12 @@
-//! The exports of `libpelgaisti.a` and their structs, as `include/pelgaisti.h` has them. Nothing else of this crate is unsafe to
-//! change.
+//! The functions of `libpelgaisti.a` and their structs, as `include/pelgaisti.h` has them, whose rules the `SAFETY` comments of this
+//! crate speak of:
+//!
+//! - a handle is at its place from its opening to its close, one call at a time uses it, and nobody else reads or writes it;
+//! - a pointer is to a value of its type, that of a list to `room` elements, and no two arguments overlap;
+//! - all of the process's handles are of one copy of the library, as Cargo links no second one (`links`).
 
 use std::ffi::c_void;
+use std::mem::size_of;
 
 /// How many numbers a resource has room for.
 pub(crate) const LEVELS: usize = 5;
@@ -10,7 +15,7 @@ pub(crate) const LEVELS: usize = 5;
 pub(crate) const MAX_SESSIONS: usize = 1024;
 
 /// The header's version that these structs are of.
-pub(crate) const HEADER_VERSION: u32 = 4;
+pub(crate) const HEADER_VERSION: u32 = 5;
 
 #[repr(C)]
 #[derive(Clone, Copy, Default)]
@@ -81,6 +86,13 @@ pub(crate) struct RawPass {
     pub(crate) starved: u32,
 }
 
+/// What wakes the threads of an office: a function, and its first argument.
+#[repr(C)]
+pub(crate) struct RawWaker {
+    pub(crate) wake: unsafe extern "C" fn(engine: *mut c_void, session: u32),
+    pub(crate) engine: *mut c_void,
+}
+
 /// The handle of a book or of a session. Never copied or moved while it is open.
 #[repr(C)]
 pub(crate) struct RawHandle {
@@ -95,9 +107,16 @@ impl RawHandle {
     };
 }
 
-// The statuses that an export may return.
+// The sizes that the header asserts.
+const _: () = assert!(size_of::<*mut c_void>() == 8 && size_of::<RawHandle>() == 16 && size_of::<RawWaker>() == 16);
+const _: () = assert!(size_of::<RawResource>() == 24 && size_of::<RawCall>() == 32 && size_of::<RawReply>() == 16);
+const _: () = assert!(size_of::<RawHolder>() == 8 && size_of::<RawTransaction>() == 16 && size_of::<RawClaim>() == 48);
+const _: () = assert!(size_of::<RawEntry>() == 56 && size_of::<RawAnswer>() == 24 && size_of::<RawPass>() == 8);
+
+// The statuses that a call may return.
 pub(crate) const OK: u32 = 0;
 pub(crate) const NO_MEMORY: u32 = 1;
+pub(crate) const CLOSED: u32 = 2;
 pub(crate) const NO_SUCH_SESSION: u32 = 3;
 pub(crate) const NO_SUCH_COUNT: u32 = 8;
 pub(crate) const PENDING: u32 = 9;
@@ -111,98 +130,119 @@ pub(crate) const LET_GO: u32 = 19;
 
 extern "C" {
     pub(crate) fn pelgaisti_version() -> u32;
-    pub(crate) fn pelgaisti_raw_book_open(book: *mut RawHandle, sessions: u32) -> u32;
-    pub(crate) fn pelgaisti_raw_book_close(book: *mut RawHandle) -> u32;
-    pub(crate) fn pelgaisti_raw_book_serve(book: *mut RawHandle, session: u32, call: *const RawCall, reply: *mut RawReply) -> u32;
-    pub(crate) fn pelgaisti_raw_book_serve_batch(
+    pub(crate) fn pelgaisti_parent_mode(mode: u32) -> u32;
+    pub(crate) fn pelgaisti_path_call(resource: *const RawResource, mode: u32, level: u32) -> RawCall;
+    pub(crate) fn pelgaisti_book_open(book: *mut RawHandle, sessions: u32) -> u32;
+    pub(crate) fn pelgaisti_book_close(book: *mut RawHandle) -> u32;
+    pub(crate) fn pelgaisti_book_serve(book: *mut RawHandle, session: u32, call: *const RawCall, reply: *mut RawReply) -> u32;
+    pub(crate) fn pelgaisti_book_serve_batch(book: *mut RawHandle, calls: *mut RawEntry, length: usize, count: *mut usize) -> u32;
+    pub(crate) fn pelgaisti_book_lock_path(
         book: *mut RawHandle,
-        calls: *mut RawEntry,
-        length: usize,
+        session: u32,
+        resource: *const RawResource,
+        mode: u32,
+        level: *mut u32,
+        reply: *mut RawReply,
+        list: *mut u32,
+        room: usize,
         count: *mut usize,
     ) -> u32;
-    pub(crate) fn pelgaisti_raw_book_waits_for(book: *mut RawHandle, session: u32, other: u32, edge: *mut u32) -> u32;
-    pub(crate) fn pelgaisti_raw_book_held(book: *mut RawHandle, session: u32, resource: *const RawResource, mode: *mut u32) -> u32;
-    pub(crate) fn pelgaisti_raw_book_holders(
+    pub(crate) fn pelgaisti_book_held(book: *mut RawHandle, session: u32, resource: *const RawResource, mode: *mut u32) -> u32;
+    pub(crate) fn pelgaisti_book_holders(
         book: *mut RawHandle,
         resource: *const RawResource,
         list: *mut RawHolder,
         room: usize,
         count: *mut usize,
     ) -> u32;
-    pub(crate) fn pelgaisti_raw_book_transaction(book: *mut RawHandle, session: u32, open: *mut RawTransaction) -> u32;
-    pub(crate) fn pelgaisti_raw_book_request(book: *mut RawHandle, session: u32, waiting: *mut RawClaim) -> u32;
-    pub(crate) fn pelgaisti_raw_book_locks(
+    pub(crate) fn pelgaisti_book_waits_for(book: *mut RawHandle, session: u32, other: u32, edge: *mut u32) -> u32;
+    pub(crate) fn pelgaisti_book_blockers(
+        book: *mut RawHandle,
+        session: u32,
+        list: *mut u32,
+        room: usize,
+        count: *mut usize,
+    ) -> u32;
+    pub(crate) fn pelgaisti_book_transaction(book: *mut RawHandle, session: u32, open: *mut RawTransaction) -> u32;
+    pub(crate) fn pelgaisti_book_request(book: *mut RawHandle, session: u32, waiting: *mut RawClaim) -> u32;
+    pub(crate) fn pelgaisti_book_locks(
         book: *mut RawHandle,
         first: usize,
         list: *mut RawClaim,
         room: usize,
         count: *mut usize,
     ) -> u32;
-    pub(crate) fn pelgaisti_raw_book_ended(book: *mut RawHandle, list: *mut u32, room: usize, count: *mut usize) -> u32;
-    pub(crate) fn pelgaisti_raw_book_length(book: *mut RawHandle, length: *mut u64) -> u32;
-    pub(crate) fn pelgaisti_raw_book_first_kept(book: *mut RawHandle, first: *mut u64) -> u32;
-    pub(crate) fn pelgaisti_raw_book_keep_at_most(book: *mut RawHandle, bound: u64) -> u32;
-    pub(crate) fn pelgaisti_raw_book_take_history(
+    pub(crate) fn pelgaisti_book_ended(book: *mut RawHandle, list: *mut u32, room: usize, count: *mut usize) -> u32;
+    pub(crate) fn pelgaisti_book_length(book: *mut RawHandle, length: *mut u64) -> u32;
+    pub(crate) fn pelgaisti_book_first_kept(book: *mut RawHandle, first: *mut u64) -> u32;
+    pub(crate) fn pelgaisti_book_keep_at_most(book: *mut RawHandle, bound: u64) -> u32;
+    pub(crate) fn pelgaisti_book_take_history(
         book: *mut RawHandle,
         first: *mut u64,
         entries: *mut RawEntry,
         room: usize,
         count: *mut usize,
     ) -> u32;
-    pub(crate) fn pelgaisti_raw_book_history(
+    pub(crate) fn pelgaisti_book_history(
         book: *mut RawHandle,
         first: u64,
         entries: *mut RawEntry,
         room: usize,
         count: *mut usize,
     ) -> u32;
-    pub(crate) fn pelgaisti_raw_office_open(sessions: *mut RawHandle, count: usize, mark: u64, bound: u64, waker: u64) -> u32;
-    pub(crate) fn pelgaisti_raw_session_publish(session: *mut RawHandle, call: *const RawCall, posted: *mut u32) -> u32;
-    pub(crate) fn pelgaisti_raw_session_serve(session: *mut RawHandle, pass: *mut RawPass, told: *mut usize) -> u32;
-    pub(crate) fn pelgaisti_raw_session_perform_at_once(
+    pub(crate) fn pelgaisti_office_open_keeping(sessions: *mut RawHandle, count: usize, bound: u64) -> u32;
+    pub(crate) fn pelgaisti_office_open_waking(
+        sessions: *mut RawHandle,
+        count: usize,
+        bound: u64,
+        waker: *const RawWaker,
+    ) -> u32;
+    pub(crate) fn pelgaisti_session_publish(session: *mut RawHandle, call: *const RawCall, posted: *mut u32) -> u32;
+    pub(crate) fn pelgaisti_session_serve(session: *mut RawHandle, pass: *mut RawPass) -> u32;
+    pub(crate) fn pelgaisti_session_collect(session: *mut RawHandle, answer: *mut RawAnswer) -> u32;
+    pub(crate) fn pelgaisti_session_perform(
         session: *mut RawHandle,
         call: *const RawCall,
-        pass: *mut RawPass,
+        turns: u64,
         answer: *mut RawAnswer,
-        told: *mut usize,
     ) -> u32;
-    pub(crate) fn pelgaisti_raw_session_told(
+    pub(crate) fn pelgaisti_session_lock_path(
         session: *mut RawHandle,
-        first: usize,
-        list: *mut u32,
-        room: usize,
-        count: *mut usize,
+        resource: *const RawResource,
+        mode: u32,
+        level: *mut u32,
+        turns: u64,
+        answer: *mut RawAnswer,
     ) -> u32;
-    pub(crate) fn pelgaisti_raw_session_take_history(
+    pub(crate) fn pelgaisti_session_take_history(
         session: *mut RawHandle,
         first: *mut u64,
         entries: *mut RawEntry,
         room: usize,
         count: *mut usize,
     ) -> u32;
-    pub(crate) fn pelgaisti_raw_session_collect(session: *mut RawHandle, answer: *mut RawAnswer) -> u32;
-    pub(crate) fn pelgaisti_raw_session_held(
+    pub(crate) fn pelgaisti_session_held(
         session: *mut RawHandle,
         whose: u32,
         resource: *const RawResource,
         mode: *mut u32,
         seen: *mut u64,
     ) -> u32;
-    pub(crate) fn pelgaisti_raw_session_transaction(
+    pub(crate) fn pelgaisti_session_transaction(
         session: *mut RawHandle,
         whose: u32,
         open: *mut RawTransaction,
         seen: *mut u64,
     ) -> u32;
-    pub(crate) fn pelgaisti_raw_session_request(session: *mut RawHandle, whose: u32, waiting: *mut RawClaim, seen: *mut u64) -> u32;
-    pub(crate) fn pelgaisti_raw_session_waits_for(
+    pub(crate) fn pelgaisti_session_request(session: *mut RawHandle, whose: u32, waiting: *mut RawClaim, seen: *mut u64) -> u32;
+    pub(crate) fn pelgaisti_session_waits_for(
         session: *mut RawHandle,
         whose: u32,
         other: u32,
         edge: *mut u32,
         seen: *mut u64,
     ) -> u32;
-    pub(crate) fn pelgaisti_raw_session_holders(
+    pub(crate) fn pelgaisti_session_holders(
         session: *mut RawHandle,
         resource: *const RawResource,
         list: *mut RawHolder,
@@ -210,7 +250,7 @@ extern "C" {
         count: *mut usize,
         seen: *mut u64,
     ) -> u32;
-    pub(crate) fn pelgaisti_raw_session_blockers(
+    pub(crate) fn pelgaisti_session_blockers(
         session: *mut RawHandle,
         whose: u32,
         list: *mut u32,
@@ -218,7 +258,7 @@ extern "C" {
         count: *mut usize,
         seen: *mut u64,
     ) -> u32;
-    pub(crate) fn pelgaisti_raw_session_locks(
+    pub(crate) fn pelgaisti_session_locks(
         session: *mut RawHandle,
         first: usize,
         list: *mut RawClaim,
@@ -226,9 +266,9 @@ extern "C" {
         count: *mut usize,
         seen: *mut u64,
     ) -> u32;
-    pub(crate) fn pelgaisti_raw_session_seen(session: *mut RawHandle, seen: *mut u64) -> u32;
-    pub(crate) fn pelgaisti_raw_session_hear(session: *mut RawHandle, other: *mut RawHandle) -> u32;
-    pub(crate) fn pelgaisti_raw_session_retire(session: *mut RawHandle) -> u32;
-    pub(crate) fn pelgaisti_raw_session_hand_in(session: *mut RawHandle, to: *mut RawHandle) -> u32;
-    pub(crate) fn pelgaisti_raw_office_close(session: *mut RawHandle, book: *mut RawHandle) -> u32;
+    pub(crate) fn pelgaisti_session_seen(session: *mut RawHandle, seen: *mut u64) -> u32;
+    pub(crate) fn pelgaisti_session_hear(session: *mut RawHandle, other: *mut RawHandle) -> u32;
+    pub(crate) fn pelgaisti_session_retire(session: *mut RawHandle) -> u32;
+    pub(crate) fn pelgaisti_session_hand_in(session: *mut RawHandle, to: *mut RawHandle) -> u32;
+    pub(crate) fn pelgaisti_office_close(session: *mut RawHandle, book: *mut RawHandle) -> u32;
 }

@@ -1,6 +1,7 @@
 //! The lock table of Gray, Lorie, Putzolu and Traiger (1976) for storage engines: multiple-granularity locks, with deadlocks
-//! resolved by the youngest transaction on a cycle. It stands over the library `libpelgaisti.a`, which is proved; this crate
-//! isn't, but its types keep the rules that the library asks of its callers.
+//! resolved by the youngest transaction on a cycle. It calls `libpelgaisti.a` by the functions that C calls, which lead to code that is
+//! proved. This crate isn't proved, but its types keep the rules that `pelgaisti.h` has for callers. Left to a caller with unsafe code
+//! are two: it makes no call in a signal handler or in the forked child of a process with threads, and ends no thread inside a call.
 //!
 //! A [`Book`] is a lock table for one thread at a time. An [`Office`] is one that threads share, each by a [`Session`] of its
 //! own. No call blocks: a thread that was told [`Reply::Waiting`] sleeps until the office's waker is called for its session
@@ -21,15 +22,18 @@
 //! **Statuses that can't come.** A handle is open as long as its value lives, a call is one of [`Call`], and each value has
 //! handles of its own that never move: so the library's statuses CLOSED, OPEN, NO_SUCH_OP, NO_SUCH_LEVEL, NO_SUCH_MODE, NULL,
 //! SAME, COPIED and NO_ROOM have no counterpart in [`Error`]. If the library gives one of them all the same, the call panics.
-#![deny(missing_docs)]
+#![deny(missing_docs, unsafe_op_in_unsafe_fn, clippy::undocumented_unsafe_blocks)]
 
 mod book;
 mod calls;
 mod claims;
 mod error;
 mod ffi;
+mod handles;
+mod lists;
 mod looks;
 mod office;
+mod waker;
 
 pub use book::{Book, Entry};
 pub use calls::{Call, Mode, Refusal, Reply, Resource};

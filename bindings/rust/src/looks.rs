@@ -1,9 +1,10 @@
 //! Questions of a session about the lock table, while its office is open.
 
 use crate::calls::{Mode, Resource};
-use crate::claims::{whole_list, Claim, Holder, Transaction};
+use crate::claims::{Claim, Holder, Transaction};
 use crate::error::{done, Error};
-use crate::ffi::{self, RawClaim, RawTransaction};
+use crate::ffi::{self, RawClaim, RawHolder, RawTransaction, MAX_SESSIONS};
+use crate::lists::{each, whole_list};
 use crate::office::Session;
 
 /// The answer to a question about the lock table of an open office.
@@ -30,7 +31,8 @@ impl Session {
     ///     # Ok::<(), pelgaisti::Error>(())
     pub fn held(&mut self, whose: u32, resource: Resource) -> Result<Seen<Mode>, Error> {
         let (mut mode, mut length) = (0, 0);
-        done(unsafe { ffi::pelgaisti_raw_session_held(self.raw(), whose, &resource.raw(), &mut mode, &mut length) })?;
+        // SAFETY: the handle is this session's, used by `&mut`; the others are locals of their types
+        done(unsafe { ffi::pelgaisti_session_held(self.raw(), whose, &resource.raw(), &mut mode, &mut length) })?;
         let found = Mode::of(u64::from(mode));
         Ok(Seen { length, found })
     }
@@ -45,7 +47,8 @@ impl Session {
     ///     # Ok::<(), pelgaisti::Error>(())
     pub fn transaction(&mut self, whose: u32) -> Result<Seen<Option<Transaction>>, Error> {
         let (mut open, mut length) = (RawTransaction::default(), 0);
-        done(unsafe { ffi::pelgaisti_raw_session_transaction(self.raw(), whose, &mut open, &mut length) })?;
+        // SAFETY: the handle is this session's, used by `&mut`; the others are locals of their types
+        done(unsafe { ffi::pelgaisti_session_transaction(self.raw(), whose, &mut open, &mut length) })?;
         let found = Transaction::of(&open);
         Ok(Seen { length, found })
     }
@@ -56,7 +59,8 @@ impl Session {
     ///     # Ok::<(), pelgaisti::Error>(())
     pub fn request(&mut self, whose: u32) -> Result<Seen<Option<Claim>>, Error> {
         let (mut waiting, mut length) = (RawClaim::default(), 0);
-        done(unsafe { ffi::pelgaisti_raw_session_request(self.raw(), whose, &mut waiting, &mut length) })?;
+        // SAFETY: the handle is this session's, used by `&mut`; the others are locals of their types
+        done(unsafe { ffi::pelgaisti_session_request(self.raw(), whose, &mut waiting, &mut length) })?;
         let found = Claim::of(&waiting);
         Ok(Seen { length, found })
     }
@@ -67,7 +71,8 @@ impl Session {
     ///     # Ok::<(), pelgaisti::Error>(())
     pub fn waits_for(&mut self, whose: u32, other: u32) -> Result<Seen<bool>, Error> {
         let (mut edge, mut length) = (0, 0);
-        done(unsafe { ffi::pelgaisti_raw_session_waits_for(self.raw(), whose, other, &mut edge, &mut length) })?;
+        // SAFETY: the handle is this session's, used by `&mut`; the others are locals of their types
+        done(unsafe { ffi::pelgaisti_session_waits_for(self.raw(), whose, other, &mut edge, &mut length) })?;
         let found = edge != 0;
         Ok(Seen { length, found })
     }
@@ -79,11 +84,12 @@ impl Session {
     ///     # Ok::<(), pelgaisti::Error>(())
     pub fn holders(&mut self, resource: Resource) -> Result<Seen<Vec<Holder>>, Error> {
         let (handle, at, mut length) = (self.raw(), resource.raw(), 0);
-        let list = whole_list(|list, count| {
+        let holder = |raw: &RawHolder| Some(Holder::of(raw));
+        let found = whole_list(holder, |list, count| {
             let (to, room) = (list.as_mut_ptr(), list.len());
-            done(unsafe { ffi::pelgaisti_raw_session_holders(handle, &at, to, room, count, &mut length) })
+            // SAFETY: the handle is this session's, used by `&mut`; the list has so much room, the others are locals of their types
+            done(unsafe { ffi::pelgaisti_session_holders(handle, &at, to, room, count, &mut length) })
         })?;
-        let found = list.iter().map(Holder::of).collect();
         Ok(Seen { length, found })
     }
 
@@ -99,11 +105,11 @@ impl Session {
     ///     assert_eq!(sessions[0].locks()?.found.len(), 2);
     ///     # Ok::<(), pelgaisti::Error>(())
     pub fn blockers(&mut self, whose: u32) -> Result<Seen<Vec<u32>>, Error> {
-        let (handle, mut length) = (self.raw(), 0);
-        let found = whole_list(|list, count| {
-            let (to, room) = (list.as_mut_ptr(), list.len());
-            done(unsafe { ffi::pelgaisti_raw_session_blockers(handle, whose, to, room, count, &mut length) })
-        })?;
+        let (mut list, mut count, mut length) = ([0; MAX_SESSIONS], 0, 0);
+        let (to, room) = (list.as_mut_ptr(), list.len());
+        // SAFETY: the handle is this session's, used by `&mut`; the list has so much room, the others are locals of their types
+        done(unsafe { ffi::pelgaisti_session_blockers(self.raw(), whose, to, room, &mut count, &mut length) })?;
+        let found = each(&list[..count], |it| Some(*it))?;
         Ok(Seen { length, found })
     }
 
@@ -114,11 +120,11 @@ impl Session {
     ///     # Ok::<(), pelgaisti::Error>(())
     pub fn locks(&mut self) -> Result<Seen<Vec<Claim>>, Error> {
         let (handle, mut length) = (self.raw(), 0);
-        let list = whole_list(|list, count| {
+        let found = whole_list(Claim::of, |list, count| {
             let (to, room) = (list.as_mut_ptr(), list.len());
-            done(unsafe { ffi::pelgaisti_raw_session_locks(handle, 0, to, room, count, &mut length) })
+            // SAFETY: the handle is this session's, used by `&mut`; the list has so much room, the others are locals of their types
+            done(unsafe { ffi::pelgaisti_session_locks(handle, 0, to, room, count, &mut length) })
         })?;
-        let found = list.iter().filter_map(Claim::of).collect();
         Ok(Seen { length, found })
     }
 }

@@ -1,59 +1,15 @@
 //! The lock table that threads share.
 
-use crate::book::{Book, Entry};
+use crate::book::{entries_by, Book, Entry};
 use crate::calls::{Call, Mode, Reply, Resource};
 use crate::error::{done, same_version, Error};
-use crate::ffi::{self, RawAnswer, RawEntry, RawHandle, RawPass, MAX_SESSIONS};
-use std::cell::UnsafeCell;
-use std::hint;
+use crate::ffi::{self, RawAnswer, RawHandle, RawPass};
+use crate::handles::Handles;
+use crate::lists::{blank, list_for};
+use crate::waker::{AnyWaker, Waker};
 use std::marker::PhantomData;
-use std::mem;
-use std::panic::{self, AssertUnwindSafe};
-use std::sync::atomic::{AtomicU64, Ordering};
-use std::sync::{Arc, Mutex, MutexGuard, PoisonError};
-use std::thread;
-
-/// The handles of an office's sessions, at one place from its opening to its end.
-struct Handles {
-    all: Box<[UnsafeCell<RawHandle>]>,
-    // the indices of the sessions that were dropped, with room for all, so that a drop asks for no memory
-    dropped: Mutex<Vec<usize>>,
-    wake: Option<Waker>,
-}
-
-/// What is called with the number of a session whose wait has ended.
-type Waker = Box<dyn Fn(usize) + Send + Sync>;
-
-// each handle is used by its own session, and by a session that has it by `&mut`
-unsafe impl Send for Handles {}
-unsafe impl Sync for Handles {}
-
-impl Handles {
-    /// The indices of the dropped sessions. What panicked beside them has left them whole.
-    fn dropped(&self) -> MutexGuard<'_, Vec<usize>> {
-        self.dropped.lock().unwrap_or_else(PoisonError::into_inner)
-    }
-}
-
-impl Drop for Handles {
-    /// All sessions were dropped: closes their office, unless it is closed, and gives its memory back. A handle that is closed
-    /// refuses each of these calls.
-    fn drop(&mut self) {
-        let (mut pass, mut answer, first) = (RawPass::default(), RawAnswer::default(), self.all[0].get());
-        let mut told = 0; // whose threads have no session any more
-        for handle in &self.all {
-            unsafe {
-                ffi::pelgaisti_raw_session_serve(handle.get(), &mut pass, &mut told);
-                ffi::pelgaisti_raw_session_collect(handle.get(), &mut answer);
-            }
-        }
-        for handle in &self.all[1..] {
-            unsafe { ffi::pelgaisti_raw_session_hand_in(handle.get(), first) };
-        }
-        let book = Book::closed();
-        unsafe { ffi::pelgaisti_raw_office_close(first, book.raw()) };
-    }
-}
+use std::ptr;
+use std::sync::Arc;
 
 /// A lock table that threads share, each by a session of its own. This type has no values: an office is its sessions.
 pub enum Office {}
@@ -65,7 +21,7 @@ pub enum Office {}
 pub struct Session {
     handles: Arc<Handles>,
     index: usize,
-    // handed in, so that it doesn't go back when it is dropped
+    // handed in, or closed with its office, so that it doesn't go back when it is dropped
     is_handed_in: bool,
     // not Sync: a call uses the handle alone
     alone: PhantomData<std::cell::Cell<()>>,
@@ -96,13 +52,6 @@ pub struct Answer {
     pub place: u64,
     /// The reply to it.
     pub reply: Reply,
-}
-
-/// What has become of a call that was to be performed at once.
-enum Started {
-    Answered(Answer),
-    /// It is published.
-    Pending,
 }
 
 /// The sessions of an office that wasn't closed, and why.
@@ -152,7 +101,8 @@ impl Office {
     /// a session that is awake, also for the one whose call made the pass, and more than once: what a thread sleeps on has to keep
     /// a wake-up that comes early, and a thread that is woken sleeps on if the poll replies [`Reply::Waiting`]. If `wake` panics,
     /// the panic ends there, behind the message of the panic hook. Then the session that it was called for may sleep on; the others
-    /// are woken, and the call returns what it would have returned.
+    /// are woken, and the call returns what it would have returned. The office keeps `wake` until it is closed or its last session is
+    /// dropped, which wakes nobody.
     ///
     /// A thread that waits only for some time makes the call [`Call::Withdraw`] when the time is over. [`Reply::Withdrawn`] means
     /// that no pass has ended the wait, and nobody wakes it for it. If the call is refused, a pass has ended the wait meanwhile and
@@ -174,28 +124,15 @@ impl Office {
         bound: u64,
         wake: impl Fn(usize) + Send + Sync + 'static,
     ) -> Result<Vec<Session>, Error> {
-        Office::open_by(sessions, bound, Some(Box::new(wake)))
+        Office::open_by(sessions, bound, Some(Waker::new(wake)))
     }
 
-    fn open_by(sessions: usize, bound: u64, wake: Option<Waker>) -> Result<Vec<Session>, Error> {
-        // no two offices of a process have one mark
-        static MARKS: AtomicU64 = AtomicU64::new(1);
+    fn open_by(sessions: usize, bound: u64, waker: Option<Arc<AnyWaker>>) -> Result<Vec<Session>, Error> {
         same_version()?;
-        if sessions == 0 || sessions > MAX_SESSIONS {
-            return Err(Error::NoSuchCount);
-        }
-        let handles: Vec<_> = (0..sessions).map(|_| UnsafeCell::new(RawHandle::EMPTY)).collect();
-        let handles = Arc::new(Handles {
-            all: handles.into_boxed_slice(),
-            dropped: Mutex::new(Vec::with_capacity(sessions)),
-            wake,
-        });
-        let mark = MARKS.fetch_add(1, Ordering::Relaxed);
-        // the library asks only whether there is a waker: these types know which
-        let has_waker = u64::from(handles.wake.is_some());
-        // an UnsafeCell has the layout of what is in it
-        done(unsafe { ffi::pelgaisti_raw_office_open(handles.all[0].get(), sessions, mark, bound, has_waker) })?;
-        Ok((0..sessions).map(|index| Session::of(&handles, index)).collect())
+        let handles = Handles::open(sessions, bound, waker)?;
+        let mut opened = list_for(sessions)?;
+        opened.extend((0..sessions).map(|index| Session::of(&handles, index)));
+        Ok(opened)
     }
 
     /// The sessions of this session's office that were dropped and not handed out since, by number. Each still has its transaction,
@@ -233,47 +170,36 @@ impl Office {
     ///     assert_eq!(Office::close(sessions).ok().unwrap().length(), 0);
     ///     # Ok::<(), pelgaisti::Error>(())
     pub fn close(mut sessions: Vec<Session>) -> Result<Book, NotClosed> {
-        if sessions.is_empty() {
-            return Err(NotClosed {
-                error: Error::Missing,
-                sessions,
-            });
-        }
-        while let Some(mut last) = sessions.pop() {
-            if sessions.is_empty() {
-                sessions.push(last);
-                break;
-            }
-            let status = unsafe { ffi::pelgaisti_raw_session_hand_in(last.raw(), sessions[0].raw()) };
-            if let Err(error) = done(status) {
-                sessions.push(last);
-                return Err(NotClosed { error, sessions });
-            }
-            last.is_handed_in = true;
-        }
-        let book = Book::closed();
-        match done(unsafe { ffi::pelgaisti_raw_office_close(sessions[0].raw(), book.raw()) }) {
-            Ok(()) => Ok(book),
+        match Office::hand_over(&mut sessions) {
+            Ok(book) => Ok(book),
             Err(error) => Err(NotClosed { error, sessions }),
         }
     }
+
+    /// Hands in all sessions to the first, and closes the office with it. Those that were handed in are taken off the list.
+    fn hand_over(sessions: &mut Vec<Session>) -> Result<Book, Error> {
+        let book = Book::closed()?;
+        while let [first, .., last] = &mut sessions[..] {
+            // SAFETY: both handles are their sessions', used by `&mut`, and not the same. One copy of the library opened them
+            done(unsafe { ffi::pelgaisti_session_hand_in(last.raw(), first.raw()) })?;
+            last.is_handed_in = true;
+            sessions.pop();
+        }
+        let last = sessions.first_mut().ok_or(Error::Missing)?;
+        // SAFETY: the handle is this session's, used by `&mut`; that of the book is empty, and its own
+        done(unsafe { ffi::pelgaisti_office_close(last.raw(), book.raw()) })?;
+        last.is_handed_in = true;
+        Ok(book)
+    }
 }
 
-/// Tries to perform a call at once, at most `turns` times and at most 32 times, with pauses between that grow from try to try;
-/// from the 17th on the thread yields. `Elsewhere` if the lock table was never free.
-fn try_at_once(turns: u64, mut perform: impl FnMut() -> Result<(), Error>) -> Result<(), Error> {
-    for tried in 0..turns.min(32) {
-        match tried {
-            0 => (),
-            1..=16 => (0..256 << (tried - 1).min(4)).for_each(|_| hint::spin_loop()),
-            _ => thread::yield_now(),
-        }
-        match perform() {
-            Err(Error::Elsewhere) => (),
-            performed => return performed,
+impl Answer {
+    fn of(raw: &RawAnswer) -> Answer {
+        Answer {
+            place: raw.place,
+            reply: Reply::of(&raw.reply),
         }
     }
-    Err(Error::Elsewhere)
 }
 
 impl Drop for Session {
@@ -294,8 +220,9 @@ impl Session {
         }
     }
 
+    /// The handle, at its place as long as the session lives. A session that has it by `&mut` uses it alone.
     pub(crate) fn raw(&self) -> *mut RawHandle {
-        self.handles.all[self.index].get()
+        self.handles.raw(self.index)
     }
 
     /// The session's number, from 1 on.
@@ -315,7 +242,8 @@ impl Session {
     ///     # Ok::<(), pelgaisti::Error>(())
     pub fn publish(&mut self, call: &Call) -> Result<Posted, Error> {
         let mut posted = 0;
-        done(unsafe { ffi::pelgaisti_raw_session_publish(self.raw(), &call.raw(), &mut posted) })?;
+        // SAFETY: the handle is this session's, used by `&mut`; the others are locals of their types
+        done(unsafe { ffi::pelgaisti_session_publish(self.raw(), &call.raw(), &mut posted) })?;
         Ok(if posted == 1 { Posted::Listed } else { Posted::Unlisted })
     }
 
@@ -328,63 +256,13 @@ impl Session {
     ///     assert_eq!(sessions[0].serve()?.served, 1);
     ///     # Ok::<(), pelgaisti::Error>(())
     pub fn serve(&mut self) -> Result<Pass, Error> {
-        let (mut pass, mut told) = (RawPass::default(), 0);
-        let status = unsafe { ffi::pelgaisti_raw_session_serve(self.raw(), &mut pass, &mut told) };
-        if told > 0 {
-            self.wake(told);
-        }
-        done(status)?;
+        let mut pass = RawPass::default();
+        // SAFETY: the handle is this session's, used by `&mut`; the pass is a local
+        done(unsafe { ffi::pelgaisti_session_serve(self.raw(), &mut pass) })?;
         Ok(Pass {
             served: pass.served,
             starved: pass.starved != 0,
         })
-    }
-
-    /// Wakes the sessions that the session's last pass has told of, so many, by the office's waker. A waker that panics has wakened
-    /// nobody, and the others are woken all the same: its panic ends here.
-    fn wake(&mut self, told: usize) {
-        let Some(wake) = &self.handles.wake else { return };
-        let mut list = [0; 16];
-        for first in (0..told).step_by(list.len()) {
-            let mut count = 0;
-            let status = unsafe { ffi::pelgaisti_raw_session_told(self.raw(), first, list.as_mut_ptr(), list.len(), &mut count) };
-            done(status).expect("an open session tells whom to wake");
-            for session in &list[..list.len().min(count - first)] {
-                if let Err(panic) = panic::catch_unwind(AssertUnwindSafe(|| wake(*session as usize))) {
-                    // what it was raised with may panic itself when it is dropped
-                    mem::forget(panic);
-                }
-            }
-        }
-    }
-
-    /// Performs a call at once, if the lock table is free at one of at most `turns` tries. Otherwise publishes it, also if memory
-    /// was refused.
-    fn start(&mut self, call: &Call, turns: u64) -> Result<Started, Error> {
-        let (mut pass, mut answer, mut told) = (RawPass::default(), RawAnswer::default(), 0);
-        let at_once = try_at_once(turns, || {
-            done(unsafe {
-                ffi::pelgaisti_raw_session_perform_at_once(self.raw(), &call.raw(), &mut pass, &mut answer, &mut told)
-            })
-        });
-        if told > 0 {
-            self.wake(told); // also if memory was refused for the call: its pass may have ended waits
-        }
-        match at_once {
-            Ok(()) => Ok(Started::Answered(Answer {
-                place: answer.place,
-                reply: Reply::of(&answer.reply),
-            })),
-            Err(Error::Elsewhere) => {
-                self.publish(call)?;
-                Ok(Started::Pending)
-            }
-            Err(Error::NoMemory) => {
-                self.publish(call)?;
-                Err(Error::NoMemory)
-            }
-            Err(error) => Err(error),
-        }
     }
 
     /// Takes the answer to the pending call. [`Error::NotServed`]: the session knows none yet.
@@ -395,32 +273,31 @@ impl Session {
     ///     # Ok::<(), pelgaisti::Error>(())
     pub fn collect(&mut self) -> Result<Answer, Error> {
         let mut answer = RawAnswer::default();
-        done(unsafe { ffi::pelgaisti_raw_session_collect(self.raw(), &mut answer) })?;
-        Ok(Answer {
-            place: answer.place,
-            reply: Reply::of(&answer.reply),
-        })
+        // SAFETY: the handle is this session's, used by `&mut`; the answer is a local
+        done(unsafe { ffi::pelgaisti_session_collect(self.raw(), &mut answer) })?;
+        Ok(Answer::of(&answer))
     }
 
-    /// Performs a call at once where the lock table is free. Else it tries again, with pauses that grow, in all at most `turns` times
-    /// and at most 32 times; and if the lock table was never free, publishes the call, then serves and collects in turn until its answer
-    /// is there, at most `turns` times; with no turns it only publishes it. The answer may be [`Reply::Waiting`]: this waits for an
-    /// answer, not for a lock. Between its first looks the processor pauses, and between later ones the thread yields.
-    /// [`Error::NotServed`]: after so many turns there is no answer. [`Error::NoMemory`]: memory was refused for the call or in a
-    /// pass of this session. After both the call is pending, and [`Session::resume`] goes on with it.
+    /// Makes a whole call, in at most `turns` turns, between which the thread pauses or yields the processor. In the first 32 turns it
+    /// tries to perform the call at once; in the next it publishes it, and from then on it serves, at every eighth turn, and looks
+    /// for the answer. If the call isn't published by the last turn, it is published then; with no turns it is published and
+    /// nothing else. The answer may be [`Reply::Waiting`]: this waits for an answer, not for a lock.
+    ///
+    /// [`Error::NotServed`]: after so many turns there is no answer. [`Error::NoMemory`]: memory was refused, for the call or in a
+    /// pass of this session, and there is no answer yet. After both the call is pending, and [`Session::resume`] goes on with it.
     ///
     ///     # use pelgaisti::{Call, Office, Reply};
     ///     let mut sessions = Office::open(2)?;
     ///     assert_eq!(sessions[1].perform(&Call::Begin, u64::MAX)?.reply, Reply::Began(1));
     ///     # Ok::<(), pelgaisti::Error>(())
     pub fn perform(&mut self, call: &Call, turns: u64) -> Result<Answer, Error> {
-        match self.start(call, turns)? {
-            Started::Answered(answer) => Ok(answer),
-            Started::Pending => self.resume(turns),
-        }
+        let mut answer = RawAnswer::default();
+        // SAFETY: the handle is this session's, used by `&mut`; call and answer are locals of their types
+        done(unsafe { ffi::pelgaisti_session_perform(self.raw(), &call.raw(), turns, &mut answer) })?;
+        Ok(Answer::of(&answer))
     }
 
-    /// Goes on with a pending call as [`Session::perform`] does.
+    /// Goes on with the pending call: all turns look for its answer, as those of [`Session::perform`] do that come last.
     ///
     ///     # use pelgaisti::{Call, Error, Office, Reply};
     ///     let mut sessions = Office::open(2)?;
@@ -428,22 +305,10 @@ impl Session {
     ///     assert_eq!(sessions[1].resume(1)?.reply, Reply::Began(1));
     ///     # Ok::<(), pelgaisti::Error>(())
     pub fn resume(&mut self, turns: u64) -> Result<Answer, Error> {
-        for turn in 0..turns {
-            match turn {
-                0 => (),
-                1..=8 => (0..256).for_each(|_| hint::spin_loop()),
-                _ => thread::yield_now(),
-            }
-            let pass = self.serve();
-            match self.collect() {
-                Err(Error::NotServed) => (),
-                found => return found,
-            }
-            if let Ok(Pass { starved: true, .. }) = pass {
-                return Err(Error::NoMemory);
-            }
-        }
-        Err(Error::NotServed)
+        let mut answer = RawAnswer::default();
+        // SAFETY: the handle is this session's, used by `&mut`; the call may be null, and the answer is a local
+        done(unsafe { ffi::pelgaisti_session_perform(self.raw(), ptr::null(), turns, &mut answer) })?;
+        Ok(Answer::of(&answer))
     }
 
     /// Like [`Book::lock_path`], for a session of an office: performs the calls one after another, each in at most `turns` turns,
@@ -464,21 +329,22 @@ impl Session {
     ///     assert_eq!((answer.reply, answer.place, level), (Reply::Granted(Mode::S), 3, 3));
     ///     # Ok::<(), pelgaisti::Error>(())
     pub fn lock_path(&mut self, resource: Resource, mode: Mode, level: &mut usize, turns: u64) -> Result<Option<Answer>, Error> {
-        let mut last = None;
-        while let Some(call) = resource.path_call(mode, *level) {
-            let answer = self.perform(&call, turns)?;
-            last = Some(answer);
-            if !matches!(answer.reply, Reply::Granted(_)) {
-                break;
-            }
-            *level += 1;
+        if *level >= resource.level() {
+            return Ok(None);
         }
-        Ok(last)
+        let (mut reached, mut answer) = (*level as u32, RawAnswer::default());
+        let (path, mode) = (resource.raw(), mode.code());
+        // SAFETY: the handle is this session's, used by `&mut`; the others are locals of their types
+        let status = unsafe { ffi::pelgaisti_session_lock_path(self.raw(), &path, mode, &mut reached, turns, &mut answer) };
+        *level = reached as usize;
+        done(status)?;
+        Ok(Some(Answer::of(&answer)))
     }
 
     /// Takes up to `room` of the oldest entries of the history that are kept, which leave the lock table's memory. Returns the place
-    /// of the first one and the entries: fewer than `room` only if no more are kept. What the sessions of an office take follows one
-    /// another without a gap, unless the office has a bound. [`Error::Elsewhere`]: another session has the lock table.
+    /// of the first one and the entries: fewer than `room` only if no more were kept when the call began. What the sessions of an
+    /// office take follows one another without a gap, unless the office has a bound. [`Error::Elsewhere`], as another session has the
+    /// lock table, and [`Error::NoMemory`]: nothing was taken.
     ///
     ///     # use pelgaisti::{Call, Office};
     ///     let mut sessions = Office::open(1)?;
@@ -488,11 +354,21 @@ impl Session {
     ///     assert_eq!(sessions[0].take_history(64)?.0, 1);
     ///     # Ok::<(), pelgaisti::Error>(())
     pub fn take_history(&mut self, room: usize) -> Result<(u64, Vec<Entry>), Error> {
-        let mut entries = vec![RawEntry::default(); room];
+        let room = if room > 256 { room.min(self.kept()?) } else { room };
+        let (list, mut first) = (blank(room)?, 0);
+        // SAFETY: the handle is this session's, used by `&mut`; the list has so much room, the others are locals of their types
+        let entries = entries_by(list, |list, count| unsafe {
+            ffi::pelgaisti_session_take_history(self.raw(), &mut first, list.as_mut_ptr(), list.len(), count)
+        })?;
+        Ok((first, entries))
+    }
+
+    /// How many entries of the history are kept. It takes none, which tells where they begin, and lets the session know them.
+    fn kept(&mut self) -> Result<usize, Error> {
         let (mut first, mut count) = (0, 0);
-        let at = entries.as_mut_ptr();
-        done(unsafe { ffi::pelgaisti_raw_session_take_history(self.raw(), &mut first, at, room, &mut count) })?;
-        Ok((first, entries[..count].iter().map(Entry::of).collect()))
+        // SAFETY: the handle is this session's, used by `&mut`; the list may be null, as it has no room, the others are locals
+        done(unsafe { ffi::pelgaisti_session_take_history(self.raw(), &mut first, ptr::null_mut(), 0, &mut count) })?;
+        Ok(usize::try_from(self.seen().saturating_sub(first)).unwrap_or(usize::MAX))
     }
 
     /// How many entries of the history the session knows: the first ones.
@@ -501,7 +377,8 @@ impl Session {
     ///     # Ok::<(), pelgaisti::Error>(())
     pub fn seen(&mut self) -> u64 {
         let mut seen = 0;
-        done(unsafe { ffi::pelgaisti_raw_session_seen(self.raw(), &mut seen) }).expect("an open session tells what it knows");
+        // SAFETY: the handle is this session's, used by `&mut`; what is written is a local
+        done(unsafe { ffi::pelgaisti_session_seen(self.raw(), &mut seen) }).expect("an open session tells what it knows");
         seen
     }
 
@@ -513,7 +390,8 @@ impl Session {
     ///     one[0].hear(&mut rest[0])?;
     ///     # Ok::<(), pelgaisti::Error>(())
     pub fn hear(&mut self, other: &mut Session) -> Result<(), Error> {
-        done(unsafe { ffi::pelgaisti_raw_session_hear(self.raw(), other.raw()) })
+        // SAFETY: both handles are their sessions', used by `&mut`, and so not the same. One copy of the library opened them
+        done(unsafe { ffi::pelgaisti_session_hear(self.raw(), other.raw()) })
     }
 
     /// Retires the session: it publishes no more calls. Its transaction and its locks stay as they are.
@@ -524,6 +402,7 @@ impl Session {
     ///     assert_eq!(sessions[0].publish(&Call::Begin), Err(Error::Retired));
     ///     # Ok::<(), pelgaisti::Error>(())
     pub fn retire(&mut self) -> Result<(), Error> {
-        done(unsafe { ffi::pelgaisti_raw_session_retire(self.raw()) })
+        // SAFETY: the handle is this session's, used by `&mut`
+        done(unsafe { ffi::pelgaisti_session_retire(self.raw()) })
     }
 }

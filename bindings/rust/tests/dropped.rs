@@ -76,21 +76,24 @@ fn dropped_sessions() {
     sessions.append(&mut orphans);
     assert_eq!(Office::close(sessions).ok().unwrap().length(), 10);
 
-    // an office whose sessions are all dropped gives its memory back, pending calls or not, handed in or not
+    // an office whose sessions are all dropped gives its memory back: pending calls or not, handed in or not, whichever was closed
     let drop_office = |round: usize| {
         let mut sessions = Office::open(256).unwrap();
-        for session in &mut sessions[round % 2..] {
+        for session in &mut sessions[round % 3..] {
             session.publish(&Call::Begin).unwrap();
         }
-        if round % 2 == 1 {
+        if round % 3 > 0 {
             let last = sessions.pop();
+            if round % 3 == 2 {
+                sessions.reverse(); // so that session 1 is handed in
+            }
             assert_eq!(Office::close(sessions).err().unwrap().error, Error::Pending);
             drop(last);
         }
     };
-    (0..4).for_each(drop_office);
+    (0..6).for_each(drop_office);
     let before = bytes_in_use();
-    (0..32).for_each(drop_office);
+    (0..48).for_each(drop_office);
     let kept = bytes_in_use().saturating_sub(before);
     assert!(kept < 65_536, "{kept} bytes are kept");
 }

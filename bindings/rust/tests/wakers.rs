@@ -81,31 +81,41 @@ fn each_is_woken_once() {
 /// The waker panics for every third session, in the call that ends their waits: its answer isn't lost, and the others are woken.
 #[test]
 fn a_panic_loses_no_answer_and_no_other_wake_up() {
-    let called = Arc::new(AtomicUsize::new(0));
-    let woken = Arc::new(Mutex::new(Vec::new()));
-    let (calls, noted) = (called.clone(), woken.clone());
-    let mut sessions = Office::open_waking(40, u64::MAX, move |session| {
-        calls.fetch_add(1, Ordering::Relaxed);
-        assert!(session % 3 != 0, "no third session is woken");
-        noted.lock().unwrap().push(session);
-    })
-    .unwrap();
-    for (index, session) in sessions.iter_mut().enumerate() {
-        reply(session, Call::Begin);
-        reply(session, lock(1, if index == 0 { Mode::X } else { Mode::S }));
+    for way in 0..3 {
+        let called = Arc::new(AtomicUsize::new(0));
+        let woken = Arc::new(Mutex::new(Vec::new()));
+        let (calls, noted) = (called.clone(), woken.clone());
+        let mut sessions = Office::open_waking(40, u64::MAX, move |session| {
+            calls.fetch_add(1, Ordering::Relaxed);
+            assert!(session % 3 != 0, "no third session is woken");
+            noted.lock().unwrap().push(session);
+        })
+        .unwrap();
+        for (index, session) in sessions.iter_mut().enumerate() {
+            reply(session, Call::Begin);
+            reply(session, lock(1, if index == 0 { Mode::X } else { Mode::S }));
+        }
+        let hook = panic::take_hook();
+        panic::set_hook(Box::new(|_| ()));
+        let one = &mut sessions[0];
+        let committed = match way {
+            0 => one.perform(&Call::Commit, 9),
+            1 => one.perform(&Call::Commit, 0).or_else(|_| one.resume(9)),
+            _ => {
+                let served = one.publish(&Call::Commit).and_then(|_| one.serve());
+                served.and_then(|_| one.collect())
+            }
+        };
+        panic::set_hook(hook);
+        assert_eq!(committed.unwrap().reply, Reply::Committed(1));
+        assert_eq!(called.load(Ordering::Relaxed), 39);
+        let mut told = woken.lock().unwrap().clone();
+        told.sort_unstable();
+        assert_eq!(told, (2..=40).filter(|session| session % 3 != 0).collect::<Vec<_>>());
+        // the session goes on, and so does one for which the waker panicked
+        assert_eq!(reply(&mut sessions[0], Call::Begin), Reply::Began(41));
+        assert_eq!(reply(&mut sessions[2], Call::Poll), Reply::Clear);
     }
-    let hook = panic::take_hook();
-    panic::set_hook(Box::new(|_| ()));
-    let committed = sessions[0].perform(&Call::Commit, 9);
-    panic::set_hook(hook);
-    assert_eq!(committed.unwrap().reply, Reply::Committed(1));
-    assert_eq!(called.load(Ordering::Relaxed), 39);
-    let mut told = woken.lock().unwrap().clone();
-    told.sort_unstable();
-    assert_eq!(told, (2..=40).filter(|session| session % 3 != 0).collect::<Vec<_>>());
-    // the session goes on, and so does one for which the waker panicked
-    assert_eq!(reply(&mut sessions[0], Call::Begin), Reply::Began(41));
-    assert_eq!(reply(&mut sessions[2], Call::Poll), Reply::Clear);
 }
 
 /// What the waker panics with may panic itself when it is dropped.
@@ -124,6 +134,32 @@ fn a_panic_in_a_panic_is_kept_from_the_call() {
     }
     assert_eq!(reply(&mut sessions[0], Call::Commit), Reply::Committed(1));
     assert_eq!(reply(&mut sessions[1], Call::Poll), Reply::Clear);
+}
+
+/// An office whose sessions are all dropped wakes nobody for their calls, and drops its waker; one that is closed drops it, too.
+#[test]
+fn the_waker_goes_with_the_office() {
+    for is_closed in [false, true] {
+        let woken = Arc::new(AtomicUsize::new(0));
+        let noted = woken.clone();
+        let mut sessions = Office::open_waking(3, u64::MAX, move |_| {
+            noted.fetch_add(1, Ordering::Relaxed);
+        })
+        .unwrap();
+        for session in &mut sessions {
+            reply(session, Call::Begin);
+            reply(session, lock(1, Mode::X));
+        }
+        sessions[0].publish(&Call::Commit).unwrap();
+        assert_eq!(Arc::strong_count(&woken), 2);
+        if is_closed {
+            assert_eq!(sessions[0].resume(9).unwrap().reply, Reply::Committed(1));
+            assert_eq!(Office::close(sessions).ok().unwrap().length(), 7);
+        } else {
+            drop(sessions);
+        }
+        assert_eq!((Arc::strong_count(&woken), woken.load(Ordering::Relaxed)), (1, usize::from(is_closed)));
+    }
 }
 
 /// Threads that sleep until they are woken take a database in turn.

@@ -1,0 +1,11 @@
+/* What calls.c needs of wait.c. ./embed makes these names local, as all that pelgaisti.h doesn't declare. */
+#ifndef WAIT_H
+#define WAIT_H
+
+#include "pelgaisti.h"
+
+uint64_t draw_mark(void);
+void wait_before_turn(uint32_t wait);
+void wake_each(const pelgaisti_waker *waker, const uint32_t *list, size_t count);
+
+#endif

@@ -1,0 +1,102 @@
+//! Handles, each at one place from its opening to its end.
+
+use crate::error::{done, Error};
+use crate::ffi::{self, RawAnswer, RawHandle, RawPass, MAX_SESSIONS};
+use crate::lists::list_for;
+use crate::waker::AnyWaker;
+use std::cell::UnsafeCell;
+use std::mem;
+use std::sync::{Arc, Mutex, MutexGuard, PoisonError};
+
+/// So many handles that aren't open yet.
+pub(crate) fn closed(count: usize) -> Result<Box<[UnsafeCell<RawHandle>]>, Error> {
+    let mut handles = list_for(count)?;
+    handles.resize_with(count, || UnsafeCell::new(RawHandle::EMPTY));
+    Ok(handles.into_boxed_slice())
+}
+
+/// The handles of an office's sessions.
+pub(crate) struct Handles {
+    all: Box<[UnsafeCell<RawHandle>]>,
+    // the indices of the sessions that were dropped, with room for all, so that a drop asks for no memory
+    dropped: Mutex<Vec<usize>>,
+    // behind the handles: what the library has of it is read by calls on them
+    waker: Option<Arc<AnyWaker>>,
+}
+
+// SAFETY: the library proves that what a session's handle holds may go to another thread. Each handle is used by its own session, and
+// by a session that has it by `&mut`. The waker's closure is Send and Sync, and nothing else of a waker is written but an atomic.
+unsafe impl Send for Handles {}
+// SAFETY: as above
+unsafe impl Sync for Handles {}
+
+impl Handles {
+    /// Opens an office.
+    pub(crate) fn open(sessions: usize, bound: u64, waker: Option<Arc<AnyWaker>>) -> Result<Arc<Handles>, Error> {
+        if sessions == 0 || sessions > MAX_SESSIONS {
+            return Err(Error::NoSuchCount);
+        }
+        let handles = Arc::new(Handles {
+            all: closed(sessions)?,
+            dropped: Mutex::new(list_for(sessions)?),
+            waker,
+        });
+        // of the whole slice, not of its first handle
+        let first = UnsafeCell::raw_get(handles.all.as_ptr());
+        done(match &handles.waker {
+            // SAFETY: there are so many handles, empty, at places that they keep while these `Handles` live
+            None => unsafe { ffi::pelgaisti_office_open_keeping(first, sessions, bound) },
+            // SAFETY: likewise; the waker keeps its place and its fields as long, and `wake` returns whatever the closure does
+            Some(waker) => unsafe { ffi::pelgaisti_office_open_waking(first, sessions, bound, waker.raw()) },
+        })?;
+        Ok(handles)
+    }
+
+    pub(crate) fn raw(&self, index: usize) -> *mut RawHandle {
+        self.all[index].get()
+    }
+
+    /// The indices of the dropped sessions. What panicked beside them has left them whole.
+    pub(crate) fn dropped(&self) -> MutexGuard<'_, Vec<usize>> {
+        self.dropped.lock().unwrap_or_else(PoisonError::into_inner)
+    }
+
+    /// Closes the office, unless it is closed, and frees its lock table. Whether nothing of it is left.
+    fn close(&self) -> bool {
+        let (mut pass, mut answer) = (RawPass::default(), RawAnswer::default());
+        let mut first_open = None;
+        for handle in self.all.iter().map(UnsafeCell::get) {
+            // SAFETY: no session is left to use a handle; the others are locals. A closed handle refuses each of these calls
+            let status = unsafe {
+                ffi::pelgaisti_session_serve(handle, &mut pass);
+                ffi::pelgaisti_session_collect(handle, &mut answer)
+            };
+            if status == ffi::CLOSED {
+                continue;
+            }
+            match first_open {
+                None => first_open = Some(handle),
+                // SAFETY: no session is left to use these two handles, which aren't the same
+                Some(to) => drop(unsafe { ffi::pelgaisti_session_hand_in(handle, to) }),
+            }
+        }
+        let mut book = RawHandle::EMPTY;
+        // SAFETY: no session is left to use the handle; the book's is a local that is empty, and is open between the two calls only
+        first_open.map_or(true, |last| unsafe {
+            ffi::pelgaisti_office_close(last, &mut book) == ffi::OK && ffi::pelgaisti_book_close(&mut book) == ffi::OK
+        })
+    }
+}
+
+impl Drop for Handles {
+    /// All sessions were dropped: gives the memory of their office back. Nobody is woken by this.
+    fn drop(&mut self) {
+        if let Some(waker) = &self.waker {
+            waker.end();
+        }
+        if !self.close() {
+            // memory was refused: handles that are open keep their places
+            mem::forget((mem::take(&mut self.all), self.waker.take()));
+        }
+    }
+}

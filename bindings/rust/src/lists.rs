@@ -1,0 +1,41 @@
+//! Lists whose memory may be refused.
+
+use crate::error::Error;
+
+/// An empty list with room for so many items.
+pub(crate) fn list_for<T>(room: usize) -> Result<Vec<T>, Error> {
+    let mut list = Vec::new();
+    list.try_reserve_exact(room).map_err(|_| Error::NoMemory)?;
+    Ok(list)
+}
+
+/// A list of so many items, to be written.
+pub(crate) fn blank<T: Clone + Default>(length: usize) -> Result<Vec<T>, Error> {
+    let mut list = list_for(length)?;
+    list.resize(length, T::default());
+    Ok(list)
+}
+
+/// What is made of the items, in their order, of some nothing.
+pub(crate) fn each<R, T>(items: &[R], made: impl FnMut(&R) -> Option<T>) -> Result<Vec<T>, Error> {
+    let mut list = list_for(items.len())?;
+    list.extend(items.iter().filter_map(made));
+    Ok(list)
+}
+
+/// What is made of the whole list that a call writes, with how many items it has in all: asks again with more room until all fit.
+pub(crate) fn whole_list<R: Copy + Default, T>(
+    made: impl FnMut(&R) -> Option<T>,
+    mut ask: impl FnMut(&mut [R], &mut usize) -> Result<(), Error>,
+) -> Result<Vec<T>, Error> {
+    let (mut few, mut more, mut count) = ([R::default(); 8], Vec::new(), 0);
+    ask(&mut few, &mut count)?;
+    if let Some(whole) = few.get(..count) {
+        return each(whole, made);
+    }
+    while more.len() < count {
+        more = blank(count)?;
+        ask(&mut more, &mut count)?;
+    }
+    each(&more[..count], made)
+}

@@ -1,0 +1,132 @@
+//! Rooms that a caller gives take no more memory than there is to write. Where Rust's memory is refused, the calls that tell of it
+//! have changed nothing, and may be made again.
+
+use pelgaisti::{Book, Call, Error, Mode, Office, Reply, Resource, Session};
+use std::alloc::{GlobalAlloc, Layout, System};
+use std::cell::Cell;
+use std::ptr::null_mut;
+use std::sync::Arc;
+
+thread_local! {
+    /// The largest block, in bytes, that this thread gets.
+    static LIMIT: Cell<usize> = const { Cell::new(usize::MAX) };
+}
+
+struct Limited;
+
+unsafe impl GlobalAlloc for Limited {
+    unsafe fn alloc(&self, layout: Layout) -> *mut u8 {
+        if layout.size() > LIMIT.with(Cell::get) {
+            return null_mut();
+        }
+        unsafe { System.alloc(layout) }
+    }
+    unsafe fn dealloc(&self, at: *mut u8, layout: Layout) {
+        unsafe { System.dealloc(at, layout) }
+    }
+}
+
+#[global_allocator]
+static LIMITED: Limited = Limited;
+
+/// Makes a call to which blocks of more than 512 bytes are refused.
+fn refused<T>(call: impl FnOnce() -> T) -> T {
+    LIMIT.with(|it| it.set(512));
+    let made = call();
+    LIMIT.with(|it| it.set(usize::MAX));
+    made
+}
+
+fn database() -> Resource {
+    Resource::new(&[7]).unwrap()
+}
+
+fn reply(session: &mut Session, call: Call) -> Reply {
+    session.perform(&call, u64::MAX).unwrap().reply
+}
+
+/// A book of 300 sessions: all but the last hold the database to read, and the last one waits for them.
+fn book_of_readers() -> Book {
+    let mut book = Book::open(300).unwrap();
+    for session in 1..=300 {
+        book.serve(session, &Call::Begin).unwrap();
+        let mode = if session == 300 { Mode::X } else { Mode::S };
+        book.serve(session, &Call::Lock(database(), mode)).unwrap();
+    }
+    book
+}
+
+#[test]
+fn a_room_takes_no_more_than_there_is() {
+    let mut book = book_of_readers();
+    assert_eq!(book.history(0, usize::MAX).unwrap().len(), 600);
+    assert_eq!(book.history(599, usize::MAX).unwrap().len(), 1);
+    assert_eq!(book.history(600, usize::MAX), Ok(vec![]));
+    assert_eq!(book.history(u64::MAX, usize::MAX), Ok(vec![]));
+    assert_eq!(book.take_history(99).unwrap().1.len(), 99);
+    assert_eq!(book.history(98, usize::MAX), Err(Error::LetGo));
+    let (first, entries) = book.take_history(usize::MAX).unwrap();
+    assert_eq!((first, entries.len(), entries[0].session), (99, 501, 50));
+    assert_eq!(book.take_history(usize::MAX), Ok((600, vec![])));
+
+    for length in [0, 1, 256, 257, 1000] {
+        let mut sessions = Office::open(2).unwrap();
+        for _ in 0..length {
+            reply(&mut sessions[0], Call::Poll);
+        }
+        let (first, entries) = sessions[1].take_history(usize::MAX).unwrap();
+        assert_eq!((first, entries.len()), (0, length));
+        assert_eq!(sessions[0].take_history(usize::MAX), Ok((length as u64, vec![])));
+        reply(&mut sessions[0], Call::Poll);
+        assert_eq!(sessions[1].take_history(257).unwrap().1.len(), 1);
+    }
+}
+
+#[test]
+fn a_book_goes_on_where_memory_is_refused() {
+    let mut book = book_of_readers();
+    let calls = vec![(1, Call::Poll); 100];
+    assert_eq!(refused(|| book.serve_batch(&calls)), Err(Error::NoMemory));
+    let (mut level, mut ended) = (0, vec![]);
+    assert_eq!(refused(|| book.lock_path(1, database(), Mode::S, &mut level, &mut ended)), Err(Error::NoMemory));
+    assert_eq!((level, ended.len(), book.length()), (0, 0, 600));
+    assert_eq!(refused(|| book.holders(database())), Err(Error::NoMemory));
+    assert_eq!(refused(|| book.locks()), Err(Error::NoMemory));
+    assert_eq!(refused(|| book.blockers(300)), Err(Error::NoMemory));
+    assert_eq!(refused(|| book.history(0, 100)), Err(Error::NoMemory));
+    assert_eq!(refused(|| book.take_history(usize::MAX)), Err(Error::NoMemory));
+    assert_eq!(book.first_kept(), 0);
+
+    assert_eq!(book.serve_batch(&calls).unwrap().len(), 100);
+    assert_eq!(book.lock_path(1, database(), Mode::S, &mut level, &mut ended), Ok(Some(Reply::Granted(Mode::S))));
+    assert_eq!((level, book.holders(database()).unwrap().len(), book.locks().unwrap().len()), (1, 299, 300));
+    assert_eq!(book.blockers(300).unwrap(), (1..300).collect::<Vec<_>>());
+    assert_eq!(book.take_history(usize::MAX).unwrap().1.len(), 701);
+}
+
+#[test]
+fn an_office_goes_on_where_memory_is_refused() {
+    let owned = Arc::new(());
+    let owner = owned.clone();
+    let wake = move |_| drop(owner.clone());
+    assert_eq!(refused(|| Office::open_waking(300, u64::MAX, wake)).err(), Some(Error::NoMemory));
+    assert_eq!(Arc::strong_count(&owned), 1);
+    assert_eq!(refused(|| Office::open(1024)).err(), Some(Error::NoMemory));
+
+    let mut sessions = Office::open(300).unwrap();
+    for (index, session) in sessions.iter_mut().enumerate() {
+        reply(session, Call::Begin);
+        reply(session, Call::Lock(database(), if index == 299 { Mode::X } else { Mode::S }));
+    }
+    let session = &mut sessions[0];
+    assert_eq!(refused(|| session.holders(database())), Err(Error::NoMemory));
+    assert_eq!(refused(|| session.locks()), Err(Error::NoMemory));
+    assert_eq!(refused(|| session.blockers(300)), Err(Error::NoMemory));
+    assert_eq!(refused(|| session.take_history(100)), Err(Error::NoMemory));
+    assert_eq!(refused(|| session.take_history(usize::MAX)), Err(Error::NoMemory));
+
+    assert_eq!((session.holders(database()).unwrap().found.len(), session.locks().unwrap().found.len()), (299, 300));
+    assert_eq!(session.blockers(300).unwrap().found, (1..300).collect::<Vec<_>>());
+    let (first, entries) = session.take_history(usize::MAX).unwrap();
+    assert_eq!((first, entries.len()), (0, 600));
+}

@@ -1,0 +1,36 @@
+#!/usr/bin/env python3
+"""Compares the functions that bindings/rust/src/ffi.rs declares with those of include/pelgaisti.h: parameters, their types, results."""
+import re
+import sys
+
+NUMBERS = {"uint32_t": "u32", "uint64_t": "u64", "size_t": "usize", "pelgaisti_status": "u32"}
+HANDLES = ("pelgaisti_book", "pelgaisti_session")
+
+
+def rust(name):
+    """The type of ffi.rs for a type of the header."""
+    if name in HANDLES:
+        return "RawHandle"
+    return NUMBERS.get(name) or "Raw" + name.removeprefix("pelgaisti_").capitalize()
+
+
+def parameter(text):
+    """A parameter of the header as ffi.rs has it."""
+    const, name, pointer, own = re.fullmatch(r"(const )?(\w+) (\*?)(\w+)", " ".join(text.split())).groups()
+    return f"{own}: {('*const ' if const else '*mut ') if pointer else ''}{rust(name)}"
+
+
+with open("include/pelgaisti.h") as file:
+    header = re.sub(r"/\*.*?\*/|^#.*?$", "", file.read(), flags=re.S | re.M)
+with open("bindings/rust/src/ffi.rs") as file:
+    declared = re.findall(r"fn (pelgaisti_\w+)\(([^)]*)\) -> (\w+);", file.read())
+functions = {name: (result, text) for result, name, text in re.findall(r"\n(\w+) (pelgaisti_\w+)\(([^)]*)\);", header)}
+failed = not declared
+for name, text, result in declared:
+    own = [" ".join(it.split()) for it in text.split(",") if it.strip()]
+    made, parameters = functions.get(name, ("nothing", "void"))
+    asked = [parameter(it) for it in parameters.split(",") if parameters != "void"]
+    if (own, result) != (asked, rust(made)):
+        print(f"{name}: {own} -> {result}, and in the header {asked} -> {rust(made)}")
+        failed = True
+sys.exit(failed)

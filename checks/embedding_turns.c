@@ -1,0 +1,93 @@
+/* While one session makes a pass, which allocates, another makes a whole call in so many turns, which are counted by the yields behind
+   them. The call is pending behind the last one, and its answer is there behind the pass. Link with
+   -Wl,--wrap=malloc,--wrap=sched_yield. */
+#include "pelgaisti.h"
+#include <stdio.h>
+#include <stdlib.h>
+
+static long passed, failed, yields;
+static void (*meanwhile)(void);
+static pelgaisti_session sessions[3];
+static pelgaisti_answer answer;
+static const pelgaisti_call begin = {PELGAISTI_BEGIN, 0, {0, {0}}}, poll = {PELGAISTI_POLL, 0, {0, {0}}};
+
+#define CHECK(condition) \
+    do { \
+        if (condition) { \
+            passed++; \
+        } else { \
+            failed++; \
+            printf("%s:%d: %s\n", __FILE__, __LINE__, #condition); \
+        } \
+    } while (0)
+
+void *__real_malloc(size_t size);
+void *__wrap_malloc(size_t size);
+int __real_sched_yield(void);
+int __wrap_sched_yield(void);
+
+void *__wrap_malloc(size_t size) {
+    void (*now)(void) = meanwhile;
+    meanwhile = NULL;
+    if (now) now();
+    return __real_malloc(size);
+}
+
+int __wrap_sched_yield(void) {
+    yields++;
+    return __real_sched_yield();
+}
+
+/* Calls of so many turns, and how often the thread yields behind them: behind each try from the 17th to the 32nd, and behind each 64th
+   look. */
+static const struct { uint64_t turns; long yields; } calls[] = {
+    {0, 0}, {1, 0}, {2, 0}, {16, 0}, {17, 1}, {20, 4}, {21, 5}, {32, 16}, {33, 16}, {34, 16}, {63, 16}, {64, 17}, {65, 17}, {128, 18}};
+static const struct { uint64_t turns; long yields; } looks[] = {{0, 0}, {1, 0}, {63, 0}, {64, 1}, {65, 1}, {127, 1}, {128, 2}};
+static uint64_t turns;
+static long wanted;
+
+static void call_in_turns(void) {
+    yields = 0;
+    CHECK(pelgaisti_session_perform(&sessions[1], &begin, turns, &answer) == PELGAISTI_NOT_SERVED);
+    CHECK(yields == wanted && answer.place == 99);
+}
+
+static void look_in_turns(void) {
+    yields = 0;
+    CHECK(pelgaisti_session_perform(&sessions[1], NULL, turns, &answer) == PELGAISTI_NOT_SERVED);
+    CHECK(yields == wanted && answer.place == 99);
+}
+
+/* In a new office session 1 makes a pass, in which `work` runs. The call of session 2 is pending behind it. */
+static void in_a_pass(void (*work)(void), int is_published) {
+    pelgaisti_book book = PELGAISTI_EMPTY;
+    answer.place = 99;
+    CHECK(pelgaisti_office_open(sessions, 3) == PELGAISTI_OK);
+    if (is_published) CHECK(pelgaisti_session_perform(&sessions[1], &begin, 0, &answer) == PELGAISTI_NOT_SERVED);
+    CHECK(pelgaisti_session_publish(&sessions[0], &begin, NULL) == PELGAISTI_OK);
+    meanwhile = work;
+    CHECK(pelgaisti_session_serve(&sessions[0], NULL) == PELGAISTI_OK && !meanwhile);
+    CHECK(pelgaisti_session_perform(&sessions[1], &poll, 9, &answer) == PELGAISTI_PENDING);
+    CHECK(pelgaisti_session_perform(&sessions[1], NULL, 0, &answer) == PELGAISTI_NOT_SERVED && answer.place == 99);
+    CHECK(pelgaisti_session_perform(&sessions[1], NULL, 1, &answer) == PELGAISTI_OK && answer.reply.kind == PELGAISTI_BEGAN);
+    CHECK(pelgaisti_session_perform(&sessions[1], NULL, 0, &answer) == PELGAISTI_NOTHING_PENDING);
+    CHECK(pelgaisti_session_perform(&sessions[1], &poll, 1, &answer) == PELGAISTI_OK && answer.place == 2);
+    CHECK(pelgaisti_session_collect(&sessions[0], &answer) == PELGAISTI_OK);
+    for (int k = 1; k < 3; k++) CHECK(pelgaisti_session_hand_in(&sessions[k], &sessions[0]) == PELGAISTI_OK);
+    CHECK(pelgaisti_office_close(&sessions[0], &book) == PELGAISTI_OK && pelgaisti_book_close(&book) == PELGAISTI_OK);
+}
+
+int main(void) {
+    for (size_t k = 0; k < sizeof calls / sizeof *calls; k++) {
+        turns = calls[k].turns;
+        wanted = calls[k].yields;
+        in_a_pass(call_in_turns, 0);
+    }
+    for (size_t k = 0; k < sizeof looks / sizeof *looks; k++) {
+        turns = looks[k].turns;
+        wanted = looks[k].yields;
+        in_a_pass(look_in_turns, 1);
+    }
+    printf("%ld passed, %ld failed\n", passed, failed);
+    return failed != 0;
+}
