@@ -59,22 +59,11 @@ pelgaisti_book pelgaisti_empty_book(void) { return (pelgaisti_book)PELGAISTI_EMP
 
 pelgaisti_session pelgaisti_empty_session(void) { return (pelgaisti_session)PELGAISTI_EMPTY; }
 
-uint32_t pelgaisti_parent_mode(uint32_t mode) {
-    switch (mode) {
-    case PELGAISTI_IS:
-    case PELGAISTI_S: return PELGAISTI_IS;
-    case PELGAISTI_IX:
-    case PELGAISTI_SIX:
-    case PELGAISTI_U:
-    case PELGAISTI_X: return PELGAISTI_IX;
-    default: return mode;
-    }
-}
+uint32_t pelgaisti_parent_mode(uint32_t mode) { return pelgaisti_raw_parent_mode(mode); }
 
 pelgaisti_call pelgaisti_path_call(const pelgaisti_resource *resource, uint32_t mode, uint32_t level) {
     pelgaisti_call call = {PELGAISTI_LOCK, mode, *resource};
-    if (level + 1 < resource->level) call.mode = pelgaisti_parent_mode(mode);
-    call.resource.level = level + 1;
+    pelgaisti_raw_path_call(resource, mode, level, &call);
     return call;
 }
 
@@ -321,15 +310,19 @@ pelgaisti_status pelgaisti_session_perform(pelgaisti_session *session, const pel
 
 pelgaisti_status pelgaisti_session_lock_path(pelgaisti_session *session, const pelgaisti_resource *resource, uint32_t mode,
                                              uint32_t *level, uint64_t turns, pelgaisti_answer *answer) {
+    pelgaisti_status status;
+    uint64_t made = 0;
+    uint32_t wait = 0;
+    size_t told;
     if (!session || !resource || !level || !answer) return PELGAISTI_NULL;
-    if (resource->level > PELGAISTI_LEVELS || *level >= resource->level) return PELGAISTI_NO_SUCH_LEVEL;
-    for (; *level < resource->level; *level += 1) {
-        pelgaisti_call call = pelgaisti_path_call(resource, mode, *level);
-        pelgaisti_status status = pelgaisti_session_perform(session, &call, turns, answer);
-        if (status != PELGAISTI_OK) return status;
-        if (answer->reply.kind != PELGAISTI_GRANTED) break;
+    for (;;) {
+        told = 0;
+        status = ORDERING_CALL(session, RELEASES | ACQUIRES,
+                               pelgaisti_raw_session_path_turn(session, resource, mode, level, &made, turns, answer, &wait, &told));
+        if (told > 0) wake_told(session, told);
+        if (status != PELGAISTI_NOT_SERVED || wait == 0) return status;
+        wait_before_turn(wait);
     }
-    return PELGAISTI_OK;
 }
 
 pelgaisti_status pelgaisti_session_take_history(pelgaisti_session *session, uint64_t *first, pelgaisti_entry *entries,

@@ -8,6 +8,9 @@
 /* The crate's pelgaisti_version, which ./embed gives this name. */
 uint32_t pelgaisti_raw_version(void);
 
+uint32_t pelgaisti_raw_parent_mode(uint32_t mode);
+/* NO_SUCH_LEVEL and NO_SUCH_MODE write nothing. */
+uint32_t pelgaisti_raw_path_call(const pelgaisti_resource *resource, uint32_t mode, uint32_t level, pelgaisti_call *call);
 uint32_t pelgaisti_raw_book_open(pelgaisti_book *book, uint32_t sessions);
 uint32_t pelgaisti_raw_book_close(pelgaisti_book *book);
 uint32_t pelgaisti_raw_book_serve(pelgaisti_book *book, uint32_t session, const pelgaisti_call *call, pelgaisti_reply *reply);
@@ -51,6 +54,11 @@ uint32_t pelgaisti_raw_session_turn(pelgaisti_session *session, const pelgaisti_
 /* The same of the call that is pending, behind `looked` turns. */
 uint32_t pelgaisti_raw_session_look(pelgaisti_session *session, uint64_t looked, uint64_t turns, pelgaisti_answer *answer,
                                     uint32_t *wait, size_t *told);
+/* One turn on the way down a path of which `level` levels are locked, behind `made` turns for the next level, of at most `turns`. NOT_SERVED:
+   as above, and `made` is one more; or levels were locked and others are left: `made` is 0, and `wait` is 1. */
+uint32_t pelgaisti_raw_session_path_turn(pelgaisti_session *session, const pelgaisti_resource *resource, uint32_t mode,
+                                         uint32_t *level, uint64_t *made, uint64_t turns, pelgaisti_answer *answer, uint32_t *wait,
+                                         size_t *told);
 uint32_t pelgaisti_raw_session_collect(pelgaisti_session *session, pelgaisti_answer *answer);
 uint32_t pelgaisti_raw_session_take_history(pelgaisti_session *session, uint64_t *first, pelgaisti_entry *entries, size_t room,
                                             size_t *count);

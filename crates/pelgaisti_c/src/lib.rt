@@ -30,6 +30,7 @@ mod numbers;
 mod office;
 mod path_calls;
 mod path_exports;
+mod path_step_exports;
 mod path_turn_calls;
 mod path_turn_exports;
 mod queries;

@@ -1,4 +1,4 @@
-use Rattle.std.proofs.Common.{◌≡◌, ◌∙◌, ℕ, inl, inr, ⊎_elim, None, ap, sym, refl, subst, arith}
+use Rattle.std.proofs.Common.{◌≡◌, ◌∙◌, ◌+◌, ℕ, inl, inr, ⊎_elim, None, ap, sym, refl, subst, arith}
 use Rattle.lock_board.specs.LockBoards.{TicketView}
 use Rattle.combining.specs.Calls.{IsCalling, IsWaitingOn}
 use Rattle.lock_desk.specs.Paths.{lock_of_level}
@@ -60,9 +60,9 @@ returns-then-not-goes_on-clause-ok c = λ e.
             w.last_of.result.reply,
             c.in-Some.ensures.some,
             gone-performed c.args.resource c.in-Some.wanted c.args.share.now forgot.new.share made.new.share c.args.level.now forgot.ensures.session forgot.ensures.same made.ensures.same
-            (made.ensures.idle w.in-Performed.now w.in-Performed.row w.in-Performed.is) c.match-next.level w.in-Performed.now c.match-next.answer w.last_of.result (w.level-is ∙ wrote.ensures.level)
-            (ap (λ (a : AnswerNumbers). a.place) w.answer-is ∙ wrote.ensures.answer.0) (ap (λ (a : AnswerNumbers). a.reply) w.answer-is ∙ wrote.ensures.answer.1)
-            w.in-Performed.row p.0 p.2 p.3 w.last_of.ensures,
+                (made.ensures.idle w.in-Performed.now w.in-Performed.row w.in-Performed.is) c.match-next.level w.in-Performed.now c.match-next.answer w.last_of.result (w.level-is ∙ wrote.ensures.level)
+                (ap (λ (a : AnswerNumbers). a.place) w.answer-is ∙ wrote.ensures.answer.0) (ap (λ (a : AnswerNumbers). a.reply) w.answer-is ∙ wrote.ensures.answer.1)
+                w.in-Performed.row p.0 p.2 p.3 w.last_of.ensures,
             ⊎_elim (λ last. inl (let level = w.level-is ∙ wrote.ensures.level in omega (arith, level, last, end))) (λ stopped. inr stopped) (wrote.ensures.ended (sym w.goes_on-is ∙ c.if-not-goes_on.true)),
           )
       | in-Answered w ↦
@@ -74,9 +74,9 @@ returns-then-not-goes_on-clause-ok c = λ e.
             found.reply,
             c.in-Some.ensures.some,
             gone-answered c.args.resource c.in-Some.wanted c.args.share.now forgot.new.share made.new.share c.args.level.now forgot.ensures.session forgot.ensures.same made.ensures.same
-            (made.ensures.idle_answered now found is) c.match-next.level now c.match-next.answer found (w.level-is ∙ wrote.ensures.level)
-            (ap (λ (a : AnswerNumbers). a.place) w.answer-is ∙ wrote.ensures.answer.0) (ap (λ (a : AnswerNumbers). a.reply) w.answer-is ∙ wrote.ensures.answer.1)
-            (made.ensures.called now found is) (made.ensures.answered now found is) (made.ensures.level now found is),
+                (made.ensures.idle_answered now found is) c.match-next.level now c.match-next.answer found (w.level-is ∙ wrote.ensures.level)
+                (ap (λ (a : AnswerNumbers). a.place) w.answer-is ∙ wrote.ensures.answer.0) (ap (λ (a : AnswerNumbers). a.reply) w.answer-is ∙ wrote.ensures.answer.1)
+                (made.ensures.called now found is) (made.ensures.answered now found is) (made.ensures.level now found is),
             ⊎_elim (λ last. inl (let level = w.level-is ∙ wrote.ensures.level in omega (arith, level, last, end))) (λ stopped. inr stopped) (wrote.ensures.ended (sym w.goes_on-is ∙ c.if-not-goes_on.true)),
           )
     ]
@@ -94,9 +94,9 @@ returns-clause-late c = λ e.
             w.last_of.result.reply,
             c.in-Some.ensures.some,
             gone-performed c.args.resource c.in-Some.wanted c.args.share.now forgot.new.share made.new.share c.args.level.now forgot.ensures.session forgot.ensures.same made.ensures.same
-            (made.ensures.idle w.in-Performed.now w.in-Performed.row w.in-Performed.is) c.match-next.level w.in-Performed.now c.match-next.answer w.last_of.result (w.level-is ∙ wrote.ensures.level)
-            (ap (λ (a : AnswerNumbers). a.place) w.answer-is ∙ wrote.ensures.answer.0) (ap (λ (a : AnswerNumbers). a.reply) w.answer-is ∙ wrote.ensures.answer.1)
-            w.in-Performed.row p.0 p.2 p.3 w.last_of.ensures,
+                (made.ensures.idle w.in-Performed.now w.in-Performed.row w.in-Performed.is) c.match-next.level w.in-Performed.now c.match-next.answer w.last_of.result (w.level-is ∙ wrote.ensures.level)
+                (ap (λ (a : AnswerNumbers). a.place) w.answer-is ∙ wrote.ensures.answer.0) (ap (λ (a : AnswerNumbers). a.reply) w.answer-is ∙ wrote.ensures.answer.1)
+                w.in-Performed.row p.0 p.2 p.3 w.last_of.ensures,
             (λ last. on.0 (let level = w.level-is ∙ wrote.ensures.level in omega (arith, level, last, end))),
             on.1,
             refl,
@@ -112,9 +112,9 @@ returns-clause-late c = λ e.
             found.reply,
             c.in-Some.ensures.some,
             gone-answered c.args.resource c.in-Some.wanted c.args.share.now forgot.new.share made.new.share c.args.level.now forgot.ensures.session forgot.ensures.same made.ensures.same
-            (made.ensures.idle_answered now found is) c.match-next.level now c.match-next.answer found (w.level-is ∙ wrote.ensures.level)
-            (ap (λ (a : AnswerNumbers). a.place) w.answer-is ∙ wrote.ensures.answer.0) (ap (λ (a : AnswerNumbers). a.reply) w.answer-is ∙ wrote.ensures.answer.1)
-            (made.ensures.called now found is) (made.ensures.answered now found is) (made.ensures.level now found is),
+                (made.ensures.idle_answered now found is) c.match-next.level now c.match-next.answer found (w.level-is ∙ wrote.ensures.level)
+                (ap (λ (a : AnswerNumbers). a.place) w.answer-is ∙ wrote.ensures.answer.0) (ap (λ (a : AnswerNumbers). a.reply) w.answer-is ∙ wrote.ensures.answer.1)
+                (made.ensures.called now found is) (made.ensures.answered now found is) (made.ensures.level now found is),
             (λ last. on.0 (let level = w.level-is ∙ wrote.ensures.level in omega (arith, level, last, end))),
             on.1,
             refl,
