@@ -5,3 +5,4 @@ pub mod Writing
 pub mod Handles
 pub mod Batches
 pub mod Starved
+pub mod Blockers

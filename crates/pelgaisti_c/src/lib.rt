@@ -28,6 +28,8 @@ mod listing;
 mod listing_exports;
 mod numbers;
 mod office;
+mod path_calls;
+mod path_exports;
 mod queries;
 mod query_exports;
 mod raw_box;

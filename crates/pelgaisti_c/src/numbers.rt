@@ -83,7 +83,7 @@ pub(crate) fn read_resource(path: &ResourceNumbers) -> Option<Resource>
 }
 
 /// The mode with this code. Returns `None` if no mode has it.
-fn read_mode(code: u32) -> Option<Mode>
+pub(crate) fn read_mode(code: u32) -> Option<Mode>
     ensures some { IfSome result (λ mode. code ≡ code_of mode) }
     ensures none { IfNone result (¬ (IsModeCode code)) }
 {

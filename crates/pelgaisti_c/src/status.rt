@@ -1,6 +1,7 @@
 //! The statuses that exports return. A status other than `OK` means that nothing was written and nothing has changed,
-//! with three exceptions: `ELSEWHERE` may leave a pending call listed that was not, and empties the list of whom to wake;
-//! `NO_MEMORY` of a call that was to be performed at once comes behind a pass; and `COPIED` closes the session's handle.
+//! with four exceptions: `ELSEWHERE` may leave a pending call listed that was not, and empties the list of whom to wake;
+//! `NO_MEMORY` of a call that was to be performed at once comes behind a pass; `NO_MEMORY` of a path comes behind the calls
+//! that were served, and any other status of a path writes 0 to `count`; and `COPIED` closes the session's handle.
 
 /// The call succeeded.
 pub const OK: u32 = 0;
