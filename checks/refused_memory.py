@@ -55,6 +55,7 @@ TOLD = {
     "refusals::a_refused_book_is_made_at_the_second_try": {"refused"},
     "refusals::a_refused_call_of_an_object_is_made_at_the_second_try": {"refused call"},
     "refusals::a_refused_key_is_added_at_the_second_try": {"refused key"},
+    "refusals::a_refused_path_goes_on_at_the_second_try": {"refused path"},
     "reports::refused_texts_are_written_at_the_second_try": {"refused"},
     "traces::reports_the_row_in_which_memory_was_refused": {"refused in row 1", "refused in row 3", "refused in row 5"},
     "waits::refused_rows_are_made_at_the_second_try": {"refused"},

@@ -9,4 +9,6 @@ mod books;
 #[cfg(test)]
 mod engine;
 #[cfg(test)]
+mod paths;
+#[cfg(test)]
 mod refusals;

@@ -2,7 +2,7 @@
 //! and also if none is; it prints a line if one was, for the check that refuses each allocation in turn. Longer histories are in
 //! `checks/scripts/refusals.txt`.
 
-use lock_desk::{Book, Call, Mode, NoMemory, Reply, Resource};
+use lock_desk::{Book, Call, Mode, NoMemory, PathLocked, Reply, Resource};
 use std::alloc::Global;
 use std::process::Abort;
 use std::test::Fail;
@@ -52,5 +52,37 @@ fn a_refused_call_is_made_at_the_second_try(rt: HostRuntime) -> Result<(), Fail>
     want_reply(&rt, &mut book, Call::Begin, Reply::Began(1));
     want_reply(&rt, &mut book, lock, Reply::Granted(Mode::X));
     want_reply(&rt, &mut book, Call::Commit, Reply::Committed(1));
+    Ok(())
+}
+
+/// Locks a file in X, and goes on from the level where memory is refused; the history then has the calls before it alone. Returns
+/// whether it was.
+fn was_path_refused(rt: &impl Abort, book: &mut Book, file: Resource) -> bool {
+    assert!(rt; book.sessions() >= 1 && file.level() == 2);
+    let mut told = book.lock_path(1, file, Mode::X, 0);
+    let refused = told.out_of_memory;
+    if refused {
+        assert_eq!(rt; book.history().len(), usize::from(told.level) + 1);
+        assert!(rt; told.level < file.level());
+        told = book.lock_path(1, file, Mode::X, told.level);
+    }
+    let whole = PathLocked {
+        level: 2,
+        reply: Some(Reply::Granted(Mode::X)),
+        out_of_memory: false,
+    };
+    assert_eq!(rt; told, whole);
+    refused
+}
+
+/// Each allocation of a path may be refused, and the next try goes on where it was left.
+#[test]
+fn a_refused_path_goes_on_at_the_second_try(rt: HostRuntime) -> Result<(), Fail> {
+    let file = Resource::from_numbers(&[1, 2]).ok_or("no resource")?;
+    let (mut book, _) = made_book(rt.alloc())?;
+    want_reply(&rt, &mut book, Call::Begin, Reply::Began(1));
+    if was_path_refused(&rt, &mut book, file) {
+        println!(&rt; "refused path")?;
+    }
     Ok(())
 }

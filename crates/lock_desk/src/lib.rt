@@ -17,8 +17,9 @@
 //!    effect of a lock or a conversion, `deadlocks.rt` resolves the deadlocks that a wait closes. `runs.rt` grants
 //!    several locks on one resource together, by the operations of `grants.rt`. `listing.rt` lists all locks and
 //!    requests.
-//! 3. The book: the lock table with its history (`book.rt`). It is all that callers see. `recording.rt` serves one call
-//!    and adds it to the history. `object.rt` makes the book a sequential object, which threads can share.
+//! 3. The book: the lock table with its history (`book.rt`). It is all that callers see. `book/paths.rt` locks a path,
+//!    `book/blockers.rt` lists whom a session waits for. `recording.rt` serves one call and adds it to the history.
+//!    `object.rt` makes the book a sequential object, which threads can share.
 //!
 //! Proved: each reply is that of the sequential lock manager of `lock_rules` in the state that the history leads to,
 //! and a call for which memory is refused changes nothing that callers see. Only tested: that memory follows the
