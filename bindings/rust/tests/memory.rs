@@ -68,6 +68,7 @@ fn a_room_takes_no_more_than_there_is() {
     let (first, entries) = book.take_history(usize::MAX).unwrap();
     assert_eq!((first, entries.len(), entries[0].session), (99, 501, 50));
     assert_eq!(book.take_history(usize::MAX), Ok((600, vec![])));
+    assert_eq!(refused(|| book.history(0, usize::MAX)), Err(Error::LetGo));
 
     for length in [0, 1, 256, 257, 1000] {
         let mut sessions = Office::open(2).unwrap();
