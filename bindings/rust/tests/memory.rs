@@ -1,5 +1,5 @@
-//! Rooms that a caller gives take no more memory than there is to write. Where Rust's memory is refused, the calls that tell of it
-//! have changed nothing, and may be made again.
+//! Rooms that a caller gives take no more memory than there is to write. Where Rust's memory is refused, the calls that tell of it may
+//! be made again.
 
 use pelgaisti::{Book, Call, Error, Mode, Office, Reply, Resource, Session};
 use std::alloc::{GlobalAlloc, Layout, System};
