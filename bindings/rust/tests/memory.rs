@@ -14,14 +14,17 @@ thread_local! {
 
 struct Limited;
 
+// SAFETY: what it gives is of the system's allocator, to which it goes back
 unsafe impl GlobalAlloc for Limited {
     unsafe fn alloc(&self, layout: Layout) -> *mut u8 {
         if layout.size() > LIMIT.with(Cell::get) {
             return null_mut();
         }
+        // SAFETY: the caller keeps the rules of both
         unsafe { System.alloc(layout) }
     }
     unsafe fn dealloc(&self, at: *mut u8, layout: Layout) {
+        // SAFETY: as above
         unsafe { System.dealloc(at, layout) }
     }
 }
