@@ -55,6 +55,8 @@ unsafe extern "C" fn wake_one<F: Fn(usize) + Send + Sync>(engine: *mut c_void, s
     }
     if let Err(panic) = panic::catch_unwind(AssertUnwindSafe(|| (waker.wake)(session as usize))) {
         // what it was raised with may panic itself when it is dropped
-        mem::forget(panic);
+        if let Err(another) = panic::catch_unwind(AssertUnwindSafe(|| drop(panic))) {
+            mem::forget(another);
+        }
     }
 }

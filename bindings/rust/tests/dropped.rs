@@ -21,6 +21,7 @@ fn bytes_in_use() -> usize {
         fn mallinfo2() -> Mallinfo2;
     }
     // its eighth field is uordblks, and its fifth hblkhd: in blocks, and mapped
+    // SAFETY: it takes nothing, and gives a struct of ten numbers
     let found = unsafe { mallinfo2() };
     found.0[7] + found.0[4]
 }

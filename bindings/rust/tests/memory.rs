@@ -1,5 +1,5 @@
-//! Rooms that a caller gives take no more memory than there is to write. Where Rust's memory is refused, the calls that tell of it
-//! have changed nothing, and may be made again.
+//! Rooms that a caller gives take no more memory than there is to write. Where Rust's memory is refused, the calls that tell of it may
+//! be made again.
 
 use pelgaisti::{Book, Call, Error, Mode, Office, Reply, Resource, Session};
 use std::alloc::{GlobalAlloc, Layout, System};
@@ -14,14 +14,17 @@ thread_local! {
 
 struct Limited;
 
+// SAFETY: what it gives is of the system's allocator, to which it goes back
 unsafe impl GlobalAlloc for Limited {
     unsafe fn alloc(&self, layout: Layout) -> *mut u8 {
         if layout.size() > LIMIT.with(Cell::get) {
             return null_mut();
         }
+        // SAFETY: the caller keeps the rules of both
         unsafe { System.alloc(layout) }
     }
     unsafe fn dealloc(&self, at: *mut u8, layout: Layout) {
+        // SAFETY: as above
         unsafe { System.dealloc(at, layout) }
     }
 }
@@ -68,6 +71,7 @@ fn a_room_takes_no_more_than_there_is() {
     let (first, entries) = book.take_history(usize::MAX).unwrap();
     assert_eq!((first, entries.len(), entries[0].session), (99, 501, 50));
     assert_eq!(book.take_history(usize::MAX), Ok((600, vec![])));
+    assert_eq!(refused(|| book.history(0, usize::MAX)), Err(Error::LetGo));
 
     for length in [0, 1, 256, 257, 1000] {
         let mut sessions = Office::open(2).unwrap();
