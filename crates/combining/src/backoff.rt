@@ -59,8 +59,8 @@ pub(crate) fn after_look(looked: u64) -> Wait {
     }
 }
 
-/// Waits so, before the next turn.
-pub(crate) fn back_off(wait: Wait) {
+/// Waits so, before the next turn of a call.
+pub fn back_off(wait: Wait) {
     match wait {
         Wait::Yield => thread::yield_now(),
         Wait::Pause(pauses) => {

@@ -25,7 +25,7 @@ mod own_call;
 mod pass;
 mod told;
 
-pub use backoff::Wait;
+pub use backoff::{Wait, back_off};
 pub use calling::{Called, Next, call, resume, turn};
 pub use ended::Ended;
 pub use office::{Answer, HistoryPiece, Office, OpenFault, Performed, Turn};

@@ -14,7 +14,7 @@ mod opening;
 pub mod queries;
 
 pub use combining::{
-    CloseFault, Ended, Nobody, OpenFault, Posted, Told, Turn, Wait, call, resume, turn,
+    CloseFault, Ended, Nobody, OpenFault, Posted, Told, Turn, Wait, back_off, call, resume, turn,
 };
 pub use lock_board::{Knowledge, Ticket as Session};
 use lock_desk::{Book, Entry, Reply};
