@@ -238,7 +238,7 @@ def trials_of_the_program():
         one_try = ["--turns", "1"] if len(by_session(rows)) == 1 else []
         yield Trial(f"run of {name}", [PROGRAM, "run", *one_try], runs(rows), trace, quiet=3)
         if rows is not CROWD:
-            # a thread whose pass found no memory stops at once, not after its last try; fewer tries run out on a busy machine
+            # a thread whose pass left its call without memory stops at once, not after its last try; fewer tries run out on a busy machine
             words = [PROGRAM, "run", "--turns", "1000000"]
             yield Trial(f"run of {name}, all refused", words, runs(rows), trace, refuses_all=True, quiet=3)
             words = [PROGRAM, "run", "--stream", "--turns", "1000000"]

@@ -1,11 +1,9 @@
 pub mod AreRows
 pub mod Ask
 pub mod AskShow
-pub mod AtOnce
 pub mod CallsOfRows
 pub mod ExplainedParts
 pub mod Gives
-pub mod IsPassed
 pub mod IsPerformed
 pub mod IsRunOf
 pub mod IsVerdict
@@ -14,6 +12,7 @@ pub mod ServedRows
 pub mod Silent
 pub mod Streamed
 pub mod StreamedRun
+pub mod Turns
 pub mod UnderWay
 pub mod WithoutRequest
 pub mod Written

@@ -1,20 +1,14 @@
 -- The work of the threads of a run.
-use Rattle.std.specs.Prelude.{◌≡◌, ℕ, ◌+◌, ◌≤◌, nat_le, if◌then◌else◌, Bool, true, false, List, [], map, option_map, Option, Some, None}
+use Rattle.std.specs.Prelude.{◌≡◌, ℕ, ◌+◌, ◌≤◌, nat_le, if◌then◌else◌, List, [], map, option_map, Option, Some, None}
 use Rattle.lock_rules.specs.declared.calls.Call.{Call}
 use Rattle.publication.specs.Views.{BoardView}
 use Rattle.lock_board.specs.LockBoards.{TicketView}
 use Rattle.lock_office.specs.Sessions.{IsSessionOf, IsIdle}
-use Rattle.lock_office.specs.Sessions.{Performed}
-use Rattle.combining.specs.declared.office.perform.Performed.TheVariants as performed
-use Rattle.combining.specs.declared.office.Turn.{Turn}
-use Rattle.combining.specs.declared.office.Turn.TheVariants as turn
 use Rattle.lock_trace.specs.declared.trace_row.TraceRow.{TraceRow}
 use Rattle.glm.specs.Statuses.{number_of_fault}
 use Rattle.glm.specs.Calls.{calls_answered, calls_of_rows}
 use Rattle.glm.specs.declared.tool_fault.ToolFault.{ToolFault}
 use Rattle.glm.specs.declared.tool_fault.ToolFault.TheVariants as tool
-use Rattle.glm.specs.declared.workers.TryOutcome.{TryOutcome}
-use Rattle.glm.specs.declared.workers.TryOutcome.TheVariants as outcome
 use Rattle.glm.specs.declared.workers.Stop.{Stop}
 use Rattle.glm.specs.declared.workers.Stop.TheVariants as stop
 use Rattle.glm.specs.declared.threads.ThreadResult.{ThreadResult}
@@ -35,19 +29,7 @@ calls_known session = record {
   collected = calls_answered session.collected;
 }
 
--- whether the turn was the session's own pass and found no memory for a call
-abbrev pub is_starved_turn : Turn → Bool
-is_starved_turn turn.Elsewhere = false
-is_starved_turn (turn.Pass served starved) = starved
-
--- what came of a try to perform a call at once: a pass that put calls back is starved, also if it performed this call
-abbrev pub outcome_of_try : Performed → TryOutcome
-outcome_of_try (performed.Answered answer served true) = outcome.Starved
-outcome_of_try (performed.Answered answer served false) = outcome.Answered
-outcome_of_try performed.Elsewhere = outcome.Elsewhere
-outcome_of_try performed.Starved = outcome.Starved
-
--- at most `turns` more tries than `before`
+-- at most `turns` more turns than `before`
 abbrev pub TriedAtMost : (ℕ → Type 0) → ℕ → ℕ → Type 0
 TriedAtMost has_tried before turns = (tries : ℕ) × (tries ≤ before + turns) × has_tried tries
 

@@ -21,7 +21,7 @@ use lock_rules::MAX_SESSIONS;
 use lock_tree::parse_numeral;
 use std::alloc::{AllocError, Global};
 
-/// The greatest value of `--turns`: tries for the answer to one call.
+/// The greatest value of `--turns`: turns of one call, that is tries for its answer.
 pub const MAX_TURNS: u32 = 1_000_000_000;
 
 /// The greatest value of `--at`: a place of a history.

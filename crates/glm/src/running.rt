@@ -88,9 +88,8 @@ fn run_to_text<R: Threads + Wait, G: Gate>(
 
 /// Performs the rows of a trace by threads through one office, one thread for each session that has a row, and writes the
 /// text of the history. `sessions` is 1 to `MAX_SESSIONS`. Each thread performs its session's rows in order: it enters the
-/// gate, makes the call, and leaves the gate. It performs the call at once if no other session has the lock table, else it
-/// publishes the call, serves and collects until the answer is there; it tries at most `turns` times in all. Returns the number
-/// of rows.
+/// gate, makes the call, and leaves the gate. It makes the call as `lock_office::turn` does, in at most `turns` turns, with the
+/// waits between them. Returns the number of rows.
 ///
 /// The whole trace is read before a thread is started, and the whole text is made before its first byte is written. After
 /// every fault except `Device` nothing was written; after `Device` the beginning of the text may have been written, and

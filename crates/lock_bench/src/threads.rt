@@ -16,8 +16,8 @@ use std::thread;
 use std::thread::Threads;
 use std::time::{Clock, Instant};
 
-/// The greatest number of looks for the answer to one call.
-const LOOKS: u64 = 1_000_000_000;
+/// The greatest number of turns of one call, behind its first.
+const TURNS: u64 = 1_000_000_000;
 
 /// A row of a thread.
 #[derive(Clone, Copy)]
@@ -37,13 +37,12 @@ struct Job {
     rows: Vec<Row>,
 }
 
-/// Makes a call: performs it at once if the lock table is free, else publishes it, and serves and looks for the answer. Returns
-/// false if no answer came within `LOOKS` looks, or if memory was refused.
+/// Makes a whole call, with its waits. Returns false if no answer came within `TURNS` turns, or if memory was refused.
 fn perform(office: &Office, session: &mut Session, call: Call) -> bool
     requires ours { IsSessionOf office.now session.old × IsIdle session.old }
     ensures ours { OnTrue result (IsSessionOf office.now session.new × IsIdle session.new) }
 {
-    match lock_office::call(office, session, call, LOOKS, &mut Nobody) {
+    match lock_office::call(office, session, call, TURNS, &mut Nobody) {
         Called::Answered(_) => true,
         Called::NotYet | Called::Starved => false,
     }

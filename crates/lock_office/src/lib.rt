@@ -16,8 +16,8 @@ mod paths;
 pub mod queries;
 
 pub use combining::{
-    CloseFault, Ended, GoesOn, Nobody, OpenFault, Posted, Told, Turn, Wait, call, resume, row_turn,
-    turn,
+    CloseFault, Ended, GoesOn, Nobody, OpenFault, Posted, Told, Turn, Wait, back_off, call, resume,
+    row_turn, turn,
 };
 pub use lock_board::{Knowledge, Ticket as Session};
 use lock_desk::{Book, Entry, Reply};
