@@ -66,6 +66,7 @@ fn serve_if<O: Batching, T: Told<O>>(
 /// `LOOKS_PER_TRY`th turn, and looks for the answer.
 ///
 /// Adds the sessions whose waits the pass has ended to those that were told.
+#[inline(never)]
 pub fn look<O: Batching, T: Told<O>>(
     office: &Office<O>,
     session: &mut Session<O>,
@@ -97,6 +98,8 @@ pub fn look<O: Batching, T: Told<O>>(
 }
 
 /// Publishes the call, which was not answered at once, and looks for the answer.
+// Out of line, as `look` is, so that a call that is performed at once is quick.
+#[inline(never)]
 fn publish_and_look<O: Batching, T: Told<O>>(
     office: &Office<O>,
     session: &mut Session<O>,
@@ -121,10 +124,11 @@ fn publish_and_look<O: Batching, T: Told<O>>(
 }
 
 /// Tries to perform the call at once, behind `tried` tries. A call for which memory was refused is published.
+#[inline(always)]
 fn try_at_once<O: Batching, T: Told<O>>(
     office: &Office<O>,
     session: &mut Session<O>,
-    call: O::Call,
+    call: &O::Call,
     tried: u64,
     told: &mut T,
 ) -> Next<O::Reply>
@@ -132,21 +136,20 @@ fn try_at_once<O: Batching, T: Told<O>>(
     requires idle { IsIdle session.old }
     requires room { HasRoom (T.room told.old) office.now.sessions }
     ensures ours { IsSessionOf office.now session.new }
-    ensures answered { (answer : _) → result ≡ Next.Answered answer → IsCalled O.Sequential session.old session.new call answer.place answer.reply }
+    ensures answered { (answer : _) → result ≡ Next.Answered answer → IsCalled O.Sequential session.old session.new call.now answer.place answer.reply }
     ensures idle { (answer : _) → result ≡ Next.Answered answer → IsIdle session.new }
-    ensures starved { result ≡ Next.Starved → IsCalling session.old session.new call }
+    ensures starved { result ≡ Next.Starved → IsCalling session.old session.new call.now }
     ensures waits { (w : _) → result ≡ Next.Wait w → (session.new ≡ session.old) × (1 < office.now.sessions) }
     ensures wait { (w : _) → result ≡ Next.Wait w → IsWaitAfterTry tried w }
     ensures on { HasGoneOn session.old session.new }
     ensures told { HasAddedTold T.ends office.now.sessions session.new.front (entered_since session.old session.new) (T.list told.old) (T.list told.new) }
     ensures room { T.room told.new ≡ T.room told.old }
 {
-    let asked = call;
-    match office.perform_adding(session, call, told) {
+    match office.perform_adding(session, *call, told) {
         Performed::Answered { answer, .. } => Next::Answered(answer),
         Performed::Elsewhere => Next::Wait(after_try(tried)),
         Performed::Starved => {
-            let _posted = office.publish(session, asked);
+            let _posted = office.publish(session, *call);
             Next::Starved
         }
     }
@@ -157,6 +160,7 @@ fn try_at_once<O: Batching, T: Told<O>>(
 /// pending, whatever `call` is. No turn loses a call: it is answered, pending, or not made yet.
 ///
 /// Adds the sessions whose waits the turn's passes have ended to those that were told.
+#[inline(always)]
 pub fn turn<O: Batching, T: Told<O>>(
     office: &Office<O>,
     session: &mut Session<O>,
@@ -188,7 +192,7 @@ pub fn turn<O: Batching, T: Told<O>>(
         return look(office, session, made, told);
     }
     if made < TRIES_AT_ONCE {
-        try_at_once(office, session, *call, made, told)
+        try_at_once(office, session, call, made, told)
     } else {
         publish_and_look(office, session, *call, told)
     }

@@ -1,5 +1,5 @@
 -- The list in which a session's passes tell whose waits they have ended.
-use Rattle.std.specs.Prelude.{◌≡◌, ℕ, ◌-◌, ◌≤◌, ◌↔◌, true, false, List, length, vec_capacity, slice_index_or, Contains}
+use Rattle.std.specs.Prelude.{◌≡◌, ℕ, ◌-◌, ◌≤◌, ◌↔◌, true, false, length, vec_capacity, slice_index_or, Contains}
 use Rattle.combining.specs.Ended.{EndedView, IsOnce}
 use Rattle.combining.specs.declared.ended.Ended.TheInside.{Inside}
 

@@ -1,4 +1,4 @@
-use Rattle.std.proofs.Common.{◌≡◌, ◌≢◌, ◌⊎◌, inl, inr, ⊎_elim, ◌∙◌, ◌<◌, ◌≤◌, ℕ, zero, suc, Option, None, List, [], refl, sym, ap, subst, arith}
+use Rattle.std.proofs.Common.{◌≡◌, ◌⊎◌, inl, inr, ⊎_elim, ◌∙◌, ◌<◌, ◌≤◌, ℕ, zero, suc, None, [], refl, sym, ap, subst, arith}
 use Rattle.publication.specs.Views.{TicketView}
 use Rattle.combining.specs.declared.backoff.TheConstants.{TRIES_AT_ONCE}
 use Rattle.combining.specs.declared.office.Answer.{Answer}

@@ -1,4 +1,4 @@
-use Rattle.std.proofs.Common.{◌≡◌, ◌∙◌, ◌%◌, ℕ, zero, List, [], refl, ap, arith}
+use Rattle.std.proofs.Common.{◌∙◌, ◌%◌, ℕ, [], refl, ap, arith}
 use mathlib.Core.Logic.{dite}
 use native.Mathlib.Decide.{ℕ_discrete}
 use Rattle.combining.specs.declared.backoff.TheConstants.{LOOKS_PER_TRY}

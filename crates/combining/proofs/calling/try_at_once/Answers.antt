@@ -11,16 +11,16 @@ returns-in-Answered-clause-answered g c answer is =
     let u = c.perform_adding.new.session in
     let a = c.in-Answered.answer in
     let same : a ≡ answer = cc is in
-    subst (λ (x : Answer _). IsCalled g.O.Sequential t u c.args.call x.place x.reply) same
-    (performed-called _ t u c.args.call a.place a.reply c.in-Answered.served c.requires.idle.0 (c.in-Answered.ensures.answered a c.in-Answered.served c.in-Answered.starved refl))
+    subst (λ (x : Answer _). IsCalled g.O.Sequential t u c.args.call.now x.place x.reply) same
+    (performed-called _ t u c.args.call.now a.place a.reply c.in-Answered.served c.requires.idle.0 (c.in-Answered.ensures.answered a c.in-Answered.served c.in-Answered.starved refl))
 
 pub returns-in-Answered-clause-on : goal.returns-in-Answered-clause-on
 returns-in-Answered-clause-on g c =
     let t = c.args.session.now in
     let u = c.perform_adding.new.session in
     let a = c.in-Answered.answer in
-    called-on t u c.args.call a.place a.reply
-    (performed-called _ t u c.args.call a.place a.reply c.in-Answered.served c.requires.idle.0 (c.in-Answered.ensures.answered a c.in-Answered.served c.in-Answered.starved refl))
+    called-on t u c.args.call.now a.place a.reply
+    (performed-called _ t u c.args.call.now a.place a.reply c.in-Answered.served c.requires.idle.0 (c.in-Answered.ensures.answered a c.in-Answered.served c.in-Answered.starved refl))
 
 pub returns-in-Starved-clause-starved : goal.returns-in-Starved-clause-starved
 returns-in-Starved-clause-starved g c _ =
@@ -28,14 +28,14 @@ returns-in-Starved-clause-starved g c _ =
     let u = c.perform_adding.new.session in
     let v = c.publish-posted.new.session in
     let p = c.publish-posted.ensures in
-    published t u v c.args.call (inl (c.perform_adding.ensures.refused c.in-Starved.is)) (posted-waits u v c.args.call (posted-cases c.publish-posted.result p.listed p.unlisted))
+    published t u v c.args.call.now (inl (c.perform_adding.ensures.refused c.in-Starved.is)) (posted-waits u v c.args.call.now (posted-cases c.publish-posted.result p.listed p.unlisted))
 
 pub returns-in-Starved-clause-told : goal.returns-in-Starved-clause-told
 returns-in-Starved-clause-told g c =
     let u = c.perform_adding.new.session in
     let v = c.publish-posted.new.session in
     let p = c.publish-posted.ensures in
-    let same = posted-same u v c.args.call (posted-cases c.publish-posted.result p.listed p.unlisted) in
+    let same = posted-same u v c.args.call.now (posted-cases c.publish-posted.result p.listed p.unlisted) in
     told-same c.args.office.now.sessions c.args.session.now u v (g.T.Told.list c.args.told.now) (g.T.Told.list c.perform_adding.new.told) same.0 same.1 c.perform_adding.ensures.told
 
 pub returns-in-Starved-clause-on : goal.returns-in-Starved-clause-on
@@ -44,5 +44,5 @@ returns-in-Starved-clause-on g c =
     let u = c.perform_adding.new.session in
     let v = c.publish-posted.new.session in
     let p = c.publish-posted.ensures in
-    let same = posted-same u v c.args.call (posted-cases c.publish-posted.result p.listed p.unlisted) in
+    let same = posted-same u v c.args.call.now (posted-cases c.publish-posted.result p.listed p.unlisted) in
     on-trans t u v (refused-on t u (c.perform_adding.ensures.refused c.in-Starved.is)) (on-same u v same.0 same.1)

@@ -1,4 +1,4 @@
-use Rattle.std.proofs.Common.{◌≡◌, ◌∙◌, Option, None, ap}
+use Rattle.std.proofs.Common.{◌∙◌, ap}
 use Rattle.publication.specs.Views.{TicketView}
 use Rattle.combining.proofs.Turns.{by-next, waiting-live, calling-live}
 use Rattle.combining.proofs.calling.turn.Goals as goal
