@@ -1,10 +1,13 @@
 /* Two threads write one number, with nothing that orders them: a race, which ThreadSanitizer has to report although the archive tells it
-   what the calls order. Each writes it under a lock on a resource of its own; with an argument, in the waker that its call calls. Status 0
-   means that it didn't. */
+   what the calls order. Each writes it under a lock on a resource of its own; with the argument `waker`, in the waker that its call calls.
+   Status 0 means that it didn't. With the argument `ordered` each writes it under the same lock, by calls that it publishes and collects,
+   and nothing is to be reported. */
 #define _XOPEN_SOURCE 600
 #include "pelgaisti.h"
 #include <pthread.h>
+#include <sched.h>
 #include <stdlib.h>
+#include <string.h>
 
 static pelgaisti_session sessions[4];
 static pthread_barrier_t both_have_locked;
@@ -43,17 +46,43 @@ static void *commit(void *argument) {
     return NULL;
 }
 
+/* Makes a call step by step. Returns the reply's kind. */
+static uint32_t make(pelgaisti_session *session, uint32_t op, uint32_t mode) {
+    pelgaisti_call call = {0, 0, {1, {7}}};
+    pelgaisti_answer answer;
+    call.op = op;
+    call.mode = mode;
+    if (pelgaisti_session_publish(session, &call, NULL) != PELGAISTI_OK) exit(2);
+    while (pelgaisti_session_serve(session, NULL), pelgaisti_session_collect(session, &answer) != PELGAISTI_OK) sched_yield();
+    return answer.reply.kind;
+}
+
+static void *take_turns(void *argument) {
+    pelgaisti_session *session = (pelgaisti_session *)argument;
+    for (int k = 0; k < 100; k++) {
+        make(session, PELGAISTI_BEGIN, 0);
+        if (make(session, PELGAISTI_LOCK, PELGAISTI_X) == PELGAISTI_WAITING)
+            while (make(session, PELGAISTI_POLL, 0) == PELGAISTI_WAITING) sched_yield();
+        number += 1;
+        make(session, PELGAISTI_COMMIT, 0);
+    }
+    return NULL;
+}
+
 int main(int argc, char **argv) {
     static const pelgaisti_waker waker = {write_number, &number};
+    const char *how = argc > 1 ? argv[1] : "";
+    int is_waking = !strcmp(how, "waker"), is_ordered = !strcmp(how, "ordered");
     pthread_t threads[2];
-    (void)argv;
-    if (pelgaisti_office_open_waking(sessions, 4, UINT64_MAX, &waker) != PELGAISTI_OK) return 1;
+    if (is_waking && pelgaisti_office_open_waking(sessions, 4, UINT64_MAX, &waker) != PELGAISTI_OK) return 1;
+    if (!is_waking && pelgaisti_office_open(sessions, 4) != PELGAISTI_OK) return 1;
     pthread_barrier_init(&both_have_locked, NULL, 2);
-    for (int k = 0; k < 4 && argc > 1; k++) {
+    for (int k = 0; k < 4 && is_waking; k++) {
         perform(&sessions[k], PELGAISTI_BEGIN, 0, 0);
         perform(&sessions[k], PELGAISTI_LOCK, PELGAISTI_X, k % 2);
     }
-    for (int k = 0; k < 2; k++) pthread_create(&threads[k], NULL, argc > 1 ? commit : work, &sessions[k]);
+    for (int k = 0; k < 2; k++)
+        pthread_create(&threads[k], NULL, is_waking ? commit : is_ordered ? take_turns : work, &sessions[k]);
     for (int k = 0; k < 2; k++) pthread_join(threads[k], NULL);
-    return argc > 1 && number != 2;
+    return is_ordered ? number != 200 : number != 2;
 }
