@@ -675,8 +675,8 @@ pelgaisti_status pelgaisti_office_close(pelgaisti_session *session, pelgaisti_bo
 pelgaisti_status pelgaisti_session_perform(pelgaisti_session *session, const pelgaisti_call *call, uint64_t turns,
                                            pelgaisti_answer *answer);
 
-/* Like pelgaisti_book_lock_path, for a session of an office: performs the calls one after another, each in at most `turns` turns as
-   pelgaisti_session_perform does, and writes the last answer.
+/* Like pelgaisti_book_lock_path, for a session of an office: makes turns as pelgaisti_session_perform does, at most `turns` for each time
+   that a level is locked, and writes the last answer. A turn that takes the lock table performs all the calls that are left.
    PENDING: the session has a pending call, be it one that an earlier call of this function has left. Nothing has changed, and
    nothing was written.
    NOT_SERVED, NO_MEMORY: the path's next call, which locks level `level` + 1, is pending, and `level` and `answer` tell of the calls

@@ -15,8 +15,8 @@ __attribute__((weak)) void AnnotateIgnoreReadsEnd(const char *file, int line);
 #define IS_WATCHED __builtin_expect(__tsan_acquire != NULL, 0)
 
 /* What a call of a session orders: behind a call that acquires, and returns OK, a thread sees what others wrote before their calls that
-   release. */
-enum { ORDERS_NOTHING = 0, RELEASES = 1, ACQUIRES = 2 };
+   release; so it does behind one that is answered in parts, if it returns NOT_SERVED. */
+enum { ORDERS_NOTHING = 0, RELEASES = 1, ACQUIRES = 2, IN_PARTS = 4 };
 
 /* What stands for the words of the session's office: an address for its mark. Nothing is written there. */
 static void *words_of(pelgaisti_session *session) {
@@ -37,7 +37,8 @@ static COLD void begin_use(void *handle, int order) {
 }
 
 static COLD pelgaisti_status end_use(void *handle, int order, uint32_t status) {
-    if ((order & ACQUIRES) && status == PELGAISTI_OK) __tsan_acquire(words_of(handle));
+    int is_answered = status == PELGAISTI_OK || ((order & IN_PARTS) && status == PELGAISTI_NOT_SERVED);
+    if ((order & ACQUIRES) && is_answered) __tsan_acquire(words_of(handle));
     AnnotateIgnoreReadsEnd("pelgaisti", 0);
     return (pelgaisti_status)status;
 }
@@ -313,11 +314,10 @@ pelgaisti_status pelgaisti_session_lock_path(pelgaisti_session *session, const p
     pelgaisti_status status;
     uint64_t made = 0;
     uint32_t wait = 0;
-    size_t told;
+    size_t told = 0;
     if (!session || !resource || !level || !answer) return PELGAISTI_NULL;
     for (;;) {
-        told = 0;
-        status = ORDERING_CALL(session, RELEASES | ACQUIRES,
+        status = ORDERING_CALL(session, RELEASES | ACQUIRES | IN_PARTS,
                                pelgaisti_raw_session_path_turn(session, resource, mode, level, &made, turns, answer, &wait, &told));
         if (told > 0) wake_told(session, told);
         if (status != PELGAISTI_NOT_SERVED || wait == 0) return status;

@@ -54,8 +54,8 @@ uint32_t pelgaisti_raw_session_turn(pelgaisti_session *session, const pelgaisti_
 /* The same of the call that is pending, behind `looked` turns. */
 uint32_t pelgaisti_raw_session_look(pelgaisti_session *session, uint64_t looked, uint64_t turns, pelgaisti_answer *answer,
                                     uint32_t *wait, size_t *told);
-/* One turn on the way down a path of which `level` levels are locked, behind `made` turns for the next level, of at most `turns`. NOT_SERVED:
-   as above, and `made` is one more; or levels were locked and others are left: `made` is 0, and `wait` is 1. */
+/* One turn on the way down a path, of which `level` levels are locked, behind `made` turns for the next level, of at most `turns`. It writes
+   as pelgaisti_raw_session_turn does; with NOT_SERVED it may have locked levels, and then `made` is 0 and `wait` is 1. */
 uint32_t pelgaisti_raw_session_path_turn(pelgaisti_session *session, const pelgaisti_resource *resource, uint32_t mode,
                                          uint32_t *level, uint64_t *made, uint64_t turns, pelgaisti_answer *answer, uint32_t *wait,
                                          size_t *told);
