@@ -118,7 +118,7 @@ DEAREST = [
 # instructions are counted, how often it is called, how many calls it makes each time, the most instructions of one.
 THROUGH_C = [
     ("compatible locks of a batch are granted together", "locks", "pass_of_locks", 200, 32, 790),
-    ("a call is performed at once", "performs", "perform_transaction", 2000, 3, 670),
+    ("a call is performed at once", "performs", "perform_transaction", 2000, 3, 800),
     ("a call is performed at once in an office with a waker", "wakes", "perform_transaction", 2000, 3, 850),
 ]
 

@@ -10,7 +10,7 @@ ghost use Rattle.combining.specs.Ended.{entered_since};
 ghost use Rattle.combining.specs.Waits.{IsWaitAfterTry, IsWaitAfterLook};
 ghost use Rattle.pelgaisti_c.specs.Numbers.{IsCall, IsCallFault, numbers_of_reply};
 ghost use Rattle.pelgaisti_c.specs.Sessions.{IsSameOffice, AreToWake};
-ghost use Rattle.pelgaisti_c.specs.Turns.{number_of_wait, IsTurnAnswered, IsTurnStarved, IsTurnMade, IsLookAnswered, IsLookStarved, IsLookMade};
+ghost use Rattle.pelgaisti_c.specs.Turns.{number_of_wait, IsCallAnswered, IsCallStarved, IsCallLate, IsTurnAnswered, IsTurnStarved, IsTurnMade, IsLookAnswered, IsLookStarved, IsLookMade};
 
 use crate::numbers::{AnswerNumbers, CallNumbers, read_call, reply_numbers};
 use crate::session_share::SessionShare;
@@ -146,8 +146,64 @@ pub(crate) fn publish_last(share: &mut SessionShare, call: Call)
 }
 
 /// Makes turn number `made` of a call, of which there are `turns` at most: as `combining::turn` makes it, or, if no turn is left, publishes
-/// the call unless it is pending. A session that has another call pending before the first turn is refused. Writes the answer; or how to
-/// wait before the next turn, 0 if none is left; and how many sessions are to be woken to `told`.
+/// the call unless it is pending. Writes the answer; or how to wait before the next turn, 0 if none is left; and how many sessions are to be
+/// woken to `told`.
+#[inline(always)]
+fn turn_of(
+    share: &mut SessionShare,
+    call: &Call,
+    made: u64,
+    turns: u64,
+    answer: &mut AnswerNumbers,
+    wait: &mut u32,
+    told: &mut usize,
+) -> u32
+    requires live { share.old.session.retired ≡ false }
+    ensures ok { result ≡ OK → IsCallAnswered share.old share.new call.now answer.new }
+    ensures memory { result ≡ NO_MEMORY → IsCallStarved share.old share.new call.now }
+    ensures late { result ≡ NOT_SERVED → IsCallLate share.old share.new call.now made turns wait.new }
+    ensures told { AreToWake share.old share.new told.new }
+    ensures failed { result ≢ OK → answer.new ≡ answer.old }
+    ensures unread { result ≢ NOT_SERVED → wait.new ≡ wait.old }
+    ensures statuses { (result ≡ OK) ⊎ ((result ≡ NO_MEMORY) ⊎ (result ≡ NOT_SERVED)) }
+{
+    forget_told(share);
+    if made >= turns {
+        publish_last(share, *call);
+        *told = 0;
+        *wait = NO_TURN;
+        return NOT_SERVED;
+    }
+    let next = make_turn(share, call, made);
+    *told = share.told.sessions().len();
+    write_next(next, answer, wait)
+}
+
+/// As `turn_of`, in an office with a waker. It stands apart, so that an office without one pays for a test alone.
+#[inline(never)]
+fn turn_waking(
+    share: &mut SessionShare,
+    call: &Call,
+    made: u64,
+    turns: u64,
+    answer: &mut AnswerNumbers,
+    wait: &mut u32,
+    told: &mut usize,
+) -> u32
+    requires live { share.old.session.retired ≡ false }
+    ensures ok { result ≡ OK → IsCallAnswered share.old share.new call.now answer.new }
+    ensures memory { result ≡ NO_MEMORY → IsCallStarved share.old share.new call.now }
+    ensures late { result ≡ NOT_SERVED → IsCallLate share.old share.new call.now made turns wait.new }
+    ensures told { AreToWake share.old share.new told.new }
+    ensures failed { result ≢ OK → answer.new ≡ answer.old }
+    ensures unread { result ≢ NOT_SERVED → wait.new ≡ wait.old }
+    ensures statuses { (result ≡ OK) ⊎ ((result ≡ NO_MEMORY) ⊎ (result ≡ NOT_SERVED)) }
+{
+    turn_of(share, call, made, turns, answer, wait, told)
+}
+
+/// Makes turn number `made` of the call that the numbers encode, as `turn_of` does. A session that has another call pending before the first
+/// turn is refused.
 pub(crate) fn turn(
     share: &mut SessionShare,
     asked: &CallNumbers,
@@ -180,16 +236,10 @@ pub(crate) fn turn(
     if made == 0 && !share.session.is_idle() {
         return PENDING;
     }
-    forget_told(share);
-    if made >= turns {
-        publish_last(share, call);
-        *told = 0;
-        *wait = NO_TURN;
-        return NOT_SERVED;
+    if share.waker != 0 {
+        return turn_waking(share, &call, made, turns, answer, wait, told);
     }
-    let next = make_turn(share, &call, made);
-    *told = share.told.sessions().len();
-    write_next(next, answer, wait)
+    turn_of(share, &call, made, turns, answer, wait, told)
 }
 
 /// Makes turn number `looked` of the pending call, of which there are `turns` at most, as `combining::look` makes it. Writes as `turn` does.

@@ -92,7 +92,6 @@ impl<O: Batching> Office<O> {
     }
 
     /// Performs as `perform` does, and adds the sessions whose waits the pass and the call have ended to those that were told.
-    #[inline(always)]
     pub(crate) fn perform_adding<T: Told<O>>(
         &self,
         session: &mut Session<O>,

@@ -1,0 +1,44 @@
+use Rattle.std.proofs.Common.{◌≡◌, ◌∙◌, ℕ, None, ap, sym, subst, arith}
+use Rattle.lock_board.specs.LockBoards.{TicketView, book_object}
+use Rattle.combining.specs.Calls.{IsCalled, IsCalling, IsAnswered, IsWaitingOn}
+use Rattle.pelgaisti_c.proofs.SameOffice.{same-trans}
+use Rattle.pelgaisti_c.proofs.turn_calls.turn_of.Goals as goal
+
+pub returns-clause-ok : goal.returns-clause-ok
+returns-clause-ok c = λ e.
+    let found = c.write_next.ensures.ok e in
+    let made = c.make_turn-next in
+    let after = made.new.share in
+    let forgot = c.forget_told in
+    let back = forgot.ensures.session in
+    let place = sym found.2 in
+    let call = c.args.call.now in
+    let reply = found.0.reply in record {
+      reply = reply;
+      reply_is = found.3;
+      called = λ none. subst (λ (p : ℕ). IsCalled book_object c.args.share.now.session after.session call p reply) place
+          (subst (λ (t : TicketView). IsCalled book_object t after.session call found.0.place reply) back (made.ensures.called found.0 found.1 (ap (λ (t : TicketView). t.pending) back ∙ none)));
+      answered = λ some. subst (λ (p : ℕ). IsAnswered book_object c.args.share.now.session after.session p reply) place
+          (subst (λ (t : TicketView). IsAnswered book_object t after.session found.0.place reply) back (made.ensures.answered found.0 found.1 (λ none. some (sym (ap (λ (t : TicketView). t.pending) back) ∙ none))));
+      idle = made.ensures.idle found.0 found.1;
+      office = same-trans c.args.share.now forgot.new.share after forgot.ensures.same made.ensures.same;
+    }
+
+pub returns-clause-late : goal.returns-clause-late
+returns-clause-late c = λ e.
+    let found = c.write_next.ensures.waits e in
+    let made = c.make_turn-next in
+    let after = made.new.share in
+    let forgot = c.forget_told in
+    let back = forgot.ensures.session in
+    let call = c.args.call.now in
+    let many = forgot.ensures.same.sessions in record {
+      tried = λ left none few. let r = made.ensures.tried found.0 found.1 (ap (λ (t : TicketView). t.pending) back ∙ none) few in
+          (r.0 ∙ back, (let some = r.1 in omega (arith, some, many)), (found.0, r.2, found.2));
+      published = λ left none much. let r = made.ensures.published found.0 found.1 (ap (λ (t : TicketView). t.pending) back ∙ none) much in
+          (subst (λ (t : TicketView). IsCalling t after.session call) back r.0, (let some = r.1 in omega (arith, some, many)), (found.0, r.2, found.2));
+      waits = λ left some. let r = made.ensures.waits found.0 found.1 (λ none. some (sym (ap (λ (t : TicketView). t.pending) back) ∙ none)) in
+          (subst (λ (t : TicketView). IsWaitingOn t after.session) back r.0, (found.0, r.1, found.2));
+      last = λ over. absurd (let left = c.if-made-turns.false in omega (arith, left, over));
+      office = same-trans c.args.share.now forgot.new.share after forgot.ensures.same made.ensures.same;
+    }
