@@ -485,7 +485,7 @@ static void wakers(void) {
     pelgaisti_book book = PELGAISTI_EMPTY;
     memset(sessions, 0, sizeof sessions);
     uint32_t status = pelgaisti_office_open_waking(sessions, CLERKS, UINT64_MAX, &waker);
-    if (is_lacking(OPEN_WAKING, status)) {
+    while (is_lacking(OPEN_WAKING, status)) {
         for (int k = 0; k < CLERKS; k++) CHECK(sessions[k].is_open_ == 0 && sessions[k].at_ == NULL);
         status = pelgaisti_office_open_waking(sessions, CLERKS, UINT64_MAX, &waker);
     }
@@ -544,10 +544,12 @@ static void elsewhere(void) {
     CHECK(pelgaisti_book_close(&book) == PELGAISTI_OK);
 }
 
-/* Plays a round with ample memory, one round for each allocation, which is refused, and a last round without a refusal. */
-static void each_in_turn(const char *name, void (*play)(void)) {
+/* Plays a round with ample memory, one round for each allocation, which is refused, or so many in a row from it on, and a last round
+   without a refusal. */
+static void each_in_turn(const char *name, void (*play)(void), long row) {
     long before;
     refusals = 0;
+    in_a_row = row;
     play();
     for (long at = 0;; at++) {
         before = refusals;
@@ -556,14 +558,16 @@ static void each_in_turn(const char *name, void (*play)(void)) {
         if (refusals == before) break;
     }
     left = -1;
+    refused_so_far = 0;
     printf("%s: %ld allocations refused, %ld checks failed\n", name, refusals, failed);
 }
 
 int main(void) {
-    each_in_turn("books", books);
-    each_in_turn("paths", paths);
-    each_in_turn("offices", offices);
-    each_in_turn("wakers", wakers);
+    each_in_turn("books", books, 1);
+    each_in_turn("paths", paths, 1);
+    each_in_turn("offices", offices, 1);
+    each_in_turn("wakers", wakers, 1);
+    each_in_turn("wakers, two in a row", wakers, 2); /* a path tries once more before its call is left pending */
     for (int call = 0; call < LACKING; call++)
         if (!lacked[call]) {
             failed++;

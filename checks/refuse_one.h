@@ -1,4 +1,4 @@
-/* Refuses one allocation of a program that is linked with -Wl,--wrap=malloc,--wrap=realloc. */
+/* Refuses one allocation, or a few in a row, of a program that is linked with -Wl,--wrap=malloc,--wrap=realloc. */
 #ifndef REFUSE_ONE_H
 #define REFUSE_ONE_H
 
@@ -12,6 +12,9 @@ void *__wrap_realloc(void *at, size_t size);
 /* How many allocations are made before the one that is refused; -1: none is refused, as after a refusal. */
 static long left = -1;
 
+/* How many allocations in a row are refused then, and how many of them were. */
+static long in_a_row = 1, refused_so_far;
+
 /* How many allocations were refused. */
 static long refusals;
 
@@ -24,7 +27,10 @@ static int is_refused(void) {
         left -= left > 0;
         return 0;
     }
-    left = -1;
+    if (++refused_so_far >= in_a_row) {
+        left = -1;
+        refused_so_far = 0;
+    }
     refusals++;
     return 1;
 }
