@@ -1,5 +1,5 @@
 -- A share that keeps its office over two steps.
-use Rattle.std.proofs.Common.{◌≡◌, ◌∙◌}
+use Rattle.std.proofs.Common.{◌∙◌}
 use Rattle.pelgaisti_c.specs.declared.session_share.SessionShare.{SessionShare}
 use Rattle.pelgaisti_c.specs.Sessions.{IsSameOffice}
 

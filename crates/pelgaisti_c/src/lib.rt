@@ -1,17 +1,17 @@
 //! The lock manager for C: exports over books and over the sessions of offices, which C holds by handles in its own
 //! memory.
 //!
-//! Exports: `book.rt`, `listing_exports.rt`, `office.rt`, `session.rt`, `turn_exports.rt`, `query_exports.rt`,
-//! `close_exports.rt`, `version.rt`. What they do, on what a handle holds: `book_calls.rt`, `batch.rt`, `listing.rt`, `session_calls.rt`,
-//! `turn_calls.rt`, `queries.rt`, `hand_in.rt`. Numbers of C's structs: `numbers.rt`, `claims.rt`, `status.rt`. Handles: `book_handle.rt`,
-//! `session_handle.rt`, and what is in them.
+//! Exports: `book.rt`, `listing_exports.rt`, `path_exports.rt`, `path_step_exports.rt`, `office.rt`, `session.rt`, `turn_exports.rt`,
+//! `path_turn_exports.rt`, `query_exports.rt`, `close_exports.rt`, `version.rt`. What they do, on what a handle holds: `book_calls.rt`,
+//! `batch.rt`, `listing.rt`, `path_calls.rt`, `session_calls.rt`, `turn_calls.rt`, `path_turn_calls.rt`, `queries.rt`, `hand_in.rt`. Numbers
+//! of C's structs: `numbers.rt`, `claims.rt`, `status.rt`. Handles: `book_handle.rt`, `session_handle.rt`, and what is in them.
 //!
-//! An export takes the value out of the handle, makes one call of `lock_desk` or `combining`, writes the reply in
-//! numbers, puts the value back, and returns a status.
+//! An export takes the value out of the handle, makes one call of `lock_desk`, `combining` or `lock_office`, writes the reply in
+//! numbers, puts the value back, and returns a status. It tests no pointer: `bindings/c` does, and makes a whole call of turns.
 //!
 //! Proved: each export states the clauses of its call again, in numbers; one that failed has changed nothing, but for
 //! the exceptions that docs/PROMISES.md lists. Not proved is what C must keep to: the rules for callers in
-//! `include/pelgaisti.h`. Only tested: the header, and that a status of refused memory means refused memory.
+//! `include/pelgaisti.h`. Only tested: `bindings/c`, and that a status of refused memory means refused memory.
 #![tactic(auto)]
 
 mod batch;

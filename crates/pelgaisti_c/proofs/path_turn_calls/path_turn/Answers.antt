@@ -1,4 +1,4 @@
-use Rattle.std.proofs.Common.{◌≡◌, ◌∙◌, ◌+◌, ℕ, inl, inr, ⊎_elim, None, ap, sym, refl, subst, arith}
+use Rattle.std.proofs.Common.{◌∙◌, ◌+◌, inl, inr, ⊎_elim, ap, sym, refl, subst, arith}
 use Rattle.lock_board.specs.LockBoards.{TicketView}
 use Rattle.combining.specs.Calls.{IsCalling, IsWaitingOn}
 use Rattle.lock_desk.specs.Paths.{lock_of_level}

@@ -1,4 +1,4 @@
-use Rattle.std.proofs.Common.{rules, ◌≡◌, ◌+◌, ℕ, refl, sym, subst, arith, ◌∙◌}
+use Rattle.std.proofs.Common.{rules, ◌≡◌, ℕ, refl, sym, subst, arith, ◌∙◌}
 use Rattle.lock_office.specs.Sessions.{IsPerformed}
 use Rattle.combining.specs.Ended.{entered_since}
 use Rattle.lock_office.specs.Ended.{AreToldBy}

@@ -1,4 +1,4 @@
-use Rattle.std.proofs.Common.{◌≡◌, ◌∙◌, ap, arith, subst}
+use Rattle.std.proofs.Common.{arith, subst}
 use Rattle.lock_board.specs.LockBoards.{TicketView}
 use Rattle.combining.specs.Calls.{IsWaitingOn}
 use Rattle.pelgaisti_c.proofs.SameOffice.{same-trans}

@@ -1,4 +1,4 @@
-use Rattle.std.proofs.Common.{◌≡◌, ◌∙◌, ℕ, None, ap, sym, subst, arith}
+use Rattle.std.proofs.Common.{◌∙◌, ℕ, ap, sym, subst, arith}
 use Rattle.lock_board.specs.LockBoards.{TicketView, book_object}
 use Rattle.combining.specs.Calls.{IsCalled, IsCalling, IsAnswered, IsWaitingOn}
 use Rattle.pelgaisti_c.proofs.SameOffice.{same-trans}
