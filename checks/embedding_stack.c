@@ -1,0 +1,80 @@
+/* Calls of books and offices on a thread with the least stack that the system allows, 16 KB. Status 0 means that it sufficed. */
+#define _XOPEN_SOURCE 600
+#include "pelgaisti.h"
+#include <limits.h>
+#include <pthread.h>
+#include <stdlib.h>
+#include <string.h>
+
+enum { SESSIONS = 64, LOCKS = 200 };
+static pelgaisti_session sessions[SESSIONS];
+static pelgaisti_book book;
+static pelgaisti_claim claims[SESSIONS * LOCKS];
+static pelgaisti_holder holders[SESSIONS];
+static pelgaisti_entry entries[SESSIONS * LOCKS];
+static uint32_t list[PELGAISTI_MAX_SESSIONS];
+static pelgaisti_answer answer;
+static pelgaisti_reply reply;
+static uint32_t level;
+static size_t count;
+static uint64_t place;
+
+#define MUST(condition) \
+    if (!(condition)) exit(__LINE__ % 200 + 2)
+
+static void perform(int session, uint32_t op, uint32_t mode, uint32_t database) {
+    static pelgaisti_call call;
+    memset(&call, 0, sizeof call);
+    call.op = op;
+    call.mode = mode;
+    call.resource.level = 1;
+    call.resource.numbers[0] = database;
+    MUST(pelgaisti_session_perform(&sessions[session], &call, UINT64_MAX, &answer) == PELGAISTI_OK);
+}
+
+static void *work(void *unused) {
+    static pelgaisti_resource path = {5, {1, 2, 3, 4, 5}}, last = {1, {0}};
+    int k, n;
+    MUST(pelgaisti_office_open_keeping(sessions, SESSIONS, 1000) == PELGAISTI_OK);
+    for (k = 0; k < SESSIONS; k++) {
+        perform(k, PELGAISTI_BEGIN, 0, 0);
+        for (n = 0; n < LOCKS; n++) perform(k, PELGAISTI_LOCK, PELGAISTI_X, 10 + (uint32_t)(k * LOCKS + n));
+        level = 0;
+        path.numbers[4] = (uint32_t)k;
+        MUST(pelgaisti_session_lock_path(&sessions[k], &path, PELGAISTI_X, &level, UINT64_MAX, &answer) == PELGAISTI_OK && level == 5);
+    }
+    /* each waits for the next one, and the last closes a cycle of all */
+    for (k = 0; k < SESSIONS; k++) perform(k, PELGAISTI_LOCK, PELGAISTI_X, 10 + (uint32_t)((k + 1) % SESSIONS * LOCKS));
+    last.numbers[0] = 10;
+    MUST(pelgaisti_session_holders(&sessions[0], &last, holders, SESSIONS, &count, &place) == PELGAISTI_OK && count == 1);
+    MUST(pelgaisti_session_blockers(&sessions[0], 1, list, SESSIONS, &count, &place) == PELGAISTI_OK);
+    MUST(pelgaisti_session_locks(&sessions[0], 0, claims, SESSIONS * LOCKS, &count, &place) == PELGAISTI_OK);
+    MUST(pelgaisti_session_take_history(&sessions[0], &place, entries, 10, &count) == PELGAISTI_OK);
+    for (k = SESSIONS - 1; k > 0; k--) MUST(pelgaisti_session_hand_in(&sessions[k], &sessions[0]) == PELGAISTI_OK);
+    MUST(pelgaisti_office_close(&sessions[0], &book) == PELGAISTI_OK);
+    MUST(pelgaisti_book_locks(&book, 0, claims, SESSIONS * LOCKS, &count) == PELGAISTI_OK);
+    MUST(pelgaisti_book_blockers(&book, 2, list, PELGAISTI_MAX_SESSIONS, &count) == PELGAISTI_OK);
+    memset(entries, 0, sizeof entries);
+    for (k = 1; k <= SESSIONS; k++) {
+        entries[k - 1].session = (uint32_t)k;
+        entries[k - 1].call.op = PELGAISTI_ABORT;
+    }
+    MUST(pelgaisti_book_serve_batch(&book, entries, SESSIONS, &count) == PELGAISTI_OK && count == SESSIONS);
+    entries[0].call.op = PELGAISTI_BEGIN;
+    MUST(pelgaisti_book_serve(&book, 1, &entries[0].call, &reply) == PELGAISTI_OK);
+    level = 0;
+    MUST(pelgaisti_book_lock_path(&book, 1, &path, PELGAISTI_S, &level, &reply, list, PELGAISTI_MAX_SESSIONS, &count) == PELGAISTI_OK);
+    MUST(pelgaisti_book_take_history(&book, &place, entries, 10, &count) == PELGAISTI_OK);
+    MUST(pelgaisti_book_close(&book) == PELGAISTI_OK);
+    return unused;
+}
+
+int main(void) {
+    pthread_attr_t small;
+    pthread_t thread;
+    pthread_attr_init(&small);
+    MUST(pthread_attr_setstacksize(&small, PTHREAD_STACK_MIN) == 0);
+    MUST(pthread_create(&thread, &small, work, NULL) == 0);
+    MUST(pthread_join(thread, NULL) == 0);
+    return 0;
+}
