@@ -4,6 +4,7 @@
    plain memory, 50 to a page. A deadlock's victim undoes, aborts and starts again. A thread whose request waits sleeps until it is
    woken. HOW is
        office   sessions of one office, by pelgaisti_session_perform
+       paths    the same, an account with its page and the table by pelgaisti_session_lock_path
        book     one book behind a mutex, whose callers wake whom pelgaisti_book_ended names
        berkeley the lock subsystem of Berkeley DB, which blocks, if built with -DBERKELEY_DB
    Prints transfers a second and the time of one, from its begin to its commit: the median, the 99th of 100 and the greatest. Fails
@@ -35,7 +36,7 @@ typedef struct worker {
 #endif
 } worker;
 
-static enum { OFFICE, BOOK, BERKELEY } how;
+static enum { OFFICE, PATHS, BOOK, BERKELEY } how;
 static pelgaisti_session sessions[MOST_THREADS];
 static pelgaisti_book book;
 static pthread_mutex_t mutex = PTHREAD_MUTEX_INITIALIZER;
@@ -85,14 +86,29 @@ static pelgaisti_reply ask(worker *w, uint32_t op, uint32_t mode, uint32_t level
     call.resource.numbers[0] = level > 0;
     call.resource.numbers[1] = level > 1 ? page : 0;
     call.resource.numbers[2] = level > 2 ? account : 0;
-    reply = how == OFFICE ? ask_office(w, &call) : ask_book(w, &call);
+    reply = how <= PATHS ? ask_office(w, &call) : ask_book(w, &call);
     while (reply.kind == PELGAISTI_WAITING) {
         while (sem_wait(&woken[w->session]) != 0) continue;
         memset(&call, 0, sizeof call);
         call.op = PELGAISTI_POLL;
-        reply = how == OFFICE ? ask_office(w, &call) : ask_book(w, &call);
+        reply = how <= PATHS ? ask_office(w, &call) : ask_book(w, &call);
     }
     return reply;
+}
+
+/* Locks the path to an account. After a wait that ended with a grant it goes on with the level at which it waited. */
+static int lock_path(worker *w, uint32_t page, uint32_t account) {
+    pelgaisti_resource path = {3, {1}};
+    pelgaisti_answer answer;
+    uint32_t level = 0;
+    path.numbers[1] = page;
+    path.numbers[2] = account;
+    for (;;) {
+        if (pelgaisti_session_lock_path(&sessions[w->session - 1], &path, PELGAISTI_X, &level, UINT64_MAX, &answer)) exit(4);
+        if (answer.reply.kind != PELGAISTI_WAITING) return answer.reply.kind != PELGAISTI_DEADLOCK;
+        while (sem_wait(&woken[w->session]) != 0) continue;
+        if (ask(w, PELGAISTI_POLL, 0, 0, 0, 0).kind == PELGAISTI_DEADLOCK) return 0;
+    }
 }
 
 #ifdef BERKELEY_DB
@@ -151,6 +167,7 @@ static int lock_account(worker *w, uint32_t account) {
     if (how == BERKELEY)
         return get(w, DB_LOCK_IWRITE, 1, 0, 0) && get(w, DB_LOCK_IWRITE, 2, page, 0) && get(w, DB_LOCK_WRITE, 3, page, account);
 #endif
+    if (how == PATHS) return lock_path(w, page, account);
     return ask(w, PELGAISTI_LOCK, PELGAISTI_IX, 1, 0, 0).kind != PELGAISTI_DEADLOCK
         && ask(w, PELGAISTI_LOCK, PELGAISTI_IX, 2, page, 0).kind != PELGAISTI_DEADLOCK
         && ask(w, PELGAISTI_LOCK, PELGAISTI_X, 3, page, account).kind != PELGAISTI_DEADLOCK;
@@ -216,7 +233,7 @@ static int before(const void *a, const void *b) {
 }
 
 int main(int argc, char **argv) {
-    static const char *const ways[] = {"office", "book", "berkeley"};
+    static const char *const ways[] = {"office", "paths", "book", "berkeley"};
     pthread_t running[MOST_THREADS];
     unsigned long retries = 0, transfers;
     uint64_t *times, begun, taken;
@@ -229,7 +246,7 @@ int main(int argc, char **argv) {
     if (how > BERKELEY || threads < 1 || threads > MOST_THREADS || !transfers || count < 2 || count > MOST_ACCOUNTS) return 2;
     if (!(times = malloc(transfers * sizeof *times))) return 4;
     for (unsigned k = 0; k < count; k++) accounts[k] = START;
-    if (how == OFFICE && pelgaisti_office_open_waking(sessions, threads, 0, &waker)) return 4;
+    if (how <= PATHS && pelgaisti_office_open_waking(sessions, threads, 0, &waker)) return 4;
     if (how == BOOK && (pelgaisti_book_open(&book, threads) || pelgaisti_book_keep_at_most(&book, 0))) return 4;
 #ifdef BERKELEY_DB
     if (how == BERKELEY) open_environment();
