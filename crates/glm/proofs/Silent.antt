@@ -2,11 +2,11 @@
 use Rattle.std.proofs.Common.{◌≡◌, ◌≢◌, ◌∙◌, ℕ, List, Option, Ok, Err, ap, refl}
 use Rattle.std.specs.Io.KnownBytes.{Keeps}
 use Rattle.clap.specs.Walk.{Text}
-use Rattle.glm.specs.CommandLine.{AskReplayInPieces, AskRunInPieces}
+use Rattle.command_line.specs.CommandLine.{AskReplayInPieces, AskRunInPieces}
 use Rattle.glm.specs.Outcomes.{HasDone, status_of_outcome}
 use Rattle.glm.specs.Statuses.{status_for, status_for_show}
-use Rattle.glm.specs.declared.checking.Verdict.TheVariants as verdict
-use Rattle.glm.specs.declared.tool_fault.ToolFault.TheVariants as tool
+use Rattle.history_commands.specs.declared.checking.Verdict.TheVariants as verdict
+use Rattle.replay_commands.specs.declared.tool_fault.ToolFault.TheVariants as tool
 use Rattle.glm.specs.declared.outcomes.Outcome.{Outcome}
 use Rattle.glm.specs.declared.outcomes.Outcome.TheVariants as outcome
 use Rattle.glm.specs.declared.outcomes.TheConstants.{DONE, ILLEGAL, NO_MEMORY, DEVICE, STOPPED}

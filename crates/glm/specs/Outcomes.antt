@@ -3,24 +3,24 @@ use Rattle.std.specs.Prelude.{◌≡◌, ◌≢◌, ℕ, List, Option, Some, Res
 use Rattle.std.specs.Io.KnownBytes.{Keeps, Appends}
 use Rattle.clap.specs.Walk.{Text}
 use Rattle.lock_trace.specs.declared.faults.TraceFault.{TraceFault}
-use Rattle.glm.specs.declared.args.Form.{Form}
-use Rattle.glm.specs.declared.checking.Verdict.{Verdict}
-use Rattle.glm.specs.declared.checking.Verdict.TheVariants as verdict
-use Rattle.glm.specs.declared.show_fault.ShowFault.{ShowFault}
-use Rattle.glm.specs.declared.show_fault.ShowFault.TheVariants as show
-use Rattle.glm.specs.declared.tool_fault.ToolFault.{ToolFault}
-use Rattle.glm.specs.declared.tool_fault.ToolFault.TheVariants as tool
+use Rattle.command_line.specs.declared.args.Form.{Form}
+use Rattle.history_commands.specs.declared.checking.Verdict.{Verdict}
+use Rattle.history_commands.specs.declared.checking.Verdict.TheVariants as verdict
+use Rattle.history_commands.specs.declared.show_fault.ShowFault.{ShowFault}
+use Rattle.history_commands.specs.declared.show_fault.ShowFault.TheVariants as show
+use Rattle.replay_commands.specs.declared.tool_fault.ToolFault.{ToolFault}
+use Rattle.replay_commands.specs.declared.tool_fault.ToolFault.TheVariants as tool
 use Rattle.glm.specs.declared.outcomes.Outcome.{Outcome}
 use Rattle.glm.specs.declared.outcomes.Outcome.TheVariants as outcome
 use Rattle.glm.specs.declared.outcomes.TheConstants.{DONE, USAGE, ILLEGAL, NO_MEMORY, DEVICE}
-use Rattle.glm.specs.CommandLine.{AskReplay, AskReplayInPieces, AskRun, AskRunInPieces, AskCheck, AskShow, AskExplain, AskHelp, AskVersion, AskNothing}
-use Rattle.glm.specs.Replays.{HasServed, HasServedFront, HasServedPart, IsFaultOfOneThread, Replays, ReplaysInPieces}
-use Rattle.glm.specs.Runs.{HasPerformed, HasPerformedPart, HasWrittenFront, HasWrittenPart, Runs, RunsInPieces}
+use Rattle.command_line.specs.CommandLine.{AskReplay, AskReplayInPieces, AskRun, AskRunInPieces, AskCheck, AskShow, AskExplain, AskHelp, AskVersion, AskNothing}
+use Rattle.replay_commands.specs.Replays.{HasServed, HasServedFront, HasServedPart, IsFaultOfOneThread, Replays, ReplaysInPieces}
+use Rattle.run_commands.specs.Runs.{HasPerformed, HasPerformedPart, HasWrittenFront, HasWrittenPart, Runs, RunsInPieces}
 use Rattle.glm.specs.Statuses.{status_for, status_for_show}
-use Rattle.glm.specs.Showing.{HasShown, HasShownPart, Shows}
-use Rattle.glm.specs.Explaining.{HasExplained, HasExplainedPart, Explains}
-use Rattle.glm.specs.Verdicts.{Checks, IsHistory, text_of_verdict}
-use Rattle.glm.specs.Written.{AppendsPart}
+use Rattle.history_commands.specs.Showing.{HasShown, HasShownPart, Shows}
+use Rattle.history_commands.specs.Explaining.{HasExplained, HasExplainedPart, Explains}
+use Rattle.history_commands.specs.Verdicts.{Checks, IsHistory, text_of_verdict}
+use Rattle.replay_commands.specs.Written.{AppendsPart}
 
 -- the exit status of an outcome
 abbrev pub status_of_outcome : Outcome → ℕ

@@ -6,7 +6,7 @@ use Rattle.clap.specs.declared.error.kind.ErrorKind.TheVariants as error
 use Rattle.glm.specs.declared.outcomes.Outcome.{Outcome}
 use Rattle.glm.specs.declared.outcomes.Outcome.TheVariants as outcome
 use Rattle.glm.specs.Outcomes.{text_of_version}
-use Rattle.glm.specs.Written.{AppendsPart}
+use Rattle.replay_commands.specs.Written.{AppendsPart}
 
 -- the outcome of a parser error of this kind; the output holds `old` before and `new` after
 abbrev pub IsOutcomeOfError : ErrorKind → Option (List ℕ) → Option (List ℕ) → Outcome → Type 0

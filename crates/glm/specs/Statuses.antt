@@ -1,11 +1,11 @@
--- The numbers of faults, and the exit statuses of the program.
+-- The exit statuses of the program.
 use Rattle.std.specs.Prelude.{◌≡◌, ◌⊎◌, ℕ}
 use Rattle.lock_trace.specs.declared.faults.TraceKind.{TraceKind}
 use Rattle.lock_trace.specs.declared.faults.TraceKind.TheVariants as kind
-use Rattle.glm.specs.declared.show_fault.ShowFault.{ShowFault}
-use Rattle.glm.specs.declared.show_fault.ShowFault.TheVariants as show
-use Rattle.glm.specs.declared.tool_fault.ToolFault.{ToolFault}
-use Rattle.glm.specs.declared.tool_fault.ToolFault.TheVariants as tool
+use Rattle.history_commands.specs.declared.show_fault.ShowFault.{ShowFault}
+use Rattle.history_commands.specs.declared.show_fault.ShowFault.TheVariants as show
+use Rattle.replay_commands.specs.declared.tool_fault.ToolFault.{ToolFault}
+use Rattle.replay_commands.specs.declared.tool_fault.ToolFault.TheVariants as tool
 use Rattle.glm.specs.declared.outcomes.TheConstants.{DONE, REFUSED, USAGE, NO_MEMORY, DEVICE, STOPPED, ILLEGAL}
 
 -- one of the seven exit statuses
@@ -40,11 +40,3 @@ status_for_show (show.Trace fault) = status_of_kind fault.kind
 status_for_show (show.NoPlace place entries) = USAGE
 status_for_show show.NoMemory = NO_MEMORY
 status_for_show show.Device = DEVICE
-
--- the number of a fault
-abbrev pub number_of_fault : ToolFault → ℕ
-number_of_fault (tool.Trace fault) = 1
-number_of_fault tool.NoMemory = 2
-number_of_fault tool.Device = 3
-number_of_fault tool.GateShut = 4
-number_of_fault tool.TurnLimit = 5

@@ -7,26 +7,26 @@ ghost use Rattle.clap.specs.Walk.{texts};
 ghost use Rattle.lock_rules.specs.declared.calls.TheConstants.{MAX_SESSIONS};
 ghost use Rattle.glm.specs.declared.outcomes.Outcome.{Outcome};
 ghost use Rattle.glm.specs.declared.outcomes.TheConstants.{DONE, ILLEGAL, NO_MEMORY, DEVICE, STOPPED};
-ghost use Rattle.glm.specs.CommandLine.{AskReplayInPieces, AskRunInPieces};
+ghost use Rattle.command_line.specs.CommandLine.{AskReplayInPieces, AskRunInPieces};
 ghost use Rattle.glm.specs.Outcomes.{HasDone, HasPrintedPart, PrintsVerdict, status_of_outcome};
-ghost use Rattle.glm.specs.Verdicts.{text_of_verdict};
+ghost use Rattle.history_commands.specs.Verdicts.{text_of_verdict};
 ghost use Rattle.glm.specs.ParserErrors.{IsOutcomeOfError};
-ghost use Rattle.glm.specs.Replays.{IsFaultOfOneThread};
+ghost use Rattle.replay_commands.specs.Replays.{IsFaultOfOneThread};
 ghost use Rattle.glm.specs.Statuses.{IsStatus};
 
-use crate::args::{CommandRequest, Delivery, request_of};
-use crate::call_gate::Gate;
-use crate::checking::{Verdict, check};
-use crate::explaining::explain;
+use command_line::{CommandRequest, Delivery, request_of};
+use run_commands::Gate;
+use history_commands::{Verdict, check};
+use history_commands::explain;
 use crate::outcomes::Outcome;
-use crate::replaying::replay;
-use crate::replaying_in_pieces::replay_in_pieces;
-use crate::running::run;
-use crate::running_in_pieces::run_in_pieces;
-use crate::showing::show;
-use crate::texts::{NOT_A_NUMERAL, VERSION_TEXT};
-use crate::tool_fault::ToolFault;
-use crate::writing::write_text;
+use replay_commands::replay;
+use replay_commands::replay_in_pieces;
+use run_commands::run;
+use run_commands::run_in_pieces;
+use history_commands::show;
+use command_line::{NOT_A_NUMERAL, VERSION_TEXT};
+use replay_commands::ToolFault;
+use replay_commands::write_text;
 use clap::Error;
 use clap::error::ErrorKind;
 use std::alloc::{AllocError, Global};
@@ -52,16 +52,6 @@ fn outcome_of_error<W: Write, E: Write>(error: &Error, output: &mut W, errors: &
             let _reported = write!(errors, "{error}");
             Outcome::Misused
         }
-    }
-}
-
-/// Returns the line that the program prints for a verdict. Fails if memory is refused.
-pub(crate) fn verdict_line(alloc: Global, verdict: Verdict) -> Result<String, AllocError>
-    ensures { IfOk result (λ line. string_bytes line ≡ text_of_verdict verdict) }
-{
-    match verdict {
-        Verdict::Legal(entries) => format!(in alloc; "legal {entries}\n"),
-        Verdict::Illegal(place) => format!(in alloc; "illegal {place}\n"),
     }
 }
 

@@ -4,9 +4,9 @@ ghost use Rattle.std.specs.Prelude.{◌≡◌};
 ghost use Rattle.glm.specs.Outcomes.{status_of_outcome};
 ghost use Rattle.glm.specs.Statuses.{status_for, status_for_show, status_of_kind};
 
-use crate::checking::Verdict;
-use crate::show_fault::ShowFault;
-use crate::tool_fault::ToolFault;
+use history_commands::Verdict;
+use history_commands::ShowFault;
+use replay_commands::ToolFault;
 use lock_trace::{TraceFault, TraceKind};
 use std::fmt::Display;
 use std::io::Write;

@@ -1,0 +1,213 @@
+-- The request of a parsed command, from its options up to the words: at most one, and when there is none.
+use Rattle.std.proofs.Common.{rules, arith, ap, ap₂, inl, inr, refl, subst, sym, ◌≡◌, ◌≢◌, ◌⊎◌, ◌∙◌, ◌<◌, ◌^◌, ℕ, List, [], Option, Some, None, codes}
+use Rattle.std.specs.Prelude.{Ok, Err, IfSome, IfNone, decimal}
+use Rattle.std.proofs.lemmas.Fmt.{decimal_injective}
+use Rattle.clap.specs.Simple.{subcommand_of}
+use Rattle.clap.specs.Walk.{Row, Text, first_of}
+use Rattle.lock_tree.specs.Numerals.{reading_of_numeral}
+use Rattle.lock_tree.specs.declared.numeral.NumeralFault.{NumeralFault}
+use Rattle.command_line.proofs.Gives.{numeral_not_given}
+use Rattle.lock_rules.specs.declared.calls.TheConstants.{MAX_SESSIONS}
+use Rattle.command_line.specs.declared.args.TheConstants.{MAX_TURNS}
+use Rattle.command_line.specs.declared.args.TheConstants.{MAX_STREAMED_SESSIONS}
+use Rattle.command_line.specs.declared.args.Delivery.{Delivery}
+use Rattle.command_line.specs.declared.args.Delivery.TheVariants as delivery
+use Rattle.command_line.specs.declared.args.CommandRequest.{CommandRequest}
+use Rattle.command_line.specs.declared.args.CommandRequest.TheVariants as request
+use Rattle.command_line.specs.declared.args.Form.{Form}
+use Rattle.command_line.proofs.AskShow.{form-one, place-one}
+use Rattle.command_line.specs.CommandLine.{Ask, Gives, GivesPlace, WantsForm, IsRequest, HasFlag, IsRequestIn, Wants, faults_of, glm_command, most_sessions}
+
+-- a number of sessions that a run takes is one that a command takes
+pub as_sessions : (rows : List Row) (d : Delivery) (n : ℕ) → Gives (codes "sessions") (most_sessions d) rows n → Gives (codes "sessions") MAX_SESSIONS rows n
+as_sessions rows delivery.Whole n given = given
+as_sessions rows delivery.InPieces n given = record { given = given.given; some = given.some; few = omega (arith, given.few) }
+
+-- an option gives at most one number
+pub gives-one : (option : Text) (greatest : ℕ) (rows : List Row) (m n : ℕ) → greatest < 2 ^ 64
+    → Gives option greatest rows m → Gives option greatest rows n → m ≡ n
+gives-one option greatest rows m n lt a b =
+    let same : Some (decimal m) ≡ Some (decimal n) = sym a.given ∙ b.given in
+    let text : decimal m ≡ decimal n = cc in
+    decimal_injective m n (omega (arith, a.few, lt)) (omega (arith, b.few, lt)) text
+
+-- `--sessions` gives at most one number
+sessions-one : (rows : List Row) (m n : ℕ) → Gives (codes "sessions") MAX_SESSIONS rows m → Gives (codes "sessions") MAX_SESSIONS rows n → m ≡ n
+sessions-one rows m n = gives-one _ _ rows m n (omega arith)
+
+-- `--turns` gives at most one number
+turns-one : (rows : List Row) (m n : ℕ) → Gives (codes "turns") MAX_TURNS rows m → Gives (codes "turns") MAX_TURNS rows n → m ≡ n
+turns-one rows m n = gives-one _ _ rows m n (omega arith)
+
+-- options want the history delivered in one way
+delivery-one : (rows : List Row) (d e : Delivery) → Wants rows d → Wants rows e → d ≡ e
+delivery-one rows delivery.Whole delivery.Whole a b = refl
+delivery-one rows delivery.Whole delivery.InPieces a b = absurd (a b)
+delivery-one rows delivery.InPieces delivery.Whole a b = absurd (b a)
+delivery-one rows delivery.InPieces delivery.InPieces a b = refl
+
+-- no request is in the options if they give no number of sessions
+pub no_sessions : (name : Text) (rows : List Row) → ((n : ℕ) → ¬ Gives (codes "sessions") MAX_SESSIONS rows n)
+    → (asked : CommandRequest) → ¬ IsRequest (Some (name, rows)) asked
+no_sessions name rows none (request.Replay n d) is = none n is.1
+no_sessions name rows none (request.Run n t d) is = none n (as_sessions rows d n is.1)
+no_sessions name rows none (request.Check n) is = none n is.1
+no_sessions name rows none (request.Show n p f) is = none n is.1
+no_sessions name rows none (request.Explain n p f) is = none n is.1
+
+-- no request is in the options of `run` if they give no number of turns
+pub no_turns : (name : Text) (rows : List Row) → name ≡ codes "run" → ((n : ℕ) → ¬ Gives (codes "turns") MAX_TURNS rows n)
+    → (asked : CommandRequest) → ¬ IsRequest (Some (name, rows)) asked
+no_turns name rows run none (request.Replay n d) is = let bad : codes "run" ≡ codes "replay" = sym run ∙ is.0 in cc
+no_turns name rows run none (request.Run n t d) is = none t is.2
+no_turns name rows run none (request.Check n) is = let bad : codes "run" ≡ codes "check" = sym run ∙ is.0 in cc
+no_turns name rows run none (request.Show n p f) is = let bad : codes "run" ≡ codes "show" = sym run ∙ is.0 in cc
+no_turns name rows run none (request.Explain n p f) is = let bad : codes "run" ≡ codes "explain" = sym run ∙ is.0 in cc
+
+-- no request is in the options of a run that want the history in pieces, and the greatest number of sessions
+pub no_streamed : (name : Text) (rows : List Row) (n : ℕ) → name ≡ codes "run" → Gives (codes "sessions") MAX_SESSIONS rows n → MAX_STREAMED_SESSIONS < n
+    → HasFlag (codes "stream") rows → (asked : CommandRequest) → ¬ IsRequest (Some (name, rows)) asked
+no_streamed name rows n run given many flag (request.Replay m d) is = let bad : codes "run" ≡ codes "replay" = sym run ∙ is.0 in cc
+no_streamed name rows n run given many flag (request.Run m t delivery.Whole) is = is.3 flag
+no_streamed name rows n run given many flag (request.Run m t delivery.InPieces) is =
+    let same : m ≡ n = sessions-one rows m n (as_sessions rows delivery.InPieces m is.1) given in
+    omega (arith, same, many, is.1.few)
+no_streamed name rows n run given many flag (request.Check m) is = let bad : codes "run" ≡ codes "check" = sym run ∙ is.0 in cc
+no_streamed name rows n run given many flag (request.Show m p f) is = let bad : codes "run" ≡ codes "show" = sym run ∙ is.0 in cc
+no_streamed name rows n run given many flag (request.Explain m p f) is = let bad : codes "run" ≡ codes "explain" = sym run ∙ is.0 in cc
+
+-- no request is in the options of `show` if they don't give both a place and a form
+pub nothing_shown : (name : Text) (rows : List Row) → name ≡ codes "show" → ((p : Option ℕ) (f : Form) → GivesPlace rows p → ¬ WantsForm rows f)
+    → (asked : CommandRequest) → ¬ IsRequest (Some (name, rows)) asked
+nothing_shown name rows show none (request.Replay n d) is = let bad : codes "show" ≡ codes "replay" = sym show ∙ is.0 in cc
+nothing_shown name rows show none (request.Run n t d) is = let bad : codes "show" ≡ codes "run" = sym show ∙ is.0 in cc
+nothing_shown name rows show none (request.Check n) is = let bad : codes "show" ≡ codes "check" = sym show ∙ is.0 in cc
+nothing_shown name rows show none (request.Show n p f) is = none p f is.2 is.3
+nothing_shown name rows show none (request.Explain n p f) is = let bad : codes "show" ≡ codes "explain" = sym show ∙ is.0 in cc
+
+-- no request is in the options of `explain` if they don't give both a place and a form
+pub nothing_explained : (name : Text) (rows : List Row) → name ≡ codes "explain" → ((p : Option ℕ) (f : Form) → GivesPlace rows p → ¬ WantsForm rows f)
+    → (asked : CommandRequest) → ¬ IsRequest (Some (name, rows)) asked
+nothing_explained name rows explain none (request.Replay n d) is = let bad : codes "explain" ≡ codes "replay" = sym explain ∙ is.0 in cc
+nothing_explained name rows explain none (request.Run n t d) is = let bad : codes "explain" ≡ codes "run" = sym explain ∙ is.0 in cc
+nothing_explained name rows explain none (request.Check n) is = let bad : codes "explain" ≡ codes "check" = sym explain ∙ is.0 in cc
+nothing_explained name rows explain none (request.Show n p f) is = let bad : codes "explain" ≡ codes "show" = sym explain ∙ is.0 in cc
+nothing_explained name rows explain none (request.Explain n p f) is = none p f is.2 is.3
+
+-- no request is in the options of `show` or `explain` if they don't give both a place and a form
+pub nothing_told : (name : Text) (rows : List Row) → (name ≡ codes "show") ⊎ (name ≡ codes "explain")
+    → ((p : Option ℕ) (f : Form) → GivesPlace rows p → ¬ WantsForm rows f) → (asked : CommandRequest) → ¬ IsRequest (Some (name, rows)) asked
+nothing_told name rows (inl show) none asked is = nothing_shown name rows show none asked is
+nothing_told name rows (inr explain) none asked is = nothing_explained name rows explain none asked is
+
+-- no request has a name other than `replay`, `run`, `check`, `show` and `explain`
+pub no_name : (name : Text) (rows : List Row) → name ≢ codes "replay" → name ≢ codes "run" → name ≢ codes "check" → name ≢ codes "show"
+    → name ≢ codes "explain" → (asked : CommandRequest) → ¬ IsRequest (Some (name, rows)) asked
+no_name name rows replay run check show explain (request.Replay n d) is = replay is.0
+no_name name rows replay run check show explain (request.Run n t d) is = run is.0
+no_name name rows replay run check show explain (request.Check n) is = check is.0
+no_name name rows replay run check show explain (request.Show n p f) is = show is.0
+no_name name rows replay run check show explain (request.Explain n p f) is = explain is.0
+
+-- the text of the option `--sessions` of the command that was found
+abbrev pub sessions_text : Option (Text × List Row) → Option Text
+sessions_text None = None
+sessions_text (Some found) = first_of (codes "sessions") found.1
+
+-- no request is in a command whose `--sessions` isn't read as a number
+pub no_such_sessions : (found : Option (Text × List Row)) (text : Text) (fault : NumeralFault) → sessions_text found ≡ Some text
+    → reading_of_numeral MAX_SESSIONS text ≡ Err fault → (asked : CommandRequest) → ¬ IsRequest found asked
+no_such_sessions None text fault is wrong asked h = h
+no_such_sessions (Some found) text fault is wrong asked h =
+    no_sessions found.0 found.1 (numeral_not_given _ text MAX_SESSIONS found.1 (omega arith) is (λ m read some. let bad : Ok m ≡ Err fault = sym read ∙ wrong in cc)) asked h
+
+-- a name with its options is at most one request
+one-in : (name : Text) (rows : List Row) (r q : CommandRequest) → IsRequestIn name rows r → IsRequestIn name rows q → r ≡ q
+one-in name rows (request.Replay m d) (request.Replay n e) a b =
+    ap₂ (λ k l. request.Replay k l) (sessions-one rows m n a.1 b.1) (delivery-one rows d e a.2 b.2)
+one-in name rows (request.Replay m d) (request.Run n t e) a b = let bad : codes "replay" ≡ codes "run" = sym a.0 ∙ b.0 in cc
+one-in name rows (request.Replay m d) (request.Check n) a b = let bad : codes "replay" ≡ codes "check" = sym a.0 ∙ b.0 in cc
+one-in name rows (request.Run m u d) (request.Replay n e) a b = let bad : codes "run" ≡ codes "replay" = sym a.0 ∙ b.0 in cc
+one-in name rows (request.Run m u d) (request.Run n t e) a b =
+    let same : m ≡ n = sessions-one rows m n (as_sessions rows d m a.1) (as_sessions rows e n b.1) in
+    let tries : u ≡ t = turns-one rows u t a.2 b.2 in
+    let way : d ≡ e = delivery-one rows d e a.3 b.3 in
+    cc
+one-in name rows (request.Run m u d) (request.Check n) a b = let bad : codes "run" ≡ codes "check" = sym a.0 ∙ b.0 in cc
+one-in name rows (request.Check m) (request.Replay n e) a b = let bad : codes "check" ≡ codes "replay" = sym a.0 ∙ b.0 in cc
+one-in name rows (request.Check m) (request.Run n t e) a b = let bad : codes "check" ≡ codes "run" = sym a.0 ∙ b.0 in cc
+one-in name rows (request.Check m) (request.Check n) a b = ap (λ k. request.Check k) (sessions-one rows m n a.1 b.1)
+one-in name rows (request.Replay m d) (request.Show n q g) a b = let bad : codes "replay" ≡ codes "show" = sym a.0 ∙ b.0 in cc
+one-in name rows (request.Run m u d) (request.Show n q g) a b = let bad : codes "run" ≡ codes "show" = sym a.0 ∙ b.0 in cc
+one-in name rows (request.Check m) (request.Show n q g) a b = let bad : codes "check" ≡ codes "show" = sym a.0 ∙ b.0 in cc
+one-in name rows (request.Show m p f) (request.Replay n e) a b = let bad : codes "show" ≡ codes "replay" = sym a.0 ∙ b.0 in cc
+one-in name rows (request.Show m p f) (request.Run n t e) a b = let bad : codes "show" ≡ codes "run" = sym a.0 ∙ b.0 in cc
+one-in name rows (request.Show m p f) (request.Check n) a b = let bad : codes "show" ≡ codes "check" = sym a.0 ∙ b.0 in cc
+one-in name rows (request.Show m p f) (request.Show n q g) a b =
+    let same : m ≡ n = sessions-one rows m n a.1 b.1 in
+    let there : p ≡ q = place-one rows p q a.2 b.2 in
+    let way : f ≡ g = form-one rows f g a.3 b.3 in
+    cc
+one-in name rows (request.Replay m d) (request.Explain n q g) a b = let bad : codes "replay" ≡ codes "explain" = sym a.0 ∙ b.0 in cc
+one-in name rows (request.Run m u d) (request.Explain n q g) a b = let bad : codes "run" ≡ codes "explain" = sym a.0 ∙ b.0 in cc
+one-in name rows (request.Check m) (request.Explain n q g) a b = let bad : codes "check" ≡ codes "explain" = sym a.0 ∙ b.0 in cc
+one-in name rows (request.Show m p f) (request.Explain n q g) a b = let bad : codes "show" ≡ codes "explain" = sym a.0 ∙ b.0 in cc
+one-in name rows (request.Explain m p f) (request.Replay n e) a b = let bad : codes "explain" ≡ codes "replay" = sym a.0 ∙ b.0 in cc
+one-in name rows (request.Explain m p f) (request.Run n t e) a b = let bad : codes "explain" ≡ codes "run" = sym a.0 ∙ b.0 in cc
+one-in name rows (request.Explain m p f) (request.Check n) a b = let bad : codes "explain" ≡ codes "check" = sym a.0 ∙ b.0 in cc
+one-in name rows (request.Explain m p f) (request.Show n q g) a b = let bad : codes "explain" ≡ codes "show" = sym a.0 ∙ b.0 in cc
+one-in name rows (request.Explain m p f) (request.Explain n q g) a b =
+    let same : m ≡ n = sessions-one rows m n a.1 b.1 in
+    let there : p ≡ q = place-one rows p q a.2 b.2 in
+    let way : f ≡ g = form-one rows f g a.3 b.3 in
+    cc
+
+-- a command that was found is at most one request
+pub one_request : (found : Option (Text × List Row)) (r q : CommandRequest) → IsRequest found r → IsRequest found q → r ≡ q
+one_request None r q a b = absurd a
+one_request (Some found) r q a b = one-in found.0 found.1 r q a b
+
+-- a command that was found is a replay of at most one number of sessions
+pub one_replay : (found : Option (Text × List Row)) (m n : ℕ) (d : Delivery) → IsRequest found (request.Replay m d) → IsRequest found (request.Replay n d) → m ≡ n
+one_replay None m n d a b = absurd a
+one_replay (Some found) m n d a b = sessions-one found.1 m n a.1 b.1
+
+-- a command that was found wants the history delivered in one way
+pub not_both : (found : Option (Text × List Row)) (m n : ℕ) → IsRequest found (request.Replay m delivery.Whole) → ¬ IsRequest found (request.Replay n delivery.InPieces)
+not_both None m n a b = a
+not_both (Some found) m n a b = a.2 b.2
+
+-- a run that was found wants the history delivered in one way
+pub not_both_of_runs : (found : Option (Text × List Row)) (m n t u : ℕ) → IsRequest found (request.Run m t delivery.Whole)
+    → ¬ IsRequest found (request.Run n u delivery.InPieces)
+not_both_of_runs None m n t u a b = a
+not_both_of_runs (Some found) m n t u a b = a.3 b.3
+
+-- a request in the name and options is a request in the parsed command
+pub requests_moved : (found : Option (Text × List Row)) (name : Text) (rows : List Row) (r : Option CommandRequest) → found ≡ Some (name, rows)
+    → IfSome r (IsRequest (Some (name, rows))) → IfSome r (IsRequest found)
+requests_moved found name rows r is h = subst (λ (f : Option (Text × List Row)). IfSome r (IsRequest f)) (sym is) h
+
+-- no request in the name and options means no request in the parsed command
+pub no_requests_moved : (found : Option (Text × List Row)) (name : Text) (rows : List Row) (r : Option CommandRequest) → found ≡ Some (name, rows)
+    → IfNone r ((asked : CommandRequest) → ¬ IsRequest (Some (name, rows)) asked) → IfNone r ((asked : CommandRequest) → ¬ IsRequest found asked)
+no_requests_moved found name rows r is h = subst (λ (f : Option (Text × List Row)). IfNone r ((asked : CommandRequest) → ¬ IsRequest f asked)) (sym is) h
+
+-- no request is in words without a command
+pub no_command : (found : Option (Text × List Row)) → found ≡ None → (asked : CommandRequest) → ¬ IsRequest found asked
+no_command None is asked h = h
+no_command (Some p) is asked h = cc
+
+-- words without an error ask for the request of their command
+pub words_ask : (words : List Text) (found : Option (Text × List Row)) (r : Option CommandRequest) → faults_of words ≡ [] → found ≡ subcommand_of glm_command words
+    → IfSome r (IsRequest found) → IfSome r (Ask words)
+words_ask words found None whole is h = search rules
+words_ask words found (Some asked) whole is h =
+    record { whole = whole; request_is = subst (λ (f : Option (Text × List Row)). IsRequest f asked) is h }
+
+-- words ask for nothing if no request is in their command
+pub words_ask_nothing : (words : List Text) (found : Option (Text × List Row)) (r : Option CommandRequest) → found ≡ subcommand_of glm_command words
+    → IfNone r ((asked : CommandRequest) → ¬ IsRequest found asked) → IfNone r ((asked : CommandRequest) → ¬ Ask words asked)
+words_ask_nothing words found (Some asked) is h = search rules
+words_ask_nothing words found None is h =
+    λ asked ask. h asked (subst (λ (f : Option (Text × List Row)). IsRequest f asked) (sym is) ask.request_is)

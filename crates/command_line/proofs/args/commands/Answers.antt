@@ -1,0 +1,45 @@
+use Rattle.std.proofs.Common.{ap, ap₂, ◌≡◌, ◌∙◌, codes, true}
+use Rattle.std.proofs.lemmas.Result.{IfOk-weaker}
+use Rattle.clap.specs.Simple.{App, Shape, app_of, app_of_fields, new_app, on_top, with_rule, with_subcommand}
+use Rattle.command_line.specs.CommandLine.{app_with_forms, command_for_sessions, stream_flag, turns_option}
+use Rattle.command_line.proofs.args.commands.Goals as goal
+
+-- sets that a command is required and that there is a version
+abbrev wants_command : App → App
+wants_command = on_top (λ s. record s { subcommand_required = true; has_version = true })
+
+-- the program with the commands up to `replay`
+abbrev up_to_replay : App
+up_to_replay = with_subcommand (wants_command (new_app (codes "glm"))) (with_rule (command_for_sessions (codes "replay")) stream_flag).top
+
+-- the program with the commands up to `run`
+abbrev up_to_run : App
+up_to_run = with_subcommand up_to_replay (with_rule (with_rule (command_for_sessions (codes "run")) turns_option) stream_flag).top
+
+-- the program with the commands up to `check`
+abbrev up_to_check : App
+up_to_check = with_subcommand up_to_run (command_for_sessions (codes "check")).top
+
+-- the program with the commands up to `show`
+abbrev up_to_show : App
+up_to_show = with_subcommand up_to_check (app_with_forms (codes "show")).top
+
+-- the shape of a command itself, without its subcommands
+abbrev top_of : App → Shape
+top_of a = a.top
+
+pub returns : goal.returns
+returns c =
+    let top : app_of c.subcommand_required.result ≡ wants_command (new_app (codes "glm")) =
+    ap app_of_fields c.subcommand_required.ensures ∙ ap (on_top (λ s. record s { subcommand_required = true })) (ap app_of_fields c.after_help.ensures
+    ∙ ap app_of_fields c.version.ensures ∙ ap (on_top (λ s. record s { has_version = true })) (ap app_of_fields c.about.ensures ∙ c.new.ensures.app)) in
+    let one : app_of c.in_ok-subcommand.field-0 ≡ up_to_replay =
+    c.in_ok-subcommand.ensures.shape c.in_ok-replay.ensures.own ∙ ap₂ with_subcommand top (ap top_of c.in_ok-replay.ensures.app) in
+    let two : app_of c.in_ok-subcommand-2.field-0 ≡ up_to_run =
+    c.in_ok-subcommand-2.ensures.shape c.in_ok-run.ensures.own ∙ ap₂ with_subcommand one (ap top_of c.in_ok-run.ensures.app) in
+    let three : app_of c.in_ok-subcommand-3.field-0 ≡ up_to_check =
+    c.in_ok-subcommand-3.ensures.shape c.in_ok-check.ensures.own ∙ ap₂ with_subcommand two (ap top_of c.in_ok-check.ensures.app) in
+    let four : app_of c.in_ok-subcommand-4.field-0 ≡ up_to_show =
+    c.in_ok-subcommand-4.ensures.shape c.in_ok-show.ensures.own ∙ ap₂ with_subcommand three (ap top_of c.in_ok-show.ensures.app) in
+    IfOk-weaker c.subcommand-5.result _ _
+    (λ command h. h.shape c.in_ok-explain.ensures.own ∙ ap₂ with_subcommand four (ap top_of c.in_ok-explain.ensures.app)) c.subcommand-5.ensures

@@ -1,0 +1,191 @@
+-- The command line: its grammar for the parser of `clap`, and the request that a list of words makes.
+use Rattle.std.specs.Prelude.{◌≡◌, ℕ, ◌<◌, ◌≤◌, List, [], ◌∷◌, Option, Some, None, codes, decimal, pos, true}
+use Rattle.clap.specs.Walk.{Row, Rule, Text, first_of}
+use Rattle.clap.specs.Simple.{App, new_app, new_rule, on_top, subcommand_of, with_rule, with_subcommand}
+use Rattle.clap.specs.Kinds.{IsAmong, Kinds}
+use Rattle.clap.specs.Faults.{fault_of}
+use Rattle.clap.specs.declared.builder.action.ArgAction.TheVariants.{SetTrue}
+use Rattle.clap.specs.declared.builder.value_parser.ValueParser.TheVariants as parser
+use Rattle.clap.specs.declared.error.kind.ErrorKind.TheVariants.{DisplayHelp, DisplayVersion}
+use Rattle.lock_rules.specs.declared.calls.TheConstants.{MAX_SESSIONS}
+use Rattle.command_line.specs.declared.args.TheConstants.{MAX_PLACE, MAX_TURNS}
+use Rattle.command_line.specs.declared.args.TheConstants.{MAX_STREAMED_SESSIONS}
+use Rattle.command_line.specs.declared.args.Delivery.{Delivery}
+use Rattle.command_line.specs.declared.args.Delivery.TheVariants as delivery
+use Rattle.command_line.specs.declared.args.Form.{Form}
+use Rattle.command_line.specs.declared.args.Form.TheVariants as form
+use Rattle.command_line.specs.declared.args.CommandRequest.{CommandRequest}
+use Rattle.command_line.specs.declared.args.CommandRequest.TheVariants as request
+
+-- the option `--sessions N`: 1 to MAX_SESSIONS, by default 256
+abbrev pub sessions_option : Rule
+sessions_option = record (new_rule (codes "sessions")) {
+  long = Some (codes "sessions");
+  value_names = 1;
+  parser = Some (parser.Signed (pos 1) (pos MAX_SESSIONS));
+  defaults = codes "256" ∷ [];
+}
+
+-- the option `--turns T`: 1 to MAX_TURNS, 1000000000 by default
+abbrev pub turns_option : Rule
+turns_option = record (new_rule (codes "turns")) {
+  long = Some (codes "turns");
+  value_names = 1;
+  parser = Some (parser.Signed (pos 1) (pos MAX_TURNS));
+  defaults = codes "1000000000" ∷ [];
+}
+
+-- the option `--at P`: a place, with no default
+abbrev pub at_option : Rule
+at_option = record (new_rule (codes "at")) {
+  long = Some (codes "at");
+  value_names = 1;
+  parser = Some (parser.Signed (pos 0) (pos MAX_PLACE));
+}
+
+-- a flag with this name
+abbrev pub flag_named : Text → Rule
+flag_named name = record (new_rule name) {
+  long = Some name;
+  action = Some SetTrue;
+}
+
+-- the flag `--stream`
+abbrev pub stream_flag : Rule
+stream_flag = flag_named (codes "stream")
+
+-- the command `name [--sessions N]`
+abbrev pub command_for_sessions : Text → App
+command_for_sessions name = with_rule (new_app name) sessions_option
+
+-- a command with the options `[--at P] [--csv] [--dot]` added
+abbrev pub with_forms : App → App
+with_forms command = with_rule (with_rule (with_rule command at_option) (flag_named (codes "csv"))) (flag_named (codes "dot"))
+
+-- the command `name [--sessions N] [--at P] [--csv] [--dot]`
+abbrev pub app_with_forms : Text → App
+app_with_forms name = with_forms (command_for_sessions name)
+
+-- the program `glm`, which has a version and requires one of the commands `replay [--sessions N] [--stream]`,
+-- `run [--sessions N] [--turns T] [--stream]`, `check [--sessions N]`, `show [--sessions N] [--at P] [--csv] [--dot]` and
+-- `explain [--sessions N] [--at P] [--csv] [--dot]`
+abbrev pub glm_command : App
+glm_command =
+    with_subcommand
+    (with_subcommand
+    (with_subcommand
+    (with_subcommand
+    (with_subcommand
+    (on_top (λ s. record s { subcommand_required = true; has_version = true }) (new_app (codes "glm")))
+    (with_rule (command_for_sessions (codes "replay")) stream_flag).top)
+    (with_rule (with_rule (command_for_sessions (codes "run")) turns_option) stream_flag).top)
+    (command_for_sessions (codes "check")).top)
+    (app_with_forms (codes "show")).top)
+    (app_with_forms (codes "explain")).top
+
+-- the parser's errors for the words; help and the version count as errors; empty if the words are a valid command
+abbrev pub faults_of : List Text → Kinds
+faults_of words = fault_of glm_command words
+
+-- the parsed options give `option` this number, 1 to `greatest`, in decimal without a sign or a leading zero
+pub record Gives (option : Text) (greatest : ℕ) (rows : List Row) (number : ℕ) : Type 0 where
+  pub given : first_of option rows ≡ Some (decimal number)
+  pub some : 0 < number
+  pub few : number ≤ greatest
+
+-- the parsed options have this flag
+abbrev pub HasFlag : Text → List Row → Type 0
+HasFlag flag rows = first_of flag rows ≡ Some (codes "true")
+
+-- the parsed options want the history delivered in this way: in pieces exactly if they have the flag `--stream`
+abbrev pub Wants : List Row → Delivery → Type 0
+Wants rows delivery.Whole = ¬ HasFlag (codes "stream") rows
+Wants rows delivery.InPieces = HasFlag (codes "stream") rows
+
+-- the greatest number of sessions of a run: one more session takes the history if it is written in pieces
+abbrev pub most_sessions : Delivery → ℕ
+most_sessions delivery.Whole = MAX_SESSIONS
+most_sessions delivery.InPieces = MAX_STREAMED_SESSIONS
+
+-- the parsed options give this number for `--at`, in decimal without a sign or a leading zero
+pub record GivesNumberedPlace (rows : List Row) (place : ℕ) : Type 0 where
+  pub given : first_of (codes "at") rows ≡ Some (decimal place)
+  pub few : place ≤ MAX_PLACE
+
+-- the parsed options give this place: none, or a number
+abbrev pub GivesPlace : List Row → Option ℕ → Type 0
+GivesPlace rows None = first_of (codes "at") rows ≡ None
+GivesPlace rows (Some place) = GivesNumberedPlace rows place
+
+-- the parsed options want this form: lines unless they have one of the flags `--csv` and `--dot`
+abbrev pub WantsForm : List Row → Form → Type 0
+WantsForm rows form.Lines = (¬ HasFlag (codes "csv") rows) × (¬ HasFlag (codes "dot") rows)
+WantsForm rows form.Rows = HasFlag (codes "csv") rows × (¬ HasFlag (codes "dot") rows)
+WantsForm rows form.Graph = (¬ HasFlag (codes "csv") rows) × HasFlag (codes "dot") rows
+
+-- the parsed command, by its name and its options, is this request
+abbrev pub IsRequestIn : Text → List Row → CommandRequest → Type 0
+IsRequestIn name rows (request.Replay sessions asked) =
+    (name ≡ codes "replay") × Gives (codes "sessions") MAX_SESSIONS rows sessions × Wants rows asked
+IsRequestIn name rows (request.Run sessions turns asked) =
+    (name ≡ codes "run") × Gives (codes "sessions") (most_sessions asked) rows sessions × Gives (codes "turns") MAX_TURNS rows turns × Wants rows asked
+IsRequestIn name rows (request.Check sessions) = (name ≡ codes "check") × Gives (codes "sessions") MAX_SESSIONS rows sessions
+IsRequestIn name rows (request.Show sessions place asked) =
+    (name ≡ codes "show") × Gives (codes "sessions") MAX_SESSIONS rows sessions × GivesPlace rows place × WantsForm rows asked
+IsRequestIn name rows (request.Explain sessions place asked) =
+    (name ≡ codes "explain") × Gives (codes "sessions") MAX_SESSIONS rows sessions × GivesPlace rows place × WantsForm rows asked
+
+-- the parser found a command, and the command is this request
+abbrev pub IsRequest : Option (Text × List Row) → CommandRequest → Type 0
+IsRequest None asked = ⊥
+IsRequest (Some found) asked = IsRequestIn found.0 found.1 asked
+
+-- the words have no error and make this request
+pub record Ask (words : List Text) (request : CommandRequest) : Type 0 where
+  pub whole : faults_of words ≡ []
+  pub request_is : IsRequest (subcommand_of glm_command words) request
+
+-- the words ask to replay a trace with this number of sessions, and to write the history whole
+abbrev pub AskReplay : List Text → ℕ → Type 0
+AskReplay words sessions = Ask words (request.Replay sessions delivery.Whole)
+
+-- the words ask to replay a trace with this number of sessions, and to write the history in pieces
+abbrev pub AskReplayInPieces : List Text → ℕ → Type 0
+AskReplayInPieces words sessions = Ask words (request.Replay sessions delivery.InPieces)
+
+-- the words ask to run a trace on threads, with this number of sessions and at most `turns` tries for each answer, and to write
+-- the history whole
+abbrev pub AskRun : List Text → ℕ → ℕ → Type 0
+AskRun words sessions turns = Ask words (request.Run sessions turns delivery.Whole)
+
+-- the words ask to run a trace on threads, with this number of sessions and at most `turns` tries for each answer, and to write
+-- the history in pieces
+abbrev pub AskRunInPieces : List Text → ℕ → ℕ → Type 0
+AskRunInPieces words sessions turns = Ask words (request.Run sessions turns delivery.InPieces)
+
+-- the words ask to check a history with this number of sessions
+abbrev pub AskCheck : List Text → ℕ → Type 0
+AskCheck words sessions = Ask words (request.Check sessions)
+
+-- the words ask to show the state at this place of a history, at its end if it is None, with this number of sessions, in this form
+abbrev pub AskShow : List Text → ℕ → Option ℕ → Form → Type 0
+AskShow words sessions place form = Ask words (request.Show sessions place form)
+
+-- the words ask to explain the call at this place of a history, every eventful call if it is None, with this number of
+-- sessions, in this form
+abbrev pub AskExplain : List Text → ℕ → Option ℕ → Form → Type 0
+AskExplain words sessions place form = Ask words (request.Explain sessions place form)
+
+-- the words ask for help, perhaps beside another error
+abbrev pub AskHelp : List Text → Type 0
+AskHelp words = IsAmong DisplayHelp (faults_of words)
+
+-- the words ask for the version, perhaps beside another error
+abbrev pub AskVersion : List Text → Type 0
+AskVersion words = IsAmong DisplayVersion (faults_of words)
+
+-- the words make no request, and ask neither for help alone nor for the version alone
+pub record AskNothing (words : List Text) : Type 0 where
+  pub no_request : (asked : CommandRequest) → ¬ Ask words asked
+  pub no_help : ¬ (faults_of words ≡ DisplayHelp ∷ [])
+  pub no_version : ¬ (faults_of words ≡ DisplayVersion ∷ [])

@@ -1,0 +1,66 @@
+//! Laws of the command line. A caller's proof cites a law by calling it; the call does nothing at run time.
+
+ghost use Rattle.std.specs.Prelude.{ℕ, [], ◌∷◌, None, Some, List, codes, ◌≡◌};
+ghost use Rattle.clap.specs.Walk.{Text};
+ghost use Rattle.lock_rules.specs.declared.calls.TheConstants.{MAX_SESSIONS};
+ghost use Rattle.command_line.specs.declared.args.CommandRequest.{CommandRequest as RequestValue};
+ghost use Rattle.command_line.specs.declared.args.TheConstants.{MAX_STREAMED_SESSIONS, MAX_TURNS};
+ghost use Rattle.command_line.specs.declared.args.Form.TheVariants as Form;
+ghost use Rattle.command_line.specs.CommandLine.{Ask, AskCheck, AskExplain, AskHelp, AskNothing, AskReplay, AskReplayInPieces, AskRun, AskRunInPieces, AskShow, AskVersion};
+
+/// A command line asks for at most one command with its numbers. A command line that asks for a command asks neither for
+/// help nor for the version.
+pub fn words_ask_for_one_thing()
+    ensures one { (words : List Text) (r q : RequestValue) → Ask words r → Ask words q → r ≡ q }
+    ensures sessions { (words : List Text) (m n : ℕ) → AskReplay words m → AskReplay words n → m ≡ n }
+    ensures whole_or_pieces { (words : List Text) (m n : ℕ) → AskReplay words m → ¬ AskReplayInPieces words n }
+    ensures run_whole_or_pieces { (words : List Text) (m n t u : ℕ) → AskRun words m t → ¬ AskRunInPieces words n u }
+    ensures command_or_help { (words : List Text) (r : RequestValue) → Ask words r → ¬ AskHelp words }
+    ensures command_or_version { (words : List Text) (r : RequestValue) → Ask words r → ¬ AskVersion words }
+    ensures replay_or_help { (words : List Text) (n : ℕ) → AskReplay words n → ¬ AskHelp words }
+{}
+
+/// Command lines with what they ask for. If the number of sessions is left out, it is 256; if the number of tries is, it is
+/// the greatest. A number below 1 or above the greatest is refused, and so is one with a plus sign or a leading zero. A run in
+/// pieces has one session fewer at most.
+pub fn words_ask_as_documented()
+    ensures left_out { AskReplay (codes "glm" ∷ codes "replay" ∷ []) 256 }
+    ensures apart { AskReplay (codes "glm" ∷ codes "replay" ∷ codes "--sessions" ∷ codes "7" ∷ []) 7 }
+    ensures attached { AskReplay (codes "glm" ∷ codes "replay" ∷ codes "--sessions=1024" ∷ []) MAX_SESSIONS }
+    ensures stream { AskReplayInPieces (codes "glm" ∷ codes "replay" ∷ codes "--stream" ∷ []) 256 }
+    ensures stream_sessions { AskReplayInPieces (codes "glm" ∷ codes "replay" ∷ codes "--sessions=7" ∷ codes "--stream" ∷ []) 7 }
+    ensures check_stream { AskNothing (codes "glm" ∷ codes "check" ∷ codes "--stream" ∷ []) }
+    ensures plus { AskNothing (codes "glm" ∷ codes "replay" ∷ codes "--sessions=+7" ∷ []) }
+    ensures zeros { AskNothing (codes "glm" ∷ codes "replay" ∷ codes "--sessions=007" ∷ []) }
+    ensures none { AskNothing (codes "glm" ∷ codes "replay" ∷ codes "--sessions" ∷ codes "0" ∷ []) }
+    ensures too_many { AskNothing (codes "glm" ∷ codes "replay" ∷ codes "--sessions" ∷ codes "1025" ∷ []) }
+    ensures no_command { AskNothing (codes "glm" ∷ []) }
+    ensures unknown { AskNothing (codes "glm" ∷ codes "serve" ∷ []) }
+    ensures help { AskHelp (codes "glm" ∷ codes "--help" ∷ []) }
+    ensures help_command { AskHelp (codes "glm" ∷ codes "help" ∷ []) }
+    ensures replay_help { AskHelp (codes "glm" ∷ codes "replay" ∷ codes "--help" ∷ []) }
+    ensures version { AskVersion (codes "glm" ∷ codes "--version" ∷ []) }
+    ensures version_short { AskVersion (codes "glm" ∷ codes "-V" ∷ []) }
+    ensures run { AskRun (codes "glm" ∷ codes "run" ∷ []) 256 MAX_TURNS }
+    ensures run_turns { AskRun (codes "glm" ∷ codes "run" ∷ codes "--turns" ∷ codes "9" ∷ codes "--sessions=2" ∷ []) 2 9 }
+    ensures run_stream { AskRunInPieces (codes "glm" ∷ codes "run" ∷ codes "--stream" ∷ []) 256 MAX_TURNS }
+    ensures run_stream_most { AskRunInPieces (codes "glm" ∷ codes "run" ∷ codes "--sessions=1023" ∷ codes "--stream" ∷ []) MAX_STREAMED_SESSIONS MAX_TURNS }
+    ensures run_stream_too_many { AskNothing (codes "glm" ∷ codes "run" ∷ codes "--stream" ∷ codes "--sessions=1024" ∷ []) }
+    ensures no_turns { AskNothing (codes "glm" ∷ codes "run" ∷ codes "--turns=0" ∷ []) }
+    ensures too_many_turns { AskNothing (codes "glm" ∷ codes "run" ∷ codes "--turns=1000000001" ∷ []) }
+    ensures replay_turns { AskNothing (codes "glm" ∷ codes "replay" ∷ codes "--turns=9" ∷ []) }
+    ensures check { AskCheck (codes "glm" ∷ codes "check" ∷ []) 256 }
+    ensures check_sessions { AskCheck (codes "glm" ∷ codes "check" ∷ codes "--sessions" ∷ codes "8" ∷ []) 8 }
+    ensures show { AskShow (codes "glm" ∷ codes "show" ∷ []) 256 None Form.Lines }
+    ensures show_at { AskShow (codes "glm" ∷ codes "show" ∷ codes "--at" ∷ codes "0" ∷ []) 256 (Some 0) Form.Lines }
+    ensures show_rows { AskShow (codes "glm" ∷ codes "show" ∷ codes "--csv" ∷ codes "--at=7" ∷ codes "--sessions=3" ∷ []) 3 (Some 7) Form.Rows }
+    ensures show_graph { AskShow (codes "glm" ∷ codes "show" ∷ codes "--dot" ∷ []) 256 None Form.Graph }
+    ensures show_two_forms { AskNothing (codes "glm" ∷ codes "show" ∷ codes "--csv" ∷ codes "--dot" ∷ []) }
+    ensures show_zeros { AskNothing (codes "glm" ∷ codes "show" ∷ codes "--at=07" ∷ []) }
+    ensures explain { AskExplain (codes "glm" ∷ codes "explain" ∷ []) 256 None Form.Lines }
+    ensures explain_at { AskExplain (codes "glm" ∷ codes "explain" ∷ codes "--at" ∷ codes "7" ∷ []) 256 (Some 7) Form.Lines }
+    ensures explain_rows { AskExplain (codes "glm" ∷ codes "explain" ∷ codes "--csv" ∷ codes "--at=7" ∷ codes "--sessions=3" ∷ []) 3 (Some 7) Form.Rows }
+    ensures explain_graph { AskExplain (codes "glm" ∷ codes "explain" ∷ codes "--dot" ∷ []) 256 None Form.Graph }
+    ensures explain_two_forms { AskNothing (codes "glm" ∷ codes "explain" ∷ codes "--csv" ∷ codes "--dot" ∷ []) }
+    ensures explain_zeros { AskNothing (codes "glm" ∷ codes "explain" ∷ codes "--at=07" ∷ []) }
+{}

@@ -1,0 +1,124 @@
+//! Texts of the program: its version, its help texts, and the message for a badly written number.
+
+/// The version of the project.
+pub const VERSION: &str = "0.8.0";
+
+/// The text of `--version`: the project's version, and the kit and the logic that it was proved with.
+pub const VERSION_TEXT: &str = "glm 0.8.0\nproved with rattle-kit-13f, logic dac8208d650f15bf\n";
+
+/// The beginning of the help of `replay`.
+pub(crate) const ABOUT_REPLAY: &str =
+    "Serves a trace from standard input on one thread, and writes its history to standard output.
+
+A row of a trace is session,op,resource,mode, one for each call. A resource is 1 to 5 numbers joined by '/', of a
+database, a file, a page, a record and a field. A mode is IS, IX, S, SIX, U or X.
+
+  1,begin,,            opens a transaction of session 1
+  1,lock,1/2,S         asks for file 2 of database 1
+  1,convert,1/2,X      asks for more of what is held
+  1,poll,,             asks how a request that waits stands
+  1,try,1/3,S          asks as lock does, and is refused if it would wait
+  1,withdraw,,         takes a request that waits back
+  1,release,1/2,       gives one lock back
+  1,commit,,           gives all back; so does abort
+
+The history has a row for each call: place,session,op,resource,mode,reply,value.
+
+  0,1,begin,,,began,1
+
+With --stream the history is written in pieces of 4096 rows while calls are served, and a piece leaves memory once it is
+written. What is written is the same. A row that is refused is still named before anything is written; if memory is
+refused, the rows that were served before may have been written.
+
+An example: glm replay < examples/queue.csv";
+
+/// The beginning of the help of `run`.
+pub(crate) const ABOUT_RUN: &str =
+    "Performs a trace from standard input on threads, one for each session that has a row, and writes the history that
+came about to standard output. The rows of a session are performed in their order, each once the one before is answered,
+whatever the answer was; how those of two sessions fall between one another differs from run to run. While a request
+waits, its session's rows are refused, except poll, withdraw and abort.
+
+A row of a trace is session,op,resource,mode, one for each call, and one of the history
+place,session,op,resource,mode,reply,value; 'glm help replay' shows a row of each form.
+
+  1,lock,1/2,S
+  1,withdraw,,
+  3,1,lock,1/2,S,granted,S
+
+With --stream the history is written in pieces of about 4096 rows while the threads are at work, and a piece leaves memory
+once it is written. Calls wait while 16384 rows are still to be written. One more session takes the history, so there
+are at most 1023 others. A row that is refused is still named before anything is written; if memory is refused, or tries
+run out, the rows that were served before may have been written.
+
+An example: glm run < examples/queue.csv";
+
+/// The beginning of the help of `check`.
+pub(crate) const ABOUT_CHECK: &str =
+    "Reads a history from standard input, and says on standard output whether it is legal: whether each reply is the
+one that the lock table gives there. It writes 'legal', with the number of entries, or 'illegal', with the first place
+whose reply is another.
+
+A row of a history is place,session,op,resource,mode,reply,value, one for each call. A reply has the value beside it.
+
+  0,1,begin,,,began,1                      the number of the transaction
+  1,1,lock,1,S,granted,S                   the mode that is held; so have convert and try
+  2,2,lock,1,X,waiting,                    so answers poll, or clear, or deadlock
+  3,1,release,1,,released,
+  4,1,commit,,,committed,0                 how many locks were given back; so has aborted
+  5,1,lock,1,S,refused,NoTransaction       the name of the refusal
+  6,3,withdraw,,,withdrawn,
+
+An example: glm check < examples/queue.history.csv";
+
+/// The beginning of the help of `show`.
+pub(crate) const ABOUT_SHOW: &str =
+    "Reads a history from standard input, checks it as 'check' does, and writes the state of the lock table in front of the
+row with the place P, or at the end: which transactions are open, with what they hold and wait for; the holders and the
+queue of each resource; and who waits for whom. A history that isn't legal gives the line of 'check', and status 3.
+
+  glm show --at 7 < examples/deadlock.history.csv
+
+  session 2, transaction 2
+    holds 1 in S
+    waits for 2 in S
+
+With --csv the same is written as rows row,session,transaction,victim,resource,mode,other, where the row is 'transaction',
+'held', 'conversion', 'fresh' or 'waits'. With --dot who waits for whom is written as a graph, which 'dot -Tsvg' draws.";
+
+/// The beginning of the help of `explain`.
+pub(crate) const ABOUT_EXPLAIN: &str =
+    "Reads a history from standard input, checks it as 'check' does, and writes what the call in the row with the
+place P did and why: which test refused it, and what failed it; for whom its request waits, and through what;
+the cycles of waits that it closed; which transactions became deadlock victims; whose requests it granted.
+Without --at it writes this of each call that was refused, whose request waited, or that ended the wait of
+another session. A history that isn't legal gives the line of 'check', and status 3.
+
+  glm explain --at 7 < examples/deadlock.history.csv
+
+  7,1,lock,1,S,granted,S
+    begins to wait for 1 in S
+      waits for session 3, transaction 3, which waits ahead for X
+    closes a cycle of waits, or several, through
+
+With --csv the same is written as rows place,row,session,transaction,resource,mode,other. With --dot the
+cycles that requests closed are written as graphs, which 'dot -Tsvg' draws.";
+
+/// The list of exit statuses at the end of the help texts.
+pub(crate) const STATUSES: &str = "Exit status:
+  0  done, or help or the version asked for
+  1  a row was refused, which standard error names
+  2  the words of the command line are off, or --at is no place of the history
+  3  the history isn't legal
+  4  memory was refused
+  5  reading or writing failed, or a thread couldn't be started
+  6  a gate stayed shut, or tries ran out";
+
+/// The message for a number that the parser takes but that has a sign or a leading zero, or that is the greatest number of
+/// sessions for a run whose history is written in pieces; and for `show` or `explain` with two forms.
+pub const NOT_A_NUMERAL: &str =
+    "error: a number is written with digits alone, with no sign and no zero before it, and 'run --stream' has at most 1023
+sessions; 'show' and 'explain' take one of --csv and --dot
+
+For more information, try '--help'.
+";

@@ -1,9 +1,0 @@
-use Rattle.std.proofs.Common.{ap₂, ◌∙◌}
-use Rattle.std.proofs.lemmas.Result.{IfOk-weaker}
-use Rattle.clap.specs.Simple.{with_rule}
-use Rattle.glm.proofs.args.replay_command.Goals as goal
-
-pub returns-clause-app : goal.returns-clause-app
-returns-clause-app c =
-    IfOk-weaker c.arg.result _ _
-    (λ command h. h.shape c.stream_arg.ensures.own ∙ ap₂ with_rule c.in_ok-replay.ensures.app c.stream_arg.ensures.rule) c.arg.ensures

@@ -1,0 +1,128 @@
+-- Explanations of calls: what `explain` ensures of a text that was written in part, and the accounts of one entry more.
+use Rattle.std.proofs.Common.{◌≡◌, ◌∙◌, ◌↔◌, ℕ, ◌+◌, ◌<◌, Bool, true, false, List, [], ◌∷◌, ◌++◌, Option, Result, Ok, Err, Contains, length, take, get_or, refl, sym, ap, ap₂, subst, arith, rules, append_assoc, append-nil}
+use Rattle.std.specs.List.{All}
+use Rattle.std.specs.Result.{IfOk}
+use Rattle.lock_rules.specs.declared.calls.Call.{Call}
+use Rattle.lock_rules.specs.Entries.{Entry}
+use Rattle.lock_rules.specs.declared.calls.Reply.{Reply}
+use Rattle.lock_rules.specs.Ended.{ended_waits}
+use Rattle.lock_rules.specs.Legal.{state_of}
+use Rattle.lock_rules.specs.Step.{step}
+use Rattle.lock_explain.specs.Explanations.{is_eventful}
+use Rattle.lock_trace.specs.Entries.{IsEntry}
+use Rattle.lock_trace.specs.ReadHistories.{history_of}
+use Rattle.history_commands.specs.Explaining.{AreAccounts, Explains, HasExplainedPart, IsAccount, IsAccountIfEventful, IsExplained, IsTextExplained, is_entry_eventful}
+use Rattle.history_commands.specs.Verdicts.{text_of_verdict}
+use Rattle.replay_commands.specs.Written.{AppendsPart}
+use Rattle.history_commands.proofs.IsVerdict.{one_more}
+use Rattle.command_line.specs.declared.args.Form.{Form}
+use Rattle.history_commands.specs.declared.checking.Verdict.{Verdict}
+use Rattle.history_commands.specs.declared.checking.Verdict.TheVariants as verdict
+use Rattle.history_commands.specs.declared.show_fault.ShowFault.TheVariants as show
+
+-- an explanation whose writer failed was written in part
+pub explain_part : (form : Form) (n : ℕ) (asked : Option ℕ) (history : List Entry) (found : Verdict) (text : List ℕ) (old new : Option (List ℕ))
+    → All (IsEntry n) history → IsExplained form n asked found history text → AppendsPart old new text → HasExplainedPart form n asked old new
+explain_part form n asked history found text old new are is part = (history, found, text, (are, is, part))
+
+-- likewise for known bytes
+pub explain_part_known : (form : Form) (n : ℕ) (asked : Option ℕ) (bytes : List ℕ) (history : List Entry) (found : Verdict) (text : List ℕ) (old new : Option (List ℕ))
+    → history_of n bytes ≡ Ok history → IsExplained form n asked found history text → AppendsPart old new text
+    → Explains form n asked bytes old new (Err show.Device)
+explain_part_known form n asked bytes history found text old new read is part = (history, found, text, (read, is, part))
+
+-- the text is the account of the entry behind these entries, if that is told
+abbrev pub IsToldBehind : Form → ℕ → List Entry → Entry → List ℕ → Type 0
+IsToldBehind form n front e added = IsAccountIfEventful (is_entry_eventful n front e) form n front e added
+
+-- the accounts of one entry more, which follows the others
+pub accounts_grow : (form : Form) (n : ℕ) (front es : List Entry) (e : Entry) (text added : List ℕ) → AreAccounts form n front es text
+    → IsToldBehind form n (front ++ es) e added → AreAccounts form n front (es ++ e ∷ []) (text ++ added)
+accounts_grow form n front [] e text added are told = (
+  added,
+  [],
+  (
+    subst (λ (xs : List Entry). IsToldBehind form n xs e added) (append-nil front) told,
+    refl,
+    ap (λ (xs : List ℕ). xs ++ added) are ∙ sym (append-nil added),
+  ),
+)
+accounts_grow form n front (d ∷ es) e text added (first, rest, (own, others, is)) told =
+    let behind = subst (λ (xs : List Entry). IsToldBehind form n xs e added) (sym (append_assoc front (d ∷ []) es)) told in (
+      first,
+      rest ++ added,
+      (
+        own,
+        accounts_grow form n (front ++ d ∷ []) es e rest added others behind,
+        ap (λ (xs : List ℕ). xs ++ added) is ∙ append_assoc first rest added,
+      ),
+    )
+
+-- a call that ended the wait of some session is told
+ended_tells : (call : Call) (reply : Reply) (u : ℕ) (us : List ℕ) → is_eventful call reply (u ∷ us) ≡ true
+ended_tells call reply u us = search rules
+
+-- the empty list has no member
+nothing_there : (u : ℕ) → Contains [] u → ⊥
+nothing_there u (k, below, is) = absurd (omega (arith, below))
+
+-- the list has its first member
+first_there : (u : ℕ) (us : List ℕ) → Contains (u ∷ us) u
+first_there u us = (0, omega arith, refl)
+
+-- whether a call is told depends on whether there are ended waits, and not on their order
+pub eventful_alike : (call : Call) (reply : Reply) (us vs : List ℕ) → ((u : ℕ) → Contains us u ↔ Contains vs u) → is_eventful call reply us ≡ is_eventful call reply vs
+eventful_alike call reply [] [] same = refl
+eventful_alike call reply [] (v ∷ vs) same = absurd (nothing_there v ((same v).1 (first_there v vs)))
+eventful_alike call reply (u ∷ us) [] same = absurd (nothing_there u ((same u).0 (first_there u us)))
+eventful_alike call reply (u ∷ us) (v ∷ vs) same = ended_tells call reply u us ∙ sym (ended_tells call reply v vs)
+
+-- an entry is told by what a book lists of the waits that it ended
+pub told_as_listed : (n : ℕ) (front : List Entry) (e : Entry) (listed ended : List ℕ)
+    → ended ≡ ended_waits n e.session (state_of front) (step (state_of front) e.session e.call).state
+    → ((u : ℕ) → Contains listed u ↔ Contains ended u) → is_eventful e.call e.reply listed ≡ is_entry_eventful n front e
+told_as_listed n front e listed ended is same = eventful_alike e.call e.reply listed ended same ∙ ap (is_eventful e.call e.reply) is
+
+-- the account of an entry that is told
+pub account_told : (form : Form) (n : ℕ) (front : List Entry) (e : Entry) (account : List ℕ) → is_entry_eventful n front e ≡ true
+    → IsAccount form n front e account → IsToldBehind form n front e account
+account_told form n front e account told is = subst (λ (b : Bool). IsAccountIfEventful b form n front e account) (sym told) is
+
+-- nothing is written of an entry that isn't told
+pub nothing_told : (form : Form) (n : ℕ) (front : List Entry) (e : Entry) → is_entry_eventful n front e ≡ false → IsToldBehind form n front e []
+nothing_told form n front e untold = subst (λ (b : Bool). IsAccountIfEventful b form n front e []) (sym untold) refl
+
+-- the waits that a call ended, in the same history of the same sessions
+pub ended_alike : (n m : ℕ) (front back : List Entry) (e : Entry) → n ≡ m → front ≡ back
+    → ended_waits n e.session (state_of front) (step (state_of front) e.session e.call).state ≡ ended_waits m e.session (state_of back) (step (state_of back) e.session e.call).state
+ended_alike n m front back e sessions history =
+    ap₂ (λ (k : ℕ) (es : List Entry). ended_waits k e.session (state_of es) (step (state_of es) e.session e.call).state) sessions history
+
+-- the history grown by an entry whose reply is the recorded one
+pub served_more : (es : List Entry) (i : ℕ) (e : Entry) (before after : List Entry) → i < length es → e ≡ get_or es i e → before ≡ take i es
+    → after ≡ before ++ e ∷ [] → after ≡ take (i + 1) es
+served_more es i e before after lt is so_far more = one_more es i e e.reply before after lt is so_far more refl
+
+-- the accounts of the entries so far, and of one more
+pub told_more : (form : Form) (n m : ℕ) (es : List Entry) (i : ℕ) (e : Entry) (front : List Entry) (old new : List ℕ) → i < length es → e ≡ get_or es i e
+    → m ≡ n → front ≡ take i es → AreAccounts form n [] (take i es) old → (added : List ℕ) × (IsToldBehind form m front e added × (new ≡ old ++ added))
+    → AreAccounts form n [] (take (i + 1) es) new
+told_more form n m es i e front old new lt is sessions so_far are (added, (told, grows)) =
+    let there = subst (λ (k : ℕ). IsToldBehind form k (take i es) e added) sessions (subst (λ (xs : List Entry). IsToldBehind form m xs e added) so_far told) in
+    subst (λ (xs : List Entry). AreAccounts form n [] xs new) (served_more es i e (take i es) (take i es ++ e ∷ []) lt is refl refl)
+    (subst (AreAccounts form n [] (take i es ++ e ∷ [])) (sym grows) (accounts_grow form n [] (take i es) e old added are there))
+
+-- the recorded reply is that of the same history
+pub reply_alike : (front back : List Entry) (e : Entry) → front ≡ back → (step (state_of front) e.session e.call).reply ≡ e.reply
+    → (step (state_of back) e.session e.call).reply ≡ e.reply
+reply_alike front back e is = subst (λ (es : List Entry). (step (state_of es) e.session e.call).reply ≡ e.reply) is
+
+-- the line of the verdict is what is written of a history that isn't legal
+pub illegal_explained : (form : Form) (n : ℕ) (asked : Option ℕ) (history : List Entry) (first : ℕ) (found : Verdict) (text : List ℕ) → found ≡ verdict.Illegal first
+    → text ≡ text_of_verdict (verdict.Illegal first) → IsTextExplained form n asked history found text
+illegal_explained form n asked history first found text is line = subst (λ (v : Verdict). IsTextExplained form n asked history v text) (sym is) line
+
+-- what follows of a result from two things that are known of it
+pub from_both : {T E : Type 0} (r : Result T E) (P Q R : T → Type 0) → ((x : T) → P x → Q x → R x) → IfOk r P → IfOk r Q → IfOk r R
+from_both (Ok x) P Q R follows p q = follows x p q
+from_both (Err e) P Q R follows p q = p

@@ -1,0 +1,4 @@
+pub mod ExplainedParts
+pub mod IsVerdict
+pub mod PartsWritten
+pub mod WithoutRequest

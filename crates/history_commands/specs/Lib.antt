@@ -1,0 +1,3 @@
+pub mod Explaining
+pub mod Showing
+pub mod Verdicts

@@ -1,0 +1,47 @@
+-- The verdict of a check of a history.
+use Rattle.std.specs.Prelude.{◌≡◌, ℕ, ◌+◌, ◌<◌, List, [], ◌∷◌, ◌++◌, length, take, Result, Ok, Err, codes, decimal}
+use Rattle.lock_rules.specs.Entries.{Entry}
+use Rattle.lock_rules.specs.Legal.{IsLegal}
+use Rattle.lock_trace.specs.ReadHistories.{history_of, TellsOfHistory}
+use Rattle.history_commands.specs.declared.checking.Verdict.{Verdict}
+use Rattle.history_commands.specs.declared.checking.Verdict.TheVariants as verdict
+use Rattle.replay_commands.specs.declared.tool_fault.ToolFault.{ToolFault}
+use Rattle.replay_commands.specs.declared.tool_fault.ToolFault.TheVariants as tool
+
+-- `place` is the first wrong entry: the prefix up to and including it isn't legal, and every shorter prefix is
+pub record IsFirstWrong (history : List Entry) (place : ℕ) : Type 0 where
+  pub within : place < length history
+  pub wrong : ¬ IsLegal (take (place + 1) history)
+  pub least : (before : ℕ) → before < place → IsLegal (take (before + 1) history)
+
+-- the verdict is right: the history is legal and has `count` entries, or `place` is its first wrong entry
+abbrev pub IsVerdict : List Entry → Verdict → Type 0
+IsVerdict history (verdict.Legal count) = (count ≡ length history) × IsLegal history
+IsVerdict history (verdict.Illegal place) = IsFirstWrong history place
+
+-- the number of calls that a check serves: all, or those up to and including the first wrong entry
+abbrev pub served_for : Verdict → ℕ
+served_for (verdict.Legal count) = count
+served_for (verdict.Illegal place) = place + 1
+
+-- the bytes are a history for `n` sessions
+abbrev pub IsHistory : ℕ → List ℕ → Type 0
+IsHistory n bytes = (history : List Entry) × (history_of n bytes ≡ Ok history)
+
+-- the result of a check of these bytes for `n` sessions
+abbrev pub Checks : ℕ → List ℕ → Result Verdict ToolFault → Type 0
+Checks n bytes (Ok found) = (history : List Entry) × ((history_of n bytes ≡ Ok history) × IsVerdict history found)
+Checks n bytes (Err (tool.Trace fault)) = TellsOfHistory n bytes fault
+Checks n bytes (Err tool.NoMemory) = IsHistory n bytes
+Checks n bytes (Err _) = ⊥
+
+-- a fault that is possible in a check: `Trace` or `NoMemory`, since a check neither writes nor starts threads
+abbrev pub IsFaultOfCheck : ToolFault → Type 0
+IsFaultOfCheck (tool.Trace fault) = Unit {0}
+IsFaultOfCheck tool.NoMemory = Unit {0}
+IsFaultOfCheck _ = ⊥
+
+-- the line that is printed for a verdict
+abbrev pub text_of_verdict : Verdict → List ℕ
+text_of_verdict (verdict.Legal count) = codes "legal " ++ decimal count ++ 10 ∷ []
+text_of_verdict (verdict.Illegal place) = codes "illegal " ++ decimal place ++ 10 ∷ []

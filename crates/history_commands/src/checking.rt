@@ -1,0 +1,118 @@
+//! The command `check`: compares each reply of a history with the reply of a fresh lock table.
+
+ghost use Rattle.std.specs.Prelude.{◌≡◌, ℕ, ◌+◌, ◌<◌, ◌≤◌, ◌↔◌, true, List, [], Some, length, take, All, IfOk, IfErr, IfSome, IfNone, string_bytes};
+ghost use Rattle.lock_rules.specs.declared.calls.TheConstants.{MAX_SESSIONS};
+ghost use Rattle.lock_rules.specs.Legal.{IsLegal};
+ghost use Rattle.lock_trace.specs.Entries.{IsEntry};
+ghost use Rattle.history_commands.specs.Verdicts.{Checks, IsFaultOfCheck, IsFirstWrong, IsVerdict, served_for, text_of_verdict};
+
+use replay_commands::ToolFault;
+use lock_desk::{Book, Entry, NoMemory, Reply};
+use lock_trace::read_history;
+use std::alloc::{AllocError, Global};
+use std::io::Read;
+
+/// The result of a check of a history.
+#[derive(Clone, Copy, Debug, Drop, PartialEq, Eq)]
+pub enum Verdict {
+    /// Every reply equals the lock table's. Holds the number of entries.
+    Legal(u64),
+    /// Some reply differs from the lock table's. Holds the first such place, counted from 0.
+    Illegal(u64),
+}
+
+/// Whether the two replies are equal, with their values.
+pub(crate) fn is_same(served: Reply, recorded: Reply) -> bool
+    ensures { (result ≡ true) ↔ (served ≡ recorded) }
+{
+    served == recorded
+}
+
+/// Serves the calls of `entries[from..upto]` in order, on a book that has served those before, and stops at the first entry whose
+/// recorded reply differs from the book's, whose place it returns. Fails if the book finds no memory for a call.
+pub(crate) fn first_wrong(
+    book: &mut Book,
+    entries: &[Entry],
+    from: usize,
+    upto: usize,
+) -> Result<Option<u64>, NoMemory>
+    requires within { All (IsEntry book.old.sessions) entries.now }
+    requires order { from ≤ upto }
+    requires few { upto ≤ length entries.now }
+    requires served { book.old.history ≡ take from entries.now }
+    requires legal { IsLegal (take from entries.now) }
+    ensures sessions { IfOk result (λ _. book.new.sessions ≡ book.old.sessions) }
+    ensures wrong { IfOk result (λ found. IfSome found (IsFirstWrong entries.now)) }
+    ensures served_wrong { IfOk result (λ found. IfSome found (λ place. length book.new.history ≡ place + 1)) }
+    ensures legal { IfOk result (λ found. IfNone found (IsLegal (take upto entries.now))) }
+    ensures served { IfOk result (λ found. IfNone found (book.new.history ≡ take upto entries.now)) }
+{
+    for place in from..upto {
+        let entry = &entries[place];
+        let reply = book.serve(entry.session, entry.call)?;
+        if !is_same(reply, entry.reply) {
+            return Ok(Some(place as u64));
+        }
+    }
+    Ok(None)
+}
+
+/// Serves the calls of the entries in order and stops at the first entry whose recorded reply differs from the book's.
+/// Fails if the book finds no memory for a call.
+fn judge(book: &mut Book, entries: &[Entry]) -> Result<Verdict, NoMemory>
+    requires empty { book.old.history ≡ [] }
+    requires within { All (IsEntry book.old.sessions) entries.now }
+    ensures verdict { IfOk result (λ verdict. IsVerdict entries.now verdict) }
+    ensures served { IfOk result (λ verdict. length book.new.history ≡ served_for verdict) }
+{
+    match first_wrong(book, entries, 0, entries.len())? {
+        Some(place) => Ok(Verdict::Illegal(place)),
+        None => Ok(Verdict::Legal(entries.len() as u64)),
+    }
+}
+
+/// Returns the verdict of a fresh lock table on the entries. Fails if the lock table finds no memory.
+fn verdict_on(alloc: Global, entries: &[Entry], sessions: u16) -> Result<Verdict, NoMemory>
+    requires some { 0 < sessions }
+    requires few { sessions ≤ MAX_SESSIONS }
+    requires within { All (IsEntry sessions) entries.now }
+    ensures { IfOk result (λ verdict. IsVerdict entries.now verdict) }
+{
+    let mut book = Book::new(alloc, sessions)?;
+    judge(&mut book, entries)
+}
+
+/// Reads the whole text of a history of sessions 1 to `sessions`, at most `MAX_SESSIONS`, and serves its calls in order
+/// on one lock table. The history is legal if every reply equals the lock table's, with its value. The check stops at
+/// the first reply that differs.
+///
+/// All rows are read before any reply is compared. The fault `Trace` names the first faulty row and the first test that
+/// the row fails. The fault `NoMemory` means that the lock table found no memory. No other fault is returned.
+pub fn check<R: Read + Drop>(alloc: Global, input: R, sessions: u16) -> Result<Verdict, ToolFault>
+    requires some { 0 < sessions }
+    requires few { sessions ≤ MAX_SESSIONS }
+    // holds for every reader
+    ensures faults { IfErr result (λ fault. IsFaultOfCheck fault) }
+
+    // holds for a reader whose bytes are known
+    ensures checks { (bytes : List ℕ) → R.remaining input ≡ Some bytes → Checks sessions bytes result }
+{
+    let entries = match read_history(alloc, input, sessions) {
+        Ok(entries) => entries,
+        Err(fault) => return Err(ToolFault::Trace(fault)),
+    };
+    match verdict_on(alloc, &entries, sessions) {
+        Ok(verdict) => Ok(verdict),
+        Err(_) => Err(ToolFault::NoMemory),
+    }
+}
+
+/// Returns the line that the program prints for a verdict. Fails if memory is refused.
+pub fn verdict_line(alloc: Global, verdict: Verdict) -> Result<String, AllocError>
+    ensures { IfOk result (λ line. string_bytes line ≡ text_of_verdict verdict) }
+{
+    match verdict {
+        Verdict::Legal(entries) => format!(in alloc; "legal {entries}\n"),
+        Verdict::Illegal(place) => format!(in alloc; "illegal {place}\n"),
+    }
+}

@@ -1,0 +1,368 @@
+//! The command `explain`: what the calls of a history did and why, as text.
+
+ghost use Rattle.std.specs.Prelude.{◌≡◌, ◌≢◌, ℕ, ◌+◌, ◌<◌, ◌≤◌, ◌↔◌, ◌++◌, true, false, List, [], ◌∷◌, None, Some, length, take, All, IfOk, IfErr, IfSome, IfNone, OnOk};
+ghost use Rattle.std.specs.Io.KnownBytes.{Keeps};
+ghost use Rattle.lock_rules.specs.declared.calls.TheConstants.{MAX_SESSIONS};
+ghost use Rattle.lock_rules.specs.Ended.{ended_waits};
+ghost use Rattle.lock_rules.specs.Legal.{IsLegal, state_of};
+ghost use Rattle.lock_rules.specs.Step.{step};
+ghost use Rattle.lock_trace.specs.Entries.{IsEntry};
+ghost use Rattle.history_commands.specs.Explaining.{AreAccounts, Explains, HasExplained, HasExplainedPart, HasPlace, IsAccount, IsAccountIfEventful, IsTextExplained, account_in, is_entry_eventful};
+ghost use Rattle.history_commands.specs.Verdicts.{IsFirstWrong, IsVerdict, text_of_verdict};
+
+use command_line::Form;
+use crate::checking::{Verdict, first_wrong, is_same, verdict_line};
+use crate::show_fault::ShowFault;
+use replay_commands::write_text;
+use explain_report::{explanation_dot, explanation_rows, explanation_text};
+use lock_desk::{Book, Entry, NoMemory};
+use lock_explain::{Explanation, is_eventful};
+use lock_trace::{piece_text, read_history};
+use std::alloc::Global;
+use std::io::{Read, Write};
+
+/// The text that `explain` writes of a history, and the verdict on the history.
+#[derive(Drop)]
+struct Report {
+    /// Whether the history is legal.
+    verdict: Verdict,
+    /// The accounts of its calls, or the line of the verdict.
+    text: Vec<u8>,
+}
+
+/// The account of an entry with this explanation at a place. Fails if memory is refused.
+fn account_text(
+    alloc: Global,
+    place: u64,
+    entry: &Entry,
+    explanation: &Explanation,
+    form: Form,
+) -> Result<Vec<u8>, NoMemory>
+    ensures { IfOk result (λ text. text.items ≡ account_in form place entry.now explanation.now) }
+{
+    if form == Form::Graph {
+        let graph = explanation_dot(alloc, place, explanation)?;
+        return Ok(graph.into_bytes());
+    }
+    if form == Form::Rows {
+        let rows = explanation_rows(alloc, place, entry.session, explanation)?;
+        return Ok(rows.into_bytes());
+    }
+    let mut text = piece_text(alloc, place, &[*entry])?;
+    let lines = explanation_text(alloc, explanation)?;
+    text.extend_from_slice(lines.as_bytes())?;
+    Ok(text)
+}
+
+/// The account of the entry that `after` has served and `before` hasn't, which is at this place. Fails if memory is refused.
+fn account(
+    alloc: Global,
+    before: &Book,
+    entry: &Entry,
+    after: &Book,
+    place: u64,
+    form: Form,
+) -> Result<Vec<u8>, NoMemory>
+    requires sessions { after.now.sessions ≡ before.now.sessions }
+    requires served { after.now.history ≡ before.now.history ++ entry.now ∷ [] }
+    requires place { place ≡ length before.now.history }
+    ensures { IfOk result (λ text. IsAccount form before.now.sessions before.now.history entry.now text.items) }
+{
+    let explanation = lock_explain::explain(alloc, before, entry, after)?;
+    account_text(alloc, place, entry, &explanation, form)
+}
+
+/// Appends the account of `entry` to `text` if the call is eventful. `before` ends just ahead of the entry, `after` with it.
+/// Fails if memory is refused.
+fn add_account_if_eventful(
+    alloc: Global,
+    before: &Book,
+    entry: &Entry,
+    after: &Book,
+    place: u64,
+    form: Form,
+    text: &mut Vec<u8>,
+) -> Result<(), NoMemory>
+    requires sessions { after.now.sessions ≡ before.now.sessions }
+    requires served { after.now.history ≡ before.now.history ++ entry.now ∷ [] }
+    requires ended { after.now.ended ≡ ended_waits before.now.sessions entry.now.session (state_of before.now.history) (step (state_of before.now.history) entry.now.session entry.now.call).state }
+    requires place { place ≡ length before.now.history }
+    ensures { OnOk result ((added : List ℕ) × (IsAccountIfEventful (is_entry_eventful before.now.sessions before.now.history entry.now) form before.now.sessions before.now.history entry.now added × (text.new.items ≡ text.old.items ++ added))) }
+{
+    let eventful = is_eventful(entry, after.ended());
+    if !eventful {
+        return Ok(());
+    }
+    let appended = account(alloc, before, entry, after, place, form)?;
+    text.extend_from_slice(&appended)?;
+    Ok(())
+}
+
+/// Serves the call of the entry, and returns whether the book's reply is the recorded one. Fails if the book finds no memory for
+/// the call.
+fn serve_alike(book: &mut Book, entry: &Entry) -> Result<bool, NoMemory>
+    requires some { 1 ≤ entry.now.session }
+    requires within { entry.now.session ≤ book.old.sessions }
+    ensures reply { IfOk result (λ alike. (alike ≡ true) ↔ ((step (state_of book.old.history) entry.now.session entry.now.call).reply ≡ entry.now.reply)) }
+    ensures sessions { IfOk result (λ alike. book.new.sessions ≡ book.old.sessions) }
+    ensures served { IfOk result (λ alike. alike ≡ true → book.new.history ≡ book.old.history ++ entry.now ∷ []) }
+    ensures ended { IfOk result (λ alike. book.new.ended ≡ ended_waits book.old.sessions entry.now.session (state_of book.old.history) (step (state_of book.old.history) entry.now.session entry.now.call).state) }
+{
+    let reply = book.serve(entry.session, entry.call)?;
+    Ok(is_same(reply, entry.reply))
+}
+
+/// The line of the verdict on a history whose first wrong entry is at the place `first`. Fails if memory is refused.
+fn illegal_report(alloc: Global, first: u64) -> Result<Report, NoMemory>
+    ensures verdict { IfOk result (λ report. report.verdict ≡ Verdict.Illegal first) }
+    ensures text { IfOk result (λ report. report.text.items ≡ text_of_verdict (Verdict.Illegal first)) }
+{
+    let verdict = Verdict::Illegal(first);
+    let line = verdict_line(alloc, verdict)?;
+    Ok(Report {
+        verdict,
+        text: line.into_bytes(),
+    })
+}
+
+/// A fresh lock table that keeps no history in memory. Fails if memory is refused.
+fn fresh_book(alloc: Global, sessions: u16) -> Result<Book, NoMemory>
+    requires some { 0 < sessions }
+    requires few { sessions ≤ MAX_SESSIONS }
+    ensures sessions { IfOk result (λ book. book.sessions ≡ sessions) }
+    ensures empty { IfOk result (λ book. book.history ≡ []) }
+{
+    let mut book = Book::new(alloc, sessions)?;
+    book.keep_at_most(0);
+    Ok(book)
+}
+
+/// Serves the entries on the books, which have served none, makes the account of the entry at `place` on the way, and goes on to
+/// the first reply that isn't the books'. Fails if memory is refused.
+fn report_on_call(
+    alloc: Global,
+    before: &mut Book,
+    after: &mut Book,
+    entries: &[Entry],
+    place: usize,
+    form: Form,
+) -> Result<Report, NoMemory>
+    requires within { All (IsEntry before.old.sessions) entries.now }
+    requires sessions { after.old.sessions ≡ before.old.sessions }
+    requires behind { before.old.history ≡ [] }
+    requires ahead { after.old.history ≡ [] }
+    requires place { place < length entries.now }
+    ensures verdict { IfOk result (λ report. IsVerdict entries.now report.verdict) }
+    ensures text { IfOk result (λ report. IsTextExplained form before.old.sessions (Some place) entries.now report.verdict report.text.items) }
+{
+    let early = first_wrong(before, entries, 0, place)?;
+    if let Some(first) = early {
+        return illegal_report(alloc, first);
+    }
+    let here = first_wrong(after, entries, 0, place + 1)?;
+    if let Some(first) = here {
+        return illegal_report(alloc, first);
+    }
+    let text = account(alloc, before, &entries[place], after, place as u64, form)?;
+    let late = first_wrong(after, entries, place + 1, entries.len())?;
+    if let Some(first) = late {
+        return illegal_report(alloc, first);
+    }
+    Ok(Report {
+        verdict: Verdict::Legal(entries.len() as u64),
+        text,
+    })
+}
+
+/// Serves the entry at `place` on both books, which have served those before it, and adds its account to the text if the call is
+/// eventful. Returns whether the recorded reply is the books'; if it isn't, the history is illegal there, and the books serve no
+/// more. Fails if memory is refused.
+fn add_next_account(
+    alloc: Global,
+    before: &mut Book,
+    after: &mut Book,
+    entries: &[Entry],
+    place: usize,
+    form: Form,
+    text: &mut Vec<u8>,
+) -> Result<bool, NoMemory>
+    requires within { All (IsEntry before.old.sessions) entries.now }
+    requires there { place < length entries.now }
+    requires sessions { after.old.sessions ≡ before.old.sessions }
+    requires behind { before.old.history ≡ take place entries.now }
+    requires ahead { after.old.history ≡ take place entries.now }
+    requires legal { IsLegal (take place entries.now) }
+    requires accounts { AreAccounts form before.old.sessions [] (take place entries.now) text.old.items }
+    ensures wrong { IfOk result (λ alike. alike ≡ false → IsFirstWrong entries.now place) }
+    ensures sessions { IfOk result (λ alike. alike ≡ true → before.new.sessions ≡ before.old.sessions) }
+    ensures others { IfOk result (λ alike. alike ≡ true → after.new.sessions ≡ before.old.sessions) }
+    ensures behind { IfOk result (λ alike. alike ≡ true → before.new.history ≡ take (place + 1) entries.now) }
+    ensures ahead { IfOk result (λ alike. alike ≡ true → after.new.history ≡ take (place + 1) entries.now) }
+    ensures legal { IfOk result (λ alike. alike ≡ true → IsLegal (take (place + 1) entries.now)) }
+    ensures accounts { IfOk result (λ alike. alike ≡ true → AreAccounts form before.old.sessions [] (take (place + 1) entries.now) text.new.items) }
+{
+    let entry = &entries[place];
+    let alike = serve_alike(after, entry)?;
+    if !alike {
+        return Ok(false);
+    }
+    add_account_if_eventful(alloc, before, entry, after, place as u64, form, text)?;
+    serve_alike(before, entry)?;
+    Ok(true)
+}
+
+/// Replays the entries on two fresh books, `before` one entry behind `after`, and appends the accounts of the eventful calls to
+/// `text`. Returns the place of the first wrong reply, where it stops. Fails if memory is refused.
+fn add_all_accounts(
+    alloc: Global,
+    before: &mut Book,
+    after: &mut Book,
+    entries: &[Entry],
+    form: Form,
+    text: &mut Vec<u8>,
+) -> Result<Option<u64>, NoMemory>
+    requires within { All (IsEntry before.old.sessions) entries.now }
+    requires sessions { after.old.sessions ≡ before.old.sessions }
+    requires behind { before.old.history ≡ [] }
+    requires ahead { after.old.history ≡ [] }
+    requires empty { text.old.items ≡ [] }
+    ensures wrong { IfOk result (λ found. IfSome found (IsFirstWrong entries.now)) }
+    ensures legal { IfOk result (λ found. IfNone found (IsLegal entries.now)) }
+    ensures accounts { IfOk result (λ found. IfNone found (AreAccounts form before.old.sessions [] entries.now text.new.items)) }
+{
+    for place in 0..entries.len() {
+        let alike = add_next_account(alloc, before, after, entries, place, form, text)?;
+        if !alike {
+            return Ok(Some(place as u64));
+        }
+    }
+    Ok(None)
+}
+
+/// The report of all eventful calls, made on the books, which have served none. Fails if memory is refused.
+fn report_on_all(
+    alloc: Global,
+    before: &mut Book,
+    after: &mut Book,
+    entries: &[Entry],
+    form: Form,
+) -> Result<Report, NoMemory>
+    requires within { All (IsEntry before.old.sessions) entries.now }
+    requires sessions { after.old.sessions ≡ before.old.sessions }
+    requires behind { before.old.history ≡ [] }
+    requires ahead { after.old.history ≡ [] }
+    ensures verdict { IfOk result (λ report. IsVerdict entries.now report.verdict) }
+    ensures text { IfOk result (λ report. IsTextExplained form before.old.sessions None entries.now report.verdict report.text.items) }
+{
+    let mut text = Vec::new(alloc);
+    let wrong = add_all_accounts(alloc, before, after, entries, form, &mut text)?;
+    if let Some(first) = wrong {
+        return illegal_report(alloc, first);
+    }
+    Ok(Report {
+        verdict: Verdict::Legal(entries.len() as u64),
+        text,
+    })
+}
+
+/// The report of a history that has the place, made on the book, which has served none, and on a second lock table that goes
+/// ahead of it. Fails if memory is refused.
+fn report_on_book(
+    alloc: Global,
+    before: &mut Book,
+    entries: &[Entry],
+    place: Option<u32>,
+    form: Form,
+) -> Result<Report, NoMemory>
+    requires within { All (IsEntry before.old.sessions) entries.now }
+    requires behind { before.old.history ≡ [] }
+    requires place { HasPlace place entries.now }
+    ensures verdict { IfOk result (λ report. IsVerdict entries.now report.verdict) }
+    ensures text { IfOk result (λ report. IsTextExplained form before.old.sessions place entries.now report.verdict report.text.items) }
+{
+    let sessions = before.sessions();
+    let mut after = fresh_book(alloc, sessions)?;
+    let Some(place) = place else {
+        return report_on_all(alloc, before, &mut after, entries, form);
+    };
+    report_on_call(alloc, before, &mut after, entries, place as usize, form)
+}
+
+/// The report of a history that has the place. Fails if memory is refused.
+fn report_of(
+    alloc: Global,
+    entries: &[Entry],
+    sessions: u16,
+    place: Option<u32>,
+    form: Form,
+) -> Result<Report, NoMemory>
+    requires some { 0 < sessions }
+    requires few { sessions ≤ MAX_SESSIONS }
+    requires within { All (IsEntry sessions) entries.now }
+    requires place { HasPlace place entries.now }
+    ensures verdict { IfOk result (λ report. IsVerdict entries.now report.verdict) }
+    ensures text { IfOk result (λ report. IsTextExplained form sessions place entries.now report.verdict report.text.items) }
+{
+    let mut before = fresh_book(alloc, sessions)?;
+    report_on_book(alloc, &mut before, entries, place, form)
+}
+
+/// The place that is asked for, if the history has no entry there, and else `None`.
+fn place_missed(place: Option<u32>, entries: &[Entry]) -> Option<u64>
+    ensures asked { IfSome result (λ missed. place ≡ Some missed) }
+    ensures behind { IfSome result (λ missed. length entries.now ≤ missed) }
+    ensures there { IfNone result (HasPlace place entries.now) }
+{
+    match place {
+        Some(place) if place as usize >= entries.len() => Some(place as u64),
+        _ => None,
+    }
+}
+
+/// Reads the whole text of a history of sessions 1 to `sessions`, at most `MAX_SESSIONS`, checks it as [`check`] does, and writes
+/// what the call at index `place` did and why: why it was refused, for whom its request waits and through what, the cycles that
+/// it closed, who became a victim, and whose requests it granted. With `None` it writes this of each call that was refused,
+/// whose request waited, or that ended the wait of another session, one after another. If the history isn't legal, the line of
+/// its verdict is written instead. Returns the verdict.
+///
+/// The whole text is made before its first byte is written. After every fault except `Device` nothing was written; after
+/// `Device` the beginning of the text may have been written, and nothing else. The fault `Trace` names the first faulty row and
+/// the first test that the row fails; `NoPlace` means that the history has no entry at `place`. The formats are this project's
+/// own; see docs/FORMATS.md.
+#[tactic(auto, using(crate::proofs::ExplainedParts::explain_part, crate::proofs::ExplainedParts::explain_part_known))]
+pub fn explain<R: Read + Drop, W: Write>(
+    alloc: Global,
+    input: R,
+    output: &mut W,
+    sessions: u16,
+    place: Option<u32>,
+    form: Form,
+) -> Result<Verdict, ShowFault>
+    requires some { 0 < sessions }
+    requires few { sessions ≤ MAX_SESSIONS }
+    // hold for every reader
+    ensures kept { IfErr result (λ fault. fault ≢ ShowFault.Device → Keeps (W.contents output.old) (W.contents output.new)) }
+    ensures part { IfErr result (λ fault. fault ≡ ShowFault.Device → HasExplainedPart form sessions place (W.contents output.old) (W.contents output.new)) }
+    ensures explained { IfOk result (λ verdict. HasExplained form sessions place verdict (W.contents output.old) (W.contents output.new)) }
+
+    // holds for a reader whose bytes are known
+    ensures explains { (bytes : List ℕ) → R.remaining input ≡ Some bytes → Explains form sessions place bytes (W.contents output.old) (W.contents output.new) result }
+{
+    let entries = match read_history(alloc, input, sessions) {
+        Ok(entries) => entries,
+        Err(fault) => return Err(ShowFault::Trace(fault)),
+    };
+    if let Some(missed) = place_missed(place, &entries) {
+        return Err(ShowFault::NoPlace {
+            place: missed,
+            entries: entries.len() as u64,
+        });
+    }
+    let Ok(report) = report_of(alloc, &entries, sessions, place, form) else {
+        return Err(ShowFault::NoMemory);
+    };
+    if write_text(output, &report.text).is_err() {
+        return Err(ShowFault::Device);
+    }
+    Ok(report.verdict)
+}

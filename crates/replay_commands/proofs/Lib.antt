@@ -1,0 +1,4 @@
+pub mod PartsWritten
+pub mod ServedRows
+pub mod UnderWay
+pub mod Written

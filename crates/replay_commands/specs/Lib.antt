@@ -1,0 +1,4 @@
+pub mod Faults
+pub mod Pieces
+pub mod Replays
+pub mod Written

@@ -1,0 +1,9 @@
+pub mod AreRows
+pub mod CallsOfRows
+pub mod IsPerformed
+pub mod IsRunOf
+pub mod PartsWritten
+pub mod Streamed
+pub mod StreamedRun
+pub mod Turns
+pub mod WrittenUpTo

@@ -1,0 +1,248 @@
+//! Takes the history of a run while its threads are at work, and writes it.
+
+ghost use Rattle.std.specs.Prelude.{◌≡◌, ℕ, [], List, Option, Ok, IfOk, IfErr, All};
+ghost use Rattle.lock_office.specs.Sessions.{IsSessionOf};
+ghost use Rattle.run_commands.specs.Streams.{IsFaultOfStream, IsWrittenUpTo, bare};
+ghost use Rattle.run_commands.specs.Workers.{IsNewSession, IsPerformed, fault_of_stop, numbers_of};
+
+use crate::call_gate::Gate;
+use crate::pacing::{Pace, Progress};
+use replay_commands::write_piece;
+use crate::threads::{join_all, start_all};
+use replay_commands::ToolFault;
+use crate::workers::Stop;
+use lock_office::{Office, Session};
+use lock_trace::TraceRow;
+use std::alloc::Global;
+use std::io::Write;
+use std::sync::Wait;
+use std::thread;
+use std::thread::{Scope, Threads};
+
+/// What a run leaves whose history was written in pieces while it went on.
+#[derive(Drop)]
+pub(crate) struct Streamed<'o, W> {
+    /// The output.
+    pub output: &'o mut W,
+    /// The session that took the history.
+    pub taker: Session,
+    /// The sessions that performed the rows, and how many entries of the history are written.
+    pub done: Result<(Vec<Session>, u64), ToolFault>,
+}
+
+/// Takes the entries that the lock table keeps, by one try, and writes their text behind that of the first `next` entries.
+/// Returns how many entries are written then. Fails with `NoMemory`, with nothing written, if memory is refused for the text
+/// or the entries don't follow the first `next` ones.
+#[tactic(auto, using(crate::proofs::WrittenUpTo::front_of, crate::proofs::WrittenUpTo::piece_written, crate::proofs::WrittenUpTo::piece_failed, crate::proofs::WrittenUpTo::bare_taken))]
+fn write_taken<W: Write>(
+    alloc: Global,
+    office: &Office,
+    taker: &mut Session,
+    next: u64,
+    output: &mut W,
+) -> Result<u64, ToolFault>
+    requires { IsSessionOf office.now taker.old }
+    ensures ours { IsSessionOf office.now taker.new }
+    ensures same { bare taker.new ≡ bare taker.old }
+    ensures written { IfOk result (λ end. (start : Option (List ℕ)) → IsWrittenUpTo next taker.old.front start (W.contents output.old)
+        → IsWrittenUpTo end taker.new.front start (W.contents output.new)) }
+    ensures fault { IfErr result (λ fault. (start : Option (List ℕ)) → IsWrittenUpTo next taker.old.front start (W.contents output.old)
+        → IsFaultOfStream start (W.contents output.new) fault) }
+{
+    let Some(piece) = office.take_history(alloc, taker) else {
+        return Ok(next);
+    };
+    if piece.first != next {
+        return Err(ToolFault::NoMemory);
+    }
+    let Some(end) = next.checked_add(piece.lines.len() as u64) else {
+        return Err(ToolFault::NoMemory);
+    };
+    match write_piece(alloc, output, next, &piece.lines) {
+        Ok(()) => Ok(end),
+        Err(fault) => Err(fault),
+    }
+}
+
+/// Takes and writes what is due: a piece of the history, or at last all of it. Returns how many entries are written then. If
+/// that fails, no more calls are let in.
+fn write_due<W: Write>(
+    alloc: Global,
+    office: &Office,
+    taker: &mut Session,
+    progress: &Progress,
+    is_last: bool,
+    next: u64,
+    output: &mut W,
+) -> Result<u64, ToolFault>
+    requires { IsSessionOf office.now taker.old }
+    ensures ours { IsSessionOf office.now taker.new }
+    ensures same { bare taker.new ≡ bare taker.old }
+    ensures written { IfOk result (λ end. (start : Option (List ℕ)) → IsWrittenUpTo next taker.old.front start (W.contents output.old)
+        → IsWrittenUpTo end taker.new.front start (W.contents output.new)) }
+    ensures fault { IfErr result (λ fault. (start : Option (List ℕ)) → IsWrittenUpTo next taker.old.front start (W.contents output.old)
+        → IsFaultOfStream start (W.contents output.new) fault) }
+{
+    if !is_last && !progress.is_due(next) {
+        return Ok(next);
+    }
+    match write_taken(alloc, office, taker, next, output) {
+        Ok(end) => {
+            progress.note_written(end);
+            Ok(end)
+        }
+        Err(fault) => {
+            progress.stop();
+            Err(fault)
+        }
+    }
+}
+
+/// Takes the history and writes it in pieces until no thread of the run is at work. Returns how many entries are written.
+fn write_while_at_work<R: Wait, W: Write>(
+    rt: &R,
+    alloc: Global,
+    office: &Office,
+    taker: &mut Session,
+    progress: &Progress,
+    output: &mut W,
+) -> Result<u64, ToolFault>
+    requires ours { IsSessionOf office.now taker.old }
+    requires new { taker.old.front ≡ [] }
+    ensures ours { IsSessionOf office.now taker.new }
+    ensures same { bare taker.new ≡ bare taker.old }
+    ensures written { IfOk result (λ end. IsWrittenUpTo end taker.new.front (W.contents output.old) (W.contents output.new)) }
+    ensures fault { IfErr result (λ fault. IsFaultOfStream (W.contents output.old) (W.contents output.new) fault) }
+{
+    let mut next = 0;
+    for _ in rt.forever() {
+        // the calls of threads that have ended are served, so what is taken after this look is the last piece
+        let is_last = progress.is_over();
+        next = write_due(alloc, office, taker, progress, is_last, next, output)?;
+        if is_last {
+            return Ok(next);
+        }
+        thread::yield_now();
+    }
+    unreachable!()
+}
+
+/// Puts together how the writing and the threads ended: the sessions of the threads, with the number of entries that are
+/// written, or the fault of the writing, or else that of the threads.
+fn combine_results(
+    written: Result<u64, ToolFault>,
+    joined: Result<Vec<Session>, Stop>,
+) -> Result<(Vec<Session>, u64), ToolFault>
+    ensures done { IfOk result (λ done. (joined ≡ Ok done.0) × (written ≡ Ok done.1)) }
+    ensures writing { IfErr result (λ fault. IfErr written (λ own. own ≡ fault)) }
+    ensures thread { IfErr result (λ fault. IfOk written (λ _. IfErr joined (λ stop. fault ≡ fault_of_stop stop) × IfOk joined (λ _. ⊥))) }
+{
+    let next = match written {
+        Ok(next) => next,
+        Err(fault) => return Err(fault),
+    };
+    match joined {
+        Ok(done) => Ok((done, next)),
+        Err(stop) => Err(stop.fault()),
+    }
+}
+
+/// Performs the sessions' rows in threads of this scope, and takes and writes the history until all of them have ended. If
+/// writing fails, the threads stop before their next call. A fault of the writing is reported before that of a thread.
+fn start_and_stream<'s, 'o, E, R: Threads + Wait, W: Write, G: Gate>(
+    scope: &Scope<'s, E>,
+    rt: &R,
+    alloc: Global,
+    office: &'s Office,
+    sessions: Vec<Session>,
+    taker: Session,
+    rows: &'s [TraceRow],
+    turns: u64,
+    pace: &'s Pace<'s, G>,
+    output: &'o mut W,
+) -> Streamed<'o, W>
+    requires sessions { All (IsNewSession office.now) sessions.items }
+    requires taker { IsSessionOf office.now taker }
+    requires new { taker.front ≡ [] }
+    ensures output { result.output.ghost_name ≡ output.entry.ghost_name }
+    ensures ours { IsSessionOf office.now result.taker }
+    ensures same { bare result.taker ≡ bare taker }
+    ensures numbers { IfOk result.done (λ done. numbers_of done.0.items ≡ numbers_of sessions.items) }
+    ensures performed { IfOk result.done (λ done. All (IsPerformed office.now rows.now) done.0.items) }
+    ensures written { IfOk result.done (λ done. IsWrittenUpTo done.1 result.taker.front (W.contents output.entry.now) (W.contents result.output.now)) }
+    ensures fault { IfErr result.done (λ fault. IsFaultOfStream (W.contents output.entry.now) (W.contents result.output.now) fault) }
+{
+    let progress = pace.progress;
+    let mut taker = taker;
+    let mut started = Vec::new(alloc);
+    let reason = start_all(
+        scope,
+        office,
+        sessions,
+        rows,
+        turns,
+        pace,
+        &progress.at_work,
+        &mut started,
+    );
+    let written = write_while_at_work(rt, alloc, office, &mut taker, progress, output);
+    let joined = join_all(rt, alloc, started, reason);
+    let done = combine_results(written, joined);
+    Streamed {
+        output,
+        taker,
+        done,
+    }
+}
+
+/// Performs the rows of each session in a thread of its own, and takes the history by the session `taker` and writes it in
+/// pieces meanwhile. Returns once all threads have ended.
+pub(crate) fn stream_in_threads<'o, R: Threads + Wait, W: Write, G: Gate>(
+    rt: &R,
+    alloc: Global,
+    office: &Office,
+    sessions: Vec<Session>,
+    taker: Session,
+    rows: &[TraceRow],
+    turns: u64,
+    gate: &G,
+    output: &'o mut W,
+) -> Streamed<'o, W>
+    requires sessions { All (IsNewSession office.now) sessions.items }
+    requires taker { IsSessionOf office.now taker }
+    requires new { taker.front ≡ [] }
+    ensures output { result.output.ghost_name ≡ output.entry.ghost_name }
+    ensures ours { IsSessionOf office.now result.taker }
+    ensures same { bare result.taker ≡ bare taker }
+    ensures numbers { IfOk result.done (λ done. numbers_of done.0.items ≡ numbers_of sessions.items) }
+    ensures performed { IfOk result.done (λ done. All (IsPerformed office.now rows.now) done.0.items) }
+    ensures written { IfOk result.done (λ done. IsWrittenUpTo done.1 result.taker.front (W.contents output.entry.now) (W.contents result.output.now)) }
+    ensures fault { IfErr result.done (λ fault. IsFaultOfStream (W.contents output.entry.now) (W.contents result.output.now) fault) }
+{
+    let progress = Progress::new();
+    let pace = Pace {
+        gate,
+        progress: &progress,
+    };
+    let pace = &pace;
+    thread::scope(
+        thread::scope_env(),
+        rt,
+        move |scope| -> Streamed<'_, W>
+            requires sessions { All (IsNewSession office.now) sessions.items }
+            requires taker { IsSessionOf office.now taker }
+            requires new { taker.front ≡ [] }
+            ensures output { result.output.ghost_name ≡ output.entry.ghost_name }
+            ensures ours { IsSessionOf office.entry.now result.taker }
+            ensures same { bare result.taker ≡ bare taker }
+            ensures numbers { IfOk result.done (λ done. numbers_of done.0.items ≡ numbers_of sessions.items) }
+            ensures performed { IfOk result.done (λ done. All (IsPerformed office.entry.now rows.entry.now) done.0.items) }
+            ensures written { IfOk result.done (λ done. IsWrittenUpTo done.1 result.taker.front (W.contents output.entry.now) (W.contents result.output.now)) }
+            ensures fault { IfErr result.done (λ fault. IsFaultOfStream (W.contents output.entry.now) (W.contents result.output.now) fault) }
+        {
+            start_and_stream(
+                scope, rt, alloc, office, sessions, taker, rows, turns, pace, output,
+            )
+        },
+    )
+}
