@@ -1,0 +1,3 @@
+pub mod FromLaws
+pub mod Chains
+pub mod Orders

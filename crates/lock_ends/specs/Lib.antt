@@ -1,0 +1,3 @@
+pub mod Chains
+pub mod Ends
+pub mod Examples
