@@ -1,15 +1,15 @@
 -- Whoever waits, waits in the end for a holder that doesn't wait.
-use Rattle.std.proofs.Common.{◌≡◌, ◌≢◌, ℕ, zero, suc, ◌<◌, ◌≤◌, Bool, true, false, cond, not, eqb, ◌&&◌, ◌||◌, ◌⊎◌, inl, inr, List, [], ◌∷◌, ◌++◌, length, map, Option, Some, None, refl, sym, ◌∙◌, ap, arith, subst}
+use Rattle.std.proofs.Common.{◌≡◌, ℕ, zero, suc, ◌<◌, ◌≤◌, Bool, true, false, cond, not, eqb, ◌&&◌, ◌||◌, ◌⊎◌, inl, inr, List, [], ◌∷◌, ◌++◌, length, Option, Some, None, refl, sym, ◌∙◌, ap, arith}
 use Rattle.std.specs.Prelude.{filter, is_some}
 use Rattle.std.proofs.lemmas.Bool.Decides.{nat_tests, Decides-eqb}
-use Rattle.std.proofs.lemmas.Bool.{and_parts, and_from, or_left, or_right, cases_Bool}
+use Rattle.std.proofs.lemmas.Bool.{and_from, or_left, or_right, cases_Bool}
 use Rattle.waits_for.specs.Walks.{IsWalk, Reaches}
 use Rattle.waits_for.proofs.Walks.{reaches-step, reaches-trans}
 use Rattle.lock_tree.specs.Paths.{same_path}
-use Rattle.lock_rules.specs.State.{Claim, Table, State, held_mode, request_of, is_waiting, is_open}
+use Rattle.lock_rules.specs.State.{Claim, Table, State, held_mode, request_of}
 use Rattle.lock_rules.specs.Queue.{queue, conversions, fresh_requests}
 use Rattle.lock_rules.specs.Waits.{conflicts, stands_before, keeps_waiting, waits_for, waiting_sessions}
-use Rattle.lock_rules.specs.Laws.{WaitsFor, StandsBefore, HoldsInConflict, AreOwnersOpen}
+use Rattle.lock_rules.specs.Laws.{StandsBefore, HoldsInConflict, AreOwnersOpen}
 use Rattle.lock_rules.specs.Lawful.{IsLawfulState}
 use Rattle.lock_rules.specs.Sound.{IsOnce, IsOrdered}
 use Rattle.lock_rules.proofs.Lists.{same_path-refl, eqb-refl, request_of-session, In}
@@ -17,7 +17,6 @@ use Rattle.lock_rules.proofs.Walks.{has}
 use Rattle.lock_rules.proofs.Alters.{true≢false, NoCircle, waits_for-waits}
 use Rattle.lock_rules.proofs.Sound.{UnfitAt, head-request, unfit-some, In-queue}
 use Rattle.lock_rules.proofs.Waiting.{request_of-filter, request_of-front, request_of-rest, waits-tell}
-use Rattle.lock_rules.proofs.Steps.{is-none}
 use Rattle.lock_ends.specs.Chains.{last_of, WaitsInTheEndFor, DoWaitersWaitForOthers, DoWaitsLeadToHolders}
 use Rattle.lock_ends.proofs.FromLaws.{listed-ordered, one-once}
 

@@ -1,3 +1,7 @@
 pub mod FromLaws
 pub mod Chains
 pub mod Orders
+pub mod Bounds
+pub mod Circles
+pub mod WaitsEnd
+pub mod Worked

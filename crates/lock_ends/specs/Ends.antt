@@ -1,7 +1,6 @@
 -- Transactions that end one after another, while nobody makes another call.
 use Rattle.std.specs.Prelude.{◌≡◌, ℕ, zero, suc, ◌+◌, ◌<◌, if◌then◌else◌, true, false, None, List, [], ◌∷◌, ◌++◌, length}
 use Rattle.lock_rules.specs.State.{State, is_open, is_waiting, with_begun, with_table}
-use Rattle.lock_rules.specs.Waits.{after_victim}
 use Rattle.lock_rules.specs.Step.{after_end}
 
 -- the state after the session's transaction ends: its locks and its request are removed, and their resources promoted
@@ -42,8 +41,3 @@ DoEndsCount st = (n : ℕ) (ss : List ℕ) (last : State) → AreOpenBelow n st 
 abbrev pub DoEndsGoOn : State → Type 0
 DoEndsGoOn st = (n : ℕ) (ss : List ℕ) (mid : State) → AreOpenBelow n st → AreEnds ss st mid →
     (more : List ℕ) × (last : State) × AreEnds (ss ++ more) st last × CanNobodyEnd last
-
--- each victim is chosen in a state from which waits would not end by themselves; from the state after the last they do
-abbrev pub AreVictimsNeeded : List ℕ → State → Type 0
-AreVictimsNeeded [] st = DoWaitsEnd st
-AreVictimsNeeded (v ∷ vs) st = (DoWaitsEnd st → ⊥) × AreVictimsNeeded vs (after_victim v st)

@@ -1,10 +1,13 @@
 -- Histories worked by hand, each with a walk that leads from a waiting session to a holder that doesn't wait.
-use Rattle.std.specs.Prelude.{List, [], ◌∷◌}
+use Rattle.std.specs.Prelude.{◌≡◌, ℕ, List, [], ◌∷◌}
 use Rattle.lock_modes.specs.declared.Mode.TheVariants.{S, U, X}
 use Rattle.lock_rules.specs.declared.calls.Call.TheVariants.{Begin, Lock, Convert}
 use Rattle.lock_rules.specs.declared.calls.Reply.TheVariants.{Began, Granted, Waiting}
 use Rattle.lock_rules.specs.Entries.{Entry}
+use Rattle.lock_rules.specs.State.{State, no_locks}
 use Rattle.lock_rules.specs.Examples.{entry, database}
+use Rattle.lock_ends.specs.Chains.{WaitsInTheEndFor}
+use Rattle.lock_ends.specs.Ends.{AreEnds}
 
 -- Session 2 gets U beside reader 1. Reader 3 comes after it and waits for 2 alone.
 abbrev pub reader_behind_update : List Entry
@@ -33,3 +36,11 @@ conversion_behind_reader =
     ∷ entry 2 (Convert (database 1) X) Waiting
     ∷ entry 3 (Lock (database 1) S) Waiting
     ∷ []
+
+-- s waits in the end for u, by a walk through these others
+abbrev pub WaitsThrough : State → ℕ → List ℕ → ℕ → Type 0
+WaitsThrough st s others u = (w : WaitsInTheEndFor st s u) × (w.others ≡ others)
+
+-- these sessions can end in this order, and then nobody holds a lock or waits
+abbrev pub LeavesNothing : List ℕ → State → Type 0
+LeavesNothing ss st = (last : State) × AreEnds ss st last × (last.table ≡ no_locks)

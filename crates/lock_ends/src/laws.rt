@@ -1,11 +1,20 @@
 //! The laws, each the contract of a function with an empty body.
 
-ghost use Rattle.std.specs.Prelude.{List};
+ghost use Rattle.std.specs.Prelude.{◌≡◌, ◌↔◌, ℕ, ◌<◌, true, false, List, [], ◌∷◌, All};
+ghost use Rattle.lock_modes.specs.declared.Mode.{Mode as ModeValue};
+ghost use Rattle.lock_rules.specs.declared.calls.Call.TheVariants.{Commit, Abort};
 ghost use Rattle.lock_rules.specs.Entries.{Entry as EntryValue};
-ghost use Rattle.lock_rules.specs.State.{State};
-ghost use Rattle.lock_rules.specs.Legal.{state_of};
+ghost use Rattle.lock_rules.specs.State.{State, is_open, is_doomed};
+ghost use Rattle.lock_rules.specs.Waits.{waits_for};
+ghost use Rattle.lock_rules.specs.Step.{step};
+ghost use Rattle.lock_rules.specs.Legal.{IsLegal, state_of};
+ghost use Rattle.lock_rules.specs.Laws.{IsOneRequestEach, DoesNobodyWaitNeedlessly, HasNoCircle, AreVictims};
+ghost use Rattle.lock_rules.specs.Sound.{IsSound, IsNumbered};
 ghost use Rattle.lock_rules.specs.Lawful.{IsLawfulState};
 ghost use Rattle.lock_ends.specs.Chains.{DoWaitersWaitForOthers, DoWaitsLeadToHolders};
+ghost use Rattle.lock_ends.specs.Ends.{ended, CanEnd, AreEnds, AreOpenBelow, DoEndsCount, DoEndsGoOn, DoWaitsEnd};
+ghost use Rattle.lock_ends.specs.Victims.{BeginsToWait, with_waiting, AreVictimsNeeded};
+ghost use Rattle.lock_ends.specs.Examples.{reader_behind_update, update_behind_reader, conversion_behind_reader, WaitsThrough, LeavesNothing};
 
 /// Whoever has a waiting request waits for another session. A walk of such waits leads from it to a session that doesn't
 /// wait, has an open transaction, and holds the resource for which the session before it waits, in a mode that conflicts
@@ -14,4 +23,59 @@ pub fn whoever_waits_waits_in_the_end_for_a_holder()
     ensures others { (st : State) → IsLawfulState st → DoWaitersWaitForOthers st }
     ensures holders { (st : State) → IsLawfulState st → DoWaitsLeadToHolders st }
     ensures history { (history : List EntryValue) → DoWaitsLeadToHolders (state_of history) }
+{}
+
+/// The end of a transaction is an abort, or a commit if the session doesn't wait and isn't doomed: both lead to the same
+/// state. Each end leaves one open transaction less, so an order of ends is no longer than their number. Every order can be
+/// continued until nobody else can end, since any session can end that has a transaction and doesn't wait. After a history
+/// of sessions with numbers below `n`, only such sessions have open transactions.
+pub fn orders_end()
+    ensures abort { (st : State) (session : ℕ) → is_open st session ≡ true → (step st session Abort).state ≡ ended session st }
+    ensures commit { (st : State) (session : ℕ) →
+        CanEnd st session → is_doomed st session ≡ false → (step st session Commit).state ≡ ended session st }
+    ensures count { (st : State) → DoEndsCount st }
+    ensures go_on { (st : State) → DoEndsGoOn st }
+    ensures numbers { (history : List EntryValue) (n : ℕ) → All (λ e. e.session < n) history → AreOpenBelow n (state_of history) }
+{}
+
+/// From the state that a history leads to, waits end: in whatever order sessions that don't wait end their transactions,
+/// once nobody else can end, nobody waits.
+pub fn waits_end()
+    ensures { (history : List EntryValue) → DoWaitsEnd (state_of history) }
+{}
+
+/// Waits end by themselves exactly if no sessions wait for each other in a cycle. The state may be one in which deadlocks
+/// are not resolved yet; finitely many sessions have open transactions in it.
+pub fn waits_end_unless_there_is_a_cycle()
+    ensures { (st : State) (n : ℕ) → AreOpenBelow n st → IsSound st.table → IsNumbered st → DoesNobodyWaitNeedlessly st →
+        DoWaitsEnd st ↔ HasNoCircle st }
+{}
+
+/// No victim is chosen in a state from which waits would end by themselves. When a request begins to wait, it makes victims
+/// exactly as long as waits would not end: they would not from the state before each of its victims, and they do from the
+/// state after the last.
+pub fn victims_were_needed()
+    ensures needed { (st : State) (n session victim : ℕ) (more : List ℕ) (last : State) → AreOpenBelow n st → IsOneRequestEach st →
+        AreVictims session (victim ∷ more) st last → DoWaitsEnd st → ⊥ }
+    ensures exactly { (history : List EntryValue) (session : ℕ) (resource : List ℕ) (target : ModeValue) (victims : List ℕ) (last : State) →
+        BeginsToWait (state_of history) session resource target →
+        AreVictims session victims (with_waiting session resource target (state_of history)) last →
+        AreVictimsNeeded victims (with_waiting session resource target (state_of history)) }
+{}
+
+/// Histories worked by hand: each is legal, the walks lead where they say, and waits end when the sessions end in these
+/// orders. A session that waits can't end.
+pub fn examples_end()
+    ensures reader { IsLegal reader_behind_update }
+    ensures reader_waits { WaitsThrough (state_of reader_behind_update) 3 [] 2 }
+    ensures reader_beside_reader { waits_for (state_of reader_behind_update).table 3 1 ≡ false }
+    ensures reader_ends { LeavesNothing (2 ∷ 3 ∷ 1 ∷ []) (state_of reader_behind_update) }
+    ensures reader_cannot_end { (last : State) → AreEnds (3 ∷ []) (state_of reader_behind_update) last → ⊥ }
+    ensures update { IsLegal update_behind_reader }
+    ensures update_waits { WaitsThrough (state_of update_behind_reader) 3 (2 ∷ []) 1 }
+    ensures update_ends { LeavesNothing (1 ∷ 3 ∷ 2 ∷ []) (state_of update_behind_reader) }
+    ensures conversion { IsLegal conversion_behind_reader }
+    ensures conversion_waits { WaitsThrough (state_of conversion_behind_reader) 2 [] 1 }
+    ensures reader_behind_conversion_waits { WaitsThrough (state_of conversion_behind_reader) 3 (2 ∷ []) 1 }
+    ensures conversion_ends { LeavesNothing (1 ∷ 2 ∷ 3 ∷ []) (state_of conversion_behind_reader) }
 {}
