@@ -16,6 +16,7 @@ use Rattle.lock_rules.proofs.Lists.{same_path-refl, eqb-refl, request_of-session
 use Rattle.lock_rules.proofs.Walks.{has}
 use Rattle.lock_rules.proofs.Alters.{true≢false, NoCircle, waits_for-waits}
 use Rattle.lock_rules.proofs.Sound.{UnfitAt, head-request, unfit-some, In-queue}
+use Rattle.lock_rules.proofs.Listings.{request-in}
 use Rattle.lock_rules.proofs.Waiting.{request_of-filter, request_of-front, request_of-rest, waits-tell}
 use Rattle.lock_ends.specs.Chains.{last_of, WaitsInTheEndFor, DoWaitersWaitForOthers, DoWaitsLeadToHolders}
 use Rattle.lock_ends.proofs.FromLaws.{listed-ordered, one-once}
@@ -144,15 +145,6 @@ last-edge : (pairs : ℕ → ℕ → Bool) (s : ℕ) (ws : List ℕ) (u : ℕ) �
 last-edge pairs s [] u walk = walk
 last-edge pairs s (w ∷ ws) u walk = last-edge pairs w ws u walk.1
 
--- a request that is found for a session is in the list
-found-in : (u : ℕ) (qs : List Claim) (p : Claim) → request_of u qs ≡ Some p → In p qs
-found-in u [] p h = absurd (cc)
-found-in u (q ∷ qs) p h = go (eqb q.session u) refl h (found-in u qs p)
-  where
-    go : (b : Bool) → eqb q.session u ≡ b → cond b (Some q) (request_of u qs) ≡ Some p → (request_of u qs ≡ Some p → In p qs) → In p (q ∷ qs)
-    go true e k next = inl (let f : q ≡ p = cc in sym f)
-    go false e k next = inr (next k)
-
 -- the session of a request in the list has a request there
 in-found : (p : Claim) (qs : List Claim) → In p qs → request_of p.session qs ≡ None → ⊥
 in-found p [] i h = i
@@ -168,7 +160,7 @@ free-stands : (t : Table) (x : List ℕ) (u s : ℕ) → request_of u t.requests
 free-stands t x u s free b =
     let m = request_of-front u b.0 (b.2 ∷ b.1) b.3 b.7 in
     let k : request_of u (queue t x) ≡ Some b.3 = ap (request_of u) b.4 ∙ m in
-    let i = In-queue t x b.3 (found-in u (queue t x) b.3 k) in
+    let i = In-queue t x b.3 (request-in u (queue t x) b.3 k) in
     in-found b.3 t.requests i.0 (ap (λ (v : ℕ). request_of v t.requests) (request_of-session u (queue t x) b.3 k) ∙ free)
 
 -- a session without a request for which another waits holds what that one waits for, in a conflicting mode

@@ -1,7 +1,7 @@
 -- The tests of lists that proofs compute with, from the laws of a state.
-use Rattle.std.proofs.Common.{◌≡◌, ℕ, ◌<◌, ◌≤◌, true, eqb, ltb, inl, inr, List, [], ◌∷◌, ◌++◌, None, refl, ap, arith}
+use Rattle.std.proofs.Common.{◌≡◌, ℕ, ◌≤◌, true, eqb, ltb, inl, inr, List, [], ◌∷◌, ◌++◌, None, refl, ap, arith}
 use Rattle.std.proofs.lemmas.Bool.Decides.{nat_tests, Decides-eqb}
-use Rattle.std.proofs.lemmas.Bool.{and_from, and_parts, cases_Bool}
+use Rattle.std.proofs.lemmas.Bool.{and_from, and_parts, cases_Bool, lt-ltb}
 use Rattle.lock_modes.specs.declared.Mode.{Mode}
 use Rattle.lock_rules.specs.State.{Claim, State, request_of, holders}
 use Rattle.lock_rules.specs.Laws.{AreSessionsRising, AreHoldersListed, IsOneRequestEach}
@@ -13,13 +13,10 @@ rising-ascend : (hs : List (ℕ × Mode)) → AreSessionsRising hs → ascend hs
 rising-ascend [] h = refl
 rising-ascend (a ∷ []) h = refl
 rising-ascend (a ∷ b ∷ rest) h =
-    let l : ltb a.0 b.0 ≡ true = test a.0 b.0 h.0 in
+    let l : ltb a.0 b.0 ≡ true = lt-ltb a.0 b.0 h.0 in
     let r : ascend (b ∷ rest) ≡ true = rising-ascend (b ∷ rest) h.1 in
     let p = and_parts (after b.0 rest) (ascend rest) r in
     and_from (after a.0 (b ∷ rest)) (ascend (b ∷ rest)) (and_from (ltb a.0 b.0) (after a.0 rest) l (after-trans a.0 b.0 rest h.0 p.0)) r
-  where
-    test : (x y : ℕ) → x < y → ltb x y ≡ true
-    test x y l = grind (arith, nat_tests)
 
 -- holders that are listed by session number are in order
 pub listed-ordered : (st : State) → AreHoldersListed st → IsOrdered st.table.held

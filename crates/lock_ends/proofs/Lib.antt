@@ -4,4 +4,5 @@ pub mod Orders
 pub mod Bounds
 pub mod Circles
 pub mod WaitsEnd
+pub mod Victims
 pub mod Worked

@@ -1,26 +1,28 @@
 -- Transactions that end one after another: what an end is, how many there can be, and how they go on.
 use Rattle.std.proofs.Common.{◌≡◌, ℕ, zero, suc, ◌+◌, ◌<◌, ◌≤◌, Bool, true, false, cond, not, eqb, ◌⊎◌, inl, inr, List, [], ◌∷◌, ◌++◌, length, Some, None, refl, sym, ◌∙◌, ap, arith, subst}
-use Rattle.std.specs.Prelude.{is_some}
+use Rattle.std.specs.Prelude.{is_some, Contains}
 use Rattle.std.proofs.lemmas.Bool.Decides.{nat_tests, Decides-eqb}
 use Rattle.std.proofs.lemmas.Bool.{cases_Bool}
+use Rattle.std.proofs.lemmas.List.Elements.{Contains-append_right}
 use Rattle.lock_rules.specs.declared.calls.Call.TheVariants.{Commit, Abort}
+use Rattle.lock_rules.specs.declared.calls.Reply.TheVariants.{Committed, Aborted}
 use Rattle.lock_rules.specs.declared.calls.Why.TheVariants.{NoTransaction, IsWaiting, IsDoomed}
-use Rattle.lock_rules.specs.State.{State, is_open, is_waiting, is_doomed}
+use Rattle.lock_rules.specs.State.{State, claims_of, is_open, is_waiting, is_doomed}
 use Rattle.lock_rules.specs.Step.{outcome_of, step}
 use Rattle.lock_rules.proofs.Lists.{eqb-refl}
-use Rattle.lock_ends.specs.Ends.{ended, CanEnd, AreEnds, CanNobodyEnd, open_below, AreOpenBelow, DoEndsCount, DoEndsGoOn}
+use Rattle.lock_ends.specs.Ends.{ended, ended_with, CanEnd, AreEnds, CanNobodyEnd, open_below, AreOpenBelow, DoEndsCount, DoesSomebodyEnd, DoEndsGoOn}
 
 -- what an end is
 
--- an abort of a session with a transaction leads to the state after the end
-pub abort-ends : (st : State) (s : ℕ) → is_open st s ≡ true → (step st s Abort).state ≡ ended s st
-abort-ends st s h = ap (λ (b : Bool). (outcome_of (cond (not b) (Some NoTransaction) None) st s Abort).state) h
+-- an abort of a session with a transaction ends it
+pub abort-ends : (st : State) (s : ℕ) → is_open st s ≡ true → step st s Abort ≡ ended_with (Aborted (length (claims_of s st.table.held))) s st
+abort-ends st s h = ap (λ (b : Bool). outcome_of (cond (not b) (Some NoTransaction) None) st s Abort) h
 
 -- so does a commit of a session that can end and isn't doomed
-pub commit-ends : (st : State) (s : ℕ) → CanEnd st s → is_doomed st s ≡ false → (step st s Commit).state ≡ ended s st
+pub commit-ends : (st : State) (s : ℕ) → CanEnd st s → is_doomed st s ≡ false → step st s Commit ≡ ended_with (Committed (length (claims_of s st.table.held))) s st
 commit-ends st s h d = go (is_open st s) (is_waiting st s) (is_doomed st s) h.0 h.1 d
   where
-    go : (a b c : Bool) → a ≡ true → b ≡ false → c ≡ false → (outcome_of (cond (not a) (Some NoTransaction) (cond b (Some IsWaiting) (cond c (Some IsDoomed) None))) st s Commit).state ≡ ended s st
+    go : (a b c : Bool) → a ≡ true → b ≡ false → c ≡ false → outcome_of (cond (not a) (Some NoTransaction) (cond b (Some IsWaiting) (cond c (Some IsDoomed) None))) st s Commit ≡ ended_with (Committed (length (claims_of s st.table.held))) s st
     go true false false f g k = refl
     go false b c f g k = absurd (cc)
     go true true c f g k = absurd (cc)
@@ -92,6 +94,21 @@ ends-count st n ss last h a = go ss st h a
         let l = one-less n s st (h s a.0.0) a.0.0 in
         omega (arith, r, l)
 
+-- so no order is longer than the number of open transactions
+pub ends-short : (st last : State) (n : ℕ) (ss : List ℕ) → AreOpenBelow n st → AreEnds ss st last → length ss ≤ open_below n st
+ends-short st last n ss h a = let e = ends-count st n ss last h a in omega arith
+
+-- a session with a transaction ends in the order, or has it still afterwards
+pub ends-or-open : (ss : List ℕ) (st last : State) (s : ℕ) → AreEnds ss st last → is_open st s ≡ true → Contains ss s ⊎ (is_open last s ≡ true)
+ends-or-open [] st last s a o = inr (ap (λ (x : State). is_open x s) a ∙ o)
+ends-or-open (u ∷ ss) st last s a o = elim (cases_Bool (eqb s u)) [
+  | inl y ↦ inl (0, omega arith, sym ((Decides-eqb s u).0 y))
+  | inr n ↦ elim (ends-or-open ss (ended u st) last s a.1 (ended-other u st s n ∙ o)) [
+    | inl c ↦ inl (Contains-append_right (u ∷ []) ss s c)
+    | inr k ↦ inr k
+  ]
+]
+
 -- how they go on
 
 -- after an order of ends the open sessions still have numbers below n
@@ -125,6 +142,10 @@ somebody (suc n) st = elim (somebody n st) [
         more : (s : ℕ) → s < suc n → is_open st s ≡ true → (eqb s n ≡ true) ⊎ (eqb s n ≡ false) → ((s : ℕ) → s < n → is_open st s ≡ true → is_waiting st s ≡ true) → is_waiting st s ≡ true
         more s l o (inl y) none = let k = ap (is_open st) ((Decides-eqb s n).0 y) in absurd (cc)
         more s l o (inr d) none = none s (grind (arith, nat_tests)) o
+
+-- either nobody can end, or there is a session that can
+pub somebody-ends : (st : State) → DoesSomebodyEnd st
+somebody-ends st n h = elim (somebody n st) [ inl c ↦ inr c | inr none ↦ inl (λ s o. none s (h s o) o) ]
 
 -- an order of ends after which nobody else can end
 abbrev pub HasLastOrder : State → Type 0

@@ -1,11 +1,16 @@
 -- Transactions that end one after another, while nobody makes another call.
-use Rattle.std.specs.Prelude.{◌≡◌, ℕ, zero, suc, ◌+◌, ◌<◌, if◌then◌else◌, true, false, None, List, [], ◌∷◌, ◌++◌, length}
+use Rattle.std.specs.Prelude.{◌≡◌, ℕ, zero, suc, ◌+◌, ◌<◌, if◌then◌else◌, true, false, None, List, [], ◌∷◌, ◌++◌, length, ◌⊎◌, Contains}
+use Rattle.lock_rules.specs.declared.calls.Reply.{Reply}
 use Rattle.lock_rules.specs.State.{State, is_open, is_waiting, with_begun, with_table}
-use Rattle.lock_rules.specs.Step.{after_end}
+use Rattle.lock_rules.specs.Step.{Outcome, after_end}
 
 -- the state after the session's transaction ends: its locks and its request are removed, and their resources promoted
 abbrev pub ended : ℕ → State → State
 ended s st = with_begun s None (with_table (after_end s st.table) st)
+
+-- the outcome of a call that ends the session's transaction
+abbrev pub ended_with : Reply → ℕ → State → Outcome
+ended_with reply s st = record { state = ended s st; reply = reply }
 
 -- the session has a transaction that can end without waiting: by a commit, or by an abort if it is doomed
 abbrev pub CanEnd : State → ℕ → Type 0
@@ -24,6 +29,11 @@ CanNobodyEnd st = (s : ℕ) → is_open st s ≡ true → is_waiting st s ≡ tr
 abbrev pub DoWaitsEnd : State → Type 0
 DoWaitsEnd st = (ss : List ℕ) (last : State) → AreEnds ss st last → CanNobodyEnd last → last.table.requests ≡ []
 
+-- every session that has a transaction ends it, in whatever order sessions end that don't wait, once nobody else can end: so
+-- whoever waits is granted what it asked for
+abbrev pub DoesEverybodyEnd : State → Type 0
+DoesEverybodyEnd st = (ss : List ℕ) (last : State) → AreEnds ss st last → CanNobodyEnd last → (s : ℕ) → is_open st s ≡ true → Contains ss s
+
 -- how many sessions with a number below n have an open transaction
 abbrev pub open_below : ℕ → State → ℕ
 open_below zero st = 0
@@ -36,6 +46,10 @@ AreOpenBelow n st = (s : ℕ) → is_open st s ≡ true → s < n
 -- each of the ends in an order leaves one open transaction less, so no order is longer than their number
 abbrev pub DoEndsCount : State → Type 0
 DoEndsCount st = (n : ℕ) (ss : List ℕ) (last : State) → AreOpenBelow n st → AreEnds ss st last → length ss + open_below n last ≡ open_below n st
+
+-- either nobody can end, or there is a session that can
+abbrev pub DoesSomebodyEnd : State → Type 0
+DoesSomebodyEnd st = (n : ℕ) → AreOpenBelow n st → CanNobodyEnd st ⊎ ((s : ℕ) × CanEnd st s)
 
 -- every order of ends can be continued until nobody else can end
 abbrev pub DoEndsGoOn : State → Type 0

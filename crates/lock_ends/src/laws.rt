@@ -1,18 +1,19 @@
 //! The laws, each the contract of a function with an empty body.
 
-ghost use Rattle.std.specs.Prelude.{◌≡◌, ◌↔◌, ℕ, ◌<◌, true, false, List, [], ◌∷◌, All};
+ghost use Rattle.std.specs.Prelude.{◌≡◌, ◌↔◌, ℕ, ◌<◌, ◌≤◌, true, false, List, [], ◌∷◌, length, All};
 ghost use Rattle.lock_modes.specs.declared.Mode.{Mode as ModeValue};
 ghost use Rattle.lock_rules.specs.declared.calls.Call.TheVariants.{Commit, Abort};
+ghost use Rattle.lock_rules.specs.declared.calls.Reply.TheVariants.{Committed, Aborted};
 ghost use Rattle.lock_rules.specs.Entries.{Entry as EntryValue};
-ghost use Rattle.lock_rules.specs.State.{State, is_open, is_doomed};
+ghost use Rattle.lock_rules.specs.State.{State, claims_of, is_open, is_doomed};
 ghost use Rattle.lock_rules.specs.Waits.{waits_for};
-ghost use Rattle.lock_rules.specs.Step.{step};
+ghost use Rattle.lock_rules.specs.Step.{step, after_wait};
 ghost use Rattle.lock_rules.specs.Legal.{IsLegal, state_of};
 ghost use Rattle.lock_rules.specs.Laws.{IsOneRequestEach, DoesNobodyWaitNeedlessly, HasNoCircle, AreVictims};
 ghost use Rattle.lock_rules.specs.Sound.{IsSound, IsNumbered};
 ghost use Rattle.lock_rules.specs.Lawful.{IsLawfulState};
 ghost use Rattle.lock_ends.specs.Chains.{DoWaitersWaitForOthers, DoWaitsLeadToHolders};
-ghost use Rattle.lock_ends.specs.Ends.{ended, CanEnd, AreEnds, AreOpenBelow, DoEndsCount, DoEndsGoOn, DoWaitsEnd};
+ghost use Rattle.lock_ends.specs.Ends.{ended_with, CanEnd, AreEnds, open_below, AreOpenBelow, DoEndsCount, DoesSomebodyEnd, DoEndsGoOn, DoWaitsEnd, DoesEverybodyEnd};
 ghost use Rattle.lock_ends.specs.Victims.{BeginsToWait, with_waiting, AreVictimsNeeded};
 ghost use Rattle.lock_ends.specs.Examples.{reader_behind_update, update_behind_reader, conversion_behind_reader, WaitsThrough, LeavesNothing};
 
@@ -25,35 +26,44 @@ pub fn whoever_waits_waits_in_the_end_for_a_holder()
     ensures history { (history : List EntryValue) → DoWaitsLeadToHolders (state_of history) }
 {}
 
-/// The end of a transaction is an abort, or a commit if the session doesn't wait and isn't doomed: both lead to the same
-/// state. Each end leaves one open transaction less, so an order of ends is no longer than their number. Every order can be
-/// continued until nobody else can end, since any session can end that has a transaction and doesn't wait. After a history
-/// of sessions with numbers below `n`, only such sessions have open transactions.
+/// A session's transaction ends by an abort, or by a commit if the session doesn't wait and isn't doomed: neither is refused
+/// then, and both lead to the same state. Each end leaves one open transaction less, so an order of ends is no longer than
+/// the number of open transactions. As long as a session with a transaction doesn't wait, there is one that can end, and
+/// every order can be continued until nobody else can end. After a history of sessions with numbers below `n`, only such
+/// sessions have open transactions.
 pub fn orders_end()
-    ensures abort { (st : State) (session : ℕ) → is_open st session ≡ true → (step st session Abort).state ≡ ended session st }
-    ensures commit { (st : State) (session : ℕ) →
-        CanEnd st session → is_doomed st session ≡ false → (step st session Commit).state ≡ ended session st }
+    ensures abort { (st : State) (session : ℕ) →
+        is_open st session ≡ true → step st session Abort ≡ ended_with (Aborted (length (claims_of session st.table.held))) session st }
+    ensures commit { (st : State) (session : ℕ) → CanEnd st session → is_doomed st session ≡ false →
+        step st session Commit ≡ ended_with (Committed (length (claims_of session st.table.held))) session st }
     ensures count { (st : State) → DoEndsCount st }
+    ensures short { (st last : State) (n : ℕ) (order : List ℕ) → AreOpenBelow n st → AreEnds order st last → length order ≤ open_below n st }
+    ensures somebody { (st : State) → DoesSomebodyEnd st }
     ensures go_on { (st : State) → DoEndsGoOn st }
     ensures numbers { (history : List EntryValue) (n : ℕ) → All (λ e. e.session < n) history → AreOpenBelow n (state_of history) }
 {}
 
-/// From the state that a history leads to, waits end: in whatever order sessions that don't wait end their transactions,
-/// once nobody else can end, nobody waits.
+/// From every state that a history leads to, waits end: in whatever order sessions that don't wait end their transactions,
+/// once nobody else can end, nobody waits. By then every session has ended that had a transaction, so each request that
+/// waited was granted.
 pub fn waits_end()
-    ensures { (history : List EntryValue) → DoWaitsEnd (state_of history) }
+    ensures waits { (history : List EntryValue) → DoWaitsEnd (state_of history) }
+    ensures everybody { (history : List EntryValue) → DoesEverybodyEnd (state_of history) }
 {}
 
 /// Waits end by themselves exactly if no sessions wait for each other in a cycle. The state may be one in which deadlocks
-/// are not resolved yet; finitely many sessions have open transactions in it.
+/// are not resolved yet, such as that in which a request has just begun to wait; its open transactions are finitely many.
 pub fn waits_end_unless_there_is_a_cycle()
-    ensures { (st : State) (n : ℕ) → AreOpenBelow n st → IsSound st.table → IsNumbered st → DoesNobodyWaitNeedlessly st →
+    ensures exactly { (st : State) (n : ℕ) → AreOpenBelow n st → IsSound st.table → IsNumbered st → DoesNobodyWaitNeedlessly st →
         DoWaitsEnd st ↔ HasNoCircle st }
+    ensures request { (history : List EntryValue) (session : ℕ) (resource : List ℕ) (target : ModeValue) →
+        BeginsToWait (state_of history) session resource target →
+        DoWaitsEnd (with_waiting session resource target (state_of history)) ↔ HasNoCircle (with_waiting session resource target (state_of history)) }
 {}
 
-/// No victim is chosen in a state from which waits would end by themselves. When a request begins to wait, it makes victims
-/// exactly as long as waits would not end: they would not from the state before each of its victims, and they do from the
-/// state after the last.
+/// No victim is chosen in a state from which waits would end by themselves. When a request begins to wait, victims are
+/// chosen exactly as long as waits would not end: they would not from the state before each victim, and they do from the
+/// state after the last. This holds of all victims as the rules choose them, and so of those of the lock manager.
 pub fn victims_were_needed()
     ensures needed { (st : State) (n session victim : ℕ) (more : List ℕ) (last : State) → AreOpenBelow n st → IsOneRequestEach st →
         AreVictims session (victim ∷ more) st last → DoWaitsEnd st → ⊥ }
@@ -61,6 +71,10 @@ pub fn victims_were_needed()
         BeginsToWait (state_of history) session resource target →
         AreVictims session victims (with_waiting session resource target (state_of history)) last →
         AreVictimsNeeded victims (with_waiting session resource target (state_of history)) }
+    ensures chosen { (history : List EntryValue) (session : ℕ) (resource : List ℕ) (target : ModeValue) →
+        BeginsToWait (state_of history) session resource target → (victims : List ℕ)
+        × AreVictims session victims (with_waiting session resource target (state_of history)) (after_wait (state_of history) session resource target)
+        × AreVictimsNeeded victims (with_waiting session resource target (state_of history)) }
 {}
 
 /// Histories worked by hand: each is legal, the walks lead where they say, and waits end when the sessions end in these

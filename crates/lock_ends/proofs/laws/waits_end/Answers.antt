@@ -1,5 +1,8 @@
-use Rattle.lock_ends.proofs.WaitsEnd.{history-ends}
+use Rattle.lock_ends.proofs.WaitsEnd.{history-ends, history-everybody}
 use Rattle.lock_ends.proofs.laws.waits_end.Goals as goal
 
-pub returns : goal.returns
-returns c = history-ends
+pub returns-clause-waits : goal.returns-clause-waits
+returns-clause-waits c = history-ends
+
+pub returns-clause-everybody : goal.returns-clause-everybody
+returns-clause-everybody c = history-everybody
