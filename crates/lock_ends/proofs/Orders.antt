@@ -10,7 +10,7 @@ use Rattle.lock_rules.specs.declared.calls.Why.TheVariants.{NoTransaction, IsWai
 use Rattle.lock_rules.specs.State.{State, claims_of, is_open, is_waiting, is_doomed}
 use Rattle.lock_rules.specs.Step.{outcome_of, step}
 use Rattle.lock_rules.proofs.Lists.{eqb-refl}
-use Rattle.lock_ends.specs.Ends.{ended, ended_with, CanEnd, AreEnds, CanNobodyEnd, open_below, AreOpenBelow, DoEndsCount, DoesSomebodyEnd, DoEndsGoOn}
+use Rattle.lock_ends.specs.Ends.{ended, ended_with, CanEnd, AreEnds, CanNobodyEnd, open_below, AreOpenBelow, DoEndsCount, CanSomebodyEnd, DoEndsGoOn}
 
 -- what an end is
 
@@ -143,8 +143,8 @@ somebody (suc n) st = elim (somebody n st) [
         more s l o (inl y) none = let k = ap (is_open st) ((Decides-eqb s n).0 y) in absurd (cc)
         more s l o (inr d) none = none s (grind (arith, nat_tests)) o
 
--- either nobody can end, or there is a session that can
-pub somebody-ends : (st : State) → DoesSomebodyEnd st
+-- there is a session that can end, or else nobody can
+pub somebody-ends : (st : State) → CanSomebodyEnd st
 somebody-ends st n h = elim (somebody n st) [ inl c ↦ inr c | inr none ↦ inl (λ s o. none s (h s o) o) ]
 
 -- an order of ends after which nobody else can end

@@ -47,9 +47,9 @@ AreOpenBelow n st = (s : ℕ) → is_open st s ≡ true → s < n
 abbrev pub DoEndsCount : State → Type 0
 DoEndsCount st = (n : ℕ) (ss : List ℕ) (last : State) → AreOpenBelow n st → AreEnds ss st last → length ss + open_below n last ≡ open_below n st
 
--- either nobody can end, or there is a session that can
-abbrev pub DoesSomebodyEnd : State → Type 0
-DoesSomebodyEnd st = (n : ℕ) → AreOpenBelow n st → CanNobodyEnd st ⊎ ((s : ℕ) × CanEnd st s)
+-- there is a session that can end, or else nobody can
+abbrev pub CanSomebodyEnd : State → Type 0
+CanSomebodyEnd st = (n : ℕ) → AreOpenBelow n st → CanNobodyEnd st ⊎ ((s : ℕ) × CanEnd st s)
 
 -- every order of ends can be continued until nobody else can end
 abbrev pub DoEndsGoOn : State → Type 0

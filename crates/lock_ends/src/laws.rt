@@ -13,7 +13,7 @@ ghost use Rattle.lock_rules.specs.Laws.{IsOneRequestEach, DoesNobodyWaitNeedless
 ghost use Rattle.lock_rules.specs.Sound.{IsSound, IsNumbered};
 ghost use Rattle.lock_rules.specs.Lawful.{IsLawfulState};
 ghost use Rattle.lock_ends.specs.Chains.{DoWaitersWaitForOthers, DoWaitsLeadToHolders};
-ghost use Rattle.lock_ends.specs.Ends.{ended_with, CanEnd, AreEnds, open_below, AreOpenBelow, DoEndsCount, DoesSomebodyEnd, DoEndsGoOn, DoWaitsEnd, DoesEverybodyEnd};
+ghost use Rattle.lock_ends.specs.Ends.{ended_with, CanEnd, AreEnds, open_below, AreOpenBelow, DoEndsCount, CanSomebodyEnd, DoEndsGoOn, DoWaitsEnd, DoesEverybodyEnd};
 ghost use Rattle.lock_ends.specs.Victims.{BeginsToWait, with_waiting, AreVictimsNeeded};
 ghost use Rattle.lock_ends.specs.Examples.{reader_behind_update, update_behind_reader, conversion_behind_reader, WaitsThrough, LeavesNothing};
 
@@ -38,7 +38,7 @@ pub fn orders_end()
         step st session Commit ≡ ended_with (Committed (length (claims_of session st.table.held))) session st }
     ensures count { (st : State) → DoEndsCount st }
     ensures short { (st last : State) (n : ℕ) (order : List ℕ) → AreOpenBelow n st → AreEnds order st last → length order ≤ open_below n st }
-    ensures somebody { (st : State) → DoesSomebodyEnd st }
+    ensures somebody { (st : State) → CanSomebodyEnd st }
     ensures go_on { (st : State) → DoEndsGoOn st }
     ensures numbers { (history : List EntryValue) (n : ℕ) → All (λ e. e.session < n) history → AreOpenBelow n (state_of history) }
 {}
