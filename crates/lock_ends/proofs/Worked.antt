@@ -1,16 +1,19 @@
 -- Histories worked by hand: the prover serves their calls, walks the waits, and ends the transactions.
-use Rattle.std.proofs.Common.{◌≡◌, false, [], ◌∷◌, refl}
+use Rattle.std.proofs.Common.{◌≡◌, false, inr, [], ◌∷◌, refl}
 use Rattle.lock_modes.specs.declared.Mode.{Mode}
 use Rattle.lock_modes.specs.declared.Mode.TheVariants.{S, U, X}
 use Rattle.lock_modes.specs.Compatibility.{IsCompatible, are_compatible}
 use Rattle.lock_modes.proofs.Compatibility.{compatible-tests}
+use Rattle.lock_rules.specs.declared.calls.Call.TheVariants.{Convert}
 use Rattle.lock_rules.specs.State.{State}
 use Rattle.lock_rules.specs.Examples.{database}
 use Rattle.lock_rules.specs.Legal.{IsLegal, state_of}
 use Rattle.lock_rules.proofs.Alters.{true≢false}
 use Rattle.lock_rules.proofs.Histories.{legal-served}
-use Rattle.lock_ends.specs.Ends.{ended, AreEnds}
-use Rattle.lock_ends.specs.Examples.{reader_behind_update, update_behind_reader, conversion_behind_reader, WaitsThrough, LeavesNothing}
+use Rattle.lock_ends.specs.Ends.{ended, AreEnds, DoWaitsEnd}
+use Rattle.lock_ends.specs.Victims.{BeginsToWait, with_waiting}
+use Rattle.lock_ends.specs.Examples.{reader_behind_update, update_behind_reader, conversion_behind_reader, readers_before_a_deadlock, WaitsThrough, LeavesNothing}
+use Rattle.lock_ends.proofs.Victims.{request-exactly}
 
 -- modes that the test finds incompatible conflict
 conflict : (m k : Mode) → are_compatible m k ≡ false → IsCompatible m k → ⊥
@@ -48,3 +51,13 @@ behind_conversion-waits = (record { others = 2 ∷ []; walk = (refl, refl); requ
 
 pub conversion-ends : LeavesNothing (1 ∷ 2 ∷ 3 ∷ []) (state_of conversion_behind_reader)
 conversion-ends = (ended 3 (ended 2 (ended 1 (state_of conversion_behind_reader))), ((refl, refl), ((refl, refl), ((refl, refl), refl))), refl)
+
+pub legal-deadlock : IsLegal readers_before_a_deadlock
+legal-deadlock = legal-served readers_before_a_deadlock refl
+
+pub deadlock-begins : BeginsToWait (state_of readers_before_a_deadlock) 2 (Convert (database 1) X) (database 1) X
+deadlock-begins = record { asked = X; call = inr refl; target = refl; passes = refl; waits = refl }
+
+-- 2 waits for 1, and 1 for 2
+pub deadlock-stays : DoWaitsEnd (with_waiting 2 (database 1) X (state_of readers_before_a_deadlock)) → ⊥
+deadlock-stays ends = (request-exactly readers_before_a_deadlock 2 (Convert (database 1) X) (database 1) X deadlock-begins).0 ends 2 (record { others = 1 ∷ []; walk = (refl, refl) })

@@ -37,6 +37,15 @@ conversion_behind_reader =
     ∷ entry 3 (Lock (database 1) S) Waiting
     ∷ []
 
+-- Readers 1 and 2 hold S, and 1 waits to convert it to X. If 2 asks for that too, each waits for the other.
+abbrev pub readers_before_a_deadlock : List Entry
+readers_before_a_deadlock =
+    entry 1 Begin (Began 1) ∷ entry 2 Begin (Began 2)
+    ∷ entry 1 (Lock (database 1) S) (Granted S)
+    ∷ entry 2 (Lock (database 1) S) (Granted S)
+    ∷ entry 1 (Convert (database 1) X) Waiting
+    ∷ []
+
 -- s waits in the end for u, by a walk through these others
 abbrev pub WaitsThrough : State → ℕ → List ℕ → ℕ → Type 0
 WaitsThrough st s others u = (w : WaitsInTheEndFor st s u) × (w.others ≡ others)

@@ -2,20 +2,23 @@
 
 ghost use Rattle.std.specs.Prelude.{◌≡◌, ◌↔◌, ℕ, ◌<◌, ◌≤◌, true, false, List, [], ◌∷◌, length, All};
 ghost use Rattle.lock_modes.specs.declared.Mode.{Mode as ModeValue};
-ghost use Rattle.lock_rules.specs.declared.calls.Call.TheVariants.{Commit, Abort};
+ghost use Rattle.lock_modes.specs.declared.Mode.TheVariants.{X};
+ghost use Rattle.lock_rules.specs.declared.calls.Call.{Call as CallValue};
+ghost use Rattle.lock_rules.specs.declared.calls.Call.TheVariants.{Convert, Commit, Abort};
 ghost use Rattle.lock_rules.specs.declared.calls.Reply.TheVariants.{Committed, Aborted};
 ghost use Rattle.lock_rules.specs.Entries.{Entry as EntryValue};
 ghost use Rattle.lock_rules.specs.State.{State, claims_of, is_open, is_doomed};
 ghost use Rattle.lock_rules.specs.Waits.{waits_for};
-ghost use Rattle.lock_rules.specs.Step.{step, after_wait};
+ghost use Rattle.lock_rules.specs.Step.{step};
 ghost use Rattle.lock_rules.specs.Legal.{IsLegal, state_of};
 ghost use Rattle.lock_rules.specs.Laws.{IsOneRequestEach, DoesNobodyWaitNeedlessly, HasNoCircle, AreVictims};
 ghost use Rattle.lock_rules.specs.Sound.{IsSound, IsNumbered};
 ghost use Rattle.lock_rules.specs.Lawful.{IsLawfulState};
+ghost use Rattle.lock_rules.specs.Examples.{database};
 ghost use Rattle.lock_ends.specs.Chains.{DoWaitersWaitForOthers, DoWaitsLeadToHolders};
 ghost use Rattle.lock_ends.specs.Ends.{ended_with, CanEnd, AreEnds, open_below, AreOpenBelow, DoEndsCount, CanSomebodyEnd, DoEndsGoOn, DoWaitsEnd, DoesEverybodyEnd};
 ghost use Rattle.lock_ends.specs.Victims.{BeginsToWait, with_waiting, AreVictimsNeeded};
-ghost use Rattle.lock_ends.specs.Examples.{reader_behind_update, update_behind_reader, conversion_behind_reader, WaitsThrough, LeavesNothing};
+ghost use Rattle.lock_ends.specs.Examples.{reader_behind_update, update_behind_reader, conversion_behind_reader, readers_before_a_deadlock, WaitsThrough, LeavesNothing};
 
 /// Whoever has a waiting request waits for another session. A walk of such waits leads from it to a session that doesn't
 /// wait, has an open transaction, and holds the resource for which the session before it waits, in a mode that conflicts
@@ -56,29 +59,29 @@ pub fn waits_end()
 pub fn waits_end_unless_there_is_a_cycle()
     ensures exactly { (st : State) (n : ℕ) → AreOpenBelow n st → IsSound st.table → IsNumbered st → DoesNobodyWaitNeedlessly st →
         DoWaitsEnd st ↔ HasNoCircle st }
-    ensures request { (history : List EntryValue) (session : ℕ) (resource : List ℕ) (target : ModeValue) →
-        BeginsToWait (state_of history) session resource target →
+    ensures request { (history : List EntryValue) (session : ℕ) (call : CallValue) (resource : List ℕ) (target : ModeValue) →
+        BeginsToWait (state_of history) session call resource target →
         DoWaitsEnd (with_waiting session resource target (state_of history)) ↔ HasNoCircle (with_waiting session resource target (state_of history)) }
 {}
 
 /// No victim is chosen in a state from which waits would end by themselves. When a request begins to wait, victims are
 /// chosen exactly as long as waits would not end: they would not from the state before each victim, and they do from the
-/// state after the last. This holds of all victims as the rules choose them, and so of those of the lock manager.
+/// state after the last (`exactly`). The call of that request leads to the state after such victims (`chosen`).
 pub fn victims_were_needed()
     ensures needed { (st : State) (n session victim : ℕ) (more : List ℕ) (last : State) → AreOpenBelow n st → IsOneRequestEach st →
         AreVictims session (victim ∷ more) st last → DoWaitsEnd st → ⊥ }
-    ensures exactly { (history : List EntryValue) (session : ℕ) (resource : List ℕ) (target : ModeValue) (victims : List ℕ) (last : State) →
-        BeginsToWait (state_of history) session resource target →
+    ensures exactly { (history : List EntryValue) (session : ℕ) (call : CallValue) (resource : List ℕ) (target : ModeValue) (victims : List ℕ) (last : State) →
+        BeginsToWait (state_of history) session call resource target →
         AreVictims session victims (with_waiting session resource target (state_of history)) last →
         AreVictimsNeeded victims (with_waiting session resource target (state_of history)) }
-    ensures chosen { (history : List EntryValue) (session : ℕ) (resource : List ℕ) (target : ModeValue) →
-        BeginsToWait (state_of history) session resource target → (victims : List ℕ)
-        × AreVictims session victims (with_waiting session resource target (state_of history)) (after_wait (state_of history) session resource target)
+    ensures chosen { (history : List EntryValue) (session : ℕ) (call : CallValue) (resource : List ℕ) (target : ModeValue) →
+        BeginsToWait (state_of history) session call resource target → (victims : List ℕ)
+        × AreVictims session victims (with_waiting session resource target (state_of history)) (step (state_of history) session call).state
         × AreVictimsNeeded victims (with_waiting session resource target (state_of history)) }
 {}
 
 /// Histories worked by hand: each is legal, the walks lead where they say, and waits end when the sessions end in these
-/// orders. A session that waits can't end.
+/// orders. A session that waits can't end. Waits don't end from the state in which a deadlock has just come about.
 pub fn examples_end()
     ensures reader { IsLegal reader_behind_update }
     ensures reader_waits { WaitsThrough (state_of reader_behind_update) 3 [] 2 }
@@ -92,4 +95,7 @@ pub fn examples_end()
     ensures conversion_waits { WaitsThrough (state_of conversion_behind_reader) 2 [] 1 }
     ensures reader_behind_conversion_waits { WaitsThrough (state_of conversion_behind_reader) 3 (2 ∷ []) 1 }
     ensures conversion_ends { LeavesNothing (1 ∷ 2 ∷ 3 ∷ []) (state_of conversion_behind_reader) }
+    ensures deadlock { IsLegal readers_before_a_deadlock }
+    ensures deadlock_begins { BeginsToWait (state_of readers_before_a_deadlock) 2 (Convert (database 1) X) (database 1) X }
+    ensures deadlock_stays { DoWaitsEnd (with_waiting 2 (database 1) X (state_of readers_before_a_deadlock)) → ⊥ }
 {}

@@ -1,5 +1,5 @@
 use Rattle.std.proofs.Common.{refl}
-use Rattle.lock_ends.proofs.Worked.{legal-reader, reader-waits, reader-ends, reader-cannot_end, legal-update, update-waits, update-ends, legal-conversion, conversion-waits, behind_conversion-waits, conversion-ends}
+use Rattle.lock_ends.proofs.Worked.{legal-reader, reader-waits, reader-ends, reader-cannot_end, legal-update, update-waits, update-ends, legal-conversion, conversion-waits, behind_conversion-waits, conversion-ends, legal-deadlock, deadlock-begins, deadlock-stays}
 use Rattle.lock_ends.proofs.laws.examples_end.Goals as goal
 
 pub returns-clause-reader : goal.returns-clause-reader
@@ -37,3 +37,12 @@ returns-clause-reader_behind_conversion_waits c = behind_conversion-waits
 
 pub returns-clause-conversion_ends : goal.returns-clause-conversion_ends
 returns-clause-conversion_ends c = conversion-ends
+
+pub returns-clause-deadlock : goal.returns-clause-deadlock
+returns-clause-deadlock c = legal-deadlock
+
+pub returns-clause-deadlock_begins : goal.returns-clause-deadlock_begins
+returns-clause-deadlock_begins c = deadlock-begins
+
+pub returns-clause-deadlock_stays : goal.returns-clause-deadlock_stays
+returns-clause-deadlock_stays c = deadlock-stays
