@@ -1,8 +1,10 @@
 -- Whoever waits, waits in the end for a holder that doesn't wait.
 use Rattle.std.proofs.Common.{◌≡◌, ℕ, zero, suc, ◌<◌, ◌≤◌, Bool, true, false, cond, not, eqb, ◌&&◌, ◌||◌, ◌⊎◌, inl, inr, List, [], ◌∷◌, ◌++◌, length, Option, Some, None, refl, sym, ◌∙◌, ap, arith}
 use Rattle.std.specs.Prelude.{filter, is_some}
-use Rattle.std.proofs.lemmas.Bool.Decides.{nat_tests, Decides-eqb}
+use Rattle.std.proofs.Math.Bool.{not-not}
+use Rattle.std.proofs.lemmas.Bool.Decides.{Decides-eqb}
 use Rattle.std.proofs.lemmas.Bool.{and_from, or_left, or_right, cases_Bool}
+use Rattle.std.proofs.lemmas.List.Filters.{length-filter_both}
 use Rattle.waits_for.specs.Walks.{IsWalk, Reaches}
 use Rattle.waits_for.proofs.Walks.{reaches-step, reaches-trans}
 use Rattle.lock_tree.specs.Paths.{same_path}
@@ -16,6 +18,7 @@ use Rattle.lock_rules.proofs.Lists.{same_path-refl, eqb-refl, request_of-session
 use Rattle.lock_rules.proofs.Walks.{has}
 use Rattle.lock_rules.proofs.Alters.{true≢false, NoCircle, waits_for-waits}
 use Rattle.lock_rules.proofs.Sound.{UnfitAt, head-request, unfit-some, In-queue}
+use Rattle.lock_rules.proofs.Settle.{filter-has}
 use Rattle.lock_rules.proofs.Listings.{request-in}
 use Rattle.lock_rules.proofs.Waiting.{request_of-filter, request_of-front, request_of-rest, waits-tell}
 use Rattle.lock_ends.specs.Chains.{last_of, WaitsInTheEndFor, DoWaitersWaitForOthers, DoWaitsLeadToHolders}
@@ -88,20 +91,17 @@ waits-somebody t o once unfit s q e = go (queue t q.resource) refl (in-queue t s
 abbrev without : ℕ → List ℕ → List ℕ
 without v vs = filter (λ x. not (eqb x v)) vs
 
--- a session other than v stays in the list without v
-has-other : (w v : ℕ) (vs : List ℕ) → has w vs ≡ true → eqb w v ≡ false → has w (without v vs) ≡ true
-has-other w v [] h k = h
-has-other w v (y ∷ vs) h k = grind (arith, nat_tests, has-other w v vs)
-
--- the list without v isn't longer
-without-le : (v : ℕ) (vs : List ℕ) → length (without v vs) ≤ length vs
-without-le v [] = omega arith
-without-le v (y ∷ vs) = grind (arith, nat_tests, without-le v vs)
+-- a list with a session isn't empty
+has-some : (v : ℕ) (vs : List ℕ) → has v vs ≡ true → 0 < length vs
+has-some v [] h = absurd (cc)
+has-some v (x ∷ vs) h = omega arith
 
 -- the list without v is shorter if v is in it
 without-less : (v : ℕ) (vs : List ℕ) → has v vs ≡ true → length (without v vs) < length vs
-without-less v [] h = absurd (cc)
-without-less v (y ∷ vs) h = grind (arith, nat_tests, without-less v vs, without-le v vs)
+without-less v vs h =
+    let both = length-filter_both (λ (x : ℕ). not (eqb x v)) (λ (x : ℕ). eqb x v) (λ x. sym (not-not (eqb x v))) vs in
+    let some = has-some v (filter (λ (x : ℕ). eqb x v) vs) (filter-has (λ (x : ℕ). eqb x v) v vs h (eqb-refl v)) in
+    omega (arith, both, some)
 
 -- a walk from s to a session without a request
 record WalkToEnd (t : Table) (s : ℕ) : Type 0 where
@@ -121,9 +121,9 @@ module _ (t : Table) (next : (s : ℕ) (q : Claim) → request_of s t.requests �
   one-more vs s u step all more = go (request_of u t.requests) refl
     where
       left : AreLeft u (without u vs)
-      left = λ w to waits. has-other w u vs (all w (reaches-trans (waits_for t) s u w (reaches-step (waits_for t) s u step) to) waits) (elim (cases_Bool (eqb w u)) [
+      left = λ w to waits. filter-has (λ (x : ℕ). not (eqb x u)) w vs (all w (reaches-trans (waits_for t) s u w (reaches-step (waits_for t) s u step) to) waits) (elim (cases_Bool (eqb w u)) [
         | inl y ↦ let same = (Decides-eqb w u).0 y in absurd (none u to.others (rw same at to.walk))
-        | inr k ↦ k
+        | inr k ↦ ap not k
       ])
 
       go : (o : Option Claim) → request_of u t.requests ≡ o → WalkToEnd t s

@@ -5,13 +5,13 @@ use Rattle.std.proofs.lemmas.Bool.{and_right, or_from, cases_Bool}
 use Rattle.waits_for.specs.Walks.{IsWalk}
 use Rattle.lock_rules.specs.State.{Claim, Table, State, held_mode, request_of, claims_of}
 use Rattle.lock_rules.specs.Queue.{queue, fits, after_grant, granted_while_fitting, after_promotion, after_promotions}
-use Rattle.lock_rules.specs.Waits.{conflicts, stands_before, keeps_waiting, waits_for, resource_of_request, without_request, after_cancel}
+use Rattle.lock_rules.specs.Waits.{conflicts, stands_before, keeps_waiting, waits_for, resource_of_request}
 use Rattle.lock_rules.specs.Step.{without_claims, after_end}
 use Rattle.lock_rules.specs.Sound.{IsOnce, times}
 use Rattle.lock_rules.proofs.Lists.{eqb-refl, same_path-true, times-claims_but}
 use Rattle.lock_rules.proofs.Walks.{has}
 use Rattle.lock_rules.proofs.Alters.{Alters, true≢false, waits_for-alters}
-use Rattle.lock_rules.proofs.Sound.{head-request, queue-rest, fits-tells, granted-alters, no_more-alters}
+use Rattle.lock_rules.proofs.Sound.{head-request, queue-rest, fits-tells, granted-alters}
 use Rattle.lock_rules.proofs.Cuts.{left-alters}
 use Rattle.lock_rules.proofs.Settle.{walk-waits}
 use Rattle.lock_rules.proofs.Steps.{is-none}
@@ -132,7 +132,3 @@ circles-stay n st below o ends s ws walk =
     let l = ends-last n st below in
     let k = ends-keep l.0 st l.1 o l.2 in
     circle-waits l.1.table s ws (k.circles s ws walk) (ends l.0 l.1 l.2 l.3)
-
--- a cancelled request leaves no session two requests
-pub cancelled-once : (v : ℕ) (t : Table) → IsOnce t.requests → IsOnce (after_cancel v t).requests
-cancelled-once v t o = (all-keep (resource_of_request (request_of v t.requests)) (without_request v t) (once-alters v t (without_request v t) (no_more-alters v t) o)).once
