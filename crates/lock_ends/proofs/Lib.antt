@@ -4,5 +4,6 @@ pub mod Orders
 pub mod Bounds
 pub mod Circles
 pub mod WaitsEnd
+pub mod Granted
 pub mod Victims
 pub mod Worked

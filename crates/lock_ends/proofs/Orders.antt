@@ -43,7 +43,7 @@ ended-closed : (s : ℕ) (st : State) → is_open (ended s st) s ≡ false
 ended-closed s st = ap (λ (b : Bool). is_some (cond b None (st.begun s))) (eqb-refl s)
 
 -- it closes no other
-ended-other : (s : ℕ) (st : State) (u : ℕ) → eqb u s ≡ false → is_open (ended s st) u ≡ is_open st u
+pub ended-other : (s : ℕ) (st : State) (u : ℕ) → eqb u s ≡ false → is_open (ended s st) u ≡ is_open st u
 ended-other s st u n = ap (λ (b : Bool). is_some (cond b None (st.begun u))) n
 
 -- after an end the open sessions still have numbers below n

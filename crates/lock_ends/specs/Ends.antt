@@ -1,7 +1,7 @@
 -- Transactions that end one after another, while nobody makes another call.
-use Rattle.std.specs.Prelude.{◌≡◌, ℕ, zero, suc, ◌+◌, ◌<◌, if◌then◌else◌, true, false, None, List, [], ◌∷◌, ◌++◌, length, ◌⊎◌, Contains}
+use Rattle.std.specs.Prelude.{◌≡◌, ℕ, zero, suc, ◌+◌, ◌<◌, if◌then◌else◌, true, false, Some, None, List, [], ◌∷◌, ◌++◌, length, ◌⊎◌, Contains}
 use Rattle.lock_rules.specs.declared.calls.Reply.{Reply}
-use Rattle.lock_rules.specs.State.{State, is_open, is_waiting, with_begun, with_table}
+use Rattle.lock_rules.specs.State.{Claim, State, held_mode, request_of, is_open, is_waiting, with_begun, with_table}
 use Rattle.lock_rules.specs.Step.{Outcome, after_end}
 
 -- the state after the session's transaction ends: its locks and its request are removed, and their resources promoted
@@ -29,10 +29,26 @@ CanNobodyEnd st = (s : ℕ) → is_open st s ≡ true → is_waiting st s ≡ tr
 abbrev pub DoWaitsEnd : State → Type 0
 DoWaitsEnd st = (ss : List ℕ) (last : State) → AreEnds ss st last → CanNobodyEnd last → last.table.requests ≡ []
 
--- every session that has a transaction ends it, in whatever order sessions end that don't wait, once nobody else can end: so
--- whoever waits is granted what it asked for
+-- everybody ends: in whatever order sessions end that don't wait, once nobody else can end, each session has ended that had a
+-- transaction
 abbrev pub DoesEverybodyEnd : State → Type 0
 DoesEverybodyEnd st = (ss : List ℕ) (last : State) → AreEnds ss st last → CanNobodyEnd last → (s : ℕ) → is_open st s ≡ true → Contains ss s
+
+-- s ends in this order of ends, and when its turn comes, it holds what q asks for, in the target mode
+pub record HoldsAtItsEnd (st : State) (ss : List ℕ) (s : ℕ) (q : Claim) : Type 0 where
+  -- who ends before s
+  pub before : List ℕ
+  -- who ends after s
+  pub after : List ℕ
+  -- the state in which s ends
+  pub turn : State
+  pub order : ss ≡ before ++ s ∷ after
+  pub ends : AreEnds before st turn
+  pub held : held_mode turn.table s q.resource ≡ Some q.mode
+
+-- every request that waits is granted before its session ends, in whatever order sessions end that don't wait
+abbrev pub AreRequestsGranted : State → Type 0
+AreRequestsGranted st = (ss : List ℕ) (last : State) → AreEnds ss st last → CanNobodyEnd last → (s : ℕ) (q : Claim) → request_of s st.table.requests ≡ Some q → HoldsAtItsEnd st ss s q
 
 -- how many sessions with a number below n have an open transaction
 abbrev pub open_below : ℕ → State → ℕ

@@ -16,7 +16,7 @@ ghost use Rattle.lock_rules.specs.Sound.{IsSound, IsNumbered};
 ghost use Rattle.lock_rules.specs.Lawful.{IsLawfulState};
 ghost use Rattle.lock_rules.specs.Examples.{database};
 ghost use Rattle.lock_ends.specs.Chains.{DoWaitersWaitForOthers, DoWaitsLeadToHolders};
-ghost use Rattle.lock_ends.specs.Ends.{ended_with, CanEnd, AreEnds, open_below, AreOpenBelow, DoEndsCount, CanSomebodyEnd, DoEndsGoOn, DoWaitsEnd, DoesEverybodyEnd};
+ghost use Rattle.lock_ends.specs.Ends.{ended_with, CanEnd, AreEnds, open_below, AreOpenBelow, DoEndsCount, CanSomebodyEnd, DoEndsGoOn, DoWaitsEnd, DoesEverybodyEnd, AreRequestsGranted};
 ghost use Rattle.lock_ends.specs.Victims.{BeginsToWait, with_waiting, AreVictimsNeeded};
 ghost use Rattle.lock_ends.specs.Examples.{reader_behind_update, update_behind_reader, conversion_behind_reader, readers_before_a_deadlock, WaitsThrough, LeavesNothing};
 
@@ -47,11 +47,12 @@ pub fn orders_end()
 {}
 
 /// From every state that a history leads to, waits end: in whatever order sessions that don't wait end their transactions,
-/// once nobody else can end, nobody waits. By then every session has ended that had a transaction, so each request that
-/// waited was granted.
+/// once nobody else can end, nobody waits. By then every session has ended that had a transaction, and each that waited held
+/// what it had asked for when it ended.
 pub fn waits_end()
     ensures waits { (history : List EntryValue) → DoWaitsEnd (state_of history) }
     ensures everybody { (history : List EntryValue) → DoesEverybodyEnd (state_of history) }
+    ensures granted { (history : List EntryValue) → AreRequestsGranted (state_of history) }
 {}
 
 /// Waits end by themselves exactly if no sessions wait for each other in a cycle. The state may be one in which deadlocks
