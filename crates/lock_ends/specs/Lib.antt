@@ -1,0 +1,4 @@
+pub mod Chains
+pub mod Ends
+pub mod Victims
+pub mod Examples
