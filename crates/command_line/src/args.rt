@@ -445,10 +445,7 @@ fn found_request(matches: &ArgMatches) -> Option<CommandRequest>
 /// Parses the words. Returns the request, or `None` if the words ask for no command with valid numbers. The error is the
 /// parser's; help and the version are among its errors.
 #[tactic(auto, using(crate::proofs::Ask::words_ask, crate::proofs::Ask::words_ask_nothing))]
-pub fn request_of<'a>(
-    alloc: Global,
-    words: &'a [&'a str],
-) -> Result<Option<CommandRequest>, Error>
+pub fn request_of<'a>(alloc: Global, words: &'a [&'a str]) -> Result<Option<CommandRequest>, Error>
     ensures fails { FailsBy (faults_of (texts words.entry.now)) result }
     ensures some { IfOk result (λ asked. IfSome asked (Ask (texts words.entry.now))) }
     ensures none { IfOk result (λ asked. IfNone asked ((request : RequestValue) → ¬ (Ask (texts words.entry.now) request))) }

@@ -4,10 +4,9 @@ ghost use Rattle.std.specs.Prelude.{◌≡◌};
 ghost use Rattle.glm.specs.Outcomes.{status_of_outcome};
 ghost use Rattle.glm.specs.Statuses.{status_for, status_for_show, status_of_kind};
 
-use history_commands::Verdict;
-use history_commands::ShowFault;
-use replay_commands::ToolFault;
+use history_commands::{ShowFault, Verdict};
 use lock_trace::{TraceFault, TraceKind};
+use replay_commands::ToolFault;
 use std::fmt::Display;
 use std::io::Write;
 

@@ -6,9 +6,9 @@ ghost use Rattle.lock_rules.specs.Legal.{IsLegal};
 ghost use Rattle.lock_trace.specs.Entries.{IsEntry};
 ghost use Rattle.history_commands.specs.Verdicts.{Checks, IsFaultOfCheck, IsFirstWrong, IsVerdict, served_for, text_of_verdict};
 
-use replay_commands::ToolFault;
 use lock_desk::{Book, Entry, NoMemory, Reply};
 use lock_trace::read_history;
+use replay_commands::ToolFault;
 use std::alloc::{AllocError, Global};
 use std::io::Read;
 

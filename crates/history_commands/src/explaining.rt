@@ -10,14 +10,14 @@ ghost use Rattle.lock_trace.specs.Entries.{IsEntry};
 ghost use Rattle.history_commands.specs.Explaining.{AreAccounts, Explains, HasExplained, HasExplainedPart, HasPlace, IsAccount, IsAccountIfEventful, IsTextExplained, account_in, is_entry_eventful};
 ghost use Rattle.history_commands.specs.Verdicts.{IsFirstWrong, IsVerdict, text_of_verdict};
 
-use command_line::Form;
 use crate::checking::{Verdict, first_wrong, is_same, verdict_line};
 use crate::show_fault::ShowFault;
-use replay_commands::write_text;
+use command_line::Form;
 use explain_report::{explanation_dot, explanation_rows, explanation_text};
 use lock_desk::{Book, Entry, NoMemory};
 use lock_explain::{Explanation, is_eventful};
 use lock_trace::{piece_text, read_history};
+use replay_commands::write_text;
 use std::alloc::Global;
 use std::io::{Read, Write};
 

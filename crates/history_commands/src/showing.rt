@@ -8,13 +8,13 @@ ghost use Rattle.lock_trace.specs.Entries.{IsEntry};
 ghost use Rattle.history_commands.specs.Showing.{HasShown, HasShownPart, Shows, open_of, opens_of, place_shown, text_in, text_shown, wait_of, waits_by, waits_of};
 ghost use Rattle.history_commands.specs.Verdicts.{IsVerdict, text_of_verdict};
 
-use command_line::Form;
 use crate::checking::{Verdict, first_wrong, verdict_line};
 use crate::show_fault::ShowFault;
-use replay_commands::write_text;
+use command_line::Form;
 use lock_desk::{Book, Entry, NoMemory};
 use lock_report::{OpenTransaction, Wait, state_rows, state_text, waits_dot};
 use lock_trace::read_history;
+use replay_commands::write_text;
 use std::alloc::Global;
 use std::io::{Read, Write};
 

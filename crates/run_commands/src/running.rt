@@ -10,12 +10,11 @@ ghost use Rattle.run_commands.specs.Workers.{fault_of_stop};
 
 use crate::call_gate::Gate;
 use crate::threads::work_in_threads;
-use replay_commands::ToolFault;
 use crate::workers::Stop;
-use replay_commands::write_text;
 use lock_desk::Book;
 use lock_office::Office;
 use lock_trace::{TraceRow, history_text, read_trace};
+use replay_commands::{ToolFault, write_text};
 use std::alloc::Global;
 use std::io::{Read, Write};
 use std::sync::Wait;

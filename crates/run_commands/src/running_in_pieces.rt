@@ -13,14 +13,13 @@ ghost use Rattle.run_commands.specs.Runs.{HasPerformed, HasRun, HasWrittenFront,
 ghost use Rattle.run_commands.specs.Streams.{HasWrittenRest, IsFaultOfRest, IsFaultOfStream, IsNeverRefused, IsOpenedFor};
 
 use crate::call_gate::Gate;
-use replay_commands::write_piece;
 use crate::running::greatest_session;
 use crate::streaming::{Streamed, stream_in_threads};
-use replay_commands::ToolFault;
 use lock_desk::Book;
 use lock_office::{Office, Session};
 use lock_rules::MAX_SESSIONS;
 use lock_trace::{TraceRow, read_trace};
+use replay_commands::{ToolFault, write_piece};
 use std::alloc::Global;
 use std::io::{Read, Write};
 use std::sync::Wait;

@@ -7,12 +7,11 @@ ghost use Rattle.run_commands.specs.Workers.{IsNewSession, IsPerformed, fault_of
 
 use crate::call_gate::Gate;
 use crate::pacing::{Pace, Progress};
-use replay_commands::write_piece;
 use crate::threads::{join_all, start_all};
-use replay_commands::ToolFault;
 use crate::workers::Stop;
 use lock_office::{Office, Session};
 use lock_trace::TraceRow;
+use replay_commands::{ToolFault, write_piece};
 use std::alloc::Global;
 use std::io::Write;
 use std::sync::Wait;

@@ -5,10 +5,10 @@ ghost use Rattle.run_commands.specs.Calls.{calls_of_rows};
 ghost use Rattle.run_commands.specs.Workers.{TriedAtMost, fault_of_stop, rank_of_stop};
 
 use crate::call_gate::Gate;
-use replay_commands::ToolFault;
 use lock_desk::Call;
 use lock_office::{Next, Nobody, Office, Session, back_off};
 use lock_trace::TraceRow;
+use replay_commands::ToolFault;
 
 /// Why a thread stopped before its last row, or why a run failed. If there are several reasons, the first in this order is
 /// reported.
