@@ -23,16 +23,17 @@ ghost use Rattle.publication.specs.Runs.{IsRun};
 ghost use Rattle.publication.specs.Collected.{HasCollected};
 ghost use Rattle.lock_board.specs.LockBoards.{Pending, Load, BoardState, IsHome, IsRuled, history_of, book_object};
 ghost use Rattle.lock_board.specs.WakeUps.{WasToldToWait, IsNotForgotten};
-ghost use Rattle.lock_board.specs.HoldsAsTold.{AsksFor, KeepsLock, KeptLock, TookNothingBack, HoldsAsTold, ReadsAsTold, WritesAsTold};
+ghost use Rattle.lock_board.specs.HoldsAsTold.{AsksFor, KeepsLock, KeptLock, ToldOfGrant, TookNothingBack, HoldsAsTold, ReadsAsTold, WritesAsTold};
 ghost use Rattle.lock_board.specs.Exclusion.{ToldModesGoTogether, IsToldExclusive, IsToldAccessCompatible};
 
 use lock_desk::Book;
 use lock_rules::laws;
 use publication::laws::{boards_open_with_an_empty_history, each_place_is_entered_once};
 
-/// When a session holds a lock as told. It begins with the answer that grants the lock, or, after a wait, with the poll
-/// that is answered Clear or the withdrawal that is refused with NotWaiting, unless the session took its request back
-/// meanwhile. It lasts past each answer that gave nothing of the resource back, and while a call is
+/// When a session holds a lock as told. It begins with the answer that grants the lock, or, after a wait, with the first
+/// answer that comes only to a session that may go on, unless the session took its request back meanwhile or that call
+/// gives the lock back. Such answers are a poll answered Clear, a withdrawal refused with NotWaiting, and each call with
+/// an effect or a refusal that no waiting session and no victim gets (`ToldOfGrant`). It lasts past each answer that gave nothing of the resource back, and while a call is
 /// pending that gives nothing of it back. It ends when the session publishes a commit, an abort or a release of the
 /// resource, or enters one directly. The answer of that call doesn't bring it back, except a refusal.
 pub fn what_is_told_begins_and_ends()
@@ -44,6 +45,10 @@ pub fn what_is_told_begins_and_ends()
     ensures granted_meanwhile { (answers between : List Answered) (call : Call) (place later : ℕ) (r : List ℕ) (m : Mode) →
         AsksFor call r m → All (KeptLock r) between → All TookNothingBack between →
         HoldsAsTold (answers ++ answer place call Waiting ∷ (between ++ answer later Withdraw (Refused NotWaiting) ∷ [])) None r m }
+    ensures granted_by_next_call { (answers between : List Answered) (call next : Call) (place later : ℕ) (reply : Reply) (r : List ℕ) (m : Mode) →
+        AsksFor call r m → All (KeptLock r) between → All TookNothingBack between →
+        ToldOfGrant (answer later next reply) → KeptLock r (answer later next reply) →
+        HoldsAsTold (answers ++ answer place call Waiting ∷ (between ++ answer later next reply ∷ [])) None r m }
     ensures stays { (answers : List Answered) (x : Answered) (pending : Option Pending) (r : List ℕ) (m : Mode) →
         KeptLock r x → HoldsAsTold answers pending r m → HoldsAsTold (answers ++ x ∷ []) None r m }
     ensures asks_on { (answers : List Answered) (call : Call) (floor : ℕ) (r : List ℕ) (m : Mode) →
