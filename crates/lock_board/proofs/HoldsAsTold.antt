@@ -12,7 +12,8 @@ use Rattle.lock_rules.specs.declared.calls.Why.TheVariants.{NotWaiting}
 use Rattle.lock_rules.specs.Entries.{Answered}
 use Rattle.publication.specs.Views.{answer, asks}
 use Rattle.lock_board.specs.LockBoards.{Pending}
-use Rattle.lock_board.specs.HoldsAsTold.{AsksFor, KeepsLock, KeptLock, IsRefusedThoughFree, ToldOfGrant, TookNothingBack, HoldsAsTold}
+use Rattle.lock_board.specs.HoldsAsTold.{AsksFor, KeepsLock, KeptLock, ToldOfGrant, TookNothingBack, HoldsAsTold}
+use Rattle.lock_board.proofs.Telling.{not-waiting}
 
 asking-keeps : (c : Call) (r x : List ℕ) (m : Mode) → AsksFor c r m → KeepsLock x c
 asking-keeps c r x m (inl e) = ((λ f. cc (e, f)), (λ f. cc (e, f)), (λ f. cc (e, f)))
@@ -62,13 +63,10 @@ begins-later answers between call place later r m asked kept standing =
     begins-by-next-call answers between call Poll place later Clear r m asked kept standing tt (inl (polling-keeps Poll r refl))
 
 -- or the withdrawal that comes too late.
-too-late-tells : IsRefusedThoughFree NotWaiting
-too-late-tells = ((λ e. cc e), (λ e. cc e), (λ e. cc e), (λ e. cc e))
-
 pub begins-meanwhile : (answers between : List Answered) (call : Call) (place later : ℕ) (r : List ℕ) (m : Mode) → AsksFor call r m → All (KeptLock r) between → All TookNothingBack between
     → HoldsAsTold (answers ++ answer place call Waiting ∷ (between ++ answer later Withdraw (Refused NotWaiting) ∷ [])) None r m
 begins-meanwhile answers between call place later r m asked kept standing =
-    begins-by-next-call answers between call Withdraw place later (Refused NotWaiting) r m asked kept standing too-late-tells (inr (NotWaiting, refl))
+    begins-by-next-call answers between call Withdraw place later (Refused NotWaiting) r m asked kept standing not-waiting (inr (NotWaiting, refl))
 
 -- It lasts past each answer that kept the lock.
 one-more : (r : List ℕ) (after : List Answered) (x : Answered) → All (KeptLock r) after → KeptLock r x → All (KeptLock r) (after ++ x ∷ [])

@@ -1,5 +1,5 @@
 -- A lock that a session was granted, and gave nothing of back, is held in the state of the history.
-use Rattle.std.proofs.Common.{◌≡◌, ◌≢◌, ◌⊎◌, inl, inr, ℕ, ◌+◌, Bool, true, false, not, cond, eqb, Option, Some, None, List, [], ◌∷◌, ◌++◌, refl, sym, ap, subst, ◌∙◌, append_assoc, append-nil}
+use Rattle.std.proofs.Common.{◌≡◌, ◌≢◌, ◌⊎◌, inl, inr, ℕ, ◌+◌, Bool, true, false, cond, eqb, Option, Some, None, List, [], ◌∷◌, ◌++◌, refl, sym, ap, subst, ◌∙◌, append_assoc, append-nil}
 use mathlib.Core.Logic.{dite}
 use native.Mathlib.Decide.{ℕ_discrete}
 use Rattle.std.specs.List.{All}
@@ -14,7 +14,7 @@ use Rattle.lock_rules.specs.declared.calls.Reply.{Reply}
 use Rattle.lock_rules.specs.declared.calls.Reply.TheVariants.{Granted, Waiting, Refused, Withdrawn}
 use Rattle.lock_rules.specs.declared.calls.Why.{Why}
 use Rattle.lock_rules.specs.Entries.{Entry, Answered}
-use Rattle.lock_rules.specs.State.{Claim, State, held_mode, request_of, is_open, is_waiting, is_doomed, with_table}
+use Rattle.lock_rules.specs.State.{Claim, State, held_mode, request_of, is_waiting, is_doomed, with_table}
 use Rattle.lock_rules.specs.Queue.{with_request}
 use Rattle.lock_rules.specs.Step.{Outcome, tests, first_failing, outcome_of, step}
 use Rattle.lock_rules.specs.Legal.{IsLegal, state_of}

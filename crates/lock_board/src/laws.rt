@@ -8,12 +8,14 @@ ghost use Rattle.std.specs.Prelude.{◌≡◌, ◌≢◌, ◌⊎◌, ℕ, ◌+�
 ghost use Rattle.lock_modes.specs.declared.Mode.{Mode};
 ghost use Rattle.sequential.specs.Histories.{calls_of};
 ghost use Rattle.lock_rules.specs.declared.calls.Call.{Call};
-ghost use Rattle.lock_rules.specs.declared.calls.Call.TheVariants.{Poll, Withdraw};
+ghost use Rattle.lock_rules.specs.declared.calls.Call.TheVariants.{Begin, Poll, Abort, Withdraw};
 ghost use Rattle.lock_rules.specs.declared.calls.Reply.{Reply};
 ghost use Rattle.lock_rules.specs.declared.calls.Reply.TheVariants.{Granted, Waiting, Clear, Refused};
 ghost use Rattle.lock_rules.specs.declared.calls.Why.{Why};
 ghost use Rattle.lock_rules.specs.declared.calls.Why.TheVariants.{NotWaiting};
 ghost use Rattle.lock_rules.specs.Entries.{Entry, Answered};
+ghost use Rattle.lock_rules.specs.State.{State};
+ghost use Rattle.lock_rules.specs.Step.{step};
 ghost use Rattle.lock_rules.specs.Legal.{IsLegal, state_of};
 ghost use Rattle.lock_rules.specs.Laws.{HoldsAtLeast, GoTogether};
 ghost use Rattle.publication.specs.Views.{IsAccountedIn, answer, asks};
@@ -23,12 +25,23 @@ ghost use Rattle.publication.specs.Runs.{IsRun};
 ghost use Rattle.publication.specs.Collected.{HasCollected};
 ghost use Rattle.lock_board.specs.LockBoards.{Pending, Load, BoardState, IsHome, IsRuled, history_of, book_object};
 ghost use Rattle.lock_board.specs.WakeUps.{WasToldToWait, IsNotForgotten};
-ghost use Rattle.lock_board.specs.HoldsAsTold.{AsksFor, KeepsLock, KeptLock, ToldOfGrant, TookNothingBack, HoldsAsTold, ReadsAsTold, WritesAsTold};
+ghost use Rattle.lock_board.specs.HoldsAsTold.{MayGoOn, AsksFor, KeepsLock, KeptLock, ToldOfGrant, TookNothingBack, HoldsAsTold, ReadsAsTold, WritesAsTold};
 ghost use Rattle.lock_board.specs.Exclusion.{ToldModesGoTogether, IsToldExclusive, IsToldAccessCompatible};
 
 use lock_desk::Book;
 use lock_rules::laws;
 use publication::laws::{boards_open_with_an_empty_history, each_place_is_entered_once};
+
+/// The answers that tell of a grant are exactly those that a session gets only if it may go on: it has a transaction, which
+/// neither waits nor is doomed. A session gets such an answer only then (`only`), and then each of its calls gets one, but a
+/// begin, which a waiting session gets refused with AlreadyOpen, too, and an abort, which any transaction may make (`each`).
+/// So a session whose request waited learns by its next call whether it still waits, is a victim, or holds the lock.
+pub fn answers_tell_who_may_go_on()
+    ensures only { (st : State) (session place : ℕ) (call : Call) →
+        ToldOfGrant (answer place call (step st session call).reply) → MayGoOn st session }
+    ensures each { (st : State) (session place : ℕ) (call : Call) → call ≢ Begin → call ≢ Abort →
+        MayGoOn st session → ToldOfGrant (answer place call (step st session call).reply) }
+{}
 
 /// When a session holds a lock as told. It begins with the answer that grants the lock, or, after a wait, with the first
 /// answer that comes only to a session that may go on, unless the session took its request back meanwhile or that call
