@@ -11,7 +11,7 @@ use Rattle.lock_rules.specs.Step.{tests, first_failing, outcome_of, act, step, t
 use Rattle.lock_rules.proofs.Sessions.{open-decides, waiting-decides, doomed-decides}
 use Rattle.lock_board.specs.HoldsAsTold.{MayGoOn, IsRefusedThoughFree, AsksFor, TellsOfGrant}
 
--- The session is open, doesn't wait and isn't doomed.
+-- The tests of a session that may go on: it has a transaction, doesn't wait and isn't doomed.
 abbrev IsFree : Bool → Bool → Bool → Type 0
 IsFree opened waits doomed = (opened ≡ true) × (waits ≡ false) × (doomed ≡ false)
 
@@ -22,7 +22,7 @@ abbrev tail : List Test → List Test
 tail [] = []
 tail (t ∷ ts) = ts
 
--- A call that is tested for all three tells only of a session that is free.
+-- A call with these three tests first tells of a grant only if the session passes them.
 passed : (st : State) (s : ℕ) (c : Call) (opened waits doomed : Bool) (rest : List Test)
     → TellsOfGrant c (outcome_of (first_failing ((not opened, NoTransaction) ∷ (waits, IsWaiting) ∷ (doomed, IsDoomed) ∷ rest)) st s c).reply → IsFree opened waits doomed
 passed st s c false waits doomed rest t = absurd (t.1 refl)
@@ -82,13 +82,15 @@ goes-on st s c t = let f = tells-free st s c t in record {
   not_doomed = λ d. let e = (doomed-decides st s).1 d in let g = f.2 in absurd (cc (e, g));
 }
 
--- The other way: a session that may go on gets such an answer to each call but a begin and an abort.
+-- Conversely: a session that may go on gets such an answer to each call but a begin and an abort.
+
+-- No waiting session and no victim gets one of these refusals.
 
 abbrev EachLater : List Test → Type 0
 EachLater [] = Unit {0}
 EachLater (t ∷ ts) = IsRefusedThoughFree t.1 × EachLater ts
 
--- Refused by one of the later tests, or by none.
+-- A call with these tests alone tells of a grant, whether one of them refuses it or it acts.
 by-later : (st : State) (s : ℕ) (c : Call) (t : Test) (b : Bool) (rest : List Test) → IsRefusedThoughFree t.1 → TellsOfGrant c (outcome_of (first_failing rest) st s c).reply
     → TellsOfGrant c (outcome_of (first_failing ((b, t.1) ∷ rest)) st s c).reply
 by-later st s c t true rest late tells = late
@@ -105,7 +107,7 @@ pass st s c true true doomed rest f t = absurd (let e = f.1 in cc e)
 pass st s c true false true rest f t = absurd (let e = f.2 in cc e)
 pass st s c true false false rest f t = t
 
--- A request that passes its tests.
+-- A request that passes its tests tells of an earlier grant, whatever its reply.
 answered-request : (c : Call) (r : List ℕ) (m k : Mode) (doomed waits : Bool) → AsksFor c r m → TellsOfGrant c (cond doomed Deadlock (cond waits Waiting (Granted k)))
 answered-request c r m k true waits asks = (r, m, asks)
 answered-request c r m k false true asks = (r, m, asks)
@@ -181,7 +183,7 @@ free-tells st s (Try r m) b a f =
     (answered-request (Try r m) r m k (is_doomed after s) (is_waiting after s) (inr (inr refl))))
 free-tells st s Withdraw b a f = withdrawal-free st s (is_open st s) (is_waiting st s) (is_doomed st s) f
 
--- A test that decides what doesn't hold is false.
+-- A test of what doesn't hold is false.
 off : {P : Type 0} (b : Bool) → (b ≡ true → P) → (P → ⊥) → b ≡ false
 off true holds not-so = absurd (not-so (holds refl))
 off false holds not-so = refl

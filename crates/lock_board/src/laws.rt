@@ -32,23 +32,12 @@ use lock_desk::Book;
 use lock_rules::laws;
 use publication::laws::{boards_open_with_an_empty_history, each_place_is_entered_once};
 
-/// The answers that tell of a grant are exactly those that a session gets only if it may go on: it has a transaction, which
-/// neither waits nor is doomed. A session gets such an answer only then (`only`), and then each of its calls gets one, but a
-/// begin, which a waiting session gets refused with AlreadyOpen, too, and an abort, which any transaction may make (`each`).
-/// So a session whose request waited learns by its next call whether it still waits, is a victim, or holds the lock.
-pub fn answers_tell_who_may_go_on()
-    ensures only { (st : State) (session place : ℕ) (call : Call) →
-        ToldOfGrant (answer place call (step st session call).reply) → MayGoOn st session }
-    ensures each { (st : State) (session place : ℕ) (call : Call) → call ≢ Begin → call ≢ Abort →
-        MayGoOn st session → ToldOfGrant (answer place call (step st session call).reply) }
-{}
-
-/// When a session holds a lock as told. It begins with the answer that grants the lock, or, after a wait, with the first
-/// answer that comes only to a session that may go on, unless the session took its request back meanwhile or that call
-/// gives the lock back. Such answers are a poll answered Clear, a withdrawal refused with NotWaiting, and each call with
-/// an effect or a refusal that no waiting session and no victim gets (`ToldOfGrant`). It lasts past each answer that gave nothing of the resource back, and while a call is
-/// pending that gives nothing of it back. It ends when the session publishes a commit, an abort or a release of the
-/// resource, or enters one directly. The answer of that call doesn't bring it back, except a refusal.
+/// When a session holds a lock as told. It begins with the answer that grants the lock, or, after a wait, with the poll
+/// that is answered Clear, the withdrawal that is refused with NotWaiting, or any other answer that tells of the grant
+/// (`ToldOfGrant`), unless the session took its request back meanwhile or the call that tells gives the lock back. It
+/// lasts past each answer that gave nothing of the resource back, and while a call is pending that gives nothing of it
+/// back. It ends when the session publishes a commit, an abort or a release of the resource, or enters one directly. The
+/// answer of that call doesn't bring it back, except a refusal.
 pub fn what_is_told_begins_and_ends()
     ensures granted { (answers : List Answered) (call : Call) (place : ℕ) (r : List ℕ) (k m : Mode) →
         AsksFor call r k → HoldsAsTold (answers ++ answer place call (Granted m) ∷ []) None r m }
@@ -86,6 +75,18 @@ pub fn what_is_told_is_held()
 {
     laws::refusals_keep_the_state();
 }
+
+/// An answer tells of a grant (`ToldOfGrant`) exactly if no waiting session and no victim can get it. A session gets such
+/// an answer only if it may go on when it calls: it has a transaction, which neither waits nor is doomed (`only`). Each
+/// call of such a session is answered so (`each`), except a begin and an abort, which a waiting session and a victim may
+/// make with the same replies. So a session whose request waited learns by its next call, if that is neither of the two,
+/// whether it still waits, is a victim, or holds the lock.
+pub fn answers_tell_who_may_go_on()
+    ensures only { (st : State) (session place : ℕ) (call : Call) →
+        ToldOfGrant (answer place call (step st session call).reply) → MayGoOn st session }
+    ensures each { (st : State) (session place : ℕ) (call : Call) → call ≢ Begin → call ≢ Abort →
+        MayGoOn st session → ToldOfGrant (answer place call (step st session call).reply) }
+{}
 
 /// For a caller that has one legal history with the calls of two sessions: those that each collected, or those and its
 /// pending call, at a place not below its floor. The modes in which both were told that they hold one resource go
