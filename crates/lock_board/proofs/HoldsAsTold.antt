@@ -13,6 +13,7 @@ use Rattle.lock_rules.specs.Entries.{Answered}
 use Rattle.publication.specs.Views.{answer, asks}
 use Rattle.lock_board.specs.LockBoards.{Pending}
 use Rattle.lock_board.specs.HoldsAsTold.{AsksFor, KeepsLock, KeptLock, ToldOfGrant, TookNothingBack, HoldsAsTold}
+use Rattle.lock_board.proofs.Telling.{not-waiting}
 
 asking-keeps : (c : Call) (r x : List ℕ) (m : Mode) → AsksFor c r m → KeepsLock x c
 asking-keeps c r x m (inl e) = ((λ f. cc (e, f)), (λ f. cc (e, f)), (λ f. cc (e, f)))
@@ -21,10 +22,6 @@ asking-keeps c r x m (inr (inr e)) = ((λ f. cc (e, f)), (λ f. cc (e, f)), (λ 
 
 polling-keeps : (c : Call) (x : List ℕ) → c ≡ Poll → KeepsLock x c
 polling-keeps c x e = ((λ f. cc (e, f)), (λ f. cc (e, f)), (λ f. cc (e, f)))
-
-telling-keeps : (a : Answered) (x : List ℕ) → ToldOfGrant a → KeptLock x a
-telling-keeps a x (inl e) = inl (polling-keeps a.call x e.0)
-telling-keeps a x (inr e) = inr (NotWaiting, e.1)
 
 nothing-pending : (r : List ℕ) (p : Pending) → None ≡ Some p → KeepsLock r p.call
 nothing-pending r p e = absurd (cc e)
@@ -36,15 +33,16 @@ begins answers call place r k m asked = record {
   kept = nothing-pending r;
 }
 
--- After a wait it begins with the answer that tells of the grant.
-begins-told : (answers between : List Answered) (call c : Call) (a : Reply) (place later : ℕ) (r : List ℕ) (m : Mode) → ToldOfGrant (answer later c a) → AsksFor call r m → All (KeptLock r) between
-    → All TookNothingBack between → HoldsAsTold (answers ++ answer place call Waiting ∷ (between ++ answer later c a ∷ [])) None r m
-begins-told answers between call c a place later r m ended asked kept standing = record {
+-- After a wait it begins with the answer that tells of the grant, unless that call gives the lock back.
+pub begins-by-next-call : (answers between : List Answered) (call next : Call) (place later : ℕ) (reply : Reply) (r : List ℕ) (m : Mode) → AsksFor call r m → All (KeptLock r) between
+    → All TookNothingBack between → ToldOfGrant (answer later next reply) → KeptLock r (answer later next reply)
+    → HoldsAsTold (answers ++ answer place call Waiting ∷ (between ++ answer later next reply ∷ [])) None r m
+begins-by-next-call answers between call next place later reply r m asked kept standing ended keeps = record {
   told = inr (record {
     before = answers;
     wait = answer place call Waiting;
     between = between;
-    ending = answer later c a;
+    ending = answer later next reply;
     after = [];
     answers_are = refl;
     asked = asked;
@@ -52,20 +50,23 @@ begins-told answers between call c a place later r m ended asked kept standing =
     ended = ended;
     kept_waiting = kept;
     not_withdrawn = standing;
+    kept_telling = keeps;
     kept = All-nil (KeptLock r);
   });
   kept = nothing-pending r;
 }
 
--- That is the poll that is answered Clear,
+-- That may be the poll that is answered Clear,
 pub begins-later : (answers between : List Answered) (call : Call) (place later : ℕ) (r : List ℕ) (m : Mode) → AsksFor call r m → All (KeptLock r) between → All TookNothingBack between
     → HoldsAsTold (answers ++ answer place call Waiting ∷ (between ++ answer later Poll Clear ∷ [])) None r m
-begins-later answers between call place later r m = begins-told answers between call Poll Clear place later r m (inl (refl, refl))
+begins-later answers between call place later r m asked kept standing =
+    begins-by-next-call answers between call Poll place later Clear r m asked kept standing tt (inl (polling-keeps Poll r refl))
 
 -- or the withdrawal that comes too late.
 pub begins-meanwhile : (answers between : List Answered) (call : Call) (place later : ℕ) (r : List ℕ) (m : Mode) → AsksFor call r m → All (KeptLock r) between → All TookNothingBack between
     → HoldsAsTold (answers ++ answer place call Waiting ∷ (between ++ answer later Withdraw (Refused NotWaiting) ∷ [])) None r m
-begins-meanwhile answers between call place later r m = begins-told answers between call Withdraw (Refused NotWaiting) place later r m (inr (refl, refl))
+begins-meanwhile answers between call place later r m asked kept standing =
+    begins-by-next-call answers between call Withdraw place later (Refused NotWaiting) r m asked kept standing not-waiting (inr (NotWaiting, refl))
 
 -- It lasts past each answer that kept the lock.
 one-more : (r : List ℕ) (after : List Answered) (x : Answered) → All (KeptLock r) after → KeptLock r x → All (KeptLock r) (after ++ x ∷ [])
@@ -99,6 +100,7 @@ goes-on answers x pending r m kept t = elim t.told [
       ended = g.ended;
       kept_waiting = g.kept_waiting;
       not_withdrawn = g.not_withdrawn;
+      kept_telling = g.kept_telling;
       kept = one-more r g.after x g.kept kept;
     });
     kept = nothing-pending r;
@@ -136,5 +138,5 @@ pub ends : (answers : List Answered) (x : Answered) (pending : Option Pending) (
 ends answers x pending r m gives t = elim t.told [
   | inl g ↦ gives (last-kept (KeptLock r) answers x g.before g.grant g.after g.answers_are (inl (asking-keeps g.grant.call r r g.asked.0 g.asked.1)) g.kept)
   | inr g ↦ gives (last-kept (KeptLock r) answers x g.before g.wait (g.between ++ g.ending ∷ g.after) g.answers_are (inl (asking-keeps g.wait.call r r m g.asked))
-      (All-append (KeptLock r) g.between (g.ending ∷ g.after) g.kept_waiting (All-cons (KeptLock r) g.ending g.after (telling-keeps g.ending r g.ended) g.kept)))
+      (All-append (KeptLock r) g.between (g.ending ∷ g.after) g.kept_waiting (All-cons (KeptLock r) g.ending g.after g.kept_telling g.kept)))
 ]

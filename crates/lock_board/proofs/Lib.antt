@@ -1,4 +1,5 @@
 pub mod HoldsAsTold
+pub mod Telling
 pub mod ToldIsHeld
 pub mod ToldTogether
 pub mod WakeUps

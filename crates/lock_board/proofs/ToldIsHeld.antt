@@ -1,5 +1,5 @@
 -- A lock that a session was granted, and gave nothing of back, is held in the state of the history.
-use Rattle.std.proofs.Common.{◌≡◌, ◌≢◌, ◌⊎◌, inl, inr, ℕ, ◌+◌, Bool, true, false, not, cond, eqb, Option, Some, None, List, [], ◌∷◌, ◌++◌, refl, sym, ap, subst, ◌∙◌, append_assoc, append-nil}
+use Rattle.std.proofs.Common.{◌≡◌, ◌≢◌, ◌⊎◌, inl, inr, ℕ, ◌+◌, Bool, true, false, cond, eqb, Option, Some, None, List, [], ◌∷◌, ◌++◌, refl, sym, ap, subst, ◌∙◌, append_assoc, append-nil}
 use mathlib.Core.Logic.{dite}
 use native.Mathlib.Decide.{ℕ_discrete}
 use Rattle.std.specs.List.{All}
@@ -9,13 +9,12 @@ use Rattle.lock_modes.specs.declared.Mode.{Mode}
 use Rattle.lock_modes.specs.Order.{IsAtOrBelow, same}
 use Rattle.lock_modes.proofs.Order.{order-from, order-tests, at_or_below-trans}
 use Rattle.lock_rules.specs.declared.calls.Call.{Call}
-use Rattle.lock_rules.specs.declared.calls.Call.TheVariants.{Lock, Convert, Try, Poll, Abort, Withdraw}
+use Rattle.lock_rules.specs.declared.calls.Call.TheVariants.{Lock, Convert, Try, Abort, Withdraw}
 use Rattle.lock_rules.specs.declared.calls.Reply.{Reply}
-use Rattle.lock_rules.specs.declared.calls.Reply.TheVariants.{Granted, Waiting, Clear, Refused, Withdrawn}
+use Rattle.lock_rules.specs.declared.calls.Reply.TheVariants.{Granted, Waiting, Refused, Withdrawn}
 use Rattle.lock_rules.specs.declared.calls.Why.{Why}
-use Rattle.lock_rules.specs.declared.calls.Why.TheVariants.{NoTransaction, IsDoomed, NotWaiting}
 use Rattle.lock_rules.specs.Entries.{Entry, Answered}
-use Rattle.lock_rules.specs.State.{Claim, State, held_mode, request_of, is_open, is_waiting, is_doomed, with_table}
+use Rattle.lock_rules.specs.State.{Claim, State, held_mode, request_of, is_waiting, is_doomed, with_table}
 use Rattle.lock_rules.specs.Queue.{with_request}
 use Rattle.lock_rules.specs.Step.{Outcome, tests, first_failing, outcome_of, step}
 use Rattle.lock_rules.specs.Legal.{IsLegal, state_of}
@@ -27,12 +26,13 @@ use Rattle.lock_rules.proofs.Grants.{grant-stands}
 use Rattle.lock_rules.proofs.DoomsStand.{doom-stands}
 use Rattle.lock_rules.proofs.RequestsStand.{request-stands}
 use Rattle.lock_rules.proofs.Doomed.{among-or-not}
-use Rattle.lock_rules.proofs.Sessions.{open-decides, waiting-decides, doomed-decides}
+use Rattle.lock_rules.proofs.Sessions.{open-decides}
 use Rattle.lock_rules.proofs.Steps.{all-pass}
 use Rattle.lock_rules.proofs.Taken.{passes}
 use Rattle.lock_rules.proofs.Lawful.{lawful}
 use Rattle.publication.specs.Views.{entry, answer}
-use Rattle.lock_board.specs.HoldsAsTold.{AsksFor, KeepsLock, KeptLock, TookNothingBack, WasGranted, WasGrantedLater}
+use Rattle.lock_board.specs.HoldsAsTold.{AsksFor, KeepsLock, KeptLock, TellsOfGrant, TookNothingBack, WasGranted, WasGrantedLater}
+use Rattle.lock_board.proofs.Telling.{goes-on}
 
 -- The entry of an answered call.
 
@@ -102,11 +102,6 @@ each-kept s k r (x ∷ xs) all = go (each-kept s (k + 1) r xs) (eqb x.session s)
     go deeper true mine every = ((λ _. All-head (KeptLock r) (answered k x) (calls_from s (k + 1) xs) every), deeper (All-tail (KeptLock r) (answered k x) (calls_from s (k + 1) xs) every))
     go deeper false mine every = ((λ e. absurd (let t = (Decides-eqb x.session s).1 e in cc (t, mine))), deeper every)
 
--- A call that tells of a grant gives nothing back.
-telling-keeps : (r : List ℕ) (c : Call) (a : Reply) → ((c ≡ Poll) × (a ≡ Clear)) ⊎ ((c ≡ Withdraw) × (a ≡ Refused NotWaiting)) → KeepsIt r c a
-telling-keeps r c a (inl e) = inl ((λ f. let g = e.0 in cc (f, g)), (λ f. let g = e.0 in cc (f, g)), (λ f. let g = e.0 in cc (f, g)))
-telling-keeps r c a (inr e) = inr (NotWaiting, e.1)
-
 -- None of the session's calls in these entries took a waiting request back.
 abbrev EachStood : ℕ → List Entry → Type 0
 EachStood s [] = Unit {0}
@@ -124,18 +119,6 @@ each-stood s k (x ∷ xs) all = go (each-stood s (k + 1) xs) (eqb x.session s) r
 withdrawal-told : (st : State) (s : ℕ) (o : Option Why) → ((outcome_of o st s Withdraw).reply ≡ Withdrawn) ⊎ ((why : Why) × ((outcome_of o st s Withdraw).reply ≡ Refused why))
 withdrawal-told st s None = inl refl
 withdrawal-told st s (Some why) = inr (why, refl)
-
--- The call and its reply tell of a grant.
-abbrev TellsOfGrant : Call → Reply → Type 0
-TellsOfGrant c a = ((c ≡ Poll) × (a ≡ Clear)) ⊎ ((c ≡ Withdraw) × (a ≡ Refused NotWaiting))
-
--- A withdrawal that is refused with NotWaiting passes its other tests.
-too-late : (st : State) (s : ℕ) (opened doomed waits : Bool) → (outcome_of (first_failing ((not opened, NoTransaction) ∷ (doomed, IsDoomed) ∷ (not waits, NotWaiting) ∷ [])) st s Withdraw).reply ≡ Refused NotWaiting
-    → (waits ≡ false) × (doomed ≡ false)
-too-late st s false doomed waits e = absurd (cc e)
-too-late st s true true waits e = absurd (cc e)
-too-late st s true false true e = absurd (cc e)
-too-late st s true false false e = (refl, refl)
 
 -- A lock stays held.
 
@@ -195,7 +178,7 @@ module _ (refuses : (st : State) → DoesRefusalKeep st) (s : ℕ) (r : List ℕ
       let kept : All (KeptLock r) (calls_from s t.at t.rest) = subst (All (KeptLock r)) (sym t.after_is) (All-append (KeptLock r) g.after more g.kept all) in
       subst (Holds m) one (held-on m t.rest (t.front ++ x ∷ []) (subst IsLegal (sym one) legal) (each-kept s t.at r t.rest kept) (m, here, same))
 
-  -- A request that waits, up to the poll that is answered Clear.
+  -- A request that waits, up to the answer that tells of the grant.
 
   at_least : (m k : Mode) (o : Option Mode) → IsTarget o m k → IsAtOrBelow m k
   at_least m k None is = subst (IsAtOrBelow m) (sym is) same
@@ -281,18 +264,11 @@ module _ (refuses : (st : State) → DoesRefusalKeep st) (s : ℕ) (r : List ℕ
   -- If an answer tells of a grant, the session has no request waiting and isn't doomed.
   is-granted : (front : List Entry) (rest : List Entry) (p : Entry) → IsLegal (front ++ p ∷ rest) → p.session ≡ s → TellsOfGrant p.call p.reply
       → ((q : Claim) → request_of s (state_of front).table.requests ≡ Some q → ⊥) × (HasDoomedTransaction (state_of front) s → ⊥)
-  is-granted front rest p legal whose (inl e) =
+  is-granted front rest p legal whose tells =
       let told : p.reply ≡ (step (state_of front) p.session p.call).reply = legal-steps (front ++ p ∷ rest) legal front rest p refl in
-      let here : (step (state_of front) s Poll).reply ≡ Clear
-      = ap (λ (n : ℕ). (step (state_of front) n Poll).reply) (sym whose) ∙ (ap (λ (c : Call). (step (state_of front) p.session c).reply) (sym e.0) ∙ (sym told ∙ e.1)) in
-      let c = ((lawful front).poll_reports s).clear.0 here in
-      ((λ q f. c.1 (q, f)), c.2)
-  is-granted front rest p legal whose (inr e) =
-      let told : p.reply ≡ (step (state_of front) p.session p.call).reply = legal-steps (front ++ p ∷ rest) legal front rest p refl in
-      let here : (step (state_of front) s Withdraw).reply ≡ Refused NotWaiting
-      = ap (λ (n : ℕ). (step (state_of front) n Withdraw).reply) (sym whose) ∙ (ap (λ (c : Call). (step (state_of front) p.session c).reply) (sym e.0) ∙ (sym told ∙ e.1)) in
-      let late = too-late (state_of front) s (is_open (state_of front) s) (is_doomed (state_of front) s) (is_waiting (state_of front) s) here in
-      ((λ q f. let w = (waiting-decides (state_of front) s).1 (q, f) in cc (w, late.0)), (λ d. let w = (doomed-decides (state_of front) s).1 d in cc (w, late.1)))
+      let mine : (step (state_of front) p.session p.call).reply ≡ (step (state_of front) s p.call).reply = ap (λ (n : ℕ). (step (state_of front) n p.call).reply) whose in
+      let free = goes-on (state_of front) s p.call (subst (TellsOfGrant p.call) (told ∙ mine) tells) in
+      ((λ q f. free.not_waiting (q, f)), free.not_doomed)
 
   -- A session that waits, and whose calls keep the lock, makes no abort.
   no-abort : (front : List Entry) (q : Claim) (x : Entry) → x.reply ≡ (step (state_of front) x.session x.call).reply → request_of s (state_of front).table.requests ≡ Some q
@@ -304,7 +280,7 @@ module _ (refuses : (st : State) → DoesRefusalKeep st) (s : ℕ) (r : List ℕ
       = ap (λ (n : ℕ). (step (state_of front) n Abort).reply) (sym mine) ∙ (ap (λ (c : Call). (step (state_of front) x.session c).reply) (sym aborts) ∙ (sym told ∙ why.1)) in
       ((l.abort_needs_transaction s why.0).0 here).1 ((open-decides (state_of front) s).0 (l.owners_open s (inr (q, w))))
 
-  -- If the session waits after the front, its request is granted by the time its poll is answered Clear.
+  -- If the session waits after the front, its request is granted by the time an answer tells of it.
   resolved : (m : Mode) (es front rest : List Entry) (p : Entry) → IsLegal (front ++ (es ++ p ∷ rest)) → EachKept s r es → EachStood s es → p.session ≡ s → TellsOfGrant p.call p.reply
       → Waits m (state_of front) → Holds m (front ++ es)
   resolved m [] front rest p legal kept stood whose ended w = absurd ((is-granted front rest p legal whose ended).0 (request s r w.mode) w.request_is)
@@ -355,5 +331,4 @@ module _ (refuses : (st : State) → DoesRefusalKeep st) (s : ℕ) (r : List ℕ
       let here : Holds m (start ++ u.front) = resolved m u.front start u.rest p (subst IsLegal (sym seam) legal) kept stood refl g.ended waits in
       let one : (start ++ u.front) ++ p ∷ u.rest ≡ h = append_assoc start u.front (p ∷ u.rest) ∙ seam in
       let later : EachKept s r u.rest = each-kept s u.at r u.rest (subst (All (KeptLock r)) (sym u.after_is) (All-append (KeptLock r) g.after more g.kept all)) in
-      let ends : p.session ≡ s → KeepsIt r p.call p.reply = λ _. telling-keeps r p.call p.reply g.ended in
-      subst (Holds m) one (held-on m (p ∷ u.rest) (start ++ u.front) (subst IsLegal (sym one) legal) (ends, later) here)
+      subst (Holds m) one (held-on m (p ∷ u.rest) (start ++ u.front) (subst IsLegal (sym one) legal) ((λ _. g.kept_telling), later) here)

@@ -4,12 +4,14 @@ use Rattle.lock_modes.specs.declared.Mode.{Mode}
 use Rattle.lock_modes.specs.declared.Mode.TheVariants.{S, X}
 use Rattle.lock_modes.specs.Order.{IsAtOrBelow}
 use Rattle.lock_rules.specs.declared.calls.Call.{Call}
-use Rattle.lock_rules.specs.declared.calls.Call.TheVariants.{Lock, Convert, Try, Poll, Release, Commit, Abort, Withdraw}
-use Rattle.lock_rules.specs.declared.calls.Reply.TheVariants.{Granted, Waiting, Clear, Refused, Withdrawn}
+use Rattle.lock_rules.specs.declared.calls.Call.TheVariants.{Lock, Convert, Try, Release, Commit, Abort}
+use Rattle.lock_rules.specs.declared.calls.Reply.{Reply}
+use Rattle.lock_rules.specs.declared.calls.Reply.TheVariants.{Granted, Waiting, Deadlock, Clear, Released, Committed, Refused, Withdrawn}
 use Rattle.lock_rules.specs.declared.calls.Why.{Why}
-use Rattle.lock_rules.specs.declared.calls.Why.TheVariants.{NotWaiting}
+use Rattle.lock_rules.specs.declared.calls.Why.TheVariants.{AlreadyOpen, NoTransaction, IsWaiting, IsDoomed}
 use Rattle.lock_rules.specs.Entries.{Answered}
-use Rattle.lock_rules.specs.Laws.{IsAtOrOver}
+use Rattle.lock_rules.specs.State.{State}
+use Rattle.lock_rules.specs.Laws.{IsAtOrOver, HasTransaction, HasRequest, HasDoomedTransaction}
 use Rattle.lock_board.specs.LockBoards.{Pending}
 
 -- The call requests the resource in this mode.
@@ -24,10 +26,32 @@ KeepsLock r c = (c ≢ Commit) × (c ≢ Abort) × (c ≢ Release r)
 abbrev pub KeptLock : List ℕ → Answered → Type 0
 KeptLock r a = KeepsLock r a.call ⊎ ((why : Why) × (a.reply ≡ Refused why))
 
--- The answered call told that the session waits no more and is no victim: a poll was answered Clear, or a withdrawal was refused
--- with NotWaiting.
+-- The session may go on: it has a transaction, which neither waits nor is doomed.
+pub record MayGoOn (st : State) (s : ℕ) : Type 0 where
+  pub has_transaction : HasTransaction st s
+  pub not_waiting : HasRequest st s → ⊥
+  pub not_doomed : HasDoomedTransaction st s → ⊥
+
+-- The refusal comes only to a session that may go on: its test is made after the tests whether the session has a transaction,
+-- waits and is doomed.
+abbrev pub IsRefusedThoughFree : Why → Type 0
+IsRefusedThoughFree why = (why ≢ AlreadyOpen) × (why ≢ NoTransaction) × (why ≢ IsWaiting) × (why ≢ IsDoomed)
+
+-- This reply to the call comes only to a session that may go on when it calls. A new request may be answered Waiting or Deadlock:
+-- then that request waits, or makes its session a victim, which keeps its locks. A poll with these replies tells of no grant.
+abbrev pub TellsOfGrant : Call → Reply → Type 0
+TellsOfGrant c (Granted m) = Unit {0}
+TellsOfGrant c Waiting = (r : List ℕ) × (m : Mode) × AsksFor c r m
+TellsOfGrant c Deadlock = (r : List ℕ) × (m : Mode) × AsksFor c r m
+TellsOfGrant c Clear = Unit {0}
+TellsOfGrant c Released = Unit {0}
+TellsOfGrant c (Committed n) = Unit {0}
+TellsOfGrant c (Refused why) = IsRefusedThoughFree why
+TellsOfGrant c _ = ⊥
+
+-- The answered call told that the session waited no more and was no victim, so that a request that waited before was granted.
 abbrev pub ToldOfGrant : Answered → Type 0
-ToldOfGrant a = ((a.call ≡ Poll) × (a.reply ≡ Clear)) ⊎ ((a.call ≡ Withdraw) × (a.reply ≡ Refused NotWaiting))
+ToldOfGrant a = TellsOfGrant a.call a.reply
 
 -- The answered call took no waiting request back.
 abbrev pub TookNothingBack : Answered → Type 0
@@ -44,7 +68,7 @@ pub record WasGranted (answers : List Answered) (r : List ℕ) (m : Mode) : Type
   pub kept : All (KeptLock r) after
 
 -- A request for the resource in this mode was answered Waiting, and a later answer told that it was granted. No answered call
--- between the two took the request back, and none since the request gave the resource back.
+-- between the two took the request back, and none since the request gave the resource back, nor did the one that told.
 pub record WasGrantedLater (answers : List Answered) (r : List ℕ) (m : Mode) : Type 0 where
   pub before : List Answered
   pub wait : Answered
@@ -57,6 +81,7 @@ pub record WasGrantedLater (answers : List Answered) (r : List ℕ) (m : Mode) :
   pub ended : ToldOfGrant ending
   pub kept_waiting : All (KeptLock r) between
   pub not_withdrawn : All TookNothingBack between
+  pub kept_telling : KeptLock r ending
   pub kept : All (KeptLock r) after
 
 -- A session with these answers and this pending call was told that it holds the resource in this mode, and has published

@@ -8,12 +8,14 @@ ghost use Rattle.std.specs.Prelude.{◌≡◌, ◌≢◌, ◌⊎◌, ℕ, ◌+�
 ghost use Rattle.lock_modes.specs.declared.Mode.{Mode};
 ghost use Rattle.sequential.specs.Histories.{calls_of};
 ghost use Rattle.lock_rules.specs.declared.calls.Call.{Call};
-ghost use Rattle.lock_rules.specs.declared.calls.Call.TheVariants.{Poll, Withdraw};
+ghost use Rattle.lock_rules.specs.declared.calls.Call.TheVariants.{Begin, Poll, Abort, Withdraw};
 ghost use Rattle.lock_rules.specs.declared.calls.Reply.{Reply};
 ghost use Rattle.lock_rules.specs.declared.calls.Reply.TheVariants.{Granted, Waiting, Clear, Refused};
 ghost use Rattle.lock_rules.specs.declared.calls.Why.{Why};
 ghost use Rattle.lock_rules.specs.declared.calls.Why.TheVariants.{NotWaiting};
 ghost use Rattle.lock_rules.specs.Entries.{Entry, Answered};
+ghost use Rattle.lock_rules.specs.State.{State};
+ghost use Rattle.lock_rules.specs.Step.{step};
 ghost use Rattle.lock_rules.specs.Legal.{IsLegal, state_of};
 ghost use Rattle.lock_rules.specs.Laws.{HoldsAtLeast, GoTogether};
 ghost use Rattle.publication.specs.Views.{IsAccountedIn, answer, asks};
@@ -23,7 +25,7 @@ ghost use Rattle.publication.specs.Runs.{IsRun};
 ghost use Rattle.publication.specs.Collected.{HasCollected};
 ghost use Rattle.lock_board.specs.LockBoards.{Pending, Load, BoardState, IsHome, IsRuled, history_of, book_object};
 ghost use Rattle.lock_board.specs.WakeUps.{WasToldToWait, IsNotForgotten};
-ghost use Rattle.lock_board.specs.HoldsAsTold.{AsksFor, KeepsLock, KeptLock, TookNothingBack, HoldsAsTold, ReadsAsTold, WritesAsTold};
+ghost use Rattle.lock_board.specs.HoldsAsTold.{MayGoOn, AsksFor, KeepsLock, KeptLock, ToldOfGrant, TookNothingBack, HoldsAsTold, ReadsAsTold, WritesAsTold};
 ghost use Rattle.lock_board.specs.Exclusion.{ToldModesGoTogether, IsToldExclusive, IsToldAccessCompatible};
 
 use lock_desk::Book;
@@ -31,10 +33,11 @@ use lock_rules::laws;
 use publication::laws::{boards_open_with_an_empty_history, each_place_is_entered_once};
 
 /// When a session holds a lock as told. It begins with the answer that grants the lock, or, after a wait, with the poll
-/// that is answered Clear or the withdrawal that is refused with NotWaiting, unless the session took its request back
-/// meanwhile. It lasts past each answer that gave nothing of the resource back, and while a call is
-/// pending that gives nothing of it back. It ends when the session publishes a commit, an abort or a release of the
-/// resource, or enters one directly. The answer of that call doesn't bring it back, except a refusal.
+/// that is answered Clear, the withdrawal that is refused with NotWaiting, or any other answer that tells of the grant
+/// (`ToldOfGrant`), unless the session took its request back meanwhile or the call that tells gives the lock back. It
+/// lasts past each answer that gave nothing of the resource back, and while a call is pending that gives nothing of it
+/// back. It ends when the session publishes a commit, an abort or a release of the resource, or enters one directly. The
+/// answer of that call doesn't bring it back, except a refusal.
 pub fn what_is_told_begins_and_ends()
     ensures granted { (answers : List Answered) (call : Call) (place : ℕ) (r : List ℕ) (k m : Mode) →
         AsksFor call r k → HoldsAsTold (answers ++ answer place call (Granted m) ∷ []) None r m }
@@ -44,6 +47,10 @@ pub fn what_is_told_begins_and_ends()
     ensures granted_meanwhile { (answers between : List Answered) (call : Call) (place later : ℕ) (r : List ℕ) (m : Mode) →
         AsksFor call r m → All (KeptLock r) between → All TookNothingBack between →
         HoldsAsTold (answers ++ answer place call Waiting ∷ (between ++ answer later Withdraw (Refused NotWaiting) ∷ [])) None r m }
+    ensures granted_by_next_call { (answers between : List Answered) (call next : Call) (place later : ℕ) (reply : Reply) (r : List ℕ) (m : Mode) →
+        AsksFor call r m → All (KeptLock r) between → All TookNothingBack between →
+        ToldOfGrant (answer later next reply) → KeptLock r (answer later next reply) →
+        HoldsAsTold (answers ++ answer place call Waiting ∷ (between ++ answer later next reply ∷ [])) None r m }
     ensures stays { (answers : List Answered) (x : Answered) (pending : Option Pending) (r : List ℕ) (m : Mode) →
         KeptLock r x → HoldsAsTold answers pending r m → HoldsAsTold (answers ++ x ∷ []) None r m }
     ensures asks_on { (answers : List Answered) (call : Call) (floor : ℕ) (r : List ℕ) (m : Mode) →
@@ -68,6 +75,18 @@ pub fn what_is_told_is_held()
 {
     laws::refusals_keep_the_state();
 }
+
+/// An answer tells of a grant (`ToldOfGrant`) exactly if no waiting session and no victim can get it. A session gets such
+/// an answer only if it may go on when it calls: it has a transaction, which neither waits nor is doomed (`only`). Each
+/// call of such a session is answered so (`each`), except a begin and an abort, which a waiting session and a victim may
+/// make with the same replies. So a session whose request waited learns by its next call, if that is neither of the two,
+/// whether it still waits, is a victim, or holds the lock.
+pub fn answers_tell_who_may_go_on()
+    ensures only { (st : State) (session place : ℕ) (call : Call) →
+        ToldOfGrant (answer place call (step st session call).reply) → MayGoOn st session }
+    ensures each { (st : State) (session place : ℕ) (call : Call) → call ≢ Begin → call ≢ Abort →
+        MayGoOn st session → ToldOfGrant (answer place call (step st session call).reply) }
+{}
 
 /// For a caller that has one legal history with the calls of two sessions: those that each collected, or those and its
 /// pending call, at a place not below its floor. The modes in which both were told that they hold one resource go

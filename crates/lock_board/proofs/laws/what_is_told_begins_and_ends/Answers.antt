@@ -1,4 +1,4 @@
-use Rattle.lock_board.proofs.HoldsAsTold.{begins, begins-later, begins-meanwhile, goes-on, asks-on, comes-back, ends-asked, ends}
+use Rattle.lock_board.proofs.HoldsAsTold.{begins, begins-later, begins-meanwhile, begins-by-next-call, goes-on, asks-on, comes-back, ends-asked, ends}
 use Rattle.lock_board.proofs.laws.what_is_told_begins_and_ends.Goals as goal
 
 pub returns-clause-granted : goal.returns-clause-granted
@@ -9,6 +9,9 @@ returns-clause-granted_later c = begins-later
 
 pub returns-clause-granted_meanwhile : goal.returns-clause-granted_meanwhile
 returns-clause-granted_meanwhile c = begins-meanwhile
+
+pub returns-clause-granted_by_next_call : goal.returns-clause-granted_by_next_call
+returns-clause-granted_by_next_call c = begins-by-next-call
 
 pub returns-clause-stays : goal.returns-clause-stays
 returns-clause-stays c = goes-on
