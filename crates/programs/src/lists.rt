@@ -1,0 +1,154 @@
+//! Programs and answers that list their calls and replies.
+
+ghost use Rattle.std.specs.Prelude.{◌≡◌, ◌<◌, ◌≤◌, ◌^◌, [], ◌∷◌, ◌++◌, false, true, length, Some, slice_get};
+
+use std::alloc::AllocError as NoMemory;
+
+/// A program of up to `N` calls.
+pub struct CallList<C, const N: usize> {
+    /// The calls, and others behind them.
+    calls: [C; N],
+    /// How many calls there are.
+    length: u32,
+    ghost few: { length ≤ N },
+}
+
+impl<C: Copy, const N: usize> Clone for CallList<C, N> {
+    fn clone(&self) -> Result<CallList<C, N>, NoMemory> {
+        Ok(*self)
+    }
+}
+
+impl<C: Copy, const N: usize> Copy for CallList<C, N> {}
+
+impl<C: Copy, const N: usize> CallList<C, N> {
+    ghost use Rattle.programs.specs.Lists.{listed_calls};
+
+    /// A program of no calls. The filler stands where there is no call.
+    pub fn new(filler: C) -> CallList<C, N>
+        ensures { listed_calls result ≡ [] }
+    {
+        CallList {
+            calls: [filler; N],
+            length: 0,
+        }
+    }
+
+    /// The number of calls.
+    pub fn length(&self) -> usize
+        ensures value { result ≡ length (listed_calls self.now) }
+        ensures few { result ≤ N }
+    {
+        self.length as usize
+    }
+
+    /// Appends a call.
+    pub fn push(&mut self, call: C)
+        requires room { length (listed_calls self.old) < N }
+        requires few { N < 2 ^ 32 }
+        ensures { listed_calls self.new ≡ listed_calls self.old ++ call ∷ [] }
+    {
+        let at = self.length as usize;
+        self.calls[at] = call;
+        self.length += 1;
+    }
+
+    /// The call at this place, from 0 on.
+    pub fn at(&self, at: usize) -> C
+        requires { at < length (listed_calls self.now) }
+        ensures { slice_get (listed_calls self.now) at ≡ Some result }
+    {
+        self.calls[at]
+    }
+}
+
+/// The answer to a program of up to `N` calls.
+pub struct ReplyList<R, const N: usize> {
+    /// The place of the first call in the history.
+    first: u64,
+    /// The replies, and others behind them.
+    replies: [R; N],
+    /// How many replies there are.
+    length: u32,
+    /// Whether memory was refused to the next call.
+    is_refused: bool,
+    ghost few: { length ≤ N },
+}
+
+impl<R: Copy, const N: usize> Clone for ReplyList<R, N> {
+    fn clone(&self) -> Result<ReplyList<R, N>, NoMemory> {
+        Ok(*self)
+    }
+}
+
+impl<R: Copy, const N: usize> Copy for ReplyList<R, N> {}
+
+impl<R: Copy, const N: usize> ReplyList<R, N> {
+    ghost use Rattle.programs.specs.Lists.{listed_replies, first_place, is_starved};
+
+    /// The answer with no replies. The filler stands where there is no reply.
+    pub fn new(first: u64, filler: R) -> ReplyList<R, N>
+        ensures replies { listed_replies result ≡ [] }
+        ensures first { first_place result ≡ first }
+        ensures refused { is_starved result ≡ false }
+    {
+        ReplyList {
+            first,
+            replies: [filler; N],
+            length: 0,
+            is_refused: false,
+        }
+    }
+
+    /// The place of the first call that was served.
+    pub fn first(&self) -> u64
+        ensures { result ≡ first_place self.now }
+    {
+        self.first
+    }
+
+    /// How many calls were served.
+    pub fn served(&self) -> usize
+        ensures value { result ≡ length (listed_replies self.now) }
+        ensures few { result ≤ N }
+    {
+        self.length as usize
+    }
+
+    /// Whether memory was refused to the call behind those that were served.
+    pub fn is_refused(&self) -> bool
+        ensures { result ≡ is_starved self.now }
+    {
+        self.is_refused
+    }
+
+    /// The reply to the call at this place of the program, from 0 on.
+    pub fn at(&self, at: usize) -> R
+        requires { at < length (listed_replies self.now) }
+        ensures { slice_get (listed_replies self.now) at ≡ Some result }
+    {
+        self.replies[at]
+    }
+
+    /// Appends a reply.
+    pub fn push(&mut self, reply: R)
+        requires room { length (listed_replies self.old) < N }
+        requires few { N < 2 ^ 32 }
+        ensures replies { listed_replies self.new ≡ listed_replies self.old ++ reply ∷ [] }
+        ensures first { first_place self.new ≡ first_place self.old }
+        ensures refused { is_starved self.new ≡ is_starved self.old }
+    {
+        let at = self.length as usize;
+        self.replies[at] = reply;
+        self.length += 1;
+    }
+
+    /// Notes that memory was refused to the next call.
+    pub fn refuse(&mut self)
+        ensures replies { listed_replies self.new ≡ listed_replies self.old }
+        ensures first { first_place self.new ≡ first_place self.old }
+        ensures refused { is_starved self.new ≡ true }
+    {
+        self.is_refused = true;
+    }
+}
