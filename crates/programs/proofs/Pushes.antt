@@ -1,8 +1,8 @@
 -- One more program.
-use Rattle.std.proofs.Common.{◌≡◌, ℕ, zero, suc, ◌+◌, ◌≤◌, List, [], ◌∷◌, ◌++◌, length, length-append, append-nil, take, drop, refl, sym, ap, subst, ◌∙◌, arith}
+use Rattle.std.proofs.Common.{◌≡◌, ℕ, ◌+◌, ◌≤◌, List, [], ◌∷◌, ◌++◌, length, length-append, take, drop, sym, ap, subst, ◌∙◌, arith}
 use Rattle.std.specs.Prelude.{All}
 use Rattle.std.proofs.lemmas.List.Elements.{All-push}
-use Rattle.std.proofs.Math.Seq.{take-append_seam}
+use Rattle.std.proofs.lemmas.List.{take-append-le, take-append-drop}
 use Rattle.sequential.specs.declared.entry.Entry.{Entry}
 use Rattle.sequential.specs.Histories.{IsEntryWithin}
 use Rattle.programs.specs.Form.{Form}
@@ -28,19 +28,6 @@ within-push {C} {R} n m s c r h longer same f some few all =
     subst (λ (k : ℕ). All (IsEntryWithin k) longer) (sym same)
     (subst (λ (l : List (Entry C R)). All (IsEntryWithin n) l) (sym f) (All-push (IsEntryWithin n) h (entry s c r) all (record { some = some; within = few })))
 
-take-all : {T : Type 0} (xs : List T) → take (length xs) xs ≡ xs
-take-all {T} xs = ap (take (length xs)) (sym (append-nil xs)) ∙ take-append_seam xs []
-
-take-front : {T : Type 0} (k : ℕ) (xs ys : List T) → k ≤ length xs → take k (xs ++ ys) ≡ take k xs
-take-front zero xs ys h = refl
-take-front (suc k) [] ys h = absurd (omega (arith, h))
-take-front {T} (suc k) (x ∷ xs) ys h = ap (λ (l : List T). x ∷ l) (take-front k xs ys (omega (arith, h)))
-
-take-drop : {T : Type 0} (k : ℕ) (xs : List T) → take k xs ++ drop k xs ≡ xs
-take-drop zero xs = refl
-take-drop (suc k) [] = refl
-take-drop {T} (suc k) (x ∷ xs) = ap (λ (l : List T). x ∷ l) (take-drop k xs)
-
 module _ {P A C R : Type 0} (form : Form P A C R) where
   -- the history with one more program that was run
   pub flat-run : (s : ℕ) (p : P) (a : A) (old new : List (Entry C R)) (h longer : List (Entry P A)) → HasRun form s p old new a → old ≡ flat form h
@@ -56,24 +43,14 @@ module _ {P A C R : Type 0} (form : Form P A C R) where
       subst (IsLegal form is_legal) (sym f)
       (legal-push form is_legal s p a h l (subst is_legal here n) (r.first ∙ ap (λ (x : List (Entry C R)). length x) e) r.run)
 
-  -- a program that follows a history begins where the history of calls ends
-  pub place-behind : (H : List (Entry C R)) (h longer : List (Entry P A)) (e : Entry P A) → H ≡ flat form h → longer ≡ h ++ e ∷ [] → length H ≡ place_of form (length h) longer
-  place-behind H h longer e is f =
-      ap (λ (l : List (Entry C R)). length l) is
-      ∙ ap (λ (l : List (Entry P A)). length (flat form l)) (sym (ap (take (length h)) f ∙ take-append_seam h (e ∷ [])))
-
-  -- a history that ends here
-  pub place-all : (H : List (Entry C R)) (h : List (Entry P A)) → H ≡ flat form h → length H ≡ place_of form (length h) h
-  place-all H h is = ap (λ (l : List (Entry C R)). length l) is ∙ ap (λ (l : List (Entry P A)). length (flat form l)) (sym (take-all h))
-
   -- an earlier place stays where it is
   pub place-front : (from : ℕ) (h longer : List (Entry P A)) (e : Entry P A) → from ≤ length h → longer ≡ h ++ e ∷ [] → place_of form from h ≡ place_of form from longer
   place-front from h longer e few f =
-      ap (λ (l : List (Entry P A)). length (flat form l)) (sym (ap (take from) f ∙ take-front from h (e ∷ []) few))
+      ap (λ (l : List (Entry P A)). length (flat form l)) (sym (ap (take from) f ∙ take-append-le from h (e ∷ []) few))
 
   -- the calls before and behind a place
   pub flat-split : (from : ℕ) (h : List (Entry P A)) → flat form h ≡ flat form (take from h) ++ flat form (drop from h)
-  flat-split from h = ap (flat form) (sym (take-drop from h)) ∙ flat-append form (take from h) (drop from h)
+  flat-split from h = ap (flat form) (sym (take-append-drop from h)) ∙ flat-append form (take from h) (drop from h)
 
   -- a place is within the history of calls
   pub place-within : (from : ℕ) (H : List (Entry C R)) (h : List (Entry P A)) → H ≡ flat form h → place_of form from h ≤ length H

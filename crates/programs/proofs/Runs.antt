@@ -128,16 +128,6 @@ module _ {P A C R : Type 0} (form : Form P A C R) where
   some-calls [] c h = absurd (cc)
   some-calls (d ∷ cs) c h = omega arith
 
-  -- the reply to the first call fits it
-  pub begun-fits : (is_legal : List (Entry C R) → Type 0) (fits : C → R → Type 0) → ((front : List (Entry C R)) (e : Entry C R) → is_legal (front ++ e ∷ []) → fits e.call e.reply)
-      → (s : ℕ) (p : P) (old new : List (Entry C R)) (a : A) (r : R) → HasBegun form s p old new a r → is_legal new
-      → (c : C) → slice_get (form.calls p) (length (form.replies p a)) ≡ Some c → fits c r
-  begun-fits is_legal fits fit s p old new a r b l c g =
-      let z : length (form.replies p a) ≡ 0 = ap (λ (rs : List R). length rs) b.none in
-      let h : slice_get (form.calls p) 0 ≡ Some c = sym (ap (slice_get (form.calls p)) z) ∙ g in
-      let same : b.call ≡ c = let i = b.is_first in cc in
-      subst (λ (d : C). fits d r) same (fit old (entry s b.call r) (subst is_legal b.history l))
-
   -- the answer has the reply to the first call, and the program goes on
   pub begun-on : (s : ℕ) (p : P) (old new : List (Entry C R)) (a b : A) (r : R) → HasBegun form s p old new a r → form.replies p b ≡ form.replies p a ++ r ∷ [] → form.first b ≡ form.first a → form.refused b ≡ form.refused a
       → form.goes_on r ≡ true → IsRunning form s p old new b 1
@@ -149,12 +139,3 @@ module _ {P A C R : Type 0} (form : Form P A C R) where
       → form.goes_on r ≡ false → HasRun form s p old new b
   begun-stop s p old new a b r h f i j k =
       run-at-stop s p old old new a b 0 h.call r (running-new s p old a h.first h.none h.refused) (some-calls (form.calls p) h.call h.is_first) h.is_first h.history f i j k
-
-  -- a later reply fits its call
-  pub next-fits : (is_legal : List (Entry C R) → Type 0) (fits : C → R → Type 0) → ((front : List (Entry C R)) (e : Entry C R) → is_legal (front ++ e ∷ []) → fits e.call e.reply)
-      → (s : ℕ) (p : P) (new newer : List (Entry C R)) (a : A) (at : ℕ) (d : C) (r : R) → length (form.replies p a) ≡ at → slice_get (form.calls p) at ≡ Some d
-      → newer ≡ new ++ entry s d r ∷ [] → is_legal newer
-      → (c : C) → slice_get (form.calls p) (length (form.replies p a)) ≡ Some c → fits c r
-  next-fits is_legal fits fit s p new newer a at d r n h e l c g =
-      let same : d ≡ c = (let i : slice_get (form.calls p) at ≡ Some c = sym (ap (slice_get (form.calls p)) n) ∙ g in cc) in
-      subst (λ (x : C). fits x r) same (fit new (entry s d r) (subst is_legal e l))

@@ -4,7 +4,7 @@ use Rattle.std.proofs.Common.{inl, inr, length-append, append_assoc, append-nil,
 use Rattle.sequential.specs.declared.entry.Entry.{Entry}
 use Rattle.programs.specs.Form.{Form}
 use Rattle.programs.specs.Flat.{entry, entries, entries_of, flat, IsRun, AreRun, IsLegal}
-use Rattle.programs.specs.Answers.{DoRepliesAgree, DoAnswersAgree, AreSame}
+use Rattle.programs.specs.Answers.{RepliesAgree, AnswersAgree, AreSame}
 use Rattle.programs.specs.Fronts.{flat-append}
 
 module _ {P A C R : Type 0} (form : Form P A C R) where
@@ -20,12 +20,12 @@ module _ {P A C R : Type 0} (form : Form P A C R) where
       (omega (arith, n.0, length-append (entries_of form x) (flat form xs)), n.1)
 
 module _ {P A C R : Type 0} (form : Form P A C R) (agree : C → R → R → Type 0) where
-  none-agree : (cs : List C) (qs : List R) (x y : Bool) → IsRun form cs [] x → IsRun form cs qs y → DoRepliesAgree agree cs [] qs x y
+  none-agree : (cs : List C) (qs : List R) (x y : Bool) → IsRun form cs [] x → IsRun form cs qs y → RepliesAgree agree cs [] qs x y
   none-agree cs [] x y h k = tt
   none-agree [] (q ∷ qs) x y h k = absurd k
   none-agree (c ∷ cs) (q ∷ qs) x y h k = h
 
-  agree-none : (cs : List C) (rs : List R) (x y : Bool) → IsRun form cs rs x → IsRun form cs [] y → DoRepliesAgree agree cs rs [] x y
+  agree-none : (cs : List C) (rs : List R) (x y : Bool) → IsRun form cs rs x → IsRun form cs [] y → RepliesAgree agree cs rs [] x y
   agree-none cs [] x y h k = tt
   agree-none [] (r ∷ rs) x y h k = absurd h
   agree-none (c ∷ cs) (r ∷ rs) x y h k = k
@@ -34,7 +34,7 @@ module _ {P A C R : Type 0} (form : Form P A C R) (agree : C → R → R → Typ
   run-agree : (is_legal : List (Entry C R) → Type 0) → ((front rest : List (Entry C R)) → is_legal (front ++ rest) → is_legal front)
       → ((front : List (Entry C R)) (s : ℕ) (c : C) (r q : R) → is_legal (front ++ entry s c r ∷ []) → is_legal (front ++ entry s c q ∷ []) → agree c r q)
       → (s : ℕ) (cs : List C) (rs qs : List R) (x y : Bool) (f : List (Entry C R)) → is_legal (f ++ entries s cs rs) → is_legal (f ++ entries s cs qs)
-      → IsRun form cs rs x → IsRun form cs qs y → DoRepliesAgree agree cs rs qs x y
+      → IsRun form cs rs x → IsRun form cs qs y → RepliesAgree agree cs rs qs x y
   run-agree is_legal fronts det s cs [] qs x y f l m h k = none-agree cs qs x y h k
   run-agree is_legal fronts det s cs (r ∷ rs) [] x y f l m h k = agree-none cs (r ∷ rs) x y h k
   run-agree is_legal fronts det s [] (r ∷ rs) (q ∷ qs) x y f l m h k = absurd h
@@ -49,17 +49,17 @@ module _ {P A C R : Type 0} (form : Form P A C R) (agree : C → R → R → Typ
       second : r ≡ q → is_legal ((f ++ entry s c r ∷ []) ++ entries s cs qs)
       second same = subst (λ (v : R). is_legal ((f ++ entry s c v ∷ []) ++ entries s cs qs)) (sym same) (first q qs m)
 
-      rest : r ≡ q → IsRun form (c ∷ cs) (r ∷ rs) x → IsRun form (c ∷ cs) (q ∷ qs) y → (IsRun form cs rs x → IsRun form cs qs y → DoRepliesAgree agree cs rs qs x y) → DoRepliesAgree agree cs rs qs x y
+      rest : r ≡ q → IsRun form (c ∷ cs) (r ∷ rs) x → IsRun form (c ∷ cs) (q ∷ qs) y → (IsRun form cs rs x → IsRun form cs qs y → RepliesAgree agree cs rs qs x y) → RepliesAgree agree cs rs qs x y
       rest same (inl a) (inl b) next = next a.1 b.1
       rest same (inl a) (inr b) next = absurd (let u : true ≡ false = sym a.0 ∙ ap form.goes_on same ∙ b.0 in cc)
       rest same (inr a) (inl b) next = absurd (let u : true ≡ false = sym b.0 ∙ ap form.goes_on (sym same) ∙ a.0 in cc)
       rest same (inr a) (inr b) next =
-          subst (λ (vs : List R). DoRepliesAgree agree cs vs qs x y) (sym a.1) (subst (λ (vs : List R). DoRepliesAgree agree cs [] vs x y) (sym b.1) tt)
+          subst (λ (vs : List R). RepliesAgree agree cs vs qs x y) (sym a.1) (subst (λ (vs : List R). RepliesAgree agree cs [] vs x y) (sym b.1) tt)
 
   -- The answer to a program is determined by the programs before it: any two that are legal there agree.
   pub answers_are_determined : (is_legal : List (Entry C R) → Type 0) → ((front rest : List (Entry C R)) → is_legal (front ++ rest) → is_legal front)
       → ((front : List (Entry C R)) (s : ℕ) (c : C) (r q : R) → is_legal (front ++ entry s c r ∷ []) → is_legal (front ++ entry s c q ∷ []) → agree c r q)
-      → (h : List (Entry P A)) (s : ℕ) (p : P) (a b : A) → IsLegal form is_legal (h ++ entry s p a ∷ []) → IsLegal form is_legal (h ++ entry s p b ∷ []) → DoAnswersAgree form agree p a b
+      → (h : List (Entry P A)) (s : ℕ) (p : P) (a b : A) → IsLegal form is_legal (h ++ entry s p a ∷ []) → IsLegal form is_legal (h ++ entry s p b ∷ []) → AnswersAgree form agree p a b
   answers_are_determined is_legal fronts det h s p a b l m =
       let v = last-run form 0 h (entry s p a) l.1 in
       let w = last-run form 0 h (entry s p b) m.1 in (
@@ -69,7 +69,7 @@ module _ {P A C R : Type 0} (form : Form P A C R) (agree : C → R → R → Typ
       )
 
   -- If only equal replies agree, those that agree are the same.
-  pub agree-same : ((c : C) (r q : R) → agree c r q → r ≡ q) → (cs : List C) (rs qs : List R) (x y : Bool) → DoRepliesAgree agree cs rs qs x y → AreSame rs qs x y
+  pub agree-same : ((c : C) (r q : R) → agree c r q → r ≡ q) → (cs : List C) (rs qs : List R) (x y : Bool) → RepliesAgree agree cs rs qs x y → AreSame rs qs x y
   agree-same eq cs [] [] x y h = tt
   agree-same eq cs [] (q ∷ qs) x y h = h
   agree-same eq cs (r ∷ rs) [] x y h = h

@@ -17,8 +17,8 @@ abbrev pub first_place : {R : Type 0} {N : ℕ} → ReplyList R N → ℕ
 first_place a = a.first
 
 -- Memory was refused to the call behind those that were served.
-abbrev pub is_starved : {R : Type 0} {N : ℕ} → ReplyList R N → Bool
-is_starved a = a.is_refused
+abbrev pub was_refused : {R : Type 0} {N : ℕ} → ReplyList R N → Bool
+was_refused a = a.is_refused
 
 -- How lists of calls and of replies are read, of an object whose programs go on behind these replies.
 abbrev pub list_form : {C R : Type 0} {N : ℕ} → (R → Bool) → Form (CallList C N) (ReplyList R N) C R
@@ -26,6 +26,6 @@ list_form goes_on = record {
   calls = listed_calls;
   replies = λ p a. listed_replies a;
   first = first_place;
-  refused = is_starved;
+  refused = was_refused;
   goes_on = goes_on;
 }

@@ -4,7 +4,7 @@ use Rattle.std.proofs.Common.{inl, inr, length-append, append_assoc, append-nil,
 use Rattle.sequential.specs.declared.entry.Entry.{Entry}
 use Rattle.programs.specs.Form.{Form}
 use Rattle.programs.specs.Flat.{entry, entries, entries_of, flat, IsRun, AreRun, IsLegal}
-use Rattle.programs.specs.Answers.{DoFit, AreTold}
+use Rattle.programs.specs.Answers.{RepliesFit, AreTold}
 use Rattle.programs.specs.Determined.{flat-push}
 
 module _ {P A C R : Type 0} (form : Form P A C R) where
@@ -28,7 +28,7 @@ module _ {P A C R : Type 0} (form : Form P A C R) (is_legal : List (Entry C R) �
     replies : List R
     legal : is_legal (f ++ entries s cs replies)
     run : IsRun form cs replies false
-    fit : DoFit form fits cs replies
+    fit : RepliesFit form fits cs replies
 
   -- A call behind which the program goes on, and the rest.
   more : (s : ℕ) (c : C) (cs : List C) (f : List (Entry C R)) (r : R) → fits c r → form.goes_on r ≡ true → HasReplies s cs (f ++ entry s c r ∷ []) → HasReplies s (c ∷ cs) f

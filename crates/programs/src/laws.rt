@@ -5,7 +5,7 @@ ghost use Rattle.sequential.specs.declared.entry.Entry.{Entry as EntryValue};
 ghost use Rattle.sequential.specs.Histories.{calls_of};
 ghost use Rattle.sequential.specs.EndedWaits.{HasEndedIn};
 ghost use Rattle.programs.specs.Flat.{entry, flat, flat_calls, IsLegal};
-ghost use Rattle.programs.specs.Answers.{DoRepliesAgree, AreSame};
+ghost use Rattle.programs.specs.Answers.{RepliesAgree, AreSame};
 ghost use Rattle.programs.specs.Ended.{EndsWait};
 ghost use Rattle.programs.specs.Laws.{IsPlaced, IsBefore, GoesOnBehind, StopsAtCause, IsCut};
 
@@ -44,7 +44,7 @@ pub fn programs_are_determined<O: Programmed>()
     ensures first { (h : List (EntryValue O.Program O.Answer)) (s : ℕ) (p : O.Program) (a b : O.Answer) → IsLegal O.form O.is_legal (h ++ entry s p a ∷ []) → IsLegal O.form O.is_legal (h ++ entry s p b ∷ [])
         → (O.form).first a ≡ (O.form).first b }
     ensures replies { (h : List (EntryValue O.Program O.Answer)) (s : ℕ) (p : O.Program) (a b : O.Answer) → IsLegal O.form O.is_legal (h ++ entry s p a ∷ []) → IsLegal O.form O.is_legal (h ++ entry s p b ∷ [])
-        → DoRepliesAgree O.agree ((O.form).calls p) ((O.form).replies p a) ((O.form).replies p b) ((O.form).refused a) ((O.form).refused b) }
+        → RepliesAgree O.agree ((O.form).calls p) ((O.form).replies p a) ((O.form).replies p b) ((O.form).refused a) ((O.form).refused b) }
     ensures same { ((c : O.Call) (r q : O.Reply) → O.agree c r q → r ≡ q)
         → (h : List (EntryValue O.Program O.Answer)) (s : ℕ) (p : O.Program) (a b : O.Answer) → IsLegal O.form O.is_legal (h ++ entry s p a ∷ []) → IsLegal O.form O.is_legal (h ++ entry s p b ∷ [])
         → AreSame ((O.form).replies p a) ((O.form).replies p b) ((O.form).refused a) ((O.form).refused b) }

@@ -84,13 +84,13 @@ impl<R: Copy, const N: usize> Clone for ReplyList<R, N> {
 impl<R: Copy, const N: usize> Copy for ReplyList<R, N> {}
 
 impl<R: Copy, const N: usize> ReplyList<R, N> {
-    ghost use Rattle.programs.specs.Lists.{listed_replies, first_place, is_starved};
+    ghost use Rattle.programs.specs.Lists.{listed_replies, first_place, was_refused};
 
     /// The answer with no replies. The filler stands where there is no reply.
     pub fn new(first: u64, filler: R) -> ReplyList<R, N>
         ensures replies { listed_replies result ≡ [] }
         ensures first { first_place result ≡ first }
-        ensures refused { is_starved result ≡ false }
+        ensures refused { was_refused result ≡ false }
     {
         ReplyList {
             first,
@@ -117,7 +117,7 @@ impl<R: Copy, const N: usize> ReplyList<R, N> {
 
     /// Whether memory was refused to the call behind those that were served.
     pub fn is_refused(&self) -> bool
-        ensures { result ≡ is_starved self.now }
+        ensures { result ≡ was_refused self.now }
     {
         self.is_refused
     }
@@ -136,7 +136,7 @@ impl<R: Copy, const N: usize> ReplyList<R, N> {
         requires few { N < 2 ^ 32 }
         ensures replies { listed_replies self.new ≡ listed_replies self.old ++ reply ∷ [] }
         ensures first { first_place self.new ≡ first_place self.old }
-        ensures refused { is_starved self.new ≡ is_starved self.old }
+        ensures refused { was_refused self.new ≡ was_refused self.old }
     {
         let at = self.length as usize;
         self.replies[at] = reply;
@@ -147,7 +147,7 @@ impl<R: Copy, const N: usize> ReplyList<R, N> {
     pub fn refuse(&mut self)
         ensures replies { listed_replies self.new ≡ listed_replies self.old }
         ensures first { first_place self.new ≡ first_place self.old }
-        ensures refused { is_starved self.new ≡ true }
+        ensures refused { was_refused self.new ≡ true }
     {
         self.is_refused = true;
     }

@@ -1,7 +1,7 @@
 //! The object whose calls are programs.
 
-ghost use Rattle.std.specs.Prelude.{◌≡◌, ◌≤◌, []};
-ghost use Rattle.programs.specs.Flat.{flat};
+ghost use Rattle.std.specs.Prelude.{◌≡◌, ◌+◌, ◌^◌, ◌<◌, ◌≤◌, [], ◌∷◌, ◌++◌};
+ghost use Rattle.programs.specs.Flat.{entry, flat};
 
 mod fresh;
 mod telling;
@@ -63,13 +63,34 @@ impl<O: Programmed> Programs<O> {
     }
 }
 
+/// Adds a program with its answer to the history, and counts it.
+fn enter<P: Copy, A: Copy>(
+    history: &mut GhostList<Entry<P, A>>,
+    served: &mut u64,
+    session: u16,
+    program: P,
+    answer: A,
+)
+    requires room { served.old + 1 < 2 ^ 64 }
+    ensures history { history.new.items ≡ history.old.items ++ entry session program answer ∷ [] }
+    ensures served { served.new ≡ served.old + 1 }
+{
+    let entry = Entry {
+        session,
+        call: program,
+        reply: answer,
+    };
+    history.push(&entry);
+    *served += 1;
+}
+
 impl<O: Programmed> Sequential for Programs<O> {
     type Call = O::Program;
 
     type Reply = O::Answer;
 
     ghost use Rattle.programs.specs.Flat.{IsLegal};
-    ghost use Rattle.programs.specs.Answers.{DoAnswersAgree};
+    ghost use Rattle.programs.specs.Answers.{AnswersAgree};
     ghost use Rattle.programs.specs.Fronts.{fronts_are_legal};
     ghost use Rattle.programs.specs.Total.{answers_are_total};
     ghost use Rattle.programs.specs.Determined.{answers_are_determined};
@@ -84,7 +105,7 @@ impl<O: Programmed> Sequential for Programs<O> {
 
     ghost is_legal = { IsLegal O.form O.is_legal };
 
-    ghost agree = { DoAnswersAgree O.form O.agree };
+    ghost agree = { AnswersAgree O.form O.agree };
 
     ghost any_call = { O.any_program };
 
@@ -135,13 +156,13 @@ impl<O: Programmed> Serving for Programs<O> {
             return Err(NoMemory);
         }
         let answer = run(&mut self.object, session, &program)?;
-        let entry = Entry {
+        enter(
+            &mut self.history,
+            &mut self.served,
             session,
-            call: program,
-            reply: answer,
-        };
-        self.history.push(&entry);
-        self.served += 1;
+            program,
+            answer,
+        );
         Ok(answer)
     }
 }
@@ -156,13 +177,13 @@ impl<O: Programmed> Continuing for Programs<O> {
             return Err(NoMemory);
         }
         let answer = run_on(&mut self.object, session, &program)?;
-        let entry = Entry {
+        enter(
+            &mut self.history,
+            &mut self.served,
             session,
-            call: program,
-            reply: answer,
-        };
-        self.history.push(&entry);
-        self.served += 1;
+            program,
+            answer,
+        );
         Ok(answer)
     }
 }

@@ -1,6 +1,6 @@
 //! The calls of a program, one after another.
 
-ghost use Rattle.std.specs.Prelude.{◌≡◌, ◌≤◌, ℕ, List, length, IfOk, OnErr};
+ghost use Rattle.std.specs.Prelude.{◌≡◌, ◌≤◌, ℕ, false, List, [], length, IfOk, OnErr};
 ghost use Rattle.sequential.specs.declared.entry.Entry.{Entry as EntryValue};
 ghost use Rattle.programs.specs.inner.Running.{HasRun, HasBegun};
 
@@ -25,8 +25,7 @@ pub(crate) fn run<O: Programmed>(
     ensures cut { O.cut object.new ≡ O.cut object.old }
     ensures bound { O.bound object.new ≡ O.bound object.old }
 {
-    let first = object.served();
-    let answer = O::none_served(program, first);
+    let answer = begin(object, program);
     if O::length(program) == 0 {
         object.tell_anew();
         return Ok(answer);
@@ -52,14 +51,24 @@ pub(crate) fn run_on<O: Programmed>(
     ensures cut { O.cut object.new ≡ O.cut object.old }
     ensures bound { O.bound object.new ≡ O.bound object.old }
 {
-    let first = object.served();
-    let answer = O::none_served(program, first);
+    let answer = begin(object, program);
     if O::length(program) == 0 {
         return Ok(answer);
     }
     let call = O::call(program, 0);
     let reply = object.serve_on(session, call)?;
     Ok(serve_others(object, session, program, answer, reply))
+}
+
+/// The answer to a program of which no call is served yet.
+fn begin<O: Programmed>(object: &O, program: &O::Program) -> O::Answer
+    ensures first { (O.form).first result ≡ length (O.history object.now) }
+    ensures none { (O.form).replies program.now result ≡ [] }
+    ensures refused { (O.form).refused result ≡ false }
+    ensures legal { O.is_legal (O.history object.now) }
+{
+    let first = object.served();
+    O::none_served(program, first)
 }
 
 /// Completes the answer to a program whose first call was served with this reply: serves the other calls, and goes on telling.
