@@ -4,7 +4,7 @@ ghost use Rattle.std.specs.Prelude.{◌≡◌, ◌<◌, ◌≤◌, ◌^◌, [], 
 
 use std::alloc::AllocError as NoMemory;
 
-/// A program of up to `N` calls.
+/// A program of up to `N` calls, as a list. It takes the memory of `N` calls, however many it has.
 pub struct CallList<C, const N: usize> {
     /// The calls, and others behind them.
     calls: [C; N],
@@ -24,7 +24,7 @@ impl<C: Copy, const N: usize> Copy for CallList<C, N> {}
 impl<C: Copy, const N: usize> CallList<C, N> {
     ghost use Rattle.programs.specs.Lists.{listed_calls};
 
-    /// A program of no calls. The filler stands where there is no call.
+    /// A program of no calls. Fills the places that no call has yet with `filler`.
     pub fn new(filler: C) -> CallList<C, N>
         ensures { listed_calls result ≡ [] }
     {
@@ -34,7 +34,7 @@ impl<C: Copy, const N: usize> CallList<C, N> {
         }
     }
 
-    /// The number of calls.
+    /// The number of calls, at most `N`.
     pub fn length(&self) -> usize
         ensures value { result ≡ length (listed_calls self.now) }
         ensures few { result ≤ N }
@@ -42,7 +42,7 @@ impl<C: Copy, const N: usize> CallList<C, N> {
         self.length as usize
     }
 
-    /// Appends a call.
+    /// Appends a call. There has to be room for it: fewer than `N` calls.
     pub fn push(&mut self, call: C)
         requires room { length (listed_calls self.old) < N }
         requires few { N < 2 ^ 32 }
@@ -53,7 +53,7 @@ impl<C: Copy, const N: usize> CallList<C, N> {
         self.length += 1;
     }
 
-    /// The call at this place, from 0 on.
+    /// The call at index `at`, from 0 on.
     pub fn at(&self, at: usize) -> C
         requires { at < length (listed_calls self.now) }
         ensures { slice_get (listed_calls self.now) at ≡ Some result }
@@ -62,7 +62,7 @@ impl<C: Copy, const N: usize> CallList<C, N> {
     }
 }
 
-/// The answer to a program of up to `N` calls.
+/// The answer to a program of up to `N` calls, as a list of replies. It takes the memory of `N` replies, however many it has.
 pub struct ReplyList<R, const N: usize> {
     /// The place of the first call in the history.
     first: u64,
@@ -86,7 +86,8 @@ impl<R: Copy, const N: usize> Copy for ReplyList<R, N> {}
 impl<R: Copy, const N: usize> ReplyList<R, N> {
     ghost use Rattle.programs.specs.Lists.{listed_replies, first_place, was_refused};
 
-    /// The answer with no replies. The filler stands where there is no reply.
+    /// The answer with no replies to a program whose first call has the place `first` in the history. Fills the places that no reply
+    /// has yet with `filler`.
     pub fn new(first: u64, filler: R) -> ReplyList<R, N>
         ensures replies { listed_replies result ≡ [] }
         ensures first { first_place result ≡ first }
@@ -100,14 +101,14 @@ impl<R: Copy, const N: usize> ReplyList<R, N> {
         }
     }
 
-    /// The place of the first call that was served.
+    /// The place of the first call in the history of calls: if none was served, of the next one that is.
     pub fn first(&self) -> u64
         ensures { result ≡ first_place self.now }
     {
         self.first
     }
 
-    /// How many calls were served.
+    /// How many calls were served, at most `N`.
     pub fn served(&self) -> usize
         ensures value { result ≡ length (listed_replies self.now) }
         ensures few { result ≤ N }
@@ -122,7 +123,7 @@ impl<R: Copy, const N: usize> ReplyList<R, N> {
         self.is_refused
     }
 
-    /// The reply to the call at this place of the program, from 0 on.
+    /// The reply to the call at index `at` of the program, from 0 on.
     pub fn at(&self, at: usize) -> R
         requires { at < length (listed_replies self.now) }
         ensures { slice_get (listed_replies self.now) at ≡ Some result }
@@ -130,7 +131,7 @@ impl<R: Copy, const N: usize> ReplyList<R, N> {
         self.replies[at]
     }
 
-    /// Appends a reply.
+    /// Appends a reply. There has to be room for it: fewer than `N` replies.
     pub fn push(&mut self, reply: R)
         requires room { length (listed_replies self.old) < N }
         requires few { N < 2 ^ 32 }

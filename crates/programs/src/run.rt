@@ -25,7 +25,7 @@ pub(crate) fn run<O: Programmed>(
     ensures cut { O.cut object.new ≡ O.cut object.old }
     ensures bound { O.bound object.new ≡ O.bound object.old }
 {
-    let answer = begin(object, program);
+    let answer = new_answer(object, program);
     if O::length(program) == 0 {
         object.tell_anew();
         return Ok(answer);
@@ -51,7 +51,7 @@ pub(crate) fn run_on<O: Programmed>(
     ensures cut { O.cut object.new ≡ O.cut object.old }
     ensures bound { O.bound object.new ≡ O.bound object.old }
 {
-    let answer = begin(object, program);
+    let answer = new_answer(object, program);
     if O::length(program) == 0 {
         return Ok(answer);
     }
@@ -61,7 +61,7 @@ pub(crate) fn run_on<O: Programmed>(
 }
 
 /// The answer to a program of which no call is served yet.
-fn begin<O: Programmed>(object: &O, program: &O::Program) -> O::Answer
+fn new_answer<O: Programmed>(object: &O, program: &O::Program) -> O::Answer
     ensures first { (O.form).first result ≡ length (O.history object.now) }
     ensures none { (O.form).replies program.now result ≡ [] }
     ensures refused { (O.form).refused result ≡ false }
