@@ -1,5 +1,5 @@
 -- One more program.
-use Rattle.std.proofs.Common.{◌≡◌, ℕ, ◌+◌, ◌≤◌, List, [], ◌∷◌, ◌++◌, length, length-append, take, drop, sym, ap, subst, ◌∙◌, arith}
+use Rattle.std.proofs.Common.{◌≡◌, ℕ, ◌≤◌, List, [], ◌∷◌, ◌++◌, length, length-append, take, drop, sym, ap, subst, ◌∙◌, arith}
 use Rattle.std.specs.Prelude.{All}
 use Rattle.std.proofs.lemmas.List.Elements.{All-push}
 use Rattle.std.proofs.lemmas.List.{take-append-le, take-append-drop}
@@ -12,10 +12,6 @@ use Rattle.programs.specs.Determined.{flat-push}
 use Rattle.programs.specs.Total.{legal-push}
 use Rattle.programs.specs.Views.{ProgramsView, place_of}
 use Rattle.programs.specs.inner.Running.{HasRun}
-
--- one more item
-pub count-push : {T : Type 0} (n : ℕ) (xs ys : List T) (x : T) → n ≡ length xs → ys ≡ xs ++ x ∷ [] → n + 1 ≡ length ys
-count-push {T} n xs ys x h e = omega (arith, h, ap (λ (l : List T). length l) e, length-append xs (x ∷ []))
 
 -- no fewer items
 pub longer-push : {T : Type 0} (n : ℕ) (xs ys : List T) (x : T) → ys ≡ xs ++ x ∷ [] → n ≤ length xs → n ≤ length ys

@@ -2,16 +2,19 @@
 //!
 //! The calls of a program are served one after another, until the first reply behind which the object doesn't go on. So
 //! [`Programs`] is a sequential object itself, whose calls are programs, and all that shares a sequential object among threads
-//! shares it. Its history, with the programs laid end to end, is a history of the object.
+//! shares it. Its history, with the programs laid end to end, is the history of the object that serves the calls.
 //!
 //! `continuing.rt` has the trait of an object that tells of several calls at once, `form.rt` that of one whose calls may be made
-//! in programs. `run.rt` runs a program. `programs.rt` has the object whose calls are programs, and its folder what it is where the object can let go of its history, tell whose waits have ended, or be made for a number of
-//! sessions. `lists.rt` has programs and answers that list calls and replies. `laws.rt` says what follows of histories.
+//! in programs. `run.rt` runs a program. `programs.rt` has the object whose calls are programs; its folder has what lets go of a
+//! history, tells whose waits have ended, and makes an object for a number of sessions, where the object of the calls does.
+//! `counted.rt` has the list of its history, `lists.rt` programs and answers that list calls and replies. `laws.rt` says what
+//! follows of histories.
 //!
-//! Proved: the above. Not said by any clause: that a program stops for refused memory only if memory is short.
+//! Not said by any clause: that memory is refused to a call only if there is none.
 #![tactic(auto)]
 
 mod continuing;
+mod counted;
 mod form;
 pub mod laws;
 mod lists;

@@ -1,16 +1,16 @@
 //! The object whose calls are programs.
 
-ghost use Rattle.std.specs.Prelude.{◌≡◌, ◌+◌, ◌^◌, ◌<◌, ◌≤◌, [], ◌∷◌, ◌++◌};
-ghost use Rattle.programs.specs.Flat.{entry, flat};
+ghost use Rattle.std.specs.Prelude.{◌≡◌, ◌≤◌, []};
+ghost use Rattle.programs.specs.Flat.{flat};
 
 mod fresh;
 mod telling;
 mod trimming;
 
 use crate::continuing::{Continuing, serve_each_on};
+use crate::counted::CountedList;
 use crate::form::Programmed;
 use crate::run::{run, run_on};
-use ghost_list::GhostList;
 use sequential::{Batching, Entry, Item, Sequential, Serving};
 use std::alloc::AllocError as NoMemory;
 use std::marker::Model;
@@ -21,10 +21,8 @@ use std::marker::Model;
 pub struct Programs<O: Programmed> {
     /// The object that serves the calls of the programs.
     object: O,
-    /// How many programs it has served.
-    served: u64,
-    /// All programs with their answers. It takes no memory.
-    history: GhostList<Entry<O::Program, O::Answer>>,
+    /// All programs with their answers, of which memory has the number alone.
+    history: CountedList<Entry<O::Program, O::Answer>>,
 }
 
 impl<O: Programmed> Model for Programs<O> {
@@ -49,8 +47,7 @@ impl<O: Programmed> Programs<O> {
         let _served = object.served();
         Programs {
             object,
-            served: 0,
-            history: GhostList::new(),
+            history: CountedList::new(),
         }
     }
 
@@ -61,27 +58,6 @@ impl<O: Programmed> Programs<O> {
     {
         &self.object
     }
-}
-
-/// Adds a program with its answer to the history, and counts it.
-fn enter<P: Copy, A: Copy>(
-    history: &mut GhostList<Entry<P, A>>,
-    served: &mut u64,
-    session: u16,
-    program: P,
-    answer: A,
-)
-    requires room { served.old + 1 < 2 ^ 64 }
-    ensures history { history.new.items ≡ history.old.items ++ entry session program answer ∷ [] }
-    ensures served { served.new ≡ served.old + 1 }
-{
-    let entry = Entry {
-        session,
-        call: program,
-        reply: answer,
-    };
-    history.push(&entry);
-    *served += 1;
 }
 
 impl<O: Programmed> Sequential for Programs<O> {
@@ -118,7 +94,7 @@ impl<O: Programmed> Sequential for Programs<O> {
     fn served(&self) -> u64 {
         // nothing is let go of an empty history
         let _calls = self.object.served();
-        self.served
+        self.history.count()
     }
 
     ghost empty = { (O.empty, tt) };
@@ -152,17 +128,15 @@ impl<O: Programmed> Serving for Programs<O> {
     /// refused to a later call than the first, the answer says so, and this call and those behind it are in no history. The answer
     /// to a program of no calls has no replies, and the place of the next call that is served.
     fn serve(&mut self, session: u16, program: O::Program) -> Result<O::Answer, NoMemory> {
-        if self.served == u64::MAX {
+        if self.history.is_full() {
             return Err(NoMemory);
         }
         let answer = run(&mut self.object, session, &program)?;
-        enter(
-            &mut self.history,
-            &mut self.served,
+        self.history.push(&Entry {
             session,
-            program,
-            answer,
-        );
+            call: program,
+            reply: answer,
+        });
         Ok(answer)
     }
 }
@@ -173,17 +147,15 @@ impl<O: Programmed> Continuing for Programs<O> {
     }
 
     fn serve_on(&mut self, session: u16, program: O::Program) -> Result<O::Answer, NoMemory> {
-        if self.served == u64::MAX {
+        if self.history.is_full() {
             return Err(NoMemory);
         }
         let answer = run_on(&mut self.object, session, &program)?;
-        enter(
-            &mut self.history,
-            &mut self.served,
+        self.history.push(&Entry {
             session,
-            program,
-            answer,
-        );
+            call: program,
+            reply: answer,
+        });
         Ok(answer)
     }
 }
