@@ -1,0 +1,11 @@
+pub mod Form
+pub mod Flat
+pub mod Answers
+pub mod Ended
+pub mod Fronts
+pub mod Determined
+pub mod Total
+pub mod Laws
+pub mod Lists
+pub mod Views
+pub mod inner
