@@ -1,0 +1,5 @@
+pub mod Chains
+pub mod Ends
+pub mod Victims
+pub mod Tries
+pub mod Examples
