@@ -7,4 +7,6 @@ pub mod WaitsEnd
 pub mod Granted
 pub mod Victims
 pub mod TryTests
+pub mod InOrder
+pub mod GrantOrder
 pub mod Worked

@@ -6,8 +6,11 @@
 //!
 //! `tries.rt`: a Try does what a Lock does, as long as that Lock wouldn't wait (`Tries.antt`).
 //!
+//! `grants.rt`: of two holders' modes, the one granted later is compatible with the one granted earlier (`Grants.antt`).
+//!
 //! `Examples.antt` has histories worked by hand. There is no code.
 #![tactic(auto)]
 
 pub mod ends;
+pub mod grants;
 pub mod tries;
