@@ -1,9 +1,0 @@
-pub mod FromLaws
-pub mod Chains
-pub mod Orders
-pub mod Bounds
-pub mod Circles
-pub mod WaitsEnd
-pub mod Granted
-pub mod Victims
-pub mod Worked

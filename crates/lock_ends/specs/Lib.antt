@@ -1,4 +1,0 @@
-pub mod Chains
-pub mod Ends
-pub mod Victims
-pub mod Examples

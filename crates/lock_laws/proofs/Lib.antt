@@ -1,0 +1,12 @@
+pub mod FromLaws
+pub mod Chains
+pub mod Orders
+pub mod Bounds
+pub mod Circles
+pub mod WaitsEnd
+pub mod Granted
+pub mod Victims
+pub mod TryTests
+pub mod InOrder
+pub mod GrantOrder
+pub mod Worked

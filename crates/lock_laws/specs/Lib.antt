@@ -1,0 +1,6 @@
+pub mod Chains
+pub mod Ends
+pub mod Victims
+pub mod Tries
+pub mod Grants
+pub mod Examples

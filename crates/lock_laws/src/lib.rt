@@ -1,0 +1,16 @@
+//! Further laws of the rules, on which no other crate stands. The rules are those of `lock_rules`.
+//!
+//! `ends.rt`: how waits end if sessions do no more than end their transactions. Whoever waits, waits in the end for a holder
+//! that doesn't wait, waits end in whatever order transactions end, and a deadlock victim is chosen only if they would not. In
+//! `specs/`, `Chains.antt` has the walks from waiting sessions to holders, `Ends.antt` the orders in which transactions end.
+//!
+//! `tries.rt`: a Try does what a Lock does, as long as that Lock wouldn't wait (`Tries.antt`).
+//!
+//! `grants.rt`: of two holders' modes, the one granted later is compatible with the one granted earlier (`Grants.antt`).
+//!
+//! `Examples.antt` has histories worked by hand. There is no code.
+#![tactic(auto)]
+
+pub mod ends;
+pub mod grants;
+pub mod tries;
