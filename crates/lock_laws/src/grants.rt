@@ -7,10 +7,10 @@ ghost use Rattle.lock_rules.specs.Examples.{database};
 ghost use Rattle.lock_laws.specs.Examples.{reader_behind_update};
 ghost use Rattle.lock_laws.specs.Grants.{IsGrantedAt, DoLaterGrantsFit, DoGrantsOfOneEntryGoTogether, AreGrantsAtOnePlace, AreHoldersGranted};
 
-/// Whoever holds a resource was granted its mode at one place of the history (`granted`, `once`). Of two sessions that hold a resource,
-/// the one that was granted its mode at the later place has a mode that is compatible, as the mode asked, with the other's mode
-/// as the mode granted (`later`). If one entry granted both, by a promotion, their modes are compatible in at least one order
-/// (`same`).
+/// Whoever holds a resource was granted its mode at one place of the history (`granted`, `once`). Of two sessions that hold
+/// it, the one that was granted its mode at the later place has a mode that is compatible, as the mode asked, with the other's
+/// mode as the mode granted (`later`). If one entry granted both, by a promotion, their modes are compatible in at least one
+/// order (`same`).
 pub fn later_grants_are_compatible_with_earlier_ones()
     ensures granted { (history : List EntryValue) → AreHoldersGranted history }
     ensures once { (history : List EntryValue) → AreGrantsAtOnePlace history }
