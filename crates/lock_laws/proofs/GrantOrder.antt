@@ -1,5 +1,6 @@
 -- A mode granted later is compatible with one granted earlier.
-use Rattle.std.proofs.Common.{◌≡◌, ◌≢◌, ℕ, ◌<◌, ◌&&◌, ◌⊎◌, inl, inr, List, [], ◌∷◌, ◌++◌, length, Option, Some, None, refl, sym, ◌∙◌, ap, subst, arith}
+use Rattle.std.proofs.Common.{◌≡◌, ◌≢◌, ℕ, ◌<◌, ltb, ◌&&◌, ◌⊎◌, inl, inr, List, [], ◌∷◌, ◌++◌, length, Option, Some, None, refl, sym, ◌∙◌, ap, subst, arith}
+use Rattle.std.proofs.lemmas.Bool.Decides.{nat_tests}
 use Rattle.std.proofs.lemmas.Bool.{and_parts, and_from, cases_Bool}
 use Rattle.lock_modes.specs.declared.Mode.{Mode}
 use Rattle.lock_modes.specs.Order.{at_or_below}
@@ -13,7 +14,7 @@ use Rattle.lock_rules.proofs.Alters.{true≢false}
 use Rattle.lock_rules.proofs.Lists.{other}
 use Rattle.lock_rules.proofs.States.{holders-compatible}
 use Rattle.lock_rules.proofs.Steps.{state-lawful}
-use Rattle.lock_laws.specs.Grants.{IsGrantedAt, DoLaterGrantsFit, DoGrantsOfOneEntryGoTogether, AreHoldersGranted}
+use Rattle.lock_laws.specs.Grants.{IsGrantedAt, DoLaterGrantsFit, DoGrantsOfOneEntryGoTogether, AreGrantsAtOnePlace, AreHoldersGranted}
 use Rattle.lock_laws.proofs.InOrder.{step-fits}
 
 -- appending entries is associative
@@ -54,6 +55,19 @@ later-fits es s u p q r k l n g h less =
     (ap (λ (st : State). held_mode st.table s r) (sym stepped) ∙ after)
     (ap (λ (st : State). held_mode st.table u r) (sym stepped) ∙ h.held_since [] h.since refl) in
     elim fit [ inl had ↦ absurd (h.not_before had) | inr c ↦ compatible-from l k c ]
+
+-- no place grants a session a mode that an earlier place has granted it
+never-again : (es : List Entry) (p q s : ℕ) (r : List ℕ) (k : Mode) → IsGrantedAt es p s r k → IsGrantedAt es q s r k → p < q → ⊥
+never-again es p q s r k g h less =
+    let b = between-places g.before h.before g.entry g.since (h.entry ∷ h.since) (sym g.history ∙ h.history) (omega (arith, less, g.at_place, h.at_place)) in
+    h.not_before (ap (λ (xs : List Entry). held_mode (state_of xs).table s r) b.later ∙ g.held_since b.between (h.entry ∷ h.since) b.rest)
+
+-- a session was granted a mode at one place, as the law states it
+pub one-place : (es : List Entry) → AreGrantsAtOnePlace es
+one-place es s p q r k g h = elim (cases_Bool (ltb p q)) [
+  | inl e ↦ absurd (never-again es p q s r k g h (grind (arith, nat_tests)))
+  | inr e ↦ elim (cases_Bool (ltb q p)) [ inl f ↦ absurd (never-again es q p s r k h g (grind (arith, nat_tests))) | inr f ↦ grind (arith, nat_tests) ]
+]
 
 -- everybody who holds a resource was granted it
 

@@ -1,18 +1,21 @@
 -- Histories worked by hand: the prover serves their calls, walks the waits, and ends the transactions.
-use Rattle.std.proofs.Common.{◌≡◌, false, inr, [], ◌∷◌, refl}
+use Rattle.std.proofs.Common.{◌≡◌, false, inr, List, [], ◌∷◌, ◌++◌, Some, refl, subst}
 use Rattle.lock_modes.specs.declared.Mode.{Mode}
 use Rattle.lock_modes.specs.declared.Mode.TheVariants.{S, U, X}
 use Rattle.lock_modes.specs.Compatibility.{IsCompatible, are_compatible}
 use Rattle.lock_modes.proofs.Compatibility.{compatible-tests}
-use Rattle.lock_rules.specs.declared.calls.Call.TheVariants.{Convert}
-use Rattle.lock_rules.specs.State.{State}
-use Rattle.lock_rules.specs.Examples.{database}
+use Rattle.lock_rules.specs.declared.calls.Call.TheVariants.{Begin, Lock, Convert}
+use Rattle.lock_rules.specs.declared.calls.Reply.TheVariants.{Began, Granted, Waiting}
+use Rattle.lock_rules.specs.Entries.{Entry}
+use Rattle.lock_rules.specs.State.{State, held_mode}
+use Rattle.lock_rules.specs.Examples.{entry, database}
 use Rattle.lock_rules.specs.Legal.{IsLegal, state_of}
 use Rattle.lock_rules.proofs.Alters.{true≢false}
 use Rattle.lock_rules.proofs.Histories.{legal-served}
 use Rattle.lock_laws.specs.Ends.{ended, AreEnds, DoWaitsEnd}
 use Rattle.lock_laws.specs.Victims.{BeginsToWait, with_waiting}
 use Rattle.lock_laws.specs.Examples.{reader_behind_update, update_behind_reader, conversion_behind_reader, readers_before_a_deadlock, tries_past_a_waiter, WaitsThrough, LeavesNothing, WaitsFirst}
+use Rattle.lock_laws.specs.Grants.{IsGrantedAt}
 use Rattle.lock_laws.proofs.Victims.{request-exactly}
 
 -- modes that the test finds incompatible conflict
@@ -67,3 +70,45 @@ legal-tries = legal-served tries_past_a_waiter refl
 
 pub tries-wait : WaitsFirst (state_of tries_past_a_waiter) 2
 tries-wait = (record { session = 2; resource = database 1; mode = X }, [], refl, refl)
+
+-- what holds of each front of a list of one entry holds of any
+one-front : (P : List Entry → Type 0) (a : Entry) → P [] → P (a ∷ []) → (front rest : List Entry) → a ∷ [] ≡ front ++ rest → P front
+one-front P a n o [] rest h = n
+one-front P a n o (x ∷ []) rest h = let head : a ≡ x = cc in subst (λ (y : Entry). P (y ∷ [])) head o
+one-front P a n o (x ∷ y ∷ front) rest h = absurd (cc)
+
+-- and so of a list of two
+two-fronts : (P : List Entry → Type 0) (a b : Entry) → P [] → P (a ∷ []) → P (a ∷ b ∷ []) → (front rest : List Entry) → a ∷ b ∷ [] ≡ front ++ rest → P front
+two-fronts P a b n o t [] rest h = n
+two-fronts P a b n o t (x ∷ front) rest h =
+    let head : a ≡ x = cc in
+    let tail : b ∷ [] ≡ front ++ rest = cc in
+    subst (λ (y : Entry). P (y ∷ front)) head (one-front (λ (xs : List Entry). P (a ∷ xs)) b o t front rest tail)
+
+-- the first three entries of the history, in which transactions begin
+begins : List Entry
+begins = entry 1 Begin (Began 1) ∷ entry 2 Begin (Began 2) ∷ entry 3 Begin (Began 3) ∷ []
+
+pub first-granted : IsGrantedAt reader_behind_update 3 1 (database 1) S
+unfolding begins
+first-granted = record {
+  before = begins;
+  entry = entry 1 (Lock (database 1) S) (Granted S);
+  since = entry 2 (Lock (database 1) U) (Granted U) ∷ entry 3 (Lock (database 1) S) Waiting ∷ [];
+  history = refl;
+  at_place = refl;
+  not_before = λ e. absurd (cc);
+  held_since = two-fronts (λ (xs : List Entry). held_mode (state_of (begins ++ entry 1 (Lock (database 1) S) (Granted S) ∷ xs)).table 1 (database 1) ≡ Some S) (entry 2 (Lock (database 1) U) (Granted U)) (entry 3 (Lock (database 1) S) Waiting) refl refl refl;
+}
+
+pub later-granted : IsGrantedAt reader_behind_update 4 2 (database 1) U
+unfolding begins
+later-granted = record {
+  before = begins ++ entry 1 (Lock (database 1) S) (Granted S) ∷ [];
+  entry = entry 2 (Lock (database 1) U) (Granted U);
+  since = entry 3 (Lock (database 1) S) Waiting ∷ [];
+  history = refl;
+  at_place = refl;
+  not_before = λ e. absurd (cc);
+  held_since = one-front (λ (xs : List Entry). held_mode (state_of (begins ++ entry 1 (Lock (database 1) S) (Granted S) ∷ entry 2 (Lock (database 1) U) (Granted U) ∷ xs)).table 2 (database 1) ≡ Some U) (entry 3 (Lock (database 1) S) Waiting) refl refl;
+}

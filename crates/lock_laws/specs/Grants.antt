@@ -33,3 +33,7 @@ DoGrantsOfOneEntryGoTogether es = (s u place : ℕ) (r : List ℕ) (k l : Mode) 
 -- whoever holds a resource was granted its mode at some place
 abbrev pub AreHoldersGranted : List Entry → Type 0
 AreHoldersGranted es = (s : ℕ) (r : List ℕ) (k : Mode) → held_mode (state_of es).table s r ≡ Some k → (place : ℕ) × IsGrantedAt es place s r k
+
+-- a session was granted the mode that it holds at one place alone
+abbrev pub AreGrantsAtOnePlace : List Entry → Type 0
+AreGrantsAtOnePlace es = (s p q : ℕ) (r : List ℕ) (k : Mode) → IsGrantedAt es p s r k → IsGrantedAt es q s r k → p ≡ q
