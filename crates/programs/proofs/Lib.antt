@@ -5,3 +5,4 @@ pub mod Runs
 pub mod Pushes
 pub mod Waits
 pub mod ListsTell
+pub mod GoingOn

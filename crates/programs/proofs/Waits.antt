@@ -12,12 +12,13 @@ use Rattle.programs.specs.Views.{place_of}
 use Rattle.programs.proofs.Pushes.{flat-split}
 
 module _ {T : Type 0} where
-  not-empty : (xs ys : List T) (e : T) → [] ≡ xs ++ e ∷ ys → ⊥
+  -- a list with an item isn't empty
+  pub not-empty : (xs ys : List T) (e : T) → [] ≡ xs ++ e ∷ ys → ⊥
   not-empty [] ys e p = absurd (cc p)
   not-empty (x ∷ xs) ys e p = absurd (cc p)
 
   -- an item of two lists, one behind the other, is in the first or in the second
-  split : (xs ys earlier later : List T) (e : T) → xs ++ ys ≡ earlier ++ e ∷ later
+  pub split : (xs ys earlier later : List T) (e : T) → xs ++ ys ≡ earlier ++ e ∷ later
       → ((rest : List T) × (xs ≡ earlier ++ e ∷ rest)) ⊎ ((more : List T) × (earlier ≡ xs ++ more) × (ys ≡ more ++ e ∷ later))
   split [] ys earlier later e p = inr (earlier, refl, p)
   split (x ∷ xs) ys [] later e p = let q : x ≡ e = cc p in inl (xs, ap (λ (w : T). w ∷ xs) q)
