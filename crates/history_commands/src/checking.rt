@@ -57,6 +57,18 @@ pub(crate) fn first_wrong(
     Ok(None)
 }
 
+/// A fresh lock table that keeps no history in memory. Fails if memory is refused.
+pub(crate) fn fresh_book(alloc: Global, sessions: u16) -> Result<Book, NoMemory>
+    requires some { 0 < sessions }
+    requires few { sessions ≤ MAX_SESSIONS }
+    ensures sessions { IfOk result (λ book. book.sessions ≡ sessions) }
+    ensures empty { IfOk result (λ book. book.history ≡ []) }
+{
+    let mut book = Book::new(alloc, sessions)?;
+    book.keep_at_most(0);
+    Ok(book)
+}
+
 /// Serves the calls of the entries in order and stops at the first entry whose recorded reply differs from the book's.
 /// Fails if the book finds no memory for a call.
 fn judge(book: &mut Book, entries: &[Entry]) -> Result<Verdict, NoMemory>

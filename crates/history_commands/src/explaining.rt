@@ -10,7 +10,7 @@ ghost use Rattle.lock_trace.specs.Entries.{IsEntry};
 ghost use Rattle.history_commands.specs.Explaining.{AreAccounts, Explains, HasExplained, HasExplainedPart, HasPlace, IsAccount, IsAccountIfEventful, IsTextExplained, account_in, is_entry_eventful};
 ghost use Rattle.history_commands.specs.Verdicts.{IsFirstWrong, IsVerdict, text_of_verdict};
 
-use crate::checking::{Verdict, first_wrong, is_same, verdict_line};
+use crate::checking::{Verdict, first_wrong, fresh_book, is_same, verdict_line};
 use crate::show_fault::ShowFault;
 use command_line::Form;
 use explain_report::{explanation_dot, explanation_rows, explanation_text};
@@ -123,18 +123,6 @@ fn illegal_report(alloc: Global, first: u64) -> Result<Report, NoMemory>
         verdict,
         text: line.into_bytes(),
     })
-}
-
-/// A fresh lock table that keeps no history in memory. Fails if memory is refused.
-fn fresh_book(alloc: Global, sessions: u16) -> Result<Book, NoMemory>
-    requires some { 0 < sessions }
-    requires few { sessions ≤ MAX_SESSIONS }
-    ensures sessions { IfOk result (λ book. book.sessions ≡ sessions) }
-    ensures empty { IfOk result (λ book. book.history ≡ []) }
-{
-    let mut book = Book::new(alloc, sessions)?;
-    book.keep_at_most(0);
-    Ok(book)
 }
 
 /// Serves the entries on the books, which have served none, makes the account of the entry at `place` on the way, and goes on to

@@ -1,6 +1,6 @@
 //! The command `show`: the state of the lock table at a place of a history, as text.
 
-ghost use Rattle.std.specs.Prelude.{◌≡◌, ◌≢◌, ℕ, ◌<◌, ◌≤◌, ◌++◌, List, Some, length, All, IfOk, IfErr, OnOk, string_bytes};
+ghost use Rattle.std.specs.Prelude.{◌≡◌, ◌≢◌, ℕ, ◌<◌, ◌≤◌, ◌++◌, List, [], Some, length, All, IfOk, IfErr, OnOk, string_bytes};
 ghost use Rattle.std.specs.Io.KnownBytes.{Keeps};
 ghost use Rattle.lock_rules.specs.declared.calls.TheConstants.{MAX_SESSIONS};
 ghost use Rattle.lock_rules.specs.Legal.{state_of};
@@ -8,7 +8,7 @@ ghost use Rattle.lock_trace.specs.Entries.{IsEntry};
 ghost use Rattle.history_commands.specs.Showing.{HasShown, HasShownPart, Shows, open_of, opens_of, place_shown, text_in, text_shown, wait_of, waits_by, waits_of};
 ghost use Rattle.history_commands.specs.Verdicts.{IsVerdict, text_of_verdict};
 
-use crate::checking::{Verdict, first_wrong, verdict_line};
+use crate::checking::{Verdict, first_wrong, fresh_book, verdict_line};
 use crate::show_fault::ShowFault;
 use command_line::Form;
 use lock_desk::{Book, Entry, NoMemory};
@@ -117,8 +117,34 @@ fn illegal_text(alloc: Global, first: u64) -> Result<Shown, NoMemory>
     Ok(Shown { verdict, text })
 }
 
-/// Serves the entries on a fresh lock table, makes the text of the state in front of `place` on the way, and goes on to the first
-/// reply that isn't the lock table's. Fails if memory is refused.
+/// Serves the entries on the book, which has served none, makes the text of the state in front of `place` on the way, and goes on to
+/// the first reply that isn't the book's. Fails if memory is refused.
+fn shown_on(
+    alloc: Global,
+    book: &mut Book,
+    entries: &[Entry],
+    place: usize,
+    form: Form,
+) -> Result<Shown, NoMemory>
+    requires within { All (IsEntry book.old.sessions) entries.now }
+    requires empty { book.old.history ≡ [] }
+    requires place { place ≤ length entries.now }
+    ensures { IfOk result (λ shown. IsVerdict entries.now shown.verdict × (string_bytes shown.text ≡ text_shown form book.old.sessions place entries.now shown.verdict)) }
+{
+    if let Some(first) = first_wrong(book, entries, 0, place)? {
+        return illegal_text(alloc, first);
+    }
+    let text = book_text(alloc, book, place as u64, form)?;
+    if let Some(first) = first_wrong(book, entries, place, entries.len())? {
+        return illegal_text(alloc, first);
+    }
+    Ok(Shown {
+        verdict: Verdict::Legal(entries.len() as u64),
+        text,
+    })
+}
+
+/// Shows the entries as `shown_on` does, on a fresh lock table. Fails if memory is refused.
 fn shown_text(
     alloc: Global,
     entries: &[Entry],
@@ -132,19 +158,8 @@ fn shown_text(
     requires place { place ≤ length entries.now }
     ensures { IfOk result (λ shown. IsVerdict entries.now shown.verdict × (string_bytes shown.text ≡ text_shown form sessions place entries.now shown.verdict)) }
 {
-    let mut book = Book::new(alloc, sessions)?;
-    book.keep_at_most(0);
-    if let Some(first) = first_wrong(&mut book, entries, 0, place)? {
-        return illegal_text(alloc, first);
-    }
-    let text = book_text(alloc, &book, place as u64, form)?;
-    if let Some(first) = first_wrong(&mut book, entries, place, entries.len())? {
-        return illegal_text(alloc, first);
-    }
-    Ok(Shown {
-        verdict: Verdict::Legal(entries.len() as u64),
-        text,
-    })
+    let mut book = fresh_book(alloc, sessions)?;
+    shown_on(alloc, &mut book, entries, place, form)
 }
 
 /// The place that is shown: the one that is asked for, or the end of the history.
