@@ -1,7 +1,7 @@
 -- A lock table with its history: one call with its entry, and whose wait it has ended.
-use Rattle.std.proofs.Common.{◌≡◌, Bool, not, eqb, ◌&&◌, ◌||◌, ℕ, zero, suc, ◌+◌, ◌≤◌, List, [], ◌∷◌, ◌++◌, length, map, refl, length-append, sym, ap, ◌∙◌, arith, subst}
+use Rattle.std.proofs.Common.{◌≡◌, Bool, not, eqb, ◌&&◌, ◌||◌, ℕ, zero, suc, ◌+◌, ◌≤◌, List, [], ◌∷◌, ◌++◌, length, map, filter, refl, length-append, sym, ap, ◌∙◌, arith, subst}
 use Rattle.std.specs.Prelude.{vec_len}
-use Rattle.std.specs.List.{All}
+use Rattle.std.specs.List.{All, range_with_len, list_any}
 use Rattle.std.proofs.lemmas.List.Elements.{All-push}
 use Rattle.lock_rules.specs.Entries.{Entry}
 use Rattle.lock_rules.specs.declared.calls.Call.{Call}
@@ -20,11 +20,12 @@ use Rattle.lock_desk.specs.inner.Ready.{IsReadyTable}
 use Rattle.lock_desk.specs.inner.Shows.{Shows}
 use Rattle.lock_desk.specs.inner.Runs.{AreKept}
 use Rattle.lock_desk.specs.BookView.{BookView}
+use Rattle.lock_desk.specs.Batches.{ended_waits_beside}
 use Rattle.sequential.specs.Histories.{IsEntryWithin}
 use Rattle.lock_desk.specs.inner.Invariant.{book_view_of, IsKept}
 use Rattle.lock_desk.specs.declared.book.Book.TheInside.{Inside}
 use Rattle.waits_for.specs.declared.TheConstants.{MAX_SESSIONS}
-use Rattle.lock_desk.proofs.EndedList.{same-numbers, none-waits_ended}
+use Rattle.lock_desk.proofs.EndedList.{any-among, same-numbers, none-waits_ended}
 use Rattle.lock_desk.proofs.EndedWaits.{whole-relisted, ready-relisted, shows-relisted}
 use Rattle.lock_desk.proofs.Simulation.{waits-shown}
 
@@ -117,22 +118,52 @@ waits_ended-alone n s before after v w long none adds =
     same-numbers (is_ended w) (has_ended s before after) 1 (length w.places) (λ u l k. adds u ∙ ap (λ (b : Bool). b || has_ended s before after u) (none-waits_ended v none u))
     ∙ ap (λ (m : ℕ). ended_waits m s before after) long
 
+-- in one whose list was not cleared, they are listed beside those that were
+waits_ended-beside : (n s : ℕ) (before after : rules.State) (v w : EndedView) → length v.places ≡ n → length w.places ≡ n → ((u : ℕ) → is_ended w u ≡ (is_ended v u || has_ended s before after u))
+    → ended_in w ≡ ended_waits_beside n (ended_in v) s before after
+waits_ended-beside n s before after v w long still adds =
+    let listed : ended_in v ≡ filter (is_ended v) (range_with_len 1 n) = ap (λ (m : ℕ). filter (is_ended v) (range_with_len 1 m)) long in
+    ap (λ (m : ℕ). filter (is_ended w) (range_with_len 1 m)) still
+    ∙ (same-numbers (is_ended w) (λ u. list_any (λ x. eqb x u) (filter (is_ended v) (range_with_len 1 n)) || has_ended s before after u) 1 n
+    (λ u l k. adds u ∙ ap (λ b. b || has_ended s before after u) (sym (any-among (is_ended v) n u l (omega (arith, k)))))
+    ∙ ap (λ (told : List ℕ). ended_waits_beside n told s before after) (sym listed))
+
 -- the invariant, when as many sessions are listed as `n`
 pub relisted-kept : (a : Inside) (n : ℕ) (e : LockTable) → e ≡ with_ended_count n a.lock_table → IsKept a → IsKept (record { sessions = a.sessions; lock_table = e; history = a.history; marks = a.marks })
 relisted-kept a n e is k =
     subst (λ (d : LockTable). IsKept (record { sessions = a.sessions; lock_table = d; history = a.history; marks = a.marks })) (sym is)
     (of-kept _ k.some k.few (kept-relisted a.lock_table _ a.history.items refl (kept-of a k)) k.lockers k.marked)
 
--- what contracts see of a book after a call
+-- what contracts see of a book after a call, when these sessions are listed
+pub listed-view : (a : Inside) (b : BookView) → book_view_of a ≡ b → (e : Entry) (es : List Entry) (cut bound : ℕ) (ended told : List ℕ)
+    → es ≡ a.history.items ++ e ∷ [] → cut ≡ a.history.cut → bound ≡ a.history.bound → ended ≡ told
+    → record { sessions = a.sessions; history = es; cut = cut; bound = bound; ended = ended } ≡ record b { history = b.history ++ e ∷ []; ended = told }
+listed-view a b is e es cut bound ended told entries cuts bounds ends =
+    let n = ap (λ (t : BookView). t.sessions) is in
+    let history = entries ∙ ap (λ (t : BookView). t.history ++ e ∷ []) is in
+    let all_cut = cuts ∙ ap (λ (t : BookView). t.cut) is in
+    let all_bound = bounds ∙ ap (λ (t : BookView). t.bound) is in
+    λ i. record { sessions = n i; history = history i; cut = all_cut i; bound = all_bound i; ended = ends i }
+
+-- when exactly those are listed whose wait it has ended
 pub entry-view : (a : Inside) (b : BookView) → book_view_of a ≡ b → (s : ℕ) (call : Call) (reply : Reply) (es : List Entry) (cut bound : ℕ) (ended : List ℕ)
     → es ≡ a.history.items ++ record { session = s; call = call; reply = reply } ∷ [] → cut ≡ a.history.cut → bound ≡ a.history.bound
     → ended ≡ ended_waits a.sessions s (state_of a.history.items) (step (state_of a.history.items) s call).state
     → record { sessions = a.sessions; history = es; cut = cut; bound = bound; ended = ended } ≡ record b { history = b.history ++ record { session = s; call = call; reply = reply } ∷ []; ended = ended_waits b.sessions s (state_of b.history) (step (state_of b.history) s call).state }
 entry-view a b is s call reply es cut bound ended entries cuts bounds ends =
-    let n = ap (λ (t : BookView). t.sessions) is in
-    let h = ap (λ (t : BookView). t.history) is in
-    let history = entries ∙ (λ i. h i ++ record { session = s; call = call; reply = reply } ∷ []) in
-    let all_cut = cuts ∙ ap (λ (t : BookView). t.cut) is in
-    let all_bound = bounds ∙ ap (λ (t : BookView). t.bound) is in
-    let told = ends ∙ (λ i. ended_waits (n i) s (state_of (h i)) (step (state_of (h i)) s call).state) in
-    λ i. record { sessions = n i; history = history i; cut = all_cut i; bound = all_bound i; ended = told i }
+    let e : Entry = record { session = s; call = call; reply = reply } in
+    listed-view a b is e es cut bound ended _ entries cuts bounds
+    (ends ∙ ap (λ (t : BookView). ended_waits t.sessions s (state_of t.history) (step (state_of t.history) s call).state) is)
+
+-- when they are listed beside those that were
+pub beside-view : (a : Inside) (b : BookView) → book_view_of a ≡ b → (s : ℕ) (call : Call) (reply : Reply) (es : List Entry) (cut bound : ℕ) (w : EndedView)
+    → es ≡ a.history.items ++ record { session = s; call = call; reply = reply } ∷ [] → cut ≡ a.history.cut → bound ≡ a.history.bound
+    → length a.lock_table.ended.places ≡ a.sessions → length w.places ≡ a.sessions
+    → ((u : ℕ) → is_ended w u ≡ (is_ended a.lock_table.ended u || has_ended s (state_of a.history.items) (step (state_of a.history.items) s call).state u))
+    → record { sessions = a.sessions; history = es; cut = cut; bound = bound; ended = ended_in w } ≡ record b { history = b.history ++ record { session = s; call = call; reply = reply } ∷ []; ended = ended_waits_beside b.sessions b.ended s (state_of b.history) (step (state_of b.history) s call).state }
+beside-view a b is s call reply es cut bound w entries cuts bounds long still adds =
+    let e : Entry = record { session = s; call = call; reply = reply } in
+    let st = state_of a.history.items in
+    listed-view a b is e es cut bound (ended_in w) _ entries cuts bounds
+    (waits_ended-beside a.sessions s st (step st s call).state a.lock_table.ended w long still adds
+    ∙ ap (λ (t : BookView). ended_waits_beside t.sessions t.ended s (state_of t.history) (step (state_of t.history) s call).state) is)

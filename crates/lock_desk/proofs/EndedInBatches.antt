@@ -1,6 +1,6 @@
 -- Whose wait the calls of a batch have ended, said of its entries.
-use Rattle.std.proofs.Common.{◌≡◌, ℕ, ◌≤◌, ◌↔◌, ⊎_elim, Bool, true, ◌||◌, List, [], ◌∷◌, ◌++◌, length, map, take, drop, filter, Contains, refl, sym, ap, ◌∙◌, subst, arith}
-use Rattle.std.specs.List.{range_with_len}
+use Rattle.std.proofs.Common.{◌≡◌, ℕ, ◌≤◌, ◌↔◌, ◌⊎◌, inl, inr, ⊎_elim, Bool, true, eqb, ◌||◌, List, [], ◌∷◌, ◌++◌, length, map, take, drop, filter, Contains, refl, sym, ap, ◌∙◌, subst, arith}
+use Rattle.std.specs.List.{range_with_len, list_any}
 use Rattle.std.proofs.lemmas.Bool.{or_cases, or_left, or_right}
 use Rattle.std.proofs.Math.Bool.{or-false}
 use Rattle.std.proofs.Math.Seq.{drop-append_seam, take-append_seam}
@@ -18,7 +18,9 @@ use Rattle.lock_rules.proofs.Histories.{state_after-append}
 use Rattle.lock_rules.proofs.Ended.{ended-decides}
 use Rattle.sequential.proofs.Ranges.{member-range}
 use Rattle.lock_desk.specs.BookView.{BookView}
-use Rattle.lock_desk.specs.Batches.{Item, entries_from, has_ended_in, ended_waits_in, ends_wait, TellsFrom}
+use Rattle.programs.proofs.GoingOn.{TellsBy, tells-more, tells-none}
+use Rattle.lock_desk.specs.Batches.{Item, entries_from, has_ended_in, ended_waits_in, ended_waits_beside, ends_wait, TellsFrom}
+use Rattle.lock_desk.proofs.EndedList.{among, any-contains}
 
 -- The entries of calls have ended the same waits as the calls.
 pub same-ended : (st : State) (is : List Item) (u : ℕ) → has_ended_in st is u ≡ has_ended_in st (map item_of (entries_from st is)) u
@@ -109,3 +111,34 @@ call-tells before after session call reply same =
     let many : before.sessions ≡ after.sessions = sym (ap (λ (b : BookView). b.sessions) same) in
     tells-behind after before.history (e ∷ []) (ap (λ (b : BookView). b.history) same)
     (ap (λ (b : BookView). b.ended) same ∙ (one ∙ ap (λ (n : ℕ). ended_waits_in n st (map item_of (e ∷ []))) many))
+
+-- A call that is served on adds those whose wait its entry has ended to those that the book tells.
+pub beside-tells : (before after : BookView) (session : ℕ) (call : Call) (reply : Reply)
+    → after ≡ record before {
+      history = before.history ++ record { session = session; call = call; reply = reply } ∷ [];
+      ended = ended_waits_beside before.sessions before.ended session (state_of before.history) (step (state_of before.history) session call).state;
+    } → (from : ℕ) → from ≤ length before.history → TellsFrom before from → TellsFrom after from
+beside-tells before after session call reply same from few told =
+    let st : State = state_of before.history in
+    let next : State = (step st session call).state in
+    let n = before.sessions in
+    let e : Entry = record { session = session; call = call; reply = reply } in
+    let test : ℕ → Bool = λ u. list_any (λ v. eqb v u) before.ended || has_ended session st next u in
+    let longer : List ℕ = ended_waits_beside n before.ended session st next in
+    let grown : (u : ℕ) → Contains longer u ↔ (Contains before.ended u ⊎ ((1 ≤ u) × (u ≤ n) × ends_wait before.history e u))
+    = λ u. let among_them = among test n u in (
+      λ c. let k = among_them.0 c in ⊎_elim
+          (λ a. inl ((any-contains before.ended u).0 a))
+          (λ b. inr (k.0, k.1, (ended-decides session st next u).0 b))
+          (or_cases (list_any (λ v. eqb v u) before.ended) (has_ended session st next u) k.2),
+      λ d. ⊎_elim
+          (λ a. let t = (told u).0 a in among_them.1 (t.0, t.1, or_left (list_any (λ v. eqb v u) before.ended) (has_ended session st next u) ((any-contains before.ended u).1 a)))
+          (λ b. among_them.1 (b.0, b.1, or_right (list_any (λ v. eqb v u) before.ended) (has_ended session st next u) ((ended-decides session st next u).1 b.2)))
+          d,
+    ) in
+    let more : TellsBy ends_wait n longer (before.history ++ e ∷ []) from = tells-more ends_wait n before.ended longer before.history e grown from few told in
+    subst (λ (b : BookView). TellsFrom b from) (sym same) more
+
+-- A book that tells no session tells of no call.
+pub tells-nothing : (before after : BookView) → after ≡ record before { ended = [] } → TellsFrom after (length before.history)
+tells-nothing before after same = subst (λ (b : BookView). TellsFrom b (length before.history)) (sym same) (tells-none ends_wait before.sessions before.history)

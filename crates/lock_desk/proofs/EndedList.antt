@@ -1,11 +1,11 @@
 -- The list of ended waits: two sessions exchange their places, and which are listed then.
-use Rattle.std.proofs.Common.{◌≡◌, ◌≢◌, ℕ, zero, suc, ◌+◌, ◌-◌, ◌<◌, ◌≤◌, ◌↔◌, Bool, true, false, cond, not, eqb, leb, ltb, ◌&&◌, ◌||◌, inl, inr, List, [], ◌∷◌, ◌++◌, length, get_or, set, take, filter, Contains, refl, sym, ◌∙◌, ap, arith, subst}
-use Rattle.std.specs.List.{range_with_len}
+use Rattle.std.proofs.Common.{◌≡◌, ◌≢◌, ℕ, zero, suc, ◌+◌, ◌-◌, ◌<◌, ◌≤◌, ◌↔◌, Bool, true, false, cond, not, eqb, leb, ltb, ◌&&◌, ◌||◌, inl, inr, ⊎_elim, List, [], ◌∷◌, ◌++◌, length, get_or, set, take, filter, Contains, refl, sym, ◌∙◌, ap, arith, subst}
+use Rattle.std.specs.List.{range_with_len, list_any}
 use Rattle.std.proofs.Math.Bool.{or-false, or-true, and-false, and-true}
-use Rattle.std.proofs.lemmas.Bool.{and_parts, and_from, cases_Bool, cases_eq, cases_lt}
+use Rattle.std.proofs.lemmas.Bool.{and_parts, and_from, or_cases, or_left, or_right, cases_Bool, cases_eq, cases_lt}
 use Rattle.std.proofs.lemmas.Bool.Decides.{nat_tests, leb_tells, Decides-eqb, Decides-ltb}
 use Rattle.std.proofs.lemmas.List.{get_or-set_same, get_or-set_other, length-set, get_or_default, get_or-take, length-take-le}
-use Rattle.sequential.proofs.Members.{contains-member, member-contains}
+use Rattle.sequential.proofs.Members.{Member, contains-member, member-contains}
 use Rattle.sequential.proofs.Ranges.{true≢false, member-range}
 use Rattle.lock_desk.specs.inner.Ended.{EndedView, is_ended, ended_in, ArePlaced}
 
@@ -381,6 +381,33 @@ among p n u =
       λ h. let k = m.0 (contains-member u (filter p (range_with_len 1 n)) h) in let l = k.1 in (k.0, omega (arith, l), k.2),
       λ h. let l = h.1 in member-contains u (filter p (range_with_len 1 n)) (m.1 (h.0, omega (arith, l), h.2)),
     )
+
+-- the test whether a number is in a list
+any-member : (xs : List ℕ) (u : ℕ) → list_any (λ x. eqb x u) xs ≡ true → Member u xs
+any-member [] u h = absurd (cc h)
+any-member (x ∷ xs) u h = ⊎_elim (λ e. inl ((Decides-eqb x u).0 e)) (λ k. inr (any-member xs u k)) (or_cases (eqb x u) (list_any (λ y. eqb y u) xs) h)
+
+member-any : (xs : List ℕ) (u : ℕ) → Member u xs → list_any (λ x. eqb x u) xs ≡ true
+member-any [] u h = absurd h
+member-any (x ∷ xs) u h = ⊎_elim (λ e. or_left (eqb x u) (list_any (λ y. eqb y u) xs) ((Decides-eqb x u).1 e)) (λ k. or_right (eqb x u) (list_any (λ y. eqb y u) xs) (member-any xs u k)) h
+
+pub any-contains : (xs : List ℕ) (u : ℕ) → (list_any (λ x. eqb x u) xs ≡ true) ↔ Contains xs u
+any-contains xs u = (λ h. member-contains u xs (any-member xs u h), λ h. member-any xs u (contains-member u xs h))
+
+-- a number of the range is in the list of those that pass a test if it passes
+pub any-among : (p : ℕ → Bool) (n u : ℕ) → 1 ≤ u → u ≤ n → list_any (λ x. eqb x u) (filter p (range_with_len 1 n)) ≡ p u
+any-among p n u some within = go (list_any (λ x. eqb x u) (filter p (range_with_len 1 n))) (p u) refl refl
+  where
+    to : list_any (λ x. eqb x u) (filter p (range_with_len 1 n)) ≡ true → p u ≡ true
+    to h = ((among p n u).0 ((any-contains (filter p (range_with_len 1 n)) u).0 h)).2
+
+    from : p u ≡ true → list_any (λ x. eqb x u) (filter p (range_with_len 1 n)) ≡ true
+    from h = (any-contains (filter p (range_with_len 1 n)) u).1 ((among p n u).1 (some, within, h))
+
+    go : (a b : Bool) → list_any (λ x. eqb x u) (filter p (range_with_len 1 n)) ≡ a → p u ≡ b → a ≡ b
+    go true b f g = sym (sym g ∙ to f)
+    go false true f g = absurd (true≢false (from g) f)
+    go false false f g = refl
 
 -- lists of the same numbers come from the same tests
 pub same-tests : (p q : ℕ → Bool) (n : ℕ) → filter p (range_with_len 1 n) ≡ filter q (range_with_len 1 n) → (u : ℕ) → 1 ≤ u → u ≤ n → p u ≡ q u

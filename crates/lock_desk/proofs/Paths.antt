@@ -1,6 +1,6 @@
 -- A path, one level further.
-use Rattle.std.proofs.Common.{◌≡◌, ℕ, suc, ◌+◌, ◌-◌, ◌≤◌, ◌<◌, Bool, true, false, not, nat_lt, ◌&&◌, if◌then◌else◌, ◌||◌, List, [], ◌∷◌, ◌++◌, Option, None, Some, map, sym, ap, arith, ◌∙◌, append_assoc, append-nil, refl, subst}
-use Rattle.std.specs.List.{range_with_len, All}
+use Rattle.std.proofs.Common.{◌≡◌, ℕ, suc, ◌+◌, ◌-◌, ◌≤◌, ◌<◌, Bool, true, false, not, eqb, nat_lt, ◌&&◌, if◌then◌else◌, ◌||◌, List, [], ◌∷◌, ◌++◌, Option, None, Some, map, sym, ap, arith, ◌∙◌, append_assoc, append-nil, refl, subst}
+use Rattle.std.specs.List.{range_with_len, list_any, All}
 use Rattle.std.proofs.Math.Bool.{or-false, or_assoc}
 use Rattle.std.proofs.lemmas.List.{map-append}
 use Rattle.std.proofs.lemmas.List.Elements.{All-push}
@@ -12,14 +12,14 @@ use Rattle.lock_rules.specs.State.{State, empty}
 use Rattle.lock_rules.specs.Step.{step}
 use Rattle.lock_rules.specs.Legal.{state_of, state_after}
 use Rattle.lock_rules.proofs.Histories.{state_after-append}
-use Rattle.lock_desk.specs.Batches.{Item, entries_from, has_ended_in, ended_waits_in}
+use Rattle.lock_desk.specs.Batches.{Item, entries_from, has_ended_in, ended_waits_in, ended_waits_beside}
 use Rattle.lock_desk.specs.BookView.{BookView}
 use Rattle.lock_desk.specs.declared.book.paths.PathLocked.{PathLocked}
 use Rattle.lock_desk.specs.Paths.{lock_of_level, level_call, path_calls, grants, stops, last_level, last_reply}
 use Rattle.lock_desk.specs.inner.Paths.{AreEntered}
 use Rattle.lock_desk.proofs.Batches.{entry_of, item_ends, ended_also}
 use Rattle.lock_desk.proofs.Blockers.{one-behind}
-use Rattle.lock_desk.proofs.EndedList.{same-numbers, no-numbers}
+use Rattle.lock_desk.proofs.EndedList.{any-among, same-numbers, no-numbers}
 
 -- calls that are served one after another
 
@@ -55,7 +55,7 @@ behind : (start h : List Entry) (calls : List Item) → h ≡ start ++ entries_f
 behind start h calls entries = ap state_of entries ∙ state_after-append start (entries_from (state_of start) calls) empty
 
 -- one call more is served
-pub entered-push : (n : ℕ) (calls : List Item) (start : List Entry) (ended more : List ℕ) (before : Option Reply) (h : List Entry) (i : Item) (reply : Reply) → AreEntered n calls start ended before h
+entered-push : (n : ℕ) (calls : List Item) (start : List Entry) (ended more : List ℕ) (before : Option Reply) (h : List Entry) (i : Item) (reply : Reply) → AreEntered n calls start ended before h
     → reply ≡ (step (state_of h) i.session i.call).reply → more ≡ ended_also n (state_of start) calls (state_of h) i → AreEntered n (calls ++ i ∷ []) start more (Some reply) (h ++ entry_of i reply ∷ [])
 entered-push n calls start ended more before h i reply k told adds =
     let st = state_of start in
@@ -70,6 +70,23 @@ entered-push n calls start ended more before h i reply k told adds =
       waits = adds ∙ same-numbers (λ u. has_ended_in st calls u || item_ends (state_of h) i u) (has_ended_in st (calls ++ i ∷ [])) 1 n (λ u l m. ends u);
       last = sym (ap last_reply entries ∙ last-push es (entry_of i reply));
     }
+
+-- what a list has beside the waits that the calls before have ended
+beside-also : (n : ℕ) (start : State) (calls : List Item) (st : State) (i : Item) (told : List ℕ) → told ≡ ended_waits_in n start calls → ended_waits_beside n told i.session st (step st i.session i.call).state ≡ ended_also n start calls st i
+beside-also n start calls st i told same =
+    ap (λ (l : List ℕ). ended_waits_beside n l i.session st (step st i.session i.call).state) same
+    ∙ same-numbers (λ u. list_any (λ v. eqb v u) (ended_waits_in n start calls) || item_ends st i u) (λ u. has_ended_in start calls u || item_ends st i u) 1 n
+    (λ u l k. ap (λ (b : Bool). b || item_ends st i u) (any-among (has_ended_in start calls) n u l (omega (arith, k))))
+
+-- one call more is served, and it is told besides whose wait it has ended
+pub entered-beside : (b d : BookView) (calls : List Item) (start : List Entry) (before : Option Reply) (i : Item) (reply : Reply) → AreEntered b.sessions calls start b.ended before b.history
+    → reply ≡ (step (state_of b.history) i.session i.call).reply
+    → d ≡ record b { history = b.history ++ entry_of i reply ∷ []; ended = ended_waits_beside b.sessions b.ended i.session (state_of b.history) (step (state_of b.history) i.session i.call).state }
+    → AreEntered b.sessions (calls ++ i ∷ []) start d.ended (Some reply) d.history
+entered-beside b d calls start before i reply k told same =
+    let ends = ap (λ (t : BookView). t.ended) same ∙ beside-also b.sessions (state_of start) calls (state_of b.history) i b.ended k.waits in
+    subst (λ (h : List Entry). AreEntered b.sessions (calls ++ i ∷ []) start d.ended (Some reply) h) (sym (ap (λ (t : BookView). t.history) same))
+    (entered-push b.sessions calls start b.ended d.ended before b.history i reply k told ends)
 
 -- all are granted if this one is
 pub granted-push : (st : State) (calls : List Item) (i : Item) (reply : Reply) → All (λ (e : Entry). grants e.reply ≡ true) (entries_from st calls) → Some reply ≡ last_reply (entries_from st (calls ++ i ∷ [])) → grants reply ≡ true

@@ -1,6 +1,6 @@
 -- A batch leaves the replies and the entries that its calls leave when they are served one after another.
-use Rattle.std.specs.Prelude.{ℕ, ◌≤◌, ◌↔◌, Bool, true, false, ◌||◌, List, [], ◌∷◌, filter, take, drop, Contains}
-use Rattle.std.specs.List.{range_with_len}
+use Rattle.std.specs.Prelude.{ℕ, ◌≤◌, ◌↔◌, Bool, true, false, ◌||◌, ◌==◌, List, [], ◌∷◌, filter, take, drop, Contains}
+use Rattle.std.specs.List.{range_with_len, list_any}
 use Rattle.sequential.specs.declared.entry.Item.{Item as ItemOf}
 use Rattle.sequential.specs.EndedWaits.{HasEndedIn}
 use Rattle.lock_rules.specs.declared.calls.Call.{Call}
@@ -32,6 +32,10 @@ has_ended_in st (i ∷ is) u = has_ended i.session st (step st i.session i.call)
 -- the sessions from 1 to n whose wait one of these calls has ended, by number
 abbrev pub ended_waits_in : ℕ → State → List Item → List ℕ
 ended_waits_in n st is = filter (has_ended_in st is) (range_with_len 1 n)
+
+-- the sessions from 1 to n that are told already, and those whose wait a call of session s has ended, by number
+abbrev pub ended_waits_beside : ℕ → List ℕ → ℕ → State → State → List ℕ
+ended_waits_beside n told s before after = filter (λ u. list_any (λ v. v == u) told || has_ended s before after u) (range_with_len 1 n)
 
 -- the entry's call, which follows this history, has ended the wait of session u, which is another than that of the call
 abbrev pub ends_wait : List Entry → Entry → ℕ → Type 0

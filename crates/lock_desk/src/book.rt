@@ -1,23 +1,21 @@
 //! The book: the lock table with the history of its calls.
 
-ghost use Rattle.std.specs.Prelude.{◌≡◌, ◌≢◌, ℕ, ◌↔◌, false, ◌+◌, ◌-◌, ◌<◌, ◌≤◌, List, [], ◌∷◌, ◌++◌, if◌then◌else◌, length, map, take, drop, min, Contains, slice_index, IfOk, OnOk, OnErr, Option, Some, None};
+ghost use Rattle.std.specs.Prelude.{◌≡◌, ◌≢◌, ℕ, ◌↔◌, false, ◌+◌, ◌-◌, ◌<◌, ◌≤◌, List, [], ◌∷◌, ◌++◌, if◌then◌else◌, length, map, take, drop, min, Contains, slice_index, IfOk, OnOk, OnErr};
 ghost use Rattle.std.specs.List.{All};
 ghost use Rattle.lock_rules.specs.State.{held_mode, holders};
 ghost use Rattle.lock_rules.specs.Step.{step};
 ghost use Rattle.lock_rules.specs.Ended.{ended_waits};
 ghost use Rattle.lock_rules.specs.Waits.{waits_for};
-ghost use Rattle.lock_rules.specs.declared.calls.Reply.{Reply as ReplyValue};
 ghost use Rattle.lock_rules.specs.Entries.{Entry as EntryValue};
 ghost use Rattle.lock_rules.specs.Legal.{state_of, IsLegal};
 ghost use Rattle.lock_rules.specs.Listing.{listing_of, waiting_line};
 ghost use Rattle.lock_rules.specs.Laws.{DoesGrantStand, DoesDoomStand, DoesRequestStand};
 ghost use Rattle.lock_rules.specs.Lawful.{IsLawfulState};
-ghost use Rattle.lock_desk.specs.Batches.{entries_from, ended_waits_in, Item as ItemValue};
+ghost use Rattle.lock_desk.specs.Batches.{entries_from, ended_waits_in, ended_waits_beside, Item as ItemValue};
 ghost use Rattle.sequential.specs.Batches.{IsItemWithin, item_of};
 ghost use Rattle.lock_desk.specs.BookView.{first_kept_by, kept_by};
 ghost use Rattle.sequential.specs.Histories.{IsEntryWithin};
 ghost use Rattle.lock_desk.specs.inner.Runs.{AreServed};
-ghost use Rattle.lock_desk.specs.inner.Paths.{AreEntered};
 
 mod blockers;
 mod paths;
@@ -211,9 +209,10 @@ impl Book {
     /// transaction was made a deadlock victim. Each is there once, in no particular order.
     ///
     /// An engine wakes the threads of these sessions alone; a poll tells each of them which of the two it was. The session
-    /// of the call itself isn't among them: its reply tells. After a batch or a path: every session whose wait another session's
-    /// call has ended, even if it waits again. A batch or a path of which nothing was served leaves none, a call whose memory was
-    /// refused leaves them as they were. That a call tells whose wait it ended is this project's own.
+    /// of the call itself isn't among them: its reply tells. After a batch, a path or calls of `serve_on`: every session whose
+    /// wait another session's call has ended, even if it waits again. A batch or a path of which nothing was served leaves
+    /// none, a call whose memory was refused leaves them as they were. That a call tells whose wait it ended is this project's
+    /// own.
     pub fn ended(&self) -> &[u16]
         ensures ended { (u : ℕ) → Contains result.now u ↔ Contains self.now.ended u }
         ensures once { (j k : ℕ) → j < k → k < length result.now → slice_index result.now j ≢ slice_index result.now k }
@@ -292,6 +291,34 @@ impl Book {
         }
     }
 
+    /// Serves one call of `session` as `serve` does, and goes on telling: `ended` tells the sessions that it told before, and
+    /// those whose wait this call has ended. `session` is from 1 to `sessions()`.
+    ///
+    /// With it and `forget_ended`, several calls one after another tell together whose wait they have ended, as a batch does.
+    /// Fails with `NoMemory` only if memory is refused. The book is unchanged then.
+    pub fn serve_on(&mut self, session: u16, call: Call) -> Result<Reply, NoMemory>
+        requires some { 1 ≤ session }
+        requires within { session ≤ self.old.sessions }
+        ensures reply { let outcome = step (state_of self.old.history) session call in
+            IfOk result (λ reply. reply ≡ outcome.reply) }
+        ensures entry { IfOk result (λ reply. self.new ≡ record self.old {
+          history = self.old.history ++ record { session = session; call = call; reply = reply } ∷ [];
+          ended = ended_waits_beside self.old.sessions self.old.ended session (state_of self.old.history) (step (state_of self.old.history) session call).state;
+        }) }
+        ensures err { OnErr result (self.new ≡ self.old) }
+    {
+        let reply = serve_recorded(&mut self.lock_table, &mut self.history, session, call)?;
+        Ok(reply)
+    }
+
+    /// Forgets whose wait has ended: `ended` tells no session until the next call is served.
+    #[inline(always)]
+    pub fn forget_ended(&mut self)
+        ensures { self.new ≡ record self.old { ended = [] } }
+    {
+        let _waits_ended = self.lock_table.clear_ended();
+    }
+
     /// Serves the calls of `items` in order, and writes each reply into its item. Returns how many items it served.
     ///
     /// Replies and history are those of serving the calls one after another; locks on one resource that follow one
@@ -311,31 +338,6 @@ impl Book {
             return if self.serve_item(items, 0) { 1 } else { 0 };
         }
         self.serve_several(items)
-    }
-
-    /// Serves one call of `session` as `serve` does, and lists the sessions whose wait it has ended beside those that are listed.
-    /// The book is unchanged if memory is refused.
-    fn serve_further(&mut self, session: u16, call: Call) -> Result<Reply, NoMemory>
-        requires some { 1 ≤ session }
-        requires within { session ≤ self.old.sessions }
-        ensures sessions { self.new.sessions ≡ self.old.sessions }
-        ensures cut { self.new.cut ≡ self.old.cut }
-        ensures bound { self.new.bound ≡ self.old.bound }
-        ensures entered { IfOk result (λ reply. (calls : List ItemValue) (start : List EntryValue) (before : Option ReplyValue)
-            → AreEntered self.old.sessions calls start self.old.ended before self.old.history
-            → AreEntered self.old.sessions (calls ++ record { session = session; call = call; reply = None } ∷ []) start self.new.ended (Some reply) self.new.history) }
-        ensures err { OnErr result (self.new ≡ self.old) }
-    {
-        let reply = serve_recorded(&mut self.lock_table, &mut self.history, session, call)?;
-        Ok(reply)
-    }
-
-    /// Empties the list of ended waits.
-    #[inline(always)]
-    fn forget_ended(&mut self)
-        ensures { self.new ≡ record self.old { ended = [] } }
-    {
-        let _waits_ended = self.lock_table.clear_ended();
     }
 
     /// Serves the items in order, run by run, and returns how many it served.

@@ -4,6 +4,7 @@ ghost use Rattle.std.specs.Prelude.{◌≡◌};
 
 use crate::book::{Book, Item};
 use lock_rules::{Call, Entry, Reply};
+use programs::Continuing;
 use sequential::{Batching, Fresh, Sequential, Serving, Telling, Trimming};
 use std::alloc::{AllocError as NoMemory, Global};
 
@@ -72,6 +73,16 @@ impl Serving for Book {
     #[inline(always)]
     fn serve(&mut self, session: u16, call: Call) -> Result<Reply, NoMemory> {
         self.serve(session, call)
+    }
+}
+
+impl Continuing for Book {
+    fn tell_anew(&mut self) {
+        self.forget_ended();
+    }
+
+    fn serve_on(&mut self, session: u16, call: Call) -> Result<Reply, NoMemory> {
+        self.serve_on(session, call)
     }
 }
 

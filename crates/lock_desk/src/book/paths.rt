@@ -89,7 +89,7 @@ impl Book {
         let mut reply = None;
         for level in locked..resource.level() {
             let call = lock_of_level(&resource, mode, level + 1);
-            let Ok(given) = self.serve_further(session, call) else {
+            let Ok(given) = self.serve_on(session, call) else {
                 return PathLocked {
                     level,
                     reply,

@@ -7,7 +7,7 @@ use Rattle.lock_desk.specs.BookView.{BookView}
 use Rattle.lock_desk.specs.Batches.{Item, entries_from}
 use Rattle.lock_desk.specs.Paths.{path_calls, grants, stops}
 use Rattle.lock_desk.specs.inner.Paths.{AreEntered}
-use Rattle.lock_desk.proofs.Paths.{path-none, entered-none, next-level, next-granted, last-going, last-stopped, short, told-book, told-reply}
+use Rattle.lock_desk.proofs.Paths.{path-none, entered-none, entered-beside, next-level, next-granted, last-going, last-stopped, short, told-book, told-reply}
 use Rattle.lock_desk.proofs.book.Book.lock_path.Goals as goal
 
 pub loop-level-init : goal.loop-level-init
@@ -24,8 +24,8 @@ loop-level-init c =
       going = refl;
     }
 
-pub serve_further-requires-clause-within : goal.serve_further-requires-clause-within
-serve_further-requires-clause-within c = omega (arith, c.requires.within, c.loop-level.invariant.sessions, ap (λ (t : BookView). t.sessions) c.forget_ended.ensures)
+pub serve_on-requires-clause-within : goal.serve_on-requires-clause-within
+serve_on-requires-clause-within c = omega (arith, c.requires.within, c.loop-level.invariant.sessions, ap (λ (t : BookView). t.sessions) c.forget_ended.ensures)
 
 pub returns-in_default-clause-history : goal.returns-in_default-clause-history
 returns-in_default-clause-history c =
@@ -33,7 +33,7 @@ returns-in_default-clause-history c =
     let i = c.loop-level.invariant in
     let told : PathLocked = record { level = c.loop-level.level; reply = c.loop-level.reply; out_of_memory = true } in
     let same = c.in_default.ensures.err in
-    let d = c.serve_further.new.self in
+    let d = c.serve_on.new.self in
     told-book a.self.now c.forget_ended.new.self d a.session a.resource a.mode a.locked c.loop-level.level told c.loop-level.reply c.forget_ended.ensures
     (ap (λ (t : BookView). t.sessions) same ∙ i.sessions) (ap (λ (t : BookView). t.cut) same ∙ i.cut) (ap (λ (t : BookView). t.bound) same ∙ i.bound)
     (last-going told i.going)
@@ -61,13 +61,13 @@ returns-then-not-grants-clause-history c =
     let given = c.in-Ok.given in
     let told : PathLocked = record { level = level; reply = Some given; out_of_memory = false } in
     let k = c.in-Ok.ensures in
-    let d = c.serve_further.new.self in
+    let d = c.serve_on.new.self in
     let start = c.forget_ended.new.self.history in
     told-book a.self.now c.forget_ended.new.self d a.session a.resource a.mode a.locked (level + 1) told (Some given) c.forget_ended.ensures
-    (k.sessions ∙ i.sessions) (k.cut ∙ i.cut) (k.bound ∙ i.bound)
+    (ap (λ (t : BookView). t.sessions) k.entry ∙ i.sessions) (ap (λ (t : BookView). t.cut) k.entry ∙ i.cut) (ap (λ (t : BookView). t.bound) k.entry ∙ i.bound)
     (last-stopped told (ap not (sym c.grants.ensures ∙ c.if-not-grants.true)))
-    (next-level a.session a.resource a.mode a.locked level c.lock_of_level-call.result start c.loop-level.self d given (search rules) c.lock_of_level-call.ensures k.sessions
-    (k.entered (path_calls a.session a.resource a.mode a.locked level) start c.loop-level.reply i.entered))
+    (next-level a.session a.resource a.mode a.locked level c.lock_of_level-call.result start c.loop-level.self d given (search rules) c.lock_of_level-call.ensures (ap (λ (t : BookView). t.sessions) k.entry)
+    (entered-beside c.loop-level.self d (path_calls a.session a.resource a.mode a.locked level) start c.loop-level.reply (record { session = a.session; call = c.lock_of_level-call.result; reply = None }) given i.entered k.reply k.entry))
 
 pub returns-then-not-grants-clause-reply : goal.returns-then-not-grants-clause-reply
 returns-then-not-grants-clause-reply c =
@@ -77,12 +77,12 @@ returns-then-not-grants-clause-reply c =
     let given = c.in-Ok.given in
     let told : PathLocked = record { level = level; reply = Some given; out_of_memory = false } in
     let k = c.in-Ok.ensures in
-    let d = c.serve_further.new.self in
+    let d = c.serve_on.new.self in
     let start = c.forget_ended.new.self.history in
     told-reply a.self.now c.forget_ended.new.self d a.session a.resource a.mode a.locked (level + 1) told (Some given) c.forget_ended.ensures
     (last-stopped told (ap not (sym c.grants.ensures ∙ c.if-not-grants.true)))
-    (next-level a.session a.resource a.mode a.locked level c.lock_of_level-call.result start c.loop-level.self d given (search rules) c.lock_of_level-call.ensures k.sessions
-    (k.entered (path_calls a.session a.resource a.mode a.locked level) start c.loop-level.reply i.entered))
+    (next-level a.session a.resource a.mode a.locked level c.lock_of_level-call.result start c.loop-level.self d given (search rules) c.lock_of_level-call.ensures (ap (λ (t : BookView). t.sessions) k.entry)
+    (entered-beside c.loop-level.self d (path_calls a.session a.resource a.mode a.locked level) start c.loop-level.reply (record { session = a.session; call = c.lock_of_level-call.result; reply = None }) given i.entered k.reply k.entry))
 
 pub returns-then-not-grants-clause-granted : goal.returns-then-not-grants-clause-granted
 returns-then-not-grants-clause-granted c =
@@ -95,16 +95,16 @@ loop-level-preserved c =
     let level = c.loop-level.level in
     let given = c.in-Ok.given in
     let k = c.in-Ok.ensures in
-    let d = c.serve_further.new.self in
+    let d = c.serve_on.new.self in
     let start = c.forget_ended.new.self.history in
     let down : a.locked ≤ level = search rules in
     let yes : grants given ≡ true = sym c.grants.ensures ∙ c.if-not-grants.false in
-    let entered = next-level a.session a.resource a.mode a.locked level c.lock_of_level-call.result start c.loop-level.self d given down c.lock_of_level-call.ensures k.sessions
-    (k.entered (path_calls a.session a.resource a.mode a.locked level) start c.loop-level.reply i.entered) in
+    let entered = next-level a.session a.resource a.mode a.locked level c.lock_of_level-call.result start c.loop-level.self d given down c.lock_of_level-call.ensures (ap (λ (t : BookView). t.sessions) k.entry)
+    (entered-beside c.loop-level.self d (path_calls a.session a.resource a.mode a.locked level) start c.loop-level.reply (record { session = a.session; call = c.lock_of_level-call.result; reply = None }) given i.entered k.reply k.entry) in
     record {
-      sessions = k.sessions ∙ i.sessions;
-      cut = k.cut ∙ i.cut;
-      bound = k.bound ∙ i.bound;
+      sessions = ap (λ (t : BookView). t.sessions) k.entry ∙ i.sessions;
+      cut = ap (λ (t : BookView). t.cut) k.entry ∙ i.cut;
+      bound = ap (λ (t : BookView). t.bound) k.entry ∙ i.bound;
       entered = entered;
       granted = next-granted d.sessions a.session a.resource a.mode a.locked level start d.ended given d.history down i.granted entered yes;
       going = ap not yes;
