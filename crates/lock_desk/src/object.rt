@@ -3,8 +3,9 @@
 ghost use Rattle.std.specs.Prelude.{◌≡◌};
 
 use crate::book::{Book, Item};
+use lock_programs::{Answer, Program, goes_on_behind};
 use lock_rules::{Call, Entry, Reply};
-use programs::Continuing;
+use programs::{Continuing, Programmed};
 use sequential::{Batching, Fresh, Sequential, Serving, Telling, Trimming};
 use std::alloc::{AllocError as NoMemory, Global};
 
@@ -84,6 +85,56 @@ impl Continuing for Book {
     fn serve_on(&mut self, session: u16, call: Call) -> Result<Reply, NoMemory> {
         self.serve_on(session, call)
     }
+}
+
+/// Calls of a session that are made as one, in the form of `lock_programs`.
+impl Programmed for Book {
+    type Program = Program;
+
+    type Answer = Answer;
+
+    ghost use Rattle.lock_rules.specs.State.{empty};
+    ghost use Rattle.lock_programs.specs.Answers.{program_form};
+    ghost use Rattle.lock_programs.specs.Fits.{Fits};
+    ghost use Rattle.lock_programs.specs.Nothing.{no_calls, no_replies};
+    ghost use Rattle.lock_programs.proofs.Steps.{last-fits};
+    ghost use Rattle.lock_programs.proofs.Told.{runs_are_told};
+
+    ghost form = { program_form };
+
+    ghost fits = { Fits };
+
+    ghost any_program = { no_calls };
+
+    ghost any_answer = { no_replies };
+
+    fn length(program: &Program) -> usize {
+        program.length()
+    }
+
+    fn call(program: &Program, at: usize) -> Call {
+        program.call(at)
+    }
+
+    fn goes_on(reply: &Reply) -> bool {
+        goes_on_behind(reply)
+    }
+
+    fn none_served(_program: &Program, first: u64) -> Answer {
+        Answer::none_served(first)
+    }
+
+    fn append(answer: &mut Answer, program: &Program, reply: Reply) {
+        answer.append(program, reply);
+    }
+
+    fn refuse(answer: &mut Answer) {
+        answer.refuse();
+    }
+
+    ghost replies_fit = { last-fits empty };
+
+    ghost told = { runs_are_told };
 }
 
 impl Batching for Book {

@@ -1,4 +1,4 @@
-use Rattle.std.proofs.Common.{◌≡◌, List, length, ap, sym, subst, ℕ}
+use Rattle.std.proofs.Common.{length, ap, sym, subst}
 use Rattle.lock_desk.specs.BookView.{BookView}
 use Rattle.lock_desk.specs.Batches.{TellsFrom}
 use Rattle.lock_desk.proofs.EndedInBatches.{tells-nothing}

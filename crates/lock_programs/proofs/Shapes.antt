@@ -1,0 +1,152 @@
+-- Where the calls of a program stand.
+use Rattle.std.proofs.Common.{◌≡◌, ℕ, zero, suc, ◌+◌, ◌-◌, ◌≤◌, Bool, true, false, List, [], ◌∷◌, ◌++◌, length, length-append, Some, slice_get, take, refl, sym, ap, ◌∙◌, arith}
+use Rattle.lock_modes.specs.declared.Mode.{Mode}
+use Rattle.lock_rules.specs.declared.calls.Call.{Call}
+use Rattle.lock_rules.specs.declared.calls.Call.TheVariants.{Begin, Lock, Convert, Poll, Release, Commit, Abort, Try, Withdraw}
+use Rattle.lock_programs.specs.declared.program.Start.{Start}
+use Rattle.lock_programs.specs.declared.program.Start.TheVariants.{Nothing, Begins, Commits, Aborts, CommitsAndBegins, AbortsAndBegins}
+use Rattle.lock_programs.specs.declared.program.Last.{Last}
+use Rattle.lock_programs.specs.declared.program.Last.TheVariants.{Locks, Converts, Tries, Releases, Polls, Withdraws}
+use Rattle.lock_programs.specs.declared.program.Program.{Program}
+use Rattle.lock_programs.specs.Starts.{start_calls, last_call, call_before, path_calls}
+use Rattle.lock_programs.specs.Calls.{path_of, calls_of}
+
+-- an item of the first of two lists
+pub get-left : {T : Type 0} (xs ys : List T) (k : ℕ) (x : T) → slice_get xs k ≡ Some x → slice_get (xs ++ ys) k ≡ Some x
+get-left [] ys k x h = absurd (cc)
+get-left (z ∷ zs) ys zero x h = h
+get-left (z ∷ zs) ys (suc k) x h = get-left zs ys k x h
+
+-- an item of the second
+pub get-right : {T : Type 0} (xs ys : List T) (k n : ℕ) (x : T) → n ≡ length xs + k → slice_get ys k ≡ Some x → slice_get (xs ++ ys) n ≡ Some x
+get-right [] ys k n x e h = let f : n ≡ k = omega (arith, e) in ap (slice_get ys) f ∙ h
+get-right (z ∷ zs) ys k zero x e h = absurd (omega (arith, e))
+get-right (z ∷ zs) ys k (suc n) x e h = get-right zs ys k n x (omega (arith, e)) h
+
+-- as many calls on a path as were counted
+pub path-length : (r : List ℕ) (above : Mode) (last : Last) (from n : ℕ) → length (path_calls r above last from n) ≡ n
+path-length r above last from zero = refl
+path-length r above last from (suc n) = ap suc (path-length r above last (from + 1) n)
+
+-- no more calls than there are places in an answer
+start-few : (s : Start) → length (start_calls s) ≤ 2
+start-few Nothing = omega arith
+start-few Begins = omega arith
+start-few Commits = omega arith
+start-few Aborts = omega arith
+start-few CommitsAndBegins = omega arith
+start-few AbortsAndBegins = omega arith
+
+pub calls-few : (p : Program) → length (calls_of p) ≤ 7
+calls-few p =
+    let a = start-few p.start in
+    let n = path-length p.resource p.above p.last p.from (length p.resource + 1 - p.from) in
+    let deep : length p.resource ≤ 5 = p.deep in
+    let some : 1 ≤ p.from = p.some in
+    omega (arith, length-append (start_calls p.start) (path_of p), a, n, deep, some)
+
+-- the call at a place of a path, which has so many behind it
+pub path-at : (r : List ℕ) (above : Mode) (last : Last) (from n j b : ℕ) → n ≡ j + 1 + b → slice_get (path_calls r above last from n) j ≡ Some (call_before above last b (take (from + j) r))
+path-at r above last from zero j b e = absurd (omega (arith, e))
+path-at r above last from (suc n) zero b e =
+    let z : from ≡ from + 0 = omega arith in
+    let m : n ≡ b = omega (arith, e) in
+    λ i. Some (call_before above last (m i) (take (z i) r))
+path-at r above last from (suc n) (suc j) b e =
+    let z : from + 1 + j ≡ from + suc j = omega arith in
+    path-at r above last (from + 1) n j b (omega (arith, e)) ∙ ap (λ (k : ℕ). Some (call_before above last b (take k r))) z
+
+-- the calls that end and begin transactions
+
+-- the call ends a transaction or begins one
+abbrev is_turn : Call → Bool
+is_turn Begin = true
+is_turn Commit = true
+is_turn Abort = true
+is_turn (Lock r m) = false
+is_turn (Convert r m) = false
+is_turn Poll = false
+is_turn (Release r) = false
+is_turn (Try r m) = false
+is_turn Withdraw = false
+
+last-no_turn : (l : Last) (r : List ℕ) → is_turn (last_call l r) ≡ false
+last-no_turn (Locks m) r = refl
+last-no_turn (Converts m) r = refl
+last-no_turn (Tries m) r = refl
+last-no_turn Releases r = refl
+last-no_turn Polls r = refl
+last-no_turn Withdraws r = refl
+
+call-no_turn : (above : Mode) (last : Last) (n : ℕ) (r : List ℕ) → is_turn (call_before above last n r) ≡ false
+call-no_turn above last zero r = last-no_turn last r
+call-no_turn above last (suc n) r = refl
+
+-- none of them is on a path
+path-no_turn : (r : List ℕ) (above : Mode) (last : Last) (from n i : ℕ) (c : Call) → slice_get (path_calls r above last from n) i ≡ Some c → is_turn c ≡ false
+path-no_turn r above last from zero i c h = absurd (cc)
+path-no_turn r above last from (suc n) zero c h =
+    let e : call_before above last n (take from r) ≡ c = cc in
+    ap is_turn (sym e) ∙ call-no_turn above last n (take from r)
+path-no_turn r above last from (suc n) (suc i) c h = path-no_turn r above last (from + 1) n i c h
+
+no_begin : (c : Call) → is_turn c ≡ false → c ≡ Begin → ⊥
+no_begin c h e = let t : is_turn c ≡ true = ap is_turn e in cc
+
+no_commit : (c : Call) → is_turn c ≡ false → c ≡ Commit → ⊥
+no_commit c h e = let t : is_turn c ≡ true = ap is_turn e in cc
+
+no_abort : (c : Call) → is_turn c ≡ false → c ≡ Abort → ⊥
+no_abort c h e = let t : is_turn c ≡ true = ap is_turn e in cc
+
+-- the place of the begin
+abbrev pub begins_at : Start → ℕ
+begins_at Nothing = 0
+begins_at Begins = 0
+begins_at Commits = 0
+begins_at Aborts = 0
+begins_at CommitsAndBegins = 1
+begins_at AbortsAndBegins = 1
+
+begin-among : (s : Start) (ps : List Call) → ((i : ℕ) → slice_get ps i ≡ Some Begin → ⊥) → (i : ℕ) → slice_get (start_calls s ++ ps) i ≡ Some Begin → i ≡ begins_at s
+begin-among Nothing ps none_of i h = absurd (none_of i h)
+begin-among Begins ps none_of zero h = refl
+begin-among Begins ps none_of (suc i) h = absurd (none_of i h)
+begin-among Commits ps none_of zero h = refl
+begin-among Commits ps none_of (suc i) h = absurd (none_of i h)
+begin-among Aborts ps none_of zero h = refl
+begin-among Aborts ps none_of (suc i) h = absurd (none_of i h)
+begin-among CommitsAndBegins ps none_of zero h = absurd (cc)
+begin-among CommitsAndBegins ps none_of (suc zero) h = refl
+begin-among CommitsAndBegins ps none_of (suc (suc i)) h = absurd (none_of i h)
+begin-among AbortsAndBegins ps none_of zero h = absurd (cc)
+begin-among AbortsAndBegins ps none_of (suc zero) h = refl
+begin-among AbortsAndBegins ps none_of (suc (suc i)) h = absurd (none_of i h)
+
+-- what isn't on a path and isn't a begin is at the front
+front-among : (c : Call) → (c ≡ Begin → ⊥) → (s : Start) (ps : List Call) → ((i : ℕ) → slice_get ps i ≡ Some c → ⊥) → (i : ℕ) → slice_get (start_calls s ++ ps) i ≡ Some c → i ≡ 0
+front-among c other Nothing ps none_of i h = absurd (none_of i h)
+front-among c other Begins ps none_of zero h = refl
+front-among c other Begins ps none_of (suc i) h = absurd (none_of i h)
+front-among c other Commits ps none_of zero h = refl
+front-among c other Commits ps none_of (suc i) h = absurd (none_of i h)
+front-among c other Aborts ps none_of zero h = refl
+front-among c other Aborts ps none_of (suc i) h = absurd (none_of i h)
+front-among c other CommitsAndBegins ps none_of zero h = refl
+front-among c other CommitsAndBegins ps none_of (suc zero) h = absurd (other (cc))
+front-among c other CommitsAndBegins ps none_of (suc (suc i)) h = absurd (none_of i h)
+front-among c other AbortsAndBegins ps none_of zero h = refl
+front-among c other AbortsAndBegins ps none_of (suc zero) h = absurd (other (cc))
+front-among c other AbortsAndBegins ps none_of (suc (suc i)) h = absurd (none_of i h)
+
+off-path : (p : Program) (i : ℕ) (c : Call) → slice_get (path_of p) i ≡ Some c → is_turn c ≡ false
+off-path p i c h = path-no_turn p.resource p.above p.last p.from (length p.resource + 1 - p.from) i c h
+
+pub begin-place : (p : Program) (i : ℕ) → slice_get (calls_of p) i ≡ Some Begin → i ≡ begins_at p.start
+begin-place p i h = begin-among p.start (path_of p) (λ j k. no_begin Begin (off-path p j Begin k) refl) i h
+
+pub commit-place : (p : Program) (i : ℕ) → slice_get (calls_of p) i ≡ Some Commit → i ≡ 0
+commit-place p i h = front-among Commit (λ e. cc) p.start (path_of p) (λ j k. no_commit Commit (off-path p j Commit k) refl) i h
+
+pub abort-place : (p : Program) (i : ℕ) → slice_get (calls_of p) i ≡ Some Abort → i ≡ 0
+abort-place p i h = front-among Abort (λ e. cc) p.start (path_of p) (λ j k. no_abort Abort (off-path p j Abort k) refl) i h

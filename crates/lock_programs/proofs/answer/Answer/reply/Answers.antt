@@ -1,0 +1,23 @@
+use Rattle.std.proofs.Common.{◌≡◌, ℕ, ◌+◌, ◌-◌, suc, ◌∙◌, sym, ap, arith, Some}
+use Rattle.lock_rules.specs.declared.calls.Reply.{Reply}
+use Rattle.lock_programs.specs.Answers.{told_of, done_reply, stop_reply}
+use Rattle.lock_programs.specs.Calls.{calls_of}
+use Rattle.lock_programs.proofs.Readings.{from-at, few-from}
+use Rattle.lock_programs.proofs.answer.Answer.reply.Goals as goal
+
+pub returns-then-at-self : goal.returns-then-at-self
+returns-then-at-self c =
+    let a = c.args.self.now in
+    let z : 0 + c.args.at ≡ c.args.at = omega arith in
+    from-at (told_of a) (calls_of c.args.program.now) 0 a.served c.args.at 0 c.call-call.result c.call-call.ensures (omega (arith, c.if-at-self.true))
+    ∙ ap (λ (k : ℕ). Some (stop_reply a.stop (done_reply (told_of a) c.call-call.result k))) z
+    ∙ ap (λ (r : Reply). Some r) (ap (stop_reply a.stop) (sym c.done_with-done.ensures) ∙ sym c.stop_reply.ensures)
+
+pub returns : goal.returns
+returns c =
+    let a = c.args.self.now in
+    let z : 0 + c.args.at ≡ c.args.at = omega arith in
+    let few = few-from (told_of a) (calls_of c.args.program.now) 0 a.served in
+    from-at (told_of a) (calls_of c.args.program.now) 0 a.served c.args.at (suc (a.served - c.args.at - 2)) c.call-call.result c.call-call.ensures (omega (arith, c.if-at-self.false, c.requires, few))
+    ∙ ap (λ (k : ℕ). Some (done_reply (told_of a) c.call-call.result k)) z
+    ∙ ap (λ (r : Reply). Some r) (sym c.done_with-done.ensures)

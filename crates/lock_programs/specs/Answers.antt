@@ -1,0 +1,75 @@
+-- The replies that the answer to a program tells.
+use Rattle.std.specs.Prelude.{ℕ, zero, suc, ◌+◌, List, [], ◌∷◌, slice_index_or}
+use Rattle.programs.specs.Form.{Form}
+use Rattle.lock_modes.specs.declared.Mode.{Mode}
+use Rattle.lock_modes.specs.declared.Mode.TheVariants.{NL}
+use Rattle.lock_rules.specs.declared.calls.Call.{Call}
+use Rattle.lock_rules.specs.declared.calls.Call.TheVariants.{Begin, Lock, Convert, Poll, Release, Commit, Abort, Try, Withdraw}
+use Rattle.lock_rules.specs.declared.calls.Reply.{Reply}
+use Rattle.lock_rules.specs.declared.calls.Reply.TheVariants.{Began, Granted, Waiting, Deadlock, Clear, Released, Committed, Aborted, Refused, Withdrawn}
+use Rattle.lock_programs.specs.declared.stop.Stop.{Stop}
+use Rattle.lock_programs.specs.declared.stop.Stop.TheVariants.{GoesOn, Waits, IsVictim, IsRefused}
+use Rattle.lock_programs.specs.declared.answer.Answer.{Answer}
+use Rattle.lock_programs.specs.declared.program.Program.{Program}
+use Rattle.lock_programs.specs.Calls.{calls_of}
+use Rattle.lock_programs.specs.Fits.{goes_on_behind}
+
+-- the reply to a call that was granted or done, by the number of the transaction that was begun, the number of locks that were
+-- released as one ended, and the mode granted
+abbrev pub done_with : ℕ → ℕ → Mode → Call → Reply
+done_with began ended mode Begin = Began began
+done_with began ended mode (Lock r m) = Granted mode
+done_with began ended mode (Convert r m) = Granted mode
+done_with began ended mode (Try r m) = Granted mode
+done_with began ended mode Commit = Committed ended
+done_with began ended mode Abort = Aborted ended
+done_with began ended mode Poll = Clear
+done_with began ended mode (Release r) = Released
+done_with began ended mode Withdraw = Withdrawn
+
+-- what an answer tells of replies: the number of the transaction that was begun, how many locks were released as one ended, the
+-- mode granted at each place, and why the program stopped at the last one
+pub record Told : Type 0 where
+  pub began : ℕ
+  pub ended : ℕ
+  pub granted : List Mode
+  pub stop : Stop
+
+abbrev pub told_of : Answer → Told
+told_of a = record { began = a.began; ended = a.ended; granted = a.granted; stop = a.stop }
+
+-- the reply to the call at place k, if it was granted or done
+abbrev pub done_reply : Told → Call → ℕ → Reply
+done_reply t c k = done_with t.began t.ended (slice_index_or t.granted k NL) c
+
+-- the last reply, if it is this one where the program went on behind it
+abbrev pub stop_reply : Stop → Reply → Reply
+stop_reply GoesOn r = r
+stop_reply Waits r = Waiting
+stop_reply IsVictim r = Deadlock
+stop_reply (IsRefused why) r = Refused why
+
+-- the reply to the call at place k, which has so many replies behind it: the program can have stopped at the last one alone
+abbrev pub reply_at : Told → Call → ℕ → ℕ → Reply
+reply_at t c k zero = stop_reply t.stop (done_reply t c k)
+reply_at t c k (suc n) = done_reply t c k
+
+-- n replies to these calls, the first of which has place k
+abbrev pub replies_from : Told → List Call → ℕ → ℕ → List Reply
+replies_from t [] k n = []
+replies_from t (c ∷ cs) k zero = []
+replies_from t (c ∷ cs) k (suc n) = reply_at t c k n ∷ replies_from t cs (k + 1) n
+
+-- the replies to the calls of a program that were served
+abbrev pub replies_of : Program → Answer → List Reply
+replies_of p a = replies_from (told_of a) (calls_of p) 0 a.served
+
+-- how programs and their answers are read
+abbrev pub program_form : Form Program Answer Call Reply
+program_form = record {
+  calls = calls_of;
+  replies = replies_of;
+  first = λ a. a.first;
+  refused = λ a. a.is_refused;
+  goes_on = goes_on_behind;
+}

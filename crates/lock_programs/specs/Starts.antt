@@ -1,0 +1,37 @@
+-- The calls with which a program begins, and those of a path.
+use Rattle.std.specs.Prelude.{ℕ, zero, suc, ◌+◌, List, [], ◌∷◌, take}
+use Rattle.lock_modes.specs.declared.Mode.{Mode}
+use Rattle.lock_rules.specs.declared.calls.Call.{Call}
+use Rattle.lock_rules.specs.declared.calls.Call.TheVariants.{Begin, Lock, Convert, Poll, Release, Commit, Abort, Try, Withdraw}
+use Rattle.lock_programs.specs.declared.program.Start.{Start}
+use Rattle.lock_programs.specs.declared.program.Start.TheVariants.{Nothing, Begins, Commits, Aborts, CommitsAndBegins, AbortsAndBegins}
+use Rattle.lock_programs.specs.declared.program.Last.{Last}
+use Rattle.lock_programs.specs.declared.program.Last.TheVariants.{Locks, Converts, Tries, Releases, Polls, Withdraws}
+
+-- the calls that end a transaction and begin one
+abbrev pub start_calls : Start → List Call
+start_calls Nothing = []
+start_calls Begins = Begin ∷ []
+start_calls Commits = Commit ∷ []
+start_calls Aborts = Abort ∷ []
+start_calls CommitsAndBegins = Commit ∷ Begin ∷ []
+start_calls AbortsAndBegins = Abort ∷ Begin ∷ []
+
+-- the last call of a path to this resource
+abbrev pub last_call : Last → List ℕ → Call
+last_call (Locks m) r = Lock r m
+last_call (Converts m) r = Convert r m
+last_call (Tries m) r = Try r m
+last_call Releases r = Release r
+last_call Polls r = Poll
+last_call Withdraws r = Withdraw
+
+-- the call on a resource of a path with so many calls behind it: an ancestor is locked in the mode above
+abbrev pub call_before : Mode → Last → ℕ → List ℕ → Call
+call_before above last zero r = last_call last r
+call_before above last (suc n) r = Lock r above
+
+-- so many calls on the path to resource r, from this level on downwards: the resource of level k is the first k numbers of r
+abbrev pub path_calls : List ℕ → Mode → Last → ℕ → ℕ → List Call
+path_calls r above last from zero = []
+path_calls r above last from (suc n) = call_before above last n (take from r) ∷ path_calls r above last (from + 1) n
