@@ -36,7 +36,7 @@ abbrev pub sessions_of : List Party → List ℕ
 sessions_of ps = map (λ (p : Party). p.session) ps
 
 -- the session of a party of the list
-member-among : (p : Party) (ps : List Party) → Member p ps → IsAmong p.session (sessions_of ps)
+pub member-among : (p : Party) (ps : List Party) → Member p ps → IsAmong p.session (sessions_of ps)
 member-among p [] m = absurd m
 member-among p (q ∷ ps) (inl e) = inl (ap (λ (x : Party). x.session) (sym e))
 member-among p (q ∷ ps) (inr m) = inr (member-among p ps m)

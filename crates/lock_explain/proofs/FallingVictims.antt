@@ -65,7 +65,7 @@ victim-number v st u = elim (cases_Bool (eqb u v)) [
 -- victims one after another
 
 -- each victim was on a cycle with s from the beginning
-victims-on : (s : ℕ) (vs : List ℕ) (st last : State) → AreVictims s vs st last → (u : ℕ) → IsAmong u vs → AreOnCircle (waits_for st.table) s u
+pub victims-on : (s : ℕ) (vs : List ℕ) (st last : State) → AreVictims s vs st last → (u : ℕ) → IsAmong u vs → AreOnCircle (waits_for st.table) s u
 victims-on s [] st last a u i = absurd i
 victims-on s (v ∷ vs) st last a u (inl e) = rw e a.0.on_circle
 victims-on s (v ∷ vs) st last a u (inr i) = (cancelled-cycle v st.table s u (victims-on s vs (after_victim v st) last a.1 u i)).0

@@ -13,3 +13,4 @@ pub mod ServedCalls
 pub mod KeptCycles
 pub mod FallingVictims
 pub mod ChosenVictims
+pub mod VictimsTold

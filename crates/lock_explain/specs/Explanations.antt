@@ -1,5 +1,5 @@
 -- What an explanation tells of a call.
-use Rattle.std.specs.Prelude.{◌≡◌, ℕ, Bool, true, false, ◌&&◌, not, List, [], ◌∷◌, IfSome, IfNone}
+use Rattle.std.specs.Prelude.{◌≡◌, ℕ, Bool, true, false, ◌&&◌, not, List, [], ◌∷◌, Option, Some, None, IfSome, IfNone, Contains}
 use Rattle.lock_rules.specs.declared.calls.Call.{Call}
 use Rattle.lock_rules.specs.declared.calls.Call.TheVariants.{Lock, Convert}
 use Rattle.lock_rules.specs.declared.calls.Reply.{Reply}
@@ -8,6 +8,7 @@ use Rattle.lock_rules.specs.State.{Claim, State, is_waiting, is_doomed}
 use Rattle.lock_rules.specs.Step.{step}
 use Rattle.lock_rules.specs.Effects.{IsNotRefused}
 use Rattle.lock_rules.specs.Listing.{listed_as, kind_of_request}
+use Rattle.lock_explain.specs.declared.explanation.Party.{Party}
 use Rattle.lock_explain.specs.declared.explanation.Wait.{Wait}
 use Rattle.lock_explain.specs.declared.explanation.Explanation.{Explanation}
 use Rattle.lock_explain.specs.Refused.{IsRefusalOf}
@@ -36,6 +37,16 @@ pub record IsExplanation (n : ℕ) (st : State) (s : ℕ) (call : Call) (e : Exp
   pub no_wait : IfNone e.wait ((q : Claim) → BeginsToWait st s call q → ⊥)
   pub victims : AreNewVictims n st (step st s call).state e.victims.items
   pub granted : e.granted.items ≡ granted_requests n s st (step st s call).state
+
+-- the sessions that are told as on a cycle with the caller, none if no wait is told
+abbrev pub cycle_told : Option Wait → List Party
+cycle_told None = []
+cycle_told (Some w) = w.cycle.items
+
+-- each victim told is among the sessions told as on a cycle, and a cycle is told only with a victim
+pub record AreVictimsOnCycleTold (e : Explanation) : Type 0 where
+  pub on_cycle : (p : Party) → Contains e.victims.items p → Contains (cycle_told e.wait) p
+  pub no_victim : e.victims.items ≡ [] → cycle_told e.wait ≡ []
 
 -- a reply that tells of a wait: the caller waits, or is a victim
 abbrev pub tells_of_wait : Reply → Bool

@@ -13,7 +13,9 @@ ghost use Rattle.waits_for.specs.Walks.{AreOnCircle};
 ghost use Rattle.sequential.specs.Histories.{IsEntryWithin};
 ghost use Rattle.lock_explain.specs.Cycles.{is_on_cycle};
 ghost use Rattle.lock_explain.specs.Endings.{AreNewVictims};
+ghost use Rattle.lock_explain.specs.Explanations.{AreVictimsOnCycleTold, IsExplanation};
 ghost use Rattle.lock_explain.specs.Waiting.{BeginsToWait, waiting_state};
+ghost use Rattle.lock_explain.specs.declared.explanation.Explanation.{Explanation as ExplanationValue};
 ghost use Rattle.lock_explain.specs.declared.explanation.Party.{Party as PartyValue};
 
 /// The victims of a request that begins to wait, the youngest first, are those that the rule chooses one after another:
@@ -29,4 +31,11 @@ pub fn victims_are_chosen_youngest_first()
 /// The sessions on a cycle with a session are those that a walk of the waits-for graph leads to and back.
 pub fn cycles_are_closed_walks()
     ensures { (st : State) (session other : ℕ) → (is_on_cycle st session other ≡ true) ↔ AreOnCircle (waits_for st.table) session other }
+{}
+
+/// The victims that an explanation tells are on the cycle that it tells: each is one of those sessions, with the same transaction,
+/// also one that is chosen after other victims have lost their requests. Where no victim is told, no cycle is.
+pub fn victims_are_on_the_cycle_told()
+    ensures { (n session : ℕ) (history : List EntryValue) (call : CallValue) (e : ExplanationValue) →
+        All (IsEntryWithin n) history → 1 ≤ session → session ≤ n → IsExplanation n (state_of history) session call e → AreVictimsOnCycleTold e }
 {}

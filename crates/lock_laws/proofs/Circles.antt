@@ -55,7 +55,7 @@ keeps-trans : (t u w : Table) → KeepsCircles t u → KeepsCircles u w → Keep
 keeps-trans t u w a b = record { once = b.once; circles = λ s ws walk. b.circles s ws (a.circles s ws walk) }
 
 -- after a change no session has two requests, if none had before
-once-alters : (v : ℕ) (t t' : Table) → Alters v t t' → IsOnce t.requests → IsOnce t'.requests
+pub once-alters : (v : ℕ) (t t' : Table) → Alters v t t' → IsOnce t.requests → IsOnce t'.requests
 once-alters v t t' a o s = omega (arith, times-claims_but s v t.requests, o s, ap (times s) a.requests)
 
 -- a change of a session that waits for nobody keeps cycles
@@ -100,7 +100,7 @@ front-keeps r (q ∷ qs) t o e = go (fits t q.session q.resource q.mode) refl (�
         keeps-trans t (after_grant q.session q.resource q.mode t) (granted_while_fitting qs (after_grant q.session q.resource q.mode t)) first (next first.once (queue-rest t (after_grant q.session q.resource q.mode t) r q qs o e a))
 
 -- promotions keep cycles
-all-keep : (rs : List (List ℕ)) (t : Table) → IsOnce t.requests → KeepsCircles t (after_promotions rs t)
+pub all-keep : (rs : List (List ℕ)) (t : Table) → IsOnce t.requests → KeepsCircles t (after_promotions rs t)
 all-keep [] t o = keeps-refl t o
 all-keep (r ∷ rs) t o =
     let first = front-keeps r (queue t r) t o refl in

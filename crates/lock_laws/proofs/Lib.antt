@@ -6,6 +6,7 @@ pub mod Circles
 pub mod WaitsEnd
 pub mod Granted
 pub mod Victims
+pub mod OnCycles
 pub mod TryTests
 pub mod InOrder
 pub mod GrantOrder

@@ -40,14 +40,14 @@ pub victim-needed : (st : State) (n s v : ℕ) (vs : List ℕ) (last : State) �
 victim-needed st n s v vs last below o a ends = let c = victim-circle st s v a.0 in circles-stay n st below o ends s c.others c.walk
 
 -- what holds of a state in which victims are chosen for s: all that holds between two calls, but for cycles through s
-record IsUnsettled (s : ℕ) (st : State) : Type 0 where
-  sound : IsSound st.table
-  unfit : (x : List ℕ) → UnfitAt st.table x
-  numbered : IsNumbered st
-  beside_s : NoCircle (beside s (waits_for st.table))
+pub record IsUnsettled (s : ℕ) (st : State) : Type 0 where
+  pub sound : IsSound st.table
+  pub unfit : (x : List ℕ) → UnfitAt st.table x
+  pub numbered : IsNumbered st
+  pub beside_s : NoCircle (beside s (waits_for st.table))
 
 -- a victim keeps it
-victim-unsettled : (s v : ℕ) (st : State) → IsUnsettled s st → IsUnsettled s (after_victim v st)
+pub victim-unsettled : (s v : ℕ) (st : State) → IsUnsettled s st → IsUnsettled s (after_victim v st)
 victim-unsettled s v st i =
     let f = cancelled-follows v st.table i.sound in
     record { sound = f.sound; unfit = cancelled-unfit v st.table i.sound i.unfit; numbered = victim-numbered v st i.numbered; beside_s = f.circle_beside s i.beside_s }
@@ -92,9 +92,16 @@ step-waits st s c r k b =
     ∙ (ap (λ (x : Bool). cond x st (cond (is_granted_at_once st.table s r k) (with_table (after_grant s r k st.table) st) (after_wait st s r k))) (late st s c r k b).0
     ∙ ap (λ (x : Bool). cond x (with_table (after_grant s r k st.table) st) (after_wait st s r k)) (late st s c r k b).1)))
 
+-- the victims that it makes
+pub call-victims : (st : State) (s : ℕ) (c : Call) (r : List ℕ) (k : Mode) → BeginsToWait st s c r k → (vs : List ℕ) × AreVictims s vs (with_waiting s r k st) (step st s c).state
+call-victims st s c r k b =
+    let few : length (st.table.requests ++ new s r k ∷ []) < length st.table.requests + 2 = omega (arith, length-append st.table.requests (new s r k ∷ [])) in
+    let v = settled-victims (length st.table.requests + 2) s (with_waiting s r k st) few in
+    (v.0, subst (AreVictims s v.0 (with_waiting s r k st)) (sym (step-waits st s c r k b)) v.1)
+
 module _ (es : List Entry) (s : ℕ) (c : Call) (r : List ℕ) (k : Mode) (b : BeginsToWait (state_of es) s c r k) where
   -- once a request begins to wait, only cycles through its session can be there
-  request-unsettled : IsUnsettled s (with_waiting s r k (state_of es))
+  pub request-unsettled : IsUnsettled s (with_waiting s r k (state_of es))
   request-unsettled =
       let i = state-lawful es in
       let p = allowed (state_of es) s c r k b in
@@ -114,10 +121,7 @@ module _ (es : List Entry) (s : ℕ) (c : Call) (r : List ℕ) (k : Mode) (b : B
 
   -- so are those that the call makes
   pub request-chooses : (vs : List ℕ) × AreVictims s vs (with_waiting s r k (state_of es)) (step (state_of es) s c).state × AreVictimsNeeded vs (with_waiting s r k (state_of es))
-  request-chooses =
-      let few : length ((state_of es).table.requests ++ new s r k ∷ []) < length (state_of es).table.requests + 2 = omega (arith, length-append (state_of es).table.requests (new s r k ∷ [])) in
-      let v = settled-victims (length (state_of es).table.requests + 2) s (with_waiting s r k (state_of es)) few in
-      (v.0, subst (AreVictims s v.0 (with_waiting s r k (state_of es))) (sym (step-waits (state_of es) s c r k b)) v.1, request-needs v.0 (after_wait (state_of es) s r k) v.1)
+  request-chooses = let v = call-victims (state_of es) s c r k b in (v.0, v.1, request-needs v.0 (step (state_of es) s c).state v.1)
 
   -- once a request begins to wait, waits end exactly if there is no cycle
   pub request-exactly : DoWaitsEnd (with_waiting s r k (state_of es)) ↔ HasNoCircle (with_waiting s r k (state_of es))

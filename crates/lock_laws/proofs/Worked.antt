@@ -10,11 +10,15 @@ use Rattle.lock_rules.specs.Entries.{Entry}
 use Rattle.lock_rules.specs.State.{State, held_mode}
 use Rattle.lock_rules.specs.Examples.{entry, database}
 use Rattle.lock_rules.specs.Legal.{IsLegal, state_of}
+use Rattle.lock_rules.specs.Waits.{waits_for}
+use Rattle.waits_for.specs.Walks.{AreOnCircle}
 use Rattle.lock_rules.proofs.Alters.{true≢false}
 use Rattle.lock_rules.proofs.Histories.{legal-served}
+use Rattle.lock_rules.proofs.Settle.{reaches-walk}
 use Rattle.lock_laws.specs.Ends.{ended, AreEnds, DoWaitsEnd}
 use Rattle.lock_laws.specs.Victims.{BeginsToWait, with_waiting}
-use Rattle.lock_laws.specs.Examples.{reader_behind_update, update_behind_reader, conversion_behind_reader, readers_before_a_deadlock, tries_past_a_waiter, WaitsThrough, LeavesNothing, WaitsFirst}
+use Rattle.lock_laws.specs.Cycles.{DoesDoom, ClosesCycleWith}
+use Rattle.lock_laws.specs.Examples.{reader_behind_update, update_behind_reader, conversion_behind_reader, readers_before_a_deadlock, reader_behind_a_deadlock, tries_past_a_waiter, WaitsThrough, LeavesNothing, WaitsFirst}
 use Rattle.lock_laws.specs.Grants.{IsGrantedAt}
 use Rattle.lock_laws.proofs.Victims.{request-exactly}
 
@@ -112,3 +116,25 @@ later-granted = record {
   not_before = λ e. absurd (cc);
   held_since = one-front (λ (xs : List Entry). held_mode (state_of (begins ++ entry 1 (Lock (database 1) S) (Granted S) ∷ entry 2 (Lock (database 1) U) (Granted U) ∷ xs)).table 2 (database 1) ≡ Some U) (entry 3 (Lock (database 1) S) Waiting) refl refl;
 }
+
+-- a reader behind a deadlock
+
+pub legal-behind : IsLegal reader_behind_a_deadlock
+legal-behind = legal-served reader_behind_a_deadlock refl
+
+pub behind-closed : ClosesCycleWith (state_of reader_behind_a_deadlock) 2 (Convert (database 1) X) 1
+behind-closed = record {
+  resource = database 1;
+  target = X;
+  begins = record { asked = X; call = inr refl; target = refl; passes = refl; waits = refl };
+  on_cycle = record { there = record { others = []; walk = refl }; back = record { others = []; walk = refl } };
+}
+
+pub behind-beside : AreOnCircle (waits_for (with_waiting 2 (database 1) X (state_of reader_behind_a_deadlock)).table) 2 3 → ⊥
+behind-beside c = true≢false (reaches-walk (with_waiting 2 (database 1) X (state_of reader_behind_a_deadlock)).table 2 3 c.there) refl
+
+pub behind-victim : DoesDoom (state_of reader_behind_a_deadlock) 2 (Convert (database 1) X) 2
+behind-victim = (refl, refl)
+
+pub behind-spared : DoesDoom (state_of reader_behind_a_deadlock) 2 (Convert (database 1) X) 3 → ⊥
+behind-spared d = true≢false d.1 refl

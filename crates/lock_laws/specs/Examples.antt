@@ -47,6 +47,17 @@ readers_before_a_deadlock =
     ∷ entry 1 (Convert (database 1) X) Waiting
     ∷ []
 
+-- Reader 3, whose transaction is the youngest, waits behind the conversion of session 1. If session 2 asks to convert too, 1 and 2
+-- wait for each other, and 3 for both.
+abbrev pub reader_behind_a_deadlock : List Entry
+reader_behind_a_deadlock =
+    entry 1 Begin (Began 1) ∷ entry 2 Begin (Began 2) ∷ entry 3 Begin (Began 3)
+    ∷ entry 1 (Lock (database 1) S) (Granted S)
+    ∷ entry 2 (Lock (database 1) S) (Granted S)
+    ∷ entry 1 (Convert (database 1) X) Waiting
+    ∷ entry 3 (Lock (database 1) S) Waiting
+    ∷ []
+
 -- s waits in the end for u, by a walk through these others
 abbrev pub WaitsThrough : State → ℕ → List ℕ → ℕ → Type 0
 WaitsThrough st s others u = (w : WaitsInTheEndFor st s u) × (w.others ≡ others)

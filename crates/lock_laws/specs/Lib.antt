@@ -1,6 +1,7 @@
 pub mod Chains
 pub mod Ends
 pub mod Victims
+pub mod Cycles
 pub mod Tries
 pub mod Grants
 pub mod Examples

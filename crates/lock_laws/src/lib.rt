@@ -4,6 +4,9 @@
 //! that doesn't wait, waits end in whatever order transactions end, and a deadlock victim is chosen only if they would not. In
 //! `specs/`, `Chains.antt` has the walks from waiting sessions to holders, `Ends.antt` the orders in which transactions end.
 //!
+//! `cycles.rt`: whoever a call dooms is on a cycle that its request closed, and on each of these cycles somebody is doomed
+//! (`Cycles.antt`).
+//!
 //! `tries.rt`: a Try does what a Lock does, as long as that Lock wouldn't wait (`Tries.antt`).
 //!
 //! `grants.rt`: of two holders' modes, the one granted later is compatible with the one granted earlier (`Grants.antt`).
@@ -11,6 +14,7 @@
 //! `Examples.antt` has histories worked by hand. There is no code.
 #![tactic(auto)]
 
+pub mod cycles;
 pub mod ends;
 pub mod grants;
 pub mod tries;

@@ -32,6 +32,7 @@ pub mod HistorySteps
 pub mod SessionsGoOn
 pub mod RealTime
 pub mod ListLaws
+pub mod PublishedRecords
 pub mod PieceLaws
 pub mod Linearizable
 pub mod Entered

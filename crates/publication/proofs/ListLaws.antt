@@ -66,7 +66,7 @@ module _ {O C R : Type 0} {obj : Ghosts O C R} where
         ∙ (waiting_belongs (r.records.stands j p.some k.small) (λ none. p.waits (ap (λ (w : Own C R). w.pending) k.own_is ∙ none)) (own_at r.records.owns j).listed
         ∙ (ap (λ (w : Own C R). Some w.listed) (sym k.own_is) ∙ ap (λ (x : Bool). Some x) p.listed_is))
 
-    unlinked_now : (j : ℕ) → 0 < j → j ≡ r.list.off → IsUnlinkedNow s j
+    pub unlinked_now : (j : ℕ) → 0 < j → j ≡ r.list.off → IsUnlinkedNow s j
     unlinked_now j some e =
         let taken : word s 0 ≢ FREE = λ free. omega (arith, some, e, r.list.whole free) in
         (taken, (r.list.walkers (word s 0) (r.records.taken taken).0).off_is ∙ sym e)

@@ -5,11 +5,12 @@
 
 ghost use Rattle.std.specs.Prelude.{◌≡◌, ◌≢◌, ◌⊎◌, ℕ, ◌+◌, ◌<◌, ◌≤◌, true, false, None, List, ◌∷◌, ◌++◌, length};
 ghost use Rattle.std.specs.Global.{Box};
-ghost use Rattle.publication.specs.Words.{END, FREE, CLOSED};
+ghost use Rattle.publication.specs.Words.{END, FREE, OUT, CLOSED, EMPTY};
 ghost use Rattle.publication.specs.Rule.{BoardState, word, seat};
 ghost use Rattle.publication.specs.List.{IsOn, AreApart, head_of, first_of, behind, without, with_behind, Chain, link, IsUnlinked, IsRuled};
 ghost use Rattle.publication.specs.PublicationList.{IsPublicationList, HasRoomForEnd, HasPending, IsUnlinkedNow, WritesHeadAsEnlist, met_from};
-ghost use Rattle.publication.specs.BoardHistory.{new_board};
+ghost use Rattle.publication.specs.BoardHistory.{history_of, new_board};
+ghost use Rattle.publication.specs.PublishedRecords.{Published, IsPublished, IsServedFurther, HasListedCall};
 ghost use Rattle.publication.specs.Runs.{StepName, IsStep, IsSeatSplit, IsSeatJoin, IsRun};
 ghost use Rattle.publication.specs.declared.slot.Load.{Load};
 
@@ -81,4 +82,41 @@ pub fn retired_records_are_closed<O: Sequential>()
         IsRuled O.Sequential s → 0 < j → (seat s j).number ≡ j → word s j ≡ CLOSED → (seat s j).own.retired ≡ true }
     ensures idle { (s : BoardState O O.Call O.Reply) (j : ℕ) →
         IsRuled O.Sequential s → 0 < j → (seat s j).number ≡ j → word s j ≡ CLOSED → (seat s j).own.pending ≡ None }
+{}
+
+/// What the words and slots of the records mean: in each record exactly one thing is published. It is nothing; or a call that
+/// waits in its slot (POSTED); or a call that the combiner has opened (BUSY); or the reply to a call, with the place of its entry
+/// in the history (SERVED). So a slot has a call exactly while the word is POSTED, and a reply exactly while it is SERVED.
+pub fn records_hold_what_is_published<O: Sequential>()
+    ensures some { (s : BoardState O O.Call O.Reply) (j : ℕ) →
+        IsRuled O.Sequential s → 0 < j → j < length s.homes → (x : Published O.Call O.Reply) × IsPublished O.Sequential s j x }
+    ensures one { (s : BoardState O O.Call O.Reply) (j : ℕ) (x y : Published O.Call O.Reply) →
+        IsPublished O.Sequential s j x → IsPublished O.Sequential s j y → x ≡ y }
+{}
+
+/// The state word of a record in which nothing is published says whether it is on the publication list. An EMPTY one is, or is
+/// the one record that the combiner has unlinked. One that is OUT isn't. Each record on the list is EMPTY, or CLOSED, or has a
+/// listed call.
+pub fn words_say_what_is_on_the_list<O: Sequential>()
+    ensures empty { (s : BoardState O O.Call O.Reply) (list : List ℕ) (j : ℕ) →
+        IsRuled O.Sequential s → HasRoomForEnd s → IsPublicationList s list → 0 < j → word s j ≡ EMPTY → IsOn j list ⊎ IsUnlinkedNow s j }
+    ensures out { (s : BoardState O O.Call O.Reply) (list : List ℕ) (j : ℕ) →
+        IsRuled O.Sequential s → HasRoomForEnd s → IsPublicationList s list → 0 < j → word s j ≡ OUT → IsOn j list ⊎ IsUnlinkedNow s j → ⊥ }
+    ensures members { (s : BoardState O O.Call O.Reply) (list : List ℕ) (j : ℕ) →
+        IsRuled O.Sequential s → HasRoomForEnd s → IsPublicationList s list → IsOn j list → (word s j ≡ EMPTY) ⊎ ((word s j ≡ CLOSED) ⊎ HasListedCall s j) }
+{}
+
+/// A listed call is met by every walk until its session collects the reply. A combiner's route that begins at the first record
+/// has the record of each listed pending call, or the combiner has just unlinked that record (`met`). A step of another session
+/// leaves the call pending and listed (`stays`). All that it can do to what is published in the record is what a combiner does: open a
+/// waiting call, put it back, or answer it at the end of the history (`served`).
+pub fn listed_calls_are_met_until_collected<O: Sequential>()
+    ensures met { (s : BoardState O O.Call O.Reply) (k j : ℕ) →
+        IsRuled O.Sequential s → HasRoomForEnd s → (seat s k).combiner.has_object ≡ true → link s 0 ≡ head_of (seat s k).listing.route →
+        HasPending s j true → IsOn j (seat s k).listing.route ⊎ ((seat s k).listing.off ≡ j) }
+    ensures stays { (name : StepName O.Call O.Reply) (s t : BoardState O O.Call O.Reply) (j : ℕ) →
+        (c : IsStep O.Sequential name s t) → c.id ≢ j → HasPending s j true → HasPending t j true }
+    ensures served { (name : StepName O.Call O.Reply) (s t : BoardState O O.Call O.Reply) (j : ℕ) (x y : Published O.Call O.Reply) →
+        IsRuled O.Sequential s → IsRuled O.Sequential t → (c : IsStep O.Sequential name s t) → c.id ≢ j → 0 < j → (seat s j).number ≡ j →
+        IsPublished O.Sequential s j x → IsPublished O.Sequential t j y → (y ≡ x) ⊎ IsServedFurther (length (history_of O.Sequential s)) x y }
 {}
