@@ -10,7 +10,7 @@ ghost use Rattle.publication.specs.Rule.{BoardState, word, seat};
 ghost use Rattle.publication.specs.List.{IsOn, AreApart, head_of, first_of, behind, without, with_behind, Chain, link, IsUnlinked, IsRuled};
 ghost use Rattle.publication.specs.PublicationList.{IsPublicationList, HasRoomForEnd, HasPending, IsUnlinkedNow, WritesHeadAsEnlist, met_from};
 ghost use Rattle.publication.specs.BoardHistory.{history_of, new_board};
-ghost use Rattle.publication.specs.PublishedRecords.{Published, IsPublished, IsServedFurther, HasListedCall};
+ghost use Rattle.publication.specs.PublishedRecords.{Published, IsPublished, IsServedFurther, IsPublishedOrCollected, HasListedCall};
 ghost use Rattle.publication.specs.Runs.{StepName, IsStep, IsSeatSplit, IsSeatJoin, IsRun};
 ghost use Rattle.publication.specs.declared.slot.Load.{Load};
 
@@ -119,4 +119,13 @@ pub fn listed_calls_are_met_until_collected<O: Sequential>()
     ensures served { (name : StepName O.Call O.Reply) (s t : BoardState O O.Call O.Reply) (j : ℕ) (x y : Published O.Call O.Reply) →
         IsRuled O.Sequential s → IsRuled O.Sequential t → (c : IsStep O.Sequential name s t) → c.id ≢ j → 0 < j → (seat s j).number ≡ j →
         IsPublished O.Sequential s j x → IsPublished O.Sequential t j y → (y ≡ x) ⊎ IsServedFurther (length (history_of O.Sequential s)) x y }
+{}
+
+/// What is published in a record goes round: nothing, a waiting call, an opened one, the answer, and nothing again; an opened call
+/// may be put back. Each step on a word leaves it or takes it one step further, whichever session makes the step.
+pub fn records_go_round<O: Sequential>()
+    ensures { (name : StepName O.Call O.Reply) (s t : BoardState O O.Call O.Reply) (j : ℕ) (x y : Published O.Call O.Reply) →
+        IsRuled O.Sequential s → IsRuled O.Sequential t → IsStep O.Sequential name s t → 0 < j → (seat s j).number ≡ j →
+        IsPublished O.Sequential s j x → IsPublished O.Sequential t j y →
+        (y ≡ x) ⊎ (IsServedFurther (length (history_of O.Sequential s)) x y ⊎ IsPublishedOrCollected x y) }
 {}
