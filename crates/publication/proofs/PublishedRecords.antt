@@ -1,5 +1,5 @@
 -- What is published in each record, which records are on the list, and what steps of other sessions leave of both.
-use Rattle.std.proofs.Common.{◌≡◌, ◌≢◌, ◌⊎◌, inl, inr, ⊎_elim, ℕ, ◌<◌, Bool, true, false, Option, Some, None, List, [], ◌∷◌, ◌++◌, length, refl, sym, ap, subst, ◌∙◌, arith, length-append, get_or-set_other}
+use Rattle.std.proofs.Common.{◌≡◌, ◌≢◌, ◌⊎◌, inl, inr, ⊎_elim, ℕ, ◌<◌, Bool, true, false, Option, Some, None, List, [], ◌∷◌, ◌++◌, length, refl, sym, ap, subst, ◌∙◌, arith, length-append, length-set, set, get_or-set_other}
 use mathlib.Core.Option as opt
 use mathlib.Core.Logic.{dite}
 use native.Mathlib.Decide.{ℕ_discrete}
@@ -16,10 +16,10 @@ use Rattle.publication.specs.Kinds.{replied}
 use Rattle.publication.specs.BoardHistory.{history_of}
 use Rattle.publication.specs.PublishedRecords.{Published, HasCallPending, HoldsNothing, IsPublished, IsServedFurther, HasListedCall}
 use Rattle.publication.specs.PublishedRecords.Published.{nothing, waiting, opened, answered}
-use Rattle.publication.specs.Runs.{StepName, answer_record, enter, IsStep}
+use Rattle.publication.specs.Runs.{StepName, answer_record, enter, IsStep, IsSeatSplit, IsSeatJoin}
 use Rattle.publication.specs.declared.view.View.{View}
 use Rattle.publication.specs.declared.slot.SlotValue.TheVariants.{Empty, ServedReply}
-use Rattle.publication.proofs.Lists.{at_there, there_at}
+use Rattle.publication.proofs.Lists.{at_there, there_at, each_set, each_snoc, past_end}
 use Rattle.publication.proofs.SeatViews.{opened_of}
 use Rattle.publication.proofs.Histories.{calls-mine, calls-other}
 use Rattle.publication.proofs.RecordStates.{waiting_belongs}
@@ -348,3 +348,90 @@ module _ {O C R : Type 0} {obj : Ghosts O C R} where
 
       after : CallsAre (calls_of j q.records.history) (seat s j).own.collected y
       after = subst (λ (o : Own C R). CallsAre (calls_of j q.records.history) o.collected y) (sym (q.records.sessions j (λ z. omega (arith, z, ap (λ (v : View C R). v.number) same, named, some))).own_is ∙ ap (λ (v : View C R). v.own) same) (calls_are t j q some (omega (arith, (q.records.sessions j (λ z. omega (arith, z, ap (λ (v : View C R). v.number) same, named, some))).small, q.records.homes_are)) y u)
+
+-- Splits and joins of seats.
+
+module _ {O C R : Type 0} where
+  -- A session that has its seat has the same call pending there afterwards, or none.
+  abbrev DoesPendingStay : BoardState O C R → ℕ → View C R → Type 0
+  DoesPendingStay s k v = 0 < k → (seat s k).number ≡ k → (v.own.pending ≡ (seat s k).own.pending) ⊎ (v.own.pending ≡ None)
+
+  split_pending : (s t : BoardState O C R) → IsSeatSplit s t → (j : ℕ) → DoesPendingStay s j (seat t j)
+  split_pending s t c = subst (λ (x : BoardState O C R). (j : ℕ) → DoesPendingStay s j (seat x j)) (sym c.is)
+      (each_snoc (set s.views c.id c.left) c.right blank (DoesPendingStay s) beyond
+      (each_set s.views c.id c.left blank (DoesPendingStay s) (at_there s.views c.id c.view blank c.seated).1 left (λ k ne some named. inl refl)))
+    where
+      seat_is : seat s c.id ≡ c.view
+      seat_is = (at_there s.views c.id c.view blank c.seated).0
+
+      left : DoesPendingStay s c.id c.left
+      left some named = elim c.cut [
+        | inl m ↦ (let e = ap (λ (v : View C R). v.number) (seat_is ∙ m.0) in absurd (omega (arith, e, named, some)))
+        | inr m ↦ inl (ap (λ (v : View C R). v.own.pending) (m.0 ∙ sym seat_is))
+      ]
+
+      beyond : DoesPendingStay s (length (set s.views c.id c.left)) c.right
+      beyond some named =
+          let none : seat s (length (set s.views c.id c.left)) ≡ blank = ap (seat s) (length-set s.views c.id c.left) ∙ past_end s.views blank in
+          let e = ap (λ (v : View C R). v.number) none in
+          absurd (omega (arith, e, named, some))
+
+  join_pending : (s t : BoardState O C R) → IsSeatJoin s t → (j : ℕ) → DoesPendingStay s j (seat t j)
+  join_pending s t c = subst (λ (x : BoardState O C R). (j : ℕ) → DoesPendingStay s j (seat x j)) (sym c.is)
+      (each_set (set s.views c.id c.both) c.other blank blank (DoesPendingStay s) (let l = length-set s.views c.id c.both in let n = (at_there s.views c.other c.theirs blank c.beside).1 in omega (arith, l, n)) (λ some named. inr refl)
+      (λ k not_other. each_set s.views c.id c.both blank (DoesPendingStay s) (at_there s.views c.id c.view blank c.seated).1 both (λ i ne some named. inl refl) k))
+    where
+      seat_is : seat s c.id ≡ c.view
+      seat_is = (at_there s.views c.id c.view blank c.seated).0
+
+      both : DoesPendingStay s c.id c.both
+      both some named = elim c.join [
+        | inl m ↦ inl (ap (λ (v : View C R). v.own.pending) m.0 ∙ ap (λ (v : View C R). v.own.pending) (sym seat_is))
+        | inr m ↦ inl (ap (λ (v : View C R). v.own.pending) m.0 ∙ ap (λ (v : View C R). v.own.pending) (sym seat_is))
+      ]
+
+  seats_pending : (s t : BoardState O C R) → IsSeatSplit s t ⊎ IsSeatJoin s t → (j : ℕ) → DoesPendingStay s j (seat t j)
+  seats_pending s t (inl c) = split_pending s t c
+  seats_pending s t (inr c) = join_pending s t c
+
+  words_stay : (s t : BoardState O C R) → IsSeatSplit s t ⊎ IsSeatJoin s t → (j : ℕ) → (word t j ≡ word s j) × (home t j ≡ home s j)
+  words_stay s t (inl c) j = (ap (λ (x : BoardState O C R). word x j) c.is, ap (λ (x : BoardState O C R). home x j) c.is)
+  words_stay s t (inr c) j = (ap (λ (x : BoardState O C R). word x j) c.is, ap (λ (x : BoardState O C R). home x j) c.is)
+
+module _ {O C R : Type 0} {obj : Ghosts O C R} where
+  -- They leave what is published in a record.
+  pub seats_publish : (s t : BoardState O C R) → IsRuled obj s → IsRuled obj t → IsSeatSplit s t ⊎ IsSeatJoin s t → (j : ℕ) → 0 < j → (seat s j).number ≡ j → (x y : Published C R) → IsPublished obj s j x → IsPublished obj t j y → y ≡ x
+  seats_publish s t r q c j some named x y p u = go x y p u
+    where
+      same : word t j ≡ word s j
+      same = (words_stay s t c j).0
+
+      slot : home t j ≡ home s j
+      slot = (words_stay s t c j).1
+
+      one : (a d : C) → HasCallPending s j a → HasCallPending t j d → d ≡ a
+      one a d v w = elim (seats_pending s t c j some named) [
+        | inl e ↦ same_pending (seat s j).own.pending d a w.0 v.0 (sym e ∙ w.1) v.1
+        | inr none ↦ absurd (none_pending (seat t j).own.pending d w.0 none w.1)
+      ]
+
+      go : (x y : Published C R) → IsPublished obj s j x → IsPublished obj t j y → y ≡ x
+      go nothing nothing p u = refl
+      go nothing (waiting d) p u = absurd (idle_word (word s j) POSTED p.word_is (sym same ∙ u.word_is) (omega arith) (omega arith))
+      go nothing (opened d) p u = absurd (idle_word (word s j) BUSY p.word_is (sym same ∙ u.word_is) (omega arith) (omega arith))
+      go nothing (answered d b v) p u = absurd (idle_word (word s j) SERVED p.word_is (sym same ∙ u.word_is) (omega arith) (omega arith))
+      go (waiting a) nothing p u = absurd (idle_word (word t j) POSTED u.word_is (same ∙ p.word_is) (omega arith) (omega arith))
+      go (opened a) nothing p u = absurd (idle_word (word t j) BUSY u.word_is (same ∙ p.word_is) (omega arith) (omega arith))
+      go (answered a e w) nothing p u = absurd (idle_word (word t j) SERVED u.word_is (same ∙ p.word_is) (omega arith) (omega arith))
+      go (waiting a) (waiting d) p u = ap (λ (k : C). waiting k) (one a d p.pending u.pending)
+      go (waiting a) (opened d) p u = absurd (omega (arith, same, p.word_is, u.word_is))
+      go (waiting a) (answered d b v) p u = absurd (omega (arith, same, p.word_is, u.word_is))
+      go (opened a) (waiting d) p u = absurd (omega (arith, same, p.word_is, u.word_is))
+      go (opened a) (opened d) p u = ap (λ (k : C). opened k) (one a d p.pending u.pending)
+      go (opened a) (answered d b v) p u = absurd (omega (arith, same, p.word_is, u.word_is))
+      go (answered a e w) (waiting d) p u = absurd (omega (arith, same, p.word_is, u.word_is))
+      go (answered a e w) (opened d) p u = absurd (omega (arith, same, p.word_is, u.word_is))
+      go (answered a e w) (answered d b v) p u =
+          let call : d ≡ a = one a d p.pending u.pending in
+          let held : ServedReply b v ≡ ServedReply e w = opt.some-injective (ServedReply b v) (ServedReply e w) (sym u.slot ∙ (slot ∙ p.slot)) in
+          cc (call, held)

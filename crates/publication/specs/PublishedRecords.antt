@@ -62,8 +62,8 @@ module _ {O C R : Type 0} (obj : Ghosts O C R) where
   IsPublished s j (opened call) = HoldsOpenedCall s j call
   IsPublished s j (answered call place reply) = HoldsReply s j call place reply
 
--- What a step of another session makes of what is published in a record: the combiner opens the call, puts it back, or answers
--- it at this place.
+-- What a step of a combiner makes of what is published in a record: it opens the call, puts it back, or answers it at this
+-- place.
 abbrev pub IsServedFurther : {C R : Type 0} → ℕ → Published C R → Published C R → Type 0
 IsServedFurther end (waiting call) (opened other) = call ≡ other
 IsServedFurther end (opened call) (waiting other) = call ≡ other
