@@ -3,20 +3,20 @@ use Rattle.std.proofs.Common.{◌≡◌, ◌⊎◌, inl, inr, ℕ, zero, suc, eq
 use mathlib.Core.Option as opt
 use mathlib.Core.Logic.{dite}
 use native.Mathlib.Decide.{ℕ_discrete}
-use Rattle.atomic_table.specs.Table.{Act, keeps, takes, gives, chain, Valid, carried_after, homes_after}
+use Rattle.atomic_table.specs.Table.{Act, keeps, takes, gives, chain, Valid, rest, carried_after, homes_after}
 use Rattle.publication.specs.Runs.{Carries, CarriesOnlyItsOwn}
 use Rattle.publication.specs.declared.slot.SlotValue.{SlotValue}
 use Rattle.publication.proofs.Lists.{at_there}
 
-abbrev Homes : Type 0 → Type 0 → Type 0 → Type 0
+abbrev pub Homes : Type 0 → Type 0 → Type 0 → Type 0
 Homes O C R = List (opt.Option (SlotValue O C R))
 
-abbrev Carried : Type 0 → Type 0 → Type 0 → Type 0
+abbrev pub Carried : Type 0 → Type 0 → Type 0 → Type 0
 Carried O C R = List (ℕ × SlotValue O C R)
 
 module _ {O C R : Type 0} where
   -- The value that the seat carries in slot k, if it carries it.
-  abbrev held_in : Carried O C R → ℕ → opt.Option (SlotValue O C R)
+  abbrev pub held_in : Carried O C R → ℕ → opt.Option (SlotValue O C R)
   held_in [] k = opt.none
   held_in (x ∷ xs) k = cond (eqb x.0 k) (opt.some x.1) (held_in xs k)
 
@@ -103,6 +103,21 @@ module _ {O C R : Type 0} where
   untouched hs c a valid out k y z was now =
       let m = moved hs c a valid out in
       now ∙ (ap (λ (h : opt.Option (SlotValue O C R)). or_held h (held_in (carried_after c a) k)) (sym now) ∙ (m.same k ∙ (ap (λ (h : opt.Option (SlotValue O C R)). or_held h (held_in c k)) was ∙ sym was)))
+
+  -- A slot that is at home before an act and not afterwards is carried afterwards, with its value.
+  pub left_home : (hs : Homes O C R) (c : Carried O C R) (a : Act (SlotValue O C R)) → Valid hs c a → CarriesOnlyItsOwn hs c → (k : ℕ) (y : SlotValue O C R) → get_or hs k opt.none ≡ opt.some y → get_or (homes_after hs c a) k opt.none ≡ opt.none
+      → held_in (carried_after c a) k ≡ opt.some y
+  left_home hs c a valid out k y was gone =
+      let m = moved hs c a valid out in
+      ap (λ (h : opt.Option (SlotValue O C R)). or_held h (held_in (carried_after c a) k)) (sym gone) ∙ (m.same k ∙ ap (λ (h : opt.Option (SlotValue O C R)). or_held h (held_in c k)) was)
+
+  -- A slot that is at home isn't carried, and isn't among all but the first that are.
+  pub home-not_held : (hs : Homes O C R) (c : Carried O C R) → CarriesOnlyItsOwn hs c → (k : ℕ) (y : SlotValue O C R) → get_or hs k opt.none ≡ opt.some y → (held_in c k ≡ opt.none) × (held_in (rest c) k ≡ opt.none)
+  home-not_held hs [] out k y was = (refl, refl)
+  home-not_held hs (x ∷ xs) out k y was = (
+    not-held (x ∷ xs) k (λ h. some-none (get_or hs k opt.none) y was (out-home hs (x ∷ xs) out k h)),
+    not-held xs k (λ h. some-none (get_or hs k opt.none) y was (out-home hs (x ∷ xs) out k (inr h))),
+  )
 
   -- A slot that is carried only afterwards was at home.
   pub taken : (hs : Homes O C R) (c : Carried O C R) (a : Act (SlotValue O C R)) → Valid hs c a → CarriesOnlyItsOwn hs c → (k : ℕ) (y : SlotValue O C R) → carried_after c a ≡ (k, y) ∷ c → get_or hs k opt.none ≡ opt.some y

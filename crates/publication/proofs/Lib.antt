@@ -33,6 +33,7 @@ pub mod SessionsGoOn
 pub mod RealTime
 pub mod ListLaws
 pub mod PublishedRecords
+pub mod OwnSteps
 pub mod PieceLaws
 pub mod Linearizable
 pub mod Entered

@@ -25,15 +25,15 @@ module _ {O C R : Type 0} where
 
 module _ {C R : Type 0} where
   -- A session's seat stays its own, and its answers only grow.
-  abbrev Sits : View C R → View C R → Type 0
+  abbrev pub Sits : View C R → View C R → Type 0
   Sits v w = 0 < v.number → (w.number ≡ v.number) × IsPrefix v.own.collected w.own.collected
 
   -- The sessions that were handed in stay so.
-  abbrev Keeps : View C R → View C R → Type 0
+  abbrev pub Keeps : View C R → View C R → Type 0
   Keeps v w = IsPrefix v.others.handed w.others.handed
 
   -- Both of a seat.
-  abbrev Follows : View C R → View C R → Type 0
+  abbrev pub Follows : View C R → View C R → Type 0
   Follows v w = Sits v w × Keeps v w
 
   -- Both hold if number, answers and handed-in sessions stay as they are.
@@ -61,7 +61,7 @@ module _ {O C R : Type 0} where
     same e = calmly m.0 m.1 e refl refl refl
 
     module _ (obj : Ghosts O C R) where
-      follows : (name : StepName C R) (slots at first second found : ℕ) → kind_of obj name (step slots at first second opt.none) m found n → Follows m.0 n.0
+      pub follows : (name : StepName C R) (slots at first second found : ℕ) → kind_of obj name (step slots at first second opt.none) m found n → Follows m.0 n.0
       follows start slots at first second found told = calmly _ _ told refl refl refl
       follows post slots at first second found told = calmly _ _ told refl refl refl
       follows look_at_head slots at first second found told = same told.0

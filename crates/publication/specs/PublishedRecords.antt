@@ -1,6 +1,6 @@
 -- The core of the publication list: what is published in each record, as calls and replies, and which records a walk meets. The
 -- rule of the board says this by words, slots and views.
-use Rattle.std.specs.Prelude.{◌≡◌, ◌≢◌, ◌⊎◌, ℕ, Bool, true, Option, Some, None, List}
+use Rattle.std.specs.Prelude.{◌≡◌, ◌≢◌, ◌⊎◌, ℕ, true, Some, None}
 use mathlib.Core.Option as opt
 use lib.ListN.{get_elem?}
 use Rattle.publication.specs.Words.{FREE, OUT, POSTED, BUSY, SERVED, CLOSED, EMPTY}
@@ -8,7 +8,6 @@ use Rattle.publication.specs.Views.{entry, asks}
 use Rattle.publication.specs.Rule.{BoardState, word, home, seat}
 use Rattle.publication.specs.Kinds.{opened_in}
 use Rattle.publication.specs.BoardHistory.{history_of}
-use Rattle.publication.specs.declared.slot.SlotValue.{SlotValue}
 use Rattle.publication.specs.declared.slot.SlotValue.TheVariants.{Empty, PostedCall, ServedReply}
 use Rattle.sequential.specs.declared.object.Sequential.{Ghosts}
 
@@ -63,13 +62,19 @@ module _ {O C R : Type 0} (obj : Ghosts O C R) where
   IsPublished s j (opened call) = HoldsOpenedCall s j call
   IsPublished s j (answered call place reply) = HoldsReply s j call place reply
 
--- What a step of another session makes of what is published in a record: the combiner opens the call, puts it back, or answers
--- it at this place.
+-- What a step of a combiner makes of what is published in a record: it opens the call, puts it back, or answers it at this
+-- place.
 abbrev pub IsServedFurther : {C R : Type 0} → ℕ → Published C R → Published C R → Type 0
 IsServedFurther end (waiting call) (opened other) = call ≡ other
 IsServedFurther end (opened call) (waiting other) = call ≡ other
 IsServedFurther end (opened call) (answered other place reply) = (call ≡ other) × (place ≡ end)
 IsServedFurther end _ _ = ⊥
+
+-- What a step of its own session makes of what is published in a record: it publishes a call, or collects the reply.
+abbrev pub IsPublishedOrCollected : {C R : Type 0} → Published C R → Published C R → Type 0
+IsPublishedOrCollected nothing (waiting call) = Unit {0}
+IsPublishedOrCollected (answered call place reply) nothing = Unit {0}
+IsPublishedOrCollected _ _ = ⊥
 
 module _ {O C R : Type 0} where
   -- The session of record j has a listed call pending.

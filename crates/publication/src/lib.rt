@@ -11,7 +11,9 @@
 //! and `words.rt` have what slots, seats and words hold; `new_board.rt`, `closing.rt`, `roll.rt` and `piece.rt` open a
 //! board, close it and note pieces of the history. The `laws` modules say what follows.
 //!
-//! `specs/Rule.antt` and `specs/List.antt` state the rule of the board, `specs/Kinds.antt` lists the steps.
+//! `specs/Rule.antt` and `specs/List.antt` state the rule of the board, `specs/Kinds.antt` lists the steps. What a reader has to know
+//! of the publication list is shorter: `specs/PublicationList.antt` says which records are on it, `specs/PublishedRecords.antt` what
+//! is published in each.
 //!
 //! Proved: the rule holds between any two atomic steps; so there is one legal history, and no posted call is lost. Not
 //! claimed: that a published call is ever served. No call waits, and [`Board::new`] alone takes memory.

@@ -10,7 +10,7 @@ ghost use Rattle.publication.specs.Rule.{BoardState, word, seat};
 ghost use Rattle.publication.specs.List.{IsOn, AreApart, head_of, first_of, behind, without, with_behind, Chain, link, IsUnlinked, IsRuled};
 ghost use Rattle.publication.specs.PublicationList.{IsPublicationList, HasRoomForEnd, HasPending, IsUnlinkedNow, WritesHeadAsEnlist, met_from};
 ghost use Rattle.publication.specs.BoardHistory.{history_of, new_board};
-ghost use Rattle.publication.specs.PublishedRecords.{Published, IsPublished, IsServedFurther, HasListedCall};
+ghost use Rattle.publication.specs.PublishedRecords.{Published, IsPublished, IsServedFurther, IsPublishedOrCollected, HasListedCall};
 ghost use Rattle.publication.specs.Runs.{StepName, IsStep, IsSeatSplit, IsSeatJoin, IsRun};
 ghost use Rattle.publication.specs.declared.slot.Load.{Load};
 
@@ -86,7 +86,7 @@ pub fn retired_records_are_closed<O: Sequential>()
 
 /// What the words and slots of the records mean: in each record exactly one thing is published. It is nothing; or a call that
 /// waits in its slot (POSTED); or a call that the combiner has opened (BUSY); or the reply to a call, with the place of its entry
-/// in the history (SERVED). So a slot has a call exactly while the word is POSTED, and a reply exactly while it is SERVED.
+/// in the history (SERVED). Each is the session's pending call, and with nothing published it has none.
 pub fn records_hold_what_is_published<O: Sequential>()
     ensures some { (s : BoardState O O.Call O.Reply) (j : ℕ) →
         IsRuled O.Sequential s → 0 < j → j < length s.homes → (x : Published O.Call O.Reply) × IsPublished O.Sequential s j x }
@@ -106,10 +106,10 @@ pub fn words_say_what_is_on_the_list<O: Sequential>()
         IsRuled O.Sequential s → HasRoomForEnd s → IsPublicationList s list → IsOn j list → (word s j ≡ EMPTY) ⊎ ((word s j ≡ CLOSED) ⊎ HasListedCall s j) }
 {}
 
-/// A listed call is met by every walk until its session collects the reply. A combiner's route that begins at the first record
-/// has the record of each listed pending call, or the combiner has just unlinked that record (`met`). A step of another session
-/// leaves the call pending and listed (`stays`). All that it can do to what is published in the record is what a combiner does: open a
-/// waiting call, put it back, or answer it at the end of the history (`served`).
+/// As long as a listed call is pending, every walk meets its record: a combiner's route that begins at the first record has it, or
+/// the combiner has just unlinked it (`met`). A step of another session leaves the call pending and listed (`stays`). All that it
+/// can do to what is published in the record is what a combiner does: open a waiting call, put it back, or answer it at the end
+/// of the history (`served`).
 pub fn listed_calls_are_met_until_collected<O: Sequential>()
     ensures met { (s : BoardState O O.Call O.Reply) (k j : ℕ) →
         IsRuled O.Sequential s → HasRoomForEnd s → (seat s k).combiner.has_object ≡ true → link s 0 ≡ head_of (seat s k).listing.route →
@@ -119,4 +119,17 @@ pub fn listed_calls_are_met_until_collected<O: Sequential>()
     ensures served { (name : StepName O.Call O.Reply) (s t : BoardState O O.Call O.Reply) (j : ℕ) (x y : Published O.Call O.Reply) →
         IsRuled O.Sequential s → IsRuled O.Sequential t → (c : IsStep O.Sequential name s t) → c.id ≢ j → 0 < j → (seat s j).number ≡ j →
         IsPublished O.Sequential s j x → IsPublished O.Sequential t j y → (y ≡ x) ⊎ IsServedFurther (length (history_of O.Sequential s)) x y }
+{}
+
+/// What is published in a record goes round: nothing, a waiting call, an opened one, the answer, and nothing again; an opened call
+/// may be put back. Each step on a word leaves it or takes it one step further, whichever session makes the step (`steps`). A
+/// split or join of seats leaves it (`seats`).
+pub fn records_go_round<O: Sequential>()
+    ensures steps { (name : StepName O.Call O.Reply) (s t : BoardState O O.Call O.Reply) (j : ℕ) (x y : Published O.Call O.Reply) →
+        IsRuled O.Sequential s → IsRuled O.Sequential t → IsStep O.Sequential name s t → 0 < j → (seat s j).number ≡ j →
+        IsPublished O.Sequential s j x → IsPublished O.Sequential t j y →
+        (y ≡ x) ⊎ (IsServedFurther (length (history_of O.Sequential s)) x y ⊎ IsPublishedOrCollected x y) }
+    ensures seats { (s t : BoardState O O.Call O.Reply) (j : ℕ) (x y : Published O.Call O.Reply) →
+        IsRuled O.Sequential s → IsRuled O.Sequential t → IsSeatSplit s t ⊎ IsSeatJoin s t → 0 < j → (seat s j).number ≡ j →
+        IsPublished O.Sequential s j x → IsPublished O.Sequential t j y → y ≡ x }
 {}
