@@ -1,8 +1,10 @@
 -- A whole call of a session: what it knows from turn to turn, and at its end.
-use Rattle.std.proofs.Common.{◌≡◌, ◌≢◌, ℕ, ◌+◌, ◌⊎◌, inl, inr, ⊎_elim, Bool, true, Option, Some, None, List, [], ◌∷◌, ◌++◌, length, refl, sym, ap, ◌∙◌, subst, arith, append_assoc, length-append}
+use Rattle.std.proofs.Common.{◌≡◌, ◌≢◌, ℕ, ◌+◌, ◌-◌, ◌*◌, ◌/◌, ◌%◌, ◌≤◌, ◌⊎◌, inl, inr, ⊎_elim, Bool, true, Option, Some, None, List, [], ◌∷◌, ◌++◌, length, refl, sym, ap, ◌∙◌, subst, arith, append_assoc, length-append}
 use Rattle.std.specs.List.{range_with_len}
 use mathlib.Core.List.{IsPrefix}
 use mathlib.Core.Option as opt
+use mathlib.Core.Logic.{dite}
+use native.Mathlib.Decide.{ℕ_discrete}
 use lib.ListN.{get_elem?}
 use Rattle.sequential.specs.declared.entry.Entry.{Entry}
 use Rattle.sequential.specs.Histories.{Answered, calls_of}
@@ -18,6 +20,8 @@ use Rattle.combining.specs.Sessions.{HasTriedToList, IsPassed, IsCollected, IsPe
 use Rattle.publication.specs.declared.board.Posted.{Posted}
 use Rattle.publication.specs.declared.board.Posted.TheVariants.{Listed, Unlisted}
 use Rattle.combining.specs.Calls.{HasGoneOn}
+use Rattle.combining.specs.Waits.{FitIntoLooks}
+use Rattle.combining.specs.declared.backoff.TheConstants.{LOOKS_PER_TRY}
 use Rattle.combining.specs.Calls.{later, IsWaitingOn, IsAnswered, IsCalled, IsCalling}
 use Rattle.sequential.specs.declared.object.Sequential.{Ghosts}
 
@@ -270,3 +274,60 @@ module _ {C R : Type 0} where
 
   pub calling-live : (t u : TicketView C R) (call : C) → IsCalling t u call → u.retired ≡ t.retired
   calling-live t u call k = ap (λ (x : TicketView C R). x.retired) k.session
+
+  -- How often a session has tried to have a call listed.
+
+  tries-of : (t u : TicketView C R) → u ≡ t → u.tries ≡ t.tries
+  tries-of t u is = ap (λ (x : TicketView C R). x.tries) is
+
+  pub tries-tried : (t u : TicketView C R) → HasTriedToList t u → u.tries ≤ t.tries + 1
+  tries-tried t u h = ⊎_elim
+      (λ a. ⊎_elim
+      (λ is. let n : u.tries ≡ t.tries + 1 = tries-of (tried t) u is in omega (arith, n))
+      (λ is. let n : u.tries ≡ t.tries + 1 = tries-of (tried (enlisted t)) u is in omega (arith, n))
+      a.1)
+      (λ b. let n = tries-of t u b.1 in omega (arith, n))
+      h
+
+  pub tries-posted : (t u : TicketView C R) (call : C) → (u ≡ enlisted (publishing t call)) ⊎ ((u ≡ tried (enlisted (publishing t call))) ⊎ (u ≡ tried (publishing t call))) → u.tries ≤ t.tries + 1
+  tries-posted t u call h = ⊎_elim
+      (λ is. let n : u.tries ≡ t.tries = tries-of (enlisted (publishing t call)) u is in omega (arith, n))
+      (λ r. ⊎_elim
+      (λ is. let n : u.tries ≡ t.tries + 1 = tries-of (tried (enlisted (publishing t call))) u is in omega (arith, n))
+      (λ is. let n : u.tries ≡ t.tries + 1 = tries-of (tried (publishing t call)) u is in omega (arith, n))
+      r)
+      h
+
+module _ {O C R : Type 0} {obj : Ghosts O C R} where
+  pub tries-passed : (t u : TicketView C R) (served : ℕ) → IsPassed obj t u served → u.tries ≤ t.tries + 1
+  tries-passed t u served p =
+      let n : u.tries ≡ p.between.tries = ap (λ (x : TicketView C R). x.tries) p.session in
+      let m = tries-tried t p.between p.is_tried in
+      omega (arith, n, m)
+
+-- Tries and looks.
+
+-- One try more fits into one look more, at every `LOOKS_PER_TRY`th look.
+fit-more : (tries looks : ℕ) → looks % LOOKS_PER_TRY ≡ 0 → FitIntoLooks tries looks → FitIntoLooks (tries + 1) (looks + 1)
+fit-more tries looks due fit = let q = div_mod looks in omega (arith, due, fit, q)
+  where
+    div_mod : (n : ℕ) → n ≡ 8 * (n / 8) + n % 8
+    div_mod n = omega arith
+
+-- Tries that fit into looks fit into one look more.
+pub fit-same : (tries looks : ℕ) → FitIntoLooks tries looks → FitIntoLooks tries (looks + 1)
+fit-same tries looks fit = omega (arith, fit)
+
+-- In one look more the session tries once more at most, at every `LOOKS_PER_TRY`th look.
+pub fit-next : (first before after looks : ℕ) → FitIntoLooks (before - first) looks → after ≤ before + 1 → (looks % LOOKS_PER_TRY ≢ 0 → after ≡ before) → FitIntoLooks (after - first) (looks + 1)
+fit-next first before after looks fit few same = dite (ℕ_discrete (looks % LOOKS_PER_TRY) 0)
+    (λ due. let more = fit-more (before - first) looks due fit in omega (arith, few, more))
+    (λ between. let n = same between in omega (arith, fit, n))
+
+-- Fewer tries fit too.
+pub fit-fewer : (few many looks : ℕ) → few ≤ many → FitIntoLooks many looks → FitIntoLooks few looks
+fit-fewer few many looks le fit = omega (arith, le, fit)
+
+-- Tries that fit into looks fit into more.
+pub fit-longer : (tries looks more : ℕ) → looks ≤ more → FitIntoLooks tries looks → FitIntoLooks tries more
+fit-longer tries looks more le fit = omega (arith, le, fit)

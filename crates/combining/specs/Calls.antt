@@ -1,11 +1,12 @@
 -- A whole call of a session, from an idle session to its answer or to a pending call.
-use Rattle.std.specs.Prelude.{◌≡◌, ℕ, ◌<◌, ◌≤◌, Option, Some, None, List, [], ◌∷◌, ◌++◌, length}
+use Rattle.std.specs.Prelude.{◌≡◌, ◌⊎◌, ℕ, ◌<◌, ◌≤◌, Option, Some, None, List, [], ◌∷◌, ◌++◌, length}
 use mathlib.Core.Option as opt
 use mathlib.Core.List.{IsPrefix}
 use lib.ListN.{get_elem?}
 use Rattle.sequential.specs.Histories.{Answered, calls_of}
 use Rattle.publication.specs.Views.{TicketView, Pending, entry, answer, asks}
 use Rattle.sequential.specs.declared.object.Sequential.{Ghosts}
+use Rattle.combining.specs.Sessions.{IsRefused}
 
 module _ {C R : Type 0} where
   -- What else may have changed of a session that made a call: it may know more of the history, what it has heard of itself, whether
@@ -65,6 +66,13 @@ module _ {C R : Type 0} where
     pub entered : IsPrefix before.entered after.entered
     -- it was published when the session knew so many entries of the history
     pub late : length before.front ≤ floor
+
+module _ {O C R : Type 0} (obj : Ghosts O C R) where
+  -- Memory was refused for the idle session's call, which is pending. The session performed a pass in which it was refused for the
+  -- call, and then published it; or it published it, and put calls back in the pass that it made last.
+  abbrev pub HasStarvedCalling : TicketView C R → TicketView C R → C → Type 0
+  HasStarvedCalling before after call = ((between : TicketView C R) × IsRefused obj before between × IsCalling between after call)
+      ⊎ ((between : TicketView C R) × IsCalling before between call × IsWaitingOn between after × (between.put_backs < after.put_backs))
 
 module _ {C R : Type 0} where
   -- The session knows no less of the history, and has entered no fewer places.

@@ -19,6 +19,8 @@ module _ {O C R : Type 0} (obj : Ghosts O C R) where
     pub all : IsEachOnce office.sessions sessions
     pub settled : All HasNothingPending sessions
     pub sessions_are : obj.sessions object ≡ office.sessions
+    -- the object keeps as many entries at most as when the office was opened
+    pub bound_is : obj.bound object ≡ office.bound
     -- each reply is the one that the object gives at its place
     pub legal : obj.is_legal (obj.history object)
     -- for each session: the front that it knew begins the history, and its calls in the history are those that it

@@ -15,6 +15,7 @@ module _ {O C R : Type 0} (obj : Ghosts O C R) where
     pub none : OpensNone session
     pub live : session.pending ≢ None → session.retired ≡ false
     pub home : IsHome obj session.front (office.sessions + 1) load
+    pub bound_is : obj.bound load.object ≡ office.bound
     pub taken : session.taken ≡ load.pieces.items
 
   -- The session has taken the object, and is otherwise unchanged.

@@ -1,6 +1,6 @@
 -- What a session does between two turns of its call.
 use Rattle.std.specs.Prelude.{◌≡◌, ◌≢◌, ℕ, ◌+◌, ◌*◌, ◌^◌, ◌%◌, ◌<◌, ◌≤◌, min}
-use Rattle.combining.specs.declared.backoff.TheConstants.{FIRST_PAUSES, DOUBLINGS, TRIES_BEFORE_YIELDS, PAUSES, LOOKS_PER_YIELD}
+use Rattle.combining.specs.declared.backoff.TheConstants.{FIRST_PAUSES, DOUBLINGS, TRIES_BEFORE_YIELDS, LOOKS_PER_TRY, PAUSES, LOOKS_PER_YIELD}
 use Rattle.combining.specs.declared.backoff.Wait.{Wait}
 
 -- After a try for the object, behind so many: pauses, which double from try to try until they were doubled `DOUBLINGS` times; and a
@@ -13,3 +13,7 @@ pub record IsWaitAfterTry (tried : ℕ) (wait : Wait) : Type 0 where
 pub record IsWaitAfterLook (looked : ℕ) (wait : Wait) : Type 0 where
   pub pauses : looked % LOOKS_PER_YIELD + 1 ≢ LOOKS_PER_YIELD → wait ≡ Wait.Pause PAUSES
   pub yields : looked % LOOKS_PER_YIELD + 1 ≡ LOOKS_PER_YIELD → wait ≡ Wait.Yield
+
+-- So many tries fit into so many looks: one at the first look, and one at every `LOOKS_PER_TRY`th behind it.
+abbrev pub FitIntoLooks : ℕ → ℕ → Type 0
+FitIntoLooks tries looks = tries * LOOKS_PER_TRY < looks + LOOKS_PER_TRY

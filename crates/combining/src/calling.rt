@@ -1,10 +1,10 @@
 //! A whole call of a session, turn by turn: performed at once where the object is free, else published, served and collected.
 
-ghost use Rattle.std.specs.Prelude.{◌≡◌, ◌≢◌, ◌⊎◌, ◌<◌, ◌≤◌, ◌%◌, true, false, [], None};
+ghost use Rattle.std.specs.Prelude.{◌≡◌, ◌≢◌, ◌⊎◌, ◌+◌, ◌-◌, ◌<◌, ◌≤◌, ◌%◌, true, false, [], None};
 ghost use Rattle.combining.specs.Sessions.{IsSessionOf, IsIdle, IsPendingServed};
-ghost use Rattle.combining.specs.Calls.{IsCalled, IsCalling, IsAnswered, IsWaitingOn, HasStarved, HasGoneOn};
+ghost use Rattle.combining.specs.Calls.{IsCalled, IsCalling, IsAnswered, IsWaitingOn, HasStarved, HasStarvedCalling, HasGoneOn};
 ghost use Rattle.combining.specs.Ended.{AreToldBy, HasAddedTold, HasRoom, entered_since};
-ghost use Rattle.combining.specs.Waits.{IsWaitAfterTry, IsWaitAfterLook};
+ghost use Rattle.combining.specs.Waits.{IsWaitAfterTry, IsWaitAfterLook, FitIntoLooks};
 
 use crate::backoff::{LOOKS_PER_TRY, TRIES_AT_ONCE, Wait, after_look, after_try, back_off};
 use crate::office::{Answer, Office, Performed, Turn};
@@ -50,6 +50,8 @@ fn serve_if<O: Batching, T: Told<O>>(
     ensures waits { IsWaitingOn session.old session.new }
     ensures starved { result ≡ true → session.old.put_backs < session.new.put_backs }
     ensures served { result ≡ false → serve_now ≡ true → IsPendingServed session.new ⊎ (1 < office.now.sessions) }
+    ensures tries { session.new.tries ≤ session.old.tries + 1 }
+    ensures untried { serve_now ≡ false → session.new.tries ≡ session.old.tries }
     ensures told { HasAddedTold T.ends office.now.sessions session.new.front (entered_since session.old session.new) (T.list told.old) (T.list told.new) }
     ensures room { T.room told.new ≡ T.room told.old }
 {
@@ -82,6 +84,8 @@ pub fn look<O: Batching, T: Told<O>>(
     ensures starved { result ≡ Next.Starved → IsWaitingOn session.old session.new × (session.old.put_backs < session.new.put_backs) }
     ensures waits { (w : _) → result ≡ Next.Wait w → IsWaitingOn session.old session.new }
     ensures others { (w : _) → result ≡ Next.Wait w → looked % LOOKS_PER_TRY ≡ 0 → 1 < office.now.sessions }
+    ensures tries { session.new.tries ≤ session.old.tries + 1 }
+    ensures untried { looked % LOOKS_PER_TRY ≢ 0 → session.new.tries ≡ session.old.tries }
     ensures wait { (w : _) → result ≡ Next.Wait w → IsWaitAfterLook looked w }
     ensures on { HasGoneOn session.old session.new }
     ensures told { HasAddedTold T.ends office.now.sessions session.new.front (entered_since session.old session.new) (T.list told.old) (T.list told.new) }
@@ -113,7 +117,9 @@ fn publish_and_look<O: Batching, T: Told<O>>(
     ensures answered { (answer : _) → result ≡ Next.Answered answer → IsCalled O.Sequential session.old session.new call answer.place answer.reply }
     ensures idle { (answer : _) → result ≡ Next.Answered answer → IsIdle session.new }
     ensures starved { result ≡ Next.Starved → IsCalling session.old session.new call }
+    ensures refused { result ≡ Next.Starved → HasStarvedCalling O.Sequential session.old session.new call }
     ensures waits { (w : _) → result ≡ Next.Wait w → IsCalling session.old session.new call × (1 < office.now.sessions) }
+    ensures tries { session.new.tries ≤ session.old.tries + 2 }
     ensures wait { (w : _) → result ≡ Next.Wait w → IsWaitAfterLook 0 w }
     ensures on { HasGoneOn session.old session.new }
     ensures told { HasAddedTold T.ends office.now.sessions session.new.front (entered_since session.old session.new) (T.list told.old) (T.list told.new) }
@@ -139,7 +145,9 @@ fn try_at_once<O: Batching, T: Told<O>>(
     ensures answered { (answer : _) → result ≡ Next.Answered answer → IsCalled O.Sequential session.old session.new call.now answer.place answer.reply }
     ensures idle { (answer : _) → result ≡ Next.Answered answer → IsIdle session.new }
     ensures starved { result ≡ Next.Starved → IsCalling session.old session.new call.now }
+    ensures refused { result ≡ Next.Starved → HasStarvedCalling O.Sequential session.old session.new call.now }
     ensures waits { (w : _) → result ≡ Next.Wait w → (session.new ≡ session.old) × (1 < office.now.sessions) }
+    ensures tries { session.new.tries ≤ session.old.tries + 1 }
     ensures wait { (w : _) → result ≡ Next.Wait w → IsWaitAfterTry tried w }
     ensures on { HasGoneOn session.old session.new }
     ensures told { HasAddedTold T.ends office.now.sessions session.new.front (entered_since session.old session.new) (T.list told.old) (T.list told.new) }
@@ -176,6 +184,7 @@ pub fn turn<O: Batching, T: Told<O>>(
     ensures answered { (answer : _) → result ≡ Next.Answered answer → session.old.pending ≢ None → IsAnswered O.Sequential session.old session.new answer.place answer.reply }
     ensures idle { (answer : _) → result ≡ Next.Answered answer → IsIdle session.new }
     ensures starved { result ≡ Next.Starved → session.old.pending ≡ None → IsCalling session.old session.new call.now }
+    ensures refused { result ≡ Next.Starved → session.old.pending ≡ None → HasStarvedCalling O.Sequential session.old session.new call.now }
     ensures starved_on { result ≡ Next.Starved → session.old.pending ≢ None → IsWaitingOn session.old session.new × (session.old.put_backs < session.new.put_backs) }
     ensures tried { (w : _) → result ≡ Next.Wait w → session.old.pending ≡ None → made < TRIES_AT_ONCE → (session.new ≡ session.old) × (1 < office.now.sessions) }
     ensures published { (w : _) → result ≡ Next.Wait w → session.old.pending ≡ None → TRIES_AT_ONCE ≤ made → IsCalling session.old session.new call.now × (1 < office.now.sessions) }
@@ -183,6 +192,10 @@ pub fn turn<O: Batching, T: Told<O>>(
     ensures wait_tried { (w : _) → result ≡ Next.Wait w → session.old.pending ≡ None → made < TRIES_AT_ONCE → IsWaitAfterTry made w }
     ensures wait_published { (w : _) → result ≡ Next.Wait w → session.old.pending ≡ None → TRIES_AT_ONCE ≤ made → IsWaitAfterLook 0 w }
     ensures wait_looked { (w : _) → result ≡ Next.Wait w → session.old.pending ≢ None → IsWaitAfterLook made w }
+    ensures tries_at_once { session.old.pending ≡ None → made < TRIES_AT_ONCE → session.new.tries ≤ session.old.tries + 1 }
+    ensures tries_published { session.old.pending ≡ None → session.new.tries ≤ session.old.tries + 2 }
+    ensures tries { session.old.pending ≢ None → session.new.tries ≤ session.old.tries + 1 }
+    ensures untried { session.old.pending ≢ None → made % LOOKS_PER_TRY ≢ 0 → session.new.tries ≡ session.old.tries }
     ensures live { session.new.retired ≡ false }
     ensures on { HasGoneOn session.old session.new }
     ensures told { HasAddedTold T.ends office.now.sessions session.new.front (entered_since session.old session.new) (T.list told.old) (T.list told.new) }
@@ -207,6 +220,7 @@ pub fn publish_if_idle<O: Batching>(office: &Office<O>, session: &mut Session<O>
     ensures published { session.old.pending ≡ None → IsCalling session.old session.new call }
     ensures same { session.old.pending ≢ None → session.new ≡ session.old }
     ensures known { (session.new.front ≡ session.old.front) × (session.new.entered ≡ session.old.entered) }
+    ensures tries { session.new.tries ≤ session.old.tries + 1 }
 {
     if session.is_idle() {
         let _posted = office.publish(session, call);
@@ -231,6 +245,7 @@ pub fn resume<O: Batching, T: Told<O>>(
     ensures not_yet { result ≡ Called.NotYet → IsWaitingOn session.old session.new }
     ensures starved { result ≡ Called.Starved → HasStarved session.old session.new }
     ensures others { result ≡ Called.NotYet → 0 < turns → 1 < office.now.sessions }
+    ensures tries { FitIntoLooks (session.new.tries - session.old.tries) turns }
     ensures told { AreToldBy T.ends office.now.sessions session.new.front (entered_since session.old session.new) (T.list told.new) }
     ensures room { T.room told.new ≡ T.room told.old }
 {
@@ -266,6 +281,8 @@ pub fn call<O: Batching, T: Told<O>>(
     ensures idle { (answer : _) → result ≡ Called.Answered answer → IsIdle session.new }
     ensures not_yet { result ≡ Called.NotYet → IsCalling session.old session.new call × (1 < office.now.sessions) }
     ensures starved { result ≡ Called.Starved → IsCalling session.old session.new call }
+    ensures refused { result ≡ Called.Starved → HasStarvedCalling O.Sequential session.old session.new call }
+    ensures tries { FitIntoLooks (session.new.tries - session.old.tries) (turns + 1) }
     ensures told { AreToldBy T.ends office.now.sessions session.new.front (entered_since session.old session.new) (T.list told.new) }
     ensures room { T.room told.new ≡ T.room told.old }
 {

@@ -93,6 +93,7 @@ impl<O: Batching> Office<O> {
     pub fn share(alloc: Global, object: O) -> Result<(Office<O>, Vec<Session<O>>), NoMemory>
         requires empty { O.history object ≡ [] }
         ensures office { IfOk result (λ made. made.0.sessions ≡ O.sessions object) }
+        ensures bound { IfOk result (λ made. made.0.bound ≡ O.bound object) }
         ensures sessions { IfOk result (λ made. made.1.items ≡ new_tickets made.0.id (O.sessions object) (O.sessions object)) }
         ensures ready { IfOk result (λ made. All (λ session. IsSessionOf made.0 session × IsIdle session) made.1.items) }
     {

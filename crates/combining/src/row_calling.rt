@@ -3,7 +3,7 @@
 
 ghost use Rattle.std.specs.Prelude.{◌≡◌, ◌≢◌, ◌<◌, ◌≤◌, ◌∷◌, ℕ, true, false, None, length};
 ghost use Rattle.combining.specs.Sessions.{IsSessionOf, IsIdle};
-ghost use Rattle.combining.specs.Calls.{IsCalled, IsCalling, IsAnswered, IsWaitingOn, HasGoneOn};
+ghost use Rattle.combining.specs.Calls.{IsCalled, IsCalling, IsAnswered, IsWaitingOn, HasStarvedCalling, HasGoneOn};
 ghost use Rattle.combining.specs.Ended.{HasAddedTold, HasRoom, entered_since};
 ghost use Rattle.combining.specs.Rows.{IsRowPerformed};
 ghost use Rattle.combining.specs.Waits.{IsWaitAfterTry, IsWaitAfterLook};
@@ -48,6 +48,7 @@ fn try_row_at_once<O: Batching, G: GoesOn<O>, T: Told<O>>(
     ensures idle { (row : _) → result ≡ NextOfRow.Performed row → IsIdle session.new }
     ensures unanswered { (answer : _) → result ≢ NextOfRow.Answered answer }
     ensures starved { (call : _) (rest : _) → result ≡ NextOfRow.Starved → calls.now ≡ call ∷ rest → IsCalling session.old session.new call }
+    ensures refused { (call : _) (rest : _) → result ≡ NextOfRow.Starved → calls.now ≡ call ∷ rest → HasStarvedCalling O.Sequential session.old session.new call }
     ensures waits { (w : _) → result ≡ NextOfRow.Wait w → (session.new ≡ session.old) × (1 < office.now.sessions) }
     ensures wait { (w : _) → result ≡ NextOfRow.Wait w → IsWaitAfterTry tried w }
     ensures live { session.new.retired ≡ false }
@@ -96,6 +97,7 @@ pub fn row_turn<O: Batching, G: GoesOn<O>, T: Told<O>>(
     ensures idle { (row : _) → result ≡ NextOfRow.Performed row → IsIdle session.new }
     ensures idle_answered { (answer : _) → result ≡ NextOfRow.Answered answer → IsIdle session.new }
     ensures starved { (call : _) (rest : _) → result ≡ NextOfRow.Starved → session.old.pending ≡ None → calls.now ≡ call ∷ rest → IsCalling session.old session.new call }
+    ensures refused { (call : _) (rest : _) → result ≡ NextOfRow.Starved → session.old.pending ≡ None → calls.now ≡ call ∷ rest → HasStarvedCalling O.Sequential session.old session.new call }
     ensures starved_on { result ≡ NextOfRow.Starved → session.old.pending ≢ None → IsWaitingOn session.old session.new × (session.old.put_backs < session.new.put_backs) }
     ensures tried { (w : _) → result ≡ NextOfRow.Wait w → session.old.pending ≡ None → made < TRIES_AT_ONCE → (session.new ≡ session.old) × (1 < office.now.sessions) }
     ensures published { (w : _) (call : _) (rest : _) → result ≡ NextOfRow.Wait w → session.old.pending ≡ None → TRIES_AT_ONCE ≤ made → calls.now ≡ call ∷ rest

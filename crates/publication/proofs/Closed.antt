@@ -16,7 +16,7 @@ use Rattle.publication.specs.declared.piece.Piece.{Piece}
 use Rattle.publication.specs.Views.{Handed}
 use Rattle.publication.specs.inner.Closing.{WereHanded, Ends}
 use Rattle.publication.specs.Rule.{blank, BoardState, word, home, seat, own_at, pieces_in, IsHome, IsHanded, IsOrderly}
-use Rattle.publication.specs.List.{IsRuled}
+use Rattle.publication.specs.List.{IsBounded}
 use Rattle.publication.specs.declared.view.View.{View}
 use Rattle.publication.specs.declared.slot.Load.{Load}
 use Rattle.publication.specs.declared.slot.SlotValue.{SlotValue}
@@ -40,6 +40,12 @@ module _ {O C R : Type 0} (obj : Ghosts O C R) where
     pub ends : (p : ℕ) (x : Handed C R) → get_elem? v.others.handed p ≡ opt.some x → Ends (obj.history l.object) x
     pub within : All (λ x. (0 < x.session) × (x.session < slots)) l.pieces.items
     pub pieces : (p : ℕ) (x : Handed C R) → get_elem? v.others.handed p ≡ opt.some x → x.pieces ≡ pieces_of x.number l.pieces.items
+
+module _ {O C R : Type 0} (obj : Ghosts O C R) where
+  -- The same, and its object keeps so many entries at most.
+  pub record IsLastWithin (bound slots : ℕ) (v : View C R) (l : Load O C R) : Type 0 where
+    pub last : IsLast obj slots v l
+    pub within : obj.bound l.object ≡ bound
 
 module _ {O C R : Type 0} {obj : Ghosts O C R} where
   ends : (s : BoardState O C R) (o : IsOrderly obj s) (id : ℕ) (v : View C R) → get_elem? s.views id ≡ opt.some v → HasAll o.slots v → (l : Box (Load O C R)) × (home s 0 ≡ opt.some (ObjectLoad l)) × IsLast obj o.slots v l.value
@@ -68,20 +74,21 @@ module _ {O C R : Type 0} {obj : Ghosts O C R} where
       not_gone : (s : BoardState O C R) (o : IsOrderly obj s) (k : ℕ) → (seat s k).combiner.has_object ≡ true → (seat s k).number ≡ 0 → ⊥
       not_gone s o k has none = let b = o.combiners k has in absurd (omega (arith, b.session, b.named))
 
+module _ {O C R : Type 0} {obj : Ghosts O C R} {bound : ℕ} where
   -- A closed table has such a load in the lock's slot.
-  pub ended : (ws : List ℕ) (xs : List (SlotValue O C R)) (id slots : ℕ) (v : View C R) → Final (Seen (IsRuled obj) id v) ws xs → length xs ≡ slots → HasAll slots v
-      → (l : Box (Load O C R)) × (get_elem? xs 0 ≡ opt.some (ObjectLoad l)) × IsLast obj slots v l.value
+  pub ended : (ws : List ℕ) (xs : List (SlotValue O C R)) (id slots : ℕ) (v : View C R) → Final (Seen (IsBounded obj bound) id v) ws xs → length xs ≡ slots → HasAll slots v
+      → (l : Box (Load O C R)) × (get_elem? xs 0 ≡ opt.some (ObjectLoad l)) × IsLastWithin obj bound slots v l.value
   ended ws xs id slots v final long all =
-      let s : BoardState O C R = final.0 in let o : IsOrderly obj s = final.1.0.records in
+      let s : BoardState O C R = final.0 in let o : IsOrderly obj s = final.1.0.ruled.records in
       let same : slots ≡ o.slots = (let a = o.homes_are in let b = final.3 in omega arith) in
       let t = ends s o id v final.1.1 (subst (λ (n : ℕ). HasAll n v) same all) in
-      (t.0, final.4 0 (ObjectLoad t.0) (at_home s.homes 0 (ObjectLoad t.0) t.1), subst (λ (n : ℕ). IsLast obj n v t.0.value) (sym same) t.2)
+      (t.0, final.4 0 (ObjectLoad t.0) (at_home s.homes 0 (ObjectLoad t.0) t.1), record { last = subst (λ (n : ℕ). IsLast obj n v t.0.value) (sym same) t.2; within = final.1.0.within t.0 t.1 })
 
   -- The lock's slot holds such a load.
-  pub last_load : (ws : List ℕ) (xs : List (SlotValue O C R)) (id slots : ℕ) (v : View C R) → Final (Seen (IsRuled obj) id v) ws xs → length xs ≡ slots → HasAll slots v
-      → (held : SlotValue O C R) → get_elem? xs 0 ≡ opt.some held → (load : Box (Load O C R)) → held ≡ ObjectLoad load → (out : Load O C R) → out ≡ load.value → IsLast obj slots v out
+  pub last_load : (ws : List ℕ) (xs : List (SlotValue O C R)) (id slots : ℕ) (v : View C R) → Final (Seen (IsBounded obj bound) id v) ws xs → length xs ≡ slots → HasAll slots v
+      → (held : SlotValue O C R) → get_elem? xs 0 ≡ opt.some held → (load : Box (Load O C R)) → held ≡ ObjectLoad load → (out : Load O C R) → out ≡ load.value → IsLastWithin obj bound slots v out
   last_load ws xs id slots v final long all held at load is out unboxed =
       let t = ended ws xs id slots v final long all in
       let e : ObjectLoad load ≡ ObjectLoad t.0 = sym is ∙ opt.some-injective held (ObjectLoad t.0) (sym at ∙ t.1) in
       let q : load ≡ t.0 = cc e in
-      subst (λ (l : Load O C R). IsLast obj slots v l) (sym (unboxed ∙ ap (λ (b : Box (Load O C R)). b.value) q)) t.2
+      subst (λ (l : Load O C R). IsLastWithin obj bound slots v l) (sym (unboxed ∙ ap (λ (b : Box (Load O C R)). b.value) q)) t.2

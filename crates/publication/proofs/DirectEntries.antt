@@ -14,7 +14,7 @@ use Rattle.publication.specs.Words.{word_of, BUSY}
 use Rattle.publication.specs.Views.{Own, Combiner, Others, entry, answer}
 use Rattle.publication.specs.Rule.{blank, BoardState, word, home, seat, fresh, own_at, announced, IsVacant, RecordState, HasObject, IsOpened, IsSession, IsMaker, AreTrue, HasPieces, IsOrderly}
 use Rattle.publication.specs.Rule.RecordState.{vacant}
-use Rattle.publication.specs.List.{IsLinked, IsRuled}
+use Rattle.publication.specs.List.{IsLinked, IsRuled, IsBounded}
 use Rattle.publication.specs.Kinds.{entering, enters}
 use Rattle.publication.specs.declared.view.View.{View}
 use Rattle.publication.specs.declared.slot.SlotValue.{SlotValue}
@@ -228,6 +228,6 @@ module _ {O C R : Type 0} {obj : Ghosts O C R} where
   module _ (slots id : ℕ) (v : View C R) (more : List (ℕ × SlotValue O C R)) (some_number : 0 < v.number) (has : v.combiner.has_object ≡ true) (none : v.own.pending ≡ None) (live : v.own.retired ≡ false)
       (call : C) (reply : R) (legal : obj.is_legal (v.front ++ entry v.number call reply ∷ [])) (short : length v.front + 1 < 2 ^ 64) where
     -- Enter keeps the rule, for a combiner with no call pending and an entry that makes a longer legal history.
-    pub enter_kept : Allows (IsRuled obj) slots id (v, more) 0 (λ n. n) (enters call reply (step slots 0 0 0 opt.none) (v, more))
+    pub enter_kept : {bound : ℕ} → Allows (IsBounded obj bound) slots id (v, more) 0 (λ n. n) (enters call reply (step slots 0 0 0 opt.none) (v, more))
     enter_kept = seated slots id v.number 0 v more (λ n. n) (enters call reply (step slots 0 0 0 opt.none) (v, more)) refl some_number
         (λ s o l me small wide e. subst (λ (n : ℕ). Goes obj s 0 v.number (v, more) (enters call reply (step n 0 0 0 opt.none) (v, more)) (word s 0)) e (enter_goes v some_number s o l me small has none live call reply legal short more))

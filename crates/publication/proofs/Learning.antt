@@ -9,7 +9,7 @@ use Rattle.atomic_table.specs.Table.{keeps, step, Allows}
 use Rattle.sequential.specs.declared.entry.Entry.{Entry}
 use Rattle.publication.specs.Views.{IsAccountedIn}
 use Rattle.publication.specs.Rule.{blank, BoardState, word, seat, own_at, announced, AreTrue, IsOrderly}
-use Rattle.publication.specs.List.{IsLinked, IsRuled}
+use Rattle.publication.specs.List.{IsLinked, IsRuled, IsBounded}
 use Rattle.publication.specs.Kinds.{longer, learning, learns, compares}
 use Rattle.publication.specs.declared.view.View.{View}
 use Rattle.publication.specs.declared.slot.SlotValue.{SlotValue}
@@ -79,13 +79,13 @@ module _ {O C R : Type 0} {obj : Ghosts O C R} where
 
 module _ {O C R : Type 0} where
   module _ (slots id : ℕ) (v : View C R) (more : List (ℕ × SlotValue O C R)) (some_number : 0 < v.number) where
-    module _ {obj : Ghosts O C R} where
+    module _ {obj : Ghosts O C R} {bound : ℕ} where
       -- Compare keeps the rule.
-      pub compare_kept : Allows (IsRuled obj) slots id (v, more) 0 (λ n. n) (compares (step slots 0 0 0 opt.none) (v, more))
+      pub compare_kept : Allows (IsBounded obj bound) slots id (v, more) 0 (λ n. n) (compares (step slots 0 0 0 opt.none) (v, more))
       compare_kept = seated slots id v.number 0 v more (λ n. n) (compares (step slots 0 0 0 opt.none) (v, more)) refl some_number
           (λ s o l me small wide e. compare_goes v.number v refl some_number s o l me small more)
 
       -- Learn keeps the rule.
-      pub learn_kept : AreFrontsLegal obj → Allows (IsRuled obj) slots id (v, more) 0 (λ n. n) (learns obj (step slots 0 0 0 opt.none) (v, more))
+      pub learn_kept : AreFrontsLegal obj → Allows (IsBounded obj bound) slots id (v, more) 0 (λ n. n) (learns obj (step slots 0 0 0 opt.none) (v, more))
       learn_kept fronts = seated slots id v.number 0 v more (λ n. n) (learns obj (step slots 0 0 0 opt.none) (v, more)) refl some_number
           (λ s o l me small wide e. learn_goes v.number v refl some_number s o l me small fronts more)

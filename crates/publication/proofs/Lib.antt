@@ -9,6 +9,7 @@ pub mod Chains
 pub mod UnchangedList
 pub mod OrderlySession
 pub mod OrderlyCombiner
+pub mod LaidDown
 pub mod SessionKinds
 pub mod Routes
 pub mod ListKinds

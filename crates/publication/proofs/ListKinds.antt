@@ -12,7 +12,7 @@ use Rattle.sequential.specs.Histories.{calls_of}
 use Rattle.publication.specs.Words.{word_of, link_of, session_of_word, END}
 use Rattle.publication.specs.Views.{Own, Listing}
 use Rattle.publication.specs.Rule.{blank, BoardState, word, home, seat, own_at, announced, RecordState, HasObject, IsOrderly}
-use Rattle.publication.specs.List.{IsOn, AreApart, Chain, link, belongs, is_listed, IsWalking, IsLinked, IsRuled}
+use Rattle.publication.specs.List.{IsOn, AreApart, Chain, link, belongs, is_listed, IsWalking, IsLinked, IsRuled, IsBounded}
 use Rattle.publication.specs.Kinds.{as_session, tried_head, heard_all, HasAnother, looks_at_head, linking, links, losing_head, enlisting, enlists, routing, MeetsAll, walks, walks_on_from, walks_on}
 use Rattle.publication.specs.declared.view.View.{View}
 use Rattle.publication.specs.declared.slot.SlotValue.{SlotValue}
@@ -340,38 +340,38 @@ session_of_its_link number = omega arith
 module _ {O C R : Type 0} where
   -- What the table demands of each of these steps.
   module _ (slots id i : ℕ) (v : View C R) (more : List (ℕ × SlotValue O C R)) (is : v.number ≡ i) (some_number : 0 < i) where
-    module _ {obj : Ghosts O C R} where
+    module _ {obj : Ghosts O C R} {bound : ℕ} where
       -- Look at head keeps the rule, for a session with an unlisted pending call.
       pub look_at_head_kept : v.own.pending ≢ None → v.own.listed ≡ false
-          → Allows (IsRuled obj) slots id (v, more) (link_of 0) (λ n. n) (looks_at_head (step slots (link_of 0) 0 0 opt.none) (v, more))
+          → Allows (IsBounded obj bound) slots id (v, more) (link_of 0) (λ n. n) (looks_at_head (step slots (link_of 0) 0 0 opt.none) (v, more))
       look_at_head_kept waits unlisted = seated_at slots id i (link_of 0) v more (λ n. n) (looks_at_head (step slots (link_of 0) 0 0 opt.none) (v, more)) is some_number
           (λ s o l me small e. subst (λ (n : ℕ). GoesAt obj s (link_of 0) i (v, more) (looks_at_head (step n (link_of 0) 0 0 opt.none) (v, more)) (link s 0)) e
           (look_at_head_goes i v is some_number s o l me small more waits unlisted))
 
       -- Link keeps the rule, for a session with an unlisted pending call.
       pub link_kept : (head : ℕ) → v.own.pending ≢ None → v.own.listed ≡ false
-          → Allows (IsRuled obj) slots id (v, more) (link_of i) (λ _. head) (λ _. links (step slots (link_of i) head 0 opt.none) (v, more) head)
+          → Allows (IsBounded obj bound) slots id (v, more) (link_of i) (λ _. head) (λ _. links (step slots (link_of i) head 0 opt.none) (v, more) head)
       link_kept head waits unlisted = seated_at slots id i (link_of i) v more (λ _. head) (λ _. links (step slots (link_of i) head 0 opt.none) (v, more) head) is some_number
           (λ s o l me small e. link_goes i v is some_number s o l me small head waits unlisted more)
 
       -- Enlist keeps the rule, for a session that wrote this head into its link.
       pub enlist_kept : (head : ℕ) → v.own.pending ≢ None → v.listing.head_seen ≡ Some head
-          → Allows (IsRuled obj) slots id (v, more) (link_of 0) (λ n. either (eqb n head) i n) (enlists (step slots (link_of 0) head i opt.none) (v, more))
+          → Allows (IsBounded obj bound) slots id (v, more) (link_of 0) (λ n. either (eqb n head) i n) (enlists (step slots (link_of 0) head i opt.none) (v, more))
       enlist_kept head waits noted = seated_at slots id i (link_of 0) v more (λ n. either (eqb n head) i n) (enlists (step slots (link_of 0) head i opt.none) (v, more)) is some_number
           (λ s o l me small e. subst (λ (n : ℕ). GoesAt obj s (link_of 0) i (v, more) (enlists (step n (link_of 0) head i opt.none) (v, more)) (either (eqb (link s 0) head) i (link s 0))) e
           (enlist_goes i v is some_number s o l me small head waits noted more))
 
   module _ (slots id : ℕ) (v : View C R) (more : List (ℕ × SlotValue O C R)) (is : v.number ≢ 0) (has : v.combiner.has_object ≡ true) where
-    module _ {obj : Ghosts O C R} where
+    module _ {obj : Ghosts O C R} {bound : ℕ} where
       -- Walk keeps the rule, for a combiner with no unlinked record.
-      pub walk_kept : v.listing.off ≡ 0 → Allows (IsRuled obj) slots id (v, more) (link_of 0) (λ n. n) (walks (step slots (link_of 0) 0 0 opt.none) (v, more))
+      pub walk_kept : v.listing.off ≡ 0 → Allows (IsBounded obj bound) slots id (v, more) (link_of 0) (λ n. n) (walks (step slots (link_of 0) 0 0 opt.none) (v, more))
       walk_kept none_off = seated_at slots id v.number (link_of 0) v more (λ n. n) (walks (step slots (link_of 0) 0 0 opt.none) (v, more)) refl (omega arith)
           (λ s o l me small e. subst (λ (n : ℕ). GoesAt obj s (link_of 0) v.number (v, more) (walks (step n (link_of 0) 0 0 opt.none) (v, more)) (link s 0)) e
           (walk_goes v.number v refl (omega arith) s o l me small has more none_off))
 
       -- Walk on keeps the rule, from a record on the route.
-      pub walk_on_kept : (q : ℕ) → IsOn q v.listing.route → Allows (IsRuled obj) slots id (v, more) (link_of q) (λ n. n) (walks_on (step slots (link_of q) 0 0 opt.none) (v, more))
-      walk_on_kept q on = subst (λ (k : ℕ). Allows (IsRuled obj) slots id (v, more) (link_of q) (λ n. n) (walks_on_from slots k (v, more))) (sym (session_of_its_link q))
+      pub walk_on_kept : (q : ℕ) → IsOn q v.listing.route → Allows (IsBounded obj bound) slots id (v, more) (link_of q) (λ n. n) (walks_on (step slots (link_of q) 0 0 opt.none) (v, more))
+      walk_on_kept q on = subst (λ (k : ℕ). Allows (IsBounded obj bound) slots id (v, more) (link_of q) (λ n. n) (walks_on_from slots k (v, more))) (sym (session_of_its_link q))
           (seated_at slots id v.number (link_of q) v more (λ n. n) (walks_on_from slots q (v, more)) refl (omega arith)
           (λ s o l me small e. subst (λ (n : ℕ). GoesAt obj s (link_of q) v.number (v, more) (walks_on_from n q (v, more)) (link s q)) e
           (walk_on_goes v.number v refl (omega arith) s o l me small has more q on)))

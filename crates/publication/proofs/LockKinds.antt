@@ -8,16 +8,16 @@ use native.Mathlib.Decide.{ℕ_discrete}
 use prog.Atomic.{either}
 use lib.ListN.{get_elem?}
 use Rattle.std.specs.Global.{Box}
-use Rattle.atomic_table.specs.Table.{keeps, takes, gives, step, Allows}
+use Rattle.atomic_table.specs.Table.{keeps, takes, gives, step, stepped, Allows}
 use Rattle.atomic_table.proofs.Lists.{exchanged}
 use Rattle.sequential.specs.declared.entry.Entry.{Entry}
 use Rattle.publication.specs.Words.{word_of, FREE}
-use Rattle.publication.specs.List.{belongs, IsWalking, IsLinked, IsRuled}
-use Rattle.publication.specs.Rule.{blank, BoardState, word, seat, no_combiner, pieces_in, IsHome, HasObject, IsOrderly}
+use Rattle.publication.specs.List.{belongs, IsWalking, IsLinked, IsRuled, IsBounded}
+use Rattle.publication.specs.Rule.{blank, BoardState, word, home, seat, no_combiner, pieces_in, IsHome, HasObject, IsOrderly}
 use Rattle.publication.specs.Pieces.{pieces_of, HasAdded, added}
 use Rattle.publication.specs.Views.{Combiner, Taken, IsAccountedIn}
 use Rattle.publication.specs.declared.piece.Piece.{Piece}
-use Rattle.publication.specs.Kinds.{combiner, as_combiner, with_pieces, no_walk, HasOthers, looks_at_lock, seizing, Seized, seizes, releasing, releases}
+use Rattle.publication.specs.Kinds.{combiner, as_combiner, with_pieces, no_walk, HasOthers, looks_at_lock, seizing, Seized, seizes_within, releasing, releases}
 use Rattle.publication.specs.declared.view.View.{View}
 use Rattle.publication.specs.declared.slot.Load.{Load}
 use Rattle.publication.specs.declared.slot.SlotValue.{SlotValue}
@@ -26,7 +26,7 @@ use Rattle.publication.proofs.Lists.{at_there, at_home}
 use Rattle.publication.proofs.SeatViews.{front_of, object_of, pieces_of_seat}
 use Rattle.publication.proofs.Pieces.{own_added, others_kept, within_added}
 use Rattle.publication.proofs.Accounts.{account-whole}
-use Rattle.publication.proofs.SessionKinds.{Goes, seated, unmoved}
+use Rattle.publication.proofs.SessionKinds.{Goes, named, seated, seated_within, unmoved}
 use Rattle.publication.proofs.UnchangedList.{links_kept, aside}
 use Rattle.publication.proofs.OrderlyCombiner.{IsNothingOpened, IsLockStep, relocked}
 use Rattle.sequential.specs.declared.object.Sequential.{Ghosts}
@@ -36,6 +36,22 @@ pub nothing_at : {C : Type 0} (slots : ℕ) → IsNothingOpened {C = C} (no_comb
 nothing_at zero j call e = opt.some-ne-none (Some call) (sym e)
 nothing_at (suc n) zero call e = let t : None ≡ Some call = opt.some-injective None (Some call) e in absurd (cc t)
 nothing_at (suc n) (suc j) call e = nothing_at n j call e
+
+module _ {O C R : Type 0} where
+  -- Two lists of carried slots that begin with a load begin with the same one.
+  first_load : {a b : Box (Load O C R)} {xs ys : List (ℕ × SlotValue O C R)} → (0, ObjectLoad a) ∷ xs ≡ (0, ObjectLoad b) ∷ ys → a ≡ b
+  first_load {a} {b} same =
+      let values : ObjectLoad a ≡ ObjectLoad b = ap (λ (l : List (ℕ × SlotValue O C R)). value_of (ObjectLoad a) l) same in
+      cc values
+    where
+      value_of : SlotValue O C R → List (ℕ × SlotValue O C R) → SlotValue O C R
+      value_of x [] = x
+      value_of x (y ∷ ys) = y.1
+
+module _ {O C R : Type 0} (obj : Ghosts O C R) where
+  -- The load at this place, if one is there, is of an object that keeps so many entries at most.
+  abbrev IsBoundAt : ℕ → opt.Option (SlotValue O C R) → Type 0
+  IsBoundAt bound at = (load : Box (Load O C R)) → at ≡ opt.some (ObjectLoad load) → obj.bound load.value.object ≡ bound
 
 module _ {O C R : Type 0} {obj : Ghosts O C R} where
   module _ (i : ℕ) (v : View C R) (is : v.number ≡ i) (some_number : 0 < i) (s : BoardState O C R) (o : IsOrderly obj s) (l : IsLinked s) (me : get_elem? s.views i ≡ opt.some v) (small : i < o.slots) where
@@ -108,8 +124,8 @@ module _ {O C R : Type 0} {obj : Ghosts O C R} where
         pieces = own_now ∙ (ap (λ (j : ℕ). pieces_of j o.pieces.all) (sym is) ∙ ap (pieces_of v.number) (sym noted_all));
       }
 
-      seize_won : (more : List (ℕ × SlotValue O C R)) → Goes obj s 0 i (v, more) (seizes obj (step o.slots 0 FREE i opt.none) (v, more)) i
-      seize_won more = let t = o.free hit in let load = t.0 in let noted_all : load.value.pieces.items ≡ o.pieces.all = ap pieces_in (sym t.1) ∙ o.pieces.home hit in (
+      seize_won : (bound : ℕ) → IsBoundAt obj bound (home s 0) → (more : List (ℕ × SlotValue O C R)) → Goes obj s 0 i (v, more) (seizes_within obj bound (step o.slots 0 FREE i opt.none) (v, more)) i
+      seize_won bound within more = let t = o.free hit in let load = t.0 in let noted_all : load.value.pieces.items ≡ o.pieces.all = ap pieces_in (sym t.1) ∙ o.pieces.home hit in (
         seizing v (obj.history load.value.object) load.value.pieces.items,
         takes 0 (ObjectLoad load),
         at_home s.homes 0 (ObjectLoad load) t.1,
@@ -118,14 +134,14 @@ module _ {O C R : Type 0} {obj : Ghosts O C R} where
               records = relocked s o i v 0 i opt.none o.history (combiner v.combiner true v.combiner.opened 0) (no_walk v.listing) (record { own = v.pieces.own; all = o.pieces.all }) me some_number seize_step;
               list = still_listed i opt.none o.history (combiner v.combiner true v.combiner.opened 0) (record { own = v.pieces.own; all = o.pieces.all }) (l.whole hit);
             })),
-        ((λ _. (load, refl, seized load.value t.2 noted_all)), λ miss. absurd (miss hit)),
+        (((λ _. (load, refl, seized load.value t.2 noted_all)), λ miss. absurd (miss hit)), λ _ other rest carried. subst (λ (b : Box (Load O C R)). obj.bound b.value.object ≡ bound) (first_load carried) (within load t.1)),
       )
 
-    seize_lost : (more : List (ℕ × SlotValue O C R)) → word s 0 ≢ FREE → Goes obj s 0 i (v, more) (seizes obj (step o.slots 0 FREE i opt.none) (v, more)) (word s 0)
-    seize_lost more miss = (v, keeps, tt, unmoved s o l 0 i v me, ((λ hit. absurd (miss hit)), λ _. (refl, another miss)))
+    seize_lost : (bound : ℕ) (more : List (ℕ × SlotValue O C R)) → word s 0 ≢ FREE → Goes obj s 0 i (v, more) (seizes_within obj bound (step o.slots 0 FREE i opt.none) (v, more)) (word s 0)
+    seize_lost bound more miss = (v, keeps, tt, unmoved s o l 0 i v me, (((λ hit. absurd (miss hit)), λ _. (refl, another miss)), λ hit. absurd (miss hit)))
 
-    seize_goes : (more : List (ℕ × SlotValue O C R)) → Goes obj s 0 i (v, more) (seizes obj (step o.slots 0 FREE i opt.none) (v, more)) (either (eqb (word s 0) FREE) i (word s 0))
-    seize_goes more = exchanged (word s 0) FREE i (Goes obj s 0 i (v, more) (seizes obj (step o.slots 0 FREE i opt.none) (v, more))) (λ hit. seize_won hit more) (seize_lost more)
+    seize_goes : (bound : ℕ) → IsBoundAt obj bound (home s 0) → (more : List (ℕ × SlotValue O C R)) → Goes obj s 0 i (v, more) (seizes_within obj bound (step o.slots 0 FREE i opt.none) (v, more)) (either (eqb (word s 0) FREE) i (word s 0))
+    seize_goes bound within more = exchanged (word s 0) FREE i (Goes obj s 0 i (v, more) (seizes_within obj bound (step o.slots 0 FREE i opt.none) (v, more))) (λ hit. seize_won hit bound within more) (seize_lost bound more)
 
     -- release
 
@@ -175,11 +191,9 @@ module _ {O C R : Type 0} {obj : Ghosts O C R} where
         noted = λ _. refl;
       }
 
-      release_goes : (more : List (ℕ × SlotValue O C R)) → Goes obj s 0 i (v, (0, ObjectLoad load) ∷ more) (λ _. releases (step o.slots 0 FREE 0 opt.none) (v, (0, ObjectLoad load) ∷ more) FREE) FREE
+      release_goes : (more : List (ℕ × SlotValue O C R)) → (w : View C R) × IsRuled obj (stepped s 0 FREE i ((0, ObjectLoad load) ∷ more) w gives) × releases (step o.slots 0 FREE 0 opt.none) (v, (0, ObjectLoad load) ∷ more) FREE (w, more)
       release_goes more = (
         releasing v load.value.pieces.items,
-        gives,
-        tt,
         subst (λ (f : List (Entry C R)). IsRuled obj record {
           words = set s.words (word_of 0) FREE;
           homes = set s.homes 0 (opt.some (ObjectLoad load));
@@ -195,25 +209,47 @@ module _ {O C R : Type 0} where
   -- what the table demands of each of these steps
 
   module _ (slots id i : ℕ) (v : View C R) (more : List (ℕ × SlotValue O C R)) (is : v.number ≡ i) (some_number : 0 < i) where
-    module _ {obj : Ghosts O C R} where
+    module _ {obj : Ghosts O C R} {bound : ℕ} where
       -- Look at lock keeps the rule.
-      pub look_at_lock_kept : Allows (IsRuled obj) slots id (v, more) 0 (λ n. n) (looks_at_lock (step slots 0 0 0 opt.none) (v, more))
+      pub look_at_lock_kept : Allows (IsBounded obj bound) slots id (v, more) 0 (λ n. n) (looks_at_lock (step slots 0 0 0 opt.none) (v, more))
       look_at_lock_kept = seated slots id i 0 v more (λ n. n) (looks_at_lock (step slots 0 0 0 opt.none) (v, more)) is some_number
           (λ s o l me small wide e. subst (λ (n : ℕ). Goes obj s 0 i (v, more) (looks_at_lock (step n 0 0 0 opt.none) (v, more)) (word s 0)) e (look_goes i v is some_number s o l me small more))
 
       -- Seize keeps the rule.
-      pub seize_kept : Allows (IsRuled obj) slots id (v, more) 0 (λ n. either (eqb n FREE) i n) (seizes obj (step slots 0 FREE i opt.none) (v, more))
-      seize_kept = seated slots id i 0 v more (λ n. either (eqb n FREE) i n) (seizes obj (step slots 0 FREE i opt.none) (v, more)) is some_number
-          (λ s o l me small wide e. subst (λ (n : ℕ). Goes obj s 0 i (v, more) (seizes obj (step n 0 FREE i opt.none) (v, more)) (either (eqb (word s 0) FREE) i (word s 0))) e (seize_goes i v is some_number s o l me small more))
+      pub seize_kept : Allows (IsBounded obj bound) slots id (v, more) 0 (λ n. either (eqb n FREE) i n) (seizes_within obj bound (step slots 0 FREE i opt.none) (v, more))
+      seize_kept = seated_within slots id i 0 v more (λ n. either (eqb n FREE) i n) (seizes_within obj bound (step slots 0 FREE i opt.none) (v, more)) is some_number
+          (λ s b me small wide e. subst (λ (n : ℕ). Goes obj s 0 i (v, more) (seizes_within obj bound (step n 0 FREE i opt.none) (v, more)) (either (eqb (word s 0) FREE) i (word s 0))) e
+          (seize_goes i v is some_number s b.ruled.records b.ruled.list me small bound b.within more))
+
+module _ {O C R : Type 0} where
+  -- What is at home once the load was laid down is this load.
+  laid_down : (hs : List (opt.Option (SlotValue O C R))) (load other : Box (Load O C R)) → get_or (set hs 0 (opt.some (ObjectLoad load))) 0 opt.none ≡ opt.some (ObjectLoad other) → 0 < length hs → load ≡ other
+  laid_down [] load other there some = absurd (omega (arith, some))
+  laid_down (h ∷ hs) load other there some =
+      let same : ObjectLoad load ≡ ObjectLoad other = opt.some-injective (ObjectLoad load) (ObjectLoad other) there in
+      cc same
 
 module _ {C R : Type 0} where
   module _ (slots id : ℕ) (v : View C R) (is : v.number ≢ 0) (has : v.combiner.has_object ≡ true) where
     some_number : 0 < v.number
     some_number = omega arith
 
-    module _ {O : Type 0} {obj : Ghosts O C R} where
+    module _ {O : Type 0} {obj : Ghosts O C R} {bound : ℕ} where
       -- Release keeps the rule, for a combiner with no record opened or unlinked and a load fit to go home.
-      pub release_kept : (load : Box (Load O C R)) (more : List (ℕ × SlotValue O C R)) → IsHome obj v.front slots load.value → HasAdded v.number v.pieces.all load.value.pieces.items → IsNothingOpened v.combiner → v.listing.off ≡ 0
-          → Allows (IsRuled obj) slots id (v, (0, ObjectLoad load) ∷ more) 0 (λ _. FREE) (λ _. releases (step slots 0 FREE 0 opt.none) (v, (0, ObjectLoad load) ∷ more) FREE)
-      release_kept load more full took none settled = seated slots id v.number 0 v ((0, ObjectLoad load) ∷ more) (λ _. FREE) (λ _. releases (step slots 0 FREE 0 opt.none) (v, (0, ObjectLoad load) ∷ more) FREE) refl some_number
-          (λ s o l me small wide e. release_goes v.number v refl some_number s o l me small has load (subst (λ (n : ℕ). IsHome obj v.front n load.value) (sym e) full) took none settled more)
+      pub release_kept : (load : Box (Load O C R)) (more : List (ℕ × SlotValue O C R)) → IsHome obj v.front slots load.value → obj.bound load.value.object ≡ bound → HasAdded v.number v.pieces.all load.value.pieces.items → IsNothingOpened v.combiner → v.listing.off ≡ 0
+          → Allows (IsBounded obj bound) slots id (v, (0, ObjectLoad load) ∷ more) 0 (λ _. FREE) (λ _. releases (step slots 0 FREE 0 opt.none) (v, (0, ObjectLoad load) ∷ more) FREE)
+      release_kept load more full kept took none settled s b wide me _ =
+          let o = b.ruled.records in
+          let t = named s o id v.number v me refl some_number in
+          let here : get_elem? s.views v.number ≡ opt.some v = subst (λ (k : ℕ). get_elem? s.views k ≡ opt.some v) t.0 me in
+          let slots_are : o.slots ≡ slots = sym o.homes_are ∙ wide in
+          let g = release_goes v.number v refl some_number s o b.ruled.list here t.1 has load (subst (λ (n : ℕ). IsHome obj v.front n load.value) (sym slots_are) full) took none settled more in (
+            g.0,
+            gives,
+            tt,
+            record {
+              ruled = subst (λ (k : ℕ). IsRuled obj (stepped s 0 FREE k ((0, ObjectLoad load) ∷ more) g.0 gives)) (sym t.0) g.1;
+              within = λ other there. subst (λ (x : Box (Load O C R)). obj.bound x.value.object ≡ bound) (laid_down s.homes load other there (omega (arith, wide, slots_are, t.1))) kept;
+            },
+            subst (λ (n : ℕ). releases (step n 0 FREE 0 opt.none) (v, (0, ObjectLoad load) ∷ more) FREE (g.0, more)) slots_are g.2,
+          )

@@ -10,7 +10,7 @@ use Rattle.std.specs.Global.{Box}
 use Rattle.atomic_table.specs.Table.{opening, Splits}
 use Rattle.sequential.specs.declared.entry.Entry.{Entry}
 use Rattle.publication.specs.Words.{word_of, END, OUT}
-use Rattle.publication.specs.List.{link, belongs, IsLinked, IsRuled}
+use Rattle.publication.specs.List.{link, belongs, IsLinked, IsRuled, IsBounded, bound_of}
 use Rattle.publication.specs.Views.{Own, Handed}
 use Rattle.publication.specs.BoardHistory.{new_board}
 use Rattle.publication.specs.Rule.{BoardState, blank, apart, AreTrue, fresh, own_at, announced, maker, new_session, word, home, seat, IsHome, IsVacant, RecordState, HasObject, IsOpened, IsSession, IsMaker, HasPieces, IsOrderly}
@@ -130,6 +130,16 @@ module _ {O C R : Type 0} {obj : Ghosts O C R} where
     -- A new board has the rule.
     pub begins : obj.is_legal [] → load.value.pieces.items ≡ [] → IsRuled obj laid_out
     begins empty untaken = record { records = in_order empty untaken; list = none_listed }
+
+    -- A new board has the rule of its object's bound.
+    pub begins_bounded : obj.is_legal [] → load.value.pieces.items ≡ [] → (objects : List O) → objects ≡ load.value.object ∷ [] → IsBounded obj (bound_of obj.bound objects) laid_out
+    begins_bounded empty untaken objects noted = record {
+      ruled = begins empty untaken;
+      within = λ other there.
+          let same : ObjectLoad load ≡ ObjectLoad other = opt.some-injective (ObjectLoad load) (ObjectLoad other) there in
+          let one : load ≡ other = cc same in
+          ap (λ (b : Box (Load O C R)). obj.bound b.value.object) (sym one) ∙ ap (bound_of obj.bound) (sym noted);
+    }
 
   -- The first seat of a board that has the rule makes one more session.
   module _ (slots made : ℕ) (some_left : made + 1 < slots) (s : BoardState O C R) (o : IsOrderly obj s) (me : get_elem? s.views 0 ≡ opt.some (maker slots made)) where

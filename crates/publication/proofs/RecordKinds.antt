@@ -10,7 +10,7 @@ use Rattle.atomic_table.proofs.Lists.{exchanged, set_here, set_else, at_last}
 use Rattle.sequential.specs.declared.entry.Entry.{Entry}
 use Rattle.sequential.specs.Histories.{Answered, calls_of}
 use Rattle.publication.specs.Words.{word_of, session_of_word, POSTED, BUSY, SERVED}
-use Rattle.publication.specs.List.{belongs, IsLinked, IsRuled}
+use Rattle.publication.specs.List.{belongs, IsLinked, IsRuled, IsBounded}
 use Rattle.publication.specs.Views.{Own, Combiner, IsAccountedIn, entry, answer, asks}
 use Rattle.publication.specs.Rule.{blank, BoardState, word, home, seat, own_at, announced, IsPosted, IsBusy, RecordState, HasObject, IsOpened, IsOrderly}
 use Rattle.publication.specs.Rule.RecordState.{posted, busy, served}
@@ -335,44 +335,44 @@ module _ {C R : Type 0} where
     some_number : 0 < v.number
     some_number = omega arith
 
-    module _ {O : Type 0} {obj : Ghosts O C R} where
+    module _ {O : Type 0} {obj : Ghosts O C R} {bound : ℕ} where
       -- Look at record keeps the rule.
-      pub look_at_record_kept : (more : List (ℕ × SlotValue O C R)) → Allows (IsRuled obj) slots id (v, more) (word_of j) (λ n. n) (looks_at_record (step slots (word_of j) 0 0 opt.none) (v, more))
-      look_at_record_kept more = subst (λ (k : ℕ). Allows (IsRuled obj) slots id (v, more) (word_of j) (λ n. n) (looks_at k (v, more))) (sym (session_of_its_word j))
+      pub look_at_record_kept : (more : List (ℕ × SlotValue O C R)) → Allows (IsBounded obj bound) slots id (v, more) (word_of j) (λ n. n) (looks_at_record (step slots (word_of j) 0 0 opt.none) (v, more))
+      look_at_record_kept more = subst (λ (k : ℕ). Allows (IsBounded obj bound) slots id (v, more) (word_of j) (λ n. n) (looks_at k (v, more))) (sym (session_of_its_word j))
           (seated slots id v.number j v more (λ n. n) (looks_at j (v, more)) refl some_number
           (λ s o l me small wide e. look_goes v.number v refl some_number s o l me small has j some_record (omega arith) wide more))
 
       -- Open keeps the rule, for a combiner with no slot in hand.
       pub open_kept : (more : List (ℕ × SlotValue O C R)) → v.combiner.hand ≡ 0
-          → Allows (IsRuled obj) slots id (v, more) (word_of j) (λ n. either (eqb n POSTED) BUSY n) (opens (step slots (word_of j) POSTED BUSY opt.none) (v, more))
-      open_kept more empty = subst (λ (k : ℕ). Allows (IsRuled obj) slots id (v, more) (word_of j) (λ n. either (eqb n POSTED) BUSY n) (opens_record k (v, more))) (sym (session_of_its_word j))
+          → Allows (IsBounded obj bound) slots id (v, more) (word_of j) (λ n. either (eqb n POSTED) BUSY n) (opens (step slots (word_of j) POSTED BUSY opt.none) (v, more))
+      open_kept more empty = subst (λ (k : ℕ). Allows (IsBounded obj bound) slots id (v, more) (word_of j) (λ n. either (eqb n POSTED) BUSY n) (opens_record k (v, more))) (sym (session_of_its_word j))
           (seated slots id v.number j v more (λ n. either (eqb n POSTED) BUSY n) (opens_record j (v, more)) refl some_number
           (λ s o l me small wide e. open_goes v.number v refl some_number s o l me small has j some_record (omega arith) wide more empty))
 
     module _ {O : Type 0} where
       module _ (call : C) (shown : get_elem? v.combiner.opened j ≡ opt.some (Some call)) (more : List (ℕ × SlotValue O C R)) where
-        module _ {obj : Ghosts O C R} where
+        module _ {obj : Ghosts O C R} {bound : ℕ} where
           -- Lay keeps the rule, with record j's slot in hand and empty.
-          pub lay_kept : v.combiner.hand ≡ j → Allows (IsRuled obj) slots id (v, (j, Empty) ∷ more) (word_of j) (λ n. n) (lays (step slots (word_of j) 0 0 opt.none) (v, (j, Empty) ∷ more))
+          pub lay_kept : v.combiner.hand ≡ j → Allows (IsBounded obj bound) slots id (v, (j, Empty) ∷ more) (word_of j) (λ n. n) (lays (step slots (word_of j) 0 0 opt.none) (v, (j, Empty) ∷ more))
           lay_kept held = seated slots id v.number j v ((j, Empty) ∷ more) (λ n. n) (lays (step slots (word_of j) 0 0 opt.none) (v, (j, Empty) ∷ more)) refl some_number
               (λ s o l me small wide e. lay_goes v.number v refl some_number s o l me small has j some_record (omega arith) wide call shown more held)
 
           -- Pick keeps the rule, for a combiner with no slot in hand.
-          pub pick_kept : v.combiner.hand ≡ 0 → Allows (IsRuled obj) slots id (v, more) (word_of j) (λ n. n) (picks (step slots (word_of j) 0 0 opt.none) (v, more))
-          pick_kept empty = subst (λ (k : ℕ). Allows (IsRuled obj) slots id (v, more) (word_of j) (λ n. n) (picks_slot k (v, more))) (sym (session_of_its_word j))
+          pub pick_kept : v.combiner.hand ≡ 0 → Allows (IsBounded obj bound) slots id (v, more) (word_of j) (λ n. n) (picks (step slots (word_of j) 0 0 opt.none) (v, more))
+          pick_kept empty = subst (λ (k : ℕ). Allows (IsBounded obj bound) slots id (v, more) (word_of j) (λ n. n) (picks_slot k (v, more))) (sym (session_of_its_word j))
               (seated slots id v.number j v more (λ n. n) (picks_slot j (v, more)) refl some_number
               (λ s o l me small wide e. pick_goes v.number v refl some_number s o l me small has j some_record (omega arith) wide call shown more empty))
 
           -- Put back keeps the rule, with the call in record j's slot in hand.
           pub put_back_kept : v.combiner.hand ≡ j
-              → Allows (IsRuled obj) slots id (v, (j, PostedCall call) ∷ more) (word_of j) (λ _. POSTED) (λ _. puts_back (step slots (word_of j) POSTED 0 opt.none) (v, (j, PostedCall call) ∷ more) POSTED)
+              → Allows (IsBounded obj bound) slots id (v, (j, PostedCall call) ∷ more) (word_of j) (λ _. POSTED) (λ _. puts_back (step slots (word_of j) POSTED 0 opt.none) (v, (j, PostedCall call) ∷ more) POSTED)
           put_back_kept held = seated slots id v.number j v ((j, PostedCall call) ∷ more) (λ _. POSTED) (λ _. puts_back (step slots (word_of j) POSTED 0 opt.none) (v, (j, PostedCall call) ∷ more) POSTED) refl some_number
               (λ s o l me small wide e. put_back_goes v.number v refl some_number s o l me small has j some_record (omega arith) wide call shown more held)
 
           -- Answer keeps the rule, with a reply in record j's slot in hand that makes the history a longer legal one.
           pub answer_kept : (place : ℕ) (reply : R) → v.combiner.hand ≡ j → place ≡ length v.front → obj.is_legal (v.front ++ entry j call reply ∷ []) → length v.front + 1 < 2 ^ 64
-              → Allows (IsRuled obj) slots id (v, (j, ServedReply place reply) ∷ more) (word_of j) (λ _. SERVED) (λ _. answers obj (step slots (word_of j) SERVED 0 opt.none) (v, (j, ServedReply place reply) ∷ more) SERVED)
+              → Allows (IsBounded obj bound) slots id (v, (j, ServedReply place reply) ∷ more) (word_of j) (λ _. SERVED) (λ _. answers obj (step slots (word_of j) SERVED 0 opt.none) (v, (j, ServedReply place reply) ∷ more) SERVED)
           answer_kept place reply held here legal short =
-              subst (λ (p : ℕ). Allows (IsRuled obj) slots id (v, (j, ServedReply p reply) ∷ more) (word_of j) (λ _. SERVED) (λ _. answers obj (step slots (word_of j) SERVED 0 opt.none) (v, (j, ServedReply p reply) ∷ more) SERVED)) (sym here)
+              subst (λ (p : ℕ). Allows (IsBounded obj bound) slots id (v, (j, ServedReply p reply) ∷ more) (word_of j) (λ _. SERVED) (λ _. answers obj (step slots (word_of j) SERVED 0 opt.none) (v, (j, ServedReply p reply) ∷ more) SERVED)) (sym here)
               (seated slots id v.number j v ((j, ServedReply (length v.front) reply) ∷ more) (λ _. SERVED) (λ _. answers obj (step slots (word_of j) SERVED 0 opt.none) (v, (j, ServedReply (length v.front) reply) ∷ more) SERVED) refl some_number
               (λ s o l me small wide e. answer_goes v.number v refl some_number s o l me small has j some_record (omega arith) wide call shown reply legal short more held))

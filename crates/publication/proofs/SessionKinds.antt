@@ -14,7 +14,7 @@ use Rattle.publication.specs.Words.{word_of, OUT, POSTED, SERVED, CLOSED, EMPTY}
 use Rattle.publication.specs.Views.{Own, entry, answer, asks}
 use Rattle.publication.specs.Rule.{blank, BoardState, word, home, seat, own_at, announced, IsVacant, IsServed, RecordState, IsOrderly}
 use Rattle.publication.specs.Rule.RecordState.{vacant, posted, retired}
-use Rattle.publication.specs.List.{belongs, IsLinked, IsRuled}
+use Rattle.publication.specs.List.{belongs, IsLinked, IsRuled, IsBounded}
 use Rattle.publication.specs.Kinds.{Seated, own, as_session, forget_head, heard_all, started, starts, posting, posts, IsUnanswered, looks_for_reply, taking, Took, takes_reply, retiring, retires, leaving, leaves}
 use Rattle.publication.specs.declared.view.View.{View}
 use Rattle.publication.specs.declared.slot.SlotValue.{SlotValue}
@@ -23,6 +23,7 @@ use Rattle.publication.proofs.Lists.{at_there, at_home, at_taken, IsCut, cut}
 use Rattle.publication.proofs.SeatViews.{session_of, front_of, heard_few, whole_of}
 use Rattle.publication.proofs.Histories.{legal-begins, length-begins, calls-cut, calls-fewer}
 use Rattle.publication.proofs.RecordStates.{vacant_word, at_most_one, is_vacant, is_served, is_waiting, left, leaves_record, lacks, idle_announced, waits_announced}
+use Rattle.publication.proofs.LaidDown.{Fits, valid_of, stays_home}
 use Rattle.publication.proofs.UnchangedList.{links_kept, aside, same_walk}
 use Rattle.publication.proofs.OrderlySession.{IsOwnStep, moved}
 use Rattle.sequential.specs.Meaning.{AreFrontsLegal}
@@ -36,9 +37,9 @@ module _ {O C R : Type 0} {obj : Ghosts O C R} where
       (subst (λ (vs : List (View C R)). IsRuled obj record { words = s.words; homes = s.homes; views = vs }) (sym (set_again s.views id v me)) (record { records = o; list = l }))
 
 module _ {O C R : Type 0} (obj : Ghosts O C R) where
-  -- Seat `id`, in state m, has a step on state word i that keeps the rule, leaves k in the word, and says `then`.
+  -- Seat `id`, in state m, has a step on state word i that keeps the rule, leaves k in the word, lays down no load, and says `then`.
   abbrev pub Goes : BoardState O C R → ℕ → ℕ → Seated O C R → (ℕ → Seated O C R → Type 0) → ℕ → Type 0
-  Goes s i id m then k = (w : View C R) × (a : Act (SlotValue O C R)) × Valid s.homes m.1 a × IsRuled obj (stepped s (word_of i) k id m.1 w a) × then (word s i) (w, carried_after m.1 a)
+  Goes s i id m then k = (w : View C R) × (a : Act (SlotValue O C R)) × Fits s.homes m.1 a × IsRuled obj (stepped s (word_of i) k id m.1 w a) × then (word s i) (w, carried_after m.1 a)
 
 module _ {O C R : Type 0} {obj : Ghosts O C R} where
   -- Session i has seat i.
@@ -50,27 +51,49 @@ module _ {O C R : Type 0} {obj : Ghosts O C R} where
 module _ {O C R : Type 0} (obj : Ghosts O C R) where
   -- Like `Goes`, for the word at index p, which may be a link word.
   abbrev pub GoesAt : BoardState O C R → ℕ → ℕ → Seated O C R → (ℕ → Seated O C R → Type 0) → ℕ → Type 0
-  GoesAt s p id m then k = (w : View C R) × (a : Act (SlotValue O C R)) × Valid s.homes m.1 a × IsRuled obj (stepped s p k id m.1 w a) × then (get_or s.words p 0) (w, carried_after m.1 a)
+  GoesAt s p id m then k = (w : View C R) × (a : Act (SlotValue O C R)) × Fits s.homes m.1 a × IsRuled obj (stepped s p k id m.1 w a) × then (get_or s.words p 0) (w, carried_after m.1 a)
 
-module _ {O C R : Type 0} {obj : Ghosts O C R} where
+module _ {O C R : Type 0} {obj : Ghosts O C R} {bound : ℕ} where
+  -- A step that lays down no load leaves an object at home that was there.
+  bounded : (s : BoardState O C R) (p id : ℕ) (m : Seated O C R) (then : Seated O C R → Type 0) (k : ℕ) → IsBounded obj bound s
+      → (w : View C R) × (a : Act (SlotValue O C R)) × Fits s.homes m.1 a × IsRuled obj (stepped s p k id m.1 w a) × then (w, carried_after m.1 a)
+      → (w : View C R) × (a : Act (SlotValue O C R)) × Valid s.homes m.1 a × IsBounded obj bound (stepped s p k id m.1 w a) × then (w, carried_after m.1 a)
+  bounded s p id m then k b g = (
+    g.0,
+    g.1,
+    valid_of s.homes m.1 g.1 g.2,
+    record { ruled = g.3; within = λ load there. b.within load (stays_home s.homes m.1 g.1 g.2 load there) },
+    g.4,
+  )
+
   -- A step of session i's seat, which is seat i.
   pub seated_at : (slots id i p : ℕ) (v : View C R) (more : List (ℕ × SlotValue O C R)) (f : ℕ → ℕ) (then : ℕ → Seated O C R → Type 0) → v.number ≡ i → 0 < i
       → ((s : BoardState O C R) (o : IsOrderly obj s) (l : IsLinked s) → get_elem? s.views i ≡ opt.some v → i < o.slots → o.slots ≡ slots → GoesAt obj s p i (v, more) then (f (get_or s.words p 0)))
-      → Allows (IsRuled obj) slots id (v, more) p f then
-  seated_at slots id i p v more f then is some_number goes s r wide me _ =
+      → Allows (IsBounded obj bound) slots id (v, more) p f then
+  seated_at slots id i p v more f then is some_number goes s b wide me _ =
+      let r = b.ruled in
       let o = r.records in
       let t = named s o id i v me is some_number in
-      subst (λ (k : ℕ). GoesAt obj s p k (v, more) then (f (get_or s.words p 0))) (sym t.0) (goes s o r.list (subst (λ (k : ℕ). get_elem? s.views k ≡ opt.some v) t.0 me) t.1 (sym o.homes_are ∙ wide))
+      bounded s p id (v, more) (then (get_or s.words p 0)) (f (get_or s.words p 0)) b
+      (subst (λ (k : ℕ). GoesAt obj s p k (v, more) then (f (get_or s.words p 0))) (sym t.0) (goes s o r.list (subst (λ (k : ℕ). get_elem? s.views k ≡ opt.some v) t.0 me) t.1 (sym o.homes_are ∙ wide)))
+
+  -- Like `seated_at`, for the state word of record x, given how many entries the object at home keeps.
+  pub seated_within : (slots id i x : ℕ) (v : View C R) (more : List (ℕ × SlotValue O C R)) (f : ℕ → ℕ) (then : ℕ → Seated O C R → Type 0) → v.number ≡ i → 0 < i
+      → ((s : BoardState O C R) (b : IsBounded obj bound s) → get_elem? s.views i ≡ opt.some v → i < b.ruled.records.slots → length v.combiner.opened ≡ b.ruled.records.slots → b.ruled.records.slots ≡ slots → Goes obj s x i (v, more) then (f (word s x)))
+      → Allows (IsBounded obj bound) slots id (v, more) (word_of x) f then
+  seated_within slots id i x v more f then is some_number goes s b wide me _ =
+      let o = b.ruled.records in
+      let t = named s o id i v me is some_number in
+      bounded s (word_of x) id (v, more) (then (word s x)) (f (word s x)) b
+      (subst (λ (k : ℕ). Goes obj s x k (v, more) then (f (word s x))) (sym t.0) (goes s b (subst (λ (k : ℕ). get_elem? s.views k ≡ opt.some v) t.0 me) t.1 t.2 (sym o.homes_are ∙ wide)))
 
   -- Like `seated_at`, for the state word of record x.
   pub seated : (slots id i x : ℕ) (v : View C R) (more : List (ℕ × SlotValue O C R)) (f : ℕ → ℕ) (then : ℕ → Seated O C R → Type 0) → v.number ≡ i → 0 < i
       → ((s : BoardState O C R) (o : IsOrderly obj s) (l : IsLinked s) → get_elem? s.views i ≡ opt.some v → i < o.slots → length v.combiner.opened ≡ o.slots → o.slots ≡ slots → Goes obj s x i (v, more) then (f (word s x)))
-      → Allows (IsRuled obj) slots id (v, more) (word_of x) f then
-  seated slots id i x v more f then is some_number goes s r wide me _ =
-      let o = r.records in
-      let t = named s o id i v me is some_number in
-      subst (λ (k : ℕ). Goes obj s x k (v, more) then (f (word s x))) (sym t.0) (goes s o r.list (subst (λ (k : ℕ). get_elem? s.views k ≡ opt.some v) t.0 me) t.1 t.2 (sym o.homes_are ∙ wide))
+      → Allows (IsBounded obj bound) slots id (v, more) (word_of x) f then
+  seated slots id i x v more f then is some_number goes = seated_within slots id i x v more f then is some_number (λ s b. goes s b.ruled.records b.ruled.list)
 
+module _ {O C R : Type 0} {obj : Ghosts O C R} where
   module _ (i : ℕ) (v : View C R) (is : v.number ≡ i) (some_number : 0 < i) (s : BoardState O C R) (o : IsOrderly obj s) (l : IsLinked s) (me : get_elem? s.views i ≡ opt.some v) (small : i < o.slots) where
     -- The view names a session.
     pub lives : v.number ≢ 0
@@ -363,37 +386,37 @@ module _ {O C R : Type 0} {obj : Ghosts O C R} where
 module _ {O C R : Type 0} where
   -- What the table demands of each of these steps.
   module _ (slots id i : ℕ) (v : View C R) (more : List (ℕ × SlotValue O C R)) (is : v.number ≡ i) (some_number : 0 < i) where
-    module _ {obj : Ghosts O C R} where
+    module _ {obj : Ghosts O C R} {bound : ℕ} where
       -- Start keeps the rule, for a session that hasn't started.
       pub start_kept : v.own.started ≡ false → v.own.pending ≡ None → v.own.retired ≡ false
-          → Allows (IsRuled obj) slots id (v, more) (word_of i) (λ n. n) (starts (step slots (word_of i) 0 0 opt.none) (v, more))
+          → Allows (IsBounded obj bound) slots id (v, more) (word_of i) (λ n. n) (starts (step slots (word_of i) 0 0 opt.none) (v, more))
       start_kept unstarted none live = seated slots id i i v more (λ n. n) (starts (step slots (word_of i) 0 0 opt.none) (v, more)) is some_number
           (λ s o l me small wide e. start_goes i v is some_number s o l me small more unstarted (is_vacant (stand i v is some_number s o l me small) none live))
 
       -- Post keeps the rule, for a session that may publish.
       pub post_kept : (call : C) → is_some v.own.pending ≡ false → v.own.retired ≡ false
-          → Allows (IsRuled obj) slots id (v, (i, PostedCall call) ∷ more) (word_of i) (λ _. POSTED) (posts obj (step slots (word_of i) POSTED 0 opt.none) (v, (i, PostedCall call) ∷ more))
+          → Allows (IsBounded obj bound) slots id (v, (i, PostedCall call) ∷ more) (word_of i) (λ _. POSTED) (posts obj (step slots (word_of i) POSTED 0 opt.none) (v, (i, PostedCall call) ∷ more))
       post_kept call none live = seated slots id i i v ((i, PostedCall call) ∷ more) (λ _. POSTED) (posts obj (step slots (word_of i) POSTED 0 opt.none) (v, (i, PostedCall call) ∷ more)) is some_number
           (λ s o l me small wide e. post_goes i v is some_number s o l me small call more (is_vacant (stand i v is some_number s o l me small) (lacks v.own.pending none) live))
 
       -- Look for reply keeps the rule.
-      pub look_kept : Allows (IsRuled obj) slots id (v, more) (word_of i) (λ n. n) (looks_for_reply (step slots (word_of i) 0 0 opt.none) (v, more))
+      pub look_kept : Allows (IsBounded obj bound) slots id (v, more) (word_of i) (λ n. n) (looks_for_reply (step slots (word_of i) 0 0 opt.none) (v, more))
       look_kept = seated slots id i i v more (λ n. n) (looks_for_reply (step slots (word_of i) 0 0 opt.none) (v, more)) is some_number
           (λ s o l me small wide e. look_goes i v is some_number s o l me small more)
 
       -- Take keeps the rule.
-      pub take_kept : AreFrontsLegal obj → Allows (IsRuled obj) slots id (v, more) (word_of i) (λ n. either (eqb n SERVED) (cond v.own.listed EMPTY OUT) n) (takes_reply obj (step slots (word_of i) SERVED (cond v.own.listed EMPTY OUT) opt.none) (v, more))
+      pub take_kept : AreFrontsLegal obj → Allows (IsBounded obj bound) slots id (v, more) (word_of i) (λ n. either (eqb n SERVED) (cond v.own.listed EMPTY OUT) n) (takes_reply obj (step slots (word_of i) SERVED (cond v.own.listed EMPTY OUT) opt.none) (v, more))
       take_kept fronts = seated slots id i i v more (λ n. either (eqb n SERVED) (cond v.own.listed EMPTY OUT) n) (takes_reply obj (step slots (word_of i) SERVED (cond v.own.listed EMPTY OUT) opt.none) (v, more)) is some_number
           (λ s o l me small wide e. take_goes i v is some_number s o l me small fronts more)
 
       -- Retire keeps the rule, for a session with no call pending.
       pub retire_kept : is_some v.own.pending ≡ false → v.own.retired ≡ false → v.own.started ≡ true
-          → Allows (IsRuled obj) slots id (v, more) (word_of i) (λ _. CLOSED) (λ _. retires (step slots (word_of i) CLOSED 0 opt.none) (v, more) CLOSED)
+          → Allows (IsBounded obj bound) slots id (v, more) (word_of i) (λ _. CLOSED) (λ _. retires (step slots (word_of i) CLOSED 0 opt.none) (v, more) CLOSED)
       retire_kept none live has_started = seated slots id i i v more (λ _. CLOSED) (λ _. retires (step slots (word_of i) CLOSED 0 opt.none) (v, more) CLOSED) is some_number
           (λ s o l me small wide e. retire_goes i v is some_number s o l me small more has_started (is_vacant (stand i v is some_number s o l me small) (lacks v.own.pending none) live))
 
       -- Leave keeps the rule, for a session with no call pending.
       pub leave_kept : is_some v.own.pending ≡ false
-          → Allows (IsRuled obj) slots id (v, (i, Empty) ∷ more) (word_of i) (λ n. n) (leaves (step slots (word_of i) 0 0 opt.none) (v, (i, Empty) ∷ more))
+          → Allows (IsBounded obj bound) slots id (v, (i, Empty) ∷ more) (word_of i) (λ n. n) (leaves (step slots (word_of i) 0 0 opt.none) (v, (i, Empty) ∷ more))
       leave_kept none = seated slots id i i v ((i, Empty) ∷ more) (λ n. n) (leaves (step slots (word_of i) 0 0 opt.none) (v, (i, Empty) ∷ more)) is some_number
           (λ s o l me small wide e. leave_goes i v is some_number s o l me small more (lacks v.own.pending none))

@@ -13,7 +13,7 @@ use Rattle.publication.specs.Words.{word_of, link_of, FREE, OUT, CLOSED, EMPTY}
 use Rattle.publication.specs.Views.{Listing}
 use Rattle.publication.specs.Rule.{blank, BoardState, word, home, seat, IsOrderly}
 use Rattle.publication.specs.Rule.RecordState.{vacant}
-use Rattle.publication.specs.List.{IsOn, AreApart, head_of, first_of, behind, with_behind, Chain, link, belongs, is_listed, IsUnlinked, IsWalking, IsLinked, IsRuled}
+use Rattle.publication.specs.List.{IsOn, AreApart, head_of, first_of, behind, with_behind, Chain, link, belongs, is_listed, IsUnlinked, IsWalking, IsLinked, IsRuled, IsBounded}
 use Rattle.publication.specs.Kinds.{bypassing, unlinks_behind, unlinks, none_unlinked, marks_out, relinking, relinks}
 use Rattle.publication.specs.declared.view.View.{View}
 use Rattle.publication.specs.declared.slot.SlotValue.{SlotValue}
@@ -387,22 +387,22 @@ module _ {O C R : Type 0} {obj : Ghosts O C R} where
 module _ {O C R : Type 0} where
   -- What the table demands of each of these steps.
   module _ (slots id : ℕ) (v : View C R) (more : List (ℕ × SlotValue O C R)) (is : v.number ≢ 0) (has : v.combiner.has_object ≡ true) where
-    module _ {obj : Ghosts O C R} where
+    module _ {obj : Ghosts O C R} {bound : ℕ} where
       -- Unlink keeps the rule, for a combiner with no unlinked record and b on its route.
       pub unlink_kept : (b w n : ℕ) → v.listing.off ≡ 0 → IsOn b v.listing.route → first_of (behind b v.listing.route) ≡ Some w → n ≡ head_of (behind w v.listing.route)
-          → Allows (IsRuled obj) slots id (v, more) (link_of b) (λ _. n) (λ _. unlinks (step slots (link_of b) n 0 opt.none) (v, more) n)
-      unlink_kept b w n none_off there next read = subst (λ (k : ℕ). Allows (IsRuled obj) slots id (v, more) (link_of b) (λ _. n) (λ _. unlinks_behind k (v, more) n)) (sym (session_of_its_link b))
+          → Allows (IsBounded obj bound) slots id (v, more) (link_of b) (λ _. n) (λ _. unlinks (step slots (link_of b) n 0 opt.none) (v, more) n)
+      unlink_kept b w n none_off there next read = subst (λ (k : ℕ). Allows (IsBounded obj bound) slots id (v, more) (link_of b) (λ _. n) (λ _. unlinks_behind k (v, more) n)) (sym (session_of_its_link b))
           (seated_at slots id v.number (link_of b) v more (λ _. n) (λ _. unlinks_behind b (v, more) n) refl (omega arith)
           (λ s o l me small e. unlink_goes v.number v refl (omega arith) s o l me small has b w n none_off there next read more))
 
       -- Mark out keeps the rule, for the record that the combiner has unlinked.
       pub mark_kept : (w : ℕ) → v.listing.off ≡ w → 0 < w → v.combiner.hand ≡ 0
-          → Allows (IsRuled obj) slots id (v, more) (word_of w) (λ n. either (eqb n EMPTY) OUT n) (marks_out (step slots (word_of w) EMPTY OUT opt.none) (v, more))
+          → Allows (IsBounded obj bound) slots id (v, more) (word_of w) (λ n. either (eqb n EMPTY) OUT n) (marks_out (step slots (word_of w) EMPTY OUT opt.none) (v, more))
       mark_kept w off_is some_off empty = seated_at slots id v.number (word_of w) v more (λ n. either (eqb n EMPTY) OUT n) (marks_out (step slots (word_of w) EMPTY OUT opt.none) (v, more)) refl (omega arith)
           (λ s o l me small e. mark_goes v.number v refl (omega arith) s o l me small has w off_is some_off empty more)
 
       -- Relink keeps the rule, for the record that the combiner has unlinked.
       pub relink_kept : (b w : ℕ) → v.listing.off ≡ w → v.listing.before ≡ b → 0 < w → IsOn b v.listing.route
-          → Allows (IsRuled obj) slots id (v, more) (link_of b) (λ _. w) (λ _. relinks (step slots (link_of b) w 0 opt.none) (v, more) w)
+          → Allows (IsBounded obj bound) slots id (v, more) (link_of b) (λ _. w) (λ _. relinks (step slots (link_of b) w 0 opt.none) (v, more) w)
       relink_kept b w off_is before_is some_off there = seated_at slots id v.number (link_of b) v more (λ _. w) (λ _. relinks (step slots (link_of b) w 0 opt.none) (v, more) w) refl (omega arith)
           (λ s o l me small e. relink_goes v.number v refl (omega arith) s o l me small has b w off_is before_is some_off there more)

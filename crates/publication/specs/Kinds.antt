@@ -250,6 +250,15 @@ module _ {O C R : Type 0} (obj : Ghosts O C R) where
   seizes st m found n = (found ≡ FREE → (load : Box (Load O C R)) × (n ≡ (seizing m.0 (obj.history load.value.object) load.value.pieces.items, (0, ObjectLoad load) ∷ m.1)) × Seized obj m.0 st.slots load.value)
       × (found ≢ FREE → (n ≡ m) × HasOthers st.slots m.0)
 
+module _ {O C R : Type 0} (obj : Ghosts O C R) where
+  -- The object in the slot taken last keeps so many entries at most.
+  abbrev pub CarriesBounded : ℕ → List (ℕ × SlotValue O C R) → Type 0
+  CarriesBounded bound carried = (load : Box (Load O C R)) (more : List (ℕ × SlotValue O C R)) → carried ≡ (0, ObjectLoad load) ∷ more → obj.bound load.value.object ≡ bound
+
+  -- Seize, on a board whose object keeps so many entries at most.
+  abbrev pub seizes_within : ℕ → Kind O C R
+  seizes_within bound st m found n = seizes obj st m found n × (found ≡ FREE → CarriesBounded bound n.1)
+
 module _ {C R : Type 0} where
   -- Release.
 

@@ -1,9 +1,13 @@
 -- The publication list: the records met from the head word by the links up to the end mark, and what holds of the
 -- list between any two atomic steps.
 use Rattle.std.specs.Prelude.{◌≡◌, ◌≢◌, ℕ, ◌<◌, ◌⊎◌, ◌==◌, cond, Bool, true, false, Option, Some, None, List, [], ◌∷◌, ◌++◌, length, drop, slice_index}
+use mathlib.Core.Option as opt
+use Rattle.std.specs.Global.{Box}
 use Rattle.publication.specs.Words.{link_of, END, FREE, OUT, CLOSED, EMPTY}
 use Rattle.publication.specs.Views.{Listing}
-use Rattle.publication.specs.Rule.{BoardState, word, seat, IsOrderly}
+use Rattle.publication.specs.Rule.{BoardState, word, home, seat, IsOrderly}
+use Rattle.publication.specs.declared.slot.Load.{Load}
+use Rattle.publication.specs.declared.slot.SlotValue.TheVariants.{ObjectLoad}
 use Rattle.sequential.specs.declared.object.Sequential.{Ghosts}
 
 -- Record q is on the list.
@@ -109,3 +113,15 @@ module _ {O C R : Type 0} (obj : Ghosts O C R) where
   pub record IsRuled (s : BoardState O C R) : Type 0 where
     pub records : IsOrderly obj s
     pub list : IsLinked s
+
+module _ {O C R : Type 0} (obj : Ghosts O C R) (bound : ℕ) where
+  -- The rule of a board whose object keeps so many entries at most, whenever it is at home.
+  pub record IsBounded (s : BoardState O C R) : Type 0 where
+    pub ruled : IsRuled obj s
+    pub within : (load : Box (Load O C R)) → home s 0 ≡ opt.some (ObjectLoad load) → obj.bound load.value.object ≡ bound
+
+module _ {O : Type 0} (bound : O → ℕ) where
+  -- How many entries the first of these objects keeps at most.
+  abbrev pub bound_of : List O → ℕ
+  bound_of [] = 0
+  bound_of (object ∷ objects) = bound object

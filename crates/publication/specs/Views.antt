@@ -84,10 +84,14 @@ pub record Taken : Type 0 where
   -- while it is the combiner: the pieces that all sessions took before, in order
   pub all : List Piece
 
--- What contracts see of a board: which table it is, and its number of sessions.
+-- What contracts see of a board.
 pub record BoardView : Type 0 where
+  -- which table it is
   pub id : TableId
+  -- its number of sessions
   pub sessions : ℕ
+  -- how many entries of what it has written down its object keeps in memory at most
+  pub bound : ℕ
 
 -- What contracts see of a ticket.
 pub record TicketView (C R : Type 0) : Type 0 where

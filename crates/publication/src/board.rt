@@ -15,7 +15,7 @@ mod combiner;
 mod knowledge;
 
 use crate::closing::{CloseFault, are_settled, close_table, is_each_once};
-use crate::kinds::{BoardRule, Start};
+use crate::kinds::{BoardKey, BoardRule, Start};
 use crate::new_board::{initial_slots, split_all};
 use crate::slot::{Load, SlotValue};
 use crate::steps;
@@ -43,7 +43,7 @@ pub enum Posted {
 #[derive(Drop)]
 pub struct Board<O: Sequential> {
     /// The atomic words, the slots and the rule that they keep.
-    table: Table<SlotValue<O>, View<O::Call, O::Reply>, u16, BoardRule<O>, Global>,
+    table: Table<SlotValue<O>, View<O::Call, O::Reply>, BoardKey<O>, BoardRule<O>, Global>,
     /// The number of sessions.
     sessions: u16,
 }
@@ -55,7 +55,7 @@ impl<O: Sequential> Model for Board<O> {
 
     ghost use Rattle.publication.specs.inner.Inside.{board_view_of, IsSized};
 
-    ghost view = { board_view_of };
+    ghost view = { board_view_of O.bound };
 
     ghost invariant = { IsSized };
 }
@@ -209,11 +209,17 @@ impl<O: Sequential> Board<O> {
     pub fn new(alloc: Global, object: O) -> Result<(Board<O>, Vec<Ticket<O>>), NoMemory>
         requires empty { O.history object ≡ [] }
         ensures sessions { IfOk result (λ made. made.0.sessions ≡ O.sessions object) }
+        ensures bound { IfOk result (λ made. made.0.bound ≡ O.bound object) }
         ensures tickets { IfOk result (λ made. made.1.items ≡ new_tickets made.0.id (O.sessions object) (O.sessions object)) }
     {
         let sessions = object.sessions();
         // shows that an empty history has no cut above 0
         let _served = object.served();
+        let mut key = BoardKey {
+            sessions,
+            object: GhostList::new(),
+        };
+        key.object.push(&object);
         let row = Vec::with_capacity(alloc, usize::from(sessions))?;
         let ages = vec![in alloc; 0u64; usize::from(sessions)]?;
         let load = Load {
@@ -227,7 +233,7 @@ impl<O: Sequential> Board<O> {
         let mut words = vec![in alloc; 0u64; (usize::from(sessions) + 1) * WORDS_APART]?;
         words[HEAD] = END;
         let slots = initial_slots(alloc, load, sessions)?;
-        let (table, mut first) = match Table::new(alloc, words.as_slice(), slots, &sessions) {
+        let (table, mut first) = match Table::new(alloc, words.as_slice(), slots, &key) {
             Ok(made) => made,
             Err(Refused { slots: _ }) => return Err(NoMemory),
         };
@@ -397,6 +403,7 @@ impl<O: Sequential> Board<O> {
         requires ours { closing.table_id ≡ self.id }
         requires all { WereHanded (self.sessions + 1) closing.me.0.others.handed }
         ensures sessions { O.sessions result ≡ self.sessions }
+        ensures bound { O.bound result ≡ self.bound }
         ensures legal { O.is_legal (O.history result) }
         ensures ends { AreEnded (O.history result) closing.me.0.others.handed }
         ensures pieces { TookHanded O.Sequential result closing.me.0.others.handed }
@@ -418,6 +425,7 @@ impl<O: Sequential> Board<O> {
         ensures all { IfOk result (λ _. IsEachOnce self.sessions tickets.items) }
         ensures settled { IfOk result (λ _. All IsSettled tickets.items) }
         ensures sessions { IfOk result (λ object. O.sessions object ≡ self.sessions) }
+        ensures bound { IfOk result (λ object. O.bound object ≡ self.bound) }
         ensures legal { IfOk result (λ object. O.is_legal (O.history object)) }
         ensures accounts { IfOk result (λ object. All (AccountsFor (O.history object)) tickets.items) }
         ensures pieces { IfOk result (λ object. TookPieces O.Sequential object tickets.items) }

@@ -2,11 +2,12 @@
 ghost use Rattle.std.specs.Prelude.{◌≡◌, ◌+◌, ◌<◌, ◌≤◌, ◌↔◌, IsTrue};
 ghost use Rattle.std.specs.List.{list_all};
 ghost use Rattle.sequential.specs.declared.entry.TheConstants.{MAX_SESSIONS};
+ghost use Rattle.publication.specs.List.{bound_of};
 ghost use Rattle.publication.specs.Boards.{IsEachOnce};
 ghost use Rattle.publication.specs.inner.Closing.{is_settled, WereHanded, AreEnded, TookHanded};
 
 use crate::board::Ticket;
-use crate::kinds::BoardRule;
+use crate::kinds::{BoardKey, BoardRule};
 use crate::roll::Roll;
 use crate::slot::{Load, SlotValue};
 use crate::steps::Seat;
@@ -52,13 +53,14 @@ pub(crate) fn are_settled<O: Sequential>(tickets: &[Ticket<O>]) -> bool
 
 /// Ends the table and returns its object. Needs a closing seat into which all sessions' seats were joined.
 pub(crate) fn close_table<O: Sequential>(
-    table: Table<SlotValue<O>, View<O::Call, O::Reply>, u16, BoardRule<O>, Global>,
+    table: Table<SlotValue<O>, View<O::Call, O::Reply>, BoardKey<O>, BoardRule<O>, Global>,
     closing: Seat<O>,
 ) -> O
     requires ours { closing.table_id ≡ table.shared.table_id }
     requires some { 0 < table.shared.table_id.slots }
     requires all { WereHanded table.shared.table_id.slots closing.me.0.others.handed }
     ensures sessions { O.sessions result + 1 ≡ table.shared.table_id.slots }
+    ensures bound { O.bound result ≡ bound_of O.bound table.shared.key.object.items }
     ensures legal { O.is_legal (O.history result) }
     ensures ends { AreEnded (O.history result) closing.me.0.others.handed }
     ensures pieces { TookHanded O.Sequential result closing.me.0.others.handed }

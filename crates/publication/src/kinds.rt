@@ -4,8 +4,18 @@
 use crate::slot::SlotValue;
 use crate::view::View;
 use atomic_table::{Join, Play, Split, TableRule};
+use ghost_list::GhostList;
 use sequential::Sequential;
 use std::marker::{Brand, PhantomData};
+
+/// What is fixed when a board is made.
+#[derive(Drop)]
+pub struct BoardKey<O: Sequential> {
+    /// The number of sessions.
+    pub sessions: u16,
+    /// The object, as it was then. It takes no memory: clauses alone see it.
+    pub object: GhostList<O>,
+}
 
 /// The rule that every step keeps, and what the first seat knows.
 pub struct BoardRule<O: Sequential> {
@@ -13,14 +23,14 @@ pub struct BoardRule<O: Sequential> {
     marker: PhantomData<O>,
 }
 
-impl<O: Sequential> TableRule<SlotValue<O>, View<O::Call, O::Reply>, u16> for BoardRule<O> {
+impl<O: Sequential> TableRule<SlotValue<O>, View<O::Call, O::Reply>, BoardKey<O>> for BoardRule<O> {
     ghost use Rattle.std.specs.Prelude.{◌+◌};
     ghost use Rattle.publication.specs.Rule.{maker};
-    ghost use Rattle.publication.specs.List.{IsRuled};
+    ghost use Rattle.publication.specs.List.{IsBounded, bound_of};
 
-    ghost holds = { λ _. IsRuled O.Sequential };
+    ghost holds = { λ key. IsBounded O.Sequential (bound_of O.bound key.object.items) };
 
-    ghost first = { λ sessions. maker (sessions + 1) 0 };
+    ghost first = { λ key. maker (key.sessions + 1) 0 };
 }
 
 /// The first seat makes one session: the new seat is split off it.
@@ -152,13 +162,29 @@ impl<O: Sequential> Play<SlotValue<O>, View<O::Call, O::Reply>> for LookAtLock {
     ghost then = { looks_at_lock };
 }
 
-/// A session tries to become the combiner.
-pub struct Seize;
+/// How many entries the object of a board keeps at most. It is a ghost value, by which the step that takes the object names
+/// it.
+pub trait Keeping {
+    ghost use Rattle.std.specs.Prelude.{ℕ};
 
-impl<O: Sequential> Play<SlotValue<O>, View<O::Call, O::Reply>> for Seize {
-    ghost use Rattle.publication.specs.Kinds.{seizes};
+    ghost bound: { ℕ };
+}
 
-    ghost then = { seizes O.Sequential };
+/// Stands for any number: whoever makes the step names it.
+impl Keeping for Brand {
+    ghost bound = { 0 };
+}
+
+/// A session tries to become the combiner. No value of this type is made.
+pub struct Seize<K> {
+    /// Uses the type parameter.
+    marker: PhantomData<K>,
+}
+
+impl<O: Sequential, K: Keeping> Play<SlotValue<O>, View<O::Call, O::Reply>> for Seize<K> {
+    ghost use Rattle.publication.specs.Kinds.{seizes_within};
+
+    ghost then = { seizes_within O.Sequential K.bound };
 }
 
 /// The combiner frees the lock word.

@@ -7,14 +7,15 @@ ghost use Rattle.sequential.specs.Histories.{calls_of};
 ghost use Rattle.publication.specs.Views.{IsAccountedIn, entry};
 ghost use Rattle.publication.specs.Pieces.{HasAdded};
 ghost use Rattle.publication.specs.Rule.{IsHome};
-ghost use Rattle.publication.specs.List.{IsOn, AreApart, first_of, behind};
+ghost use Rattle.publication.specs.List.{IsOn, AreApart, first_of, behind, bound_of};
 ghost use Rattle.publication.specs.Kinds.{IsUnanswered, HasOthers, HasAnother, HasEntered, opened_in, call_at, posting, enlisting, losing_head, routing, bypassing, none_unlinked, relinking, IsRoute, MeetsAll, HasTaken, Seized, seizing, releasing, opening, Opened, in_hand, answering, putting_back, entering, copy_of, joined, hearing, comparing, Learned, retiring, gathered};
 ghost use Rattle.publication.specs.inner.Tickets.{IsBoard, IsAt, IsCombiner};
 
 use crate::kinds::{
-    Answer, BoardRule, Compare, DirectEntry, Enlist, Enter, Gather, JoinCopy, Lay, Learn, Leave,
-    Link, LookAtHead, LookAtLock, LookAtRecord, LookForReply, MarkOut, Open, Pick, Post, PutBack,
-    Release, Relink, Retire, Seize, SplitCopy, SplitFront, Take, Unlink, Walk, WalkOn,
+    Answer, BoardKey, BoardRule, Compare, DirectEntry, Enlist, Enter, Gather, JoinCopy, Keeping,
+    Lay, Learn, Leave, Link, LookAtHead, LookAtLock, LookAtRecord, LookForReply, MarkOut, Open,
+    Pick, Post, PutBack, Release, Relink, Retire, Seize, SplitCopy, SplitFront, Take, Unlink, Walk,
+    WalkOn,
 };
 use crate::slot::{Load, SlotValue};
 use crate::view::View;
@@ -29,7 +30,7 @@ pub type Seat<O: Sequential> = atomic_table::Seat<SlotValue<O>, View<O::Call, O:
 pub type Shared<O: Sequential> = atomic_table::Shared<
     SlotValue<O>,
     View<O::Call, O::Reply>,
-    u16,
+    BoardKey<O>,
     BoardRule<O>,
 >;
 
@@ -269,23 +270,25 @@ fn is_free<O: Sequential>(shared: &Shared<O>, seat: &mut Seat<O>) -> bool
 }
 
 /// Tries once to become the combiner, and takes the load. Writes the lock word only after a load found it FREE.
-pub(crate) fn seize_load<O: Sequential>(
+pub(crate) fn seize_load<O: Sequential, K: Keeping>(
     shared: &Shared<O>,
     seat: &mut Seat<O>,
     number: u64,
 ) -> Option<Box<Load<O>>>
+    requires named { K.bound ≡ bound_of O.bound shared.now.key.object.items }
     requires ours { seat.old.table_id ≡ shared.now.table_id }
     requires board { IsBoard shared.now.table_id }
     requires mine { (seat.old.me.0.number ≡ number) × (0 < number) }
     ensures ours { seat.new.table_id ≡ seat.old.table_id }
     ensures some { IfSome result (λ load. (seat.new.me ≡ (seizing seat.old.me.0 (O.history load.value.object) load.value.pieces.items, (0, SlotValue.Empty) ∷ seat.old.me.1))
         × Seized O.Sequential seat.old.me.0 shared.now.table_id.slots load.value) }
+    ensures bound { IfSome result (λ load. O.bound load.value.object ≡ bound_of O.bound shared.now.key.object.items) }
     ensures none { IfNone result ((seat.new.me ≡ seat.old.me) × HasOthers shared.now.table_id.slots seat.old.me.0) }
 {
     if !is_free(shared, seat) {
         return None;
     }
-    let found = shared.compare_exchange::<Seize>(seat, 0, FREE, number);
+    let found = shared.compare_exchange::<Seize<K>>(seat, 0, FREE, number);
     if found != FREE {
         return None;
     }
@@ -306,6 +309,7 @@ pub(crate) fn release_load<O: Sequential>(
     requires mine { (seat.old.me.0.number ≢ 0) × (seat.old.me.0.combiner.has_object ≡ true) }
     requires none { (j : _) → opened_in seat.old.me.0 j ≡ None }
     requires home { IsHome O.Sequential seat.old.me.0.front shared.now.table_id.slots load.value }
+    requires bound { O.bound load.value.object ≡ bound_of O.bound shared.now.key.object.items }
     requires took { HasAdded seat.old.me.0.number seat.old.me.0.pieces.all load.value.pieces.items }
     requires whole { seat.old.me.0.listing.off ≡ 0 }
     requires carried { seat.old.me.1 ≡ (0, SlotValue.Empty) ∷ rest seat.old.me.1 }

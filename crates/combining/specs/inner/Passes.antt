@@ -108,6 +108,7 @@ module _ {O C R : Type 0} (obj : Ghosts O C R) where
     pub none : OpensNone session
     pub number : IsNumber board session.number
     pub home : IsHome obj session.front (board.sessions + 1) load
+    pub bound_is : obj.bound load.object ≡ board.bound
     pub legal : obj.is_legal session.front
 
   -- The combiner in its pass: its row has the calls of the records that it has opened.

@@ -34,6 +34,7 @@ impl<O: Batching> Office<O> {
         requires ours { IsSessionOf self.now session.old }
         ensures ours { IsOf self.now session.new }
         ensures made { IfSome result (λ made. HasMadePass O.Sequential O.tells_from self.now.sessions session.old session.new made.load.value made.pass.served) }
+        ensures bound { IfSome result (λ made. O.bound made.load.value.object ≡ self.now.bound) }
         ensures has { IfSome result (λ made. (session.new.has_object ≡ true) × (session.new.taken ≡ made.load.value.pieces.items)) }
         ensures back { IfSome result (λ _. OpensNone session.new × (session.new.pending ≢ None → session.new.retired ≡ false)) }
         ensures none { IfNone result (IsSessionOf self.now session.new × HasTriedToList session.old session.new × (1 < self.now.sessions)) }
@@ -55,6 +56,7 @@ impl<O: Batching> Office<O> {
         requires ours { IsOf self.now session.old × (session.old.has_object ≡ true) × OpensNone session.old }
         requires live { session.old.pending ≢ None → session.old.retired ≡ false }
         requires home { IsHome O.Sequential session.old.front (self.now.sessions + 1) made.load.value }
+        requires bound { O.bound made.load.value.object ≡ self.now.bound }
         requires taken { session.old.taken ≡ made.load.value.pieces.items }
         ensures ours { IsSessionOf self.now session.new }
         ensures session { session.new ≡ record session.old { has_object = false; route = []; taken = [] } }

@@ -1,19 +1,21 @@
 -- How the private fields of a board, of a ticket and of a knowledge give what contracts see, and the invariants of the
 -- three types.
-use Rattle.std.specs.Prelude.{◌≡◌, ◌+◌, ◌<◌, ◌≤◌, [], length}
+use Rattle.std.specs.Prelude.{◌≡◌, ℕ, ◌+◌, ◌<◌, ◌≤◌, [], length}
 use Rattle.sequential.specs.declared.entry.TheConstants.{MAX_SESSIONS}
 use Rattle.publication.specs.Views.{BoardView, TicketView, KnowledgeView}
 use Rattle.publication.specs.Kinds.{copy_of}
+use Rattle.publication.specs.List.{bound_of}
 use Rattle.publication.specs.inner.Tickets.{IsBoard, IsBetweenCalls}
 use Rattle.publication.specs.declared.board.Board.TheInside.{Inside as BoardInside}
 use Rattle.publication.specs.declared.board.Ticket.TheInside.{Inside as TicketInside}
 use Rattle.publication.specs.declared.board.knowledge.Knowledge.TheInside.{Inside as KnowledgeInside}
 
-module _ {O C R : Type 0} where
+module _ {O C R : Type 0} (bound : O → ℕ) where
   -- What contracts see of the board.
   abbrev pub board_view_of : BoardInside O C R → BoardView
-  board_view_of b = record { id = b.table.shared.table_id; sessions = b.sessions }
+  board_view_of b = record { id = b.table.shared.table_id; sessions = b.sessions; bound = bound_of bound b.table.shared.key.object.items }
 
+module _ {O C R : Type 0} where
   -- The table has a record and a slot for the lock and for each session, of which there are 1 to MAX_SESSIONS.
   pub record IsSized (b : BoardInside O C R) : Type 0 where
     pub board : IsBoard b.table.shared.table_id

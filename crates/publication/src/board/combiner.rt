@@ -28,6 +28,7 @@ impl<O: Sequential> Board<O> {
           taken = load.value.pieces.items;
         }) }
         ensures home { IfSome result (λ load. IsHome O.Sequential (O.history load.value.object) (self.now.sessions + 1) load.value) }
+        ensures bound { IfSome result (λ load. O.bound load.value.object ≡ self.now.bound) }
         ensures legal { IfSome result (λ load. O.is_legal (O.history load.value.object)) }
         ensures short { IfSome result (λ load. length (O.history load.value.object) < 2 ^ 64) }
         ensures longer { IfSome result (λ load. IsPrefix ticket.old.front (O.history load.value.object)) }
@@ -40,7 +41,7 @@ impl<O: Sequential> Board<O> {
         ensures own { ticket.old.pending ≢ None → ticket.old.listed ≡ true → heard_from ticket.old ticket.old.number ≡ published_by ticket.old }
         ensures calls { HasCallsOf ticket.new.front ticket.new }
     {
-        let load = steps::seize_load(
+        let load = steps::seize_load::<O, Brand>(
             &self.table.shared,
             &mut ticket.seat,
             u64::from(ticket.number),
@@ -58,6 +59,7 @@ impl<O: Sequential> Board<O> {
         requires has { ticket.old.has_object ≡ true }
         requires none { OpensNone ticket.old }
         requires home { IsHome O.Sequential ticket.old.front (self.now.sessions + 1) load.value }
+        requires bound { O.bound load.value.object ≡ self.now.bound }
         requires took { HasAdded ticket.old.number ticket.old.taken load.value.pieces.items }
         ensures ticket { ticket.new ≡ record ticket.old {
           has_object = false;

@@ -1,10 +1,11 @@
-use Rattle.std.proofs.Common.{◌≡◌, ◌⊎◌, inl, inr, ⊎_elim, ◌∙◌, ◌<◌, ◌≤◌, ℕ, zero, suc, None, [], refl, sym, ap, subst, arith}
+use Rattle.std.proofs.Common.{◌≡◌, ◌≢◌, ◌⊎◌, inl, inr, ⊎_elim, ◌∙◌, ◌+◌, ◌-◌, ◌%◌, ◌<◌, ◌≤◌, ℕ, zero, suc, None, [], refl, sym, ap, subst, arith}
 use Rattle.publication.specs.Views.{TicketView}
-use Rattle.combining.specs.declared.backoff.TheConstants.{TRIES_AT_ONCE}
+use Rattle.combining.specs.declared.backoff.TheConstants.{TRIES_AT_ONCE, LOOKS_PER_TRY}
 use Rattle.combining.specs.declared.office.Answer.{Answer}
-use Rattle.combining.specs.Calls.{IsCalled, IsCalling, HasGoneOn}
+use Rattle.combining.specs.Calls.{IsCalled, IsCalling, HasGoneOn, HasStarvedCalling}
+use Rattle.combining.specs.Waits.{FitIntoLooks}
 use Rattle.combining.proofs.EndedWaits.{told-on, told-same, told-all}
-use Rattle.combining.proofs.Turns.{calling-pending, calling-on, calling-gone, calling-answered, on-same}
+use Rattle.combining.proofs.Turns.{calling-pending, calling-on, calling-gone, calling-answered, on-same, fit-next, fit-longer}
 use Rattle.combining.proofs.calling.call.Goals as goal
 
 less-or : (i n : ℕ) → (i < n) ⊎ (n ≤ i)
@@ -19,6 +20,19 @@ module _ {C R : Type 0} where
 
   none-pending : (t u : TicketView C R) → u ≡ t → t.pending ≡ None → u.pending ≡ None
   none-pending t u same idle = ap (λ (x : TicketView C R). x.pending) same ∙ idle
+
+  -- A turn more leaves no more tries than fit into a look more. In a first turn the session tries once, and where it publishes its call
+  -- behind `few` turns, twice.
+  tries-after : (made few : ℕ) (t u v : TicketView C R) → 8 ≤ few → (u.pending ≡ None → made < few → v.tries ≤ u.tries + 1) → (u.pending ≡ None → v.tries ≤ u.tries + 2)
+      → (u.pending ≢ None → v.tries ≤ u.tries + 1) → (u.pending ≢ None → made % LOOKS_PER_TRY ≢ 0 → v.tries ≡ u.tries)
+      → FitIntoLooks (u.tries - t.tries) made → ((u ≡ t) × (u.pending ≡ None)) ⊎ (u.pending ≢ None) → FitIntoLooks (v.tries - t.tries) (made + 1)
+  tries-after made few t u v wide at_once published looked between fit is = ⊎_elim
+      (λ still. let same : u.tries ≡ t.tries = ap (λ (x : TicketView C R). x.tries) still.0 in ⊎_elim
+      (λ early. let n = at_once still.1 early in omega (arith, same, n))
+      (λ late. let n = published still.1 in omega (arith, same, n, late, wide))
+      (less-or made few))
+      (λ some. fit-next t.tries u.tries v.tries made fit (looked some) (between some))
+      is
 
 pub returns-in-Answered-clause-answered : goal.returns-in-Answered-clause-answered
 returns-in-Answered-clause-answered g c answer is =
@@ -86,6 +100,8 @@ loop-made-preserved g c =
       ours = e.ours;
       calling = after.0;
       others = λ _. after.1;
+      tries = tries-after c.loop-made.made TRIES_AT_ONCE t u v (omega arith) e.tries_at_once e.tries_published e.tries e.untried i.tries
+          (⊎_elim (λ still. inl (still, none-pending t u still c.requires.idle.0)) (λ calling. inr (calling-pending t u c.args.call calling.0)) i.calling);
       told = told-on n t u v [] (g.T.Told.list c.loop-made.told) (g.T.Told.list c.turn.new.told) (gone n t u c.args.call i.calling).entered e.on.longer e.on.entered i.told e.told;
       room = e.room ∙ i.room;
     }
@@ -112,3 +128,48 @@ returns-clause-told g c =
     let e = c.publish_if_idle.ensures in
     told-all n v.front _ [] (g.T.Told.list c.loop-made.told) refl
     (told-same n t c.loop-made.session v [] (g.T.Told.list c.loop-made.told) e.known.0 e.known.1 c.loop-made.invariant.told)
+
+pub returns-in-Starved-clause-refused : goal.returns-in-Starved-clause-refused
+returns-in-Starved-clause-refused g c _ =
+    let t = c.args.session.now in
+    let u = c.loop-made.session in
+    let v = c.turn.new.session in
+    let e = c.turn.ensures in
+    ⊎_elim
+    (λ still. subst (λ (x : TicketView _ _). HasStarvedCalling g.O.Sequential x v c.args.call) still (e.refused c.in-Starved.is (none-pending t u still c.requires.idle.0)))
+    (λ calling. let found = e.starved_on c.in-Starved.is (calling-pending t u c.args.call calling.0) in inr (u, calling.0, found.0, found.1))
+    c.loop-made.invariant.calling
+
+pub returns-in-Answered-clause-tries : goal.returns-in-Answered-clause-tries
+returns-in-Answered-clause-tries g c =
+    let t = c.args.session.now in
+    let u = c.loop-made.session in
+    let v = c.turn.new.session in
+    let e = c.turn.ensures in
+    let i = c.loop-made.invariant in
+    fit-longer (v.tries - t.tries) (c.loop-made.made + 1) (c.args.turns + 1) (omega (arith, c.loop-made-test.true))
+    (tries-after c.loop-made.made TRIES_AT_ONCE t u v (omega arith) e.tries_at_once e.tries_published e.tries e.untried i.tries
+    (⊎_elim (λ still. inl (still, none-pending t u still c.requires.idle.0)) (λ calling. inr (calling-pending t u c.args.call calling.0)) i.calling))
+
+pub returns-in-Starved-clause-tries : goal.returns-in-Starved-clause-tries
+returns-in-Starved-clause-tries g c =
+    let t = c.args.session.now in
+    let u = c.loop-made.session in
+    let v = c.turn.new.session in
+    let e = c.turn.ensures in
+    let i = c.loop-made.invariant in
+    fit-longer (v.tries - t.tries) (c.loop-made.made + 1) (c.args.turns + 1) (omega (arith, c.loop-made-test.true))
+    (tries-after c.loop-made.made TRIES_AT_ONCE t u v (omega arith) e.tries_at_once e.tries_published e.tries e.untried i.tries
+    (⊎_elim (λ still. inl (still, none-pending t u still c.requires.idle.0)) (λ calling. inr (calling-pending t u c.args.call calling.0)) i.calling))
+
+pub returns-clause-tries : goal.returns-clause-tries
+returns-clause-tries g c =
+    let t = c.args.session.now in
+    let u = c.loop-made.session in
+    let v = c.publish_if_idle.new.session in
+    let e = c.publish_if_idle.ensures in
+    let i = c.loop-made.invariant in
+    ⊎_elim
+    (λ still. let same : u.tries ≡ t.tries = ap (λ (x : TicketView _ _). x.tries) still in let n = e.tries in omega (arith, same, n))
+    (λ calling. subst (λ (x : TicketView _ _). FitIntoLooks (x.tries - t.tries) (c.args.turns + 1)) (sym (e.same (calling-pending t u c.args.call calling.0))) (fit-longer (u.tries - t.tries) c.loop-made.made (c.args.turns + 1) (omega arith) i.tries))
+    i.calling

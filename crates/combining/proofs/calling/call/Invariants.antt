@@ -1,7 +1,8 @@
-use Rattle.std.proofs.Common.{◌≡◌, ◌⊎◌, ◌<◌, []}
+use Rattle.std.proofs.Common.{◌≡◌, ◌⊎◌, ◌<◌, ◌-◌, []}
 use Rattle.combining.specs.Sessions.{IsSessionOf}
 use Rattle.combining.specs.Calls.{IsCalling}
 use Rattle.combining.specs.Ended.{HasAddedTold, entered_since}
+use Rattle.combining.specs.Waits.{FitIntoLooks}
 use Rattle.combining.proofs.calling.call.Given as goal
 
 -- The call isn't made yet, or published and pending; the session has lost a try for the object if it made a turn. Those are told whose
@@ -11,6 +12,7 @@ invariant-loop-made g l = record {
   ours : IsSessionOf l.office l.session;
   calling : (l.session ≡ l.initial.session) ⊎ (IsCalling l.initial.session l.session l.asked × (1 < l.office.sessions));
   others : 0 < l.made → 1 < l.office.sessions;
+  tries : FitIntoLooks (l.session.tries - l.initial.session.tries) l.made;
   told : HasAddedTold g.T.Told.ends l.office.sessions l.session.front (entered_since l.initial.session l.session) [] (g.T.Told.list l.told);
   room : g.T.Told.room l.told ≡ g.T.Told.room l.initial.told;
 }

@@ -1,7 +1,7 @@
-use Rattle.std.proofs.Common.{inr, refl}
+use Rattle.std.proofs.Common.{inr, refl, arith}
 use Rattle.publication.specs.Boards.{publishing}
 use Rattle.combining.proofs.EndedWaits.{told-on, told-self}
-use Rattle.combining.proofs.Turns.{on-same, on-trans, posted-cases, posted-waits, posted-same, published, published-called, waiting-trans}
+use Rattle.combining.proofs.Turns.{on-same, on-trans, posted-cases, posted-waits, posted-same, published, published-called, waiting-trans, tries-posted}
 use Rattle.combining.proofs.calling.publish_and_look.Goals as goal
 
 pub returns-clause-answered : goal.returns-clause-answered
@@ -51,3 +51,17 @@ returns-clause-told g c =
     let first = on-same t u same.0 same.1 in
     told-on n t u v (g.T.Told.list c.args.told.now) (g.T.Told.list c.args.told.now) (g.T.Told.list c.look.new.told) first.entered e.on.longer e.on.entered
     (told-self n t u (g.T.Told.list c.args.told.now) same.1) e.told
+
+pub returns-clause-refused : goal.returns-clause-refused
+returns-clause-refused g c is =
+    let t = c.args.session.now in
+    let u = c.publish-posted.new.session in
+    let p = c.publish-posted.ensures in
+    let found = c.look.ensures.starved is in
+    inr (u, published {obj = g.O.Sequential} t t u c.args.call (inr refl) (posted-waits t u c.args.call (posted-cases c.publish-posted.result p.listed p.unlisted)), found.0, found.1)
+
+pub returns-clause-tries : goal.returns-clause-tries
+returns-clause-tries g c =
+    let p = c.publish-posted.ensures in
+    let n = tries-posted c.args.session.now c.publish-posted.new.session c.args.call (posted-cases c.publish-posted.result p.listed p.unlisted) in
+    omega (arith, n, c.look.ensures.tries)

@@ -1,9 +1,9 @@
-use Rattle.std.proofs.Common.{◌∙◌, ◌%◌, ℕ, [], refl, ap, arith}
+use Rattle.std.proofs.Common.{◌∙◌, ◌+◌, ◌-◌, ◌%◌, ℕ, [], refl, ap, arith}
 use mathlib.Core.Logic.{dite}
 use native.Mathlib.Decide.{ℕ_discrete}
 use Rattle.combining.specs.declared.backoff.TheConstants.{LOOKS_PER_TRY}
 use Rattle.combining.proofs.EndedWaits.{told-on, told-all}
-use Rattle.combining.proofs.Turns.{waiting-trans}
+use Rattle.combining.proofs.Turns.{waiting-trans, fit-next, fit-longer}
 use Rattle.combining.proofs.calling.resume.Goals as goal
 
 pub returns-in-Answered-clause-told : goal.returns-in-Answered-clause-told
@@ -34,9 +34,26 @@ loop-looked-preserved g c =
       ours = e.ours;
       waits = waiting-trans t u v i.waits (e.waits c.in-Wait.next c.in-Wait.is);
       others = λ _. dite (ℕ_discrete c.loop-looked.looked 0) (λ none. e.others c.in-Wait.next c.in-Wait.is (ap (λ (k : ℕ). k % LOOKS_PER_TRY) none)) (λ some. i.others (omega (arith, some)));
+      tries = fit-next t.tries u.tries v.tries c.loop-looked.looked i.tries e.tries e.untried;
       told = told-on n t u v [] (g.T.Told.list c.loop-looked.told) (g.T.Told.list c.look.new.told) i.waits.entered e.on.longer e.on.entered i.told e.told;
       room = e.room ∙ i.room;
     }
 
 pub returns-clause-told : goal.returns-clause-told
 returns-clause-told g c = told-all c.args.office.now.sessions c.loop-looked.session.front _ [] (g.T.Told.list c.loop-looked.told) refl c.loop-looked.invariant.told
+
+pub returns-in-Answered-clause-tries : goal.returns-in-Answered-clause-tries
+returns-in-Answered-clause-tries g c =
+    let t = c.args.session.now in
+    let u = c.loop-looked.session in
+    let v = c.look.new.session in
+    let e = c.look.ensures in
+    fit-longer (v.tries - t.tries) (c.loop-looked.looked + 1) c.args.turns (omega (arith, c.loop-looked-test.true)) (fit-next t.tries u.tries v.tries c.loop-looked.looked c.loop-looked.invariant.tries e.tries e.untried)
+
+pub returns-in-Starved-clause-tries : goal.returns-in-Starved-clause-tries
+returns-in-Starved-clause-tries g c =
+    let t = c.args.session.now in
+    let u = c.loop-looked.session in
+    let v = c.look.new.session in
+    let e = c.look.ensures in
+    fit-longer (v.tries - t.tries) (c.loop-looked.looked + 1) c.args.turns (omega (arith, c.loop-looked-test.true)) (fit-next t.tries u.tries v.tries c.loop-looked.looked c.loop-looked.invariant.tries e.tries e.untried)

@@ -1,7 +1,8 @@
-use Rattle.std.proofs.Common.{◌≡◌, ◌<◌, []}
+use Rattle.std.proofs.Common.{◌≡◌, ◌<◌, ◌-◌, []}
 use Rattle.combining.specs.Sessions.{IsSessionOf}
 use Rattle.combining.specs.Calls.{IsWaitingOn}
 use Rattle.combining.specs.Ended.{HasAddedTold, entered_since}
+use Rattle.combining.specs.Waits.{FitIntoLooks}
 use Rattle.combining.proofs.calling.resume.Given as goal
 
 -- The session goes on waiting, and has lost a try for the object if it made a look. Those are told whose waits its passes have ended.
@@ -10,6 +11,7 @@ invariant-loop-looked g l = record {
   ours : IsSessionOf l.office l.session;
   waits : IsWaitingOn l.initial.session l.session;
   others : 0 < l.looked → 1 < l.office.sessions;
+  tries : FitIntoLooks (l.session.tries - l.initial.session.tries) l.looked;
   told : HasAddedTold g.T.Told.ends l.office.sessions l.session.front (entered_since l.initial.session l.session) [] (g.T.Told.list l.told);
   room : g.T.Told.room l.told ≡ g.T.Told.room l.initial.told;
 }

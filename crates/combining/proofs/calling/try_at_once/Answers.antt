@@ -1,8 +1,9 @@
-use Rattle.std.proofs.Common.{◌≡◌, inl, refl, subst}
+use Rattle.std.proofs.Common.{◌≡◌, inl, inr, refl, ap, subst, arith}
+use Rattle.publication.specs.Views.{TicketView}
 use Rattle.combining.specs.declared.office.Answer.{Answer}
 use Rattle.combining.specs.Calls.{IsCalled}
 use Rattle.combining.proofs.EndedWaits.{told-same}
-use Rattle.combining.proofs.Turns.{performed-called, called-on, refused-on, on-same, on-trans, posted-cases, posted-waits, posted-same, published}
+use Rattle.combining.proofs.Turns.{performed-called, called-on, refused-on, on-same, on-trans, posted-cases, posted-waits, posted-same, published, tries-posted}
 use Rattle.combining.proofs.calling.try_at_once.Goals as goal
 
 pub returns-in-Answered-clause-answered : goal.returns-in-Answered-clause-answered
@@ -46,3 +47,29 @@ returns-in-Starved-clause-on g c =
     let p = c.publish-posted.ensures in
     let same = posted-same u v c.args.call.now (posted-cases c.publish-posted.result p.listed p.unlisted) in
     on-trans t u v (refused-on t u (c.perform_adding.ensures.refused c.in-Starved.is)) (on-same u v same.0 same.1)
+
+pub returns-in-Starved-clause-refused : goal.returns-in-Starved-clause-refused
+returns-in-Starved-clause-refused g c _ =
+    let u = c.perform_adding.new.session in
+    let v = c.publish-posted.new.session in
+    let p = c.publish-posted.ensures in
+    inl (
+      u,
+      c.perform_adding.ensures.refused c.in-Starved.is,
+      published {obj = g.O.Sequential} u u v c.args.call.now (inr refl) (posted-waits u v c.args.call.now (posted-cases c.publish-posted.result p.listed p.unlisted)),
+    )
+
+pub returns-in-Answered-clause-tries : goal.returns-in-Answered-clause-tries
+returns-in-Answered-clause-tries g c =
+    let a = c.in-Answered.answer in
+    let n = ap (λ (x : TicketView _ _). x.tries) (c.in-Answered.ensures.answered a c.in-Answered.served c.in-Answered.starved refl).session in
+    omega (arith, n)
+
+pub returns-in-Starved-clause-tries : goal.returns-in-Starved-clause-tries
+returns-in-Starved-clause-tries g c =
+    let u = c.perform_adding.new.session in
+    let v = c.publish-posted.new.session in
+    let p = c.publish-posted.ensures in
+    let n = ap (λ (x : TicketView _ _). x.tries) (c.perform_adding.ensures.refused c.in-Starved.is).session in
+    let m = tries-posted u v c.args.call.now (posted-cases c.publish-posted.result p.listed p.unlisted) in
+    omega (arith, n, m)

@@ -39,5 +39,6 @@ returns-clause-work g c =
         pieces = rw (none.pieces, none.cut) c.requires.work.home.pieces;
         in_a_row = rw (none.pieces, none.cut, none.bound) c.requires.work.home.in_a_row;
       };
+      bound_is = none.bound ∙ c.requires.work.bound_is;
       legal = search rules;
     }

@@ -1,7 +1,7 @@
-use Rattle.std.proofs.Common.{◌≡◌, ◌<◌, ◌∙◌, ℕ, List, get_or, inl, refl, ap, subst, arith}
+use Rattle.std.proofs.Common.{◌≡◌, ◌<◌, ◌∙◌, ℕ, List, get_or, inl, inr, refl, ap, subst, arith}
 use Rattle.publication.specs.Views.{TicketView}
 use Rattle.combining.specs.declared.office.rows.Row.{Row}
-use Rattle.combining.specs.Calls.{IsCalling}
+use Rattle.combining.specs.Calls.{IsCalling, HasStarvedCalling}
 use Rattle.combining.specs.Rows.{IsRowPerformed}
 use Rattle.combining.proofs.RowTurns.{row-on, row-refused}
 use Rattle.combining.proofs.Turns.{on-same, on-trans, refused-on, posted-cases, posted-same, posted-waits, published}
@@ -33,6 +33,22 @@ returns-else-row-gt0-clause-starved g c call rest _ is =
     subst (λ (x : _). IsCalling t v x) same
     (published t u v first (inl (row-refused t u c.args.calls.now made c.in-Performed.served (omega arith) (c.in-Performed.ensures.performed made c.in-Performed.served c.in-Performed.starved refl)))
     (posted-waits u v first (posted-cases c.publish-posted.result p.listed p.unlisted)))
+
+pub returns-else-row-gt0-clause-refused : goal.returns-else-row-gt0-clause-refused
+returns-else-row-gt0-clause-refused g c call rest _ is =
+    let t = c.args.session.now in
+    let u = c.perform_row_adding.new.session in
+    let v = c.publish-posted.new.session in
+    let p = c.publish-posted.ensures in
+    let made = c.in-Performed.row in
+    let first = c.index-calls-0.result in
+    let same : first ≡ call = c.index-calls-0.is ∙ ap (λ (l : List _). get_or l 0 first) is in
+    subst (λ (x : _). HasStarvedCalling g.O.Sequential t v x) same
+    (inl (
+      u,
+      row-refused t u c.args.calls.now made c.in-Performed.served (omega arith) (c.in-Performed.ensures.performed made c.in-Performed.served c.in-Performed.starved refl),
+      published {obj = g.O.Sequential} u u v first (inr refl) (posted-waits u v first (posted-cases c.publish-posted.result p.listed p.unlisted)),
+    ))
 
 pub returns-else-row-gt0-clause-on : goal.returns-else-row-gt0-clause-on
 returns-else-row-gt0-clause-on g c =

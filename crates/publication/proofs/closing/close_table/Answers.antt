@@ -36,7 +36,15 @@ returns-clause-sessions g c =
     let xs : List (SlotValue _ _ _) = slots_items closed.result.slots in
     let long : length xs ≡ c.args.table.shared.table_id.slots = search rules in
     (last_load _ xs c.args.closing.id c.args.table.shared.table_id.slots c.args.closing.me.0 closed.ensures.values.2 long c.requires.all
-    c.take-held.result c.take-held.ensures.value c.in-ObjectLoad.load c.in-ObjectLoad.is c.into_inner-object.result c.into_inner-object.ensures).home.sessions
+    c.take-held.result c.take-held.ensures.value c.in-ObjectLoad.load c.in-ObjectLoad.is c.into_inner-object.result c.into_inner-object.ensures).last.home.sessions
+
+pub returns-clause-bound : goal.returns-clause-bound
+returns-clause-bound g c =
+    let closed = c.close_with-closed in
+    let xs : List (SlotValue _ _ _) = slots_items closed.result.slots in
+    let long : length xs ≡ c.args.table.shared.table_id.slots = search rules in
+    (last_load _ xs c.args.closing.id c.args.table.shared.table_id.slots c.args.closing.me.0 closed.ensures.values.2 long c.requires.all
+    c.take-held.result c.take-held.ensures.value c.in-ObjectLoad.load c.in-ObjectLoad.is c.into_inner-object.result c.into_inner-object.ensures).within
 
 pub returns-clause-legal : goal.returns-clause-legal
 returns-clause-legal g c =
@@ -44,7 +52,7 @@ returns-clause-legal g c =
     let xs : List (SlotValue _ _ _) = slots_items closed.result.slots in
     let long : length xs ≡ c.args.table.shared.table_id.slots = search rules in
     (last_load _ xs c.args.closing.id c.args.table.shared.table_id.slots c.args.closing.me.0 closed.ensures.values.2 long c.requires.all
-    c.take-held.result c.take-held.ensures.value c.in-ObjectLoad.load c.in-ObjectLoad.is c.into_inner-object.result c.into_inner-object.ensures).legal
+    c.take-held.result c.take-held.ensures.value c.in-ObjectLoad.load c.in-ObjectLoad.is c.into_inner-object.result c.into_inner-object.ensures).last.legal
 
 pub returns-clause-ends : goal.returns-clause-ends
 returns-clause-ends g c =
@@ -52,7 +60,7 @@ returns-clause-ends g c =
     let xs : List (SlotValue _ _ _) = slots_items closed.result.slots in
     let long : length xs ≡ c.args.table.shared.table_id.slots = search rules in
     (last_load _ xs c.args.closing.id c.args.table.shared.table_id.slots c.args.closing.me.0 closed.ensures.values.2 long c.requires.all
-    c.take-held.result c.take-held.ensures.value c.in-ObjectLoad.load c.in-ObjectLoad.is c.into_inner-object.result c.into_inner-object.ensures).ends
+    c.take-held.result c.take-held.ensures.value c.in-ObjectLoad.load c.in-ObjectLoad.is c.into_inner-object.result c.into_inner-object.ensures).last.ends
 
 pub returns-clause-pieces : goal.returns-clause-pieces
 returns-clause-pieces g c =
@@ -61,8 +69,8 @@ returns-clause-pieces g c =
     let slots = c.args.table.shared.table_id.slots in
     let long : length xs ≡ slots = search rules in
     let load = c.into_inner-object.result in
-    let last = last_load _ xs c.args.closing.id slots c.args.closing.me.0 closed.ensures.values.2 long c.requires.all
-    c.take-held.result c.take-held.ensures.value c.in-ObjectLoad.load c.in-ObjectLoad.is load c.into_inner-object.ensures in
+    let last = (last_load _ xs c.args.closing.id slots c.args.closing.me.0 closed.ensures.values.2 long c.requires.all
+    c.take-held.result c.take-held.ensures.value c.in-ObjectLoad.load c.in-ObjectLoad.is load c.into_inner-object.ensures).last in
     record {
       all = load.pieces.items;
       within = λ k d few. let w = last.within k d few in (omega (arith, w.0), omega (arith, w.1, last.home.sessions));

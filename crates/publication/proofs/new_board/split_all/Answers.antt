@@ -2,12 +2,13 @@ use Rattle.std.proofs.Common.{rules, ◌≡◌, ◌∷◌, ◌++◌, ◌∙◌, 
 use Rattle.atomic_table.specs.Table.{Splits}
 use Rattle.atomic_table.specs.declared.shared.Seat.{Seat}
 use Rattle.publication.specs.Rule.{maker, new_session}
-use Rattle.publication.specs.List.{IsRuled}
+use Rattle.publication.specs.List.{IsBounded, bound_of}
 use Rattle.publication.specs.Kinds.{Seated}
 use Rattle.publication.specs.inner.Tickets.{AreNewSeats}
 use Rattle.publication.specs.declared.view.View.{View}
 use Rattle.publication.specs.declared.slot.SlotValue.{SlotValue}
 use Rattle.publication.proofs.NewBoards.{enrols}
+use Rattle.publication.proofs.LaidDown.{splits_bounded}
 use Rattle.publication.proofs.Gathering.{each_pushed}
 use Rattle.publication.proofs.new_board.split_all.Goals as goal
 
@@ -15,7 +16,7 @@ pub split_seat-requires : goal.split_seat-requires
 split_seat-requires g c = let first = c.loop-made.first in let i = c.loop-made.invariant in let n = c.args.sessions in (
   search rules,
   search rules,
-  subst (λ (v : View _ _). Splits (IsRuled g.O.Sequential) first.id v (maker v.slots (v.made + 1)) (new_session v.slots (v.made + 1))) (sym (ap (λ (m : Seated _ _ _). m.0) i.2)) (enrols first.id (n + 1) c.loop-made._made i.1 (omega (arith, c.loop-made-test.true))),
+  subst (λ (v : View _ _). Splits (IsBounded g.O.Sequential (bound_of g.O.Sequential.bound c.args.shared.now.key.object.items)) first.id v (maker v.slots (v.made + 1)) (new_session v.slots (v.made + 1))) (sym (ap (λ (m : Seated _ _ _). m.0) i.2)) (splits_bounded (enrols first.id (n + 1) c.loop-made._made i.1 (omega (arith, c.loop-made-test.true)))),
 )
 
 pub loop-made-preserved : goal.loop-made-preserved

@@ -2,7 +2,7 @@ use Rattle.std.proofs.Common.{rules, ◌∙◌, refl, sym, ap, subst, arith}
 use mathlib.Core.Option as opt
 use Rattle.atomic_table.specs.Table.{Allows, step, rest}
 use Rattle.publication.specs.Words.{word_of, SERVED}
-use Rattle.publication.specs.List.{IsRuled}
+use Rattle.publication.specs.List.{IsBounded, bound_of}
 use Rattle.publication.specs.Kinds.{Seated, answers, call_at, replied, in_hand, answering}
 use Rattle.publication.specs.declared.slot.SlotValue.{SlotValue}
 use Rattle.publication.specs.declared.slot.SlotValue.TheVariants.{ServedReply}
@@ -29,7 +29,7 @@ store-requires g c =
     let after = in_hand_with at m c.load.new.seat.me c.exchange.new.seat.me held c.load.ensures.2 c.exchange.ensures.3 in (
       search rules,
       search rules,
-      subst (λ (x : Seated _ _ _). Allows (IsRuled g.O.Sequential) slots id x (word_of at) (λ _. SERVED) (λ _. answers g.O.Sequential (step slots (word_of at) SERVED 0 opt.none) x SERVED)) (sym after)
+      subst (λ (x : Seated _ _ _). Allows (IsBounded g.O.Sequential (bound_of g.O.Sequential.bound c.args.shared.now.key.object.items)) slots id x (word_of at) (λ _. SERVED) (λ _. answers g.O.Sequential (step slots (word_of at) SERVED 0 opt.none) x SERVED)) (sym after)
           (answer_kept slots id (in_hand m.0 at) c.requires.mine.session refl at c.requires.at.some c.requires.at.there (call_at g.O.Sequential m.0 at) there m.1 c.args.place c.args.reply refl
           c.requires.place.0 c.requires.legal (omega (arith, c.requires.place.0, c.requires.place.1))),
     )

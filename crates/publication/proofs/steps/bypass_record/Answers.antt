@@ -2,7 +2,7 @@ use Rattle.std.proofs.Common.{rules, ◌≡◌, ◌∷◌, ◌∙◌, ℕ, List,
 use mathlib.Core.Option as opt
 use Rattle.atomic_table.specs.Table.{Allows, step}
 use Rattle.publication.specs.Words.{link_of}
-use Rattle.publication.specs.List.{IsOn, IsRuled}
+use Rattle.publication.specs.List.{IsOn, IsBounded, bound_of}
 use Rattle.publication.specs.Kinds.{Seated, walks_on_from, unlinks, bypassing}
 use Rattle.publication.proofs.Chains.{on_right, splits}
 use Rattle.publication.proofs.ListKinds.{walk_on_kept, session_of_its_link}
@@ -30,7 +30,7 @@ store-requires g c =
     let t = subst (λ (k : ℕ). walks_on_from n k m next c.load-next.new.seat.me) (session_of_its_link whose) c.load-next.ensures.2 in (
       search rules,
       search rules,
-      subst (λ (x : Seated _ _ _). Allows (IsRuled g.O.Sequential) n id x (link_of before) (λ _. next) (λ _. unlinks (step n (link_of before) next 0 opt.none) x next)) (sym t.0)
+      subst (λ (x : Seated _ _ _). Allows (IsBounded g.O.Sequential (bound_of g.O.Sequential.bound c.args.shared.now.key.object.items)) n id x (link_of before) (λ _. next) (λ _. unlinks (step n (link_of before) next 0 opt.none) x next)) (sym t.0)
           (unlink_kept n id m.0 m.1 mine.session mine.object before whose next c.requires.mine.1 c.requires.before.1 c.requires.whose.1 t.1),
     )
 

@@ -3,7 +3,7 @@ use mathlib.Core.Option as opt
 use prog.Atomic.{either}
 use Rattle.atomic_table.specs.Table.{Allows, step, rest}
 use Rattle.publication.specs.Words.{word_of, OUT, SERVED, EMPTY}
-use Rattle.publication.specs.List.{IsRuled}
+use Rattle.publication.specs.List.{IsBounded, bound_of}
 use Rattle.publication.specs.Kinds.{Seated, takes_reply, taking}
 use Rattle.publication.specs.declared.slot.SlotValue.{SlotValue}
 use Rattle.publication.specs.declared.slot.SlotValue.TheVariants.{ServedReply}
@@ -20,7 +20,7 @@ compare_exchange-found-requires g c =
     let at = c.args.at in (
       search rules,
       search rules,
-      subst (λ (w : ℕ). Allows (IsRuled g.O.Sequential) slots seat.id seat.me (word_of at) (λ n. either (eqb n SERVED) w n) (takes_reply g.O.Sequential (step slots (word_of at) SERVED w opt.none) seat.me)) left
+      subst (λ (w : ℕ). Allows (IsBounded g.O.Sequential (bound_of g.O.Sequential.bound c.args.shared.now.key.object.items)) slots seat.id seat.me (word_of at) (λ n. either (eqb n SERVED) w n) (takes_reply g.O.Sequential (step slots (word_of at) SERVED w opt.none) seat.me)) left
           (take_kept slots seat.id at seat.me.0 seat.me.1 mine c.requires.at.some g.met.O.Sequential.fronts),
     )
 

@@ -3,11 +3,12 @@ use Rattle.atomic_table.specs.Table.{Joins}
 use Rattle.sequential.specs.declared.entry.Entry.{Entry}
 use Rattle.publication.specs.Views.{IsAccountedIn}
 use Rattle.publication.specs.Rule.{blank}
-use Rattle.publication.specs.List.{IsRuled}
+use Rattle.publication.specs.List.{IsBounded, bound_of}
 use Rattle.publication.specs.Kinds.{Seated, as_hearer, front_copy_of, joined, longer, comparing}
 use Rattle.publication.specs.declared.view.View.{View}
 use Rattle.publication.specs.declared.slot.SlotValue.{SlotValue}
 use Rattle.publication.proofs.LongerFronts.{maxes-none, longer-is}
+use Rattle.publication.proofs.LaidDown.{splits_bounded, joins_bounded}
 use Rattle.publication.proofs.SplitsAndJoins.{splits_front, joins_copy}
 use Rattle.publication.proofs.Learning.{compare_kept}
 use Rattle.publication.proofs.steps.compare_fronts.Goals as goal
@@ -18,7 +19,7 @@ module _ {C R : Type 0} where
   notes v w = ap (λ (hs : List ℕ). as_hearer v v.front hs (record { all_made = v.others.all_made || true; beside = w.front; handed = v.others.handed })) (maxes-none v.heard)
 
 pub split_seat-copy-requires : goal.split_seat-copy-requires
-split_seat-copy-requires g c = (search rules, search rules, splits_front c.args.other.now.id c.args.other.now.me.0 c.requires.made)
+split_seat-copy-requires g c = (search rules, search rules, splits_bounded (splits_front c.args.other.now.id c.args.other.now.me.0 c.requires.made))
 
 pub join_seat-requires : goal.join_seat-requires
 join_seat-requires g c = let v = c.args.seat.now.me.0 in let w = c.args.other.now.me.0 in let copy = c.split_seat-copy.result in let me : copy.me ≡ (front_copy_of w, []) = search rules in (
@@ -26,7 +27,7 @@ join_seat-requires g c = let v = c.args.seat.now.me.0 in let w = c.args.other.no
   search rules,
   ap (λ (m : Seated _ _ _). m.1) me,
   search rules,
-  subst (λ (m : Seated _ _ _). Joins (IsRuled g.O.Sequential) c.args.seat.now.id v copy.id m.0 (joined v m.0) blank) (sym me) (joins_copy c.args.seat.now.id v copy.id (front_copy_of w) refl refl refl (refl, refl)),
+  subst (λ (m : Seated _ _ _). Joins (IsBounded g.O.Sequential (bound_of g.O.Sequential.bound c.args.shared.now.key.object.items)) c.args.seat.now.id v copy.id m.0 (joined v m.0) blank) (sym me) (joins_bounded (joins_copy c.args.seat.now.id v copy.id (front_copy_of w) refl refl refl (refl, refl))),
 )
 
 pub load-requires : goal.load-requires

@@ -1,7 +1,7 @@
 use Rattle.std.proofs.Common.{rules, Option, Some, sym, arith, subst}
 use mathlib.Core.Option as opt
 use Rattle.atomic_table.specs.Table.{Allows, step}
-use Rattle.publication.specs.List.{IsRuled}
+use Rattle.publication.specs.List.{IsBounded, bound_of}
 use Rattle.publication.specs.Kinds.{enters_named}
 use Rattle.publication.proofs.DirectEntries.{enter_kept}
 use Rattle.publication.proofs.RecordStates.{lacks}
@@ -16,6 +16,6 @@ load-requires g c =
     let as_named = enter_kept n id m.0 m.1 (omega (arith, mine.session)) mine.object (lacks m.0.own.pending c.requires.idle.0) c.requires.idle.1 c.args._call c.args._reply c.requires.legal c.requires.short in (
       search rules,
       search rules,
-      subst (λ (x : Option _). Allows (IsRuled g.O.Sequential) n id m 0 (λ y. y) (enters_named x g.E.DirectEntry.reply (step n 0 0 0 opt.none) m)) (sym c.requires.named.0)
-          (subst (λ (x : Option _). Allows (IsRuled g.O.Sequential) n id m 0 (λ y. y) (enters_named (Some c.args._call) x (step n 0 0 0 opt.none) m)) (sym c.requires.named.1) as_named),
+      subst (λ (x : Option _). Allows (IsBounded g.O.Sequential (bound_of g.O.Sequential.bound c.args.shared.now.key.object.items)) n id m 0 (λ y. y) (enters_named x g.E.DirectEntry.reply (step n 0 0 0 opt.none) m)) (sym c.requires.named.0)
+          (subst (λ (x : Option _). Allows (IsBounded g.O.Sequential (bound_of g.O.Sequential.bound c.args.shared.now.key.object.items)) n id m 0 (λ y. y) (enters_named (Some c.args._call) x (step n 0 0 0 opt.none) m)) (sym c.requires.named.1) as_named),
     )

@@ -3,10 +3,11 @@ use mathlib.Core.Option as opt
 use Rattle.atomic_table.specs.Table.{Allows, Joins, step, rest}
 use Rattle.publication.specs.Words.{word_of}
 use Rattle.publication.specs.Rule.{blank}
-use Rattle.publication.specs.List.{IsRuled}
+use Rattle.publication.specs.List.{IsBounded, bound_of}
 use Rattle.publication.specs.Kinds.{Seated, leaving, leaves, gathered}
 use Rattle.publication.specs.declared.slot.SlotValue.{SlotValue}
 use Rattle.publication.proofs.SessionKinds.{leave_kept}
+use Rattle.publication.proofs.LaidDown.{joins_bounded}
 use Rattle.publication.proofs.SplitsAndJoins.{gathers}
 use Rattle.publication.proofs.steps.gather_seat.Goals as goal
 
@@ -14,7 +15,7 @@ pub load-requires : goal.load-requires
 load-requires g c = let m = c.args.other.me in let at = c.args.at in let n = c.args.shared.now.table_id.slots in let id = c.args.other.id in (
   search rules,
   search rules,
-  subst (λ (l : List (ℕ × SlotValue _ _ _)). Allows (IsRuled g.O.Sequential) n id (m.0, l) (word_of at) (λ y. y) (leaves (step n (word_of at) 0 0 opt.none) (m.0, l))) (sym c.requires.carried)
+  subst (λ (l : List (ℕ × SlotValue _ _ _)). Allows (IsBounded g.O.Sequential (bound_of g.O.Sequential.bound c.args.shared.now.key.object.items)) n id (m.0, l) (word_of at) (λ y. y) (leaves (step n (word_of at) 0 0 opt.none) (m.0, l))) (sym c.requires.carried)
       (leave_kept n id at m.0 [] c.requires.theirs c.requires.at.some c.requires.settled.0),
 )
 
@@ -26,5 +27,5 @@ join_seat-requires g c = let v = c.args.seat.now.me.0 in let w = c.args.other.me
       search rules,
       ap (λ (x : Seated _ _ _). x.1) after,
       search rules,
-      subst (λ (x : Seated _ _ _). Joins (IsRuled g.O.Sequential) c.args.seat.now.id v id x.0 (gathered v x.0) blank) (sym after) (gathers c.args.seat.now.id v id (leaving w) named refl c.requires.settled.1),
+      subst (λ (x : Seated _ _ _). Joins (IsBounded g.O.Sequential (bound_of g.O.Sequential.bound c.args.shared.now.key.object.items)) c.args.seat.now.id v id x.0 (gathered v x.0) blank) (sym after) (joins_bounded (gathers c.args.seat.now.id v id (leaving w) named refl c.requires.settled.1)),
     )

@@ -2,7 +2,7 @@ use Rattle.std.proofs.Common.{rules, ◌≡◌, ◌∷◌, ◌∙◌, ℕ, List,
 use mathlib.Core.Option as opt
 use Rattle.atomic_table.specs.Table.{Allows, step, rest}
 use Rattle.publication.specs.Words.{word_of}
-use Rattle.publication.specs.List.{IsRuled}
+use Rattle.publication.specs.List.{IsBounded, bound_of}
 use Rattle.publication.specs.Kinds.{Seated, opens_record, lays, opening}
 use Rattle.publication.specs.inner.Tickets.{IsCombiner}
 use Rattle.publication.specs.declared.slot.SlotValue.{SlotValue}
@@ -38,6 +38,6 @@ load-requires g c =
     let after : c.exchange.new.seat.me ≡ (v, (at, Empty) ∷ m.1) = c.exchange.ensures.3 ∙ ap (λ (x : Seated _ _ _). (x.0, (at, Empty) ∷ rest x.1)) t.1 in (
       search rules,
       search rules,
-      subst (λ (x : Seated _ _ _). Allows (IsRuled g.O.Sequential) slots c.exchange.new.seat.id x (word_of at) (λ y. y) (lays (step slots (word_of at) 0 0 opt.none) x)) (sym after)
+      subst (λ (x : Seated _ _ _). Allows (IsBounded g.O.Sequential (bound_of g.O.Sequential.bound c.args.shared.now.key.object.items)) slots c.exchange.new.seat.id x (word_of at) (λ y. y) (lays (step slots (word_of at) 0 0 opt.none) x)) (sym after)
           (lay_kept slots c.exchange.new.seat.id v mine.session refl at c.requires.at.some c.requires.at.there t.0 (there_at v.combiner.opened at t.0 t.2.call_is) m.1 refl),
     )

@@ -2,7 +2,7 @@ use Rattle.std.proofs.Common.{rules, refl, sym, subst}
 use mathlib.Core.Option as opt
 use Rattle.atomic_table.specs.Table.{Allows, step}
 use Rattle.publication.specs.Words.{word_of, POSTED}
-use Rattle.publication.specs.List.{IsRuled}
+use Rattle.publication.specs.List.{IsBounded, bound_of}
 use Rattle.publication.specs.Kinds.{Seated, puts_back, in_hand}
 use Rattle.publication.specs.declared.slot.SlotValue.{SlotValue}
 use Rattle.publication.specs.declared.slot.SlotValue.TheVariants.{PostedCall}
@@ -30,6 +30,6 @@ store-requires g c =
     let after = in_hand_with at m c.load.new.seat.me c.exchange.new.seat.me held c.load.ensures.2 c.exchange.ensures.3 in (
       search rules,
       search rules,
-      subst (λ (x : Seated _ _ _). Allows (IsRuled g.O.Sequential) slots id x (word_of at) (λ _. POSTED) (λ _. puts_back (step slots (word_of at) POSTED 0 opt.none) x POSTED)) (sym after)
+      subst (λ (x : Seated _ _ _). Allows (IsBounded g.O.Sequential (bound_of g.O.Sequential.bound c.args.shared.now.key.object.items)) slots id x (word_of at) (λ _. POSTED) (λ _. puts_back (step slots (word_of at) POSTED 0 opt.none) x POSTED)) (sym after)
           (put_back_kept slots id (in_hand m.0 at) c.requires.mine.session refl at c.requires.at.some c.requires.at.there c.args.call there m.1 refl),
     )

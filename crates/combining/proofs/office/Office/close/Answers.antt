@@ -21,6 +21,7 @@ returns-in-Ok-clause-ok g c =
       all = all;
       settled = none_pending ts settled;
       sessions_are = c.in-Ok.ensures.sessions;
+      bound_is = c.in-Ok.ensures.bound;
       legal = c.in-Ok.ensures.legal;
       accounts = accounts;
       within = within;
