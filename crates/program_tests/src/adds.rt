@@ -18,19 +18,22 @@ fn adds(count: usize, number: u32) -> CallList<u32, ADDS> {
     program
 }
 
+/// Whether an answer has these replies, and its first call the place `first`.
+fn has_replies(answer: Option<ReplyList<u64, ADDS>>, first: u64, want: &[u64]) -> bool {
+    let Some(answer) = answer else {
+        return false;
+    };
+    let served = answer.served();
+    let mut right = answer.first() == first && served == want.len() && !answer.is_refused();
+    for at in 0..want.len() {
+        right &= at < served && answer.at(at) == want[at];
+    }
+    right
+}
+
 /// Expects an answer with these replies, of which the first call has the place `first`.
 fn want_replies(rt: &impl Abort, answer: Option<ReplyList<u64, ADDS>>, first: u64, want: &[u64]) {
-    let Some(answer) = answer else {
-        panic!(rt; "the program was not served");
-    };
-    assert_eq!(rt; answer.first(), first);
-    assert_eq!(rt; answer.served(), want.len());
-    assert!(rt; !answer.is_refused());
-    for at in 0..want.len() {
-        let served = answer.served();
-        assert!(rt; at < served);
-        assert_eq!(rt; answer.at(at), want[at]);
-    }
+    assert!(rt; has_replies(answer, first, want));
 }
 
 /// The second of three additions brings the last value of a block, at which its program stops. The third is in no history.

@@ -8,27 +8,24 @@ use sequential::{Fresh, Sequential};
 use std::process::Abort;
 use std::test::Fail;
 
-/// Expects an answer with these replies, which stopped for this reason; its first call has the place `first`.
-pub(crate) fn want_replies(
-    rt: &impl Abort,
+/// Whether an answer has these replies, and stopped for this reason; its first call has the place `first`.
+pub(crate) fn has_replies(
     program: &Program,
     answer: Option<Answer>,
     first: u64,
     stop: Stop,
     want: &[Reply],
-) {
+) -> bool {
     let Some(answer) = answer else {
-        panic!(rt; "the program was not served");
+        return false;
     };
-    assert_eq!(rt; answer.first(), first);
-    assert_eq!(rt; answer.served(program), want.len());
-    assert_eq!(rt; answer.stop(), stop);
-    assert!(rt; !answer.is_refused());
+    let served = answer.served(program);
+    let mut right = answer.first() == first && answer.stop() == stop && !answer.is_refused();
+    right &= served == want.len();
     for at in 0..want.len() {
-        let served = answer.served(program);
-        assert!(rt; at < served);
-        assert_eq!(rt; answer.reply(program, at), want[at]);
+        right &= at < served && answer.reply(program, at) == want[at];
     }
+    right
 }
 
 /// Serves a program of session 1, and expects that all its calls are granted or done, with these replies.
@@ -41,7 +38,7 @@ fn want_done(
 ) {
     let asked = program;
     let answer = ask(programs, 1, program);
-    want_replies(rt, &asked, answer, first, Stop::GoesOn, want);
+    assert!(rt; has_replies(&asked, answer, first, Stop::GoesOn, want));
 }
 
 /// A path of locks, a commit with the next begin as one, and conversions to modes that aren't those asked: the session holds the

@@ -6,14 +6,19 @@ use std::mem::size_of;
 use std::process::Abort;
 use std::test::Fail;
 
+/// Whether a program has these calls.
+fn has_calls(program: &Program, want: &[Call]) -> bool {
+    let length = program.length();
+    let mut right = length == want.len();
+    for at in 0..want.len() {
+        right &= at < length && program.call(at) == want[at];
+    }
+    right
+}
+
 /// Expects a program of these calls.
 fn want_calls(rt: &impl Abort, program: Program, want: &[Call]) {
-    assert_eq!(rt; program.length(), want.len());
-    for at in 0..want.len() {
-        let length = program.length();
-        assert!(rt; at < length);
-        assert_eq!(rt; program.call(at), want[at]);
-    }
+    assert!(rt; has_calls(&program, want));
 }
 
 /// A program of this call alone.

@@ -1,14 +1,26 @@
 //! Programs of a book that stop: at a wait, at a refusal, and as a deadlock victim. And whose waits programs have ended.
 
 use crate::asking::{ask, ask_all, ask_on, item};
-use crate::books::want_replies;
+use crate::books::has_replies;
 use lock_desk::{Book, Call, Entry, Mode, Reply, Resource, Why};
-use lock_programs::{Program, Start, Stop};
+use lock_programs::{Answer, Program, Start, Stop};
 use programs::{Continuing, Programs};
 use sequential::{Sequential, Serving, Telling, Trimming};
 use std::alloc::Global;
 use std::process::Abort;
 use std::test::Fail;
+
+/// Expects an answer with these replies and this reason.
+fn want_replies(
+    rt: &impl Abort,
+    program: &Program,
+    answer: Option<Answer>,
+    first: u64,
+    stop: Stop,
+    want: &[Reply],
+) {
+    assert!(rt; has_replies(program, answer, first, stop, want));
+}
 
 /// Serves a program, and expects these replies and this reason.
 fn want_answer(
