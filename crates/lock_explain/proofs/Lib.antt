@@ -14,3 +14,4 @@ pub mod KeptCycles
 pub mod FallingVictims
 pub mod ChosenVictims
 pub mod VictimsTold
+pub mod WaitsTold

@@ -1,17 +1,14 @@
 -- The victims that an explanation tells are on the cycle that it tells.
-use Rattle.std.proofs.Common.{◌≡◌, ℕ, zero, suc, ◌+◌, ◌<◌, ◌≤◌, Bool, true, false, cond, not, eqb, ◌&&◌, inl, inr, List, [], ◌∷◌, ◌++◌, Option, Some, None, IfSome, IfNone, Contains, refl, sym, ◌∙◌, ap, arith, subst}
+use Rattle.std.proofs.Common.{◌≡◌, ℕ, ◌+◌, ◌<◌, ◌≤◌, Bool, true, false, cond, not, eqb, inr, List, [], Option, Some, None, IfSome, IfNone, Contains, refl, sym, ◌∙◌, ap, arith, subst}
 use Rattle.std.specs.List.{All, flat_map, range_with_len}
-use Rattle.std.proofs.lemmas.Bool.{and_parts, and_from, cases_Bool, not-true}
-use Rattle.std.proofs.lemmas.Bool.Decides.{nat_tests, Decides-eqb}
-use Rattle.std.proofs.lemmas.List.Concat.{flat_map-cons}
-use Rattle.waits_for.specs.Walks.{AreOnCircle}
+use Rattle.std.proofs.lemmas.Bool.{and_parts, and_from, not-true}
 use Rattle.lock_rules.specs.declared.calls.Call.{Call}
 use Rattle.lock_rules.specs.declared.calls.Call.TheVariants.{Begin, Lock, Convert, Poll, Release, Commit, Abort, Try, Withdraw}
 use Rattle.lock_rules.specs.declared.calls.Transaction.{Transaction}
 use Rattle.lock_rules.specs.declared.calls.Why.{Why}
 use Rattle.lock_rules.specs.Entries.{Entry}
 use Rattle.lock_rules.specs.State.{Claim, State, doomed_in, is_doomed}
-use Rattle.lock_rules.specs.Waits.{waits_for, reaches}
+use Rattle.lock_rules.specs.Waits.{reaches}
 use Rattle.lock_rules.specs.Step.{tests, first_failing, act, outcome_of, step}
 use Rattle.lock_rules.specs.Legal.{state_of}
 use Rattle.lock_rules.specs.Laws.{AreVictims}
@@ -29,28 +26,14 @@ use Rattle.lock_explain.specs.Waiting.{BeginsToWait, request_made, party_of, wai
 use Rattle.lock_explain.proofs.Beginnings.{tells-wait}
 use Rattle.lock_explain.proofs.ChosenVictims.{chosen, member-among, sessions_of}
 use Rattle.lock_explain.proofs.FallingVictims.{victims-on, victims-number}
+use Rattle.lock_explain.proofs.ForSessions.{session-member, there}
 use Rattle.lock_explain.proofs.OnCycle.{no-members}
 
 -- the members of a cycle
 
 -- a session on a cycle with s, of those from a on, is listed
-on-listed : (st : State) (s a n u : ℕ) → a ≤ u → u < a + n → is_on_cycle st s u ≡ true → Member (party_of st u) (flat_map (party_on_cycle st s) (range_with_len a n))
-on-listed st s a zero u from below on = absurd (omega (arith, from, below))
-on-listed st s a (suc n) u from below on = rw (flat_map-cons (party_on_cycle st s) a (range_with_len (a + 1) n)) (elim (cases_Bool (eqb a u)) [
-  | inl y ↦ (let e = (Decides-eqb a u).0 y in first a e (is_on_cycle st s a) (ap (is_on_cycle st s) e ∙ on))
-  | inr m ↦ later (is_on_cycle st s a) (on-listed st s (a + 1) n u (grind (arith, nat_tests, from)) (omega (arith, below)) on)
-])
-  where
-    rest : List Party
-    rest = flat_map (party_on_cycle st s) (range_with_len (a + 1) n)
-
-    first : (a : ℕ) → a ≡ u → (b : Bool) → b ≡ true → Member (party_of st u) (cond b (party_of st a ∷ []) [] ++ rest)
-    first a e true h = inl (ap (party_of st) e)
-    first a e false h = absurd (cc)
-
-    later : (b : Bool) → Member (party_of st u) rest → Member (party_of st u) (cond b (party_of st a ∷ []) [] ++ rest)
-    later true m = inr m
-    later false m = m
+pub on-listed : (st : State) (s a n u : ℕ) → a ≤ u → u < a + n → is_on_cycle st s u ≡ true → Member (party_of st u) (flat_map (party_on_cycle st s) (range_with_len a n))
+on-listed st s a n u from below on = session-member (party_on_cycle st s) (party_of st u) a n u from below (there (is_on_cycle st s u) (party_of st u) on)
 
 -- a call that makes no request makes no victim
 

@@ -8,6 +8,7 @@ use Rattle.lock_rules.specs.State.{Claim, State, is_waiting, is_doomed}
 use Rattle.lock_rules.specs.Step.{step}
 use Rattle.lock_rules.specs.Effects.{IsNotRefused}
 use Rattle.lock_rules.specs.Listing.{listed_as, kind_of_request}
+use Rattle.lock_explain.specs.declared.explanation.Edge.{Edge}
 use Rattle.lock_explain.specs.declared.explanation.Party.{Party}
 use Rattle.lock_explain.specs.declared.explanation.Wait.{Wait}
 use Rattle.lock_explain.specs.declared.explanation.Explanation.{Explanation}
@@ -42,6 +43,20 @@ pub record IsExplanation (n : ℕ) (st : State) (s : ℕ) (call : Call) (e : Exp
 abbrev pub cycle_told : Option Wait → List Party
 cycle_told None = []
 cycle_told (Some w) = w.cycle.items
+
+-- the waits for one another that are told of these sessions, none if no wait is told
+abbrev pub edges_told : Option Wait → List Edge
+edges_told None = []
+edges_told (Some w) = w.edges.items
+
+-- the session is told as on a cycle with the caller
+abbrev pub IsToldOnCycle : Option Wait → ℕ → Type 0
+IsToldOnCycle o u = (p : Party) × Contains (cycle_told o) p × (p.session ≡ u)
+
+-- each session told as on a cycle is told to wait for another of them, and every wait told is of one of them for another
+pub record AreWaitsToldClosed (e : Explanation) : Type 0 where
+  pub onward : (u : ℕ) → IsToldOnCycle e.wait u → (v : ℕ) × Contains (edges_told e.wait) (record { session = u; other = v })
+  pub among : (edge : Edge) → Contains (edges_told e.wait) edge → IsToldOnCycle e.wait edge.session × IsToldOnCycle e.wait edge.other
 
 -- each victim told is among the sessions told as on a cycle, and a cycle is told only with a victim
 pub record AreVictimsOnCycleTold (e : Explanation) : Type 0 where

@@ -13,7 +13,7 @@ ghost use Rattle.waits_for.specs.Walks.{AreOnCircle};
 ghost use Rattle.sequential.specs.Histories.{IsEntryWithin};
 ghost use Rattle.lock_explain.specs.Cycles.{is_on_cycle};
 ghost use Rattle.lock_explain.specs.Endings.{AreNewVictims};
-ghost use Rattle.lock_explain.specs.Explanations.{AreVictimsOnCycleTold, IsExplanation};
+ghost use Rattle.lock_explain.specs.Explanations.{AreVictimsOnCycleTold, AreWaitsToldClosed, IsExplanation};
 ghost use Rattle.lock_explain.specs.Waiting.{BeginsToWait, waiting_state};
 ghost use Rattle.lock_explain.specs.declared.explanation.Explanation.{Explanation as ExplanationValue};
 ghost use Rattle.lock_explain.specs.declared.explanation.Party.{Party as PartyValue};
@@ -38,4 +38,11 @@ pub fn cycles_are_closed_walks()
 pub fn victims_are_on_the_cycle_told()
     ensures { (n session : ℕ) (history : List EntryValue) (call : CallValue) (e : ExplanationValue) →
         All (IsEntryWithin n) history → 1 ≤ session → session ≤ n → IsExplanation n (state_of history) session call e → AreVictimsOnCycleTold e }
+{}
+
+/// The waits that an explanation tells lead round: each session that is told as on a cycle is told to wait for another of them,
+/// and every wait told is of one of them for another.
+pub fn waits_told_lead_round()
+    ensures { (n session : ℕ) (history : List EntryValue) (call : CallValue) (e : ExplanationValue) →
+        All (IsEntryWithin n) history → 1 ≤ session → session ≤ n → IsExplanation n (state_of history) session call e → AreWaitsToldClosed e }
 {}
