@@ -23,6 +23,7 @@ pub fn open_keeping(
     ensures none { (result ≡ Err OpenFault.NoSessions) ↔ (sessions ≡ 0) }
     ensures many { (result ≡ Err OpenFault.TooManySessions) ↔ (MAX_SESSIONS < sessions) }
     ensures office { IfOk result (λ made. made.0.sessions ≡ sessions) }
+    ensures bound { IfOk result (λ made. made.0.bound ≡ bound) }
     ensures sessions { IfOk result (λ made. made.1.items ≡ new_tickets made.0.id sessions sessions) }
     ensures ready { IfOk result (λ made. All (λ session. IsSessionOf made.0 session × IsIdle session) made.1.items) }
 {

@@ -4,7 +4,7 @@
 ghost use Rattle.std.specs.Prelude.{◌≡◌, ◌≢◌, ◌+◌, ◌<◌, ◌≤◌, ◌↔◌, ℕ, if◌then◌else◌, [], false, None, IsTrue, length, take};
 ghost use Rattle.sequential.specs.Histories.{calls_of};
 ghost use Rattle.publication.specs.Boards.{HasCallsOf, heard_from};
-ghost use Rattle.combining.specs.Calls.{IsCalled, IsCalling, IsAnswered, IsWaitingOn, HasGoneOn};
+ghost use Rattle.combining.specs.Calls.{IsCalled, IsCalling, IsAnswered, IsWaitingOn, HasStarvedCalling, HasGoneOn};
 ghost use Rattle.combining.specs.Ended.{AreToldBy, HasAddedTold, HasRoom, entered_since};
 ghost use Rattle.combining.specs.declared.backoff.TheConstants.{TRIES_AT_ONCE};
 ghost use Rattle.combining.specs.Waits.{IsWaitAfterTry, IsWaitAfterLook};
@@ -189,6 +189,7 @@ pub fn path_turn<T: Told<Book>>(
     ensures idle { (level : _) (row : _) → result ≡ NextOfPath.Performed level row → IsIdle session.new }
     ensures idle_answered { (level : _) (answer : _) → result ≡ NextOfPath.Answered level answer → IsIdle session.new }
     ensures starved { result ≡ NextOfPath.Starved → session.old.pending ≡ None → IsCalling session.old session.new (lock_of_level resource mode (locked + 1)) }
+    ensures refused { result ≡ NextOfPath.Starved → session.old.pending ≡ None → HasStarvedCalling book_object session.old session.new (lock_of_level resource mode (locked + 1)) }
     ensures starved_on { result ≡ NextOfPath.Starved → session.old.pending ≢ None → IsWaitingOn session.old session.new × (session.old.put_backs < session.new.put_backs) }
     ensures tried { (w : _) → result ≡ NextOfPath.Wait w → session.old.pending ≡ None → made < TRIES_AT_ONCE → (session.new ≡ session.old) × (1 < office.now.sessions) }
     ensures published { (w : _) → result ≡ NextOfPath.Wait w → session.old.pending ≡ None → TRIES_AT_ONCE ≤ made

@@ -32,6 +32,12 @@ returns-in-Starved-clause-starved g c _ none =
     let first = first-of-path c.args.resource c.args.mode c.args.locked c.requires.rest in
     c.row_turn.ensures.starved next first.0 c.in-Starved.is none (c.write_path-count.ensures.calls ∙ first.1)
 
+pub returns-in-Starved-clause-refused : goal.returns-in-Starved-clause-refused
+returns-in-Starved-clause-refused g c _ none =
+    let next = lock_of_level c.args.resource c.args.mode (c.args.locked + 1) in
+    let first = first-of-path c.args.resource c.args.mode c.args.locked c.requires.rest in
+    c.row_turn.ensures.refused next first.0 c.in-Starved.is none (c.write_path-count.ensures.calls ∙ first.1)
+
 pub returns-in-Wait-clause-published : goal.returns-in-Wait-clause-published
 returns-in-Wait-clause-published g c _ _ none many =
     let next = lock_of_level c.args.resource c.args.mode (c.args.locked + 1) in
