@@ -1,5 +1,6 @@
 -- The walks of lists that may be null, at all items at once: `is_null`, and `items`, which lends them. Assumes `Logic`.
 use Rattle.std.proofs.Common.{◌≡◌, ℕ, zero, suc, ◌*◌, ◌^◌, ◌<◌, List, [], ◌∷◌, length, refl, sym, ap, ◌∙◌, subst, lit<, arith, zero-mul, eqb→eq, true≢false, true, false, IsTrue, ◌↔◌, w64, T as Holds, MutBor}
+use Rattle.std.proofs.lemmas.List.{nil_from_length}
 use Rattle.std.proofs.raw_atomic.Walks.{proved}
 use Rattle.std.specs.Borrow.{Lends}
 use seplogic.Ra.Ura.{Ura}
@@ -63,10 +64,6 @@ module _ {X : Type 1} where
 pub ptr_good : (p : Ptr) → Holds (has_ty ty_ptr (ptr_val p)) × WT (ptr_val p)
 ptr_good (block_ptr b o) = (tt, tt)
 ptr_good null_ptr = (tt, record { fits = lit< tt })
-
-pub no_items : {X : Type 0} (xs : List X) → length xs ≡ 0 → xs ≡ []
-no_items [] e = refl
-no_items (x ∷ xs) e = absurd (omega (arith, e))
 
 module _ {M : Type 1} {𝓤 : Ura M} (𝓛 : Logic 𝓤) (R T : RattleType) (F : List T.Denot → R.Denot) (A : Fml) (us : List Val) (b o b' o' : ℕ) (xs : List T.Denot) where
   -- all but the items
@@ -217,7 +214,7 @@ module _ (X : RattleType) (ty : Ty) (P : ListOf (sized X ty)) where
         let lent : GName → MutBor (List X.Denot) = λ δ. record { ref_ptr = (b, o); ghost_name = δ; now = xs } in
         let way = back 𝓛 R T (P.with_behind h) A us b o b o xs (λ ws. feq (List T.Denot) ws [])
         (λ ws. opened h us ws ∙ ap (λ n. fsep A (list_at T n (P.pointer.at h) ws)) e)
-        (λ ws same. qed 𝓛 (‵ (cells (mem T) ws b o) ∷ []) ∵ drop ! $ feq_i ! (List T.Denot) ws [] (no_items ws (same ∙ count)) $ done !) in
+        (λ ws same. qed 𝓛 (‵ (cells (mem T) ws b o) ∷ []) ∵ drop ! $ feq_i ! (List T.Denot) ws [] (nil_from_length ws (same ∙ count)) $ done !) in
         use1 𝓛 (later (some (λ (δ : GName). ‵ (Lent.own_val (lent δ) (value ∷ [])) ⊛ ‵ (flft κs.0 qs.0) ⊛ ‵ (follows R (Array T 0) γ δ (P.with_behind h)))))
         (lends_Elements 𝓛 R T (P.with_behind h) (named 0) κs.0 qs.0 b o b o γ xs ((roomy, subst (λ (n : ℕ). n * (mem T).size < 2 ^ 63) (sym count) (subst (λ (n : ℕ). n < 2 ^ 63) (sym (zero-mul (mem T).size)) (lit< tt)))) (sem 𝓛 (Rest 𝓛 R T (P.with_behind h) A us b o b o xs)) way (R.coded.code h) (R.coded.code h)) $ await ! tt $ pick ! (λ δ. split3 ! $
         returns ! (look_at ! 0 refl) $ free_all ! refl $ keep ! (0 ∷ 1 ∷ 2 ∷ []) $
