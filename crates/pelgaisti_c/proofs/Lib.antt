@@ -8,3 +8,8 @@ pub mod Starved
 pub mod Blockers
 pub mod SameOffice
 pub mod PathTurns
+pub mod Behind
+pub mod Lending
+pub mod Copying
+pub mod ItemLists
+pub mod ListKinds

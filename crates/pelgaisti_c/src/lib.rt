@@ -33,6 +33,7 @@ mod path_exports;
 mod path_step_exports;
 mod path_turn_calls;
 mod path_turn_exports;
+mod pointers;
 mod queries;
 mod query_exports;
 mod raw_box;
@@ -50,6 +51,11 @@ pub use claims::{ClaimNumbers, TransactionNumbers};
 pub use numbers::{
     AnswerNumbers, CallNumbers, EntryNumbers, HolderNumbers, PassNumbers, ReplyNumbers,
     ResourceNumbers,
+};
+pub use pointers::{
+    AnswerPointer, BookPointer, CallPointer, ClaimList, ClaimPointer, EntryList, HandleList,
+    HolderList, PassPointer, ReplyPointer, ResourcePointer, SessionList, SessionPointer,
+    SizePointer, TransactionPointer, U32Pointer, U64Pointer,
 };
 pub use session_handle::SessionHandle;
 pub use version::HEADER_VERSION;

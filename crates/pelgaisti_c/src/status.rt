@@ -54,7 +54,10 @@ pub const MISSING: u32 = 15;
 /// Another share of the office still exists, which means that a handle was copied.
 pub const COPIED: u32 = 16;
 
-/// The entry at this place of the history was let go. (17 and 18 are statuses of the header's own functions.)
+/// A pointer is null.
+pub const NULL_POINTER: u32 = 17;
+
+/// The entry at this place of the history was let go. (18 is a status of the header's own functions.)
 pub const LET_GO: u32 = 19;
 
 /// The array has room for fewer sessions than the office has.
