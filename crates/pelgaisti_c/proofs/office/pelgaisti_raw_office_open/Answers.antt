@@ -6,6 +6,6 @@ use Rattle.pelgaisti_c.proofs.office.pelgaisti_raw_office_open.Goals as goal
 pub open_handles-requires : goal.open_handles-requires
 open_handles-requires c =
     let ws = c.in-Ok-shares_of.shares.items in
-    let made : length c.in-Ok.made.items ≡ length c.args.sessions.now = ap length c.in-Ok.ensures.sessions ∙ new_tickets_count _ _ _ in
-    let same : length c.has_open.new.handles ≡ length c.args.sessions.now = ap length c.has_open.ensures.same in
+    let made : length c.in-Ok.made.items ≡ length c.args.sessions.now.behind = ap length c.in-Ok.ensures.sessions ∙ new_tickets_count _ _ _ in
+    let same : length c.has_open.new.handles ≡ length c.args.sessions.now.behind = ap length c.has_open.ensures.same in
     sym (length-map ws (λ share. share.value.session)) ∙ (ap length c.in-Ok-shares_of.ensures.sessions ∙ (made ∙ sym same))
