@@ -87,18 +87,18 @@ pub extern "C" fn pelgaisti_raw_book_serve(
     alloc: Global,
     book: &mut BookPointer,
     session: u32,
-    call: &CallPointer,
+    call: &mut CallPointer,
     reply: &mut ReplyPointer,
 ) -> u32
-    ensures null { result ≡ NULL_POINTER ↔ ((book.old.at ≡ null_ptr) ⊎ ((call.now.at ≡ null_ptr) ⊎ (reply.old.at ≡ null_ptr))) }
+    ensures null { result ≡ NULL_POINTER ↔ ((book.old.at ≡ null_ptr) ⊎ ((call.old.at ≡ null_ptr) ⊎ (reply.old.at ≡ null_ptr))) }
     ensures served { result ≡ OK → (before after : BookView) × (book.old.behind.held.book ≡ Some before) × (book.new.behind.held.book ≡ Some after)
-        × IsSession before session × IsServed before after session call.now.behind reply.new.behind }
+        × IsSession before session × IsServed before after session call.old.behind reply.new.behind }
     ensures failed { result ≢ OK → (book.new.behind.held.book ≡ book.old.behind.held.book) × (reply.new.behind ≡ reply.old.behind) }
     ensures open { book.new.behind.is_open ≡ book.old.behind.is_open }
     ensures closed { result ≢ NULL_POINTER → (result ≡ CLOSED ↔ (book.old.behind.is_open ≢ 1)) }
     ensures session { result ≡ NO_SUCH_SESSION → (view : BookView) × (book.old.behind.held.book ≡ Some view) × ¬ (IsSession view session) }
-    ensures call { NO_SUCH_OP ≤ result → result ≤ NO_SUCH_MODE → (view : BookView) × (book.old.behind.held.book ≡ Some view) × IsSession view session × IsCallFault call.now.behind result }
-    ensures memory { result ≡ NO_MEMORY → (view : BookView) × (book.old.behind.held.book ≡ Some view) × IsSession view session × ((asked : Call) × IsCall call.now.behind asked) }
+    ensures call { NO_SUCH_OP ≤ result → result ≤ NO_SUCH_MODE → (view : BookView) × (book.old.behind.held.book ≡ Some view) × IsSession view session × IsCallFault call.old.behind result }
+    ensures memory { result ≡ NO_MEMORY → (view : BookView) × (book.old.behind.held.book ≡ Some view) × IsSession view session × ((asked : Call) × IsCall call.old.behind asked) }
     ensures statuses { (result ≡ NULL_POINTER) ⊎ (result ≤ NO_SUCH_MODE) }
 {
     let Some(book) = book.get() else {
@@ -113,7 +113,7 @@ pub extern "C" fn pelgaisti_raw_book_serve(
     let Some(mut boxed) = book.take(alloc) else {
         return CLOSED;
     };
-    let status = book_calls::serve(&mut boxed, session, call, reply);
+    let status = book_calls::serve(&mut boxed, session, &call, reply);
     book.put(boxed);
     status
 }
@@ -162,17 +162,17 @@ pub extern "C" fn pelgaisti_raw_book_held(
     alloc: Global,
     book: &mut BookPointer,
     session: u32,
-    resource: &ResourcePointer,
+    resource: &mut ResourcePointer,
     mode: &mut U32Pointer,
 ) -> u32
-    ensures null { result ≡ NULL_POINTER ↔ ((book.old.at ≡ null_ptr) ⊎ ((resource.now.at ≡ null_ptr) ⊎ (mode.old.at ≡ null_ptr))) }
+    ensures null { result ≡ NULL_POINTER ↔ ((book.old.at ≡ null_ptr) ⊎ ((resource.old.at ≡ null_ptr) ⊎ (mode.old.at ≡ null_ptr))) }
     ensures ok { result ≡ OK → (view : BookView) × (book.old.behind.held.book ≡ Some view) × IsSession view session
-        × ((r : List ℕ) × IsPath resource.now.behind r × (mode.new.behind ≡ code_of (mode_or_nothing (held_mode (state_of view.history).table session r)))) }
+        × ((r : List ℕ) × IsPath resource.old.behind r × (mode.new.behind ≡ code_of (mode_or_nothing (held_mode (state_of view.history).table session r)))) }
     ensures failed { result ≢ OK → mode.new.behind ≡ mode.old.behind }
     ensures same { (book.new.behind.is_open ≡ book.old.behind.is_open) × (book.new.behind.held.book ≡ book.old.behind.held.book) }
     ensures closed { result ≢ NULL_POINTER → (result ≡ CLOSED ↔ (book.old.behind.is_open ≢ 1)) }
     ensures session { result ≡ NO_SUCH_SESSION → (view : BookView) × (book.old.behind.held.book ≡ Some view) × ¬ (IsSession view session) }
-    ensures level { result ≡ NO_SUCH_LEVEL → (view : BookView) × (book.old.behind.held.book ≡ Some view) × IsSession view session × ¬ (IsLevel resource.now.behind.level) }
+    ensures level { result ≡ NO_SUCH_LEVEL → (view : BookView) × (book.old.behind.held.book ≡ Some view) × IsSession view session × ¬ (IsLevel resource.old.behind.level) }
     ensures statuses { (result ≡ NULL_POINTER) ⊎ ((result ≡ OK) ⊎ ((result ≡ CLOSED) ⊎ ((result ≡ NO_SUCH_SESSION) ⊎ (result ≡ NO_SUCH_LEVEL)))) }
 {
     let Some(book) = book.get() else {
@@ -187,7 +187,7 @@ pub extern "C" fn pelgaisti_raw_book_held(
     let Some(boxed) = book.take(alloc) else {
         return CLOSED;
     };
-    let status = book_calls::held(&boxed, session, resource, mode);
+    let status = book_calls::held(&boxed, session, &resource, mode);
     book.put(boxed);
     status
 }
@@ -230,19 +230,19 @@ pub extern "C" fn pelgaisti_raw_book_waits_for(
 pub extern "C" fn pelgaisti_raw_book_holders(
     alloc: Global,
     book: &mut BookPointer,
-    resource: &ResourcePointer,
+    resource: &mut ResourcePointer,
     list: &mut HolderList,
     count: &mut SizePointer,
 ) -> u32
-    ensures null { result ≡ NULL_POINTER ↔ ((book.old.at ≡ null_ptr) ⊎ ((resource.now.at ≡ null_ptr) ⊎ (IsNullList list.old ⊎ (count.old.at ≡ null_ptr)))) }
-    ensures ok { result ≡ OK → (view : BookView) × (book.old.behind.held.book ≡ Some view) × ((r : List ℕ) × IsPath resource.now.behind r
+    ensures null { result ≡ NULL_POINTER ↔ ((book.old.at ≡ null_ptr) ⊎ ((resource.old.at ≡ null_ptr) ⊎ (IsNullList list.old ⊎ (count.old.at ≡ null_ptr)))) }
+    ensures ok { result ≡ OK → (view : BookView) × (book.old.behind.held.book ≡ Some view) × ((r : List ℕ) × IsPath resource.old.behind r
         × (let all = holders r (state_of view.history).table.held in
         (list.new.behind ≡ are_written numbers_of_holder all list.old.behind) × (count.new.behind ≡ length all))) }
     ensures failed { result ≢ OK → (list.new.behind ≡ list.old.behind) × (count.new.behind ≡ count.old.behind) }
     ensures same { (book.new.behind.is_open ≡ book.old.behind.is_open) × (book.new.behind.held.book ≡ book.old.behind.held.book) }
     ensures closed { result ≢ NULL_POINTER → (result ≡ CLOSED ↔ (book.old.behind.is_open ≢ 1)) }
-    ensures level { result ≡ NO_SUCH_LEVEL → (book.old.behind.is_open ≡ 1) × ¬ (IsLevel resource.now.behind.level) }
-    ensures memory { result ≡ NO_MEMORY → (book.old.behind.is_open ≡ 1) × IsLevel resource.now.behind.level }
+    ensures level { result ≡ NO_SUCH_LEVEL → (book.old.behind.is_open ≡ 1) × ¬ (IsLevel resource.old.behind.level) }
+    ensures memory { result ≡ NO_MEMORY → (book.old.behind.is_open ≡ 1) × IsLevel resource.old.behind.level }
     ensures statuses { (result ≡ NULL_POINTER) ⊎ ((result ≡ OK) ⊎ ((result ≡ NO_MEMORY) ⊎ ((result ≡ CLOSED) ⊎ (result ≡ NO_SUCH_LEVEL)))) }
 {
     let Some(book) = book.get() else {
@@ -261,7 +261,7 @@ pub extern "C" fn pelgaisti_raw_book_holders(
     let Some(boxed) = book.take(alloc) else {
         return CLOSED;
     };
-    let status = book_calls::holders(alloc, &boxed, resource, list, count);
+    let status = book_calls::holders(alloc, &boxed, &resource, list, count);
     book.put(boxed);
     status
 }

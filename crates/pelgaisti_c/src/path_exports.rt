@@ -31,25 +31,25 @@ pub extern "C" fn pelgaisti_raw_book_lock_path(
     alloc: Global,
     book: &mut BookPointer,
     session: u32,
-    resource: &ResourcePointer,
+    resource: &mut ResourcePointer,
     mode: u32,
     level: &mut U32Pointer,
     reply: &mut ReplyPointer,
     list: &mut SessionList,
     count: &mut SizePointer,
 ) -> u32
-    ensures null { result ≡ NULL_POINTER ↔ ((book.old.at ≡ null_ptr) ⊎ ((resource.now.at ≡ null_ptr) ⊎ ((level.old.at ≡ null_ptr) ⊎ ((reply.old.at ≡ null_ptr) ⊎ (IsNullList list.old ⊎ (count.old.at ≡ null_ptr)))))) }
+    ensures null { result ≡ NULL_POINTER ↔ ((book.old.at ≡ null_ptr) ⊎ ((resource.old.at ≡ null_ptr) ⊎ ((level.old.at ≡ null_ptr) ⊎ ((reply.old.at ≡ null_ptr) ⊎ (IsNullList list.old ⊎ (count.old.at ≡ null_ptr)))))) }
     ensures served { result ≤ NO_MEMORY → (before after : BookView) × (book.old.behind.held.book ≡ Some before) × (book.new.behind.held.book ≡ Some after)
-        × HasLevelBehind resource.now.behind level.old.behind × HasRoom before list.old.behind × IsSession before session
-        × ((locked : PathLocked) × IsPathServed before after session resource.now.behind mode level.old.behind locked result
+        × HasLevelBehind resource.old.behind level.old.behind × HasRoom before list.old.behind × IsSession before session
+        × ((locked : PathLocked) × IsPathServed before after session resource.old.behind mode level.old.behind locked result
         × IsPathTold after locked level.new.behind reply.old.behind reply.new.behind list.old.behind list.new.behind count.new.behind) }
     ensures failed { NO_MEMORY < result → (book.new.behind.held.book ≡ book.old.behind.held.book) × (level.new.behind ≡ level.old.behind) × (reply.new.behind ≡ reply.old.behind)
         × (list.new.behind ≡ list.old.behind) }
     ensures unwritten { result ≡ NULL_POINTER → count.new.behind ≡ count.old.behind }
     ensures nobody { NO_MEMORY < result → result ≢ NULL_POINTER → count.new.behind ≡ 0 }
     ensures open { book.new.behind.is_open ≡ book.old.behind.is_open }
-    ensures level { result ≢ NULL_POINTER → (result ≡ NO_SUCH_LEVEL ↔ ¬ (HasLevelBehind resource.now.behind level.old.behind)) }
-    ensures closed { result ≢ NULL_POINTER → (result ≡ CLOSED ↔ (HasLevelBehind resource.now.behind level.old.behind × (book.old.behind.is_open ≢ 1))) }
+    ensures level { result ≢ NULL_POINTER → (result ≡ NO_SUCH_LEVEL ↔ ¬ (HasLevelBehind resource.old.behind level.old.behind)) }
+    ensures closed { result ≢ NULL_POINTER → (result ≡ CLOSED ↔ (HasLevelBehind resource.old.behind level.old.behind × (book.old.behind.is_open ≢ 1))) }
     ensures room { result ≡ NO_ROOM → (view : BookView) × (book.old.behind.held.book ≡ Some view) × ¬ (HasRoom view list.old.behind) }
     ensures session { result ≡ NO_SUCH_SESSION → (view : BookView) × (book.old.behind.held.book ≡ Some view) × HasRoom view list.old.behind × ¬ (IsSession view session) }
     ensures mode { result ≡ NO_SUCH_MODE → (view : BookView) × (book.old.behind.held.book ≡ Some view) × HasRoom view list.old.behind × IsSession view session × ¬ (IsModeCode mode) }
@@ -75,7 +75,7 @@ pub extern "C" fn pelgaisti_raw_book_lock_path(
     };
     let list = list.items();
     *count = 0;
-    let Some(path) = path_calls::read_path(resource, *level) else {
+    let Some(path) = path_calls::read_path(&resource, *level) else {
         return NO_SUCH_LEVEL;
     };
     let Some(mut boxed) = book.take(alloc) else {

@@ -30,7 +30,7 @@ use std::alloc::Global;
 pub extern "C" fn pelgaisti_raw_session_path_turn(
     alloc: Global,
     session: &mut SessionPointer,
-    resource: &ResourcePointer,
+    resource: &mut ResourcePointer,
     mode: u32,
     level: &mut U32Pointer,
     made: &mut u64,
@@ -39,12 +39,12 @@ pub extern "C" fn pelgaisti_raw_session_path_turn(
     wait: &mut u32,
     told: &mut usize,
 ) -> u32
-    ensures null { result ≡ NULL_POINTER ↔ ((session.old.at ≡ null_ptr) ⊎ ((resource.now.at ≡ null_ptr) ⊎ ((level.old.at ≡ null_ptr) ⊎ (answer.old.at ≡ null_ptr)))) }
-    ensures ok { result ≡ OK → (r : List ℕ) × IsRestOf resource.now.behind level.old.behind r × ((before after : SessionShare) × (session.old.behind.held.share ≡ Some before) × (session.new.behind.held.share ≡ Some after)
+    ensures null { result ≡ NULL_POINTER ↔ ((session.old.at ≡ null_ptr) ⊎ ((resource.old.at ≡ null_ptr) ⊎ ((level.old.at ≡ null_ptr) ⊎ (answer.old.at ≡ null_ptr)))) }
+    ensures ok { result ≡ OK → (r : List ℕ) × IsRestOf resource.old.behind level.old.behind r × ((before after : SessionShare) × (session.old.behind.held.share ≡ Some before) × (session.new.behind.held.share ≡ Some after)
         × IsPathEnded r mode before after level.old.behind level.new.behind answer.new.behind) }
-    ensures memory { result ≡ NO_MEMORY → (r : List ℕ) × IsRestOf resource.now.behind level.old.behind r × ((before after : SessionShare) × (session.old.behind.held.share ≡ Some before) × (session.new.behind.held.share ≡ Some after)
+    ensures memory { result ≡ NO_MEMORY → (r : List ℕ) × IsRestOf resource.old.behind level.old.behind r × ((before after : SessionShare) × (session.old.behind.held.share ≡ Some before) × (session.new.behind.held.share ≡ Some after)
         × IsPathStarved r mode before after level.old.behind) }
-    ensures late { result ≡ NOT_SERVED → (r : List ℕ) × IsRestOf resource.now.behind level.old.behind r × ((before after : SessionShare) × (session.old.behind.held.share ≡ Some before) × (session.new.behind.held.share ≡ Some after)
+    ensures late { result ≡ NOT_SERVED → (r : List ℕ) × IsRestOf resource.old.behind level.old.behind r × ((before after : SessionShare) × (session.old.behind.held.share ≡ Some before) × (session.new.behind.held.share ≡ Some after)
         × (HasPathLeft r mode before after level.old.behind level.new.behind answer.new.behind made.new wait.new
         ⊎ (IsPathLate r mode before after level.old.behind made.old turns wait.new × (level.new.behind ≡ level.old.behind) × (answer.new.behind ≡ answer.old.behind)
         × (made.old < turns → made.new ≡ made.old + 1) × (turns ≤ made.old → made.new ≡ made.old)))) }
@@ -54,8 +54,8 @@ pub extern "C" fn pelgaisti_raw_session_path_turn(
     ensures failed { result ≢ OK → result ≢ NOT_SERVED → (level.new.behind ≡ level.old.behind) × (answer.new.behind ≡ answer.old.behind) × (made.new ≡ made.old) × (wait.new ≡ wait.old) }
     ensures same { result ≢ OK → result ≢ NO_MEMORY → result ≢ NOT_SERVED → (session.new.behind.held.share ≡ session.old.behind.held.share) × (told.new ≡ told.old) }
     ensures open { session.new.behind.is_open ≡ session.old.behind.is_open }
-    ensures level { result ≢ NULL_POINTER → (result ≡ NO_SUCH_LEVEL ↔ ¬ (HasLevelBehind resource.now.behind level.old.behind)) }
-    ensures closed { result ≢ NULL_POINTER → (result ≡ CLOSED ↔ (HasLevelBehind resource.now.behind level.old.behind × (session.old.behind.is_open ≢ 1))) }
+    ensures level { result ≢ NULL_POINTER → (result ≡ NO_SUCH_LEVEL ↔ ¬ (HasLevelBehind resource.old.behind level.old.behind)) }
+    ensures closed { result ≢ NULL_POINTER → (result ≡ CLOSED ↔ (HasLevelBehind resource.old.behind level.old.behind × (session.old.behind.is_open ≢ 1))) }
     ensures mode { result ≡ NO_SUCH_MODE → (session.old.behind.is_open ≡ 1) × ¬ (IsModeCode mode) }
     ensures retired { result ≡ RETIRED → IsModeCode mode × ((share : SessionShare) × (session.old.behind.held.share ≡ Some share) × (share.session.retired ≡ true)) }
     ensures pending { result ≡ PENDING → (made.old ≡ 0) × IsModeCode mode × ((share : SessionShare) × (session.old.behind.held.share ≡ Some share) × (share.session.pending ≢ None)) }
@@ -73,7 +73,7 @@ pub extern "C" fn pelgaisti_raw_session_path_turn(
     let Some(answer) = answer.get() else {
         return NULL_POINTER;
     };
-    let Some(path) = read_path(resource, *level) else {
+    let Some(path) = read_path(&resource, *level) else {
         return NO_SUCH_LEVEL;
     };
     let Some(mut share) = session.take(alloc) else {

@@ -24,18 +24,18 @@ pub extern "C" fn pelgaisti_raw_session_held(
     alloc: Global,
     session: &mut SessionPointer,
     whose: u32,
-    resource: &ResourcePointer,
+    resource: &mut ResourcePointer,
     mode: &mut U32Pointer,
     seen: &mut U64Pointer,
 ) -> u32
-    ensures null { result ≡ NULL_POINTER ↔ ((session.old.at ≡ null_ptr) ⊎ ((resource.now.at ≡ null_ptr) ⊎ ((mode.old.at ≡ null_ptr) ⊎ (seen.old.at ≡ null_ptr)))) }
+    ensures null { result ≡ NULL_POINTER ↔ ((session.old.at ≡ null_ptr) ⊎ ((resource.old.at ≡ null_ptr) ⊎ ((mode.old.at ≡ null_ptr) ⊎ (seen.old.at ≡ null_ptr)))) }
     ensures ok { result ≡ OK → (before after : SessionShare) × (session.old.behind.held.share ≡ Some before) × (session.new.behind.held.share ≡ Some after)
-        × IsHeldSeen before after whose resource.now.behind mode.new.behind seen.new.behind }
+        × IsHeldSeen before after whose resource.old.behind mode.new.behind seen.new.behind }
     ensures failed { result ≢ OK → (session.new.behind.held.share ≡ session.old.behind.held.share) × (mode.new.behind ≡ mode.old.behind) × (seen.new.behind ≡ seen.old.behind) }
     ensures open { session.new.behind.is_open ≡ session.old.behind.is_open }
     ensures closed { result ≢ NULL_POINTER → (result ≡ CLOSED ↔ (session.old.behind.is_open ≢ 1)) }
     ensures session { result ≡ NO_SUCH_SESSION → (share : SessionShare) × (session.old.behind.held.share ≡ Some share) × ¬ (IsOfOffice share whose) }
-    ensures level { result ≡ NO_SUCH_LEVEL → (share : SessionShare) × (session.old.behind.held.share ≡ Some share) × IsOfOffice share whose × ¬ (IsLevel resource.now.behind.level) }
+    ensures level { result ≡ NO_SUCH_LEVEL → (share : SessionShare) × (session.old.behind.held.share ≡ Some share) × IsOfOffice share whose × ¬ (IsLevel resource.old.behind.level) }
     ensures elsewhere { result ≡ ELSEWHERE → (share : SessionShare) × (session.old.behind.held.share ≡ Some share) × (2 ≤ share.sessions) }
     ensures statuses { (result ≡ NULL_POINTER) ⊎ ((result ≡ OK) ⊎ ((result ≡ CLOSED) ⊎ ((result ≡ NO_SUCH_SESSION) ⊎ ((result ≡ NO_SUCH_LEVEL) ⊎ (result ≡ ELSEWHERE))))) }
 {
@@ -54,7 +54,7 @@ pub extern "C" fn pelgaisti_raw_session_held(
     let Some(mut share) = session.take(alloc) else {
         return CLOSED;
     };
-    let status = queries::held(&mut share, whose, resource, mode, seen);
+    let status = queries::held(&mut share, whose, &resource, mode, seen);
     session.put(share);
     status
 }
@@ -102,20 +102,20 @@ pub extern "C" fn pelgaisti_raw_session_waits_for(
 pub extern "C" fn pelgaisti_raw_session_holders(
     alloc: Global,
     session: &mut SessionPointer,
-    resource: &ResourcePointer,
+    resource: &mut ResourcePointer,
     list: &mut HolderList,
     count: &mut SizePointer,
     seen: &mut U64Pointer,
 ) -> u32
-    ensures null { result ≡ NULL_POINTER ↔ ((session.old.at ≡ null_ptr) ⊎ ((resource.now.at ≡ null_ptr) ⊎ (IsNullList list.old ⊎ ((count.old.at ≡ null_ptr) ⊎ (seen.old.at ≡ null_ptr))))) }
+    ensures null { result ≡ NULL_POINTER ↔ ((session.old.at ≡ null_ptr) ⊎ ((resource.old.at ≡ null_ptr) ⊎ (IsNullList list.old ⊎ ((count.old.at ≡ null_ptr) ⊎ (seen.old.at ≡ null_ptr))))) }
     ensures ok { result ≡ OK → (before after : SessionShare) × (session.old.behind.held.share ≡ Some before) × (session.new.behind.held.share ≡ Some after)
-        × AreHoldersSeen before after resource.now.behind list.old.behind list.new.behind count.new.behind seen.new.behind }
+        × AreHoldersSeen before after resource.old.behind list.old.behind list.new.behind count.new.behind seen.new.behind }
     ensures failed { result ≢ OK → (list.new.behind ≡ list.old.behind) × (count.new.behind ≡ count.old.behind) × (seen.new.behind ≡ seen.old.behind) }
     ensures same { result ≢ OK → result ≢ NO_MEMORY → session.new.behind.held.share ≡ session.old.behind.held.share }
     ensures open { session.new.behind.is_open ≡ session.old.behind.is_open }
     ensures closed { result ≢ NULL_POINTER → (result ≡ CLOSED ↔ (session.old.behind.is_open ≢ 1)) }
-    ensures level { result ≡ NO_SUCH_LEVEL → (session.old.behind.is_open ≡ 1) × ¬ (IsLevel resource.now.behind.level) }
-    ensures memory { result ≡ NO_MEMORY → IsLevel resource.now.behind.level × ((before after : SessionShare) × (session.old.behind.held.share ≡ Some before) × (session.new.behind.held.share ≡ Some after)
+    ensures level { result ≡ NO_SUCH_LEVEL → (session.old.behind.is_open ≡ 1) × ¬ (IsLevel resource.old.behind.level) }
+    ensures memory { result ≡ NO_MEMORY → IsLevel resource.old.behind.level × ((before after : SessionShare) × (session.old.behind.held.share ≡ Some before) × (session.new.behind.held.share ≡ Some after)
         × HasSeen before after) }
     ensures elsewhere { result ≡ ELSEWHERE → (share : SessionShare) × (session.old.behind.held.share ≡ Some share) × (2 ≤ share.sessions) }
     ensures statuses { (result ≡ NULL_POINTER) ⊎ ((result ≡ OK) ⊎ ((result ≡ NO_MEMORY) ⊎ ((result ≡ CLOSED) ⊎ ((result ≡ NO_SUCH_LEVEL) ⊎ (result ≡ ELSEWHERE))))) }
@@ -139,7 +139,7 @@ pub extern "C" fn pelgaisti_raw_session_holders(
     let Some(mut share) = session.take(alloc) else {
         return CLOSED;
     };
-    let status = queries::holders(alloc, &mut share, resource, list, count, seen);
+    let status = queries::holders(alloc, &mut share, &resource, list, count, seen);
     session.put(share);
     status
 }

@@ -27,19 +27,19 @@ use std::alloc::Global;
 pub extern "C" fn pelgaisti_raw_session_publish(
     alloc: Global,
     session: &mut SessionPointer,
-    call: &CallPointer,
+    call: &mut CallPointer,
     posted: &mut U32Pointer,
 ) -> u32
-    ensures null { result ≡ NULL_POINTER ↔ ((session.old.at ≡ null_ptr) ⊎ ((call.now.at ≡ null_ptr) ⊎ (posted.old.at ≡ null_ptr))) }
+    ensures null { result ≡ NULL_POINTER ↔ ((session.old.at ≡ null_ptr) ⊎ ((call.old.at ≡ null_ptr) ⊎ (posted.old.at ≡ null_ptr))) }
     ensures ok { result ≡ OK → (before after : SessionShare) × (session.old.behind.held.share ≡ Some before) × (session.new.behind.held.share ≡ Some after)
-        × IsPublished before after call.now.behind posted.new.behind }
+        × IsPublished before after call.old.behind posted.new.behind }
     ensures posted { result ≡ OK → (1 ≤ posted.new.behind) × (posted.new.behind ≤ 2) }
     ensures failed { result ≢ OK → (session.new.behind.held.share ≡ session.old.behind.held.share) × (posted.new.behind ≡ posted.old.behind) }
     ensures open { session.new.behind.is_open ≡ session.old.behind.is_open }
     ensures closed { result ≢ NULL_POINTER → (result ≡ CLOSED ↔ (session.old.behind.is_open ≢ 1)) }
-    ensures call { NO_SUCH_OP ≤ result → result ≤ NO_SUCH_MODE → (session.old.behind.is_open ≡ 1) × IsCallFault call.now.behind result }
-    ensures retired { result ≡ RETIRED → (share : SessionShare) × (session.old.behind.held.share ≡ Some share) × (share.session.retired ≡ true) × ((asked : Call) × IsCall call.now.behind asked) }
-    ensures pending { result ≡ PENDING → (share : SessionShare) × (session.old.behind.held.share ≡ Some share) × (share.session.pending ≢ None) × ((asked : Call) × IsCall call.now.behind asked) }
+    ensures call { NO_SUCH_OP ≤ result → result ≤ NO_SUCH_MODE → (session.old.behind.is_open ≡ 1) × IsCallFault call.old.behind result }
+    ensures retired { result ≡ RETIRED → (share : SessionShare) × (session.old.behind.held.share ≡ Some share) × (share.session.retired ≡ true) × ((asked : Call) × IsCall call.old.behind asked) }
+    ensures pending { result ≡ PENDING → (share : SessionShare) × (session.old.behind.held.share ≡ Some share) × (share.session.pending ≢ None) × ((asked : Call) × IsCall call.old.behind asked) }
     ensures statuses { (result ≡ NULL_POINTER) ⊎ ((result ≡ OK) ⊎ ((result ≡ CLOSED) ⊎ ((result ≡ RETIRED) ⊎ ((result ≡ PENDING) ⊎ ((NO_SUCH_OP ≤ result) × (result ≤ NO_SUCH_MODE)))))) }
 {
     let Some(session) = session.get() else {
@@ -54,7 +54,7 @@ pub extern "C" fn pelgaisti_raw_session_publish(
     let Some(mut share) = session.take(alloc) else {
         return CLOSED;
     };
-    let status = session_calls::publish(&mut share, call, posted);
+    let status = session_calls::publish(&mut share, &call, posted);
     session.put(share);
     status
 }
@@ -149,14 +149,14 @@ pub extern "C" fn pelgaisti_raw_session_serve_telling(
 pub extern "C" fn pelgaisti_raw_session_perform_at_once(
     alloc: Global,
     session: &mut SessionPointer,
-    call: &CallPointer,
+    call: &mut CallPointer,
     pass: &mut PassPointer,
     answer: &mut AnswerPointer,
     told: &mut usize,
 ) -> u32
-    ensures null { result ≡ NULL_POINTER ↔ ((session.old.at ≡ null_ptr) ⊎ ((call.now.at ≡ null_ptr) ⊎ ((pass.old.at ≡ null_ptr) ⊎ (answer.old.at ≡ null_ptr)))) }
+    ensures null { result ≡ NULL_POINTER ↔ ((session.old.at ≡ null_ptr) ⊎ ((call.old.at ≡ null_ptr) ⊎ ((pass.old.at ≡ null_ptr) ⊎ (answer.old.at ≡ null_ptr)))) }
     ensures ok { result ≡ OK → (before after : SessionShare) × (session.old.behind.held.share ≡ Some before) × (session.new.behind.held.share ≡ Some after)
-        × IsPerformedAtOnce before after call.now.behind answer.new.behind pass.new.behind.served pass.new.behind.starved }
+        × IsPerformedAtOnce before after call.old.behind answer.new.behind pass.new.behind.served pass.new.behind.starved }
     ensures told { (result ≡ OK) ⊎ (result ≡ NO_MEMORY) → (before after : SessionShare) × (session.old.behind.held.share ≡ Some before) × (session.new.behind.held.share ≡ Some after)
         × AreToWake before after told.new }
     ensures untold { result ≡ ELSEWHERE → told.new ≡ 0 }
@@ -168,12 +168,12 @@ pub extern "C" fn pelgaisti_raw_session_perform_at_once(
         × HasToldNone before after }
     ensures open { session.new.behind.is_open ≡ session.old.behind.is_open }
     ensures closed { result ≢ NULL_POINTER → (result ≡ CLOSED ↔ (session.old.behind.is_open ≢ 1)) }
-    ensures call { NO_SUCH_OP ≤ result → result ≤ NO_SUCH_MODE → (session.old.behind.is_open ≡ 1) × IsCallFault call.now.behind result }
-    ensures retired { result ≡ RETIRED → (share : SessionShare) × (session.old.behind.held.share ≡ Some share) × (share.session.retired ≡ true) × ((asked : Call) × IsCall call.now.behind asked) }
-    ensures pending { result ≡ PENDING → (share : SessionShare) × (session.old.behind.held.share ≡ Some share) × (share.session.pending ≢ None) × ((asked : Call) × IsCall call.now.behind asked) }
+    ensures call { NO_SUCH_OP ≤ result → result ≤ NO_SUCH_MODE → (session.old.behind.is_open ≡ 1) × IsCallFault call.old.behind result }
+    ensures retired { result ≡ RETIRED → (share : SessionShare) × (session.old.behind.held.share ≡ Some share) × (share.session.retired ≡ true) × ((asked : Call) × IsCall call.old.behind asked) }
+    ensures pending { result ≡ PENDING → (share : SessionShare) × (session.old.behind.held.share ≡ Some share) × (share.session.pending ≢ None) × ((asked : Call) × IsCall call.old.behind asked) }
     ensures memory { result ≡ NO_MEMORY → (before after : SessionShare) × (session.old.behind.held.share ≡ Some before) × (session.new.behind.held.share ≡ Some after)
-        × IsRefusedAtOnce before after call.now.behind }
-    ensures elsewhere { result ≡ ELSEWHERE → (share : SessionShare) × (session.old.behind.held.share ≡ Some share) × (2 ≤ share.sessions) × MayCall share call.now.behind }
+        × IsRefusedAtOnce before after call.old.behind }
+    ensures elsewhere { result ≡ ELSEWHERE → (share : SessionShare) × (session.old.behind.held.share ≡ Some share) × (2 ≤ share.sessions) × MayCall share call.old.behind }
     ensures statuses { (result ≡ NULL_POINTER) ⊎ ((result ≡ OK) ⊎ ((result ≡ CLOSED) ⊎ ((result ≡ RETIRED) ⊎ ((result ≡ PENDING) ⊎ ((result ≡ NO_MEMORY) ⊎ ((result ≡ ELSEWHERE) ⊎ ((NO_SUCH_OP ≤ result) × (result ≤ NO_SUCH_MODE)))))))) }
 {
     let Some(session) = session.get() else {
@@ -191,7 +191,7 @@ pub extern "C" fn pelgaisti_raw_session_perform_at_once(
     let Some(mut share) = session.take(alloc) else {
         return CLOSED;
     };
-    let status = session_calls::perform_at_once(&mut share, call, pass, answer, told);
+    let status = session_calls::perform_at_once(&mut share, &call, pass, answer, told);
     session.put(share);
     status
 }
@@ -203,26 +203,26 @@ pub extern "C" fn pelgaisti_raw_session_perform_at_once(
 pub extern "C" fn pelgaisti_raw_session_perform_telling(
     alloc: Global,
     session: &mut SessionPointer,
-    call: &CallPointer,
+    call: &mut CallPointer,
     pass: &mut PassPointer,
     answer: &mut AnswerPointer,
     list: &mut SessionList,
     count: &mut SizePointer,
 ) -> u32
-    ensures null { result ≡ NULL_POINTER ↔ ((session.old.at ≡ null_ptr) ⊎ ((call.now.at ≡ null_ptr) ⊎ ((pass.old.at ≡ null_ptr) ⊎ ((answer.old.at ≡ null_ptr) ⊎ (IsNullList list.old ⊎ (count.old.at ≡ null_ptr)))))) }
+    ensures null { result ≡ NULL_POINTER ↔ ((session.old.at ≡ null_ptr) ⊎ ((call.old.at ≡ null_ptr) ⊎ ((pass.old.at ≡ null_ptr) ⊎ ((answer.old.at ≡ null_ptr) ⊎ (IsNullList list.old ⊎ (count.old.at ≡ null_ptr)))))) }
     ensures ok { result ≡ OK → (before after : SessionShare) × (session.old.behind.held.share ≡ Some before) × (session.new.behind.held.share ≡ Some after)
-        × IsToldPerformed before after call.now.behind answer.new.behind pass.new.behind.served pass.new.behind.starved list.old.behind list.new.behind count.new.behind }
+        × IsToldPerformed before after call.old.behind answer.new.behind pass.new.behind.served pass.new.behind.starved list.old.behind list.new.behind count.new.behind }
     ensures failed { result ≢ OK → (pass.new.behind ≡ pass.old.behind) × (answer.new.behind ≡ answer.old.behind) }
     ensures same { result ≢ OK → result ≢ NO_MEMORY → (session.new.behind.held.share ≡ session.old.behind.held.share) × (list.new.behind ≡ list.old.behind) × (count.new.behind ≡ count.old.behind) }
     ensures open { session.new.behind.is_open ≡ session.old.behind.is_open }
     ensures closed { result ≢ NULL_POINTER → (result ≡ CLOSED ↔ (session.old.behind.is_open ≢ 1)) }
     ensures room { result ≢ NULL_POINTER → (result ≡ NO_ROOM ↔ ((share : SessionShare) × (session.old.behind.held.share ≡ Some share) × (length list.old.behind < share.sessions))) }
-    ensures call { NO_SUCH_OP ≤ result → result ≤ NO_SUCH_MODE → (session.old.behind.is_open ≡ 1) × IsCallFault call.now.behind result }
-    ensures retired { result ≡ RETIRED → (share : SessionShare) × (session.old.behind.held.share ≡ Some share) × (share.session.retired ≡ true) × ((asked : Call) × IsCall call.now.behind asked) }
-    ensures pending { result ≡ PENDING → (share : SessionShare) × (session.old.behind.held.share ≡ Some share) × (share.session.pending ≢ None) × ((asked : Call) × IsCall call.now.behind asked) }
+    ensures call { NO_SUCH_OP ≤ result → result ≤ NO_SUCH_MODE → (session.old.behind.is_open ≡ 1) × IsCallFault call.old.behind result }
+    ensures retired { result ≡ RETIRED → (share : SessionShare) × (session.old.behind.held.share ≡ Some share) × (share.session.retired ≡ true) × ((asked : Call) × IsCall call.old.behind asked) }
+    ensures pending { result ≡ PENDING → (share : SessionShare) × (session.old.behind.held.share ≡ Some share) × (share.session.pending ≢ None) × ((asked : Call) × IsCall call.old.behind asked) }
     ensures memory { result ≡ NO_MEMORY → (before after : SessionShare) × (session.old.behind.held.share ≡ Some before) × (session.new.behind.held.share ≡ Some after)
-        × (HasToldNobody before after call.now.behind list.old.behind list.new.behind count.new.behind ⊎ IsToldRefused before after call.now.behind list.old.behind list.new.behind count.new.behind) }
-    ensures elsewhere { result ≡ ELSEWHERE → (share : SessionShare) × (session.old.behind.held.share ≡ Some share) × (2 ≤ share.sessions) × MayCall share call.now.behind }
+        × (HasToldNobody before after call.old.behind list.old.behind list.new.behind count.new.behind ⊎ IsToldRefused before after call.old.behind list.old.behind list.new.behind count.new.behind) }
+    ensures elsewhere { result ≡ ELSEWHERE → (share : SessionShare) × (session.old.behind.held.share ≡ Some share) × (2 ≤ share.sessions) × MayCall share call.old.behind }
     ensures statuses { (result ≡ NULL_POINTER) ⊎ ((result ≡ OK) ⊎ ((result ≡ CLOSED) ⊎ ((result ≡ NO_ROOM) ⊎ ((result ≡ RETIRED) ⊎ ((result ≡ PENDING) ⊎ ((result ≡ NO_MEMORY) ⊎ ((result ≡ ELSEWHERE) ⊎ ((NO_SUCH_OP ≤ result) × (result ≤ NO_SUCH_MODE))))))))) }
 {
     let Some(session) = session.get() else {
@@ -247,7 +247,7 @@ pub extern "C" fn pelgaisti_raw_session_perform_telling(
     let Some(mut share) = session.take(alloc) else {
         return CLOSED;
     };
-    let status = session_calls::perform_telling(alloc, &mut share, call, pass, answer, list, count);
+    let status = session_calls::perform_telling(alloc, &mut share, &call, pass, answer, list, count);
     session.put(share);
     status
 }

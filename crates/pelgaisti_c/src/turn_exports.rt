@@ -26,20 +26,20 @@ use std::alloc::Global;
 pub extern "C" fn pelgaisti_raw_session_turn(
     alloc: Global,
     session: &mut SessionPointer,
-    call: &CallPointer,
+    call: &mut CallPointer,
     made: u64,
     turns: u64,
     answer: &mut AnswerPointer,
     wait: &mut u32,
     told: &mut usize,
 ) -> u32
-    ensures null { result ≡ NULL_POINTER ↔ ((session.old.at ≡ null_ptr) ⊎ ((call.now.at ≡ null_ptr) ⊎ (answer.old.at ≡ null_ptr))) }
+    ensures null { result ≡ NULL_POINTER ↔ ((session.old.at ≡ null_ptr) ⊎ ((call.old.at ≡ null_ptr) ⊎ (answer.old.at ≡ null_ptr))) }
     ensures ok { result ≡ OK → (before after : SessionShare) × (session.old.behind.held.share ≡ Some before) × (session.new.behind.held.share ≡ Some after)
-        × IsTurnAnswered before after call.now.behind answer.new.behind }
+        × IsTurnAnswered before after call.old.behind answer.new.behind }
     ensures memory { result ≡ NO_MEMORY → (before after : SessionShare) × (session.old.behind.held.share ≡ Some before) × (session.new.behind.held.share ≡ Some after)
-        × IsTurnStarved before after call.now.behind }
+        × IsTurnStarved before after call.old.behind }
     ensures late { result ≡ NOT_SERVED → (before after : SessionShare) × (session.old.behind.held.share ≡ Some before) × (session.new.behind.held.share ≡ Some after)
-        × IsTurnMade before after call.now.behind made turns wait.new }
+        × IsTurnMade before after call.old.behind made turns wait.new }
     ensures told { (result ≡ OK) ⊎ ((result ≡ NO_MEMORY) ⊎ (result ≡ NOT_SERVED)) → (before after : SessionShare) × (session.old.behind.held.share ≡ Some before) × (session.new.behind.held.share ≡ Some after)
         × AreToWake before after told.new }
     ensures first { (result ≡ OK) ⊎ ((result ≡ NO_MEMORY) ⊎ (result ≡ NOT_SERVED)) → made ≡ 0 → (share : SessionShare) × (session.old.behind.held.share ≡ Some share) × (share.session.pending ≡ None) }
@@ -48,9 +48,9 @@ pub extern "C" fn pelgaisti_raw_session_turn(
     ensures same { result ≢ OK → result ≢ NO_MEMORY → result ≢ NOT_SERVED → (session.new.behind.held.share ≡ session.old.behind.held.share) × (told.new ≡ told.old) }
     ensures open { session.new.behind.is_open ≡ session.old.behind.is_open }
     ensures closed { result ≢ NULL_POINTER → (result ≡ CLOSED ↔ (session.old.behind.is_open ≢ 1)) }
-    ensures call { NO_SUCH_OP ≤ result → result ≤ NO_SUCH_MODE → (session.old.behind.is_open ≡ 1) × IsCallFault call.now.behind result }
-    ensures retired { result ≡ RETIRED → (share : SessionShare) × (session.old.behind.held.share ≡ Some share) × (share.session.retired ≡ true) × ((asked : Call) × IsCall call.now.behind asked) }
-    ensures pending { result ≡ PENDING → (made ≡ 0) × ((share : SessionShare) × (session.old.behind.held.share ≡ Some share) × (share.session.pending ≢ None) × ((asked : Call) × IsCall call.now.behind asked)) }
+    ensures call { NO_SUCH_OP ≤ result → result ≤ NO_SUCH_MODE → (session.old.behind.is_open ≡ 1) × IsCallFault call.old.behind result }
+    ensures retired { result ≡ RETIRED → (share : SessionShare) × (session.old.behind.held.share ≡ Some share) × (share.session.retired ≡ true) × ((asked : Call) × IsCall call.old.behind asked) }
+    ensures pending { result ≡ PENDING → (made ≡ 0) × ((share : SessionShare) × (session.old.behind.held.share ≡ Some share) × (share.session.pending ≢ None) × ((asked : Call) × IsCall call.old.behind asked)) }
     ensures statuses { (result ≡ NULL_POINTER) ⊎ ((result ≡ OK) ⊎ ((result ≡ CLOSED) ⊎ ((result ≡ RETIRED) ⊎ ((result ≡ PENDING) ⊎ ((result ≡ NO_MEMORY) ⊎ ((result ≡ NOT_SERVED) ⊎ ((NO_SUCH_OP ≤ result) × (result ≤ NO_SUCH_MODE)))))))) }
 {
     let Some(session) = session.get() else {
@@ -65,7 +65,7 @@ pub extern "C" fn pelgaisti_raw_session_turn(
     let Some(mut share) = session.take(alloc) else {
         return CLOSED;
     };
-    let status = turn_calls::turn(&mut share, call, made, turns, answer, wait, told);
+    let status = turn_calls::turn(&mut share, &call, made, turns, answer, wait, told);
     session.put(share);
     status
 }
