@@ -8,3 +8,4 @@ pub mod Starved
 pub mod Blockers
 pub mod SameOffice
 pub mod PathTurns
+pub mod Lending

@@ -10,5 +10,6 @@ pub mod PathTurns
 pub mod Queries
 pub mod EndedLists
 pub mod Offices
+pub mod Behind
 -- what only private items speak of
 pub mod inner

@@ -1,3 +1,4 @@
 pub mod Held
 pub mod Items
 pub mod EndedLists
+pub mod Lending

@@ -35,6 +35,7 @@ mod path_exports;
 mod path_step_exports;
 mod path_turn_calls;
 mod path_turn_exports;
+mod pointers;
 mod queries;
 mod query_exports;
 mod raw_box;
@@ -52,6 +53,10 @@ pub use claims::{ClaimNumbers, TransactionNumbers};
 pub use numbers::{
     AnswerNumbers, CallNumbers, EntryNumbers, HolderNumbers, PassNumbers, ReplyNumbers,
     ResourceNumbers,
+};
+pub use pointers::{
+    AnswerPointer, BookPointer, CallMutPointer, ClaimPointer, PassPointer, ReplyPointer,
+    SessionPointer, SizePointer, TransactionPointer, U32Pointer, U64Pointer,
 };
 pub use session_handle::SessionHandle;
 pub use version::HEADER_VERSION;

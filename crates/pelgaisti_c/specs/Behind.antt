@@ -1,0 +1,87 @@
+-- What lies behind pointers of C that may be null.
+use Rattle.std.specs.Prelude.{ℕ}
+use Rattle.std.specs.Coded.{Coded}
+use base.Fraction.{full_share}
+use base.Fml.{Fml, ftrue}
+use denote.Builtin.{u32, u64, usize}
+use denote.RattleType.{RattleType}
+use denote.RawPtr.{Ptr, block_ptr, null_ptr, lies_at}
+use Rattle.pelgaisti_c.specs.declared.book_handle.BookHandle.{BookHandle}
+use Rattle.pelgaisti_c.specs.contracts.book_handle.BookHandle.{the_row as book_handle_row}
+use Rattle.pelgaisti_c.specs.declared.session_handle.SessionHandle.{SessionHandle}
+use Rattle.pelgaisti_c.specs.contracts.session_handle.SessionHandle.{the_row as session_handle_row}
+use Rattle.pelgaisti_c.specs.declared.numbers.AnswerNumbers.{AnswerNumbers}
+use Rattle.pelgaisti_c.specs.contracts.numbers.AnswerNumbers.{the_row as answer_row}
+use Rattle.pelgaisti_c.specs.declared.numbers.CallNumbers.{CallNumbers}
+use Rattle.pelgaisti_c.specs.contracts.numbers.CallNumbers.{the_row as call_row}
+use Rattle.pelgaisti_c.specs.declared.claims.ClaimNumbers.{ClaimNumbers}
+use Rattle.pelgaisti_c.specs.contracts.claims.ClaimNumbers.{the_row as claim_row}
+use Rattle.pelgaisti_c.specs.declared.numbers.PassNumbers.{PassNumbers}
+use Rattle.pelgaisti_c.specs.contracts.numbers.PassNumbers.{the_row as pass_row}
+use Rattle.pelgaisti_c.specs.declared.numbers.ReplyNumbers.{ReplyNumbers}
+use Rattle.pelgaisti_c.specs.contracts.numbers.ReplyNumbers.{the_row as reply_row}
+use Rattle.pelgaisti_c.specs.declared.claims.TransactionNumbers.{TransactionNumbers}
+use Rattle.pelgaisti_c.specs.contracts.claims.TransactionNumbers.{the_row as transaction_row}
+
+-- the value x lies at the pointer, or the pointer is null
+abbrev pub maybe_at : (R : RattleType) → Ptr → R.Denot → Fml
+maybe_at R (block_ptr b o) x = lies_at R full_share (block_ptr b o) x
+maybe_at R null_ptr x = ftrue
+
+abbrev pub book_handle_behind : Ptr → BookHandle → Fml
+book_handle_behind = maybe_at book_handle_row
+
+abbrev pub session_handle_behind : Ptr → SessionHandle → Fml
+session_handle_behind = maybe_at session_handle_row
+
+abbrev pub answer_behind : Ptr → AnswerNumbers → Fml
+answer_behind = maybe_at answer_row
+
+abbrev pub call_behind : Ptr → CallNumbers → Fml
+call_behind = maybe_at call_row
+
+abbrev pub claim_behind : Ptr → ClaimNumbers → Fml
+claim_behind = maybe_at claim_row
+
+abbrev pub pass_behind : Ptr → PassNumbers → Fml
+pass_behind = maybe_at pass_row
+
+abbrev pub reply_behind : Ptr → ReplyNumbers → Fml
+reply_behind = maybe_at reply_row
+
+abbrev pub transaction_behind : Ptr → TransactionNumbers → Fml
+transaction_behind = maybe_at transaction_row
+
+abbrev pub size_behind : Ptr → ℕ → Fml
+size_behind = maybe_at usize
+
+abbrev pub u32_behind : Ptr → ℕ → Fml
+u32_behind = maybe_at u32
+
+abbrev pub u64_behind : Ptr → ℕ → Fml
+u64_behind = maybe_at u64
+
+-- how they are stored in ghost fields
+abbrev pub book_handle_coded : Coded BookHandle
+book_handle_coded = book_handle_row.coded
+
+abbrev pub session_handle_coded : Coded SessionHandle
+session_handle_coded = session_handle_row.coded
+
+abbrev pub answer_coded : Coded AnswerNumbers
+answer_coded = answer_row.coded
+
+abbrev pub call_coded : Coded CallNumbers
+call_coded = call_row.coded
+
+abbrev pub claim_coded : Coded ClaimNumbers
+claim_coded = claim_row.coded
+
+abbrev pub pass_coded : Coded PassNumbers
+pass_coded = pass_row.coded
+
+abbrev pub reply_coded : Coded ReplyNumbers
+reply_coded = reply_row.coded
+
+abbrev pub transaction_coded : Coded TransactionNumbers
+transaction_coded = transaction_row.coded

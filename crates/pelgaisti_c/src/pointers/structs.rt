@@ -1,0 +1,201 @@
+//! Pointers of C to structs of numbers that an export writes.
+
+ghost use Rattle.std.specs.Prelude.{◌≡◌, ◌≢◌, MatchOption};
+ghost use denote.RawPtr.{Testable, null_ptr};
+ghost use Rattle.pelgaisti_c.specs.declared.numbers.AnswerNumbers.{AnswerNumbers};
+ghost use Rattle.pelgaisti_c.specs.declared.numbers.CallNumbers.{CallNumbers};
+ghost use Rattle.pelgaisti_c.specs.declared.claims.ClaimNumbers.{ClaimNumbers};
+ghost use Rattle.pelgaisti_c.specs.declared.numbers.PassNumbers.{PassNumbers};
+ghost use Rattle.pelgaisti_c.specs.declared.numbers.ReplyNumbers.{ReplyNumbers};
+ghost use Rattle.pelgaisti_c.specs.declared.claims.TransactionNumbers.{TransactionNumbers};
+ghost use Rattle.pelgaisti_c.specs.Behind.{answer_coded, call_coded, claim_coded, pass_coded, reply_coded, transaction_coded};
+
+use crate::claims::{ClaimNumbers, TransactionNumbers};
+use crate::numbers::{AnswerNumbers, CallNumbers, PassNumbers, ReplyNumbers};
+use std::marker::Model;
+
+/// A pointer of C, null or to an answer.
+#[repr(C)]
+pub struct AnswerPointer {
+    pub at: *mut AnswerNumbers,
+    ghost testable: { Testable at },
+    pub ghost behind: { AnswerNumbers } by { answer_coded },
+}
+
+impl Model for AnswerPointer {
+    ghost use Rattle.pelgaisti_c.specs.Behind.{answer_behind};
+
+    ghost also_owns = { λ p. answer_behind p.at p.behind };
+}
+
+impl AnswerPointer {
+    ghost use Rattle.std.specs.Borrow.{sem};
+    ghost use Rattle.pelgaisti_c.specs.inner.Lending.{lends_of_answer_pointer};
+
+    /// What lies behind the pointer, or `None` at null.
+    pub(crate) fn get(&mut self) -> Option<&mut AnswerNumbers>
+        ensures* lends { sem 𝓛 (lends_of_answer_pointer self.entry result) }
+        ensures value { MatchOption result (self.old.at ≡ null_ptr) (λ r. (self.old.at ≢ null_ptr) × (r.now ≡ self.old.behind)) }
+    {
+        let at = self.at;
+        if at == std::ptr::null_mut() {
+            return None;
+        }
+        unsafe { Some(&mut *at) }
+    }
+}
+
+/// A pointer of C, null or to a call that is an output.
+#[repr(C)]
+pub struct CallMutPointer {
+    pub at: *mut CallNumbers,
+    ghost testable: { Testable at },
+    pub ghost behind: { CallNumbers } by { call_coded },
+}
+
+impl Model for CallMutPointer {
+    ghost use Rattle.pelgaisti_c.specs.Behind.{call_behind};
+
+    ghost also_owns = { λ p. call_behind p.at p.behind };
+}
+
+impl CallMutPointer {
+    ghost use Rattle.std.specs.Borrow.{sem};
+    ghost use Rattle.pelgaisti_c.specs.inner.Lending.{lends_of_call_mut_pointer};
+
+    /// What lies behind the pointer, or `None` at null.
+    pub(crate) fn get(&mut self) -> Option<&mut CallNumbers>
+        ensures* lends { sem 𝓛 (lends_of_call_mut_pointer self.entry result) }
+        ensures value { MatchOption result (self.old.at ≡ null_ptr) (λ r. (self.old.at ≢ null_ptr) × (r.now ≡ self.old.behind)) }
+    {
+        let at = self.at;
+        if at == std::ptr::null_mut() {
+            return None;
+        }
+        unsafe { Some(&mut *at) }
+    }
+}
+
+/// A pointer of C, null or to a lock or a waiting request.
+#[repr(C)]
+pub struct ClaimPointer {
+    pub at: *mut ClaimNumbers,
+    ghost testable: { Testable at },
+    pub ghost behind: { ClaimNumbers } by { claim_coded },
+}
+
+impl Model for ClaimPointer {
+    ghost use Rattle.pelgaisti_c.specs.Behind.{claim_behind};
+
+    ghost also_owns = { λ p. claim_behind p.at p.behind };
+}
+
+impl ClaimPointer {
+    ghost use Rattle.std.specs.Borrow.{sem};
+    ghost use Rattle.pelgaisti_c.specs.inner.Lending.{lends_of_claim_pointer};
+
+    /// What lies behind the pointer, or `None` at null.
+    pub(crate) fn get(&mut self) -> Option<&mut ClaimNumbers>
+        ensures* lends { sem 𝓛 (lends_of_claim_pointer self.entry result) }
+        ensures value { MatchOption result (self.old.at ≡ null_ptr) (λ r. (self.old.at ≢ null_ptr) × (r.now ≡ self.old.behind)) }
+    {
+        let at = self.at;
+        if at == std::ptr::null_mut() {
+            return None;
+        }
+        unsafe { Some(&mut *at) }
+    }
+}
+
+/// A pointer of C, null or to the result of a pass.
+#[repr(C)]
+pub struct PassPointer {
+    pub at: *mut PassNumbers,
+    ghost testable: { Testable at },
+    pub ghost behind: { PassNumbers } by { pass_coded },
+}
+
+impl Model for PassPointer {
+    ghost use Rattle.pelgaisti_c.specs.Behind.{pass_behind};
+
+    ghost also_owns = { λ p. pass_behind p.at p.behind };
+}
+
+impl PassPointer {
+    ghost use Rattle.std.specs.Borrow.{sem};
+    ghost use Rattle.pelgaisti_c.specs.inner.Lending.{lends_of_pass_pointer};
+
+    /// What lies behind the pointer, or `None` at null.
+    pub(crate) fn get(&mut self) -> Option<&mut PassNumbers>
+        ensures* lends { sem 𝓛 (lends_of_pass_pointer self.entry result) }
+        ensures value { MatchOption result (self.old.at ≡ null_ptr) (λ r. (self.old.at ≢ null_ptr) × (r.now ≡ self.old.behind)) }
+    {
+        let at = self.at;
+        if at == std::ptr::null_mut() {
+            return None;
+        }
+        unsafe { Some(&mut *at) }
+    }
+}
+
+/// A pointer of C, null or to a reply.
+#[repr(C)]
+pub struct ReplyPointer {
+    pub at: *mut ReplyNumbers,
+    ghost testable: { Testable at },
+    pub ghost behind: { ReplyNumbers } by { reply_coded },
+}
+
+impl Model for ReplyPointer {
+    ghost use Rattle.pelgaisti_c.specs.Behind.{reply_behind};
+
+    ghost also_owns = { λ p. reply_behind p.at p.behind };
+}
+
+impl ReplyPointer {
+    ghost use Rattle.std.specs.Borrow.{sem};
+    ghost use Rattle.pelgaisti_c.specs.inner.Lending.{lends_of_reply_pointer};
+
+    /// What lies behind the pointer, or `None` at null.
+    pub(crate) fn get(&mut self) -> Option<&mut ReplyNumbers>
+        ensures* lends { sem 𝓛 (lends_of_reply_pointer self.entry result) }
+        ensures value { MatchOption result (self.old.at ≡ null_ptr) (λ r. (self.old.at ≢ null_ptr) × (r.now ≡ self.old.behind)) }
+    {
+        let at = self.at;
+        if at == std::ptr::null_mut() {
+            return None;
+        }
+        unsafe { Some(&mut *at) }
+    }
+}
+
+/// A pointer of C, null or to a transaction.
+#[repr(C)]
+pub struct TransactionPointer {
+    pub at: *mut TransactionNumbers,
+    ghost testable: { Testable at },
+    pub ghost behind: { TransactionNumbers } by { transaction_coded },
+}
+
+impl Model for TransactionPointer {
+    ghost use Rattle.pelgaisti_c.specs.Behind.{transaction_behind};
+
+    ghost also_owns = { λ p. transaction_behind p.at p.behind };
+}
+
+impl TransactionPointer {
+    ghost use Rattle.std.specs.Borrow.{sem};
+    ghost use Rattle.pelgaisti_c.specs.inner.Lending.{lends_of_transaction_pointer};
+
+    /// What lies behind the pointer, or `None` at null.
+    pub(crate) fn get(&mut self) -> Option<&mut TransactionNumbers>
+        ensures* lends { sem 𝓛 (lends_of_transaction_pointer self.entry result) }
+        ensures value { MatchOption result (self.old.at ≡ null_ptr) (λ r. (self.old.at ≢ null_ptr) × (r.now ≡ self.old.behind)) }
+    {
+        let at = self.at;
+        if at == std::ptr::null_mut() {
+            return None;
+        }
+        unsafe { Some(&mut *at) }
+    }
+}
