@@ -42,8 +42,7 @@ static void post(void *engine, uint32_t session) {
     sem_post(&semaphores[session]);
 }
 
-/* Each call on a handle, and what its arguments are: a pointer (p), one that may be NULL (o), a number (n), a list and its room (lr), a
-   list of handles and their number (lm). */
+/* Each call on a handle, and what its arguments are: a pointer (p), one that may be NULL (o), a number (n), a list and its room (lr). */
 typedef uint32_t (*any_call)(uintptr_t, uintptr_t, uintptr_t, uintptr_t, uintptr_t, uintptr_t, uintptr_t, uintptr_t, uintptr_t);
 #define ANY(call) #call, (any_call)(void (*)(void))pelgaisti_##call
 static const struct {
@@ -55,7 +54,7 @@ static const struct {
     {ANY(book_holders), "pplrp"}, {ANY(book_waits_for), "pnnp"}, {ANY(book_blockers), "pnlrp"}, {ANY(book_transaction), "pnp"},
     {ANY(book_request), "pnp"}, {ANY(book_locks), "pnlrp"}, {ANY(book_ended), "plrp"}, {ANY(book_length), "pp"},
     {ANY(book_history), "pnlrp"}, {ANY(book_first_kept), "pp"}, {ANY(book_keep_at_most), "pn"}, {ANY(book_take_history), "pplrp"},
-    {ANY(book_lock_path), "pnpnpplrp"}, {ANY(office_open), "lm"}, {ANY(office_open_keeping), "lmn"}, {ANY(office_open_waking), "lmnp"},
+    {ANY(book_lock_path), "pnpnpplrp"}, {ANY(office_open), "pn"}, {ANY(office_open_keeping), "pnn"}, {ANY(office_open_waking), "pnnp"},
     {ANY(session_publish), "ppo"}, {ANY(session_serve), "po"}, {ANY(session_serve_telling), "polrp"},
     {ANY(session_perform_at_once), "ppop"}, {ANY(session_perform_telling), "ppoplrp"}, {ANY(session_collect), "pp"},
     {ANY(session_take_history), "pplrp"}, {ANY(session_held), "pnppp"}, {ANY(session_transaction), "pnpp"},
@@ -67,13 +66,12 @@ static const struct {
 /* What the pointers point to: handles are closed, and else nothing is a number that a call takes. */
 static unsigned char pointed_to[9][64];
 
-/* The status of a call whose argument `off` is NULL, if there is one, and whose lists have so much room. With room there are more handles
-   than an office may have. */
+/* The status of a call whose argument `off` is NULL, if there is one, and whose lists have so much room. */
 static uint32_t status_with(size_t k, size_t off, uintptr_t room) {
     uintptr_t a[9] = {0, 0, 0, 0, 0, 0, 0, 0, 0};
     for (size_t n = 0; all_calls[k].arguments[n]; n++) {
         const char is = all_calls[k].arguments[n];
-        a[n] = is == 'r' ? room : is == 'm' ? room * (PELGAISTI_MAX_SESSIONS + 1) : is == 'n' || n == off ? 0 : (uintptr_t)pointed_to[n];
+        a[n] = is == 'r' ? room : is == 'n' || n == off ? 0 : (uintptr_t)pointed_to[n];
     }
     return all_calls[k].call(a[0], a[1], a[2], a[3], a[4], a[5], a[6], a[7], a[8]);
 }
@@ -90,7 +88,7 @@ static void null_is_refused(void) {
         int is_right = status_with(k, 9, 1) != PELGAISTI_NULL && status_with(k, 9, 0) != PELGAISTI_NULL;
         for (size_t n = 0; arguments[n]; n++) {
             int may_be_null = arguments[n] == 'o', is_list = arguments[n] == 'l';
-            if (strchr("nrm", arguments[n])) continue;
+            if (arguments[n] == 'n' || arguments[n] == 'r') continue;
             memcpy(before, pointed_to, sizeof before);
             is_right &= (status_with(k, n, 1) == PELGAISTI_NULL) == !may_be_null;
             is_right &= may_be_null || !memcmp(before, pointed_to, sizeof before);

@@ -127,7 +127,7 @@ pub extern "C" fn pelgaisti_raw_book_serve_batch(
     calls: &mut EntryList,
     count: &mut SizePointer,
 ) -> u32
-    ensures null { result ≡ NULL_POINTER ↔ ((book.old.at ≡ null_ptr) ⊎ (IsNullList calls.old ⊎ (count.old.at ≡ null_ptr))) }
+    ensures null { result ≡ NULL_POINTER ↔ ((book.old.at ≡ null_ptr) ⊎ (IsNullList calls.old.at calls.old.room ⊎ (count.old.at ≡ null_ptr))) }
     ensures served { result ≡ OK → (before after : BookView) × (book.old.behind.held.book ≡ Some before) × (book.new.behind.held.book ≡ Some after)
         × IsBatchServed before after calls.old.behind calls.new.behind count.new.behind }
     ensures failed { result ≢ OK → (book.new.behind.held.book ≡ book.old.behind.held.book) × (calls.new.behind ≡ calls.old.behind) × (count.new.behind ≡ count.old.behind) }
@@ -234,7 +234,7 @@ pub extern "C" fn pelgaisti_raw_book_holders(
     list: &mut HolderList,
     count: &mut SizePointer,
 ) -> u32
-    ensures null { result ≡ NULL_POINTER ↔ ((book.old.at ≡ null_ptr) ⊎ ((resource.old.at ≡ null_ptr) ⊎ (IsNullList list.old ⊎ (count.old.at ≡ null_ptr)))) }
+    ensures null { result ≡ NULL_POINTER ↔ ((book.old.at ≡ null_ptr) ⊎ ((resource.old.at ≡ null_ptr) ⊎ (IsNullList list.old.at list.old.room ⊎ (count.old.at ≡ null_ptr)))) }
     ensures ok { result ≡ OK → (view : BookView) × (book.old.behind.held.book ≡ Some view) × ((r : List ℕ) × IsPath resource.old.behind r
         × (let all = holders r (state_of view.history).table.held in
         (list.new.behind ≡ are_written numbers_of_holder all list.old.behind) × (count.new.behind ≡ length all))) }
@@ -275,7 +275,7 @@ pub extern "C" fn pelgaisti_raw_book_ended(
     list: &mut SessionList,
     count: &mut SizePointer,
 ) -> u32
-    ensures null { result ≡ NULL_POINTER ↔ ((book.old.at ≡ null_ptr) ⊎ (IsNullList list.old ⊎ (count.old.at ≡ null_ptr))) }
+    ensures null { result ≡ NULL_POINTER ↔ ((book.old.at ≡ null_ptr) ⊎ (IsNullList list.old.at list.old.room ⊎ (count.old.at ≡ null_ptr))) }
     ensures ok { result ≡ OK → (view : BookView) × (book.old.behind.held.book ≡ Some view) × ((told : List ℕ) × AreListedOnce view.ended told
         × (list.new.behind ≡ are_written (λ u. u) told list.old.behind) × (count.new.behind ≡ length told)) }
     ensures failed { result ≢ OK → (list.new.behind ≡ list.old.behind) × (count.new.behind ≡ count.old.behind) }
@@ -367,7 +367,7 @@ pub extern "C" fn pelgaisti_raw_book_history(
     entries: &mut EntryList,
     count: &mut SizePointer,
 ) -> u32
-    ensures null { result ≡ NULL_POINTER ↔ ((book.old.at ≡ null_ptr) ⊎ (IsNullList entries.old ⊎ (count.old.at ≡ null_ptr))) }
+    ensures null { result ≡ NULL_POINTER ↔ ((book.old.at ≡ null_ptr) ⊎ (IsNullList entries.old.at entries.old.room ⊎ (count.old.at ≡ null_ptr))) }
     ensures ok { result ≡ OK → (view : BookView) × (book.old.behind.held.book ≡ Some view) × (let rest = drop first view.history in
         (entries.new.behind ≡ are_written numbers_of_entry rest entries.old.behind) × (count.new.behind ≡ min (length rest) (length entries.old.behind))) }
     ensures failed { result ≢ OK → (entries.new.behind ≡ entries.old.behind) × (count.new.behind ≡ count.old.behind) }
@@ -430,7 +430,7 @@ pub extern "C" fn pelgaisti_raw_book_take_history(
     entries: &mut EntryList,
     count: &mut SizePointer,
 ) -> u32
-    ensures null { result ≡ NULL_POINTER ↔ ((book.old.at ≡ null_ptr) ⊎ ((first.old.at ≡ null_ptr) ⊎ (IsNullList entries.old ⊎ (count.old.at ≡ null_ptr)))) }
+    ensures null { result ≡ NULL_POINTER ↔ ((book.old.at ≡ null_ptr) ⊎ ((first.old.at ≡ null_ptr) ⊎ (IsNullList entries.old.at entries.old.room ⊎ (count.old.at ≡ null_ptr)))) }
     ensures ok { result ≡ OK → (view : BookView) × (book.old.behind.held.book ≡ Some view) × (first.new.behind ≡ first_kept_by view)
         × (entries.new.behind ≡ are_written numbers_of_entry (kept_by view) entries.old.behind)
         × (count.new.behind ≡ min (length (kept_by view)) (length entries.old.behind))

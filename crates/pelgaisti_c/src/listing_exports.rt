@@ -86,7 +86,7 @@ pub extern "C" fn pelgaisti_raw_book_locks(
     list: &mut ClaimList,
     count: &mut SizePointer,
 ) -> u32
-    ensures null { result ≡ NULL_POINTER ↔ ((book.old.at ≡ null_ptr) ⊎ (IsNullList list.old ⊎ (count.old.at ≡ null_ptr))) }
+    ensures null { result ≡ NULL_POINTER ↔ ((book.old.at ≡ null_ptr) ⊎ (IsNullList list.old.at list.old.room ⊎ (count.old.at ≡ null_ptr))) }
     ensures ok { result ≡ OK → (view : BookView) × (book.old.behind.held.book ≡ Some view) × (let all = listing_of (state_of view.history) in
         (list.new.behind ≡ are_written numbers_of_claim (drop first all) list.old.behind) × (count.new.behind ≡ length all)) }
     ensures failed { result ≢ OK → (list.new.behind ≡ list.old.behind) × (count.new.behind ≡ count.old.behind) }

@@ -1,10 +1,10 @@
 //! The export that opens an office.
 
 ghost use Rattle.std.specs.Prelude.{◌≡◌, ◌≢◌, ◌≤◌, ◌⊎◌, ◌↔◌, [], true, false, Some, None, All, Any, IfOk, length, map};
+ghost use denote.RawPtr.{null_ptr};
 ghost use Rattle.lock_office.specs.Sessions.{IsSessionOf, IsIdle};
 ghost use Rattle.lock_rules.specs.declared.calls.TheConstants.{MAX_SESSIONS};
 ghost use Rattle.publication.specs.Views.{BoardView};
-ghost use Rattle.pelgaisti_c.specs.Pointers.{IsNullList};
 ghost use Rattle.pelgaisti_c.specs.Offices.{IsOfOffice, AreSessionsOf};
 
 use crate::ended_list::EndedList;
@@ -112,7 +112,7 @@ pub extern "C" fn pelgaisti_raw_office_open(
     bound: u64,
     waker: u64,
 ) -> u32
-    ensures null { result ≡ NULL_POINTER ↔ (IsNullList sessions.old) }
+    ensures null { result ≡ NULL_POINTER ↔ (sessions.old.at ≡ null_ptr) }
     ensures ok { result ≡ OK → (office : BoardView) × (office.sessions ≡ length sessions.old.behind) × AreSessionsOf office mark waker sessions.new.behind }
     ensures failed { result ≢ OK → sessions.new.behind ≡ sessions.old.behind }
     ensures count { result ≢ NULL_POINTER → (result ≡ NO_SUCH_COUNT ↔ ¬ ((1 ≤ length sessions.old.behind) × (length sessions.old.behind ≤ MAX_SESSIONS))) }

@@ -38,7 +38,7 @@ pub extern "C" fn pelgaisti_raw_book_lock_path(
     list: &mut SessionList,
     count: &mut SizePointer,
 ) -> u32
-    ensures null { result ≡ NULL_POINTER ↔ ((book.old.at ≡ null_ptr) ⊎ ((resource.old.at ≡ null_ptr) ⊎ ((level.old.at ≡ null_ptr) ⊎ ((reply.old.at ≡ null_ptr) ⊎ (IsNullList list.old ⊎ (count.old.at ≡ null_ptr)))))) }
+    ensures null { result ≡ NULL_POINTER ↔ ((book.old.at ≡ null_ptr) ⊎ ((resource.old.at ≡ null_ptr) ⊎ ((level.old.at ≡ null_ptr) ⊎ ((reply.old.at ≡ null_ptr) ⊎ (IsNullList list.old.at list.old.room ⊎ (count.old.at ≡ null_ptr)))))) }
     ensures served { result ≤ NO_MEMORY → (before after : BookView) × (book.old.behind.held.book ≡ Some before) × (book.new.behind.held.book ≡ Some after)
         × HasLevelBehind resource.old.behind level.old.behind × HasRoom before list.old.behind × IsSession before session
         × ((locked : PathLocked) × IsPathServed before after session resource.old.behind mode level.old.behind locked result
@@ -96,7 +96,7 @@ pub extern "C" fn pelgaisti_raw_book_blockers(
     list: &mut SessionList,
     count: &mut SizePointer,
 ) -> u32
-    ensures null { result ≡ NULL_POINTER ↔ ((book.old.at ≡ null_ptr) ⊎ (IsNullList list.old ⊎ (count.old.at ≡ null_ptr))) }
+    ensures null { result ≡ NULL_POINTER ↔ ((book.old.at ≡ null_ptr) ⊎ (IsNullList list.old.at list.old.room ⊎ (count.old.at ≡ null_ptr))) }
     ensures ok { result ≡ OK → (view : BookView) × (book.old.behind.held.book ≡ Some view) × IsSession view session
         × (let all = blockers_among view.sessions (state_of view.history).table session in
         (list.new.behind ≡ are_written (λ u. u) all list.old.behind) × (count.new.behind ≡ length all)) }

@@ -107,7 +107,7 @@ pub extern "C" fn pelgaisti_raw_session_holders(
     count: &mut SizePointer,
     seen: &mut U64Pointer,
 ) -> u32
-    ensures null { result ≡ NULL_POINTER ↔ ((session.old.at ≡ null_ptr) ⊎ ((resource.old.at ≡ null_ptr) ⊎ (IsNullList list.old ⊎ ((count.old.at ≡ null_ptr) ⊎ (seen.old.at ≡ null_ptr))))) }
+    ensures null { result ≡ NULL_POINTER ↔ ((session.old.at ≡ null_ptr) ⊎ ((resource.old.at ≡ null_ptr) ⊎ (IsNullList list.old.at list.old.room ⊎ ((count.old.at ≡ null_ptr) ⊎ (seen.old.at ≡ null_ptr))))) }
     ensures ok { result ≡ OK → (before after : SessionShare) × (session.old.behind.held.share ≡ Some before) × (session.new.behind.held.share ≡ Some after)
         × AreHoldersSeen before after resource.old.behind list.old.behind list.new.behind count.new.behind seen.new.behind }
     ensures failed { result ≢ OK → (list.new.behind ≡ list.old.behind) × (count.new.behind ≡ count.old.behind) × (seen.new.behind ≡ seen.old.behind) }
@@ -155,7 +155,7 @@ pub extern "C" fn pelgaisti_raw_session_blockers(
     count: &mut SizePointer,
     seen: &mut U64Pointer,
 ) -> u32
-    ensures null { result ≡ NULL_POINTER ↔ ((session.old.at ≡ null_ptr) ⊎ (IsNullList list.old ⊎ ((count.old.at ≡ null_ptr) ⊎ (seen.old.at ≡ null_ptr)))) }
+    ensures null { result ≡ NULL_POINTER ↔ ((session.old.at ≡ null_ptr) ⊎ (IsNullList list.old.at list.old.room ⊎ ((count.old.at ≡ null_ptr) ⊎ (seen.old.at ≡ null_ptr)))) }
     ensures ok { result ≡ OK → (before after : SessionShare) × (session.old.behind.held.share ≡ Some before) × (session.new.behind.held.share ≡ Some after)
         × AreBlockersSeen before after whose list.old.behind list.new.behind count.new.behind seen.new.behind }
     ensures failed { result ≢ OK → (session.new.behind.held.share ≡ session.old.behind.held.share) × (list.new.behind ≡ list.old.behind) × (count.new.behind ≡ count.old.behind) × (seen.new.behind ≡ seen.old.behind) }
@@ -271,7 +271,7 @@ pub extern "C" fn pelgaisti_raw_session_locks(
     count: &mut SizePointer,
     seen: &mut U64Pointer,
 ) -> u32
-    ensures null { result ≡ NULL_POINTER ↔ ((session.old.at ≡ null_ptr) ⊎ (IsNullList list.old ⊎ ((count.old.at ≡ null_ptr) ⊎ (seen.old.at ≡ null_ptr)))) }
+    ensures null { result ≡ NULL_POINTER ↔ ((session.old.at ≡ null_ptr) ⊎ (IsNullList list.old.at list.old.room ⊎ ((count.old.at ≡ null_ptr) ⊎ (seen.old.at ≡ null_ptr)))) }
     ensures ok { result ≡ OK → (before after : SessionShare) × (session.old.behind.held.share ≡ Some before) × (session.new.behind.held.share ≡ Some after)
         × AreLocksSeen before after first list.old.behind list.new.behind count.new.behind seen.new.behind }
     ensures failed { result ≢ OK → (list.new.behind ≡ list.old.behind) × (count.new.behind ≡ count.old.behind) × (seen.new.behind ≡ seen.old.behind) }

@@ -108,7 +108,7 @@ pub extern "C" fn pelgaisti_raw_session_serve_telling(
     list: &mut SessionList,
     count: &mut SizePointer,
 ) -> u32
-    ensures null { result ≡ NULL_POINTER ↔ ((session.old.at ≡ null_ptr) ⊎ ((pass.old.at ≡ null_ptr) ⊎ (IsNullList list.old ⊎ (count.old.at ≡ null_ptr)))) }
+    ensures null { result ≡ NULL_POINTER ↔ ((session.old.at ≡ null_ptr) ⊎ ((pass.old.at ≡ null_ptr) ⊎ (IsNullList list.old.at list.old.room ⊎ (count.old.at ≡ null_ptr)))) }
     ensures ok { result ≡ OK → (before after : SessionShare) × (session.old.behind.held.share ≡ Some before) × (session.new.behind.held.share ≡ Some after)
         × IsToldTurn before after pass.new.behind.served pass.new.behind.starved list.old.behind list.new.behind count.new.behind }
     ensures failed { result ≢ OK → (pass.new.behind ≡ pass.old.behind) × (list.new.behind ≡ list.old.behind) × (count.new.behind ≡ count.old.behind) }
@@ -209,7 +209,7 @@ pub extern "C" fn pelgaisti_raw_session_perform_telling(
     list: &mut SessionList,
     count: &mut SizePointer,
 ) -> u32
-    ensures null { result ≡ NULL_POINTER ↔ ((session.old.at ≡ null_ptr) ⊎ ((call.old.at ≡ null_ptr) ⊎ ((pass.old.at ≡ null_ptr) ⊎ ((answer.old.at ≡ null_ptr) ⊎ (IsNullList list.old ⊎ (count.old.at ≡ null_ptr)))))) }
+    ensures null { result ≡ NULL_POINTER ↔ ((session.old.at ≡ null_ptr) ⊎ ((call.old.at ≡ null_ptr) ⊎ ((pass.old.at ≡ null_ptr) ⊎ ((answer.old.at ≡ null_ptr) ⊎ (IsNullList list.old.at list.old.room ⊎ (count.old.at ≡ null_ptr)))))) }
     ensures ok { result ≡ OK → (before after : SessionShare) × (session.old.behind.held.share ≡ Some before) × (session.new.behind.held.share ≡ Some after)
         × IsToldPerformed before after call.old.behind answer.new.behind pass.new.behind.served pass.new.behind.starved list.old.behind list.new.behind count.new.behind }
     ensures failed { result ≢ OK → (pass.new.behind ≡ pass.old.behind) × (answer.new.behind ≡ answer.old.behind) }
@@ -293,7 +293,7 @@ pub extern "C" fn pelgaisti_raw_session_take_history(
     entries: &mut EntryList,
     count: &mut SizePointer,
 ) -> u32
-    ensures null { result ≡ NULL_POINTER ↔ ((session.old.at ≡ null_ptr) ⊎ ((first.old.at ≡ null_ptr) ⊎ (IsNullList entries.old ⊎ (count.old.at ≡ null_ptr)))) }
+    ensures null { result ≡ NULL_POINTER ↔ ((session.old.at ≡ null_ptr) ⊎ ((first.old.at ≡ null_ptr) ⊎ (IsNullList entries.old.at entries.old.room ⊎ (count.old.at ≡ null_ptr)))) }
     ensures ok { result ≡ OK → (before after : SessionShare) × (session.old.behind.held.share ≡ Some before) × (session.new.behind.held.share ≡ Some after)
         × IsPieceTaken before after first.new.behind count.new.behind entries.old.behind entries.new.behind }
     ensures failed { result ≢ OK → (session.new.behind.held.share ≡ session.old.behind.held.share) × (first.new.behind ≡ first.old.behind) × (entries.new.behind ≡ entries.old.behind) × (count.new.behind ≡ count.old.behind) }
