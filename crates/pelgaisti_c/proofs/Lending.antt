@@ -1,32 +1,31 @@
--- The walk of `get` of a pointer that may be null, at all pointees at once. Assumes `Logic`.
+-- The walk of `get` of a pointer that may be null and lends what lies behind it, at all pointees at once. Assumes `Logic`.
 use Rattle.std.proofs.Common.{◌≡◌, ◌≢◌, ℕ, List, [], ◌∷◌, refl, sym, ap, ap₂, ◌∙◌, subst, lit<, w8, w64, Some, None, MatchOption}
 use Rattle.std.proofs.raw_atomic.Walks.{proved}
 use Rattle.std.specs.Borrow.{LendsIf}
 use mathlib.Core.Option as maybe
 use seplogic.Ra.Ura.{Ura}
-use mir.Syntax.{Ty, Fn, Body, Sym, Callee, named, erased, ty_ptr, ty_bool, local, value_local, place, deref, field, copy, int, assign, rv_opd, op2, ptr_eq, cond, seq, aggregate, return, skip, block, addr_of}
+use mir.Syntax.{Ty, Fn, Body, Callee, named, erased, ty_ptr, ty_bool, local, value_local, place, deref, field, copy, int, assign, rv_opd, op2, ptr_eq, cond, seq, aggregate, return, skip, block, addr_of}
 use mir.Val.{Val, vptr, of_list}
 use base.Fraction.{full_share}
 use base.Logic.{ent, sep, emp, id⊢}
-use base.Stored.{Coded}
-use base.Fml.{GName, Lft, Fml, ftrue, fsep, fres, flft}
+use base.Fml.{GName, Fml, ftrue, fsep, fres, flft}
 use prog.Model.{Model}
 use prog.Wp.{Closed}
 use contract.Monad.{fact}
 use contract.Running.{Running, tables}
 use types.Logic.{Logic, sem}
 use types.Part.{whole, sub, look_in, agg}
-use types.Kit.{Item, Goal, Seq, ‵, ◌⊛◌, some, later, at_ret, ◌$◌, ◌∵◌, !, qed, done, move, keep, use0, use1, split, split3, join, fsplit, fsplit3, fjoin, fpack, pick, await, rewrite, suffices, frame, group}
+use types.Kit.{‵, ◌⊛◌, some, later, at_ret, ◌$◌, ◌∵◌, !, qed, done, move, keep, use0, use1, split, split3, join, fsplit, fsplit3, fjoin, fpack, pick, await, rewrite, suffices, frame, group}
 use types.Match.{live}
 use types.Run.{enter, of_opd, lit, bin, addr, load, stop, fld, no_more, and_then, first, blocks, branches, skips, exec, returns, returns_within}
 use types.ByLocal.{is, alloc_all, pass_all, free_all, look_at, get, through, sets, sets_last, env}
 use denote.Builtin.{RefMutOf}
-use denote.Exit.{Kept, Exit, no}
+use denote.Exit.{no}
 use denote.Follow.{follows, follows_if, follows_by, lends_Part}
 use denote.Laws.{shows}
 use denote.Memory.{mem, cell_at, part_of}
 use denote.RattleType.{RattleType}
-use denote.RawPtr.{Ptr, block_ptr, null_ptr, ptr_val, InBlock, Testable, tests_null, lies_at}
+use denote.RawPtr.{Ptr, block_ptr, null_ptr, ptr_val, Testable, tests_null, lies_at}
 use denote.Ref.{MutRef, mut_vals, mut_Tells}
 use denote.Signature.{Signature, plain, type_at, mut_ref_to}
 use denote.Steps.{nothing, opens, closes, peeks}
@@ -41,13 +40,7 @@ use denote.Triple.Walked.{Stays, walk_of, says, stay_dropped, Goes-spent_ref, en
 use Rattle.core.specs.contracts.option.Option as OP
 use Rattle.core.proofs.option.Made.{Some-of, none_of}
 use Rattle.pelgaisti_c.specs.Behind.{maybe_at}
-
-module _ {M : Type 1} {𝓤 : Ura M} {𝓛 : Logic 𝓤} {K : Type 0} {Γ : List (Item 𝓤)} {G : Goal 𝓤 𝓛.H} where
-  -- by the pointer's form
-  pub null_or_block : K → (p : Ptr) (F : Ptr → Fml) → (p ≡ null_ptr → Seq K 𝓛 (‵ (F null_ptr) ∷ Γ) G)
-      → ((b o : ℕ) → p ≡ block_ptr b o → Seq K 𝓛 (‵ (F (block_ptr b o)) ∷ Γ) G) → Seq K 𝓛 (‵ (F p) ∷ Γ) G
-  null_or_block t null_ptr F k h = k refl
-  null_or_block t (block_ptr b o) F k h = h b o refl
+use Rattle.pelgaisti_c.proofs.Behind.{PointerTo, null_or_block, not_null, first_of, sized}
 
 module _ {M : Type 1} {𝓤 : Ura M} (𝓛 : Logic 𝓤) (R T : RattleType) (F : T.Denot → R.Denot) where
   -- what a reference that lends nothing ends as
@@ -72,34 +65,8 @@ module _ {M : Type 1} {𝓤 : Ura M} (𝓛 : Logic 𝓤) (R T : RattleType) (F :
         rewrite ! 0 (λ (X : Fml). ‵ X) (sym (e w)) refl $ move ! (1 ∷ 0 ∷ []) $ fjoin ! $
         fpack ! (List Val) (λ vs. fsep (cell_at full_share R.mir vs b o) (R.own_val (F w) vs)) us $ done !
 
--- the machine type of a type that has one
-abbrev pub first_of : List Ty → Ty
-first_of [] = ty_bool
-first_of (ty ∷ tys) = ty
-
--- a block is not null
-pub not_null : {b o : ℕ} → block_ptr b o ≡ null_ptr → ⊥
-not_null e = subst InBlock e tt
-
--- a type with one machine type
-abbrev pub sized : RattleType → Ty → RattleType
-sized X ty = record X { mir = ty ∷ [] }
-
--- a struct whose one field is a pointer, with what lies behind it as a ghost field
-pub record PointerTo (T : RattleType) : Type 2 where
-  pub name : Sym
-  pub D : Type 0
-  pub coded : Coded D
-  pub exit : Kept → Exit D
-  pub shr_at : D → ℕ → ℕ → Lft → Fml
-  pub at : D → Ptr
-  pub testable : (d : D) → Testable (at d)
-  pub behind : D → T.Denot
-  pub with_behind : D → T.Denot → D
-  pub at_stays : (d : D) (w : T.Denot) → at (with_behind d w) ≡ at d
-  pub is_behind : (d : D) (w : T.Denot) → behind (with_behind d w) ≡ w
-
-module _ (X : RattleType) (ty : Ty) (P : PointerTo (sized X ty)) where
+module _ (X : RattleType) (ty : Ty) (P : PointerTo (sized X ty)) (with_behind : P.D → X.Denot → P.D)
+    (at_stays : (d : P.D) (x : X.Denot) → P.at (with_behind d x) ≡ P.at d) (is_behind : (d : P.D) (x : X.Denot) → P.behind (with_behind d x) ≡ x) where
   abbrev T : RattleType
   T = sized X ty
 
@@ -142,7 +109,7 @@ module _ (X : RattleType) (ty : Ty) (P : PointerTo (sized X ty)) where
   clauses {𝓤 = 𝓤} 𝓛 κs a = record {
     ghost = Unit {0};
     requires = λ _. emp 𝓤;
-    ensures = λ _ r _. sep 𝓤 (sem 𝓛 (LendsIf R T a.0 r (P.with_behind a.0.now) a.0.now))
+    ensures = λ _ r _. sep 𝓤 (sem 𝓛 (LendsIf R T a.0 r (with_behind a.0.now) a.0.now))
         (fact 𝓤 (MatchOption r (P.at a.0.now ≡ null_ptr) (λ x. (P.at a.0.now ≢ null_ptr) × (x.now ≡ P.behind a.0.now))));
   }
 
@@ -199,7 +166,7 @@ module _ (X : RattleType) (ty : Ty) (P : PointerTo (sized X ty)) where
         (λ t. sets ! (agg ! (and_then ! (lit ! tt) (no_more !))) refl (tt, (record { fits = lit< tt }, tt)) $
         rewrite ! 2 Cell (sym word) refl $ rewrite ! 0 (λ (p : Ptr). ‵ (maybe_at T p (P.behind h))) (sym e) refl $
         move ! (1 ∷ []) $ fjoin ! $ move ! (1 ∷ []) $ closes ! tt R h us b o $
-        use1 𝓛 (‵ (fres γ (R.coded.code h))) (𝓛.names.obs-res γ (R.coded.code h)) $ use1 𝓛 (‵ (follows_if R T γ maybe.none (P.with_behind h) h)) (none_follows 𝓛 R T (P.with_behind h) γ h) $
+        use1 𝓛 (‵ (fres γ (R.coded.code h))) (𝓛.names.obs-res γ (R.coded.code h)) $ use1 𝓛 (‵ (follows_if R T γ maybe.none (with_behind h) h)) (none_follows 𝓛 R T (with_behind h) γ h) $
         -- [what is said of the borrow; the borrow; the token]
         returns_within ! (W.post y) refl (look_at ! 0 refl) $ free_all ! refl $ keep ! (2 ∷ 0 ∷ []) $
         use0 𝓛 (‵ ((OP.the_row Lent).own_val None (live 0 (of_list []) ∷ []))) (none_of 𝓛 Lent) $
@@ -220,13 +187,13 @@ module _ (X : RattleType) (ty : Ty) (P : PointerTo (sized X ty)) where
         move ! (1 ∷ 2 ∷ []) $ fjoin ! $ move ! (2 ∷ 3 ∷ 4 ∷ 1 ∷ 0 ∷ []) $ group ! 5 $
         let k' = R.coded.code h in
         let A : Fml = fields_own (P.at h) us in
-        let way = back 𝓛 R T (P.with_behind h) A us b o b' o' (λ w.
-        ap₂ (λ (p : Ptr) (x : T.Denot). fsep (fields_own p us) (maybe_at T p x)) (P.at_stays h w) (P.is_behind h w)
+        let way = back 𝓛 R T (with_behind h) A us b o b' o' (λ w.
+        ap₂ (λ (p : Ptr) (x : T.Denot). fsep (fields_own p us) (maybe_at T p x)) (at_stays h w) (is_behind h w)
         ∙ ap (λ (p : Ptr). fsep A (maybe_at T p w)) e) in
-        use1 𝓛 (later (some (λ (δ : GName). ‵ (Lent.own_val (record { ref_ptr = (b', o'); ghost_name = δ; now = P.behind h }) (vptr b' o' ∷ [])) ⊛ ‵ (flft κs.0 qs.0) ⊛ ‵ (follows R T γ δ (P.with_behind h)))))
-        (lends_Part 𝓛 R T (P.with_behind h) (named 0) κs.0 qs.0 b o b' o' γ (sem 𝓛 (Rest 𝓛 R T (P.with_behind h) A us b o b' o')) way k' k' (P.behind h)) $ await ! tt $ pick ! (λ δ. split3 ! $
+        use1 𝓛 (later (some (λ (δ : GName). ‵ (Lent.own_val (record { ref_ptr = (b', o'); ghost_name = δ; now = P.behind h }) (vptr b' o' ∷ [])) ⊛ ‵ (flft κs.0 qs.0) ⊛ ‵ (follows R T γ δ (with_behind h)))))
+        (lends_Part 𝓛 R T (with_behind h) (named 0) κs.0 qs.0 b o b' o' γ (sem 𝓛 (Rest 𝓛 R T (with_behind h) A us b o b' o')) way k' k' (P.behind h)) $ await ! tt $ pick ! (λ δ. split3 ! $
         use1 𝓛 (‵ ((OP.the_row Lent).own_val (Some (record { ref_ptr = (b', o'); ghost_name = δ; now = P.behind h })) (live 1 (of_list (vptr b' o' ∷ [])) ∷ []))) (Some-of 𝓛 Lent (record { ref_ptr = (b', o'); ghost_name = δ; now = P.behind h }) (vptr b' o')) $
         returns ! (look_at ! 0 refl) $ free_all ! refl $ keep ! (0 ∷ 1 ∷ 2 ∷ []) $
         suffices ! _ (ends_at 𝓛 ended stayed c y (live 1 (of_list (vptr b' o' ∷ []))) (Some (record { ref_ptr = (b', o'); ghost_name = δ; now = P.behind h })) (tt, tt) (tt, tt)) $
-        move ! (2 ∷ []) $ use1 𝓛 (‵ (follows_if R T γ (maybe.some δ) (P.with_behind h) h)) (some_follows 𝓛 R T (P.with_behind h) γ δ h) $ move ! (1 ∷ 2 ∷ 0 ∷ []) $
+        move ! (2 ∷ []) $ use1 𝓛 (‵ (follows_if R T γ (maybe.some δ) (with_behind h) h)) (some_follows 𝓛 R T (with_behind h) γ δ h) $ move ! (1 ∷ 2 ∷ 0 ∷ []) $
         nothing ! $ move ! (2 ∷ 0 ∷ []) $ join ! $ nothing ! $ nothing ! $ join ! $ move ! (1 ∷ 0 ∷ 2 ∷ []) $ group ! 3 $ frame ! $ says ! ((λ z. not_null (sym e ∙ z)), refl) $ done !)))))))

@@ -8,4 +8,6 @@ pub mod Starved
 pub mod Blockers
 pub mod SameOffice
 pub mod PathTurns
+pub mod Behind
 pub mod Lending
+pub mod Copying

@@ -2,7 +2,7 @@
 use Rattle.std.specs.Prelude.{ℕ}
 use Rattle.std.specs.Coded.{Coded}
 use base.Fraction.{full_share}
-use base.Fml.{Fml, ftrue}
+use base.Fml.{Share, Fml, ftrue, fex}
 use denote.Builtin.{u32, u64, usize}
 use denote.RattleType.{RattleType}
 use denote.RawPtr.{Ptr, block_ptr, null_ptr, lies_at}
@@ -22,11 +22,18 @@ use Rattle.pelgaisti_c.specs.declared.numbers.ReplyNumbers.{ReplyNumbers}
 use Rattle.pelgaisti_c.specs.contracts.numbers.ReplyNumbers.{the_row as reply_row}
 use Rattle.pelgaisti_c.specs.declared.claims.TransactionNumbers.{TransactionNumbers}
 use Rattle.pelgaisti_c.specs.contracts.claims.TransactionNumbers.{the_row as transaction_row}
+use Rattle.pelgaisti_c.specs.declared.numbers.ResourceNumbers.{ResourceNumbers}
+use Rattle.pelgaisti_c.specs.contracts.numbers.ResourceNumbers.{the_row as resource_row}
 
 -- the value x lies at the pointer, or the pointer is null
 abbrev pub maybe_at : (R : RattleType) → Ptr → R.Denot → Fml
 maybe_at R (block_ptr b o) x = lies_at R full_share (block_ptr b o) x
 maybe_at R null_ptr x = ftrue
+
+-- a share of the value x lies at the pointer, or the pointer is null
+abbrev pub maybe_shared : (R : RattleType) → Ptr → R.Denot → Fml
+maybe_shared R (block_ptr b o) x = fex Share (λ q. lies_at R q (block_ptr b o) x)
+maybe_shared R null_ptr x = ftrue
 
 abbrev pub book_handle_behind : Ptr → BookHandle → Fml
 book_handle_behind = maybe_at book_handle_row
@@ -61,6 +68,12 @@ u32_behind = maybe_at u32
 abbrev pub u64_behind : Ptr → ℕ → Fml
 u64_behind = maybe_at u64
 
+abbrev pub call_shared : Ptr → CallNumbers → Fml
+call_shared = maybe_shared call_row
+
+abbrev pub resource_shared : Ptr → ResourceNumbers → Fml
+resource_shared = maybe_shared resource_row
+
 -- how they are stored in ghost fields
 abbrev pub book_handle_coded : Coded BookHandle
 book_handle_coded = book_handle_row.coded
@@ -85,3 +98,6 @@ reply_coded = reply_row.coded
 
 abbrev pub transaction_coded : Coded TransactionNumbers
 transaction_coded = transaction_row.coded
+
+abbrev pub resource_coded : Coded ResourceNumbers
+resource_coded = resource_row.coded

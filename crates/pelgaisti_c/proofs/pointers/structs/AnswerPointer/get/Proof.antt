@@ -4,7 +4,8 @@ use Rattle.pelgaisti_c.specs.contracts.numbers.AnswerNumbers.{the_row as row}
 use Rattle.pelgaisti_c.specs.declared.pointers.structs.AnswerPointer.{AnswerPointer}
 use Rattle.pelgaisti_c.specs.contracts.pointers.structs.AnswerPointer as pointers
 use Rattle.pelgaisti_c.specs.contracts.pointers.structs.AnswerPointer.get.Key.{name}
-use Rattle.pelgaisti_c.proofs.Lending.{PointerTo, sized, first_of, gets}
+use Rattle.pelgaisti_c.proofs.Behind.{PointerTo, sized, first_of}
+use Rattle.pelgaisti_c.proofs.Lending.{gets}
 use Rattle.pelgaisti_c.proofs.pointers.structs.AnswerPointer.get.Code as code
 use Rattle.pelgaisti_c.proofs.pointers.structs.AnswerPointer.get.Statement.{statement}
 
@@ -18,10 +19,7 @@ pointer = record {
   at = λ p. p.at;
   testable = λ p. p.testable;
   behind = λ p. p.behind;
-  with_behind = λ p x. record p { behind = x };
-  at_stays = λ p x. refl;
-  is_behind = λ p x. refl;
 }
 
 pub get_spec : {M : Type 1} → statement M
-get_spec 𝓤 𝓛 𝓜 𝓡 wired = gets row (first_of row.mir) pointer 𝓤 𝓛 𝓜 𝓡 name (code.unfolded 𝓤 𝓛.H 𝓜 𝓡 wired)
+get_spec 𝓤 𝓛 𝓜 𝓡 wired = gets row (first_of row.mir) pointer (λ p x. record p { behind = x }) (λ p x. refl) (λ p x. refl) 𝓤 𝓛 𝓜 𝓡 name (code.unfolded 𝓤 𝓛.H 𝓜 𝓡 wired)

@@ -1,0 +1,61 @@
+-- What the walks of pointers that may be null share. Assumes `Logic`.
+use Rattle.std.proofs.Common.{◌≡◌, ℕ, List, [], ◌∷◌, refl, subst}
+use seplogic.Ra.Ura.{Ura}
+use mir.Syntax.{Ty, Sym, ty_bool}
+use mir.Val.{Val}
+use base.Logic.{SProp, sep, emp, via, never_e}
+use base.Stored.{Coded}
+use base.Fml.{Lft, Share, Fml, ftrue, fat}
+use contract.Monad.{fact, fact_i}
+use types.Logic.{Logic}
+use types.Kit.{Item, Goal, Seq, Step, step, prop, raw, ‵, given, learn, ◌$◌, !, qed, done, move, use0, use1}
+use denote.Exit.{Kept, Exit}
+use denote.Memory.{cell_raw}
+use denote.RattleType.{RattleType}
+use denote.RawPtr.{Ptr, block_ptr, null_ptr, InBlock, Testable}
+
+module _ {M : Type 1} {𝓤 : Ura M} {𝓛 : Logic 𝓤} {K : Type 0} {Γ : List (Item 𝓤)} {G : Goal 𝓤 𝓛.H} where
+  -- by the pointer's form
+  pub null_or_block : K → (p : Ptr) (F : Ptr → Fml) → (p ≡ null_ptr → Seq K 𝓛 (‵ (F null_ptr) ∷ Γ) G)
+      → ((b o : ℕ) → p ≡ block_ptr b o → Seq K 𝓛 (‵ (F (block_ptr b o)) ∷ Γ) G) → Seq K 𝓛 (‵ (F p) ∷ Γ) G
+  null_or_block t null_ptr F k h = k refl
+  null_or_block t (block_ptr b o) F k h = h b o refl
+
+  -- a cell of one machine type holds one machine value
+  pub one_value : K → (q : Share) (ρ : Ty) (vs : List Val) (b o : ℕ) → ((v : Val) → vs ≡ v ∷ [] → Seq K 𝓛 (‵ (fat q ρ b o v) ∷ Γ) G)
+      → Seq K 𝓛 (‵ (cell_raw q (ρ ∷ []) vs b o) ∷ Γ) G
+  one_value t q ρ [] b o k = use1 𝓛 (given ⊥ (‵ ftrue)) (never_e 𝓤 _) $ learn t (λ x. absurd x)
+  one_value t q ρ (v ∷ []) b o k = k v refl
+  one_value t q ρ (v ∷ w ∷ vs) b o k = use1 𝓛 (given ⊥ (‵ ftrue)) (never_e 𝓤 _) $ learn t (λ x. absurd x)
+
+module _ {M : Type 1} {𝓤 : Ura M} {𝓛 : Logic 𝓤} {K : Type 0} {Γ : List (Item 𝓤)} where
+  -- an `ensures` of two facts
+  pub says_both : K → {φ ψ : Type 0} {P : SProp 𝓤} → φ → ψ → Step K 𝓛 Γ (prop P) Γ (prop (sep 𝓤 P (sep 𝓤 (fact 𝓤 φ) (fact 𝓤 ψ))))
+  says_both t {φ} {ψ} {P} x y = step (λ s. record {
+    prf = via 𝓤 P s.prf (qed 𝓛 (raw P ∷ []) {P = sep 𝓤 P (sep 𝓤 (fact 𝓤 φ) (fact 𝓤 ψ))} (
+        use0 𝓛 (raw (fact 𝓤 φ)) (fact_i 𝓤 φ (emp 𝓤) x) $ use0 𝓛 (raw (fact 𝓤 ψ)) (fact_i 𝓤 ψ (emp 𝓤) y) $ move ! (2 ∷ 1 ∷ 0 ∷ []) $ done !));
+  })
+
+-- the machine type of a type that has one
+abbrev pub first_of : List Ty → Ty
+first_of [] = ty_bool
+first_of (ty ∷ tys) = ty
+
+-- a block is not null
+pub not_null : {b o : ℕ} → block_ptr b o ≡ null_ptr → ⊥
+not_null e = subst InBlock e tt
+
+-- a type with one machine type
+abbrev pub sized : RattleType → Ty → RattleType
+sized X ty = record X { mir = ty ∷ [] }
+
+-- a struct whose one field is a pointer, with what lies behind it as a ghost field
+pub record PointerTo (T : RattleType) : Type 2 where
+  pub name : Sym
+  pub D : Type 0
+  pub coded : Coded D
+  pub exit : Kept → Exit D
+  pub shr_at : D → ℕ → ℕ → Lft → Fml
+  pub at : D → Ptr
+  pub testable : (d : D) → Testable (at d)
+  pub behind : D → T.Denot

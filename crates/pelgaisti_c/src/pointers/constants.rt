@@ -1,0 +1,66 @@
+//! Pointers of C to structs that are only read. Others may read them at the same time.
+
+ghost use Rattle.std.specs.Prelude.{◌≡◌, ◌≢◌, MatchOption};
+ghost use denote.RawPtr.{Testable, null_ptr};
+ghost use Rattle.pelgaisti_c.specs.declared.numbers.CallNumbers.{CallNumbers};
+ghost use Rattle.pelgaisti_c.specs.declared.numbers.ResourceNumbers.{ResourceNumbers};
+ghost use Rattle.pelgaisti_c.specs.Behind.{call_coded, resource_coded};
+
+use crate::numbers::{CallNumbers, ResourceNumbers};
+use std::marker::Model;
+
+/// A pointer of C, null or to a call that is only read.
+#[repr(C)]
+pub struct CallPointer {
+    pub at: *const CallNumbers,
+    ghost testable: { Testable at },
+    pub ghost behind: { CallNumbers } by { call_coded },
+}
+
+impl Model for CallPointer {
+    ghost use Rattle.pelgaisti_c.specs.Behind.{call_shared};
+
+    ghost also_owns = { λ p. call_shared p.at p.behind };
+}
+
+impl CallPointer {
+    /// A copy of what lies behind the pointer, or `None` at null.
+    pub(crate) fn get(&mut self) -> Option<CallNumbers>
+        ensures value { MatchOption result (self.old.at ≡ null_ptr) (λ r. (self.old.at ≢ null_ptr) × (r ≡ self.old.behind)) }
+        ensures same { self.new ≡ self.old }
+    {
+        let at = self.at;
+        if at == std::ptr::null() {
+            return None;
+        }
+        unsafe { Some(*at) }
+    }
+}
+
+/// A pointer of C, null or to a resource that is only read.
+#[repr(C)]
+pub struct ResourcePointer {
+    pub at: *const ResourceNumbers,
+    ghost testable: { Testable at },
+    pub ghost behind: { ResourceNumbers } by { resource_coded },
+}
+
+impl Model for ResourcePointer {
+    ghost use Rattle.pelgaisti_c.specs.Behind.{resource_shared};
+
+    ghost also_owns = { λ p. resource_shared p.at p.behind };
+}
+
+impl ResourcePointer {
+    /// A copy of what lies behind the pointer, or `None` at null.
+    pub(crate) fn get(&mut self) -> Option<ResourceNumbers>
+        ensures value { MatchOption result (self.old.at ≡ null_ptr) (λ r. (self.old.at ≢ null_ptr) × (r ≡ self.old.behind)) }
+        ensures same { self.new ≡ self.old }
+    {
+        let at = self.at;
+        if at == std::ptr::null() {
+            return None;
+        }
+        unsafe { Some(*at) }
+    }
+}
