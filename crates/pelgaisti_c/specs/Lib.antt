@@ -1,6 +1,5 @@
 -- what the exports speak of
 pub mod Numbers
-pub mod Pointers
 pub mod Paths
 pub mod Calls
 pub mod Claims

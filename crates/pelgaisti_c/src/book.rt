@@ -8,7 +8,7 @@ ghost use Rattle.lock_rules.specs.State.{held_mode, mode_or_nothing, holders};
 ghost use Rattle.lock_rules.specs.Waits.{waits_for};
 ghost use Rattle.lock_rules.specs.declared.calls.Call.{Call};
 ghost use Rattle.lock_desk.specs.BookView.{BookView, first_kept_by, kept_by};
-ghost use Rattle.pelgaisti_c.specs.Pointers.{IsNullList};
+ghost use Rattle.pelgaisti_c.specs.Behind.{IsNullList};
 ghost use Rattle.pelgaisti_c.specs.Numbers.{IsCall, IsCallFault, IsLevel, IsPath, numbers_of_entry, numbers_of_holder};
 ghost use Rattle.pelgaisti_c.specs.Calls.{IsSession, IsServed, AreListedOnce, are_written};
 ghost use Rattle.pelgaisti_c.specs.Batches.{AreItems, IsBatchServed, IsFirstFault};

@@ -5,7 +5,7 @@ ghost use denote.RawPtr.{null_ptr};
 ghost use Rattle.lock_rules.specs.Legal.{state_of};
 ghost use Rattle.lock_rules.specs.Listing.{listing_of, waiting_line};
 ghost use Rattle.lock_desk.specs.BookView.{BookView};
-ghost use Rattle.pelgaisti_c.specs.Pointers.{IsNullList};
+ghost use Rattle.pelgaisti_c.specs.Behind.{IsNullList};
 ghost use Rattle.pelgaisti_c.specs.Calls.{IsSession, are_written};
 ghost use Rattle.pelgaisti_c.specs.Claims.{numbers_of_claim, numbers_of_request, numbers_of_transaction};
 

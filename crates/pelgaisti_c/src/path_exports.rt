@@ -6,7 +6,7 @@ ghost use Rattle.lock_rules.specs.Legal.{state_of};
 ghost use Rattle.lock_desk.specs.BookView.{BookView};
 ghost use Rattle.lock_desk.specs.Queries.{blockers_among};
 ghost use Rattle.lock_desk.specs.declared.book.paths.PathLocked.{PathLocked};
-ghost use Rattle.pelgaisti_c.specs.Pointers.{IsNullList};
+ghost use Rattle.pelgaisti_c.specs.Behind.{IsNullList};
 ghost use Rattle.pelgaisti_c.specs.Numbers.{IsModeCode};
 ghost use Rattle.pelgaisti_c.specs.Calls.{IsSession, are_written};
 ghost use Rattle.pelgaisti_c.specs.Paths.{HasLevelBehind, HasRoom, IsPathServed, IsPathTold};

@@ -4,7 +4,7 @@ ghost use Rattle.std.specs.Prelude.{◌≡◌, ◌≢◌, ℕ, ◌+◌, ◌<◌,
 ghost use denote.RawPtr.{null_ptr};
 ghost use Rattle.lock_office.specs.Sessions.{IsPendingServed};
 ghost use Rattle.lock_rules.specs.declared.calls.Call.{Call};
-ghost use Rattle.pelgaisti_c.specs.Pointers.{IsNullList};
+ghost use Rattle.pelgaisti_c.specs.Behind.{IsNullList};
 ghost use Rattle.pelgaisti_c.specs.Numbers.{IsCall, IsCallFault};
 ghost use Rattle.pelgaisti_c.specs.Calls.{are_written};
 ghost use Rattle.pelgaisti_c.specs.Sessions.{IsPublished, IsTurn, AreToWake, HasToldNone, IsToldTurn, IsPerformedAtOnce, IsRefusedAtOnce, IsToldPerformed, IsToldRefused, HasToldNobody, MayCall, IsElsewhere, IsAnswered, IsPieceTaken, IsHeard, IsRetired};
