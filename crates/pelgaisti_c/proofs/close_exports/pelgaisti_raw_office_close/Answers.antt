@@ -8,19 +8,19 @@ use Rattle.pelgaisti_c.proofs.close_exports.pelgaisti_raw_office_close.Goals as 
 pub returns-in-Err-default-Some-clause-same : goal.returns-in-Err-default-Some-clause-same
 returns-in-Err-default-Some-clause-same c = λ _ here.
     let refused = c.in-Err-default-Some in
-    let before = c.in-Some.share.value in
+    let before = c.in-Some-take.share.value in
     let back : IfSome (Some refused.share) (λ share. IsSameShare before share.value)
     = subst (λ (o : Option (Box SessionShare)). IfSome o (λ share. IsSameShare before share.value)) refused.field-0-1-is (refused.ensures.back here).0 in
-    (cc (c.put-in-Err-default-Some.ensures.0, c.in-Some.ensures.open), inr (before, refused.share.value, c.in-Some.ensures.some, c.put-in-Err-default-Some.ensures.1, back))
+    (cc (c.put-in-Err-default-Some.ensures.0, c.in-Some-take.ensures.open), inr (before, refused.share.value, c.in-Some-take.ensures.some, c.put-in-Err-default-Some.ensures.1, back))
 
 pub returns-in-Err-default-Some-clause-missing : goal.returns-in-Err-default-Some-clause-missing
-returns-in-Err-default-Some-clause-missing c = λ e. (c.in-Some.share.value, c.in-Some.ensures.some, c.in-Err-default-Some.ensures.missing e)
+returns-in-Err-default-Some-clause-missing c = λ e. (c.in-Some-take.share.value, c.in-Some-take.ensures.some, c.in-Err-default-Some.ensures.missing e)
 
 pub returns-in-Err-default-Some-clause-pending : goal.returns-in-Err-default-Some-clause-pending
-returns-in-Err-default-Some-clause-pending c = λ e. (c.in-Some.share.value, c.in-Some.ensures.some, (c.in-Err-default-Some.ensures.pending e).0, (c.in-Err-default-Some.ensures.pending e).1)
+returns-in-Err-default-Some-clause-pending c = λ e. (c.in-Some-take.share.value, c.in-Some-take.ensures.some, (c.in-Err-default-Some.ensures.pending e).0, (c.in-Err-default-Some.ensures.pending e).1)
 
 pub returns-in-Err-default-Some-clause-whole : goal.returns-in-Err-default-Some-clause-whole
-returns-in-Err-default-Some-clause-whole c = λ e. (c.in-Some.share.value, c.in-Some.ensures.some, (c.in-Err-default-Some.ensures.whole e).0, (c.in-Err-default-Some.ensures.whole e).1)
+returns-in-Err-default-Some-clause-whole c = λ e. (c.in-Some-take.share.value, c.in-Some-take.ensures.some, (c.in-Err-default-Some.ensures.whole e).0, (c.in-Err-default-Some.ensures.whole e).1)
 
 pub returns-in-Err-default-None-clause-whole : goal.returns-in-Err-default-None-clause-whole
-returns-in-Err-default-None-clause-whole c = λ e. (c.in-Some.share.value, c.in-Some.ensures.some, (c.in-Err-default-None.ensures.whole e).0, (c.in-Err-default-None.ensures.whole e).1)
+returns-in-Err-default-None-clause-whole c = λ e. (c.in-Some-take.share.value, c.in-Some-take.ensures.some, (c.in-Err-default-None.ensures.whole e).0, (c.in-Err-default-None.ensures.whole e).1)

@@ -3,15 +3,15 @@ use Rattle.pelgaisti_c.proofs.path_turn_exports.pelgaisti_raw_session_path_turn.
 
 pub returns-clause-ok : goal.returns-clause-ok
 returns-clause-ok c = λ e. let was : c.args.session.now.behind.held.share ≡ Some c.deref_mut.result.now = search rules in
-    (c.in-Some.path, c.in-Some.ensures.some, (c.deref_mut.result.now, c.path_turn-status.new.share, was, c.put.ensures.1, c.path_turn-status.ensures.ok e))
+    (c.in-Some-read_path.path, c.in-Some-read_path.ensures.some, (c.deref_mut.result.now, c.path_turn-status.new.share, was, c.put.ensures.1, c.path_turn-status.ensures.ok e))
 
 pub returns-clause-memory : goal.returns-clause-memory
 returns-clause-memory c = λ e. let was : c.args.session.now.behind.held.share ≡ Some c.deref_mut.result.now = search rules in
-    (c.in-Some.path, c.in-Some.ensures.some, (c.deref_mut.result.now, c.path_turn-status.new.share, was, c.put.ensures.1, c.path_turn-status.ensures.memory e))
+    (c.in-Some-read_path.path, c.in-Some-read_path.ensures.some, (c.deref_mut.result.now, c.path_turn-status.new.share, was, c.put.ensures.1, c.path_turn-status.ensures.memory e))
 
 pub returns-clause-late : goal.returns-clause-late
 returns-clause-late c = λ e. let was : c.args.session.now.behind.held.share ≡ Some c.deref_mut.result.now = search rules in
-    (c.in-Some.path, c.in-Some.ensures.some, (c.deref_mut.result.now, c.path_turn-status.new.share, was, c.put.ensures.1, c.path_turn-status.ensures.late e))
+    (c.in-Some-read_path.path, c.in-Some-read_path.ensures.some, (c.deref_mut.result.now, c.path_turn-status.new.share, was, c.put.ensures.1, c.path_turn-status.ensures.late e))
 
 pub returns-clause-told : goal.returns-clause-told
 returns-clause-told c = λ e. let was : c.args.session.now.behind.held.share ≡ Some c.deref_mut.result.now = search rules in
