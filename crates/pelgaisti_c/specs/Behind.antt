@@ -1,9 +1,11 @@
 -- What lies behind pointers of C that may be null.
-use Rattle.std.specs.Prelude.{ℕ}
-use Rattle.std.specs.Coded.{Coded}
+use Rattle.std.specs.Prelude.{◌≡◌, ◌<◌, ◌*◌, ◌^◌, ℕ, zero, suc, List, []}
+use Rattle.std.specs.Coded.{Coded, coded_list}
 use base.Fraction.{full_share}
-use base.Fml.{Share, Fml, ftrue, fex}
+use base.Fml.{Share, Fml, ftrue, fsep, fex, feq, flt}
+use denote.Array.{Array}
 use denote.Builtin.{u32, u64, usize}
+use denote.Memory.{mem}
 use denote.RattleType.{RattleType}
 use denote.RawPtr.{Ptr, block_ptr, null_ptr, lies_at}
 use Rattle.pelgaisti_c.specs.declared.book_handle.BookHandle.{BookHandle}
@@ -12,8 +14,6 @@ use Rattle.pelgaisti_c.specs.declared.session_handle.SessionHandle.{SessionHandl
 use Rattle.pelgaisti_c.specs.contracts.session_handle.SessionHandle.{the_row as session_handle_row}
 use Rattle.pelgaisti_c.specs.declared.numbers.AnswerNumbers.{AnswerNumbers}
 use Rattle.pelgaisti_c.specs.contracts.numbers.AnswerNumbers.{the_row as answer_row}
-use Rattle.pelgaisti_c.specs.declared.numbers.CallNumbers.{CallNumbers}
-use Rattle.pelgaisti_c.specs.contracts.numbers.CallNumbers.{the_row as call_row}
 use Rattle.pelgaisti_c.specs.declared.claims.ClaimNumbers.{ClaimNumbers}
 use Rattle.pelgaisti_c.specs.contracts.claims.ClaimNumbers.{the_row as claim_row}
 use Rattle.pelgaisti_c.specs.declared.numbers.PassNumbers.{PassNumbers}
@@ -22,6 +22,12 @@ use Rattle.pelgaisti_c.specs.declared.numbers.ReplyNumbers.{ReplyNumbers}
 use Rattle.pelgaisti_c.specs.contracts.numbers.ReplyNumbers.{the_row as reply_row}
 use Rattle.pelgaisti_c.specs.declared.claims.TransactionNumbers.{TransactionNumbers}
 use Rattle.pelgaisti_c.specs.contracts.claims.TransactionNumbers.{the_row as transaction_row}
+use Rattle.pelgaisti_c.specs.declared.numbers.CallNumbers.{CallNumbers}
+use Rattle.pelgaisti_c.specs.contracts.numbers.CallNumbers.{the_row as call_row}
+use Rattle.pelgaisti_c.specs.declared.numbers.EntryNumbers.{EntryNumbers}
+use Rattle.pelgaisti_c.specs.contracts.numbers.EntryNumbers.{the_row as entry_row}
+use Rattle.pelgaisti_c.specs.declared.numbers.HolderNumbers.{HolderNumbers}
+use Rattle.pelgaisti_c.specs.contracts.numbers.HolderNumbers.{the_row as holder_row}
 use Rattle.pelgaisti_c.specs.declared.numbers.ResourceNumbers.{ResourceNumbers}
 use Rattle.pelgaisti_c.specs.contracts.numbers.ResourceNumbers.{the_row as resource_row}
 
@@ -35,6 +41,20 @@ abbrev pub maybe_shared : (R : RattleType) → Ptr → R.Denot → Fml
 maybe_shared R (block_ptr b o) x = fex Share (λ q. lies_at R q (block_ptr b o) x)
 maybe_shared R null_ptr x = ftrue
 
+-- n items lie at the pointer, in fewer than 2^63 bytes; at null there are none
+abbrev pub items_at : (R : RattleType) → ℕ → Ptr → List R.Denot → Fml
+items_at R n (block_ptr b o) xs = fsep (flt (n * (mem R).size) (2 ^ 63)) (lies_at (Array R n) full_share (block_ptr b o) xs)
+items_at R n null_ptr xs = feq (List R.Denot) xs []
+
+-- the same, but any pointer will do for no items
+abbrev pub list_at : (R : RattleType) → ℕ → Ptr → List R.Denot → Fml
+list_at R zero p xs = feq (List R.Denot) xs []
+list_at R (suc n) p xs = items_at R (suc n) p xs
+
+-- n items should lie at the pointer, and it is null
+abbrev pub IsNullList : Ptr → ℕ → Type 0
+IsNullList p n = (p ≡ null_ptr) × (0 < n)
+
 abbrev pub book_handle_behind : Ptr → BookHandle → Fml
 book_handle_behind = maybe_at book_handle_row
 
@@ -43,9 +63,6 @@ session_handle_behind = maybe_at session_handle_row
 
 abbrev pub answer_behind : Ptr → AnswerNumbers → Fml
 answer_behind = maybe_at answer_row
-
-abbrev pub call_behind : Ptr → CallNumbers → Fml
-call_behind = maybe_at call_row
 
 abbrev pub claim_behind : Ptr → ClaimNumbers → Fml
 claim_behind = maybe_at claim_row
@@ -74,6 +91,21 @@ call_shared = maybe_shared call_row
 abbrev pub resource_shared : Ptr → ResourceNumbers → Fml
 resource_shared = maybe_shared resource_row
 
+abbrev pub claims_behind : ℕ → Ptr → List ClaimNumbers → Fml
+claims_behind = list_at claim_row
+
+abbrev pub entries_behind : ℕ → Ptr → List EntryNumbers → Fml
+entries_behind = list_at entry_row
+
+abbrev pub handles_behind : ℕ → Ptr → List SessionHandle → Fml
+handles_behind = list_at session_handle_row
+
+abbrev pub holders_behind : ℕ → Ptr → List HolderNumbers → Fml
+holders_behind = list_at holder_row
+
+abbrev pub sessions_behind : ℕ → Ptr → List ℕ → Fml
+sessions_behind = list_at u32
+
 -- how they are stored in ghost fields
 abbrev pub book_handle_coded : Coded BookHandle
 book_handle_coded = book_handle_row.coded
@@ -83,9 +115,6 @@ session_handle_coded = session_handle_row.coded
 
 abbrev pub answer_coded : Coded AnswerNumbers
 answer_coded = answer_row.coded
-
-abbrev pub call_coded : Coded CallNumbers
-call_coded = call_row.coded
 
 abbrev pub claim_coded : Coded ClaimNumbers
 claim_coded = claim_row.coded
@@ -98,6 +127,24 @@ reply_coded = reply_row.coded
 
 abbrev pub transaction_coded : Coded TransactionNumbers
 transaction_coded = transaction_row.coded
+
+abbrev pub claims_coded : Coded (List ClaimNumbers)
+claims_coded = coded_list claim_row.coded
+
+abbrev pub entries_coded : Coded (List EntryNumbers)
+entries_coded = coded_list entry_row.coded
+
+abbrev pub handles_coded : Coded (List SessionHandle)
+handles_coded = coded_list session_handle_row.coded
+
+abbrev pub holders_coded : Coded (List HolderNumbers)
+holders_coded = coded_list holder_row.coded
+
+abbrev pub sessions_coded : Coded (List ℕ)
+sessions_coded = coded_list u32.coded
+
+abbrev pub call_coded : Coded CallNumbers
+call_coded = call_row.coded
 
 abbrev pub resource_coded : Coded ResourceNumbers
 resource_coded = resource_row.coded

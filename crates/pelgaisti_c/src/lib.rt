@@ -55,9 +55,9 @@ pub use numbers::{
     ResourceNumbers,
 };
 pub use pointers::{
-    AnswerPointer, BookPointer, CallMutPointer, CallPointer, ClaimPointer, PassPointer,
-    ReplyPointer, ResourcePointer, SessionPointer, SizePointer, TransactionPointer, U32Pointer,
-    U64Pointer,
+    AnswerPointer, BookPointer, CallPointer, ClaimList, ClaimPointer, EntryList, HandleList,
+    HolderList, PassPointer, ReplyPointer, ResourcePointer, SessionList, SessionPointer,
+    SizePointer, TransactionPointer, U32Pointer, U64Pointer,
 };
 pub use session_handle::SessionHandle;
 pub use version::HEADER_VERSION;

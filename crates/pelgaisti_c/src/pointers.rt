@@ -3,11 +3,11 @@
 mod constants;
 mod handles;
 mod integers;
+mod lists;
 mod structs;
 
 pub use constants::{CallPointer, ResourcePointer};
 pub use handles::{BookPointer, SessionPointer};
 pub use integers::{SizePointer, U32Pointer, U64Pointer};
-pub use structs::{
-    AnswerPointer, CallMutPointer, ClaimPointer, PassPointer, ReplyPointer, TransactionPointer,
-};
+pub use lists::{ClaimList, EntryList, HandleList, HolderList, SessionList};
+pub use structs::{AnswerPointer, ClaimPointer, PassPointer, ReplyPointer, TransactionPointer};

@@ -1,14 +1,12 @@
 -- How pointers of C lend what lies behind them.
-use Rattle.std.specs.Prelude.{ℕ, Option}
-use Rattle.std.specs.Borrow.{LendsIf, MutBor, Fml, u32, u64, usize}
+use Rattle.std.specs.Prelude.{ℕ, List, Option}
+use Rattle.std.specs.Borrow.{Lends, LendsIf, MutBor, Fml, Array, u32, u64, usize}
 use Rattle.pelgaisti_c.specs.declared.book_handle.BookHandle.{BookHandle}
 use Rattle.pelgaisti_c.specs.contracts.book_handle.BookHandle.{the_row as book_handle_row}
 use Rattle.pelgaisti_c.specs.declared.session_handle.SessionHandle.{SessionHandle}
 use Rattle.pelgaisti_c.specs.contracts.session_handle.SessionHandle.{the_row as session_handle_row}
 use Rattle.pelgaisti_c.specs.declared.numbers.AnswerNumbers.{AnswerNumbers}
 use Rattle.pelgaisti_c.specs.contracts.numbers.AnswerNumbers.{the_row as answer_row}
-use Rattle.pelgaisti_c.specs.declared.numbers.CallNumbers.{CallNumbers}
-use Rattle.pelgaisti_c.specs.contracts.numbers.CallNumbers.{the_row as call_row}
 use Rattle.pelgaisti_c.specs.declared.claims.ClaimNumbers.{ClaimNumbers}
 use Rattle.pelgaisti_c.specs.contracts.claims.ClaimNumbers.{the_row as claim_row}
 use Rattle.pelgaisti_c.specs.declared.numbers.PassNumbers.{PassNumbers}
@@ -23,8 +21,6 @@ use Rattle.pelgaisti_c.specs.declared.pointers.handles.SessionPointer.{SessionPo
 use Rattle.pelgaisti_c.specs.contracts.pointers.handles.SessionPointer.{the_row as session_pointer_row}
 use Rattle.pelgaisti_c.specs.declared.pointers.structs.AnswerPointer.{AnswerPointer}
 use Rattle.pelgaisti_c.specs.contracts.pointers.structs.AnswerPointer.{the_row as answer_pointer_row}
-use Rattle.pelgaisti_c.specs.declared.pointers.structs.CallMutPointer.{CallMutPointer}
-use Rattle.pelgaisti_c.specs.contracts.pointers.structs.CallMutPointer.{the_row as call_mut_pointer_row}
 use Rattle.pelgaisti_c.specs.declared.pointers.structs.ClaimPointer.{ClaimPointer}
 use Rattle.pelgaisti_c.specs.contracts.pointers.structs.ClaimPointer.{the_row as claim_pointer_row}
 use Rattle.pelgaisti_c.specs.declared.pointers.structs.PassPointer.{PassPointer}
@@ -39,6 +35,20 @@ use Rattle.pelgaisti_c.specs.declared.pointers.integers.U32Pointer.{U32Pointer}
 use Rattle.pelgaisti_c.specs.contracts.pointers.integers.U32Pointer.{the_row as u32_pointer_row}
 use Rattle.pelgaisti_c.specs.declared.pointers.integers.U64Pointer.{U64Pointer}
 use Rattle.pelgaisti_c.specs.contracts.pointers.integers.U64Pointer.{the_row as u64_pointer_row}
+use Rattle.pelgaisti_c.specs.declared.numbers.EntryNumbers.{EntryNumbers}
+use Rattle.pelgaisti_c.specs.contracts.numbers.EntryNumbers.{the_row as entry_row}
+use Rattle.pelgaisti_c.specs.declared.numbers.HolderNumbers.{HolderNumbers}
+use Rattle.pelgaisti_c.specs.contracts.numbers.HolderNumbers.{the_row as holder_row}
+use Rattle.pelgaisti_c.specs.declared.pointers.lists.ClaimList.{ClaimList}
+use Rattle.pelgaisti_c.specs.contracts.pointers.lists.ClaimList.{the_row as claim_list_row}
+use Rattle.pelgaisti_c.specs.declared.pointers.lists.EntryList.{EntryList}
+use Rattle.pelgaisti_c.specs.contracts.pointers.lists.EntryList.{the_row as entry_list_row}
+use Rattle.pelgaisti_c.specs.declared.pointers.lists.HandleList.{HandleList}
+use Rattle.pelgaisti_c.specs.contracts.pointers.lists.HandleList.{the_row as handle_list_row}
+use Rattle.pelgaisti_c.specs.declared.pointers.lists.HolderList.{HolderList}
+use Rattle.pelgaisti_c.specs.contracts.pointers.lists.HolderList.{the_row as holder_list_row}
+use Rattle.pelgaisti_c.specs.declared.pointers.lists.SessionList.{SessionList}
+use Rattle.pelgaisti_c.specs.contracts.pointers.lists.SessionList.{the_row as session_list_row}
 
 -- the pointer ends with what lies behind it replaced by the reference's last value, and at null unchanged
 abbrev pub lends_of_book_pointer : MutBor BookPointer → Option (MutBor BookHandle) → Fml
@@ -49,9 +59,6 @@ lends_of_session_pointer p r = LendsIf session_pointer_row session_handle_row p 
 
 abbrev pub lends_of_answer_pointer : MutBor AnswerPointer → Option (MutBor AnswerNumbers) → Fml
 lends_of_answer_pointer p r = LendsIf answer_pointer_row answer_row p r (λ x. record p.now { behind = x }) p.now
-
-abbrev pub lends_of_call_mut_pointer : MutBor CallMutPointer → Option (MutBor CallNumbers) → Fml
-lends_of_call_mut_pointer p r = LendsIf call_mut_pointer_row call_row p r (λ x. record p.now { behind = x }) p.now
 
 abbrev pub lends_of_claim_pointer : MutBor ClaimPointer → Option (MutBor ClaimNumbers) → Fml
 lends_of_claim_pointer p r = LendsIf claim_pointer_row claim_row p r (λ x. record p.now { behind = x }) p.now
@@ -73,3 +80,19 @@ lends_of_u32_pointer p r = LendsIf u32_pointer_row u32 p r (λ x. record p.now {
 
 abbrev pub lends_of_u64_pointer : MutBor U64Pointer → Option (MutBor ℕ) → Fml
 lends_of_u64_pointer p r = LendsIf u64_pointer_row u64 p r (λ x. record p.now { behind = x }) p.now
+
+-- the list ends with the items replaced by the reference's last ones
+abbrev pub lends_of_claim_list : MutBor ClaimList → MutBor (List ClaimNumbers) → Fml
+lends_of_claim_list p r = Lends claim_list_row (Array claim_row 0) p r (λ xs. record p.now { behind = xs })
+
+abbrev pub lends_of_entry_list : MutBor EntryList → MutBor (List EntryNumbers) → Fml
+lends_of_entry_list p r = Lends entry_list_row (Array entry_row 0) p r (λ xs. record p.now { behind = xs })
+
+abbrev pub lends_of_handle_list : MutBor HandleList → MutBor (List SessionHandle) → Fml
+lends_of_handle_list p r = Lends handle_list_row (Array session_handle_row 0) p r (λ xs. record p.now { behind = xs })
+
+abbrev pub lends_of_holder_list : MutBor HolderList → MutBor (List HolderNumbers) → Fml
+lends_of_holder_list p r = Lends holder_list_row (Array holder_row 0) p r (λ xs. record p.now { behind = xs })
+
+abbrev pub lends_of_session_list : MutBor SessionList → MutBor (List ℕ) → Fml
+lends_of_session_list p r = Lends session_list_row (Array u32 0) p r (λ xs. record p.now { behind = xs })

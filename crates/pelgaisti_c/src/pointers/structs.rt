@@ -3,15 +3,14 @@
 ghost use Rattle.std.specs.Prelude.{◌≡◌, ◌≢◌, MatchOption};
 ghost use denote.RawPtr.{Testable, null_ptr};
 ghost use Rattle.pelgaisti_c.specs.declared.numbers.AnswerNumbers.{AnswerNumbers};
-ghost use Rattle.pelgaisti_c.specs.declared.numbers.CallNumbers.{CallNumbers};
 ghost use Rattle.pelgaisti_c.specs.declared.claims.ClaimNumbers.{ClaimNumbers};
 ghost use Rattle.pelgaisti_c.specs.declared.numbers.PassNumbers.{PassNumbers};
 ghost use Rattle.pelgaisti_c.specs.declared.numbers.ReplyNumbers.{ReplyNumbers};
 ghost use Rattle.pelgaisti_c.specs.declared.claims.TransactionNumbers.{TransactionNumbers};
-ghost use Rattle.pelgaisti_c.specs.Behind.{answer_coded, call_coded, claim_coded, pass_coded, reply_coded, transaction_coded};
+ghost use Rattle.pelgaisti_c.specs.Behind.{answer_coded, claim_coded, pass_coded, reply_coded, transaction_coded};
 
 use crate::claims::{ClaimNumbers, TransactionNumbers};
-use crate::numbers::{AnswerNumbers, CallNumbers, PassNumbers, ReplyNumbers};
+use crate::numbers::{AnswerNumbers, PassNumbers, ReplyNumbers};
 use std::marker::Model;
 
 /// A pointer of C, null or to an answer.
@@ -35,37 +34,6 @@ impl AnswerPointer {
     /// What lies behind the pointer, or `None` at null.
     pub(crate) fn get(&mut self) -> Option<&mut AnswerNumbers>
         ensures* lends { sem 𝓛 (lends_of_answer_pointer self.entry result) }
-        ensures value { MatchOption result (self.old.at ≡ null_ptr) (λ r. (self.old.at ≢ null_ptr) × (r.now ≡ self.old.behind)) }
-    {
-        let at = self.at;
-        if at == std::ptr::null_mut() {
-            return None;
-        }
-        unsafe { Some(&mut *at) }
-    }
-}
-
-/// A pointer of C, null or to a call that is an output.
-#[repr(C)]
-pub struct CallMutPointer {
-    pub at: *mut CallNumbers,
-    ghost testable: { Testable at },
-    pub ghost behind: { CallNumbers } by { call_coded },
-}
-
-impl Model for CallMutPointer {
-    ghost use Rattle.pelgaisti_c.specs.Behind.{call_behind};
-
-    ghost also_owns = { λ p. call_behind p.at p.behind };
-}
-
-impl CallMutPointer {
-    ghost use Rattle.std.specs.Borrow.{sem};
-    ghost use Rattle.pelgaisti_c.specs.inner.Lending.{lends_of_call_mut_pointer};
-
-    /// What lies behind the pointer, or `None` at null.
-    pub(crate) fn get(&mut self) -> Option<&mut CallNumbers>
-        ensures* lends { sem 𝓛 (lends_of_call_mut_pointer self.entry result) }
         ensures value { MatchOption result (self.old.at ≡ null_ptr) (λ r. (self.old.at ≢ null_ptr) × (r.now ≡ self.old.behind)) }
     {
         let at = self.at;
