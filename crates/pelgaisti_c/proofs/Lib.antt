@@ -11,4 +11,4 @@ pub mod PathTurns
 pub mod Behind
 pub mod Lending
 pub mod Copying
-pub mod Listing
+pub mod ItemLists

@@ -5,7 +5,7 @@ use Rattle.pelgaisti_c.specs.declared.pointers.lists.ClaimList.{ClaimList}
 use Rattle.pelgaisti_c.specs.contracts.pointers.lists.ClaimList as lists
 use Rattle.pelgaisti_c.specs.contracts.pointers.lists.ClaimList.is_null.Key.{name}
 use Rattle.pelgaisti_c.proofs.Behind.{sized, first_of}
-use Rattle.pelgaisti_c.proofs.Listing.{ListOf, tells_null}
+use Rattle.pelgaisti_c.proofs.ItemLists.{ListOf, tells_null}
 use Rattle.pelgaisti_c.proofs.pointers.lists.ClaimList.is_null.Code as code
 use Rattle.pelgaisti_c.proofs.pointers.lists.ClaimList.is_null.Statement.{statement}
 

@@ -6,7 +6,7 @@ use Rattle.pelgaisti_c.specs.declared.pointers.lists.EntryList.{EntryList}
 use Rattle.pelgaisti_c.specs.contracts.pointers.lists.EntryList as lists
 use Rattle.pelgaisti_c.specs.contracts.pointers.lists.EntryList.items.Key.{name}
 use Rattle.pelgaisti_c.proofs.Behind.{sized, first_of}
-use Rattle.pelgaisti_c.proofs.Listing.{ListOf, items_lent}
+use Rattle.pelgaisti_c.proofs.ItemLists.{ListOf, items_lent}
 use Rattle.pelgaisti_c.proofs.pointers.lists.EntryList.items.Code as code
 use Rattle.pelgaisti_c.proofs.pointers.lists.EntryList.items.Statement.{statement}
 

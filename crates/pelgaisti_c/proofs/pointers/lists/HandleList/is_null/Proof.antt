@@ -5,7 +5,7 @@ use Rattle.pelgaisti_c.specs.declared.pointers.lists.HandleList.{HandleList}
 use Rattle.pelgaisti_c.specs.contracts.pointers.lists.HandleList as lists
 use Rattle.pelgaisti_c.specs.contracts.pointers.lists.HandleList.is_null.Key.{name}
 use Rattle.pelgaisti_c.proofs.Behind.{sized, first_of}
-use Rattle.pelgaisti_c.proofs.Listing.{ListOf, tells_null_at}
+use Rattle.pelgaisti_c.proofs.ItemLists.{ListOf, tells_null_at}
 use Rattle.pelgaisti_c.proofs.pointers.lists.HandleList.is_null.Code as code
 use Rattle.pelgaisti_c.proofs.pointers.lists.HandleList.is_null.Statement.{statement}
 
