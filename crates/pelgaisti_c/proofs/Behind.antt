@@ -13,6 +13,8 @@ use denote.Exit.{Kept, Exit}
 use denote.Memory.{cell_raw}
 use denote.RattleType.{RattleType}
 use denote.RawPtr.{Ptr, block_ptr, null_ptr, InBlock, Testable}
+use denote.Struct.Field.{RawPtr-field}
+use denote.Struct.Owning.{Owning}
 
 module _ {M : Type 1} {𝓤 : Ura M} {𝓛 : Logic 𝓤} {K : Type 0} {Γ : List (Item 𝓤)} {G : Goal 𝓤 𝓛.H} where
   -- by the pointer's form
@@ -49,7 +51,7 @@ not_null e = subst InBlock e tt
 abbrev pub sized : RattleType → Ty → RattleType
 sized X ty = record X { mir = ty ∷ [] }
 
--- a struct whose one field is a pointer, with what lies behind it as a ghost field
+-- a struct that begins with a pointer, and has what lies behind it as a ghost field
 pub record PointerTo (T : RattleType) : Type 2 where
   pub name : Sym
   pub D : Type 0
@@ -59,3 +61,18 @@ pub record PointerTo (T : RattleType) : Type 2 where
   pub at : D → Ptr
   pub testable : (d : D) → Testable (at d)
   pub behind : D → T.Denot
+
+-- the type of one with no other field, by what it owns beside its field
+abbrev pub pointing : (T : RattleType) → PointerTo T → (Ptr → T.Denot → Fml) → Owning
+pointing T P own = record {
+  name = P.name;
+  args = [];
+  types = [];
+  parts = RawPtr-field ∷ [];
+  D = P.D;
+  as_values = λ d. (P.at d, tt);
+  coded = P.coded;
+  heap = λ d. own (P.at d) (P.behind d);
+  exit = P.exit;
+  shr_at = P.shr_at;
+}

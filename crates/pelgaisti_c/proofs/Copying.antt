@@ -28,7 +28,6 @@ use denote.RawPtr.{Ptr, block_ptr, null_ptr, ptr_val, Testable, tests_null, lies
 use denote.Ref.{MutRef, mut_vals, mut_Tells}
 use denote.Signature.{Signature, plain}
 use denote.Steps.{nothing, opens, closes, peeks}
-use denote.Struct.Field.{RawPtr-field}
 use denote.Struct.Laws.{RawPtr-laws}
 use denote.Struct.Struct.{layout}
 use denote.Struct.Owning.{Owning, row, shape}
@@ -39,7 +38,7 @@ use denote.Triple.Walked.{Stays, walk_of, stay_ref, Goes-ref, ends_at}
 use Rattle.core.specs.contracts.option.Option as OP
 use Rattle.core.proofs.option.Made.{Some-of, none_of}
 use Rattle.pelgaisti_c.specs.Behind.{maybe_shared}
-use Rattle.pelgaisti_c.proofs.Behind.{PointerTo, null_or_block, one_value, says_both, not_null, first_of, sized}
+use Rattle.pelgaisti_c.proofs.Behind.{PointerTo, pointing, null_or_block, one_value, says_both, not_null, first_of, sized}
 
 and_true : (x : Bool) → Holds x → Holds (x && true)
 and_true true t = t
@@ -50,18 +49,7 @@ module _ (X : RattleType) (ty : Ty) (copies : IsCopy (sized X ty)) (P : PointerT
   T = sized X ty
 
   abbrev pub the_type : Owning
-  the_type = record {
-    name = P.name;
-    args = [];
-    types = [];
-    parts = RawPtr-field ∷ [];
-    D = P.D;
-    as_values = λ d. (P.at d, tt);
-    coded = P.coded;
-    heap = λ d. maybe_shared T (P.at d) (P.behind d);
-    exit = P.exit;
-    shr_at = P.shr_at;
-  }
+  the_type = pointing T P (maybe_shared T)
 
   abbrev pub R : RattleType
   R = row the_type

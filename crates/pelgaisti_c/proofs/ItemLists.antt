@@ -1,14 +1,14 @@
 -- The walks of lists that may be null, at all items at once: `is_null`, and `items`, which lends them. Assumes `Logic`.
 use Rattle.std.proofs.Common.{◌≡◌, ℕ, zero, suc, ◌*◌, ◌^◌, ◌<◌, List, [], ◌∷◌, length, refl, sym, ap, ◌∙◌, subst, lit<, arith, zero-mul, eqb→eq, true≢false, true, false, IsTrue, ◌↔◌, w64, T as Holds, MutBor}
+use Rattle.std.proofs.lemmas.List.{nil_from_length}
 use Rattle.std.proofs.raw_atomic.Walks.{proved}
 use Rattle.std.specs.Borrow.{Lends}
 use seplogic.Ra.Ura.{Ura}
-use mir.Syntax.{Ty, Fn, Body, Sym, Callee, named, erased, ty_ptr, ty_bool, ty_int, local, value_local, place, deref, field, copy, int, assign, rv_opd, opd_false, op2, eq, ptr_eq, cond, seq, aggregate, return, skip, block, addr_of}
+use mir.Syntax.{Ty, Fn, Body, Callee, named, erased, ty_ptr, ty_bool, ty_int, local, value_local, place, deref, field, copy, int, assign, rv_opd, opd_false, op2, eq, ptr_eq, cond, seq, aggregate, return, skip, block, addr_of}
 use mir.Val.{Val, vint, vbool, has_ty, WT}
 use base.Fraction.{full_share}
 use base.Logic.{ent, sep, emp}
-use base.Stored.{Coded}
-use base.Fml.{GName, Lft, Fml, ftrue, fsep, feq, flft}
+use base.Fml.{GName, Fml, ftrue, fsep, feq, flft}
 use prog.Model.{Model}
 use prog.Wp.{Closed}
 use contract.Monad.{fact}
@@ -22,7 +22,7 @@ use types.SemTy.{Arr, cells}
 use denote.Array.{Array}
 use denote.ArrayMemory.{Array-apart, Array-whole}
 use denote.Builtin.{bool, RefMutOf, SliceRefMutOf}
-use denote.Exit.{Kept, Exit, yes, no}
+use denote.Exit.{yes, no}
 use denote.Follow.{follows}
 use denote.FollowSlice.{lends_Elements}
 use denote.Laws.{shows}
@@ -42,7 +42,7 @@ use denote.Triple.Clauses.{Clauses, Ended, closing}
 use denote.Triple.Spec.{Meets}
 use denote.Triple.Walked.{Stays, walk_of, says, stay_dropped, stay_ref, Goes-ref, Goes-spent_ref, ends_at}
 use Rattle.pelgaisti_c.specs.Behind.{items_at, list_at}
-use Rattle.pelgaisti_c.proofs.Behind.{null_or_block, says_both, not_null, first_of, sized}
+use Rattle.pelgaisti_c.proofs.Behind.{PointerTo, null_or_block, says_both, not_null, first_of, sized}
 
 module _ {M : Type 1} {𝓤 : Ura M} {𝓛 : Logic 𝓤} {K : Type 0} {Γ : List (Item 𝓤)} {G : Goal 𝓤 𝓛.H} where
   -- by whether a number is 0
@@ -65,10 +65,6 @@ pub ptr_good : (p : Ptr) → Holds (has_ty ty_ptr (ptr_val p)) × WT (ptr_val p)
 ptr_good (block_ptr b o) = (tt, tt)
 ptr_good null_ptr = (tt, record { fits = lit< tt })
 
-pub no_items : {X : Type 0} (xs : List X) → length xs ≡ 0 → xs ≡ []
-no_items [] e = refl
-no_items (x ∷ xs) e = absurd (omega (arith, e))
-
 module _ {M : Type 1} {𝓤 : Ura M} (𝓛 : Logic 𝓤) (R T : RattleType) (F : List T.Denot → R.Denot) (A : Fml) (us : List Val) (b o b' o' : ℕ) (xs : List T.Denot) where
   -- all but the items
   abbrev pub Rest : Fml
@@ -85,19 +81,12 @@ module _ {M : Type 1} {𝓤 : Ura M} (𝓛 : Logic 𝓤) (R T : RattleType) (F :
 
 -- a struct of a pointer and a number, with the items behind the pointer as a ghost field
 pub record ListOf (T : RattleType) : Type 2 where
-  pub name : Sym
-  pub D : Type 0
-  pub coded : Coded D
-  pub exit : Kept → Exit D
-  pub shr_at : D → ℕ → ℕ → Lft → Fml
-  pub at : D → Ptr
-  pub room : D → ℕ
-  pub testable : (d : D) → Testable (at d)
-  pub behind : D → List T.Denot
-  pub with_behind : D → List T.Denot → D
-  pub at_stays : (d : D) (xs : List T.Denot) → at (with_behind d xs) ≡ at d
-  pub room_stays : (d : D) (xs : List T.Denot) → room (with_behind d xs) ≡ room d
-  pub is_behind : (d : D) (xs : List T.Denot) → behind (with_behind d xs) ≡ xs
+  pub pointer : PointerTo (Array T 0)
+  pub room : pointer.D → ℕ
+  pub with_behind : pointer.D → List T.Denot → pointer.D
+  pub at_stays : (d : pointer.D) (xs : List T.Denot) → pointer.at (with_behind d xs) ≡ pointer.at d
+  pub room_stays : (d : pointer.D) (xs : List T.Denot) → room (with_behind d xs) ≡ room d
+  pub is_behind : (d : pointer.D) (xs : List T.Denot) → pointer.behind (with_behind d xs) ≡ xs
 
 module _ (X : RattleType) (ty : Ty) (P : ListOf (sized X ty)) where
   abbrev T : RattleType
@@ -105,16 +94,16 @@ module _ (X : RattleType) (ty : Ty) (P : ListOf (sized X ty)) where
 
   abbrev pub the_type : Owning
   the_type = record {
-    name = P.name;
+    name = P.pointer.name;
     args = [];
     types = [];
     parts = RawPtr-field ∷ usize-field ∷ [];
-    D = P.D;
-    as_values = λ d. (P.at d, (P.room d, tt));
-    coded = P.coded;
-    heap = λ d. list_at T (P.room d) (P.at d) (P.behind d);
-    exit = P.exit;
-    shr_at = P.shr_at;
+    D = P.pointer.D;
+    as_values = λ d. (P.pointer.at d, (P.room d, tt));
+    coded = P.pointer.coded;
+    heap = λ d. list_at T (P.room d) (P.pointer.at d) (P.pointer.behind d);
+    exit = P.pointer.exit;
+    shr_at = P.pointer.shr_at;
   }
 
   abbrev pub R : RattleType
@@ -124,8 +113,8 @@ module _ (X : RattleType) (ty : Ty) (P : ListOf (sized X ty)) where
   abbrev fields_own : Ptr → ℕ → List Val → Fml
   fields_own p n us = (Struct (shape the_type)).own_val (p, (n, tt)) us
 
-  abbrev pub IsNull : P.D → Type 0
-  IsNull d = (P.at d ≡ null_ptr) × (0 < P.room d)
+  abbrev pub IsNull : P.pointer.D → Type 0
+  IsNull d = (P.pointer.at d ≡ null_ptr) × (0 < P.room d)
 
   -- the items
   abbrev pub items_signature : Signature
@@ -142,11 +131,11 @@ module _ (X : RattleType) (ty : Ty) (P : ListOf (sized X ty)) where
   abbrev items_stayed : Stays items_ended.signature.params items_ended.kept
   items_stayed = (stay_dropped (mut_ref_to (0 ∷ []) tt (plain (λ _. R))) no, tt)
 
-  abbrev pub items_clauses : {M : Type 1} {𝓤 : Ura M} (𝓛 : Logic 𝓤) → (P.D → Type 0) → Clauses 𝓤 items_ended
+  abbrev pub items_clauses : {M : Type 1} {𝓤 : Ura M} (𝓛 : Logic 𝓤) → (P.pointer.D → Type 0) → Clauses 𝓤 items_ended
   items_clauses {𝓤 = 𝓤} 𝓛 Null κs a = record {
     ghost = Unit {0};
     requires = λ _. fact 𝓤 (Null a.0.now → ⊥);
-    ensures = λ _ r _. sep 𝓤 (sem 𝓛 (Lends R (Array T 0) a.0 r (P.with_behind a.0.now))) (fact 𝓤 (r.now ≡ P.behind a.0.now));
+    ensures = λ _ r _. sep 𝓤 (sem 𝓛 (Lends R (Array T 0) a.0 r (P.with_behind a.0.now))) (fact 𝓤 (r.now ≡ P.pointer.behind a.0.now));
   }
 
   abbrev self_at : ℕ → Body
@@ -175,14 +164,14 @@ module _ (X : RattleType) (ty : Ty) (P : ListOf (sized X ty)) where
   }
 
   -- the list with other items, of the same pointer and number
-  opened : (h : P.D) (us : List Val) (ws : List X.Denot) → R.own_val (P.with_behind h ws) us ≡ fsep (fields_own (P.at h) (P.room h) us) (list_at T (P.room h) (P.at h) ws)
+  opened : (h : P.pointer.D) (us : List Val) (ws : List X.Denot) → R.own_val (P.with_behind h ws) us ≡ fsep (fields_own (P.pointer.at h) (P.room h) us) (list_at T (P.room h) (P.pointer.at h) ws)
   opened h us ws =
-      ap (λ (p : Ptr). fsep (fields_own p (P.room (P.with_behind h ws)) us) (list_at T (P.room (P.with_behind h ws)) p (P.behind (P.with_behind h ws)))) (P.at_stays h ws)
-      ∙ ap (λ (n : ℕ). fsep (fields_own (P.at h) n us) (list_at T n (P.at h) (P.behind (P.with_behind h ws)))) (P.room_stays h ws)
-      ∙ ap (λ (zs : List X.Denot). fsep (fields_own (P.at h) (P.room h) us) (list_at T (P.room h) (P.at h) zs)) (P.is_behind h ws)
+      ap (λ (p : Ptr). fsep (fields_own p (P.room (P.with_behind h ws)) us) (list_at T (P.room (P.with_behind h ws)) p (P.pointer.behind (P.with_behind h ws)))) (P.at_stays h ws)
+      ∙ ap (λ (n : ℕ). fsep (fields_own (P.pointer.at h) n us) (list_at T n (P.pointer.at h) (P.pointer.behind (P.with_behind h ws)))) (P.room_stays h ws)
+      ∙ ap (λ (zs : List X.Denot). fsep (fields_own (P.pointer.at h) (P.room h) us) (list_at T (P.room h) (P.pointer.at h) zs)) (P.is_behind h ws)
 
   module _ {M : Type 1} (𝓤 : Ura M) (𝓛 : Logic 𝓤) (𝓜 : Model 𝓤 𝓛.H) (𝓡 : Running 𝓤 𝓛.H 𝓜) (k : Callee) where
-    pub items_lent : (Null : P.D → Type 0) → ((d : P.D) → IsNull d → Null d)
+    pub items_lent : (Null : P.pointer.D → Type 0) → ((d : P.pointer.D) → IsNull d → Null d)
         → Closed 𝓤 𝓛.H (tables 𝓤 𝓛.H 𝓜 𝓡 𝓡.env).C (tables 𝓤 𝓛.H 𝓜 𝓡 𝓡.env).Λ k items_function
         → Meets 𝓛 items_signature (𝓡.run (𝓡.env k)) (closing 𝓛 items_ended (items_clauses 𝓛 Null))
     items_lent Null nulls closed =
@@ -191,7 +180,7 @@ module _ (X : RattleType) (ty : Ty) (P : ListOf (sized X ty)) where
         k items_function closed
         (λ κs. (mut_vals, tt)) (λ κs. (mut_Tells (named 0) κs.0 R, tt)) (λ κs qs bounds a _ are.
         let b = a.0.ref_ptr.0 in let o = a.0.ref_ptr.1 in let γ = a.0.ghost_name in let h = a.0.now in let vs = mut_vals a.0 in
-        let xs = P.behind h in
+        let xs = P.pointer.behind h in
         let y : W.Ghost = ((κs, qs, bounds, a, (vs, tt)), tt) in
         let Lent : RattleType = MutSlice (named 0) κs.0 T in
         qed 𝓛 (((‵ (flft κs.0 qs.0) ⊛ ‵ ftrue) ⊛ ‵ ((MutRef (named 0) κs.0 R).own_val a.0 vs) ⊛ ‵ ftrue) ∷ raw (fact 𝓤 (Null h → ⊥)) ∷ []) ∵ move ! (1 ∷ []) $ heard ! (Null h → ⊥) (λ filled.
@@ -202,13 +191,13 @@ module _ (X : RattleType) (ty : Ty) (P : ListOf (sized X ty)) where
         move ! (1 ∷ []) $ peeks ! R _ (shows 𝓛 R) h us (λ is_us. fsplit ! $ move ! (1 ∷ []) $
         let Cell = λ (ws : List Val). ‵ (cell_at full_share R.mir ws b o) in
         let word = Tells-lowered the_type (RawPtr-laws, (usize-laws, tt)) h us is_us in
-        let A : Fml = fields_own (P.at h) (P.room h) us in
+        let A : Fml = fields_own (P.pointer.at h) (P.room h) us in
         let fits : P.room h < 2 ^ 64 = is_us.0.1.1.1.0.1 in
-        none_or_more ! (P.room h) (λ n. list_at T n (P.at h) xs)
+        none_or_more ! (P.room h) (λ n. list_at T n (P.pointer.at h) xs)
         (λ e. feq_l ! (λ none. rewrite ! 1 Cell word refl $
         -- [the fields; the struct's cell; the open borrow, in three entries]
         sets ! (is ! (of_opd ! (load ! (through ! refl (fld ! refl (stop !))) (look_in ! 1 (sub ! 1 refl (whole !))))) (ap (vint w64) e)) refl (tt, record { fits = lit< tt }) $
-        sets ! (of_opd ! (load ! (through ! refl (fld ! refl (stop !))) (look_in ! 1 (sub ! 0 refl (whole !))))) refl (ptr_good (P.at h)) $
+        sets ! (of_opd ! (load ! (through ! refl (fld ! refl (stop !))) (look_in ! 1 (sub ! 0 refl (whole !))))) refl (ptr_good (P.pointer.at h)) $
         sets ! (bin ! (get ! refl) (lit ! tt) tt) refl (tt, tt) $
         first ! $ branches ! (get ! refl)
         (λ t. rewrite ! 1 Cell (sym word) refl $ sets ! (addr ! (through ! refl (stop !))) refl (tt, tt) $ sets_last ! (of_opd ! (get ! refl)) refl (tt, tt) $
@@ -224,8 +213,8 @@ module _ (X : RattleType) (ty : Ty) (P : ListOf (sized X ty)) where
         let value : Val = slice_val (b, o) (length xs) in
         let lent : GName → MutBor (List X.Denot) = λ δ. record { ref_ptr = (b, o); ghost_name = δ; now = xs } in
         let way = back 𝓛 R T (P.with_behind h) A us b o b o xs (λ ws. feq (List T.Denot) ws [])
-        (λ ws. opened h us ws ∙ ap (λ n. fsep A (list_at T n (P.at h) ws)) e)
-        (λ ws same. qed 𝓛 (‵ (cells (mem T) ws b o) ∷ []) ∵ drop ! $ feq_i ! (List T.Denot) ws [] (no_items ws (same ∙ count)) $ done !) in
+        (λ ws. opened h us ws ∙ ap (λ n. fsep A (list_at T n (P.pointer.at h) ws)) e)
+        (λ ws same. qed 𝓛 (‵ (cells (mem T) ws b o) ∷ []) ∵ drop ! $ feq_i ! (List T.Denot) ws [] (nil_from_length ws (same ∙ count)) $ done !) in
         use1 𝓛 (later (some (λ (δ : GName). ‵ (Lent.own_val (lent δ) (value ∷ [])) ⊛ ‵ (flft κs.0 qs.0) ⊛ ‵ (follows R (Array T 0) γ δ (P.with_behind h)))))
         (lends_Elements 𝓛 R T (P.with_behind h) (named 0) κs.0 qs.0 b o b o γ xs ((roomy, subst (λ (n : ℕ). n * (mem T).size < 2 ^ 63) (sym count) (subst (λ (n : ℕ). n < 2 ^ 63) (sym (zero-mul (mem T).size)) (lit< tt)))) (sem 𝓛 (Rest 𝓛 R T (P.with_behind h) A us b o b o xs)) way (R.coded.code h) (R.coded.code h)) $ await ! tt $ pick ! (λ δ. split3 ! $
         returns ! (look_at ! 0 refl) $ free_all ! refl $ keep ! (0 ∷ 1 ∷ 2 ∷ []) $
@@ -233,7 +222,7 @@ module _ (X : RattleType) (ty : Ty) (P : ListOf (sized X ty)) where
         nothing ! $ move ! (2 ∷ 0 ∷ []) $ join ! $ nothing ! $ nothing ! $ join ! $ move ! (1 ∷ 0 ∷ 2 ∷ []) $ group ! 3 $ frame ! $ says ! refl $ done !))
         (λ t. absurd t)))
         (λ m e. let fits_m : suc m < 2 ^ 64 = subst (λ (n : ℕ). n < 2 ^ 64) e fits in
-        null_or_block ! (P.at h) (λ p. items_at T (suc m) p xs) (λ null. absurd (filled (nulls h (null, subst (λ (n : ℕ). 0 < n) (sym e) (omega arith)))))
+        null_or_block ! (P.pointer.at h) (λ p. items_at T (suc m) p xs) (λ null. absurd (filled (nulls h (null, subst (λ (n : ℕ). 0 < n) (sym e) (omega arith)))))
         (λ b' o' at_is. fsplit ! $ flt_l ! (λ small. use1 𝓛 (‵ ((Arr (mem T) (suc m)).own_at xs b' o')) (Array-apart 𝓛 T full_share tt (suc m) xs b' o') $ fsplit ! $ feq_l ! (λ count.
         rewrite ! 2 Cell word refl $
         sets ! (is ! (of_opd ! (load ! (through ! refl (fld ! refl (stop !))) (look_in ! 2 (sub ! 1 refl (whole !))))) (ap (vint w64) e)) refl (tt, record { fits = fits_m }) $
@@ -252,7 +241,7 @@ module _ (X : RattleType) (ty : Ty) (P : ListOf (sized X ty)) where
         let value : Val = slice_val (b', o') (length xs) in
         let lent : GName → MutBor (List X.Denot) = λ δ. record { ref_ptr = (b', o'); ghost_name = δ; now = xs } in
         let way = back 𝓛 R T (P.with_behind h) A us b o b' o' xs (λ ws. items_at T (suc m) (block_ptr b' o') ws)
-        (λ ws. opened h us ws ∙ ap (λ n. fsep A (list_at T n (P.at h) ws)) e ∙ ap (λ p. fsep A (items_at T (suc m) p ws)) at_is)
+        (λ ws. opened h us ws ∙ ap (λ n. fsep A (list_at T n (P.pointer.at h) ws)) e ∙ ap (λ p. fsep A (items_at T (suc m) p ws)) at_is)
         (λ ws same. qed 𝓛 (‵ (cells (mem T) ws b' o') ∷ []) ∵ feq_i ! ℕ (length ws) (suc m) (same ∙ count) $ fjoin ! $ use1 𝓛 (‵ (part_at (Array T (suc m)) full_share ws b' o')) (Array-whole 𝓛 T full_share (suc m) ws b' o') $ flt_i ! (suc m * (mem T).size) (2 ^ 63) small $ fjoin ! $ done !) in
         use1 𝓛 (later (some (λ (δ : GName). ‵ (Lent.own_val (lent δ) (value ∷ [])) ⊛ ‵ (flft κs.0 qs.0) ⊛ ‵ (follows R (Array T 0) γ δ (P.with_behind h)))))
         (lends_Elements 𝓛 R T (P.with_behind h) (named 0) κs.0 qs.0 b o b' o' γ xs ((roomy, subst (λ (n : ℕ). n * (mem T).size < 2 ^ 63) (sym count) small)) (sem 𝓛 (Rest 𝓛 R T (P.with_behind h) A us b o b' o' xs)) way (R.coded.code h) (R.coded.code h)) $ await ! tt $ pick ! (λ δ. split3 ! $
@@ -275,7 +264,7 @@ module _ (X : RattleType) (ty : Ty) (P : ListOf (sized X ty)) where
   abbrev null_stayed : Stays null_ended.signature.params null_ended.kept
   null_stayed = (stay_ref (0 ∷ []) tt (plain (λ _. R)), tt)
 
-  abbrev pub null_clauses : {M : Type 1} {𝓤 : Ura M} (𝓛 : Logic 𝓤) → (P.D → Type 0) → Clauses 𝓤 null_ended
+  abbrev pub null_clauses : {M : Type 1} {𝓤 : Ura M} (𝓛 : Logic 𝓤) → (P.pointer.D → Type 0) → Clauses 𝓤 null_ended
   null_clauses {𝓤 = 𝓤} 𝓛 Null κs a = record {
     ghost = Unit {0};
     requires = λ _. emp 𝓤;
@@ -315,14 +304,14 @@ module _ (X : RattleType) (ty : Ty) (P : ListOf (sized X ty)) where
 
   module _ {M : Type 1} (𝓤 : Ura M) (𝓛 : Logic 𝓤) (𝓜 : Model 𝓤 𝓛.H) (𝓡 : Running 𝓤 𝓛.H 𝓜) (k : Callee) where
     pub tells_null_at : Closed 𝓤 𝓛.H (tables 𝓤 𝓛.H 𝓜 𝓡 𝓡.env).C (tables 𝓤 𝓛.H 𝓜 𝓡 𝓡.env).Λ k at_function
-        → Meets 𝓛 null_signature (𝓡.run (𝓡.env k)) (closing 𝓛 null_ended (null_clauses 𝓛 (λ d. P.at d ≡ null_ptr)))
+        → Meets 𝓛 null_signature (𝓡.run (𝓡.env k)) (closing 𝓛 null_ended (null_clauses 𝓛 (λ d. P.pointer.at d ≡ null_ptr)))
     tells_null_at closed =
-        let c = null_clauses 𝓛 (λ d. P.at d ≡ null_ptr) in let W = walk_of 𝓛 null_ended null_stayed c in let 𝓣 = tables 𝓤 𝓛.H 𝓜 𝓡 𝓡.env in
+        let c = null_clauses 𝓛 (λ d. P.pointer.at d ≡ null_ptr) in let W = walk_of 𝓛 null_ended null_stayed c in let 𝓣 = tables 𝓤 𝓛.H 𝓜 𝓡 𝓡.env in
         proved 𝓛 null_ended null_stayed c 𝓜 𝓡 (Goes-ref 𝓛 1 0 tt (plain (λ _. R)), tt)
         k at_function closed
         (λ κs. (mut_vals, tt)) (λ κs. (mut_Tells (named 0) κs.0 R, tt)) (λ κs qs bounds a _ are.
         let b = a.0.ref_ptr.0 in let o = a.0.ref_ptr.1 in let γ = a.0.ghost_name in let h = a.0.now in let vs = mut_vals a.0 in
-        let xs = P.behind h in
+        let xs = P.pointer.behind h in
         let y : W.Ghost = ((κs, qs, bounds, a, (vs, tt)), tt) in
         let Lent : RattleType = MutSlice (named 0) κs.0 T in
         qed 𝓛 (((‵ (flft κs.0 qs.0) ⊛ ‵ ftrue) ⊛ ‵ ((MutRef (named 0) κs.0 R).own_val a.0 vs) ⊛ ‵ ftrue) ∷ ‵ ftrue ∷ []) ∵
@@ -333,20 +322,20 @@ module _ (X : RattleType) (ty : Ty) (P : ListOf (sized X ty)) where
         move ! (1 ∷ []) $ peeks ! R _ (shows 𝓛 R) h us (λ is_us.
         let Cell = λ (ws : List Val). ‵ (cell_at full_share R.mir ws b o) in
         let word = Tells-lowered the_type (RawPtr-laws, (usize-laws, tt)) h us is_us in
-        let A : Fml = fields_own (P.at h) (P.room h) us in
+        let A : Fml = fields_own (P.pointer.at h) (P.room h) us in
         let fits : P.room h < 2 ^ 64 = is_us.0.1.1.1.0.1 in
         rewrite ! 1 Cell word refl $
         -- [the value; the struct's cell; the open borrow, in three entries]
-        by_pointer (P.at h)
+        by_pointer (P.pointer.at h)
         (λ null. sets ! (is ! (of_opd ! (load ! (through ! refl (fld ! refl (stop !))) (look_in ! 1 (sub ! 0 refl (whole !))))) (ap ptr_val null)) refl (tt, record { fits = lit< tt }) $
-        sets ! (bin ! (get ! refl) (lit ! tt) (tests_null null_ptr (subst Testable null (P.testable h)))) refl (tt, tt) $
+        sets ! (bin ! (get ! refl) (lit ! tt) (tests_null null_ptr (subst Testable null (P.pointer.testable h)))) refl (tt, tt) $
         rewrite ! 1 Cell (sym word) refl $ move ! (1 ∷ []) $ closes ! tt R h us b o $
         returns ! (look_at ! 0 refl) $ free_all ! refl $ move ! (3 ∷ []) $
         suffices ! _ (ends_at 𝓛 null_ended null_stayed c y (vbool true) true (h, tt) (tt, tt)) $ says_both ! ((λ t. null), (λ z. refl)) refl $
         group ! 3 $ nothing ! $ move ! (1 ∷ 0 ∷ []) $ join ! $ nothing ! $ move ! (2 ∷ 0 ∷ []) $ join ! $ frame ! $ frame ! $
         feq_i ! (List Val) (vbool true ∷ []) (vbool true ∷ []) refl $ done !)
         (λ b' o' at_is. sets ! (is ! (of_opd ! (load ! (through ! refl (fld ! refl (stop !))) (look_in ! 1 (sub ! 0 refl (whole !))))) (ap ptr_val at_is)) refl (tt, tt) $
-        sets ! (bin ! (get ! refl) (lit ! tt) (tests_null (block_ptr b' o') (subst Testable at_is (P.testable h)))) refl (tt, tt) $
+        sets ! (bin ! (get ! refl) (lit ! tt) (tests_null (block_ptr b' o') (subst Testable at_is (P.pointer.testable h)))) refl (tt, tt) $
         rewrite ! 1 Cell (sym word) refl $ move ! (1 ∷ []) $ closes ! tt R h us b o $
         returns ! (look_at ! 0 refl) $ free_all ! refl $ move ! (3 ∷ []) $
         suffices ! _ (ends_at 𝓛 null_ended null_stayed c y (vbool false) false (h, tt) (tt, tt)) $ says_both ! ((λ t. absurd (true≢false (sym t))), (λ z. absurd (not_null (sym at_is ∙ z)))) refl $
@@ -361,7 +350,7 @@ module _ (X : RattleType) (ty : Ty) (P : ListOf (sized X ty)) where
         k null_function closed
         (λ κs. (mut_vals, tt)) (λ κs. (mut_Tells (named 0) κs.0 R, tt)) (λ κs qs bounds a _ are.
         let b = a.0.ref_ptr.0 in let o = a.0.ref_ptr.1 in let γ = a.0.ghost_name in let h = a.0.now in let vs = mut_vals a.0 in
-        let xs = P.behind h in
+        let xs = P.pointer.behind h in
         let y : W.Ghost = ((κs, qs, bounds, a, (vs, tt)), tt) in
         let Lent : RattleType = MutSlice (named 0) κs.0 T in
         qed 𝓛 (((‵ (flft κs.0 qs.0) ⊛ ‵ ftrue) ⊛ ‵ ((MutRef (named 0) κs.0 R).own_val a.0 vs) ⊛ ‵ ftrue) ∷ ‵ ftrue ∷ []) ∵
@@ -372,7 +361,7 @@ module _ (X : RattleType) (ty : Ty) (P : ListOf (sized X ty)) where
         move ! (1 ∷ []) $ peeks ! R _ (shows 𝓛 R) h us (λ is_us.
         let Cell = λ (ws : List Val). ‵ (cell_at full_share R.mir ws b o) in
         let word = Tells-lowered the_type (RawPtr-laws, (usize-laws, tt)) h us is_us in
-        let A : Fml = fields_own (P.at h) (P.room h) us in
+        let A : Fml = fields_own (P.pointer.at h) (P.room h) us in
         let fits : P.room h < 2 ^ 64 = is_us.0.1.1.1.0.1 in
         rewrite ! 1 Cell word refl $
         -- [the value; the struct's cell; the open borrow, in three entries]
@@ -392,16 +381,16 @@ module _ (X : RattleType) (ty : Ty) (P : ListOf (sized X ty)) where
         sets ! (bin ! (get ! refl) (lit ! tt) tt) refl (tt, tt) $
         first ! $ branches ! (get ! refl) (λ t. absurd (omega (arith, eqb→eq (suc m) 0 t)))
         (λ t. skips ! $ exec ! 𝓣.C 𝓣.Λ En null-4 (at_ret En (W.post y)) $
-        by_pointer (P.at h)
+        by_pointer (P.pointer.at h)
         (λ null. sets ! (is ! (of_opd ! (load ! (through ! refl (fld ! refl (stop !))) (look_in ! 1 (sub ! 0 refl (whole !))))) (ap ptr_val null)) refl (tt, record { fits = lit< tt }) $
-        sets ! (bin ! (get ! refl) (lit ! tt) (tests_null null_ptr (subst Testable null (P.testable h)))) refl (tt, tt) $
+        sets ! (bin ! (get ! refl) (lit ! tt) (tests_null null_ptr (subst Testable null (P.pointer.testable h)))) refl (tt, tt) $
         rewrite ! 1 Cell (sym word) refl $ move ! (1 ∷ []) $ closes ! tt R h us b o $
         returns ! (look_at ! 0 refl) $ free_all ! refl $ move ! (3 ∷ []) $
         suffices ! _ (ends_at 𝓛 null_ended null_stayed c y (vbool true) true (h, tt) (tt, tt)) $ says_both ! ((λ t. (null, subst (λ (n : ℕ). 0 < n) (sym e) (omega arith))), (λ z. refl)) refl $
         group ! 3 $ nothing ! $ move ! (1 ∷ 0 ∷ []) $ join ! $ nothing ! $ move ! (2 ∷ 0 ∷ []) $ join ! $ frame ! $ frame ! $
         feq_i ! (List Val) (vbool true ∷ []) (vbool true ∷ []) refl $ done !)
         (λ b' o' at_is. sets ! (is ! (of_opd ! (load ! (through ! refl (fld ! refl (stop !))) (look_in ! 1 (sub ! 0 refl (whole !))))) (ap ptr_val at_is)) refl (tt, tt) $
-        sets ! (bin ! (get ! refl) (lit ! tt) (tests_null (block_ptr b' o') (subst Testable at_is (P.testable h)))) refl (tt, tt) $
+        sets ! (bin ! (get ! refl) (lit ! tt) (tests_null (block_ptr b' o') (subst Testable at_is (P.pointer.testable h)))) refl (tt, tt) $
         rewrite ! 1 Cell (sym word) refl $ move ! (1 ∷ []) $ closes ! tt R h us b o $
         returns ! (look_at ! 0 refl) $ free_all ! refl $ move ! (3 ∷ []) $
         suffices ! _ (ends_at 𝓛 null_ended null_stayed c y (vbool false) false (h, tt) (tt, tt)) $ says_both ! ((λ t. absurd (true≢false (sym t))), (λ z. absurd (not_null (sym at_is ∙ z.0)))) refl $

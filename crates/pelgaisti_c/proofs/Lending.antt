@@ -29,7 +29,6 @@ use denote.RawPtr.{Ptr, block_ptr, null_ptr, ptr_val, Testable, tests_null, lies
 use denote.Ref.{MutRef, mut_vals, mut_Tells}
 use denote.Signature.{Signature, plain, type_at, mut_ref_to}
 use denote.Steps.{nothing, opens, closes, peeks}
-use denote.Struct.Field.{RawPtr-field}
 use denote.Struct.Laws.{RawPtr-laws}
 use denote.Struct.Struct.{Struct, layout}
 use denote.Struct.Owning.{Owning, row, shape}
@@ -40,7 +39,7 @@ use denote.Triple.Walked.{Stays, walk_of, says, stay_dropped, Goes-spent_ref, en
 use Rattle.core.specs.contracts.option.Option as OP
 use Rattle.core.proofs.option.Made.{Some-of, none_of}
 use Rattle.pelgaisti_c.specs.Behind.{maybe_at}
-use Rattle.pelgaisti_c.proofs.Behind.{PointerTo, null_or_block, not_null, first_of, sized}
+use Rattle.pelgaisti_c.proofs.Behind.{PointerTo, pointing, null_or_block, not_null, first_of, sized}
 
 module _ {M : Type 1} {𝓤 : Ura M} (𝓛 : Logic 𝓤) (R T : RattleType) (F : T.Denot → R.Denot) where
   -- what a reference that lends nothing ends as
@@ -71,18 +70,7 @@ module _ (X : RattleType) (ty : Ty) (P : PointerTo (sized X ty)) (with_behind : 
   T = sized X ty
 
   abbrev pub the_type : Owning
-  the_type = record {
-    name = P.name;
-    args = [];
-    types = [];
-    parts = RawPtr-field ∷ [];
-    D = P.D;
-    as_values = λ d. (P.at d, tt);
-    coded = P.coded;
-    heap = λ d. maybe_at T (P.at d) (P.behind d);
-    exit = P.exit;
-    shr_at = P.shr_at;
-  }
+  the_type = pointing T P (maybe_at T)
 
   abbrev pub R : RattleType
   R = row the_type

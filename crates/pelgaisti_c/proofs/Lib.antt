@@ -12,3 +12,4 @@ pub mod Behind
 pub mod Lending
 pub mod Copying
 pub mod ItemLists
+pub mod ListKinds

@@ -1,30 +1,11 @@
 -- `is_null` of a list that may be null. Assumes `Logic`.
-use Rattle.std.proofs.Common.{refl}
 use Rattle.pelgaisti_c.specs.contracts.numbers.HolderNumbers.{the_row as row}
-use Rattle.pelgaisti_c.specs.declared.pointers.lists.HolderList.{HolderList}
-use Rattle.pelgaisti_c.specs.contracts.pointers.lists.HolderList as lists
 use Rattle.pelgaisti_c.specs.contracts.pointers.lists.HolderList.is_null.Key.{name}
-use Rattle.pelgaisti_c.proofs.Behind.{sized, first_of}
-use Rattle.pelgaisti_c.proofs.ItemLists.{ListOf, tells_null}
+use Rattle.pelgaisti_c.proofs.Behind.{first_of}
+use Rattle.pelgaisti_c.proofs.ListKinds.{holder_list}
+use Rattle.pelgaisti_c.proofs.ItemLists.{tells_null}
 use Rattle.pelgaisti_c.proofs.pointers.lists.HolderList.is_null.Code as code
 use Rattle.pelgaisti_c.proofs.pointers.lists.HolderList.is_null.Statement.{statement}
 
-abbrev list : ListOf (sized row (first_of row.mir))
-list = record {
-  name = lists.struct.name;
-  D = HolderList;
-  coded = lists.the_type.coded;
-  exit = lists.the_type.exit;
-  shr_at = lists.the_type.shr_at;
-  at = λ p. p.at;
-  room = λ p. p.room;
-  testable = λ p. p.testable;
-  behind = λ p. p.behind;
-  with_behind = λ p xs. record p { behind = xs };
-  at_stays = λ p xs. refl;
-  room_stays = λ p xs. refl;
-  is_behind = λ p xs. refl;
-}
-
 pub is_null_spec : {M : Type 1} → statement M
-is_null_spec 𝓤 𝓛 𝓜 𝓡 wired = tells_null row (first_of row.mir) list 𝓤 𝓛 𝓜 𝓡 name (code.unfolded 𝓤 𝓛.H 𝓜 𝓡 wired)
+is_null_spec 𝓤 𝓛 𝓜 𝓡 wired = tells_null row (first_of row.mir) holder_list 𝓤 𝓛 𝓜 𝓡 name (code.unfolded 𝓤 𝓛.H 𝓜 𝓡 wired)
