@@ -247,7 +247,9 @@ pub extern "C" fn pelgaisti_raw_session_perform_telling(
     let Some(mut share) = session.take(alloc) else {
         return CLOSED;
     };
-    let status = session_calls::perform_telling(alloc, &mut share, &call, pass, answer, list, count);
+    let status = session_calls::perform_telling(
+        alloc, &mut share, &call, pass, answer, list, count,
+    );
     session.put(share);
     status
 }

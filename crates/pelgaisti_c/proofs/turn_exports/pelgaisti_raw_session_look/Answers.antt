@@ -20,7 +20,7 @@ returns-clause-told c = λ e. let was : c.args.session.now.behind.held.share ≡
     (c.deref_mut.result.now, c.look-status.new.share, was, c.put.ensures.1, c.look-status.ensures.told some)
 
 pub returns-clause-nothing : goal.returns-clause-nothing
-returns-clause-nothing c = let was : c.args.session.now.behind.held.share ≡ Some c.deref_mut.result.now = search rules in (
+returns-clause-nothing c = λ here. let was : c.args.session.now.behind.held.share ≡ Some c.deref_mut.result.now = search rules in (
   (λ e. (c.deref_mut.result.now, was, c.look-status.ensures.nothing.0 e)),
   (λ is. let same : is.0 ≡ c.deref_mut.result.now = cc (sym is.1 ∙ was) in c.look-status.ensures.nothing.1 (subst (λ (s : SessionShare). s.session.pending ≡ None) same is.2)),
 )
