@@ -25,7 +25,7 @@ pub extern "C" fn pelgaisti_raw_session_hand_in(
     session: &mut SessionPointer,
     to: &mut SessionPointer,
 ) -> u32
-    requires one_office { (a b : ShareValue) → session.old.behind.held.share ≡ Some a → to.old.behind.held.share ≡ Some b → a.mark ≡ b.mark → a.office.value ≡ b.office.value }
+    requires one_office { session.old.at ≢ null_ptr → to.old.at ≢ null_ptr → (a b : ShareValue) → session.old.behind.held.share ≡ Some a → to.old.behind.held.share ≡ Some b → a.mark ≡ b.mark → a.office.value ≡ b.office.value }
     ensures null { result ≡ NULL_POINTER ↔ ((session.old.at ≡ null_ptr) ⊎ (to.old.at ≡ null_ptr)) }
     ensures ok { result ≡ OK → (share before after : ShareValue) × (session.old.behind.held.share ≡ Some share) × (to.old.behind.held.share ≡ Some before) × (to.new.behind.held.share ≡ Some after)
         × IsHandedIn share before after }

@@ -443,7 +443,7 @@ pub extern "C" fn pelgaisti_raw_session_hear(
     session: &mut SessionPointer,
     other: &mut SessionPointer,
 ) -> u32
-    requires one_office { (a b : SessionShare) → session.old.behind.held.share ≡ Some a → other.old.behind.held.share ≡ Some b → a.mark ≡ b.mark → a.office.value ≡ b.office.value }
+    requires one_office { session.old.at ≢ null_ptr → other.old.at ≢ null_ptr → (a b : SessionShare) → session.old.behind.held.share ≡ Some a → other.old.behind.held.share ≡ Some b → a.mark ≡ b.mark → a.office.value ≡ b.office.value }
     ensures null { result ≡ NULL_POINTER ↔ ((session.old.at ≡ null_ptr) ⊎ (other.old.at ≡ null_ptr)) }
     ensures ok { result ≡ OK → (before after heard : SessionShare) × (session.old.behind.held.share ≡ Some before) × (session.new.behind.held.share ≡ Some after)
         × (other.old.behind.held.share ≡ Some heard) × (before.mark ≡ heard.mark) × IsHeard before heard after }
