@@ -32,7 +32,7 @@
  * - A handle (pelgaisti_book, pelgaisti_session) is a struct in the caller's memory. Set it to PELGAISTI_EMPTY, or all its bytes
  *   to zero, before its first use. From then on never copy, move, read or write it, and keep its memory until it is closed.
  * - Every pointer is aligned and points to memory of its type. No two arguments of a call overlap. A call returns PELGAISTI_NULL
- *   for a NULL pointer, unless its comment allows it, or it is that of an array without room. pelgaisti_path_call tests none.
+ *   for a NULL pointer, unless its comment allows it, or it is an array's whose `room` is 0. pelgaisti_path_call tests none.
  * - A process that has two copies of the library uses each handle with the copy that opened it.
  * - At most one call at a time uses a handle. To pass a handle to another thread, synchronize: by a mutex, by the start or the
  *   join of a thread, or by a sequentially consistent atomic. Different sessions of one office may be used at the same time.
