@@ -1,7 +1,7 @@
-/* The exports of crates/pelgaisti_c, each of which says there what it does, and proves it. An argument of the type T ** is
-   the address of a pointer, and a list that of a struct: the export returns NULL, and writes nothing, if the pointer is NULL, or the list's
-   is and there is room. No other argument is NULL. calls.c stands over them, and out of the archive none can be called, since ./embed
-   makes their names local. */
+/* The exports of crates/pelgaisti_c, each of which says there what it does, and proves it. An argument of the type T ** is the address of
+   a pointer of the caller's, and a list that of a struct. The export returns NULL, and writes nothing, if the pointer is NULL, or that of a
+   list with room; of pelgaisti_raw_office_open that of one without, too. No other pointer is NULL. calls.c stands over them, and out of the
+   archive none can be called, since ./embed makes their names local. */
 #ifndef PELGAISTI_RAW_H
 #define PELGAISTI_RAW_H
 
