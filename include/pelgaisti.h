@@ -32,7 +32,7 @@
  * - A handle (pelgaisti_book, pelgaisti_session) is a struct in the caller's memory. Set it to PELGAISTI_EMPTY, or all its bytes
  *   to zero, before its first use. From then on never copy, move, read or write it, and keep its memory until it is closed.
  * - Every pointer is aligned and points to memory of its type. No two arguments of a call overlap. A call returns PELGAISTI_NULL
- *   for a NULL pointer, unless its comment allows it. pelgaisti_path_call tests none.
+ *   for a NULL pointer, unless its comment allows it, or it is an array's whose `room` is 0. pelgaisti_path_call tests none.
  * - A process that has two copies of the library uses each handle with the copy that opened it.
  * - At most one call at a time uses a handle. To pass a handle to another thread, synchronize: by a mutex, by the start or the
  *   join of a thread, or by a sequentially consistent atomic. Different sessions of one office may be used at the same time.
@@ -68,7 +68,7 @@
  *
  * WHAT IS PROVED. Each call leads to an export of crates/pelgaisti_c, which states and proves its contract: what PELGAISTI_OK means,
  * which other statuses the call can return, and what each of these implies. What stands between is in bindings/c, some 400 lines of C,
- * and is tested: that NULL is refused, that calls are made and turns follow as their comments say, that threads pause and are woken,
+ * and is tested: that calls are made and turns follow as their comments say, that SAME is refused, that threads pause and are woken,
  * names. So are three sentences:
  * - NOT_SERVED. Proved: the session has a pending call, and that call is not in the part of the history that the session knows
  *   (pelgaisti_session_seen counts its entries). So a collect directly after a serve of the same session that returned OK with
@@ -119,7 +119,7 @@ typedef enum pelgaisti_status {
     PELGAISTI_COPIED = 16,         /* a handle was copied or moved, against the rules above, or is of another copy of the
                                       library; see pelgaisti_office_close [whole, done: all tests before it passed, and the session
                                       is closed; that such a handle was handed in is tested] */
-    PELGAISTI_NULL = 17,           /* a pointer is NULL and must not be [tested] */
+    PELGAISTI_NULL = 17,           /* a pointer is NULL and must not be [null, exactly then; of a waker tested] */
     PELGAISTI_SAME = 18,           /* both arguments are the same handle [tested] */
     PELGAISTI_LET_GO = 19,         /* the entry at this place of the history was let go [let_go, exactly then] */
     PELGAISTI_NO_ROOM = 20         /* the array has room for fewer sessions than the office, or the book, has [room, exactly then] */

@@ -1,5 +1,5 @@
-/* The functions that pelgaisti.h declares. Each tests its pointers, tells ThreadSanitizer of the call, and calls the export of the
-   proved crate, which does the rest. Nothing here is proved. */
+/* The functions that pelgaisti.h declares. Each tells ThreadSanitizer of the call, and gives the export of the proved crate the addresses
+   of its pointers: the export tests them for NULL and does the rest. Nothing here is proved. */
 #include "pelgaisti_raw.h"
 #include "wait.h"
 
@@ -21,19 +21,21 @@ enum { ORDERS_NOTHING = 0, RELEASES = 1, ACQUIRES = 2, IN_PARTS = 4 };
 /* What stands for the words of the session's office: an address for its mark. Nothing is written there. */
 static void *words_of(pelgaisti_session *session) {
     static uint64_t words[1024];
-    uint64_t mark = 0;
-    pelgaisti_raw_session_mark(session, &mark);
+    uint64_t mark = 0, *at = &mark;
+    pelgaisti_raw_session_mark(&session, &at);
     return &words[mark % 1024];
 }
 
-/* A call uses the handle: two threads that use it without an order between them race. */
-static COLD void note_use(void *handle) { __tsan_write8(handle); }
+/* A call uses the handle, unless it is NULL: two threads that use it without an order between them race. */
+static COLD void note_use(void *handle) {
+    if (handle) __tsan_write8(handle);
+}
 
 /* What the archive does between these two, such as to free what another thread has allocated, is ordered by the archive. */
 static COLD void begin_use(void *handle, int order) {
     note_use(handle);
     AnnotateIgnoreReadsBegin("pelgaisti", 0);
-    if (order & RELEASES) __tsan_release(words_of(handle));
+    if (handle && (order & RELEASES)) __tsan_release(words_of(handle));
 }
 
 static COLD pelgaisti_status end_use(void *handle, int order, uint32_t status) {
@@ -48,9 +50,8 @@ static COLD pelgaisti_status end_use(void *handle, int order, uint32_t status) {
     (IS_WATCHED ? (begin_use(handle, order), end_use(handle, order, call)) : (pelgaisti_status)(call))
 #define CALL(handle, call) ORDERING_CALL(handle, ORDERS_NOTHING, call)
 
-/* What an export is given in place of NULL, for a list without room. */
-static uint64_t none[8];
-#define LIST(list) ((list) ? (void *)(list) : (void *)none)
+/* What an export is given for an array of the caller's: where it is, and how many elements it has room for. */
+#define LIST(at, room) (&(pelgaisti_raw_list){(at), (room)})
 
 /* ---- The version, handles, and the calls of a path. ---- */
 
@@ -71,94 +72,79 @@ pelgaisti_call pelgaisti_path_call(const pelgaisti_resource *resource, uint32_t 
 /* ---- Books. ---- */
 
 pelgaisti_status pelgaisti_book_open(pelgaisti_book *book, uint32_t sessions) {
-    return book ? CALL(book, pelgaisti_raw_book_open(book, sessions)) : PELGAISTI_NULL;
+    return CALL(book, pelgaisti_raw_book_open(&book, sessions));
 }
 
 pelgaisti_status pelgaisti_book_close(pelgaisti_book *book) {
-    return book ? CALL(book, pelgaisti_raw_book_close(book)) : PELGAISTI_NULL;
+    return CALL(book, pelgaisti_raw_book_close(&book));
 }
 
 pelgaisti_status pelgaisti_book_serve(pelgaisti_book *book, uint32_t session, const pelgaisti_call *call, pelgaisti_reply *reply) {
-    if (!book || !call || !reply) return PELGAISTI_NULL;
-    return CALL(book, pelgaisti_raw_book_serve(book, session, call, reply));
+    return CALL(book, pelgaisti_raw_book_serve(&book, session, &call, &reply));
 }
 
 pelgaisti_status pelgaisti_book_serve_batch(pelgaisti_book *book, pelgaisti_entry *calls, size_t length, size_t *count) {
-    if (!book || (!calls && length) || !count) return PELGAISTI_NULL;
-    return CALL(book, pelgaisti_raw_book_serve_batch(book, LIST(calls), length, count));
+    return CALL(book, pelgaisti_raw_book_serve_batch(&book, LIST(calls, length), &count));
 }
 
 pelgaisti_status pelgaisti_book_held(pelgaisti_book *book, uint32_t session, const pelgaisti_resource *resource, uint32_t *mode) {
-    if (!book || !resource || !mode) return PELGAISTI_NULL;
-    return CALL(book, pelgaisti_raw_book_held(book, session, resource, mode));
+    return CALL(book, pelgaisti_raw_book_held(&book, session, &resource, &mode));
 }
 
 pelgaisti_status pelgaisti_book_holders(pelgaisti_book *book, const pelgaisti_resource *resource, pelgaisti_holder *list,
                                         size_t room, size_t *count) {
-    if (!book || !resource || (!list && room) || !count) return PELGAISTI_NULL;
-    return CALL(book, pelgaisti_raw_book_holders(book, resource, LIST(list), room, count));
+    return CALL(book, pelgaisti_raw_book_holders(&book, &resource, LIST(list, room), &count));
 }
 
 pelgaisti_status pelgaisti_book_waits_for(pelgaisti_book *book, uint32_t session, uint32_t other, uint32_t *edge) {
-    if (!book || !edge) return PELGAISTI_NULL;
-    return CALL(book, pelgaisti_raw_book_waits_for(book, session, other, edge));
+    return CALL(book, pelgaisti_raw_book_waits_for(&book, session, other, &edge));
 }
 
 pelgaisti_status pelgaisti_book_blockers(pelgaisti_book *book, uint32_t session, uint32_t *list, size_t room, size_t *count) {
-    if (!book || (!list && room) || !count) return PELGAISTI_NULL;
-    return CALL(book, pelgaisti_raw_book_blockers(book, session, LIST(list), room, count));
+    return CALL(book, pelgaisti_raw_book_blockers(&book, session, LIST(list, room), &count));
 }
 
 pelgaisti_status pelgaisti_book_transaction(pelgaisti_book *book, uint32_t session, pelgaisti_transaction *open) {
-    if (!book || !open) return PELGAISTI_NULL;
-    return CALL(book, pelgaisti_raw_book_transaction(book, session, open));
+    return CALL(book, pelgaisti_raw_book_transaction(&book, session, &open));
 }
 
 pelgaisti_status pelgaisti_book_request(pelgaisti_book *book, uint32_t session, pelgaisti_claim *waiting) {
-    if (!book || !waiting) return PELGAISTI_NULL;
-    return CALL(book, pelgaisti_raw_book_request(book, session, waiting));
+    return CALL(book, pelgaisti_raw_book_request(&book, session, &waiting));
 }
 
 pelgaisti_status pelgaisti_book_locks(pelgaisti_book *book, size_t first, pelgaisti_claim *list, size_t room, size_t *count) {
-    if (!book || (!list && room) || !count) return PELGAISTI_NULL;
-    return CALL(book, pelgaisti_raw_book_locks(book, first, LIST(list), room, count));
+    return CALL(book, pelgaisti_raw_book_locks(&book, first, LIST(list, room), &count));
 }
 
 pelgaisti_status pelgaisti_book_ended(pelgaisti_book *book, uint32_t *list, size_t room, size_t *count) {
-    if (!book || (!list && room) || !count) return PELGAISTI_NULL;
-    return CALL(book, pelgaisti_raw_book_ended(book, LIST(list), room, count));
+    return CALL(book, pelgaisti_raw_book_ended(&book, LIST(list, room), &count));
 }
 
 pelgaisti_status pelgaisti_book_length(pelgaisti_book *book, uint64_t *length) {
-    if (!book || !length) return PELGAISTI_NULL;
-    return CALL(book, pelgaisti_raw_book_length(book, length));
+    return CALL(book, pelgaisti_raw_book_length(&book, &length));
 }
 
 pelgaisti_status pelgaisti_book_history(pelgaisti_book *book, uint64_t first, pelgaisti_entry *entries, size_t room,
                                         size_t *count) {
-    if (!book || (!entries && room) || !count) return PELGAISTI_NULL;
-    return CALL(book, pelgaisti_raw_book_history(book, first, LIST(entries), room, count));
+    return CALL(book, pelgaisti_raw_book_history(&book, first, LIST(entries, room), &count));
 }
 
 pelgaisti_status pelgaisti_book_first_kept(pelgaisti_book *book, uint64_t *first) {
-    if (!book || !first) return PELGAISTI_NULL;
-    return CALL(book, pelgaisti_raw_book_first_kept(book, first));
+    return CALL(book, pelgaisti_raw_book_first_kept(&book, &first));
 }
 
 pelgaisti_status pelgaisti_book_keep_at_most(pelgaisti_book *book, uint64_t bound) {
-    return book ? CALL(book, pelgaisti_raw_book_keep_at_most(book, bound)) : PELGAISTI_NULL;
+    return CALL(book, pelgaisti_raw_book_keep_at_most(&book, bound));
 }
 
 pelgaisti_status pelgaisti_book_take_history(pelgaisti_book *book, uint64_t *first, pelgaisti_entry *entries, size_t room,
                                              size_t *count) {
-    if (!book || !first || (!entries && room) || !count) return PELGAISTI_NULL;
-    return CALL(book, pelgaisti_raw_book_take_history(book, first, LIST(entries), room, count));
+    return CALL(book, pelgaisti_raw_book_take_history(&book, &first, LIST(entries, room), &count));
 }
 
 pelgaisti_status pelgaisti_book_lock_path(pelgaisti_book *book, uint32_t session, const pelgaisti_resource *resource, uint32_t mode,
                                           uint32_t *level, pelgaisti_reply *reply, uint32_t *list, size_t room, size_t *count) {
-    if (!book || !resource || !level || !reply || !list || !count) return PELGAISTI_NULL;
-    return CALL(book, pelgaisti_raw_book_lock_path(book, session, resource, mode, level, reply, list, room, count));
+    return CALL(book, pelgaisti_raw_book_lock_path(&book, session, &resource, mode, &level, &reply, LIST(list, room), &count));
 }
 
 /* ---- Offices: how they are opened, and how they wake. ---- */
@@ -167,28 +153,28 @@ pelgaisti_status pelgaisti_book_lock_path(pelgaisti_book *book, uint32_t session
 static pelgaisti_status open_office(pelgaisti_session *sessions, size_t count, uint64_t bound, const pelgaisti_waker *waker) {
     const uint64_t at = (uint64_t)(uintptr_t)waker;
     size_t k;
-    if (IS_WATCHED)
+    if (IS_WATCHED && sessions)
         for (k = 1; k < count && k < PELGAISTI_MAX_SESSIONS; k++) note_use(&sessions[k]);
-    return CALL(sessions, pelgaisti_raw_office_open(sessions, count, draw_mark(), bound, at));
+    return CALL(sessions, pelgaisti_raw_office_open(LIST(sessions, count), draw_mark(), bound, at));
 }
 
 pelgaisti_status pelgaisti_office_open(pelgaisti_session *sessions, size_t count) {
-    return sessions ? open_office(sessions, count, UINT64_MAX, NULL) : PELGAISTI_NULL;
+    return open_office(sessions, count, UINT64_MAX, NULL);
 }
 
 pelgaisti_status pelgaisti_office_open_keeping(pelgaisti_session *sessions, size_t count, uint64_t bound) {
-    return sessions ? open_office(sessions, count, bound, NULL) : PELGAISTI_NULL;
+    return open_office(sessions, count, bound, NULL);
 }
 
 pelgaisti_status pelgaisti_office_open_waking(pelgaisti_session *sessions, size_t count, uint64_t bound,
                                               const pelgaisti_waker *waker) {
-    return sessions && waker && waker->wake ? open_office(sessions, count, bound, waker) : PELGAISTI_NULL;
+    return waker && waker->wake ? open_office(sessions, count, bound, waker) : PELGAISTI_NULL;
 }
 
 /* The waker of the session's office, or NULL. */
 static const pelgaisti_waker *waker_of(pelgaisti_session *session) {
     uint64_t at = 0;
-    CALL(session, pelgaisti_raw_session_waker(session, &at));
+    CALL(session, pelgaisti_raw_session_waker(&session, &at));
     return (const pelgaisti_waker *)(uintptr_t)at;
 }
 
@@ -198,7 +184,7 @@ static COLD void wake_told(pelgaisti_session *session, size_t told) {
     uint32_t list[16];
     size_t first, count = 0;
     for (first = 0; waker && first < told; first += 16) {
-        CALL(session, pelgaisti_raw_session_told(session, first, list, 16, &count));
+        CALL(session, pelgaisti_raw_session_told(&session, first, list, 16, &count));
         wake_each(waker, list, told - first < 16 ? told - first : 16);
     }
 }
@@ -212,27 +198,24 @@ static COLD void wake_listed(pelgaisti_session *session, const uint32_t *list, s
 /* ---- Sessions. ---- */
 
 pelgaisti_status pelgaisti_session_publish(pelgaisti_session *session, const pelgaisti_call *call, uint32_t *posted) {
-    uint32_t unread;
-    if (!session || !call) return PELGAISTI_NULL;
-    return ORDERING_CALL(session, RELEASES, pelgaisti_raw_session_publish(session, call, posted ? posted : &unread));
+    uint32_t unread, *at = posted ? posted : &unread;
+    return ORDERING_CALL(session, RELEASES, pelgaisti_raw_session_publish(&session, &call, &at));
 }
 
 pelgaisti_status pelgaisti_session_serve(pelgaisti_session *session, pelgaisti_pass *pass) {
-    pelgaisti_pass unread;
+    pelgaisti_pass unread, *made = pass ? pass : &unread;
     pelgaisti_status status;
     size_t told = 0;
-    if (!session) return PELGAISTI_NULL;
-    status = CALL(session, pelgaisti_raw_session_serve(session, pass ? pass : &unread, &told));
+    status = CALL(session, pelgaisti_raw_session_serve(&session, &made, &told));
     if (told > 0) wake_told(session, told);
     return status;
 }
 
 pelgaisti_status pelgaisti_session_serve_telling(pelgaisti_session *session, pelgaisti_pass *pass, uint32_t *list, size_t room,
                                                  size_t *count) {
-    pelgaisti_pass unread;
+    pelgaisti_pass unread, *made = pass ? pass : &unread;
     pelgaisti_status status;
-    if (!session || !list || !count) return PELGAISTI_NULL;
-    status = CALL(session, pelgaisti_raw_session_serve_telling(session, pass ? pass : &unread, list, room, count));
+    status = CALL(session, pelgaisti_raw_session_serve_telling(&session, &made, LIST(list, room), &count));
     if (status == PELGAISTI_OK && *count > 0) wake_listed(session, list, *count);
     return status;
 }
@@ -242,8 +225,8 @@ pelgaisti_status pelgaisti_session_perform_at_once(pelgaisti_session *session, c
     pelgaisti_pass unread, *made = pass ? pass : &unread;
     pelgaisti_status status;
     size_t told = 0;
-    if (!session || !call || !answer) return PELGAISTI_NULL;
-    status = ORDERING_CALL(session, RELEASES | ACQUIRES, pelgaisti_raw_session_perform_at_once(session, call, made, answer, &told));
+    status = ORDERING_CALL(session, RELEASES | ACQUIRES,
+                           pelgaisti_raw_session_perform_at_once(&session, &call, &made, &answer, &told));
     if (told > 0) wake_told(session, told);
     return status;
 }
@@ -252,16 +235,14 @@ pelgaisti_status pelgaisti_session_perform_telling(pelgaisti_session *session, c
                                                    pelgaisti_answer *answer, uint32_t *list, size_t room, size_t *count) {
     pelgaisti_pass unread, *made = pass ? pass : &unread;
     pelgaisti_status status;
-    if (!session || !call || !answer || !list || !count) return PELGAISTI_NULL;
     status = ORDERING_CALL(session, RELEASES | ACQUIRES,
-                           pelgaisti_raw_session_perform_telling(session, call, made, answer, list, room, count));
+                           pelgaisti_raw_session_perform_telling(&session, &call, &made, &answer, LIST(list, room), &count));
     if ((status == PELGAISTI_OK || status == PELGAISTI_NO_MEMORY) && *count > 0) wake_listed(session, list, *count);
     return status;
 }
 
 pelgaisti_status pelgaisti_session_collect(pelgaisti_session *session, pelgaisti_answer *answer) {
-    if (!session || !answer) return PELGAISTI_NULL;
-    return ORDERING_CALL(session, ACQUIRES, pelgaisti_raw_session_collect(session, answer));
+    return ORDERING_CALL(session, ACQUIRES, pelgaisti_raw_session_collect(&session, &answer));
 }
 
 /* A whole call, and what its last turn has written. It lies in memory, so that a call that is answered by its first turn saves no
@@ -280,9 +261,9 @@ static inline __attribute__((always_inline)) pelgaisti_status make_turn(struct w
     it->told = 0;
     if (!it->call)
         return ORDERING_CALL(it->session, ACQUIRES,
-                             pelgaisti_raw_session_look(it->session, made, it->turns, it->answer, &it->wait, &it->told));
+                             pelgaisti_raw_session_look(&it->session, made, it->turns, &it->answer, &it->wait, &it->told));
     return ORDERING_CALL(it->session, RELEASES | ACQUIRES,
-                         pelgaisti_raw_session_turn(it->session, it->call, made, it->turns, it->answer, &it->wait, &it->told));
+                         pelgaisti_raw_session_turn(&it->session, &it->call, made, it->turns, &it->answer, &it->wait, &it->told));
 }
 
 /* Goes on behind the first turn, which had this status. */
@@ -300,7 +281,6 @@ pelgaisti_status pelgaisti_session_perform(pelgaisti_session *session, const pel
                                            pelgaisti_answer *answer) {
     struct whole_call it;
     pelgaisti_status status;
-    if (!session || !answer) return PELGAISTI_NULL;
     it.session = session;
     it.call = call;
     it.turns = turns;
@@ -315,10 +295,10 @@ pelgaisti_status pelgaisti_session_lock_path(pelgaisti_session *session, const p
     uint64_t made = 0;
     uint32_t wait = 0;
     size_t told = 0;
-    if (!session || !resource || !level || !answer) return PELGAISTI_NULL;
     for (;;) {
         status = ORDERING_CALL(session, RELEASES | ACQUIRES | IN_PARTS,
-                               pelgaisti_raw_session_path_turn(session, resource, mode, level, &made, turns, answer, &wait, &told));
+                               pelgaisti_raw_session_path_turn(&session, &resource, mode, &level, &made, turns, &answer, &wait,
+                                                               &told));
         if (told > 0) wake_told(session, told);
         if (status != PELGAISTI_NOT_SERVED || wait == 0) return status;
         wait_before_turn(wait);
@@ -327,63 +307,53 @@ pelgaisti_status pelgaisti_session_lock_path(pelgaisti_session *session, const p
 
 pelgaisti_status pelgaisti_session_take_history(pelgaisti_session *session, uint64_t *first, pelgaisti_entry *entries,
                                                 size_t room, size_t *count) {
-    if (!session || !first || (!entries && room) || !count) return PELGAISTI_NULL;
-    return CALL(session, pelgaisti_raw_session_take_history(session, first, LIST(entries), room, count));
+    return CALL(session, pelgaisti_raw_session_take_history(&session, &first, LIST(entries, room), &count));
 }
 
 pelgaisti_status pelgaisti_session_held(pelgaisti_session *session, uint32_t whose, const pelgaisti_resource *resource,
                                         uint32_t *mode, uint64_t *seen) {
-    if (!session || !resource || !mode || !seen) return PELGAISTI_NULL;
-    return CALL(session, pelgaisti_raw_session_held(session, whose, resource, mode, seen));
+    return CALL(session, pelgaisti_raw_session_held(&session, whose, &resource, &mode, &seen));
 }
 
 pelgaisti_status pelgaisti_session_transaction(pelgaisti_session *session, uint32_t whose, pelgaisti_transaction *open,
                                                uint64_t *seen) {
-    if (!session || !open || !seen) return PELGAISTI_NULL;
-    return CALL(session, pelgaisti_raw_session_transaction(session, whose, open, seen));
+    return CALL(session, pelgaisti_raw_session_transaction(&session, whose, &open, &seen));
 }
 
 pelgaisti_status pelgaisti_session_request(pelgaisti_session *session, uint32_t whose, pelgaisti_claim *waiting, uint64_t *seen) {
-    if (!session || !waiting || !seen) return PELGAISTI_NULL;
-    return CALL(session, pelgaisti_raw_session_request(session, whose, waiting, seen));
+    return CALL(session, pelgaisti_raw_session_request(&session, whose, &waiting, &seen));
 }
 
 pelgaisti_status pelgaisti_session_waits_for(pelgaisti_session *session, uint32_t whose, uint32_t other, uint32_t *edge,
                                              uint64_t *seen) {
-    if (!session || !edge || !seen) return PELGAISTI_NULL;
-    return CALL(session, pelgaisti_raw_session_waits_for(session, whose, other, edge, seen));
+    return CALL(session, pelgaisti_raw_session_waits_for(&session, whose, other, &edge, &seen));
 }
 
 pelgaisti_status pelgaisti_session_holders(pelgaisti_session *session, const pelgaisti_resource *resource, pelgaisti_holder *list,
                                            size_t room, size_t *count, uint64_t *seen) {
-    if (!session || !resource || (!list && room) || !count || !seen) return PELGAISTI_NULL;
-    return CALL(session, pelgaisti_raw_session_holders(session, resource, LIST(list), room, count, seen));
+    return CALL(session, pelgaisti_raw_session_holders(&session, &resource, LIST(list, room), &count, &seen));
 }
 
 pelgaisti_status pelgaisti_session_blockers(pelgaisti_session *session, uint32_t whose, uint32_t *list, size_t room,
                                             size_t *count, uint64_t *seen) {
-    if (!session || (!list && room) || !count || !seen) return PELGAISTI_NULL;
-    return CALL(session, pelgaisti_raw_session_blockers(session, whose, LIST(list), room, count, seen));
+    return CALL(session, pelgaisti_raw_session_blockers(&session, whose, LIST(list, room), &count, &seen));
 }
 
 pelgaisti_status pelgaisti_session_locks(pelgaisti_session *session, size_t first, pelgaisti_claim *list, size_t room,
                                          size_t *count, uint64_t *seen) {
-    if (!session || (!list && room) || !count || !seen) return PELGAISTI_NULL;
-    return CALL(session, pelgaisti_raw_session_locks(session, first, LIST(list), room, count, seen));
+    return CALL(session, pelgaisti_raw_session_locks(&session, first, LIST(list, room), &count, &seen));
 }
 
 pelgaisti_status pelgaisti_session_seen(pelgaisti_session *session, uint64_t *seen) {
-    if (!session || !seen) return PELGAISTI_NULL;
-    return CALL(session, pelgaisti_raw_session_seen(session, seen));
+    return CALL(session, pelgaisti_raw_session_seen(&session, &seen));
 }
 
 pelgaisti_status pelgaisti_session_mark(pelgaisti_session *session, uint64_t *mark) {
-    if (!session || !mark) return PELGAISTI_NULL;
-    return CALL(session, pelgaisti_raw_session_mark(session, mark));
+    return CALL(session, pelgaisti_raw_session_mark(&session, &mark));
 }
 
 pelgaisti_status pelgaisti_session_retire(pelgaisti_session *session) {
-    return session ? CALL(session, pelgaisti_raw_session_retire(session)) : PELGAISTI_NULL;
+    return CALL(session, pelgaisti_raw_session_retire(&session));
 }
 
 /* ---- Calls that use two handles. ---- */
@@ -394,21 +364,18 @@ static inline void use_too(void *handle) {
 }
 
 pelgaisti_status pelgaisti_session_hear(pelgaisti_session *session, pelgaisti_session *other) {
-    if (!session || !other) return PELGAISTI_NULL;
-    if (session == other) return PELGAISTI_SAME;
+    if (session && session == other) return PELGAISTI_SAME;
     use_too(other);
-    return CALL(session, pelgaisti_raw_session_hear(session, other));
+    return CALL(session, pelgaisti_raw_session_hear(&session, &other));
 }
 
 pelgaisti_status pelgaisti_session_hand_in(pelgaisti_session *session, pelgaisti_session *to) {
-    if (!session || !to) return PELGAISTI_NULL;
-    if (session == to) return PELGAISTI_SAME;
+    if (session && session == to) return PELGAISTI_SAME;
     use_too(to);
-    return CALL(session, pelgaisti_raw_session_hand_in(session, to));
+    return CALL(session, pelgaisti_raw_session_hand_in(&session, &to));
 }
 
 pelgaisti_status pelgaisti_office_close(pelgaisti_session *session, pelgaisti_book *book) {
-    if (!session || !book) return PELGAISTI_NULL;
     use_too(book);
-    return CALL(session, pelgaisti_raw_office_close(session, book));
+    return CALL(session, pelgaisti_raw_office_close(&session, &book));
 }

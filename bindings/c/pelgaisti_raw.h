@@ -1,9 +1,17 @@
-/* The exports of crates/pelgaisti_c, each of which says there what it does, and proves it. They test no pointer: no argument is NULL.
-   calls.c stands over them, and out of the archive none can be called, since ./embed makes their names local. */
+/* The exports of crates/pelgaisti_c, each of which says there what it does, and proves it. An argument of the type T ** is the address of
+   a pointer of the caller's, and a list that of a struct. The export returns NULL, and writes nothing, if the pointer is NULL, or that of a
+   list with room; of pelgaisti_raw_office_open that of one without, too. No other pointer is NULL. calls.c stands over them, and out of the
+   archive none can be called, since ./embed makes their names local. */
 #ifndef PELGAISTI_RAW_H
 #define PELGAISTI_RAW_H
 
 #include "pelgaisti.h"
+
+/* An array of the caller's: its first element, and how many it has room for. */
+typedef struct pelgaisti_raw_list {
+    void *at;
+    size_t room;
+} pelgaisti_raw_list;
 
 /* The crate's pelgaisti_version, which ./embed gives this name. */
 uint32_t pelgaisti_raw_version(void);
@@ -11,75 +19,80 @@ uint32_t pelgaisti_raw_version(void);
 uint32_t pelgaisti_raw_parent_mode(uint32_t mode);
 /* NO_SUCH_LEVEL and NO_SUCH_MODE write nothing. */
 uint32_t pelgaisti_raw_path_call(const pelgaisti_resource *resource, uint32_t mode, uint32_t level, pelgaisti_call *call);
-uint32_t pelgaisti_raw_book_open(pelgaisti_book *book, uint32_t sessions);
-uint32_t pelgaisti_raw_book_close(pelgaisti_book *book);
-uint32_t pelgaisti_raw_book_serve(pelgaisti_book *book, uint32_t session, const pelgaisti_call *call, pelgaisti_reply *reply);
-uint32_t pelgaisti_raw_book_serve_batch(pelgaisti_book *book, pelgaisti_entry *calls, size_t length, size_t *count);
-uint32_t pelgaisti_raw_book_held(pelgaisti_book *book, uint32_t session, const pelgaisti_resource *resource, uint32_t *mode);
-uint32_t pelgaisti_raw_book_waits_for(pelgaisti_book *book, uint32_t session, uint32_t other, uint32_t *edge);
-uint32_t pelgaisti_raw_book_holders(pelgaisti_book *book, const pelgaisti_resource *resource, pelgaisti_holder *list, size_t room,
-                                    size_t *count);
-uint32_t pelgaisti_raw_book_transaction(pelgaisti_book *book, uint32_t session, pelgaisti_transaction *open);
-uint32_t pelgaisti_raw_book_request(pelgaisti_book *book, uint32_t session, pelgaisti_claim *waiting);
-uint32_t pelgaisti_raw_book_locks(pelgaisti_book *book, size_t first, pelgaisti_claim *list, size_t room, size_t *count);
-uint32_t pelgaisti_raw_book_ended(pelgaisti_book *book, uint32_t *list, size_t room, size_t *count);
-uint32_t pelgaisti_raw_book_length(pelgaisti_book *book, uint64_t *length);
-uint32_t pelgaisti_raw_book_history(pelgaisti_book *book, uint64_t first, pelgaisti_entry *entries, size_t room, size_t *count);
-uint32_t pelgaisti_raw_book_first_kept(pelgaisti_book *book, uint64_t *first);
-uint32_t pelgaisti_raw_book_keep_at_most(pelgaisti_book *book, uint64_t bound);
-uint32_t pelgaisti_raw_book_take_history(pelgaisti_book *book, uint64_t *first, pelgaisti_entry *entries, size_t room,
-                                         size_t *count);
-uint32_t pelgaisti_raw_book_blockers(pelgaisti_book *book, uint32_t session, uint32_t *list, size_t room, size_t *count);
-uint32_t pelgaisti_raw_book_lock_path(pelgaisti_book *book, uint32_t session, const pelgaisti_resource *resource, uint32_t mode,
-                                      uint32_t *level, pelgaisti_reply *reply, uint32_t *list, size_t room, size_t *count);
+uint32_t pelgaisti_raw_book_open(pelgaisti_book **book, uint32_t sessions);
+uint32_t pelgaisti_raw_book_close(pelgaisti_book **book);
+uint32_t pelgaisti_raw_book_serve(pelgaisti_book **book, uint32_t session, const pelgaisti_call **call,
+                                  pelgaisti_reply **reply);
+uint32_t pelgaisti_raw_book_serve_batch(pelgaisti_book **book, pelgaisti_raw_list *calls, size_t **count);
+uint32_t pelgaisti_raw_book_held(pelgaisti_book **book, uint32_t session, const pelgaisti_resource **resource,
+                                 uint32_t **mode);
+uint32_t pelgaisti_raw_book_waits_for(pelgaisti_book **book, uint32_t session, uint32_t other, uint32_t **edge);
+uint32_t pelgaisti_raw_book_holders(pelgaisti_book **book, const pelgaisti_resource **resource, pelgaisti_raw_list *list,
+                                    size_t **count);
+uint32_t pelgaisti_raw_book_transaction(pelgaisti_book **book, uint32_t session, pelgaisti_transaction **open);
+uint32_t pelgaisti_raw_book_request(pelgaisti_book **book, uint32_t session, pelgaisti_claim **waiting);
+uint32_t pelgaisti_raw_book_locks(pelgaisti_book **book, size_t first, pelgaisti_raw_list *list, size_t **count);
+uint32_t pelgaisti_raw_book_ended(pelgaisti_book **book, pelgaisti_raw_list *list, size_t **count);
+uint32_t pelgaisti_raw_book_length(pelgaisti_book **book, uint64_t **count);
+uint32_t pelgaisti_raw_book_history(pelgaisti_book **book, uint64_t first, pelgaisti_raw_list *entries, size_t **count);
+uint32_t pelgaisti_raw_book_first_kept(pelgaisti_book **book, uint64_t **first);
+uint32_t pelgaisti_raw_book_keep_at_most(pelgaisti_book **book, uint64_t bound);
+uint32_t pelgaisti_raw_book_take_history(pelgaisti_book **book, uint64_t **first, pelgaisti_raw_list *entries, size_t **count);
+uint32_t pelgaisti_raw_book_blockers(pelgaisti_book **book, uint32_t session, pelgaisti_raw_list *list, size_t **count);
+uint32_t pelgaisti_raw_book_lock_path(pelgaisti_book **book, uint32_t session, const pelgaisti_resource **resource,
+                                      uint32_t mode, uint32_t **level, pelgaisti_reply **reply, pelgaisti_raw_list *list,
+                                      size_t **count);
 /* `mark` is the number by which pelgaisti_raw_session_hear and pelgaisti_raw_session_hand_in tell offices apart: one that no other
    open office has. `bound` is that of pelgaisti_office_open_keeping. `waker` is what pelgaisti_raw_session_waker tells, 0 for none: the
    address of the waker, which the archive doesn't read. */
-uint32_t pelgaisti_raw_office_open(pelgaisti_session *sessions, size_t count, uint64_t mark, uint64_t bound, uint64_t waker);
-uint32_t pelgaisti_raw_session_publish(pelgaisti_session *session, const pelgaisti_call *call, uint32_t *posted);
+uint32_t pelgaisti_raw_office_open(pelgaisti_raw_list *sessions, uint64_t mark, uint64_t bound, uint64_t waker);
+uint32_t pelgaisti_raw_session_publish(pelgaisti_session **session, const pelgaisti_call **call, uint32_t **posted);
 /* `told` gets how many sessions the waker is to wake after the pass, 0 in an office without one: it is written with OK, with NO_MEMORY,
    and with ELSEWHERE, which is 0. pelgaisti_raw_session_told tells which they are, until the session's next try to make a pass. */
-uint32_t pelgaisti_raw_session_serve(pelgaisti_session *session, pelgaisti_pass *pass, size_t *told);
-uint32_t pelgaisti_raw_session_serve_telling(pelgaisti_session *session, pelgaisti_pass *pass, uint32_t *list, size_t room,
-                                             size_t *count);
-uint32_t pelgaisti_raw_session_perform_at_once(pelgaisti_session *session, const pelgaisti_call *call, pelgaisti_pass *pass,
-                                               pelgaisti_answer *answer, size_t *told);
-uint32_t pelgaisti_raw_session_perform_telling(pelgaisti_session *session, const pelgaisti_call *call, pelgaisti_pass *pass,
-                                               pelgaisti_answer *answer, uint32_t *list, size_t room, size_t *count);
+uint32_t pelgaisti_raw_session_serve(pelgaisti_session **session, pelgaisti_pass **pass, size_t *told);
+uint32_t pelgaisti_raw_session_serve_telling(pelgaisti_session **session, pelgaisti_pass **pass, pelgaisti_raw_list *list,
+                                             size_t **count);
+uint32_t pelgaisti_raw_session_perform_at_once(pelgaisti_session **session, const pelgaisti_call **call,
+                                               pelgaisti_pass **pass, pelgaisti_answer **answer, size_t *told);
+uint32_t pelgaisti_raw_session_perform_telling(pelgaisti_session **session, const pelgaisti_call **call,
+                                               pelgaisti_pass **pass, pelgaisti_answer **answer, pelgaisti_raw_list *list,
+                                               size_t **count);
 /* One turn of a call, behind `made` turns, of at most `turns`. PENDING comes only if `made` is 0. `told` is written with OK, NO_MEMORY and
    NOT_SERVED. With NO_MEMORY the call is pending. With NOT_SERVED there is no answer yet, and `wait` is written: what to do before
    the next turn; 0: no turn is left, and the call is pending; UINT32_MAX: yield the processor; else so many pause instructions. */
-uint32_t pelgaisti_raw_session_turn(pelgaisti_session *session, const pelgaisti_call *call, uint64_t made, uint64_t turns,
-                                    pelgaisti_answer *answer, uint32_t *wait, size_t *told);
+uint32_t pelgaisti_raw_session_turn(pelgaisti_session **session, const pelgaisti_call **call, uint64_t made, uint64_t turns,
+                                    pelgaisti_answer **answer, uint32_t *wait, size_t *told);
 /* The same of the call that is pending, behind `looked` turns. */
-uint32_t pelgaisti_raw_session_look(pelgaisti_session *session, uint64_t looked, uint64_t turns, pelgaisti_answer *answer,
+uint32_t pelgaisti_raw_session_look(pelgaisti_session **session, uint64_t looked, uint64_t turns, pelgaisti_answer **answer,
                                     uint32_t *wait, size_t *told);
 /* One turn on the way down a path, of which `level` levels are locked, behind `made` turns for the next level, of at most `turns`. It writes
    as pelgaisti_raw_session_turn does; with NOT_SERVED it may have locked levels, and then `made` is 0 and `wait` is 1. */
-uint32_t pelgaisti_raw_session_path_turn(pelgaisti_session *session, const pelgaisti_resource *resource, uint32_t mode,
-                                         uint32_t *level, uint64_t *made, uint64_t turns, pelgaisti_answer *answer, uint32_t *wait,
-                                         size_t *told);
-uint32_t pelgaisti_raw_session_collect(pelgaisti_session *session, pelgaisti_answer *answer);
-uint32_t pelgaisti_raw_session_take_history(pelgaisti_session *session, uint64_t *first, pelgaisti_entry *entries, size_t room,
-                                            size_t *count);
-uint32_t pelgaisti_raw_session_held(pelgaisti_session *session, uint32_t whose, const pelgaisti_resource *resource, uint32_t *mode,
-                                    uint64_t *seen);
-uint32_t pelgaisti_raw_session_transaction(pelgaisti_session *session, uint32_t whose, pelgaisti_transaction *open, uint64_t *seen);
-uint32_t pelgaisti_raw_session_request(pelgaisti_session *session, uint32_t whose, pelgaisti_claim *waiting, uint64_t *seen);
-uint32_t pelgaisti_raw_session_waits_for(pelgaisti_session *session, uint32_t whose, uint32_t other, uint32_t *edge, uint64_t *seen);
-uint32_t pelgaisti_raw_session_holders(pelgaisti_session *session, const pelgaisti_resource *resource, pelgaisti_holder *list,
-                                       size_t room, size_t *count, uint64_t *seen);
-uint32_t pelgaisti_raw_session_blockers(pelgaisti_session *session, uint32_t whose, uint32_t *list, size_t room, size_t *count,
-                                        uint64_t *seen);
-uint32_t pelgaisti_raw_session_locks(pelgaisti_session *session, size_t first, pelgaisti_claim *list, size_t room, size_t *count,
-                                     uint64_t *seen);
-uint32_t pelgaisti_raw_session_seen(pelgaisti_session *session, uint64_t *seen);
-uint32_t pelgaisti_raw_session_mark(pelgaisti_session *session, uint64_t *mark);
-uint32_t pelgaisti_raw_session_waker(pelgaisti_session *session, uint64_t *waker);
-uint32_t pelgaisti_raw_session_told(pelgaisti_session *session, size_t first, uint32_t *list, size_t room, size_t *count);
-uint32_t pelgaisti_raw_session_hear(pelgaisti_session *session, pelgaisti_session *other);
-uint32_t pelgaisti_raw_session_retire(pelgaisti_session *session);
-uint32_t pelgaisti_raw_session_hand_in(pelgaisti_session *session, pelgaisti_session *to);
-uint32_t pelgaisti_raw_office_close(pelgaisti_session *session, pelgaisti_book *book);
+uint32_t pelgaisti_raw_session_path_turn(pelgaisti_session **session, const pelgaisti_resource **resource, uint32_t mode,
+                                         uint32_t **level, uint64_t *made, uint64_t turns, pelgaisti_answer **answer,
+                                         uint32_t *wait, size_t *told);
+uint32_t pelgaisti_raw_session_collect(pelgaisti_session **session, pelgaisti_answer **answer);
+uint32_t pelgaisti_raw_session_take_history(pelgaisti_session **session, uint64_t **first, pelgaisti_raw_list *entries,
+                                            size_t **count);
+uint32_t pelgaisti_raw_session_held(pelgaisti_session **session, uint32_t whose, const pelgaisti_resource **resource,
+                                    uint32_t **mode, uint64_t **seen);
+uint32_t pelgaisti_raw_session_transaction(pelgaisti_session **session, uint32_t whose, pelgaisti_transaction **found,
+                                           uint64_t **seen);
+uint32_t pelgaisti_raw_session_request(pelgaisti_session **session, uint32_t whose, pelgaisti_claim **found, uint64_t **seen);
+uint32_t pelgaisti_raw_session_waits_for(pelgaisti_session **session, uint32_t whose, uint32_t other, uint32_t **edge,
+                                         uint64_t **seen);
+uint32_t pelgaisti_raw_session_holders(pelgaisti_session **session, const pelgaisti_resource **resource,
+                                       pelgaisti_raw_list *list, size_t **count, uint64_t **seen);
+uint32_t pelgaisti_raw_session_blockers(pelgaisti_session **session, uint32_t whose, pelgaisti_raw_list *list, size_t **count,
+                                        uint64_t **seen);
+uint32_t pelgaisti_raw_session_locks(pelgaisti_session **session, size_t first, pelgaisti_raw_list *list, size_t **count,
+                                     uint64_t **seen);
+uint32_t pelgaisti_raw_session_seen(pelgaisti_session **session, uint64_t **seen);
+uint32_t pelgaisti_raw_session_mark(pelgaisti_session **session, uint64_t **mark);
+uint32_t pelgaisti_raw_session_waker(pelgaisti_session **session, uint64_t *waker);
+uint32_t pelgaisti_raw_session_told(pelgaisti_session **session, size_t first, uint32_t *list, size_t room, size_t *count);
+uint32_t pelgaisti_raw_session_hear(pelgaisti_session **session, pelgaisti_session **other);
+uint32_t pelgaisti_raw_session_retire(pelgaisti_session **session);
+uint32_t pelgaisti_raw_session_hand_in(pelgaisti_session **session, pelgaisti_session **to);
+uint32_t pelgaisti_raw_office_close(pelgaisti_session **session, pelgaisti_book **book);
 
 #endif

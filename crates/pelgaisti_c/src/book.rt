@@ -1,22 +1,26 @@
 //! The exports over a book: the lock table for one thread.
 
 ghost use Rattle.std.specs.Prelude.{◌≡◌, ◌≢◌, ◌+◌, ◌-◌, ◌<◌, ◌≤◌, ◌↔◌, ◌⊎◌, ℕ, List, [], Some, None, if◌then◌else◌, length, drop, min};
+ghost use denote.RawPtr.{null_ptr};
 ghost use Rattle.lock_modes.specs.Codes.{code_of};
 ghost use Rattle.lock_rules.specs.Legal.{state_of};
 ghost use Rattle.lock_rules.specs.State.{held_mode, mode_or_nothing, holders};
 ghost use Rattle.lock_rules.specs.Waits.{waits_for};
 ghost use Rattle.lock_rules.specs.declared.calls.Call.{Call};
 ghost use Rattle.lock_desk.specs.BookView.{BookView, first_kept_by, kept_by};
+ghost use Rattle.pelgaisti_c.specs.Behind.{IsNullList};
 ghost use Rattle.pelgaisti_c.specs.Numbers.{IsCall, IsCallFault, IsLevel, IsPath, numbers_of_entry, numbers_of_holder};
 ghost use Rattle.pelgaisti_c.specs.Calls.{IsSession, IsServed, AreListedOnce, are_written};
 ghost use Rattle.pelgaisti_c.specs.Batches.{AreItems, IsBatchServed, IsFirstFault};
 ghost use Rattle.lock_desk.specs.Batches.{Item};
 
-use crate::book_handle::BookHandle;
-use crate::numbers::{CallNumbers, EntryNumbers, HolderNumbers, ReplyNumbers, ResourceNumbers};
+use crate::pointers::{
+    BookPointer, CallPointer, EntryList, HolderList, ReplyPointer, ResourcePointer, SessionList,
+    SizePointer, U32Pointer, U64Pointer,
+};
 use crate::status::{
     CLOSED, LET_GO, NO_MEMORY, NO_SUCH_COUNT, NO_SUCH_LEVEL, NO_SUCH_MODE, NO_SUCH_OP,
-    NO_SUCH_SESSION, OK, OPEN,
+    NO_SUCH_SESSION, NULL_POINTER, OK, OPEN,
 };
 use crate::{batch, book_calls};
 use lock_desk::{Book, NO_BOUND};
@@ -27,16 +31,20 @@ use std::alloc::Global;
 #[unsafe(no_mangle)]
 pub extern "C" fn pelgaisti_raw_book_open(
     alloc: Global,
-    book: &mut BookHandle,
+    book: &mut BookPointer,
     sessions: u32,
 ) -> u32
-    ensures ok { result ≡ OK → (book.new.is_open ≡ 1) × (book.new.held.book ≡ Some (record { sessions = sessions; history = []; cut = 0; bound = NO_BOUND; ended = [] })) }
-    ensures failed { result ≢ OK → book.new ≡ book.old }
-    ensures open { result ≡ OPEN ↔ (book.old.is_open ≡ 1) }
-    ensures count { result ≡ NO_SUCH_COUNT → (book.old.is_open ≢ 1) × ¬ ((1 ≤ sessions) × (sessions ≤ MAX_SESSIONS)) }
-    ensures possible { (result ≤ NO_MEMORY) → (book.old.is_open ≢ 1) × (1 ≤ sessions) × (sessions ≤ MAX_SESSIONS) }
-    ensures statuses { (result ≤ NO_MEMORY) ⊎ ((result ≡ OPEN) ⊎ (result ≡ NO_SUCH_COUNT)) }
+    ensures null { result ≡ NULL_POINTER ↔ (book.old.at ≡ null_ptr) }
+    ensures ok { result ≡ OK → (book.new.behind.is_open ≡ 1) × (book.new.behind.held.book ≡ Some (record { sessions = sessions; history = []; cut = 0; bound = NO_BOUND; ended = [] })) }
+    ensures failed { result ≢ OK → book.new.behind ≡ book.old.behind }
+    ensures open { result ≢ NULL_POINTER → (result ≡ OPEN ↔ (book.old.behind.is_open ≡ 1)) }
+    ensures count { result ≡ NO_SUCH_COUNT → (book.old.behind.is_open ≢ 1) × ¬ ((1 ≤ sessions) × (sessions ≤ MAX_SESSIONS)) }
+    ensures possible { (result ≤ NO_MEMORY) → (book.old.behind.is_open ≢ 1) × (1 ≤ sessions) × (sessions ≤ MAX_SESSIONS) }
+    ensures statuses { (result ≡ NULL_POINTER) ⊎ ((result ≤ NO_MEMORY) ⊎ ((result ≡ OPEN) ⊎ (result ≡ NO_SUCH_COUNT))) }
 {
+    let Some(book) = book.get() else {
+        return NULL_POINTER;
+    };
     if book.is_open == 1 {
         return OPEN;
     }
@@ -57,12 +65,16 @@ pub extern "C" fn pelgaisti_raw_book_open(
 
 /// Closes the handle and frees the book.
 #[unsafe(no_mangle)]
-pub extern "C" fn pelgaisti_raw_book_close(alloc: Global, book: &mut BookHandle) -> u32
-    ensures after { (book.new.is_open ≢ 1) × (book.new.held.book ≡ None) }
-    ensures failed { result ≢ OK → book.new ≡ book.old }
-    ensures closed { result ≡ CLOSED ↔ (book.old.is_open ≢ 1) }
-    ensures statuses { (result ≡ OK) ⊎ (result ≡ CLOSED) }
+pub extern "C" fn pelgaisti_raw_book_close(alloc: Global, book: &mut BookPointer) -> u32
+    ensures null { result ≡ NULL_POINTER ↔ (book.old.at ≡ null_ptr) }
+    ensures after { result ≢ NULL_POINTER → (book.new.behind.is_open ≢ 1) × (book.new.behind.held.book ≡ None) }
+    ensures failed { result ≢ OK → book.new.behind ≡ book.old.behind }
+    ensures closed { result ≢ NULL_POINTER → (result ≡ CLOSED ↔ (book.old.behind.is_open ≢ 1)) }
+    ensures statuses { (result ≡ NULL_POINTER) ⊎ ((result ≡ OK) ⊎ (result ≡ CLOSED)) }
 {
+    let Some(book) = book.get() else {
+        return NULL_POINTER;
+    };
     match book.take(alloc) {
         Some(_) => OK,
         None => CLOSED,
@@ -73,25 +85,35 @@ pub extern "C" fn pelgaisti_raw_book_close(alloc: Global, book: &mut BookHandle)
 #[unsafe(no_mangle)]
 pub extern "C" fn pelgaisti_raw_book_serve(
     alloc: Global,
-    book: &mut BookHandle,
+    book: &mut BookPointer,
     session: u32,
-    call: &CallNumbers,
-    reply: &mut ReplyNumbers,
+    call: &mut CallPointer,
+    reply: &mut ReplyPointer,
 ) -> u32
-    ensures served { result ≡ OK → (before after : BookView) × (book.old.held.book ≡ Some before) × (book.new.held.book ≡ Some after)
-        × IsSession before session × IsServed before after session call.now reply.new }
-    ensures failed { result ≢ OK → (book.new.held.book ≡ book.old.held.book) × (reply.new ≡ reply.old) }
-    ensures open { book.new.is_open ≡ book.old.is_open }
-    ensures closed { result ≡ CLOSED ↔ (book.old.is_open ≢ 1) }
-    ensures session { result ≡ NO_SUCH_SESSION → (view : BookView) × (book.old.held.book ≡ Some view) × ¬ (IsSession view session) }
-    ensures call { NO_SUCH_OP ≤ result → (view : BookView) × (book.old.held.book ≡ Some view) × IsSession view session × IsCallFault call.now result }
-    ensures memory { result ≡ NO_MEMORY → (view : BookView) × (book.old.held.book ≡ Some view) × IsSession view session × ((asked : Call) × IsCall call.now asked) }
-    ensures statuses { result ≤ NO_SUCH_MODE }
+    ensures null { result ≡ NULL_POINTER ↔ ((book.old.at ≡ null_ptr) ⊎ ((call.old.at ≡ null_ptr) ⊎ (reply.old.at ≡ null_ptr))) }
+    ensures served { result ≡ OK → (before after : BookView) × (book.old.behind.held.book ≡ Some before) × (book.new.behind.held.book ≡ Some after)
+        × IsSession before session × IsServed before after session call.old.behind reply.new.behind }
+    ensures failed { result ≢ OK → (book.new.behind.held.book ≡ book.old.behind.held.book) × (reply.new.behind ≡ reply.old.behind) }
+    ensures open { book.new.behind.is_open ≡ book.old.behind.is_open }
+    ensures closed { result ≢ NULL_POINTER → (result ≡ CLOSED ↔ (book.old.behind.is_open ≢ 1)) }
+    ensures session { result ≡ NO_SUCH_SESSION → (view : BookView) × (book.old.behind.held.book ≡ Some view) × ¬ (IsSession view session) }
+    ensures call { NO_SUCH_OP ≤ result → result ≤ NO_SUCH_MODE → (view : BookView) × (book.old.behind.held.book ≡ Some view) × IsSession view session × IsCallFault call.old.behind result }
+    ensures memory { result ≡ NO_MEMORY → (view : BookView) × (book.old.behind.held.book ≡ Some view) × IsSession view session × ((asked : Call) × IsCall call.old.behind asked) }
+    ensures statuses { (result ≡ NULL_POINTER) ⊎ (result ≤ NO_SUCH_MODE) }
 {
+    let Some(book) = book.get() else {
+        return NULL_POINTER;
+    };
+    let Some(call) = call.get() else {
+        return NULL_POINTER;
+    };
+    let Some(reply) = reply.get() else {
+        return NULL_POINTER;
+    };
     let Some(mut boxed) = book.take(alloc) else {
         return CLOSED;
     };
-    let status = book_calls::serve(&mut boxed, session, call, reply);
+    let status = book_calls::serve(&mut boxed, session, &call, reply);
     book.put(boxed);
     status
 }
@@ -101,19 +123,30 @@ pub extern "C" fn pelgaisti_raw_book_serve(
 #[unsafe(no_mangle)]
 pub extern "C" fn pelgaisti_raw_book_serve_batch(
     alloc: Global,
-    book: &mut BookHandle,
-    calls: &mut [EntryNumbers],
-    count: &mut usize,
+    book: &mut BookPointer,
+    calls: &mut EntryList,
+    count: &mut SizePointer,
 ) -> u32
-    ensures served { result ≡ OK → (before after : BookView) × (book.old.held.book ≡ Some before) × (book.new.held.book ≡ Some after)
-        × IsBatchServed before after calls.old calls.new count.new }
-    ensures failed { result ≢ OK → (book.new.held.book ≡ book.old.held.book) × (calls.new ≡ calls.old) × (count.new ≡ count.old) }
-    ensures open { book.new.is_open ≡ book.old.is_open }
-    ensures closed { result ≡ CLOSED ↔ (book.old.is_open ≢ 1) }
-    ensures fault { NO_SUCH_SESSION ≤ result → (view : BookView) × (book.old.held.book ≡ Some view) × IsFirstFault view calls.old result }
-    ensures memory { result ≡ NO_MEMORY → (view : BookView) × (book.old.held.book ≡ Some view) × ((items : List Item) × AreItems view calls.old items) }
-    ensures statuses { result ≤ NO_SUCH_MODE }
+    ensures null { result ≡ NULL_POINTER ↔ ((book.old.at ≡ null_ptr) ⊎ (IsNullList calls.old.at calls.old.room ⊎ (count.old.at ≡ null_ptr))) }
+    ensures served { result ≡ OK → (before after : BookView) × (book.old.behind.held.book ≡ Some before) × (book.new.behind.held.book ≡ Some after)
+        × IsBatchServed before after calls.old.behind calls.new.behind count.new.behind }
+    ensures failed { result ≢ OK → (book.new.behind.held.book ≡ book.old.behind.held.book) × (calls.new.behind ≡ calls.old.behind) × (count.new.behind ≡ count.old.behind) }
+    ensures open { book.new.behind.is_open ≡ book.old.behind.is_open }
+    ensures closed { result ≢ NULL_POINTER → (result ≡ CLOSED ↔ (book.old.behind.is_open ≢ 1)) }
+    ensures fault { NO_SUCH_SESSION ≤ result → result ≤ NO_SUCH_MODE → (view : BookView) × (book.old.behind.held.book ≡ Some view) × IsFirstFault view calls.old.behind result }
+    ensures memory { result ≡ NO_MEMORY → (view : BookView) × (book.old.behind.held.book ≡ Some view) × ((items : List Item) × AreItems view calls.old.behind items) }
+    ensures statuses { (result ≡ NULL_POINTER) ⊎ (result ≤ NO_SUCH_MODE) }
 {
+    let Some(book) = book.get() else {
+        return NULL_POINTER;
+    };
+    if calls.is_null() {
+        return NULL_POINTER;
+    }
+    let Some(count) = count.get() else {
+        return NULL_POINTER;
+    };
+    let calls = calls.items();
     let Some(mut boxed) = book.take(alloc) else {
         return CLOSED;
     };
@@ -127,24 +160,34 @@ pub extern "C" fn pelgaisti_raw_book_serve_batch(
 #[unsafe(no_mangle)]
 pub extern "C" fn pelgaisti_raw_book_held(
     alloc: Global,
-    book: &mut BookHandle,
+    book: &mut BookPointer,
     session: u32,
-    resource: &ResourceNumbers,
-    mode: &mut u32,
+    resource: &mut ResourcePointer,
+    mode: &mut U32Pointer,
 ) -> u32
-    ensures ok { result ≡ OK → (view : BookView) × (book.old.held.book ≡ Some view) × IsSession view session
-        × ((r : List ℕ) × IsPath resource.now r × (mode.new ≡ code_of (mode_or_nothing (held_mode (state_of view.history).table session r)))) }
-    ensures failed { result ≢ OK → mode.new ≡ mode.old }
-    ensures same { (book.new.is_open ≡ book.old.is_open) × (book.new.held.book ≡ book.old.held.book) }
-    ensures closed { result ≡ CLOSED ↔ (book.old.is_open ≢ 1) }
-    ensures session { result ≡ NO_SUCH_SESSION → (view : BookView) × (book.old.held.book ≡ Some view) × ¬ (IsSession view session) }
-    ensures level { result ≡ NO_SUCH_LEVEL → (view : BookView) × (book.old.held.book ≡ Some view) × IsSession view session × ¬ (IsLevel resource.now.level) }
-    ensures statuses { (result ≡ OK) ⊎ ((result ≡ CLOSED) ⊎ ((result ≡ NO_SUCH_SESSION) ⊎ (result ≡ NO_SUCH_LEVEL))) }
+    ensures null { result ≡ NULL_POINTER ↔ ((book.old.at ≡ null_ptr) ⊎ ((resource.old.at ≡ null_ptr) ⊎ (mode.old.at ≡ null_ptr))) }
+    ensures ok { result ≡ OK → (view : BookView) × (book.old.behind.held.book ≡ Some view) × IsSession view session
+        × ((r : List ℕ) × IsPath resource.old.behind r × (mode.new.behind ≡ code_of (mode_or_nothing (held_mode (state_of view.history).table session r)))) }
+    ensures failed { result ≢ OK → mode.new.behind ≡ mode.old.behind }
+    ensures same { (book.new.behind.is_open ≡ book.old.behind.is_open) × (book.new.behind.held.book ≡ book.old.behind.held.book) }
+    ensures closed { result ≢ NULL_POINTER → (result ≡ CLOSED ↔ (book.old.behind.is_open ≢ 1)) }
+    ensures session { result ≡ NO_SUCH_SESSION → (view : BookView) × (book.old.behind.held.book ≡ Some view) × ¬ (IsSession view session) }
+    ensures level { result ≡ NO_SUCH_LEVEL → (view : BookView) × (book.old.behind.held.book ≡ Some view) × IsSession view session × ¬ (IsLevel resource.old.behind.level) }
+    ensures statuses { (result ≡ NULL_POINTER) ⊎ ((result ≡ OK) ⊎ ((result ≡ CLOSED) ⊎ ((result ≡ NO_SUCH_SESSION) ⊎ (result ≡ NO_SUCH_LEVEL)))) }
 {
+    let Some(book) = book.get() else {
+        return NULL_POINTER;
+    };
+    let Some(resource) = resource.get() else {
+        return NULL_POINTER;
+    };
+    let Some(mode) = mode.get() else {
+        return NULL_POINTER;
+    };
     let Some(boxed) = book.take(alloc) else {
         return CLOSED;
     };
-    let status = book_calls::held(&boxed, session, resource, mode);
+    let status = book_calls::held(&boxed, session, &resource, mode);
     book.put(boxed);
     status
 }
@@ -153,19 +196,26 @@ pub extern "C" fn pelgaisti_raw_book_held(
 #[unsafe(no_mangle)]
 pub extern "C" fn pelgaisti_raw_book_waits_for(
     alloc: Global,
-    book: &mut BookHandle,
+    book: &mut BookPointer,
     session: u32,
     other: u32,
-    edge: &mut u32,
+    edge: &mut U32Pointer,
 ) -> u32
-    ensures ok { result ≡ OK → (view : BookView) × (book.old.held.book ≡ Some view) × IsSession view session × IsSession view other
-        × (edge.new ≡ if waits_for (state_of view.history).table session other then 1 else 0) }
-    ensures failed { result ≢ OK → edge.new ≡ edge.old }
-    ensures same { (book.new.is_open ≡ book.old.is_open) × (book.new.held.book ≡ book.old.held.book) }
-    ensures closed { result ≡ CLOSED ↔ (book.old.is_open ≢ 1) }
-    ensures session { result ≡ NO_SUCH_SESSION → (view : BookView) × (book.old.held.book ≡ Some view) × ¬ (IsSession view session × IsSession view other) }
-    ensures statuses { (result ≡ OK) ⊎ ((result ≡ CLOSED) ⊎ (result ≡ NO_SUCH_SESSION)) }
+    ensures null { result ≡ NULL_POINTER ↔ ((book.old.at ≡ null_ptr) ⊎ (edge.old.at ≡ null_ptr)) }
+    ensures ok { result ≡ OK → (view : BookView) × (book.old.behind.held.book ≡ Some view) × IsSession view session × IsSession view other
+        × (edge.new.behind ≡ if waits_for (state_of view.history).table session other then 1 else 0) }
+    ensures failed { result ≢ OK → edge.new.behind ≡ edge.old.behind }
+    ensures same { (book.new.behind.is_open ≡ book.old.behind.is_open) × (book.new.behind.held.book ≡ book.old.behind.held.book) }
+    ensures closed { result ≢ NULL_POINTER → (result ≡ CLOSED ↔ (book.old.behind.is_open ≢ 1)) }
+    ensures session { result ≡ NO_SUCH_SESSION → (view : BookView) × (book.old.behind.held.book ≡ Some view) × ¬ (IsSession view session × IsSession view other) }
+    ensures statuses { (result ≡ NULL_POINTER) ⊎ ((result ≡ OK) ⊎ ((result ≡ CLOSED) ⊎ (result ≡ NO_SUCH_SESSION))) }
 {
+    let Some(book) = book.get() else {
+        return NULL_POINTER;
+    };
+    let Some(edge) = edge.get() else {
+        return NULL_POINTER;
+    };
     let Some(boxed) = book.take(alloc) else {
         return CLOSED;
     };
@@ -179,25 +229,39 @@ pub extern "C" fn pelgaisti_raw_book_waits_for(
 #[unsafe(no_mangle)]
 pub extern "C" fn pelgaisti_raw_book_holders(
     alloc: Global,
-    book: &mut BookHandle,
-    resource: &ResourceNumbers,
-    list: &mut [HolderNumbers],
-    count: &mut usize,
+    book: &mut BookPointer,
+    resource: &mut ResourcePointer,
+    list: &mut HolderList,
+    count: &mut SizePointer,
 ) -> u32
-    ensures ok { result ≡ OK → (view : BookView) × (book.old.held.book ≡ Some view) × ((r : List ℕ) × IsPath resource.now r
+    ensures null { result ≡ NULL_POINTER ↔ ((book.old.at ≡ null_ptr) ⊎ ((resource.old.at ≡ null_ptr) ⊎ (IsNullList list.old.at list.old.room ⊎ (count.old.at ≡ null_ptr)))) }
+    ensures ok { result ≡ OK → (view : BookView) × (book.old.behind.held.book ≡ Some view) × ((r : List ℕ) × IsPath resource.old.behind r
         × (let all = holders r (state_of view.history).table.held in
-        (list.new ≡ are_written numbers_of_holder all list.old) × (count.new ≡ length all))) }
-    ensures failed { result ≢ OK → (list.new ≡ list.old) × (count.new ≡ count.old) }
-    ensures same { (book.new.is_open ≡ book.old.is_open) × (book.new.held.book ≡ book.old.held.book) }
-    ensures closed { result ≡ CLOSED ↔ (book.old.is_open ≢ 1) }
-    ensures level { result ≡ NO_SUCH_LEVEL → (book.old.is_open ≡ 1) × ¬ (IsLevel resource.now.level) }
-    ensures memory { result ≡ NO_MEMORY → (book.old.is_open ≡ 1) × IsLevel resource.now.level }
-    ensures statuses { (result ≡ OK) ⊎ ((result ≡ NO_MEMORY) ⊎ ((result ≡ CLOSED) ⊎ (result ≡ NO_SUCH_LEVEL))) }
+        (list.new.behind ≡ are_written numbers_of_holder all list.old.behind) × (count.new.behind ≡ length all))) }
+    ensures failed { result ≢ OK → (list.new.behind ≡ list.old.behind) × (count.new.behind ≡ count.old.behind) }
+    ensures same { (book.new.behind.is_open ≡ book.old.behind.is_open) × (book.new.behind.held.book ≡ book.old.behind.held.book) }
+    ensures closed { result ≢ NULL_POINTER → (result ≡ CLOSED ↔ (book.old.behind.is_open ≢ 1)) }
+    ensures level { result ≡ NO_SUCH_LEVEL → (book.old.behind.is_open ≡ 1) × ¬ (IsLevel resource.old.behind.level) }
+    ensures memory { result ≡ NO_MEMORY → (book.old.behind.is_open ≡ 1) × IsLevel resource.old.behind.level }
+    ensures statuses { (result ≡ NULL_POINTER) ⊎ ((result ≡ OK) ⊎ ((result ≡ NO_MEMORY) ⊎ ((result ≡ CLOSED) ⊎ (result ≡ NO_SUCH_LEVEL)))) }
 {
+    let Some(book) = book.get() else {
+        return NULL_POINTER;
+    };
+    let Some(resource) = resource.get() else {
+        return NULL_POINTER;
+    };
+    if list.is_null() {
+        return NULL_POINTER;
+    }
+    let Some(count) = count.get() else {
+        return NULL_POINTER;
+    };
+    let list = list.items();
     let Some(boxed) = book.take(alloc) else {
         return CLOSED;
     };
-    let status = book_calls::holders(alloc, &boxed, resource, list, count);
+    let status = book_calls::holders(alloc, &boxed, &resource, list, count);
     book.put(boxed);
     status
 }
@@ -207,17 +271,28 @@ pub extern "C" fn pelgaisti_raw_book_holders(
 #[unsafe(no_mangle)]
 pub extern "C" fn pelgaisti_raw_book_ended(
     alloc: Global,
-    book: &mut BookHandle,
-    list: &mut [u32],
-    count: &mut usize,
+    book: &mut BookPointer,
+    list: &mut SessionList,
+    count: &mut SizePointer,
 ) -> u32
-    ensures ok { result ≡ OK → (view : BookView) × (book.old.held.book ≡ Some view) × ((told : List ℕ) × AreListedOnce view.ended told
-        × (list.new ≡ are_written (λ u. u) told list.old) × (count.new ≡ length told)) }
-    ensures failed { result ≢ OK → (list.new ≡ list.old) × (count.new ≡ count.old) }
-    ensures same { (book.new.is_open ≡ book.old.is_open) × (book.new.held.book ≡ book.old.held.book) }
-    ensures closed { result ≡ CLOSED ↔ (book.old.is_open ≢ 1) }
-    ensures statuses { (result ≡ OK) ⊎ (result ≡ CLOSED) }
+    ensures null { result ≡ NULL_POINTER ↔ ((book.old.at ≡ null_ptr) ⊎ (IsNullList list.old.at list.old.room ⊎ (count.old.at ≡ null_ptr))) }
+    ensures ok { result ≡ OK → (view : BookView) × (book.old.behind.held.book ≡ Some view) × ((told : List ℕ) × AreListedOnce view.ended told
+        × (list.new.behind ≡ are_written (λ u. u) told list.old.behind) × (count.new.behind ≡ length told)) }
+    ensures failed { result ≢ OK → (list.new.behind ≡ list.old.behind) × (count.new.behind ≡ count.old.behind) }
+    ensures same { (book.new.behind.is_open ≡ book.old.behind.is_open) × (book.new.behind.held.book ≡ book.old.behind.held.book) }
+    ensures closed { result ≢ NULL_POINTER → (result ≡ CLOSED ↔ (book.old.behind.is_open ≢ 1)) }
+    ensures statuses { (result ≡ NULL_POINTER) ⊎ ((result ≡ OK) ⊎ (result ≡ CLOSED)) }
 {
+    let Some(book) = book.get() else {
+        return NULL_POINTER;
+    };
+    if list.is_null() {
+        return NULL_POINTER;
+    }
+    let Some(count) = count.get() else {
+        return NULL_POINTER;
+    };
+    let list = list.items();
     let Some(boxed) = book.take(alloc) else {
         return CLOSED;
     };
@@ -230,15 +305,22 @@ pub extern "C" fn pelgaisti_raw_book_ended(
 #[unsafe(no_mangle)]
 pub extern "C" fn pelgaisti_raw_book_length(
     alloc: Global,
-    book: &mut BookHandle,
-    count: &mut u64,
+    book: &mut BookPointer,
+    count: &mut U64Pointer,
 ) -> u32
-    ensures ok { result ≡ OK → (view : BookView) × (book.old.held.book ≡ Some view) × (count.new ≡ length view.history) }
-    ensures failed { result ≢ OK → count.new ≡ count.old }
-    ensures same { (book.new.is_open ≡ book.old.is_open) × (book.new.held.book ≡ book.old.held.book) }
-    ensures closed { result ≡ CLOSED ↔ (book.old.is_open ≢ 1) }
-    ensures statuses { (result ≡ OK) ⊎ (result ≡ CLOSED) }
+    ensures null { result ≡ NULL_POINTER ↔ ((book.old.at ≡ null_ptr) ⊎ (count.old.at ≡ null_ptr)) }
+    ensures ok { result ≡ OK → (view : BookView) × (book.old.behind.held.book ≡ Some view) × (count.new.behind ≡ length view.history) }
+    ensures failed { result ≢ OK → count.new.behind ≡ count.old.behind }
+    ensures same { (book.new.behind.is_open ≡ book.old.behind.is_open) × (book.new.behind.held.book ≡ book.old.behind.held.book) }
+    ensures closed { result ≢ NULL_POINTER → (result ≡ CLOSED ↔ (book.old.behind.is_open ≢ 1)) }
+    ensures statuses { (result ≡ NULL_POINTER) ⊎ ((result ≡ OK) ⊎ (result ≡ CLOSED)) }
 {
+    let Some(book) = book.get() else {
+        return NULL_POINTER;
+    };
+    let Some(count) = count.get() else {
+        return NULL_POINTER;
+    };
     let Some(boxed) = book.take(alloc) else {
         return CLOSED;
     };
@@ -251,15 +333,22 @@ pub extern "C" fn pelgaisti_raw_book_length(
 #[unsafe(no_mangle)]
 pub extern "C" fn pelgaisti_raw_book_first_kept(
     alloc: Global,
-    book: &mut BookHandle,
-    first: &mut u64,
+    book: &mut BookPointer,
+    first: &mut U64Pointer,
 ) -> u32
-    ensures ok { result ≡ OK → (view : BookView) × (book.old.held.book ≡ Some view) × (first.new ≡ first_kept_by view) }
-    ensures failed { result ≢ OK → first.new ≡ first.old }
-    ensures same { (book.new.is_open ≡ book.old.is_open) × (book.new.held.book ≡ book.old.held.book) }
-    ensures closed { result ≡ CLOSED ↔ (book.old.is_open ≢ 1) }
-    ensures statuses { (result ≡ OK) ⊎ (result ≡ CLOSED) }
+    ensures null { result ≡ NULL_POINTER ↔ ((book.old.at ≡ null_ptr) ⊎ (first.old.at ≡ null_ptr)) }
+    ensures ok { result ≡ OK → (view : BookView) × (book.old.behind.held.book ≡ Some view) × (first.new.behind ≡ first_kept_by view) }
+    ensures failed { result ≢ OK → first.new.behind ≡ first.old.behind }
+    ensures same { (book.new.behind.is_open ≡ book.old.behind.is_open) × (book.new.behind.held.book ≡ book.old.behind.held.book) }
+    ensures closed { result ≢ NULL_POINTER → (result ≡ CLOSED ↔ (book.old.behind.is_open ≢ 1)) }
+    ensures statuses { (result ≡ NULL_POINTER) ⊎ ((result ≡ OK) ⊎ (result ≡ CLOSED)) }
 {
+    let Some(book) = book.get() else {
+        return NULL_POINTER;
+    };
+    let Some(first) = first.get() else {
+        return NULL_POINTER;
+    };
     let Some(boxed) = book.take(alloc) else {
         return CLOSED;
     };
@@ -273,19 +362,30 @@ pub extern "C" fn pelgaisti_raw_book_first_kept(
 #[unsafe(no_mangle)]
 pub extern "C" fn pelgaisti_raw_book_history(
     alloc: Global,
-    book: &mut BookHandle,
+    book: &mut BookPointer,
     first: u64,
-    entries: &mut [EntryNumbers],
-    count: &mut usize,
+    entries: &mut EntryList,
+    count: &mut SizePointer,
 ) -> u32
-    ensures ok { result ≡ OK → (view : BookView) × (book.old.held.book ≡ Some view) × (let rest = drop first view.history in
-        (entries.new ≡ are_written numbers_of_entry rest entries.old) × (count.new ≡ min (length rest) (length entries.old))) }
-    ensures failed { result ≢ OK → (entries.new ≡ entries.old) × (count.new ≡ count.old) }
-    ensures same { (book.new.is_open ≡ book.old.is_open) × (book.new.held.book ≡ book.old.held.book) }
-    ensures closed { result ≡ CLOSED ↔ (book.old.is_open ≢ 1) }
-    ensures let_go { result ≡ LET_GO ↔ ((view : BookView) × (book.old.held.book ≡ Some view) × (first < first_kept_by view)) }
-    ensures statuses { (result ≡ OK) ⊎ ((result ≡ CLOSED) ⊎ (result ≡ LET_GO)) }
+    ensures null { result ≡ NULL_POINTER ↔ ((book.old.at ≡ null_ptr) ⊎ (IsNullList entries.old.at entries.old.room ⊎ (count.old.at ≡ null_ptr))) }
+    ensures ok { result ≡ OK → (view : BookView) × (book.old.behind.held.book ≡ Some view) × (let rest = drop first view.history in
+        (entries.new.behind ≡ are_written numbers_of_entry rest entries.old.behind) × (count.new.behind ≡ min (length rest) (length entries.old.behind))) }
+    ensures failed { result ≢ OK → (entries.new.behind ≡ entries.old.behind) × (count.new.behind ≡ count.old.behind) }
+    ensures same { (book.new.behind.is_open ≡ book.old.behind.is_open) × (book.new.behind.held.book ≡ book.old.behind.held.book) }
+    ensures closed { result ≢ NULL_POINTER → (result ≡ CLOSED ↔ (book.old.behind.is_open ≢ 1)) }
+    ensures let_go { result ≢ NULL_POINTER → (result ≡ LET_GO ↔ ((view : BookView) × (book.old.behind.held.book ≡ Some view) × (first < first_kept_by view))) }
+    ensures statuses { (result ≡ NULL_POINTER) ⊎ ((result ≡ OK) ⊎ ((result ≡ CLOSED) ⊎ (result ≡ LET_GO))) }
 {
+    let Some(book) = book.get() else {
+        return NULL_POINTER;
+    };
+    if entries.is_null() {
+        return NULL_POINTER;
+    }
+    let Some(count) = count.get() else {
+        return NULL_POINTER;
+    };
+    let entries = entries.items();
     let Some(boxed) = book.take(alloc) else {
         return CLOSED;
     };
@@ -298,16 +398,20 @@ pub extern "C" fn pelgaisti_raw_book_history(
 #[unsafe(no_mangle)]
 pub extern "C" fn pelgaisti_raw_book_keep_at_most(
     alloc: Global,
-    book: &mut BookHandle,
+    book: &mut BookPointer,
     bound: u64,
 ) -> u32
-    ensures ok { result ≡ OK → (view : BookView) × (book.old.held.book ≡ Some view)
-        × (book.new.held.book ≡ Some (record view { cut = first_kept_by view; bound = bound })) }
-    ensures failed { result ≢ OK → book.new.held.book ≡ book.old.held.book }
-    ensures open { book.new.is_open ≡ book.old.is_open }
-    ensures closed { result ≡ CLOSED ↔ (book.old.is_open ≢ 1) }
-    ensures statuses { (result ≡ OK) ⊎ (result ≡ CLOSED) }
+    ensures null { result ≡ NULL_POINTER ↔ (book.old.at ≡ null_ptr) }
+    ensures ok { result ≡ OK → (view : BookView) × (book.old.behind.held.book ≡ Some view)
+        × (book.new.behind.held.book ≡ Some (record view { cut = first_kept_by view; bound = bound })) }
+    ensures failed { result ≢ OK → book.new.behind.held.book ≡ book.old.behind.held.book }
+    ensures open { book.new.behind.is_open ≡ book.old.behind.is_open }
+    ensures closed { result ≢ NULL_POINTER → (result ≡ CLOSED ↔ (book.old.behind.is_open ≢ 1)) }
+    ensures statuses { (result ≡ NULL_POINTER) ⊎ ((result ≡ OK) ⊎ (result ≡ CLOSED)) }
 {
+    let Some(book) = book.get() else {
+        return NULL_POINTER;
+    };
     let Some(mut boxed) = book.take(alloc) else {
         return CLOSED;
     };
@@ -321,20 +425,34 @@ pub extern "C" fn pelgaisti_raw_book_keep_at_most(
 #[unsafe(no_mangle)]
 pub extern "C" fn pelgaisti_raw_book_take_history(
     alloc: Global,
-    book: &mut BookHandle,
-    first: &mut u64,
-    entries: &mut [EntryNumbers],
-    count: &mut usize,
+    book: &mut BookPointer,
+    first: &mut U64Pointer,
+    entries: &mut EntryList,
+    count: &mut SizePointer,
 ) -> u32
-    ensures ok { result ≡ OK → (view : BookView) × (book.old.held.book ≡ Some view) × (first.new ≡ first_kept_by view)
-        × (entries.new ≡ are_written numbers_of_entry (kept_by view) entries.old)
-        × (count.new ≡ min (length (kept_by view)) (length entries.old))
-        × (book.new.held.book ≡ Some (record view { cut = first_kept_by view + count.new })) }
-    ensures failed { result ≢ OK → (book.new.held.book ≡ book.old.held.book) × (first.new ≡ first.old) × (entries.new ≡ entries.old) × (count.new ≡ count.old) }
-    ensures open { book.new.is_open ≡ book.old.is_open }
-    ensures closed { result ≡ CLOSED ↔ (book.old.is_open ≢ 1) }
-    ensures statuses { (result ≡ OK) ⊎ (result ≡ CLOSED) }
+    ensures null { result ≡ NULL_POINTER ↔ ((book.old.at ≡ null_ptr) ⊎ ((first.old.at ≡ null_ptr) ⊎ (IsNullList entries.old.at entries.old.room ⊎ (count.old.at ≡ null_ptr)))) }
+    ensures ok { result ≡ OK → (view : BookView) × (book.old.behind.held.book ≡ Some view) × (first.new.behind ≡ first_kept_by view)
+        × (entries.new.behind ≡ are_written numbers_of_entry (kept_by view) entries.old.behind)
+        × (count.new.behind ≡ min (length (kept_by view)) (length entries.old.behind))
+        × (book.new.behind.held.book ≡ Some (record view { cut = first_kept_by view + count.new.behind })) }
+    ensures failed { result ≢ OK → (book.new.behind.held.book ≡ book.old.behind.held.book) × (first.new.behind ≡ first.old.behind) × (entries.new.behind ≡ entries.old.behind) × (count.new.behind ≡ count.old.behind) }
+    ensures open { book.new.behind.is_open ≡ book.old.behind.is_open }
+    ensures closed { result ≢ NULL_POINTER → (result ≡ CLOSED ↔ (book.old.behind.is_open ≢ 1)) }
+    ensures statuses { (result ≡ NULL_POINTER) ⊎ ((result ≡ OK) ⊎ (result ≡ CLOSED)) }
 {
+    let Some(book) = book.get() else {
+        return NULL_POINTER;
+    };
+    let Some(first) = first.get() else {
+        return NULL_POINTER;
+    };
+    if entries.is_null() {
+        return NULL_POINTER;
+    }
+    let Some(count) = count.get() else {
+        return NULL_POINTER;
+    };
+    let entries = entries.items();
     let Some(mut boxed) = book.take(alloc) else {
         return CLOSED;
     };

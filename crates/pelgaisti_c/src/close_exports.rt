@@ -1,6 +1,7 @@
 //! The exports that close an office.
 
 ghost use Rattle.std.specs.Prelude.{◌≡◌, ◌≢◌, ◌≤◌, ◌⊎◌, ◌↔◌, Some, None};
+ghost use denote.RawPtr.{null_ptr};
 ghost use Rattle.lock_desk.specs.BookView.{BookView};
 ghost use Rattle.publication.specs.Boards.{IsEachOnce};
 ghost use Rattle.lock_office.specs.Closed.{IsClosed};
@@ -9,10 +10,11 @@ ghost use Rattle.pelgaisti_c.specs.Offices.{all_of};
 ghost use Rattle.pelgaisti_c.specs.Sessions.{IsKept, IsHandedIn};
 ghost use Rattle.pelgaisti_c.specs.declared.session_share.SessionShare.{SessionShare as ShareValue};
 
-use crate::book_handle::BookHandle;
 use crate::hand_in;
-use crate::session_handle::SessionHandle;
-use crate::status::{CLOSED, COPIED, MISSING, NO_MEMORY, OK, OPEN, OTHER_OFFICE, PENDING};
+use crate::pointers::{BookPointer, SessionPointer};
+use crate::status::{
+    CLOSED, COPIED, MISSING, NO_MEMORY, NULL_POINTER, OK, OPEN, OTHER_OFFICE, PENDING,
+};
 use std::alloc::Global;
 
 /// Hands the session, with all sessions that were handed in to it, in to the session `to` of its office, and closes its
@@ -20,21 +22,28 @@ use std::alloc::Global;
 #[unsafe(no_mangle)]
 pub extern "C" fn pelgaisti_raw_session_hand_in(
     alloc: Global,
-    session: &mut SessionHandle,
-    to: &mut SessionHandle,
+    session: &mut SessionPointer,
+    to: &mut SessionPointer,
 ) -> u32
-    requires one_office { (a b : ShareValue) → session.old.held.share ≡ Some a → to.old.held.share ≡ Some b → a.mark ≡ b.mark → a.office.value ≡ b.office.value }
-    ensures ok { result ≡ OK → (share before after : ShareValue) × (session.old.held.share ≡ Some share) × (to.old.held.share ≡ Some before) × (to.new.held.share ≡ Some after)
+    requires one_office { session.old.at ≢ null_ptr → to.old.at ≢ null_ptr → (a b : ShareValue) → session.old.behind.held.share ≡ Some a → to.old.behind.held.share ≡ Some b → a.mark ≡ b.mark → a.office.value ≡ b.office.value }
+    ensures null { result ≡ NULL_POINTER ↔ ((session.old.at ≡ null_ptr) ⊎ (to.old.at ≡ null_ptr)) }
+    ensures ok { result ≡ OK → (share before after : ShareValue) × (session.old.behind.held.share ≡ Some share) × (to.old.behind.held.share ≡ Some before) × (to.new.behind.held.share ≡ Some after)
         × IsHandedIn share before after }
-    ensures handed { result ≡ OK → session.new.held.share ≡ None }
-    ensures same { result ≢ OK → IsKept session.old.held.share session.new.held.share × IsKept to.old.held.share to.new.held.share }
-    ensures open { result ≢ OK → (session.new.is_open ≡ session.old.is_open) × (to.new.is_open ≡ to.old.is_open) }
-    ensures closed { result ≡ CLOSED ↔ ((session.old.is_open ≢ 1) ⊎ (to.old.is_open ≢ 1)) }
-    ensures other_office { result ≡ OTHER_OFFICE → (a b : ShareValue) × (session.old.held.share ≡ Some a) × (to.old.held.share ≡ Some b) × (a.mark ≢ b.mark) }
-    ensures pending { result ≡ PENDING → (a b : ShareValue) × (session.old.held.share ≡ Some a) × (to.old.held.share ≡ Some b) × (a.mark ≡ b.mark) × (a.session.pending ≢ None) }
-    ensures memory { result ≡ NO_MEMORY → (a b : ShareValue) × (session.old.held.share ≡ Some a) × (to.old.held.share ≡ Some b) × (a.mark ≡ b.mark) × HasNothingPending a.session }
-    ensures statuses { (result ≤ CLOSED) ⊎ ((result ≡ OTHER_OFFICE) ⊎ (result ≡ PENDING)) }
+    ensures handed { result ≡ OK → session.new.behind.held.share ≡ None }
+    ensures same { result ≢ OK → IsKept session.old.behind.held.share session.new.behind.held.share × IsKept to.old.behind.held.share to.new.behind.held.share }
+    ensures open { result ≢ OK → (session.new.behind.is_open ≡ session.old.behind.is_open) × (to.new.behind.is_open ≡ to.old.behind.is_open) }
+    ensures closed { result ≢ NULL_POINTER → (result ≡ CLOSED ↔ ((session.old.behind.is_open ≢ 1) ⊎ (to.old.behind.is_open ≢ 1))) }
+    ensures other_office { result ≡ OTHER_OFFICE → (a b : ShareValue) × (session.old.behind.held.share ≡ Some a) × (to.old.behind.held.share ≡ Some b) × (a.mark ≢ b.mark) }
+    ensures pending { result ≡ PENDING → (a b : ShareValue) × (session.old.behind.held.share ≡ Some a) × (to.old.behind.held.share ≡ Some b) × (a.mark ≡ b.mark) × (a.session.pending ≢ None) }
+    ensures memory { result ≡ NO_MEMORY → (a b : ShareValue) × (session.old.behind.held.share ≡ Some a) × (to.old.behind.held.share ≡ Some b) × (a.mark ≡ b.mark) × HasNothingPending a.session }
+    ensures statuses { (result ≡ NULL_POINTER) ⊎ ((result ≤ CLOSED) ⊎ ((result ≡ OTHER_OFFICE) ⊎ (result ≡ PENDING))) }
 {
+    let Some(session) = session.get() else {
+        return NULL_POINTER;
+    };
+    let Some(to) = to.get() else {
+        return NULL_POINTER;
+    };
     if session.is_open != 1 || to.is_open != 1 {
         return CLOSED;
     }
@@ -63,21 +72,28 @@ pub extern "C" fn pelgaisti_raw_session_hand_in(
 #[unsafe(no_mangle)]
 pub extern "C" fn pelgaisti_raw_office_close(
     alloc: Global,
-    session: &mut SessionHandle,
-    book: &mut BookHandle,
+    session: &mut SessionPointer,
+    book: &mut BookPointer,
 ) -> u32
-    ensures ok { result ≡ OK → (share : ShareValue) × (view : BookView) × (session.old.held.share ≡ Some share) × (book.new.held.book ≡ Some view)
+    ensures null { result ≡ NULL_POINTER ↔ ((session.old.at ≡ null_ptr) ⊎ (book.old.at ≡ null_ptr)) }
+    ensures ok { result ≡ OK → (share : ShareValue) × (view : BookView) × (session.old.behind.held.share ≡ Some share) × (book.new.behind.held.book ≡ Some view)
         × IsClosed share.office.value (all_of share) view }
-    ensures done { (result ≡ OK) ⊎ (result ≡ COPIED) → session.new.held.share ≡ None }
-    ensures book { result ≢ OK → book.new ≡ book.old }
-    ensures same { result ≢ OK → result ≢ COPIED → (session.new.is_open ≡ session.old.is_open) × IsKept session.old.held.share session.new.held.share }
-    ensures open { result ≡ OPEN ↔ (book.old.is_open ≡ 1) }
-    ensures closed { result ≡ CLOSED ↔ ((book.old.is_open ≢ 1) × (session.old.is_open ≢ 1)) }
-    ensures missing { result ≡ MISSING → (share : ShareValue) × (session.old.held.share ≡ Some share) × ¬ (IsEachOnce share.sessions (all_of share)) }
-    ensures pending { result ≡ PENDING → (share : ShareValue) × (session.old.held.share ≡ Some share) × IsEachOnce share.sessions (all_of share) × (share.session.pending ≢ None) }
-    ensures whole { (result ≡ NO_MEMORY) ⊎ (result ≡ COPIED) → (share : ShareValue) × (session.old.held.share ≡ Some share) × IsEachOnce share.sessions (all_of share) × HasNothingPending share.session }
-    ensures statuses { (result ≤ CLOSED) ⊎ ((result ≡ OPEN) ⊎ ((result ≡ MISSING) ⊎ ((result ≡ PENDING) ⊎ (result ≡ COPIED)))) }
+    ensures done { (result ≡ OK) ⊎ (result ≡ COPIED) → session.new.behind.held.share ≡ None }
+    ensures book { result ≢ OK → book.new.behind ≡ book.old.behind }
+    ensures same { result ≢ OK → result ≢ COPIED → (session.new.behind.is_open ≡ session.old.behind.is_open) × IsKept session.old.behind.held.share session.new.behind.held.share }
+    ensures open { result ≢ NULL_POINTER → (result ≡ OPEN ↔ (book.old.behind.is_open ≡ 1)) }
+    ensures closed { result ≢ NULL_POINTER → (result ≡ CLOSED ↔ ((book.old.behind.is_open ≢ 1) × (session.old.behind.is_open ≢ 1))) }
+    ensures missing { result ≡ MISSING → (share : ShareValue) × (session.old.behind.held.share ≡ Some share) × ¬ (IsEachOnce share.sessions (all_of share)) }
+    ensures pending { result ≡ PENDING → (share : ShareValue) × (session.old.behind.held.share ≡ Some share) × IsEachOnce share.sessions (all_of share) × (share.session.pending ≢ None) }
+    ensures whole { (result ≡ NO_MEMORY) ⊎ (result ≡ COPIED) → (share : ShareValue) × (session.old.behind.held.share ≡ Some share) × IsEachOnce share.sessions (all_of share) × HasNothingPending share.session }
+    ensures statuses { (result ≡ NULL_POINTER) ⊎ ((result ≤ CLOSED) ⊎ ((result ≡ OPEN) ⊎ ((result ≡ MISSING) ⊎ ((result ≡ PENDING) ⊎ (result ≡ COPIED))))) }
 {
+    let Some(session) = session.get() else {
+        return NULL_POINTER;
+    };
+    let Some(book) = book.get() else {
+        return NULL_POINTER;
+    };
     if book.is_open == 1 {
         return OPEN;
     }

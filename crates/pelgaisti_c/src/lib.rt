@@ -6,8 +6,10 @@
 //! `batch.rt`, `listing.rt`, `path_calls.rt`, `session_calls.rt`, `turn_calls.rt`, `path_turn_calls.rt`, `queries.rt`, `hand_in.rt`. Numbers
 //! of C's structs: `numbers.rt`, `claims.rt`, `status.rt`. Handles: `book_handle.rt`, `session_handle.rt`, and what is in them.
 //!
-//! An export takes the value out of the handle, makes one call of `lock_desk`, `combining` or `lock_office`, writes the reply in
-//! numbers, puts the value back, and returns a status. It tests no pointer: `bindings/c` does, and makes a whole call of turns.
+//! An export tests the caller's pointers for null, which C gives by their addresses (`pointers/`), takes the value out of the handle, makes
+//! one call of `lock_desk`, `combining` or `lock_office`, writes the reply in numbers, puts the value back, and returns a status. Of what it
+//! is given by reference C says that it isn't null: numbers that C keeps for itself, and all of `path_step_exports.rt`. `bindings/c` makes
+//! a whole call of turns.
 //!
 //! Proved: each export states the clauses of its call again, in numbers; one that failed has changed nothing, but for
 //! the exceptions that docs/PROMISES.md lists. Not proved is what C must keep to: the rules for callers in

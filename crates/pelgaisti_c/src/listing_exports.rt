@@ -1,34 +1,42 @@
 //! The exports that tell what a book's sessions hold and wait for.
 
 ghost use Rattle.std.specs.Prelude.{◌≡◌, ◌≢◌, ◌↔◌, ◌⊎◌, Some, length, drop};
+ghost use denote.RawPtr.{null_ptr};
 ghost use Rattle.lock_rules.specs.Legal.{state_of};
 ghost use Rattle.lock_rules.specs.Listing.{listing_of, waiting_line};
 ghost use Rattle.lock_desk.specs.BookView.{BookView};
+ghost use Rattle.pelgaisti_c.specs.Behind.{IsNullList};
 ghost use Rattle.pelgaisti_c.specs.Calls.{IsSession, are_written};
 ghost use Rattle.pelgaisti_c.specs.Claims.{numbers_of_claim, numbers_of_request, numbers_of_transaction};
 
-use crate::book_handle::BookHandle;
-use crate::claims::{ClaimNumbers, TransactionNumbers};
 use crate::listing;
-use crate::status::{CLOSED, NO_MEMORY, NO_SUCH_SESSION, OK};
+use crate::pointers::{BookPointer, ClaimList, ClaimPointer, SizePointer, TransactionPointer};
+use crate::status::{CLOSED, NO_MEMORY, NO_SUCH_SESSION, NULL_POINTER, OK};
 use std::alloc::Global;
 
 /// Writes the number of the session's open transaction, and whether it is a deadlock victim. Number 0 means that none is open.
 #[unsafe(no_mangle)]
 pub extern "C" fn pelgaisti_raw_book_transaction(
     alloc: Global,
-    book: &mut BookHandle,
+    book: &mut BookPointer,
     session: u32,
-    open: &mut TransactionNumbers,
+    open: &mut TransactionPointer,
 ) -> u32
-    ensures ok { result ≡ OK → (view : BookView) × (book.old.held.book ≡ Some view) × IsSession view session
-        × (open.new ≡ numbers_of_transaction ((state_of view.history).begun session)) }
-    ensures failed { result ≢ OK → open.new ≡ open.old }
-    ensures same { (book.new.is_open ≡ book.old.is_open) × (book.new.held.book ≡ book.old.held.book) }
-    ensures closed { result ≡ CLOSED ↔ (book.old.is_open ≢ 1) }
-    ensures session { result ≡ NO_SUCH_SESSION → (view : BookView) × (book.old.held.book ≡ Some view) × ¬ (IsSession view session) }
-    ensures statuses { (result ≡ OK) ⊎ ((result ≡ CLOSED) ⊎ (result ≡ NO_SUCH_SESSION)) }
+    ensures null { result ≡ NULL_POINTER ↔ ((book.old.at ≡ null_ptr) ⊎ (open.old.at ≡ null_ptr)) }
+    ensures ok { result ≡ OK → (view : BookView) × (book.old.behind.held.book ≡ Some view) × IsSession view session
+        × (open.new.behind ≡ numbers_of_transaction ((state_of view.history).begun session)) }
+    ensures failed { result ≢ OK → open.new.behind ≡ open.old.behind }
+    ensures same { (book.new.behind.is_open ≡ book.old.behind.is_open) × (book.new.behind.held.book ≡ book.old.behind.held.book) }
+    ensures closed { result ≢ NULL_POINTER → (result ≡ CLOSED ↔ (book.old.behind.is_open ≢ 1)) }
+    ensures session { result ≡ NO_SUCH_SESSION → (view : BookView) × (book.old.behind.held.book ≡ Some view) × ¬ (IsSession view session) }
+    ensures statuses { (result ≡ NULL_POINTER) ⊎ ((result ≡ OK) ⊎ ((result ≡ CLOSED) ⊎ (result ≡ NO_SUCH_SESSION))) }
 {
+    let Some(book) = book.get() else {
+        return NULL_POINTER;
+    };
+    let Some(open) = open.get() else {
+        return NULL_POINTER;
+    };
     let Some(boxed) = book.take(alloc) else {
         return CLOSED;
     };
@@ -41,18 +49,25 @@ pub extern "C" fn pelgaisti_raw_book_transaction(
 #[unsafe(no_mangle)]
 pub extern "C" fn pelgaisti_raw_book_request(
     alloc: Global,
-    book: &mut BookHandle,
+    book: &mut BookPointer,
     session: u32,
-    waiting: &mut ClaimNumbers,
+    waiting: &mut ClaimPointer,
 ) -> u32
-    ensures ok { result ≡ OK → (view : BookView) × (book.old.held.book ≡ Some view) × IsSession view session
-        × (waiting.new ≡ numbers_of_request (waiting_line (state_of view.history) session)) }
-    ensures failed { result ≢ OK → waiting.new ≡ waiting.old }
-    ensures same { (book.new.is_open ≡ book.old.is_open) × (book.new.held.book ≡ book.old.held.book) }
-    ensures closed { result ≡ CLOSED ↔ (book.old.is_open ≢ 1) }
-    ensures session { result ≡ NO_SUCH_SESSION → (view : BookView) × (book.old.held.book ≡ Some view) × ¬ (IsSession view session) }
-    ensures statuses { (result ≡ OK) ⊎ ((result ≡ CLOSED) ⊎ (result ≡ NO_SUCH_SESSION)) }
+    ensures null { result ≡ NULL_POINTER ↔ ((book.old.at ≡ null_ptr) ⊎ (waiting.old.at ≡ null_ptr)) }
+    ensures ok { result ≡ OK → (view : BookView) × (book.old.behind.held.book ≡ Some view) × IsSession view session
+        × (waiting.new.behind ≡ numbers_of_request (waiting_line (state_of view.history) session)) }
+    ensures failed { result ≢ OK → waiting.new.behind ≡ waiting.old.behind }
+    ensures same { (book.new.behind.is_open ≡ book.old.behind.is_open) × (book.new.behind.held.book ≡ book.old.behind.held.book) }
+    ensures closed { result ≢ NULL_POINTER → (result ≡ CLOSED ↔ (book.old.behind.is_open ≢ 1)) }
+    ensures session { result ≡ NO_SUCH_SESSION → (view : BookView) × (book.old.behind.held.book ≡ Some view) × ¬ (IsSession view session) }
+    ensures statuses { (result ≡ NULL_POINTER) ⊎ ((result ≡ OK) ⊎ ((result ≡ CLOSED) ⊎ (result ≡ NO_SUCH_SESSION))) }
 {
+    let Some(book) = book.get() else {
+        return NULL_POINTER;
+    };
+    let Some(waiting) = waiting.get() else {
+        return NULL_POINTER;
+    };
     let Some(boxed) = book.take(alloc) else {
         return CLOSED;
     };
@@ -66,18 +81,29 @@ pub extern "C" fn pelgaisti_raw_book_request(
 #[unsafe(no_mangle)]
 pub extern "C" fn pelgaisti_raw_book_locks(
     alloc: Global,
-    book: &mut BookHandle,
+    book: &mut BookPointer,
     first: usize,
-    list: &mut [ClaimNumbers],
-    count: &mut usize,
+    list: &mut ClaimList,
+    count: &mut SizePointer,
 ) -> u32
-    ensures ok { result ≡ OK → (view : BookView) × (book.old.held.book ≡ Some view) × (let all = listing_of (state_of view.history) in
-        (list.new ≡ are_written numbers_of_claim (drop first all) list.old) × (count.new ≡ length all)) }
-    ensures failed { result ≢ OK → (list.new ≡ list.old) × (count.new ≡ count.old) }
-    ensures same { (book.new.is_open ≡ book.old.is_open) × (book.new.held.book ≡ book.old.held.book) }
-    ensures closed { result ≡ CLOSED ↔ (book.old.is_open ≢ 1) }
-    ensures statuses { (result ≡ OK) ⊎ ((result ≡ NO_MEMORY) ⊎ (result ≡ CLOSED)) }
+    ensures null { result ≡ NULL_POINTER ↔ ((book.old.at ≡ null_ptr) ⊎ (IsNullList list.old.at list.old.room ⊎ (count.old.at ≡ null_ptr))) }
+    ensures ok { result ≡ OK → (view : BookView) × (book.old.behind.held.book ≡ Some view) × (let all = listing_of (state_of view.history) in
+        (list.new.behind ≡ are_written numbers_of_claim (drop first all) list.old.behind) × (count.new.behind ≡ length all)) }
+    ensures failed { result ≢ OK → (list.new.behind ≡ list.old.behind) × (count.new.behind ≡ count.old.behind) }
+    ensures same { (book.new.behind.is_open ≡ book.old.behind.is_open) × (book.new.behind.held.book ≡ book.old.behind.held.book) }
+    ensures closed { result ≢ NULL_POINTER → (result ≡ CLOSED ↔ (book.old.behind.is_open ≢ 1)) }
+    ensures statuses { (result ≡ NULL_POINTER) ⊎ ((result ≡ OK) ⊎ ((result ≡ NO_MEMORY) ⊎ (result ≡ CLOSED))) }
 {
+    let Some(book) = book.get() else {
+        return NULL_POINTER;
+    };
+    if list.is_null() {
+        return NULL_POINTER;
+    }
+    let Some(count) = count.get() else {
+        return NULL_POINTER;
+    };
+    let list = list.items();
     let Some(boxed) = book.take(alloc) else {
         return CLOSED;
     };

@@ -1,15 +1,17 @@
 //! The export that opens an office.
 
 ghost use Rattle.std.specs.Prelude.{◌≡◌, ◌≢◌, ◌≤◌, ◌⊎◌, ◌↔◌, [], true, false, Some, None, All, Any, IfOk, length, map};
+ghost use denote.RawPtr.{null_ptr};
 ghost use Rattle.lock_office.specs.Sessions.{IsSessionOf, IsIdle};
 ghost use Rattle.lock_rules.specs.declared.calls.TheConstants.{MAX_SESSIONS};
 ghost use Rattle.publication.specs.Views.{BoardView};
 ghost use Rattle.pelgaisti_c.specs.Offices.{IsOfOffice, AreSessionsOf};
 
 use crate::ended_list::EndedList;
+use crate::pointers::HandleList;
 use crate::session_handle::SessionHandle;
 use crate::session_share::SessionShare;
-use crate::status::{NO_MEMORY, NO_SUCH_COUNT, OK, OPEN};
+use crate::status::{NO_MEMORY, NO_SUCH_COUNT, NULL_POINTER, OK, OPEN};
 use lock_office::{Ended, Office, Session, open_keeping};
 use lock_rules::MAX_SESSIONS;
 use std::alloc::{AllocError, Global};
@@ -105,18 +107,23 @@ fn open_handles(handles: &mut [SessionHandle], shares: Vec<Box<SessionShare>>)
 #[unsafe(no_mangle)]
 pub extern "C" fn pelgaisti_raw_office_open(
     alloc: Global,
-    sessions: &mut [SessionHandle],
+    sessions: &mut HandleList,
     mark: u64,
     bound: u64,
     waker: u64,
 ) -> u32
-    ensures ok { result ≡ OK → (office : BoardView) × (office.sessions ≡ length sessions.old) × AreSessionsOf office mark waker sessions.new }
-    ensures failed { result ≢ OK → sessions.new ≡ sessions.old }
-    ensures count { result ≡ NO_SUCH_COUNT ↔ ¬ ((1 ≤ length sessions.old) × (length sessions.old ≤ MAX_SESSIONS)) }
-    ensures open { result ≡ OPEN → Any (λ handle. handle.is_open ≡ 1) sessions.old }
-    ensures closed { result ≤ NO_MEMORY → All (λ handle. handle.is_open ≢ 1) sessions.old }
-    ensures statuses { (result ≤ NO_MEMORY) ⊎ ((result ≡ NO_SUCH_COUNT) ⊎ (result ≡ OPEN)) }
+    ensures null { result ≡ NULL_POINTER ↔ (sessions.old.at ≡ null_ptr) }
+    ensures ok { result ≡ OK → (office : BoardView) × (office.sessions ≡ length sessions.old.behind) × AreSessionsOf office mark waker sessions.new.behind }
+    ensures failed { result ≢ OK → sessions.new.behind ≡ sessions.old.behind }
+    ensures count { result ≢ NULL_POINTER → (result ≡ NO_SUCH_COUNT ↔ ¬ ((1 ≤ length sessions.old.behind) × (length sessions.old.behind ≤ MAX_SESSIONS))) }
+    ensures open { result ≡ OPEN → Any (λ handle. handle.is_open ≡ 1) sessions.old.behind }
+    ensures closed { result ≤ NO_MEMORY → All (λ handle. handle.is_open ≢ 1) sessions.old.behind }
+    ensures statuses { (result ≡ NULL_POINTER) ⊎ ((result ≤ NO_MEMORY) ⊎ ((result ≡ NO_SUCH_COUNT) ⊎ (result ≡ OPEN))) }
 {
+    if sessions.is_null() {
+        return NULL_POINTER;
+    }
+    let sessions = sessions.items();
     let count = sessions.len();
     if count == 0 || count > usize::from(MAX_SESSIONS) {
         return NO_SUCH_COUNT;

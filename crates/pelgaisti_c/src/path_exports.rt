@@ -1,18 +1,23 @@
 //! The exports over the paths of a book, and over whom its sessions wait for.
 
 ghost use Rattle.std.specs.Prelude.{◌≡◌, ◌≢◌, ◌<◌, ◌≤◌, ◌↔◌, ◌⊎◌, Some, length};
+ghost use denote.RawPtr.{null_ptr};
 ghost use Rattle.lock_rules.specs.Legal.{state_of};
 ghost use Rattle.lock_desk.specs.BookView.{BookView};
 ghost use Rattle.lock_desk.specs.Queries.{blockers_among};
 ghost use Rattle.lock_desk.specs.declared.book.paths.PathLocked.{PathLocked};
+ghost use Rattle.pelgaisti_c.specs.Behind.{IsNullList};
 ghost use Rattle.pelgaisti_c.specs.Numbers.{IsModeCode};
 ghost use Rattle.pelgaisti_c.specs.Calls.{IsSession, are_written};
 ghost use Rattle.pelgaisti_c.specs.Paths.{HasLevelBehind, HasRoom, IsPathServed, IsPathTold};
 
-use crate::book_handle::BookHandle;
-use crate::numbers::{ReplyNumbers, ResourceNumbers};
 use crate::path_calls;
-use crate::status::{CLOSED, NO_MEMORY, NO_ROOM, NO_SUCH_LEVEL, NO_SUCH_MODE, NO_SUCH_SESSION, OK};
+use crate::pointers::{
+    BookPointer, ReplyPointer, ResourcePointer, SessionList, SizePointer, U32Pointer,
+};
+use crate::status::{
+    CLOSED, NO_MEMORY, NO_ROOM, NO_SUCH_LEVEL, NO_SUCH_MODE, NO_SUCH_SESSION, NULL_POINTER, OK,
+};
 use std::alloc::Global;
 
 /// Locks a path for `session`, from the database down: the ancestors of the resource in the mode that `mode` needs of a parent, and
@@ -24,31 +29,53 @@ use std::alloc::Global;
 #[unsafe(no_mangle)]
 pub extern "C" fn pelgaisti_raw_book_lock_path(
     alloc: Global,
-    book: &mut BookHandle,
+    book: &mut BookPointer,
     session: u32,
-    resource: &ResourceNumbers,
+    resource: &mut ResourcePointer,
     mode: u32,
-    level: &mut u32,
-    reply: &mut ReplyNumbers,
-    list: &mut [u32],
-    count: &mut usize,
+    level: &mut U32Pointer,
+    reply: &mut ReplyPointer,
+    list: &mut SessionList,
+    count: &mut SizePointer,
 ) -> u32
-    ensures served { result ≤ NO_MEMORY → (before after : BookView) × (book.old.held.book ≡ Some before) × (book.new.held.book ≡ Some after)
-        × HasLevelBehind resource.now level.old × HasRoom before list.old × IsSession before session
-        × ((locked : PathLocked) × IsPathServed before after session resource.now mode level.old locked result
-        × IsPathTold after locked level.new reply.old reply.new list.old list.new count.new) }
-    ensures failed { NO_MEMORY < result → (book.new.held.book ≡ book.old.held.book) × (level.new ≡ level.old) × (reply.new ≡ reply.old)
-        × (list.new ≡ list.old) × (count.new ≡ 0) }
-    ensures open { book.new.is_open ≡ book.old.is_open }
-    ensures level { result ≡ NO_SUCH_LEVEL ↔ ¬ (HasLevelBehind resource.now level.old) }
-    ensures closed { result ≡ CLOSED ↔ (HasLevelBehind resource.now level.old × (book.old.is_open ≢ 1)) }
-    ensures room { result ≡ NO_ROOM → (view : BookView) × (book.old.held.book ≡ Some view) × ¬ (HasRoom view list.old) }
-    ensures session { result ≡ NO_SUCH_SESSION → (view : BookView) × (book.old.held.book ≡ Some view) × HasRoom view list.old × ¬ (IsSession view session) }
-    ensures mode { result ≡ NO_SUCH_MODE → (view : BookView) × (book.old.held.book ≡ Some view) × HasRoom view list.old × IsSession view session × ¬ (IsModeCode mode) }
-    ensures statuses { (result ≤ NO_SUCH_SESSION) ⊎ ((result ≡ NO_SUCH_LEVEL) ⊎ ((result ≡ NO_SUCH_MODE) ⊎ (result ≡ NO_ROOM))) }
+    ensures null { result ≡ NULL_POINTER ↔ ((book.old.at ≡ null_ptr) ⊎ ((resource.old.at ≡ null_ptr) ⊎ ((level.old.at ≡ null_ptr) ⊎ ((reply.old.at ≡ null_ptr) ⊎ (IsNullList list.old.at list.old.room ⊎ (count.old.at ≡ null_ptr)))))) }
+    ensures served { result ≤ NO_MEMORY → (before after : BookView) × (book.old.behind.held.book ≡ Some before) × (book.new.behind.held.book ≡ Some after)
+        × HasLevelBehind resource.old.behind level.old.behind × HasRoom before list.old.behind × IsSession before session
+        × ((locked : PathLocked) × IsPathServed before after session resource.old.behind mode level.old.behind locked result
+        × IsPathTold after locked level.new.behind reply.old.behind reply.new.behind list.old.behind list.new.behind count.new.behind) }
+    ensures failed { NO_MEMORY < result → (book.new.behind.held.book ≡ book.old.behind.held.book) × (level.new.behind ≡ level.old.behind) × (reply.new.behind ≡ reply.old.behind)
+        × (list.new.behind ≡ list.old.behind) }
+    ensures unwritten { result ≡ NULL_POINTER → count.new.behind ≡ count.old.behind }
+    ensures nobody { NO_MEMORY < result → result ≢ NULL_POINTER → count.new.behind ≡ 0 }
+    ensures open { book.new.behind.is_open ≡ book.old.behind.is_open }
+    ensures level { result ≢ NULL_POINTER → (result ≡ NO_SUCH_LEVEL ↔ ¬ (HasLevelBehind resource.old.behind level.old.behind)) }
+    ensures closed { result ≢ NULL_POINTER → (result ≡ CLOSED ↔ (HasLevelBehind resource.old.behind level.old.behind × (book.old.behind.is_open ≢ 1))) }
+    ensures room { result ≡ NO_ROOM → (view : BookView) × (book.old.behind.held.book ≡ Some view) × ¬ (HasRoom view list.old.behind) }
+    ensures session { result ≡ NO_SUCH_SESSION → (view : BookView) × (book.old.behind.held.book ≡ Some view) × HasRoom view list.old.behind × ¬ (IsSession view session) }
+    ensures mode { result ≡ NO_SUCH_MODE → (view : BookView) × (book.old.behind.held.book ≡ Some view) × HasRoom view list.old.behind × IsSession view session × ¬ (IsModeCode mode) }
+    ensures statuses { (result ≡ NULL_POINTER) ⊎ ((result ≤ NO_SUCH_SESSION) ⊎ ((result ≡ NO_SUCH_LEVEL) ⊎ ((result ≡ NO_SUCH_MODE) ⊎ (result ≡ NO_ROOM)))) }
 {
+    let Some(book) = book.get() else {
+        return NULL_POINTER;
+    };
+    let Some(resource) = resource.get() else {
+        return NULL_POINTER;
+    };
+    let Some(level) = level.get() else {
+        return NULL_POINTER;
+    };
+    let Some(reply) = reply.get() else {
+        return NULL_POINTER;
+    };
+    if list.is_null() {
+        return NULL_POINTER;
+    }
+    let Some(count) = count.get() else {
+        return NULL_POINTER;
+    };
+    let list = list.items();
     *count = 0;
-    let Some(path) = path_calls::read_path(resource, *level) else {
+    let Some(path) = path_calls::read_path(&resource, *level) else {
         return NO_SUCH_LEVEL;
     };
     let Some(mut boxed) = book.take(alloc) else {
@@ -64,20 +91,31 @@ pub extern "C" fn pelgaisti_raw_book_lock_path(
 #[unsafe(no_mangle)]
 pub extern "C" fn pelgaisti_raw_book_blockers(
     alloc: Global,
-    book: &mut BookHandle,
+    book: &mut BookPointer,
     session: u32,
-    list: &mut [u32],
-    count: &mut usize,
+    list: &mut SessionList,
+    count: &mut SizePointer,
 ) -> u32
-    ensures ok { result ≡ OK → (view : BookView) × (book.old.held.book ≡ Some view) × IsSession view session
+    ensures null { result ≡ NULL_POINTER ↔ ((book.old.at ≡ null_ptr) ⊎ (IsNullList list.old.at list.old.room ⊎ (count.old.at ≡ null_ptr))) }
+    ensures ok { result ≡ OK → (view : BookView) × (book.old.behind.held.book ≡ Some view) × IsSession view session
         × (let all = blockers_among view.sessions (state_of view.history).table session in
-        (list.new ≡ are_written (λ u. u) all list.old) × (count.new ≡ length all)) }
-    ensures failed { result ≢ OK → (list.new ≡ list.old) × (count.new ≡ count.old) }
-    ensures same { (book.new.is_open ≡ book.old.is_open) × (book.new.held.book ≡ book.old.held.book) }
-    ensures closed { result ≡ CLOSED ↔ (book.old.is_open ≢ 1) }
-    ensures session { result ≡ NO_SUCH_SESSION → (view : BookView) × (book.old.held.book ≡ Some view) × ¬ (IsSession view session) }
-    ensures statuses { (result ≡ OK) ⊎ ((result ≡ CLOSED) ⊎ (result ≡ NO_SUCH_SESSION)) }
+        (list.new.behind ≡ are_written (λ u. u) all list.old.behind) × (count.new.behind ≡ length all)) }
+    ensures failed { result ≢ OK → (list.new.behind ≡ list.old.behind) × (count.new.behind ≡ count.old.behind) }
+    ensures same { (book.new.behind.is_open ≡ book.old.behind.is_open) × (book.new.behind.held.book ≡ book.old.behind.held.book) }
+    ensures closed { result ≢ NULL_POINTER → (result ≡ CLOSED ↔ (book.old.behind.is_open ≢ 1)) }
+    ensures session { result ≡ NO_SUCH_SESSION → (view : BookView) × (book.old.behind.held.book ≡ Some view) × ¬ (IsSession view session) }
+    ensures statuses { (result ≡ NULL_POINTER) ⊎ ((result ≡ OK) ⊎ ((result ≡ CLOSED) ⊎ (result ≡ NO_SUCH_SESSION))) }
 {
+    let Some(book) = book.get() else {
+        return NULL_POINTER;
+    };
+    if list.is_null() {
+        return NULL_POINTER;
+    }
+    let Some(count) = count.get() else {
+        return NULL_POINTER;
+    };
+    let list = list.items();
     let Some(boxed) = book.take(alloc) else {
         return CLOSED;
     };

@@ -1,18 +1,18 @@
 //! The export of one turn of a session on the way down a path.
 
 ghost use Rattle.std.specs.Prelude.{◌≡◌, ◌≢◌, ◌+◌, ◌<◌, ◌≤◌, ◌⊎◌, ◌↔◌, ℕ, true, Some, None, List};
+ghost use denote.RawPtr.{null_ptr};
 ghost use Rattle.pelgaisti_c.specs.Numbers.{IsModeCode};
 ghost use Rattle.pelgaisti_c.specs.Paths.{HasLevelBehind};
 ghost use Rattle.pelgaisti_c.specs.Sessions.{AreToWake};
 ghost use Rattle.pelgaisti_c.specs.PathTurns.{IsRestOf, IsPathEnded, HasPathLeft, IsPathLate, IsPathStarved};
 ghost use Rattle.pelgaisti_c.specs.declared.session_share.SessionShare.{SessionShare};
 
-use crate::numbers::{AnswerNumbers, ResourceNumbers};
 use crate::path_calls::read_path;
 use crate::path_turn_calls;
-use crate::session_handle::SessionHandle;
+use crate::pointers::{AnswerPointer, ResourcePointer, SessionPointer, U32Pointer};
 use crate::status::{
-    CLOSED, NO_MEMORY, NO_SUCH_LEVEL, NO_SUCH_MODE, NOT_SERVED, OK, PENDING, RETIRED,
+    CLOSED, NO_MEMORY, NO_SUCH_LEVEL, NO_SUCH_MODE, NOT_SERVED, NULL_POINTER, OK, PENDING, RETIRED,
 };
 use std::alloc::Global;
 
@@ -29,38 +29,51 @@ use std::alloc::Global;
 #[unsafe(no_mangle)]
 pub extern "C" fn pelgaisti_raw_session_path_turn(
     alloc: Global,
-    session: &mut SessionHandle,
-    resource: &ResourceNumbers,
+    session: &mut SessionPointer,
+    resource: &mut ResourcePointer,
     mode: u32,
-    level: &mut u32,
+    level: &mut U32Pointer,
     made: &mut u64,
     turns: u64,
-    answer: &mut AnswerNumbers,
+    answer: &mut AnswerPointer,
     wait: &mut u32,
     told: &mut usize,
 ) -> u32
-    ensures ok { result ≡ OK → (r : List ℕ) × IsRestOf resource.now level.old r × ((before after : SessionShare) × (session.old.held.share ≡ Some before) × (session.new.held.share ≡ Some after)
-        × IsPathEnded r mode before after level.old level.new answer.new) }
-    ensures memory { result ≡ NO_MEMORY → (r : List ℕ) × IsRestOf resource.now level.old r × ((before after : SessionShare) × (session.old.held.share ≡ Some before) × (session.new.held.share ≡ Some after)
-        × IsPathStarved r mode before after level.old) }
-    ensures late { result ≡ NOT_SERVED → (r : List ℕ) × IsRestOf resource.now level.old r × ((before after : SessionShare) × (session.old.held.share ≡ Some before) × (session.new.held.share ≡ Some after)
-        × (HasPathLeft r mode before after level.old level.new answer.new made.new wait.new
-        ⊎ (IsPathLate r mode before after level.old made.old turns wait.new × (level.new ≡ level.old) × (answer.new ≡ answer.old)
+    ensures null { result ≡ NULL_POINTER ↔ ((session.old.at ≡ null_ptr) ⊎ ((resource.old.at ≡ null_ptr) ⊎ ((level.old.at ≡ null_ptr) ⊎ (answer.old.at ≡ null_ptr)))) }
+    ensures ok { result ≡ OK → (r : List ℕ) × IsRestOf resource.old.behind level.old.behind r × ((before after : SessionShare) × (session.old.behind.held.share ≡ Some before) × (session.new.behind.held.share ≡ Some after)
+        × IsPathEnded r mode before after level.old.behind level.new.behind answer.new.behind) }
+    ensures memory { result ≡ NO_MEMORY → (r : List ℕ) × IsRestOf resource.old.behind level.old.behind r × ((before after : SessionShare) × (session.old.behind.held.share ≡ Some before) × (session.new.behind.held.share ≡ Some after)
+        × IsPathStarved r mode before after level.old.behind) }
+    ensures late { result ≡ NOT_SERVED → (r : List ℕ) × IsRestOf resource.old.behind level.old.behind r × ((before after : SessionShare) × (session.old.behind.held.share ≡ Some before) × (session.new.behind.held.share ≡ Some after)
+        × (HasPathLeft r mode before after level.old.behind level.new.behind answer.new.behind made.new wait.new
+        ⊎ (IsPathLate r mode before after level.old.behind made.old turns wait.new × (level.new.behind ≡ level.old.behind) × (answer.new.behind ≡ answer.old.behind)
         × (made.old < turns → made.new ≡ made.old + 1) × (turns ≤ made.old → made.new ≡ made.old)))) }
-    ensures told { (result ≡ OK) ⊎ ((result ≡ NO_MEMORY) ⊎ (result ≡ NOT_SERVED)) → (before after : SessionShare) × (session.old.held.share ≡ Some before) × (session.new.held.share ≡ Some after)
+    ensures told { (result ≡ OK) ⊎ ((result ≡ NO_MEMORY) ⊎ (result ≡ NOT_SERVED)) → (before after : SessionShare) × (session.old.behind.held.share ≡ Some before) × (session.new.behind.held.share ≡ Some after)
         × AreToWake before after told.new }
-    ensures first { (result ≡ OK) ⊎ ((result ≡ NO_MEMORY) ⊎ (result ≡ NOT_SERVED)) → made.old ≡ 0 → (share : SessionShare) × (session.old.held.share ≡ Some share) × (share.session.pending ≡ None) }
-    ensures failed { result ≢ OK → result ≢ NOT_SERVED → (level.new ≡ level.old) × (answer.new ≡ answer.old) × (made.new ≡ made.old) × (wait.new ≡ wait.old) }
-    ensures same { result ≢ OK → result ≢ NO_MEMORY → result ≢ NOT_SERVED → (session.new.held.share ≡ session.old.held.share) × (told.new ≡ told.old) }
-    ensures open { session.new.is_open ≡ session.old.is_open }
-    ensures level { result ≡ NO_SUCH_LEVEL ↔ ¬ (HasLevelBehind resource.now level.old) }
-    ensures closed { result ≡ CLOSED ↔ (HasLevelBehind resource.now level.old × (session.old.is_open ≢ 1)) }
-    ensures mode { result ≡ NO_SUCH_MODE → (session.old.is_open ≡ 1) × ¬ (IsModeCode mode) }
-    ensures retired { result ≡ RETIRED → IsModeCode mode × ((share : SessionShare) × (session.old.held.share ≡ Some share) × (share.session.retired ≡ true)) }
-    ensures pending { result ≡ PENDING → (made.old ≡ 0) × IsModeCode mode × ((share : SessionShare) × (session.old.held.share ≡ Some share) × (share.session.pending ≢ None)) }
-    ensures statuses { (result ≡ OK) ⊎ ((result ≡ CLOSED) ⊎ ((result ≡ NO_SUCH_LEVEL) ⊎ ((result ≡ NO_SUCH_MODE) ⊎ ((result ≡ RETIRED) ⊎ ((result ≡ PENDING) ⊎ ((result ≡ NO_MEMORY) ⊎ (result ≡ NOT_SERVED))))))) }
+    ensures first { (result ≡ OK) ⊎ ((result ≡ NO_MEMORY) ⊎ (result ≡ NOT_SERVED)) → made.old ≡ 0 → (share : SessionShare) × (session.old.behind.held.share ≡ Some share) × (share.session.pending ≡ None) }
+    ensures failed { result ≢ OK → result ≢ NOT_SERVED → (level.new.behind ≡ level.old.behind) × (answer.new.behind ≡ answer.old.behind) × (made.new ≡ made.old) × (wait.new ≡ wait.old) }
+    ensures same { result ≢ OK → result ≢ NO_MEMORY → result ≢ NOT_SERVED → (session.new.behind.held.share ≡ session.old.behind.held.share) × (told.new ≡ told.old) }
+    ensures open { session.new.behind.is_open ≡ session.old.behind.is_open }
+    ensures level { result ≢ NULL_POINTER → (result ≡ NO_SUCH_LEVEL ↔ ¬ (HasLevelBehind resource.old.behind level.old.behind)) }
+    ensures closed { result ≢ NULL_POINTER → (result ≡ CLOSED ↔ (HasLevelBehind resource.old.behind level.old.behind × (session.old.behind.is_open ≢ 1))) }
+    ensures mode { result ≡ NO_SUCH_MODE → (session.old.behind.is_open ≡ 1) × ¬ (IsModeCode mode) }
+    ensures retired { result ≡ RETIRED → IsModeCode mode × ((share : SessionShare) × (session.old.behind.held.share ≡ Some share) × (share.session.retired ≡ true)) }
+    ensures pending { result ≡ PENDING → (made.old ≡ 0) × IsModeCode mode × ((share : SessionShare) × (session.old.behind.held.share ≡ Some share) × (share.session.pending ≢ None)) }
+    ensures statuses { (result ≡ NULL_POINTER) ⊎ ((result ≡ OK) ⊎ ((result ≡ CLOSED) ⊎ ((result ≡ NO_SUCH_LEVEL) ⊎ ((result ≡ NO_SUCH_MODE) ⊎ ((result ≡ RETIRED) ⊎ ((result ≡ PENDING) ⊎ ((result ≡ NO_MEMORY) ⊎ (result ≡ NOT_SERVED)))))))) }
 {
-    let Some(path) = read_path(resource, *level) else {
+    let Some(session) = session.get() else {
+        return NULL_POINTER;
+    };
+    let Some(resource) = resource.get() else {
+        return NULL_POINTER;
+    };
+    let Some(level) = level.get() else {
+        return NULL_POINTER;
+    };
+    let Some(answer) = answer.get() else {
+        return NULL_POINTER;
+    };
+    let Some(path) = read_path(&resource, *level) else {
         return NO_SUCH_LEVEL;
     };
     let Some(mut share) = session.take(alloc) else {

@@ -2,41 +2,59 @@
 //! serves no calls. `seen` gets how many calls the history had: the answer is that of the state behind these.
 
 ghost use Rattle.std.specs.Prelude.{◌≡◌, ◌≢◌, ◌≤◌, ◌↔◌, ◌⊎◌, Some};
+ghost use denote.RawPtr.{null_ptr};
+ghost use Rattle.pelgaisti_c.specs.Behind.{IsNullList};
 ghost use Rattle.pelgaisti_c.specs.Numbers.{IsLevel};
 ghost use Rattle.pelgaisti_c.specs.Queries.{IsOfOffice, HasSeen, IsHeldSeen, IsWaitSeen, AreHoldersSeen, AreBlockersSeen, IsTransactionSeen, IsRequestSeen, AreLocksSeen};
 ghost use Rattle.pelgaisti_c.specs.declared.session_share.SessionShare.{SessionShare};
 
-use crate::claims::{ClaimNumbers, TransactionNumbers};
-use crate::numbers::{HolderNumbers, ResourceNumbers};
+use crate::pointers::{
+    ClaimList, ClaimPointer, HolderList, ResourcePointer, SessionList, SessionPointer, SizePointer,
+    TransactionPointer, U32Pointer, U64Pointer,
+};
 use crate::queries;
-use crate::session_handle::SessionHandle;
-use crate::status::{CLOSED, ELSEWHERE, NO_MEMORY, NO_SUCH_LEVEL, NO_SUCH_SESSION, OK};
+use crate::status::{
+    CLOSED, ELSEWHERE, NO_MEMORY, NO_SUCH_LEVEL, NO_SUCH_SESSION, NULL_POINTER, OK,
+};
 use std::alloc::Global;
 
 /// Writes the code of the mode that session `whose` holds on the resource, or that of NL if it holds none.
 #[unsafe(no_mangle)]
 pub extern "C" fn pelgaisti_raw_session_held(
     alloc: Global,
-    session: &mut SessionHandle,
+    session: &mut SessionPointer,
     whose: u32,
-    resource: &ResourceNumbers,
-    mode: &mut u32,
-    seen: &mut u64,
+    resource: &mut ResourcePointer,
+    mode: &mut U32Pointer,
+    seen: &mut U64Pointer,
 ) -> u32
-    ensures ok { result ≡ OK → (before after : SessionShare) × (session.old.held.share ≡ Some before) × (session.new.held.share ≡ Some after)
-        × IsHeldSeen before after whose resource.now mode.new seen.new }
-    ensures failed { result ≢ OK → (session.new.held.share ≡ session.old.held.share) × (mode.new ≡ mode.old) × (seen.new ≡ seen.old) }
-    ensures open { session.new.is_open ≡ session.old.is_open }
-    ensures closed { result ≡ CLOSED ↔ (session.old.is_open ≢ 1) }
-    ensures session { result ≡ NO_SUCH_SESSION → (share : SessionShare) × (session.old.held.share ≡ Some share) × ¬ (IsOfOffice share whose) }
-    ensures level { result ≡ NO_SUCH_LEVEL → (share : SessionShare) × (session.old.held.share ≡ Some share) × IsOfOffice share whose × ¬ (IsLevel resource.now.level) }
-    ensures elsewhere { result ≡ ELSEWHERE → (share : SessionShare) × (session.old.held.share ≡ Some share) × (2 ≤ share.sessions) }
-    ensures statuses { (result ≡ OK) ⊎ ((result ≡ CLOSED) ⊎ ((result ≡ NO_SUCH_SESSION) ⊎ ((result ≡ NO_SUCH_LEVEL) ⊎ (result ≡ ELSEWHERE)))) }
+    ensures null { result ≡ NULL_POINTER ↔ ((session.old.at ≡ null_ptr) ⊎ ((resource.old.at ≡ null_ptr) ⊎ ((mode.old.at ≡ null_ptr) ⊎ (seen.old.at ≡ null_ptr)))) }
+    ensures ok { result ≡ OK → (before after : SessionShare) × (session.old.behind.held.share ≡ Some before) × (session.new.behind.held.share ≡ Some after)
+        × IsHeldSeen before after whose resource.old.behind mode.new.behind seen.new.behind }
+    ensures failed { result ≢ OK → (session.new.behind.held.share ≡ session.old.behind.held.share) × (mode.new.behind ≡ mode.old.behind) × (seen.new.behind ≡ seen.old.behind) }
+    ensures open { session.new.behind.is_open ≡ session.old.behind.is_open }
+    ensures closed { result ≢ NULL_POINTER → (result ≡ CLOSED ↔ (session.old.behind.is_open ≢ 1)) }
+    ensures session { result ≡ NO_SUCH_SESSION → (share : SessionShare) × (session.old.behind.held.share ≡ Some share) × ¬ (IsOfOffice share whose) }
+    ensures level { result ≡ NO_SUCH_LEVEL → (share : SessionShare) × (session.old.behind.held.share ≡ Some share) × IsOfOffice share whose × ¬ (IsLevel resource.old.behind.level) }
+    ensures elsewhere { result ≡ ELSEWHERE → (share : SessionShare) × (session.old.behind.held.share ≡ Some share) × (2 ≤ share.sessions) }
+    ensures statuses { (result ≡ NULL_POINTER) ⊎ ((result ≡ OK) ⊎ ((result ≡ CLOSED) ⊎ ((result ≡ NO_SUCH_SESSION) ⊎ ((result ≡ NO_SUCH_LEVEL) ⊎ (result ≡ ELSEWHERE))))) }
 {
+    let Some(session) = session.get() else {
+        return NULL_POINTER;
+    };
+    let Some(resource) = resource.get() else {
+        return NULL_POINTER;
+    };
+    let Some(mode) = mode.get() else {
+        return NULL_POINTER;
+    };
+    let Some(seen) = seen.get() else {
+        return NULL_POINTER;
+    };
     let Some(mut share) = session.take(alloc) else {
         return CLOSED;
     };
-    let status = queries::held(&mut share, whose, resource, mode, seen);
+    let status = queries::held(&mut share, whose, &resource, mode, seen);
     session.put(share);
     status
 }
@@ -45,21 +63,31 @@ pub extern "C" fn pelgaisti_raw_session_held(
 #[unsafe(no_mangle)]
 pub extern "C" fn pelgaisti_raw_session_waits_for(
     alloc: Global,
-    session: &mut SessionHandle,
+    session: &mut SessionPointer,
     whose: u32,
     other: u32,
-    edge: &mut u32,
-    seen: &mut u64,
+    edge: &mut U32Pointer,
+    seen: &mut U64Pointer,
 ) -> u32
-    ensures ok { result ≡ OK → (before after : SessionShare) × (session.old.held.share ≡ Some before) × (session.new.held.share ≡ Some after)
-        × IsWaitSeen before after whose other edge.new seen.new }
-    ensures failed { result ≢ OK → (session.new.held.share ≡ session.old.held.share) × (edge.new ≡ edge.old) × (seen.new ≡ seen.old) }
-    ensures open { session.new.is_open ≡ session.old.is_open }
-    ensures closed { result ≡ CLOSED ↔ (session.old.is_open ≢ 1) }
-    ensures session { result ≡ NO_SUCH_SESSION → (share : SessionShare) × (session.old.held.share ≡ Some share) × ¬ (IsOfOffice share whose × IsOfOffice share other) }
-    ensures elsewhere { result ≡ ELSEWHERE → (share : SessionShare) × (session.old.held.share ≡ Some share) × (2 ≤ share.sessions) }
-    ensures statuses { (result ≡ OK) ⊎ ((result ≡ CLOSED) ⊎ ((result ≡ NO_SUCH_SESSION) ⊎ (result ≡ ELSEWHERE))) }
+    ensures null { result ≡ NULL_POINTER ↔ ((session.old.at ≡ null_ptr) ⊎ ((edge.old.at ≡ null_ptr) ⊎ (seen.old.at ≡ null_ptr))) }
+    ensures ok { result ≡ OK → (before after : SessionShare) × (session.old.behind.held.share ≡ Some before) × (session.new.behind.held.share ≡ Some after)
+        × IsWaitSeen before after whose other edge.new.behind seen.new.behind }
+    ensures failed { result ≢ OK → (session.new.behind.held.share ≡ session.old.behind.held.share) × (edge.new.behind ≡ edge.old.behind) × (seen.new.behind ≡ seen.old.behind) }
+    ensures open { session.new.behind.is_open ≡ session.old.behind.is_open }
+    ensures closed { result ≢ NULL_POINTER → (result ≡ CLOSED ↔ (session.old.behind.is_open ≢ 1)) }
+    ensures session { result ≡ NO_SUCH_SESSION → (share : SessionShare) × (session.old.behind.held.share ≡ Some share) × ¬ (IsOfOffice share whose × IsOfOffice share other) }
+    ensures elsewhere { result ≡ ELSEWHERE → (share : SessionShare) × (session.old.behind.held.share ≡ Some share) × (2 ≤ share.sessions) }
+    ensures statuses { (result ≡ NULL_POINTER) ⊎ ((result ≡ OK) ⊎ ((result ≡ CLOSED) ⊎ ((result ≡ NO_SUCH_SESSION) ⊎ (result ≡ ELSEWHERE)))) }
 {
+    let Some(session) = session.get() else {
+        return NULL_POINTER;
+    };
+    let Some(edge) = edge.get() else {
+        return NULL_POINTER;
+    };
+    let Some(seen) = seen.get() else {
+        return NULL_POINTER;
+    };
     let Some(mut share) = session.take(alloc) else {
         return CLOSED;
     };
@@ -73,28 +101,45 @@ pub extern "C" fn pelgaisti_raw_session_waits_for(
 #[unsafe(no_mangle)]
 pub extern "C" fn pelgaisti_raw_session_holders(
     alloc: Global,
-    session: &mut SessionHandle,
-    resource: &ResourceNumbers,
-    list: &mut [HolderNumbers],
-    count: &mut usize,
-    seen: &mut u64,
+    session: &mut SessionPointer,
+    resource: &mut ResourcePointer,
+    list: &mut HolderList,
+    count: &mut SizePointer,
+    seen: &mut U64Pointer,
 ) -> u32
-    ensures ok { result ≡ OK → (before after : SessionShare) × (session.old.held.share ≡ Some before) × (session.new.held.share ≡ Some after)
-        × AreHoldersSeen before after resource.now list.old list.new count.new seen.new }
-    ensures failed { result ≢ OK → (list.new ≡ list.old) × (count.new ≡ count.old) × (seen.new ≡ seen.old) }
-    ensures same { result ≢ OK → result ≢ NO_MEMORY → session.new.held.share ≡ session.old.held.share }
-    ensures open { session.new.is_open ≡ session.old.is_open }
-    ensures closed { result ≡ CLOSED ↔ (session.old.is_open ≢ 1) }
-    ensures level { result ≡ NO_SUCH_LEVEL → (session.old.is_open ≡ 1) × ¬ (IsLevel resource.now.level) }
-    ensures memory { result ≡ NO_MEMORY → IsLevel resource.now.level × ((before after : SessionShare) × (session.old.held.share ≡ Some before) × (session.new.held.share ≡ Some after)
+    ensures null { result ≡ NULL_POINTER ↔ ((session.old.at ≡ null_ptr) ⊎ ((resource.old.at ≡ null_ptr) ⊎ (IsNullList list.old.at list.old.room ⊎ ((count.old.at ≡ null_ptr) ⊎ (seen.old.at ≡ null_ptr))))) }
+    ensures ok { result ≡ OK → (before after : SessionShare) × (session.old.behind.held.share ≡ Some before) × (session.new.behind.held.share ≡ Some after)
+        × AreHoldersSeen before after resource.old.behind list.old.behind list.new.behind count.new.behind seen.new.behind }
+    ensures failed { result ≢ OK → (list.new.behind ≡ list.old.behind) × (count.new.behind ≡ count.old.behind) × (seen.new.behind ≡ seen.old.behind) }
+    ensures same { result ≢ OK → result ≢ NO_MEMORY → session.new.behind.held.share ≡ session.old.behind.held.share }
+    ensures open { session.new.behind.is_open ≡ session.old.behind.is_open }
+    ensures closed { result ≢ NULL_POINTER → (result ≡ CLOSED ↔ (session.old.behind.is_open ≢ 1)) }
+    ensures level { result ≡ NO_SUCH_LEVEL → (session.old.behind.is_open ≡ 1) × ¬ (IsLevel resource.old.behind.level) }
+    ensures memory { result ≡ NO_MEMORY → IsLevel resource.old.behind.level × ((before after : SessionShare) × (session.old.behind.held.share ≡ Some before) × (session.new.behind.held.share ≡ Some after)
         × HasSeen before after) }
-    ensures elsewhere { result ≡ ELSEWHERE → (share : SessionShare) × (session.old.held.share ≡ Some share) × (2 ≤ share.sessions) }
-    ensures statuses { (result ≡ OK) ⊎ ((result ≡ NO_MEMORY) ⊎ ((result ≡ CLOSED) ⊎ ((result ≡ NO_SUCH_LEVEL) ⊎ (result ≡ ELSEWHERE)))) }
+    ensures elsewhere { result ≡ ELSEWHERE → (share : SessionShare) × (session.old.behind.held.share ≡ Some share) × (2 ≤ share.sessions) }
+    ensures statuses { (result ≡ NULL_POINTER) ⊎ ((result ≡ OK) ⊎ ((result ≡ NO_MEMORY) ⊎ ((result ≡ CLOSED) ⊎ ((result ≡ NO_SUCH_LEVEL) ⊎ (result ≡ ELSEWHERE))))) }
 {
+    let Some(session) = session.get() else {
+        return NULL_POINTER;
+    };
+    let Some(resource) = resource.get() else {
+        return NULL_POINTER;
+    };
+    if list.is_null() {
+        return NULL_POINTER;
+    }
+    let Some(count) = count.get() else {
+        return NULL_POINTER;
+    };
+    let Some(seen) = seen.get() else {
+        return NULL_POINTER;
+    };
+    let list = list.items();
     let Some(mut share) = session.take(alloc) else {
         return CLOSED;
     };
-    let status = queries::holders(alloc, &mut share, resource, list, count, seen);
+    let status = queries::holders(alloc, &mut share, &resource, list, count, seen);
     session.put(share);
     status
 }
@@ -104,22 +149,36 @@ pub extern "C" fn pelgaisti_raw_session_holders(
 #[unsafe(no_mangle)]
 pub extern "C" fn pelgaisti_raw_session_blockers(
     alloc: Global,
-    session: &mut SessionHandle,
+    session: &mut SessionPointer,
     whose: u32,
-    list: &mut [u32],
-    count: &mut usize,
-    seen: &mut u64,
+    list: &mut SessionList,
+    count: &mut SizePointer,
+    seen: &mut U64Pointer,
 ) -> u32
-    ensures ok { result ≡ OK → (before after : SessionShare) × (session.old.held.share ≡ Some before) × (session.new.held.share ≡ Some after)
-        × AreBlockersSeen before after whose list.old list.new count.new seen.new }
-    ensures failed { result ≢ OK → (session.new.held.share ≡ session.old.held.share) × (list.new ≡ list.old) × (count.new ≡ count.old) × (seen.new ≡ seen.old) }
-    ensures open { session.new.is_open ≡ session.old.is_open }
-    ensures closed { result ≡ CLOSED ↔ (session.old.is_open ≢ 1) }
-    ensures session { result ≡ NO_SUCH_SESSION → (share : SessionShare) × (session.old.held.share ≡ Some share) × ¬ (IsOfOffice share whose) }
-    ensures memory { result ≡ NO_MEMORY → (share : SessionShare) × (session.old.held.share ≡ Some share) × IsOfOffice share whose }
-    ensures elsewhere { result ≡ ELSEWHERE → (share : SessionShare) × (session.old.held.share ≡ Some share) × (2 ≤ share.sessions) }
-    ensures statuses { (result ≡ OK) ⊎ ((result ≡ NO_MEMORY) ⊎ ((result ≡ CLOSED) ⊎ ((result ≡ NO_SUCH_SESSION) ⊎ (result ≡ ELSEWHERE)))) }
+    ensures null { result ≡ NULL_POINTER ↔ ((session.old.at ≡ null_ptr) ⊎ (IsNullList list.old.at list.old.room ⊎ ((count.old.at ≡ null_ptr) ⊎ (seen.old.at ≡ null_ptr)))) }
+    ensures ok { result ≡ OK → (before after : SessionShare) × (session.old.behind.held.share ≡ Some before) × (session.new.behind.held.share ≡ Some after)
+        × AreBlockersSeen before after whose list.old.behind list.new.behind count.new.behind seen.new.behind }
+    ensures failed { result ≢ OK → (session.new.behind.held.share ≡ session.old.behind.held.share) × (list.new.behind ≡ list.old.behind) × (count.new.behind ≡ count.old.behind) × (seen.new.behind ≡ seen.old.behind) }
+    ensures open { session.new.behind.is_open ≡ session.old.behind.is_open }
+    ensures closed { result ≢ NULL_POINTER → (result ≡ CLOSED ↔ (session.old.behind.is_open ≢ 1)) }
+    ensures session { result ≡ NO_SUCH_SESSION → (share : SessionShare) × (session.old.behind.held.share ≡ Some share) × ¬ (IsOfOffice share whose) }
+    ensures memory { result ≡ NO_MEMORY → (share : SessionShare) × (session.old.behind.held.share ≡ Some share) × IsOfOffice share whose }
+    ensures elsewhere { result ≡ ELSEWHERE → (share : SessionShare) × (session.old.behind.held.share ≡ Some share) × (2 ≤ share.sessions) }
+    ensures statuses { (result ≡ NULL_POINTER) ⊎ ((result ≡ OK) ⊎ ((result ≡ NO_MEMORY) ⊎ ((result ≡ CLOSED) ⊎ ((result ≡ NO_SUCH_SESSION) ⊎ (result ≡ ELSEWHERE))))) }
 {
+    let Some(session) = session.get() else {
+        return NULL_POINTER;
+    };
+    if list.is_null() {
+        return NULL_POINTER;
+    }
+    let Some(count) = count.get() else {
+        return NULL_POINTER;
+    };
+    let Some(seen) = seen.get() else {
+        return NULL_POINTER;
+    };
+    let list = list.items();
     let Some(mut share) = session.take(alloc) else {
         return CLOSED;
     };
@@ -133,20 +192,30 @@ pub extern "C" fn pelgaisti_raw_session_blockers(
 #[unsafe(no_mangle)]
 pub extern "C" fn pelgaisti_raw_session_transaction(
     alloc: Global,
-    session: &mut SessionHandle,
+    session: &mut SessionPointer,
     whose: u32,
-    found: &mut TransactionNumbers,
-    seen: &mut u64,
+    found: &mut TransactionPointer,
+    seen: &mut U64Pointer,
 ) -> u32
-    ensures ok { result ≡ OK → (before after : SessionShare) × (session.old.held.share ≡ Some before) × (session.new.held.share ≡ Some after)
-        × IsTransactionSeen before after whose found.new seen.new }
-    ensures failed { result ≢ OK → (session.new.held.share ≡ session.old.held.share) × (found.new ≡ found.old) × (seen.new ≡ seen.old) }
-    ensures open { session.new.is_open ≡ session.old.is_open }
-    ensures closed { result ≡ CLOSED ↔ (session.old.is_open ≢ 1) }
-    ensures session { result ≡ NO_SUCH_SESSION → (share : SessionShare) × (session.old.held.share ≡ Some share) × ¬ (IsOfOffice share whose) }
-    ensures elsewhere { result ≡ ELSEWHERE → (share : SessionShare) × (session.old.held.share ≡ Some share) × (2 ≤ share.sessions) }
-    ensures statuses { (result ≡ OK) ⊎ ((result ≡ CLOSED) ⊎ ((result ≡ NO_SUCH_SESSION) ⊎ (result ≡ ELSEWHERE))) }
+    ensures null { result ≡ NULL_POINTER ↔ ((session.old.at ≡ null_ptr) ⊎ ((found.old.at ≡ null_ptr) ⊎ (seen.old.at ≡ null_ptr))) }
+    ensures ok { result ≡ OK → (before after : SessionShare) × (session.old.behind.held.share ≡ Some before) × (session.new.behind.held.share ≡ Some after)
+        × IsTransactionSeen before after whose found.new.behind seen.new.behind }
+    ensures failed { result ≢ OK → (session.new.behind.held.share ≡ session.old.behind.held.share) × (found.new.behind ≡ found.old.behind) × (seen.new.behind ≡ seen.old.behind) }
+    ensures open { session.new.behind.is_open ≡ session.old.behind.is_open }
+    ensures closed { result ≢ NULL_POINTER → (result ≡ CLOSED ↔ (session.old.behind.is_open ≢ 1)) }
+    ensures session { result ≡ NO_SUCH_SESSION → (share : SessionShare) × (session.old.behind.held.share ≡ Some share) × ¬ (IsOfOffice share whose) }
+    ensures elsewhere { result ≡ ELSEWHERE → (share : SessionShare) × (session.old.behind.held.share ≡ Some share) × (2 ≤ share.sessions) }
+    ensures statuses { (result ≡ NULL_POINTER) ⊎ ((result ≡ OK) ⊎ ((result ≡ CLOSED) ⊎ ((result ≡ NO_SUCH_SESSION) ⊎ (result ≡ ELSEWHERE)))) }
 {
+    let Some(session) = session.get() else {
+        return NULL_POINTER;
+    };
+    let Some(found) = found.get() else {
+        return NULL_POINTER;
+    };
+    let Some(seen) = seen.get() else {
+        return NULL_POINTER;
+    };
     let Some(mut share) = session.take(alloc) else {
         return CLOSED;
     };
@@ -159,20 +228,30 @@ pub extern "C" fn pelgaisti_raw_session_transaction(
 #[unsafe(no_mangle)]
 pub extern "C" fn pelgaisti_raw_session_request(
     alloc: Global,
-    session: &mut SessionHandle,
+    session: &mut SessionPointer,
     whose: u32,
-    found: &mut ClaimNumbers,
-    seen: &mut u64,
+    found: &mut ClaimPointer,
+    seen: &mut U64Pointer,
 ) -> u32
-    ensures ok { result ≡ OK → (before after : SessionShare) × (session.old.held.share ≡ Some before) × (session.new.held.share ≡ Some after)
-        × IsRequestSeen before after whose found.new seen.new }
-    ensures failed { result ≢ OK → (session.new.held.share ≡ session.old.held.share) × (found.new ≡ found.old) × (seen.new ≡ seen.old) }
-    ensures open { session.new.is_open ≡ session.old.is_open }
-    ensures closed { result ≡ CLOSED ↔ (session.old.is_open ≢ 1) }
-    ensures session { result ≡ NO_SUCH_SESSION → (share : SessionShare) × (session.old.held.share ≡ Some share) × ¬ (IsOfOffice share whose) }
-    ensures elsewhere { result ≡ ELSEWHERE → (share : SessionShare) × (session.old.held.share ≡ Some share) × (2 ≤ share.sessions) }
-    ensures statuses { (result ≡ OK) ⊎ ((result ≡ CLOSED) ⊎ ((result ≡ NO_SUCH_SESSION) ⊎ (result ≡ ELSEWHERE))) }
+    ensures null { result ≡ NULL_POINTER ↔ ((session.old.at ≡ null_ptr) ⊎ ((found.old.at ≡ null_ptr) ⊎ (seen.old.at ≡ null_ptr))) }
+    ensures ok { result ≡ OK → (before after : SessionShare) × (session.old.behind.held.share ≡ Some before) × (session.new.behind.held.share ≡ Some after)
+        × IsRequestSeen before after whose found.new.behind seen.new.behind }
+    ensures failed { result ≢ OK → (session.new.behind.held.share ≡ session.old.behind.held.share) × (found.new.behind ≡ found.old.behind) × (seen.new.behind ≡ seen.old.behind) }
+    ensures open { session.new.behind.is_open ≡ session.old.behind.is_open }
+    ensures closed { result ≢ NULL_POINTER → (result ≡ CLOSED ↔ (session.old.behind.is_open ≢ 1)) }
+    ensures session { result ≡ NO_SUCH_SESSION → (share : SessionShare) × (session.old.behind.held.share ≡ Some share) × ¬ (IsOfOffice share whose) }
+    ensures elsewhere { result ≡ ELSEWHERE → (share : SessionShare) × (session.old.behind.held.share ≡ Some share) × (2 ≤ share.sessions) }
+    ensures statuses { (result ≡ NULL_POINTER) ⊎ ((result ≡ OK) ⊎ ((result ≡ CLOSED) ⊎ ((result ≡ NO_SUCH_SESSION) ⊎ (result ≡ ELSEWHERE)))) }
 {
+    let Some(session) = session.get() else {
+        return NULL_POINTER;
+    };
+    let Some(found) = found.get() else {
+        return NULL_POINTER;
+    };
+    let Some(seen) = seen.get() else {
+        return NULL_POINTER;
+    };
     let Some(mut share) = session.take(alloc) else {
         return CLOSED;
     };
@@ -186,23 +265,37 @@ pub extern "C" fn pelgaisti_raw_session_request(
 #[unsafe(no_mangle)]
 pub extern "C" fn pelgaisti_raw_session_locks(
     alloc: Global,
-    session: &mut SessionHandle,
+    session: &mut SessionPointer,
     first: usize,
-    list: &mut [ClaimNumbers],
-    count: &mut usize,
-    seen: &mut u64,
+    list: &mut ClaimList,
+    count: &mut SizePointer,
+    seen: &mut U64Pointer,
 ) -> u32
-    ensures ok { result ≡ OK → (before after : SessionShare) × (session.old.held.share ≡ Some before) × (session.new.held.share ≡ Some after)
-        × AreLocksSeen before after first list.old list.new count.new seen.new }
-    ensures failed { result ≢ OK → (list.new ≡ list.old) × (count.new ≡ count.old) × (seen.new ≡ seen.old) }
-    ensures same { result ≢ OK → result ≢ NO_MEMORY → session.new.held.share ≡ session.old.held.share }
-    ensures open { session.new.is_open ≡ session.old.is_open }
-    ensures closed { result ≡ CLOSED ↔ (session.old.is_open ≢ 1) }
-    ensures memory { result ≡ NO_MEMORY → (before after : SessionShare) × (session.old.held.share ≡ Some before) × (session.new.held.share ≡ Some after)
+    ensures null { result ≡ NULL_POINTER ↔ ((session.old.at ≡ null_ptr) ⊎ (IsNullList list.old.at list.old.room ⊎ ((count.old.at ≡ null_ptr) ⊎ (seen.old.at ≡ null_ptr)))) }
+    ensures ok { result ≡ OK → (before after : SessionShare) × (session.old.behind.held.share ≡ Some before) × (session.new.behind.held.share ≡ Some after)
+        × AreLocksSeen before after first list.old.behind list.new.behind count.new.behind seen.new.behind }
+    ensures failed { result ≢ OK → (list.new.behind ≡ list.old.behind) × (count.new.behind ≡ count.old.behind) × (seen.new.behind ≡ seen.old.behind) }
+    ensures same { result ≢ OK → result ≢ NO_MEMORY → session.new.behind.held.share ≡ session.old.behind.held.share }
+    ensures open { session.new.behind.is_open ≡ session.old.behind.is_open }
+    ensures closed { result ≢ NULL_POINTER → (result ≡ CLOSED ↔ (session.old.behind.is_open ≢ 1)) }
+    ensures memory { result ≡ NO_MEMORY → (before after : SessionShare) × (session.old.behind.held.share ≡ Some before) × (session.new.behind.held.share ≡ Some after)
         × HasSeen before after }
-    ensures elsewhere { result ≡ ELSEWHERE → (share : SessionShare) × (session.old.held.share ≡ Some share) × (2 ≤ share.sessions) }
-    ensures statuses { (result ≡ OK) ⊎ ((result ≡ NO_MEMORY) ⊎ ((result ≡ CLOSED) ⊎ (result ≡ ELSEWHERE))) }
+    ensures elsewhere { result ≡ ELSEWHERE → (share : SessionShare) × (session.old.behind.held.share ≡ Some share) × (2 ≤ share.sessions) }
+    ensures statuses { (result ≡ NULL_POINTER) ⊎ ((result ≡ OK) ⊎ ((result ≡ NO_MEMORY) ⊎ ((result ≡ CLOSED) ⊎ (result ≡ ELSEWHERE)))) }
 {
+    let Some(session) = session.get() else {
+        return NULL_POINTER;
+    };
+    if list.is_null() {
+        return NULL_POINTER;
+    }
+    let Some(count) = count.get() else {
+        return NULL_POINTER;
+    };
+    let Some(seen) = seen.get() else {
+        return NULL_POINTER;
+    };
+    let list = list.items();
     let Some(mut share) = session.take(alloc) else {
         return CLOSED;
     };

@@ -1,19 +1,23 @@
 //! The exports over a session of an office.
 
 ghost use Rattle.std.specs.Prelude.{◌≡◌, ◌≢◌, ℕ, ◌+◌, ◌<◌, ◌≤◌, ◌↔◌, ◌⊎◌, true, Some, None, length, drop};
+ghost use denote.RawPtr.{null_ptr};
 ghost use Rattle.lock_office.specs.Sessions.{IsPendingServed};
 ghost use Rattle.lock_rules.specs.declared.calls.Call.{Call};
+ghost use Rattle.pelgaisti_c.specs.Behind.{IsNullList};
 ghost use Rattle.pelgaisti_c.specs.Numbers.{IsCall, IsCallFault};
 ghost use Rattle.pelgaisti_c.specs.Calls.{are_written};
 ghost use Rattle.pelgaisti_c.specs.Sessions.{IsPublished, IsTurn, AreToWake, HasToldNone, IsToldTurn, IsPerformedAtOnce, IsRefusedAtOnce, IsToldPerformed, IsToldRefused, HasToldNobody, MayCall, IsElsewhere, IsAnswered, IsPieceTaken, IsHeard, IsRetired};
 ghost use Rattle.pelgaisti_c.specs.declared.session_share.SessionShare.{SessionShare};
 
-use crate::numbers::{AnswerNumbers, CallNumbers, EntryNumbers, PassNumbers};
+use crate::pointers::{
+    AnswerPointer, CallPointer, EntryList, PassPointer, SessionList, SessionPointer, SizePointer,
+    U32Pointer, U64Pointer,
+};
 use crate::session_calls;
-use crate::session_handle::SessionHandle;
 use crate::status::{
     CLOSED, ELSEWHERE, NO_MEMORY, NO_ROOM, NO_SUCH_MODE, NO_SUCH_OP, NOT_SERVED, NOTHING_PENDING,
-    OK, OTHER_OFFICE, PENDING, RETIRED,
+    NULL_POINTER, OK, OTHER_OFFICE, PENDING, RETIRED,
 };
 use std::alloc::Global;
 
@@ -22,25 +26,35 @@ use std::alloc::Global;
 #[unsafe(no_mangle)]
 pub extern "C" fn pelgaisti_raw_session_publish(
     alloc: Global,
-    session: &mut SessionHandle,
-    call: &CallNumbers,
-    posted: &mut u32,
+    session: &mut SessionPointer,
+    call: &mut CallPointer,
+    posted: &mut U32Pointer,
 ) -> u32
-    ensures ok { result ≡ OK → (before after : SessionShare) × (session.old.held.share ≡ Some before) × (session.new.held.share ≡ Some after)
-        × IsPublished before after call.now posted.new }
-    ensures posted { result ≡ OK → (1 ≤ posted.new) × (posted.new ≤ 2) }
-    ensures failed { result ≢ OK → (session.new.held.share ≡ session.old.held.share) × (posted.new ≡ posted.old) }
-    ensures open { session.new.is_open ≡ session.old.is_open }
-    ensures closed { result ≡ CLOSED ↔ (session.old.is_open ≢ 1) }
-    ensures call { NO_SUCH_OP ≤ result → result ≤ NO_SUCH_MODE → (session.old.is_open ≡ 1) × IsCallFault call.now result }
-    ensures retired { result ≡ RETIRED → (share : SessionShare) × (session.old.held.share ≡ Some share) × (share.session.retired ≡ true) × ((asked : Call) × IsCall call.now asked) }
-    ensures pending { result ≡ PENDING → (share : SessionShare) × (session.old.held.share ≡ Some share) × (share.session.pending ≢ None) × ((asked : Call) × IsCall call.now asked) }
-    ensures statuses { (result ≡ OK) ⊎ ((result ≡ CLOSED) ⊎ ((result ≡ RETIRED) ⊎ ((result ≡ PENDING) ⊎ ((NO_SUCH_OP ≤ result) × (result ≤ NO_SUCH_MODE))))) }
+    ensures null { result ≡ NULL_POINTER ↔ ((session.old.at ≡ null_ptr) ⊎ ((call.old.at ≡ null_ptr) ⊎ (posted.old.at ≡ null_ptr))) }
+    ensures ok { result ≡ OK → (before after : SessionShare) × (session.old.behind.held.share ≡ Some before) × (session.new.behind.held.share ≡ Some after)
+        × IsPublished before after call.old.behind posted.new.behind }
+    ensures posted { result ≡ OK → (1 ≤ posted.new.behind) × (posted.new.behind ≤ 2) }
+    ensures failed { result ≢ OK → (session.new.behind.held.share ≡ session.old.behind.held.share) × (posted.new.behind ≡ posted.old.behind) }
+    ensures open { session.new.behind.is_open ≡ session.old.behind.is_open }
+    ensures closed { result ≢ NULL_POINTER → (result ≡ CLOSED ↔ (session.old.behind.is_open ≢ 1)) }
+    ensures call { NO_SUCH_OP ≤ result → result ≤ NO_SUCH_MODE → (session.old.behind.is_open ≡ 1) × IsCallFault call.old.behind result }
+    ensures retired { result ≡ RETIRED → (share : SessionShare) × (session.old.behind.held.share ≡ Some share) × (share.session.retired ≡ true) × ((asked : Call) × IsCall call.old.behind asked) }
+    ensures pending { result ≡ PENDING → (share : SessionShare) × (session.old.behind.held.share ≡ Some share) × (share.session.pending ≢ None) × ((asked : Call) × IsCall call.old.behind asked) }
+    ensures statuses { (result ≡ NULL_POINTER) ⊎ ((result ≡ OK) ⊎ ((result ≡ CLOSED) ⊎ ((result ≡ RETIRED) ⊎ ((result ≡ PENDING) ⊎ ((NO_SUCH_OP ≤ result) × (result ≤ NO_SUCH_MODE)))))) }
 {
+    let Some(session) = session.get() else {
+        return NULL_POINTER;
+    };
+    let Some(call) = call.get() else {
+        return NULL_POINTER;
+    };
+    let Some(posted) = posted.get() else {
+        return NULL_POINTER;
+    };
     let Some(mut share) = session.take(alloc) else {
         return CLOSED;
     };
-    let status = session_calls::publish(&mut share, call, posted);
+    let status = session_calls::publish(&mut share, &call, posted);
     session.put(share);
     status
 }
@@ -51,24 +65,31 @@ pub extern "C" fn pelgaisti_raw_session_publish(
 #[unsafe(no_mangle)]
 pub extern "C" fn pelgaisti_raw_session_serve(
     alloc: Global,
-    session: &mut SessionHandle,
-    pass: &mut PassNumbers,
+    session: &mut SessionPointer,
+    pass: &mut PassPointer,
     told: &mut usize,
 ) -> u32
-    ensures ok { result ≡ OK → (before after : SessionShare) × (session.old.held.share ≡ Some before) × (session.new.held.share ≡ Some after)
-        × IsTurn before after pass.new.served pass.new.starved }
-    ensures told { result ≡ OK → (before after : SessionShare) × (session.old.held.share ≡ Some before) × (session.new.held.share ≡ Some after)
+    ensures null { result ≡ NULL_POINTER ↔ ((session.old.at ≡ null_ptr) ⊎ (pass.old.at ≡ null_ptr)) }
+    ensures ok { result ≡ OK → (before after : SessionShare) × (session.old.behind.held.share ≡ Some before) × (session.new.behind.held.share ≡ Some after)
+        × IsTurn before after pass.new.behind.served pass.new.behind.starved }
+    ensures told { result ≡ OK → (before after : SessionShare) × (session.old.behind.held.share ≡ Some before) × (session.new.behind.held.share ≡ Some after)
         × AreToWake before after told.new }
     ensures untold { result ≡ ELSEWHERE → told.new ≡ 0 }
-    ensures unread { result ≡ CLOSED → told.new ≡ told.old }
-    ensures failed { result ≢ OK → pass.new ≡ pass.old }
-    ensures open { session.new.is_open ≡ session.old.is_open }
-    ensures closed { result ≡ CLOSED ↔ (session.old.is_open ≢ 1) }
-    ensures kept { result ≡ CLOSED → session.new.held.share ≡ session.old.held.share }
-    ensures elsewhere { result ≡ ELSEWHERE → (before after : SessionShare) × (session.old.held.share ≡ Some before) × (session.new.held.share ≡ Some after)
+    ensures unread { (result ≡ NULL_POINTER) ⊎ (result ≡ CLOSED) → told.new ≡ told.old }
+    ensures failed { result ≢ OK → pass.new.behind ≡ pass.old.behind }
+    ensures open { session.new.behind.is_open ≡ session.old.behind.is_open }
+    ensures closed { result ≢ NULL_POINTER → (result ≡ CLOSED ↔ (session.old.behind.is_open ≢ 1)) }
+    ensures kept { (result ≡ NULL_POINTER) ⊎ (result ≡ CLOSED) → session.new.behind.held.share ≡ session.old.behind.held.share }
+    ensures elsewhere { result ≡ ELSEWHERE → (before after : SessionShare) × (session.old.behind.held.share ≡ Some before) × (session.new.behind.held.share ≡ Some after)
         × IsElsewhere before after }
-    ensures statuses { (result ≡ OK) ⊎ ((result ≡ CLOSED) ⊎ (result ≡ ELSEWHERE)) }
+    ensures statuses { (result ≡ NULL_POINTER) ⊎ ((result ≡ OK) ⊎ ((result ≡ CLOSED) ⊎ (result ≡ ELSEWHERE))) }
 {
+    let Some(session) = session.get() else {
+        return NULL_POINTER;
+    };
+    let Some(pass) = pass.get() else {
+        return NULL_POINTER;
+    };
     let Some(mut share) = session.take(alloc) else {
         return CLOSED;
     };
@@ -82,22 +103,36 @@ pub extern "C" fn pelgaisti_raw_session_serve(
 #[unsafe(no_mangle)]
 pub extern "C" fn pelgaisti_raw_session_serve_telling(
     alloc: Global,
-    session: &mut SessionHandle,
-    pass: &mut PassNumbers,
-    list: &mut [u32],
-    count: &mut usize,
+    session: &mut SessionPointer,
+    pass: &mut PassPointer,
+    list: &mut SessionList,
+    count: &mut SizePointer,
 ) -> u32
-    ensures ok { result ≡ OK → (before after : SessionShare) × (session.old.held.share ≡ Some before) × (session.new.held.share ≡ Some after)
-        × IsToldTurn before after pass.new.served pass.new.starved list.old list.new count.new }
-    ensures failed { result ≢ OK → (pass.new ≡ pass.old) × (list.new ≡ list.old) × (count.new ≡ count.old) }
-    ensures open { session.new.is_open ≡ session.old.is_open }
-    ensures closed { result ≡ CLOSED ↔ (session.old.is_open ≢ 1) }
-    ensures room { result ≡ NO_ROOM ↔ ((share : SessionShare) × (session.old.held.share ≡ Some share) × (length list.old < share.sessions)) }
-    ensures kept { (result ≡ CLOSED) ⊎ ((result ≡ NO_ROOM) ⊎ (result ≡ NO_MEMORY)) → session.new.held.share ≡ session.old.held.share }
-    ensures elsewhere { result ≡ ELSEWHERE → (before after : SessionShare) × (session.old.held.share ≡ Some before) × (session.new.held.share ≡ Some after)
+    ensures null { result ≡ NULL_POINTER ↔ ((session.old.at ≡ null_ptr) ⊎ ((pass.old.at ≡ null_ptr) ⊎ (IsNullList list.old.at list.old.room ⊎ (count.old.at ≡ null_ptr)))) }
+    ensures ok { result ≡ OK → (before after : SessionShare) × (session.old.behind.held.share ≡ Some before) × (session.new.behind.held.share ≡ Some after)
+        × IsToldTurn before after pass.new.behind.served pass.new.behind.starved list.old.behind list.new.behind count.new.behind }
+    ensures failed { result ≢ OK → (pass.new.behind ≡ pass.old.behind) × (list.new.behind ≡ list.old.behind) × (count.new.behind ≡ count.old.behind) }
+    ensures open { session.new.behind.is_open ≡ session.old.behind.is_open }
+    ensures closed { result ≢ NULL_POINTER → (result ≡ CLOSED ↔ (session.old.behind.is_open ≢ 1)) }
+    ensures room { result ≢ NULL_POINTER → (result ≡ NO_ROOM ↔ ((share : SessionShare) × (session.old.behind.held.share ≡ Some share) × (length list.old.behind < share.sessions))) }
+    ensures kept { (result ≡ NULL_POINTER) ⊎ ((result ≡ CLOSED) ⊎ ((result ≡ NO_ROOM) ⊎ (result ≡ NO_MEMORY))) → session.new.behind.held.share ≡ session.old.behind.held.share }
+    ensures elsewhere { result ≡ ELSEWHERE → (before after : SessionShare) × (session.old.behind.held.share ≡ Some before) × (session.new.behind.held.share ≡ Some after)
         × IsElsewhere before after }
-    ensures statuses { (result ≡ OK) ⊎ ((result ≡ CLOSED) ⊎ ((result ≡ NO_ROOM) ⊎ ((result ≡ NO_MEMORY) ⊎ (result ≡ ELSEWHERE)))) }
+    ensures statuses { (result ≡ NULL_POINTER) ⊎ ((result ≡ OK) ⊎ ((result ≡ CLOSED) ⊎ ((result ≡ NO_ROOM) ⊎ ((result ≡ NO_MEMORY) ⊎ (result ≡ ELSEWHERE))))) }
 {
+    let Some(session) = session.get() else {
+        return NULL_POINTER;
+    };
+    let Some(pass) = pass.get() else {
+        return NULL_POINTER;
+    };
+    if list.is_null() {
+        return NULL_POINTER;
+    }
+    let Some(count) = count.get() else {
+        return NULL_POINTER;
+    };
+    let list = list.items();
     let Some(mut share) = session.take(alloc) else {
         return CLOSED;
     };
@@ -113,37 +148,50 @@ pub extern "C" fn pelgaisti_raw_session_serve_telling(
 #[unsafe(no_mangle)]
 pub extern "C" fn pelgaisti_raw_session_perform_at_once(
     alloc: Global,
-    session: &mut SessionHandle,
-    call: &CallNumbers,
-    pass: &mut PassNumbers,
-    answer: &mut AnswerNumbers,
+    session: &mut SessionPointer,
+    call: &mut CallPointer,
+    pass: &mut PassPointer,
+    answer: &mut AnswerPointer,
     told: &mut usize,
 ) -> u32
-    ensures ok { result ≡ OK → (before after : SessionShare) × (session.old.held.share ≡ Some before) × (session.new.held.share ≡ Some after)
-        × IsPerformedAtOnce before after call.now answer.new pass.new.served pass.new.starved }
-    ensures told { (result ≡ OK) ⊎ (result ≡ NO_MEMORY) → (before after : SessionShare) × (session.old.held.share ≡ Some before) × (session.new.held.share ≡ Some after)
+    ensures null { result ≡ NULL_POINTER ↔ ((session.old.at ≡ null_ptr) ⊎ ((call.old.at ≡ null_ptr) ⊎ ((pass.old.at ≡ null_ptr) ⊎ (answer.old.at ≡ null_ptr)))) }
+    ensures ok { result ≡ OK → (before after : SessionShare) × (session.old.behind.held.share ≡ Some before) × (session.new.behind.held.share ≡ Some after)
+        × IsPerformedAtOnce before after call.old.behind answer.new.behind pass.new.behind.served pass.new.behind.starved }
+    ensures told { (result ≡ OK) ⊎ (result ≡ NO_MEMORY) → (before after : SessionShare) × (session.old.behind.held.share ≡ Some before) × (session.new.behind.held.share ≡ Some after)
         × AreToWake before after told.new }
     ensures untold { result ≡ ELSEWHERE → told.new ≡ 0 }
     ensures unread { result ≢ OK → result ≢ NO_MEMORY → result ≢ ELSEWHERE → told.new ≡ told.old }
-    ensures failed { result ≢ OK → (pass.new ≡ pass.old) × (answer.new ≡ answer.old) }
-    ensures same { result ≢ OK → result ≢ NO_MEMORY → (result ≢ ELSEWHERE) ⊎ ((share : SessionShare) × (session.old.held.share ≡ Some share) × (share.waker ≡ 0))
-        → session.new.held.share ≡ session.old.held.share }
-    ensures emptied { result ≡ ELSEWHERE → (before after : SessionShare) × (session.old.held.share ≡ Some before) × (session.new.held.share ≡ Some after)
+    ensures failed { result ≢ OK → (pass.new.behind ≡ pass.old.behind) × (answer.new.behind ≡ answer.old.behind) }
+    ensures same { result ≢ OK → result ≢ NO_MEMORY → (result ≢ ELSEWHERE) ⊎ ((share : SessionShare) × (session.old.behind.held.share ≡ Some share) × (share.waker ≡ 0))
+        → session.new.behind.held.share ≡ session.old.behind.held.share }
+    ensures emptied { result ≡ ELSEWHERE → (before after : SessionShare) × (session.old.behind.held.share ≡ Some before) × (session.new.behind.held.share ≡ Some after)
         × HasToldNone before after }
-    ensures open { session.new.is_open ≡ session.old.is_open }
-    ensures closed { result ≡ CLOSED ↔ (session.old.is_open ≢ 1) }
-    ensures call { NO_SUCH_OP ≤ result → result ≤ NO_SUCH_MODE → (session.old.is_open ≡ 1) × IsCallFault call.now result }
-    ensures retired { result ≡ RETIRED → (share : SessionShare) × (session.old.held.share ≡ Some share) × (share.session.retired ≡ true) × ((asked : Call) × IsCall call.now asked) }
-    ensures pending { result ≡ PENDING → (share : SessionShare) × (session.old.held.share ≡ Some share) × (share.session.pending ≢ None) × ((asked : Call) × IsCall call.now asked) }
-    ensures memory { result ≡ NO_MEMORY → (before after : SessionShare) × (session.old.held.share ≡ Some before) × (session.new.held.share ≡ Some after)
-        × IsRefusedAtOnce before after call.now }
-    ensures elsewhere { result ≡ ELSEWHERE → (share : SessionShare) × (session.old.held.share ≡ Some share) × (2 ≤ share.sessions) × MayCall share call.now }
-    ensures statuses { (result ≡ OK) ⊎ ((result ≡ CLOSED) ⊎ ((result ≡ RETIRED) ⊎ ((result ≡ PENDING) ⊎ ((result ≡ NO_MEMORY) ⊎ ((result ≡ ELSEWHERE) ⊎ ((NO_SUCH_OP ≤ result) × (result ≤ NO_SUCH_MODE))))))) }
+    ensures open { session.new.behind.is_open ≡ session.old.behind.is_open }
+    ensures closed { result ≢ NULL_POINTER → (result ≡ CLOSED ↔ (session.old.behind.is_open ≢ 1)) }
+    ensures call { NO_SUCH_OP ≤ result → result ≤ NO_SUCH_MODE → (session.old.behind.is_open ≡ 1) × IsCallFault call.old.behind result }
+    ensures retired { result ≡ RETIRED → (share : SessionShare) × (session.old.behind.held.share ≡ Some share) × (share.session.retired ≡ true) × ((asked : Call) × IsCall call.old.behind asked) }
+    ensures pending { result ≡ PENDING → (share : SessionShare) × (session.old.behind.held.share ≡ Some share) × (share.session.pending ≢ None) × ((asked : Call) × IsCall call.old.behind asked) }
+    ensures memory { result ≡ NO_MEMORY → (before after : SessionShare) × (session.old.behind.held.share ≡ Some before) × (session.new.behind.held.share ≡ Some after)
+        × IsRefusedAtOnce before after call.old.behind }
+    ensures elsewhere { result ≡ ELSEWHERE → (share : SessionShare) × (session.old.behind.held.share ≡ Some share) × (2 ≤ share.sessions) × MayCall share call.old.behind }
+    ensures statuses { (result ≡ NULL_POINTER) ⊎ ((result ≡ OK) ⊎ ((result ≡ CLOSED) ⊎ ((result ≡ RETIRED) ⊎ ((result ≡ PENDING) ⊎ ((result ≡ NO_MEMORY) ⊎ ((result ≡ ELSEWHERE) ⊎ ((NO_SUCH_OP ≤ result) × (result ≤ NO_SUCH_MODE)))))))) }
 {
+    let Some(session) = session.get() else {
+        return NULL_POINTER;
+    };
+    let Some(call) = call.get() else {
+        return NULL_POINTER;
+    };
+    let Some(pass) = pass.get() else {
+        return NULL_POINTER;
+    };
+    let Some(answer) = answer.get() else {
+        return NULL_POINTER;
+    };
     let Some(mut share) = session.take(alloc) else {
         return CLOSED;
     };
-    let status = session_calls::perform_at_once(&mut share, call, pass, answer, told);
+    let status = session_calls::perform_at_once(&mut share, &call, pass, answer, told);
     session.put(share);
     status
 }
@@ -154,32 +202,54 @@ pub extern "C" fn pelgaisti_raw_session_perform_at_once(
 #[unsafe(no_mangle)]
 pub extern "C" fn pelgaisti_raw_session_perform_telling(
     alloc: Global,
-    session: &mut SessionHandle,
-    call: &CallNumbers,
-    pass: &mut PassNumbers,
-    answer: &mut AnswerNumbers,
-    list: &mut [u32],
-    count: &mut usize,
+    session: &mut SessionPointer,
+    call: &mut CallPointer,
+    pass: &mut PassPointer,
+    answer: &mut AnswerPointer,
+    list: &mut SessionList,
+    count: &mut SizePointer,
 ) -> u32
-    ensures ok { result ≡ OK → (before after : SessionShare) × (session.old.held.share ≡ Some before) × (session.new.held.share ≡ Some after)
-        × IsToldPerformed before after call.now answer.new pass.new.served pass.new.starved list.old list.new count.new }
-    ensures failed { result ≢ OK → (pass.new ≡ pass.old) × (answer.new ≡ answer.old) }
-    ensures same { result ≢ OK → result ≢ NO_MEMORY → (session.new.held.share ≡ session.old.held.share) × (list.new ≡ list.old) × (count.new ≡ count.old) }
-    ensures open { session.new.is_open ≡ session.old.is_open }
-    ensures closed { result ≡ CLOSED ↔ (session.old.is_open ≢ 1) }
-    ensures room { result ≡ NO_ROOM ↔ ((share : SessionShare) × (session.old.held.share ≡ Some share) × (length list.old < share.sessions)) }
-    ensures call { NO_SUCH_OP ≤ result → result ≤ NO_SUCH_MODE → (session.old.is_open ≡ 1) × IsCallFault call.now result }
-    ensures retired { result ≡ RETIRED → (share : SessionShare) × (session.old.held.share ≡ Some share) × (share.session.retired ≡ true) × ((asked : Call) × IsCall call.now asked) }
-    ensures pending { result ≡ PENDING → (share : SessionShare) × (session.old.held.share ≡ Some share) × (share.session.pending ≢ None) × ((asked : Call) × IsCall call.now asked) }
-    ensures memory { result ≡ NO_MEMORY → (before after : SessionShare) × (session.old.held.share ≡ Some before) × (session.new.held.share ≡ Some after)
-        × (HasToldNobody before after call.now list.old list.new count.new ⊎ IsToldRefused before after call.now list.old list.new count.new) }
-    ensures elsewhere { result ≡ ELSEWHERE → (share : SessionShare) × (session.old.held.share ≡ Some share) × (2 ≤ share.sessions) × MayCall share call.now }
-    ensures statuses { (result ≡ OK) ⊎ ((result ≡ CLOSED) ⊎ ((result ≡ NO_ROOM) ⊎ ((result ≡ RETIRED) ⊎ ((result ≡ PENDING) ⊎ ((result ≡ NO_MEMORY) ⊎ ((result ≡ ELSEWHERE) ⊎ ((NO_SUCH_OP ≤ result) × (result ≤ NO_SUCH_MODE)))))))) }
+    ensures null { result ≡ NULL_POINTER ↔ ((session.old.at ≡ null_ptr) ⊎ ((call.old.at ≡ null_ptr) ⊎ ((pass.old.at ≡ null_ptr) ⊎ ((answer.old.at ≡ null_ptr) ⊎ (IsNullList list.old.at list.old.room ⊎ (count.old.at ≡ null_ptr)))))) }
+    ensures ok { result ≡ OK → (before after : SessionShare) × (session.old.behind.held.share ≡ Some before) × (session.new.behind.held.share ≡ Some after)
+        × IsToldPerformed before after call.old.behind answer.new.behind pass.new.behind.served pass.new.behind.starved list.old.behind list.new.behind count.new.behind }
+    ensures failed { result ≢ OK → (pass.new.behind ≡ pass.old.behind) × (answer.new.behind ≡ answer.old.behind) }
+    ensures same { result ≢ OK → result ≢ NO_MEMORY → (session.new.behind.held.share ≡ session.old.behind.held.share) × (list.new.behind ≡ list.old.behind) × (count.new.behind ≡ count.old.behind) }
+    ensures open { session.new.behind.is_open ≡ session.old.behind.is_open }
+    ensures closed { result ≢ NULL_POINTER → (result ≡ CLOSED ↔ (session.old.behind.is_open ≢ 1)) }
+    ensures room { result ≢ NULL_POINTER → (result ≡ NO_ROOM ↔ ((share : SessionShare) × (session.old.behind.held.share ≡ Some share) × (length list.old.behind < share.sessions))) }
+    ensures call { NO_SUCH_OP ≤ result → result ≤ NO_SUCH_MODE → (session.old.behind.is_open ≡ 1) × IsCallFault call.old.behind result }
+    ensures retired { result ≡ RETIRED → (share : SessionShare) × (session.old.behind.held.share ≡ Some share) × (share.session.retired ≡ true) × ((asked : Call) × IsCall call.old.behind asked) }
+    ensures pending { result ≡ PENDING → (share : SessionShare) × (session.old.behind.held.share ≡ Some share) × (share.session.pending ≢ None) × ((asked : Call) × IsCall call.old.behind asked) }
+    ensures memory { result ≡ NO_MEMORY → (before after : SessionShare) × (session.old.behind.held.share ≡ Some before) × (session.new.behind.held.share ≡ Some after)
+        × (HasToldNobody before after call.old.behind list.old.behind list.new.behind count.new.behind ⊎ IsToldRefused before after call.old.behind list.old.behind list.new.behind count.new.behind) }
+    ensures elsewhere { result ≡ ELSEWHERE → (share : SessionShare) × (session.old.behind.held.share ≡ Some share) × (2 ≤ share.sessions) × MayCall share call.old.behind }
+    ensures statuses { (result ≡ NULL_POINTER) ⊎ ((result ≡ OK) ⊎ ((result ≡ CLOSED) ⊎ ((result ≡ NO_ROOM) ⊎ ((result ≡ RETIRED) ⊎ ((result ≡ PENDING) ⊎ ((result ≡ NO_MEMORY) ⊎ ((result ≡ ELSEWHERE) ⊎ ((NO_SUCH_OP ≤ result) × (result ≤ NO_SUCH_MODE))))))))) }
 {
+    let Some(session) = session.get() else {
+        return NULL_POINTER;
+    };
+    let Some(call) = call.get() else {
+        return NULL_POINTER;
+    };
+    let Some(pass) = pass.get() else {
+        return NULL_POINTER;
+    };
+    let Some(answer) = answer.get() else {
+        return NULL_POINTER;
+    };
+    if list.is_null() {
+        return NULL_POINTER;
+    }
+    let Some(count) = count.get() else {
+        return NULL_POINTER;
+    };
+    let list = list.items();
     let Some(mut share) = session.take(alloc) else {
         return CLOSED;
     };
-    let status = session_calls::perform_telling(alloc, &mut share, call, pass, answer, list, count);
+    let status = session_calls::perform_telling(
+        alloc, &mut share, &call, pass, answer, list, count,
+    );
     session.put(share);
     status
 }
@@ -188,18 +258,25 @@ pub extern "C" fn pelgaisti_raw_session_perform_telling(
 #[unsafe(no_mangle)]
 pub extern "C" fn pelgaisti_raw_session_collect(
     alloc: Global,
-    session: &mut SessionHandle,
-    answer: &mut AnswerNumbers,
+    session: &mut SessionPointer,
+    answer: &mut AnswerPointer,
 ) -> u32
-    ensures ok { result ≡ OK → (before after : SessionShare) × (session.old.held.share ≡ Some before) × (session.new.held.share ≡ Some after)
-        × IsAnswered before after answer.new }
-    ensures failed { result ≢ OK → (session.new.held.share ≡ session.old.held.share) × (answer.new ≡ answer.old) }
-    ensures open { session.new.is_open ≡ session.old.is_open }
-    ensures closed { result ≡ CLOSED ↔ (session.old.is_open ≢ 1) }
-    ensures nothing { result ≡ NOTHING_PENDING → (share : SessionShare) × (session.old.held.share ≡ Some share) × (share.session.pending ≡ None) }
-    ensures late { result ≡ NOT_SERVED → (share : SessionShare) × (session.old.held.share ≡ Some share) × (share.session.pending ≢ None) × ¬ (IsPendingServed share.session) }
-    ensures statuses { (result ≡ OK) ⊎ ((result ≡ CLOSED) ⊎ ((result ≡ NOTHING_PENDING) ⊎ (result ≡ NOT_SERVED))) }
+    ensures null { result ≡ NULL_POINTER ↔ ((session.old.at ≡ null_ptr) ⊎ (answer.old.at ≡ null_ptr)) }
+    ensures ok { result ≡ OK → (before after : SessionShare) × (session.old.behind.held.share ≡ Some before) × (session.new.behind.held.share ≡ Some after)
+        × IsAnswered before after answer.new.behind }
+    ensures failed { result ≢ OK → (session.new.behind.held.share ≡ session.old.behind.held.share) × (answer.new.behind ≡ answer.old.behind) }
+    ensures open { session.new.behind.is_open ≡ session.old.behind.is_open }
+    ensures closed { result ≢ NULL_POINTER → (result ≡ CLOSED ↔ (session.old.behind.is_open ≢ 1)) }
+    ensures nothing { result ≡ NOTHING_PENDING → (share : SessionShare) × (session.old.behind.held.share ≡ Some share) × (share.session.pending ≡ None) }
+    ensures late { result ≡ NOT_SERVED → (share : SessionShare) × (session.old.behind.held.share ≡ Some share) × (share.session.pending ≢ None) × ¬ (IsPendingServed share.session) }
+    ensures statuses { (result ≡ NULL_POINTER) ⊎ ((result ≡ OK) ⊎ ((result ≡ CLOSED) ⊎ ((result ≡ NOTHING_PENDING) ⊎ (result ≡ NOT_SERVED)))) }
 {
+    let Some(session) = session.get() else {
+        return NULL_POINTER;
+    };
+    let Some(answer) = answer.get() else {
+        return NULL_POINTER;
+    };
     let Some(mut share) = session.take(alloc) else {
         return CLOSED;
     };
@@ -213,19 +290,33 @@ pub extern "C" fn pelgaisti_raw_session_collect(
 #[unsafe(no_mangle)]
 pub extern "C" fn pelgaisti_raw_session_take_history(
     alloc: Global,
-    session: &mut SessionHandle,
-    first: &mut u64,
-    entries: &mut [EntryNumbers],
-    count: &mut usize,
+    session: &mut SessionPointer,
+    first: &mut U64Pointer,
+    entries: &mut EntryList,
+    count: &mut SizePointer,
 ) -> u32
-    ensures ok { result ≡ OK → (before after : SessionShare) × (session.old.held.share ≡ Some before) × (session.new.held.share ≡ Some after)
-        × IsPieceTaken before after first.new count.new entries.old entries.new }
-    ensures failed { result ≢ OK → (session.new.held.share ≡ session.old.held.share) × (first.new ≡ first.old) × (entries.new ≡ entries.old) × (count.new ≡ count.old) }
-    ensures open { session.new.is_open ≡ session.old.is_open }
-    ensures closed { result ≡ CLOSED ↔ (session.old.is_open ≢ 1) }
-    ensures elsewhere { result ≡ ELSEWHERE → (share : SessionShare) × (session.old.held.share ≡ Some share) × (2 ≤ share.sessions) }
-    ensures statuses { (result ≡ OK) ⊎ ((result ≡ CLOSED) ⊎ ((result ≡ NO_MEMORY) ⊎ (result ≡ ELSEWHERE))) }
+    ensures null { result ≡ NULL_POINTER ↔ ((session.old.at ≡ null_ptr) ⊎ ((first.old.at ≡ null_ptr) ⊎ (IsNullList entries.old.at entries.old.room ⊎ (count.old.at ≡ null_ptr)))) }
+    ensures ok { result ≡ OK → (before after : SessionShare) × (session.old.behind.held.share ≡ Some before) × (session.new.behind.held.share ≡ Some after)
+        × IsPieceTaken before after first.new.behind count.new.behind entries.old.behind entries.new.behind }
+    ensures failed { result ≢ OK → (session.new.behind.held.share ≡ session.old.behind.held.share) × (first.new.behind ≡ first.old.behind) × (entries.new.behind ≡ entries.old.behind) × (count.new.behind ≡ count.old.behind) }
+    ensures open { session.new.behind.is_open ≡ session.old.behind.is_open }
+    ensures closed { result ≢ NULL_POINTER → (result ≡ CLOSED ↔ (session.old.behind.is_open ≢ 1)) }
+    ensures elsewhere { result ≡ ELSEWHERE → (share : SessionShare) × (session.old.behind.held.share ≡ Some share) × (2 ≤ share.sessions) }
+    ensures statuses { (result ≡ NULL_POINTER) ⊎ ((result ≡ OK) ⊎ ((result ≡ CLOSED) ⊎ ((result ≡ NO_MEMORY) ⊎ (result ≡ ELSEWHERE)))) }
 {
+    let Some(session) = session.get() else {
+        return NULL_POINTER;
+    };
+    let Some(first) = first.get() else {
+        return NULL_POINTER;
+    };
+    if entries.is_null() {
+        return NULL_POINTER;
+    }
+    let Some(count) = count.get() else {
+        return NULL_POINTER;
+    };
+    let entries = entries.items();
     let Some(mut share) = session.take(alloc) else {
         return CLOSED;
     };
@@ -238,15 +329,22 @@ pub extern "C" fn pelgaisti_raw_session_take_history(
 #[unsafe(no_mangle)]
 pub extern "C" fn pelgaisti_raw_session_seen(
     alloc: Global,
-    session: &mut SessionHandle,
-    seen: &mut u64,
+    session: &mut SessionPointer,
+    seen: &mut U64Pointer,
 ) -> u32
-    ensures ok { result ≡ OK → (share : SessionShare) × (session.old.held.share ≡ Some share) × (seen.new ≡ length share.session.front) }
-    ensures failed { result ≢ OK → seen.new ≡ seen.old }
-    ensures same { (session.new.is_open ≡ session.old.is_open) × (session.new.held.share ≡ session.old.held.share) }
-    ensures closed { result ≡ CLOSED ↔ (session.old.is_open ≢ 1) }
-    ensures statuses { (result ≡ OK) ⊎ (result ≡ CLOSED) }
+    ensures null { result ≡ NULL_POINTER ↔ ((session.old.at ≡ null_ptr) ⊎ (seen.old.at ≡ null_ptr)) }
+    ensures ok { result ≡ OK → (share : SessionShare) × (session.old.behind.held.share ≡ Some share) × (seen.new.behind ≡ length share.session.front) }
+    ensures failed { result ≢ OK → seen.new.behind ≡ seen.old.behind }
+    ensures same { (session.new.behind.is_open ≡ session.old.behind.is_open) × (session.new.behind.held.share ≡ session.old.behind.held.share) }
+    ensures closed { result ≢ NULL_POINTER → (result ≡ CLOSED ↔ (session.old.behind.is_open ≢ 1)) }
+    ensures statuses { (result ≡ NULL_POINTER) ⊎ ((result ≡ OK) ⊎ (result ≡ CLOSED)) }
 {
+    let Some(session) = session.get() else {
+        return NULL_POINTER;
+    };
+    let Some(seen) = seen.get() else {
+        return NULL_POINTER;
+    };
     let Some(share) = session.take(alloc) else {
         return CLOSED;
     };
@@ -259,15 +357,22 @@ pub extern "C" fn pelgaisti_raw_session_seen(
 #[unsafe(no_mangle)]
 pub extern "C" fn pelgaisti_raw_session_mark(
     alloc: Global,
-    session: &mut SessionHandle,
-    mark: &mut u64,
+    session: &mut SessionPointer,
+    mark: &mut U64Pointer,
 ) -> u32
-    ensures ok { result ≡ OK → (share : SessionShare) × (session.old.held.share ≡ Some share) × (mark.new ≡ share.mark) }
-    ensures failed { result ≢ OK → mark.new ≡ mark.old }
-    ensures same { (session.new.is_open ≡ session.old.is_open) × (session.new.held.share ≡ session.old.held.share) }
-    ensures closed { result ≡ CLOSED ↔ (session.old.is_open ≢ 1) }
-    ensures statuses { (result ≡ OK) ⊎ (result ≡ CLOSED) }
+    ensures null { result ≡ NULL_POINTER ↔ ((session.old.at ≡ null_ptr) ⊎ (mark.old.at ≡ null_ptr)) }
+    ensures ok { result ≡ OK → (share : SessionShare) × (session.old.behind.held.share ≡ Some share) × (mark.new.behind ≡ share.mark) }
+    ensures failed { result ≢ OK → mark.new.behind ≡ mark.old.behind }
+    ensures same { (session.new.behind.is_open ≡ session.old.behind.is_open) × (session.new.behind.held.share ≡ session.old.behind.held.share) }
+    ensures closed { result ≢ NULL_POINTER → (result ≡ CLOSED ↔ (session.old.behind.is_open ≢ 1)) }
+    ensures statuses { (result ≡ NULL_POINTER) ⊎ ((result ≡ OK) ⊎ (result ≡ CLOSED)) }
 {
+    let Some(session) = session.get() else {
+        return NULL_POINTER;
+    };
+    let Some(mark) = mark.get() else {
+        return NULL_POINTER;
+    };
     let Some(share) = session.take(alloc) else {
         return CLOSED;
     };
@@ -280,15 +385,19 @@ pub extern "C" fn pelgaisti_raw_session_mark(
 #[unsafe(no_mangle)]
 pub extern "C" fn pelgaisti_raw_session_waker(
     alloc: Global,
-    session: &mut SessionHandle,
+    session: &mut SessionPointer,
     waker: &mut u64,
 ) -> u32
-    ensures ok { result ≡ OK → (share : SessionShare) × (session.old.held.share ≡ Some share) × (waker.new ≡ share.waker) }
+    ensures null { result ≡ NULL_POINTER ↔ (session.old.at ≡ null_ptr) }
+    ensures ok { result ≡ OK → (share : SessionShare) × (session.old.behind.held.share ≡ Some share) × (waker.new ≡ share.waker) }
     ensures failed { result ≢ OK → waker.new ≡ waker.old }
-    ensures same { (session.new.is_open ≡ session.old.is_open) × (session.new.held.share ≡ session.old.held.share) }
-    ensures closed { result ≡ CLOSED ↔ (session.old.is_open ≢ 1) }
-    ensures statuses { (result ≡ OK) ⊎ (result ≡ CLOSED) }
+    ensures same { (session.new.behind.is_open ≡ session.old.behind.is_open) × (session.new.behind.held.share ≡ session.old.behind.held.share) }
+    ensures closed { result ≢ NULL_POINTER → (result ≡ CLOSED ↔ (session.old.behind.is_open ≢ 1)) }
+    ensures statuses { (result ≡ NULL_POINTER) ⊎ ((result ≡ OK) ⊎ (result ≡ CLOSED)) }
 {
+    let Some(session) = session.get() else {
+        return NULL_POINTER;
+    };
     let Some(share) = session.take(alloc) else {
         return CLOSED;
     };
@@ -302,18 +411,22 @@ pub extern "C" fn pelgaisti_raw_session_waker(
 #[unsafe(no_mangle)]
 pub extern "C" fn pelgaisti_raw_session_told(
     alloc: Global,
-    session: &mut SessionHandle,
+    session: &mut SessionPointer,
     first: usize,
     list: &mut [u32],
     count: &mut usize,
 ) -> u32
-    ensures ok { result ≡ OK → (share : SessionShare) × (session.old.held.share ≡ Some share)
+    ensures null { result ≡ NULL_POINTER ↔ (session.old.at ≡ null_ptr) }
+    ensures ok { result ≡ OK → (share : SessionShare) × (session.old.behind.held.share ≡ Some share)
         × (list.new ≡ are_written (λ u. u) (drop first share.told.list) list.old) × (count.new ≡ length share.told.list) }
     ensures failed { result ≢ OK → (list.new ≡ list.old) × (count.new ≡ count.old) }
-    ensures same { (session.new.is_open ≡ session.old.is_open) × (session.new.held.share ≡ session.old.held.share) }
-    ensures closed { result ≡ CLOSED ↔ (session.old.is_open ≢ 1) }
-    ensures statuses { (result ≡ OK) ⊎ (result ≡ CLOSED) }
+    ensures same { (session.new.behind.is_open ≡ session.old.behind.is_open) × (session.new.behind.held.share ≡ session.old.behind.held.share) }
+    ensures closed { result ≢ NULL_POINTER → (result ≡ CLOSED ↔ (session.old.behind.is_open ≢ 1)) }
+    ensures statuses { (result ≡ NULL_POINTER) ⊎ ((result ≡ OK) ⊎ (result ≡ CLOSED)) }
 {
+    let Some(session) = session.get() else {
+        return NULL_POINTER;
+    };
     let Some(share) = session.take(alloc) else {
         return CLOSED;
     };
@@ -327,19 +440,26 @@ pub extern "C" fn pelgaisti_raw_session_told(
 #[unsafe(no_mangle)]
 pub extern "C" fn pelgaisti_raw_session_hear(
     alloc: Global,
-    session: &mut SessionHandle,
-    other: &mut SessionHandle,
+    session: &mut SessionPointer,
+    other: &mut SessionPointer,
 ) -> u32
-    requires one_office { (a b : SessionShare) → session.old.held.share ≡ Some a → other.old.held.share ≡ Some b → a.mark ≡ b.mark → a.office.value ≡ b.office.value }
-    ensures ok { result ≡ OK → (before after heard : SessionShare) × (session.old.held.share ≡ Some before) × (session.new.held.share ≡ Some after)
-        × (other.old.held.share ≡ Some heard) × (before.mark ≡ heard.mark) × IsHeard before heard after }
-    ensures failed { result ≢ OK → session.new.held.share ≡ session.old.held.share }
-    ensures open { session.new.is_open ≡ session.old.is_open }
-    ensures other { (other.new.is_open ≡ other.old.is_open) × (other.new.held.share ≡ other.old.held.share) }
-    ensures closed { result ≡ CLOSED ↔ ((session.old.is_open ≢ 1) ⊎ (other.old.is_open ≢ 1)) }
-    ensures other_office { result ≡ OTHER_OFFICE → (a b : SessionShare) × (session.old.held.share ≡ Some a) × (other.old.held.share ≡ Some b) × (a.mark ≢ b.mark) }
-    ensures statuses { (result ≡ OK) ⊎ ((result ≡ CLOSED) ⊎ (result ≡ OTHER_OFFICE)) }
+    requires one_office { session.old.at ≢ null_ptr → other.old.at ≢ null_ptr → (a b : SessionShare) → session.old.behind.held.share ≡ Some a → other.old.behind.held.share ≡ Some b → a.mark ≡ b.mark → a.office.value ≡ b.office.value }
+    ensures null { result ≡ NULL_POINTER ↔ ((session.old.at ≡ null_ptr) ⊎ (other.old.at ≡ null_ptr)) }
+    ensures ok { result ≡ OK → (before after heard : SessionShare) × (session.old.behind.held.share ≡ Some before) × (session.new.behind.held.share ≡ Some after)
+        × (other.old.behind.held.share ≡ Some heard) × (before.mark ≡ heard.mark) × IsHeard before heard after }
+    ensures failed { result ≢ OK → session.new.behind.held.share ≡ session.old.behind.held.share }
+    ensures open { session.new.behind.is_open ≡ session.old.behind.is_open }
+    ensures other { (other.new.behind.is_open ≡ other.old.behind.is_open) × (other.new.behind.held.share ≡ other.old.behind.held.share) }
+    ensures closed { result ≢ NULL_POINTER → (result ≡ CLOSED ↔ ((session.old.behind.is_open ≢ 1) ⊎ (other.old.behind.is_open ≢ 1))) }
+    ensures other_office { result ≡ OTHER_OFFICE → (a b : SessionShare) × (session.old.behind.held.share ≡ Some a) × (other.old.behind.held.share ≡ Some b) × (a.mark ≢ b.mark) }
+    ensures statuses { (result ≡ NULL_POINTER) ⊎ ((result ≡ OK) ⊎ ((result ≡ CLOSED) ⊎ (result ≡ OTHER_OFFICE))) }
 {
+    let Some(session) = session.get() else {
+        return NULL_POINTER;
+    };
+    let Some(other) = other.get() else {
+        return NULL_POINTER;
+    };
     if session.is_open != 1 || other.is_open != 1 {
         return CLOSED;
     }
@@ -358,16 +478,20 @@ pub extern "C" fn pelgaisti_raw_session_hear(
 
 /// Retires the session: it publishes no more calls.
 #[unsafe(no_mangle)]
-pub extern "C" fn pelgaisti_raw_session_retire(alloc: Global, session: &mut SessionHandle) -> u32
-    ensures ok { result ≡ OK → (before after : SessionShare) × (session.old.held.share ≡ Some before) × (session.new.held.share ≡ Some after)
+pub extern "C" fn pelgaisti_raw_session_retire(alloc: Global, session: &mut SessionPointer) -> u32
+    ensures null { result ≡ NULL_POINTER ↔ (session.old.at ≡ null_ptr) }
+    ensures ok { result ≡ OK → (before after : SessionShare) × (session.old.behind.held.share ≡ Some before) × (session.new.behind.held.share ≡ Some after)
         × IsRetired before after }
-    ensures failed { result ≢ OK → session.new.held.share ≡ session.old.held.share }
-    ensures open { session.new.is_open ≡ session.old.is_open }
-    ensures closed { result ≡ CLOSED ↔ (session.old.is_open ≢ 1) }
-    ensures retired { result ≡ RETIRED → (share : SessionShare) × (session.old.held.share ≡ Some share) × (share.session.retired ≡ true) }
-    ensures pending { result ≡ PENDING → (share : SessionShare) × (session.old.held.share ≡ Some share) × (share.session.pending ≢ None) }
-    ensures statuses { (result ≡ OK) ⊎ ((result ≡ CLOSED) ⊎ ((result ≡ RETIRED) ⊎ (result ≡ PENDING))) }
+    ensures failed { result ≢ OK → session.new.behind.held.share ≡ session.old.behind.held.share }
+    ensures open { session.new.behind.is_open ≡ session.old.behind.is_open }
+    ensures closed { result ≢ NULL_POINTER → (result ≡ CLOSED ↔ (session.old.behind.is_open ≢ 1)) }
+    ensures retired { result ≡ RETIRED → (share : SessionShare) × (session.old.behind.held.share ≡ Some share) × (share.session.retired ≡ true) }
+    ensures pending { result ≡ PENDING → (share : SessionShare) × (session.old.behind.held.share ≡ Some share) × (share.session.pending ≢ None) }
+    ensures statuses { (result ≡ NULL_POINTER) ⊎ ((result ≡ OK) ⊎ ((result ≡ CLOSED) ⊎ ((result ≡ RETIRED) ⊎ (result ≡ PENDING)))) }
 {
+    let Some(session) = session.get() else {
+        return NULL_POINTER;
+    };
     let Some(mut share) = session.take(alloc) else {
         return CLOSED;
     };

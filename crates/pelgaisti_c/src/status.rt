@@ -1,7 +1,7 @@
 //! The statuses that exports return. A status other than `OK` means that nothing was written and nothing has changed,
 //! with four exceptions: `ELSEWHERE` may leave a pending call listed that was not, and empties the list of whom to wake;
 //! `NO_MEMORY` of a call that was to be performed at once comes behind a pass; `NO_MEMORY` of a path comes behind the calls
-//! that were served, and any other status of a path writes 0 to `count`; and `COPIED` closes the session's handle.
+//! that were served, and any other status of a path but `NULL_POINTER` writes 0 to `count`; and `COPIED` closes the session's handle.
 
 /// The call succeeded.
 pub const OK: u32 = 0;
@@ -54,7 +54,7 @@ pub const MISSING: u32 = 15;
 /// Another share of the office still exists, which means that a handle was copied.
 pub const COPIED: u32 = 16;
 
-/// A pointer is null.
+/// A pointer is null and must not be.
 pub const NULL_POINTER: u32 = 17;
 
 /// The entry at this place of the history was let go. (18 is a status of the header's own functions.)

@@ -1,16 +1,17 @@
 //! The exports of one turn of a session's call. A whole call is a loop of turns, with waits between them, which no archive may make.
 
 ghost use Rattle.std.specs.Prelude.{◌≡◌, ◌≢◌, ◌≤◌, ◌⊎◌, ◌↔◌, true, Some, None};
+ghost use denote.RawPtr.{null_ptr};
 ghost use Rattle.lock_rules.specs.declared.calls.Call.{Call};
 ghost use Rattle.pelgaisti_c.specs.Numbers.{IsCall, IsCallFault};
 ghost use Rattle.pelgaisti_c.specs.Sessions.{AreToWake};
 ghost use Rattle.pelgaisti_c.specs.Turns.{IsTurnAnswered, IsTurnStarved, IsTurnMade, IsLookAnswered, IsLookStarved, IsLookMade};
 ghost use Rattle.pelgaisti_c.specs.declared.session_share.SessionShare.{SessionShare};
 
-use crate::numbers::{AnswerNumbers, CallNumbers};
-use crate::session_handle::SessionHandle;
+use crate::pointers::{AnswerPointer, CallPointer, SessionPointer};
 use crate::status::{
-    CLOSED, NO_MEMORY, NO_SUCH_MODE, NO_SUCH_OP, NOT_SERVED, NOTHING_PENDING, OK, PENDING, RETIRED,
+    CLOSED, NO_MEMORY, NO_SUCH_MODE, NO_SUCH_OP, NOT_SERVED, NOTHING_PENDING, NULL_POINTER, OK,
+    PENDING, RETIRED,
 };
 use crate::turn_calls;
 use std::alloc::Global;
@@ -24,37 +25,47 @@ use std::alloc::Global;
 #[unsafe(no_mangle)]
 pub extern "C" fn pelgaisti_raw_session_turn(
     alloc: Global,
-    session: &mut SessionHandle,
-    call: &CallNumbers,
+    session: &mut SessionPointer,
+    call: &mut CallPointer,
     made: u64,
     turns: u64,
-    answer: &mut AnswerNumbers,
+    answer: &mut AnswerPointer,
     wait: &mut u32,
     told: &mut usize,
 ) -> u32
-    ensures ok { result ≡ OK → (before after : SessionShare) × (session.old.held.share ≡ Some before) × (session.new.held.share ≡ Some after)
-        × IsTurnAnswered before after call.now answer.new }
-    ensures memory { result ≡ NO_MEMORY → (before after : SessionShare) × (session.old.held.share ≡ Some before) × (session.new.held.share ≡ Some after)
-        × IsTurnStarved before after call.now }
-    ensures late { result ≡ NOT_SERVED → (before after : SessionShare) × (session.old.held.share ≡ Some before) × (session.new.held.share ≡ Some after)
-        × IsTurnMade before after call.now made turns wait.new }
-    ensures told { (result ≡ OK) ⊎ ((result ≡ NO_MEMORY) ⊎ (result ≡ NOT_SERVED)) → (before after : SessionShare) × (session.old.held.share ≡ Some before) × (session.new.held.share ≡ Some after)
+    ensures null { result ≡ NULL_POINTER ↔ ((session.old.at ≡ null_ptr) ⊎ ((call.old.at ≡ null_ptr) ⊎ (answer.old.at ≡ null_ptr))) }
+    ensures ok { result ≡ OK → (before after : SessionShare) × (session.old.behind.held.share ≡ Some before) × (session.new.behind.held.share ≡ Some after)
+        × IsTurnAnswered before after call.old.behind answer.new.behind }
+    ensures memory { result ≡ NO_MEMORY → (before after : SessionShare) × (session.old.behind.held.share ≡ Some before) × (session.new.behind.held.share ≡ Some after)
+        × IsTurnStarved before after call.old.behind }
+    ensures late { result ≡ NOT_SERVED → (before after : SessionShare) × (session.old.behind.held.share ≡ Some before) × (session.new.behind.held.share ≡ Some after)
+        × IsTurnMade before after call.old.behind made turns wait.new }
+    ensures told { (result ≡ OK) ⊎ ((result ≡ NO_MEMORY) ⊎ (result ≡ NOT_SERVED)) → (before after : SessionShare) × (session.old.behind.held.share ≡ Some before) × (session.new.behind.held.share ≡ Some after)
         × AreToWake before after told.new }
-    ensures first { (result ≡ OK) ⊎ ((result ≡ NO_MEMORY) ⊎ (result ≡ NOT_SERVED)) → made ≡ 0 → (share : SessionShare) × (session.old.held.share ≡ Some share) × (share.session.pending ≡ None) }
-    ensures failed { result ≢ OK → answer.new ≡ answer.old }
+    ensures first { (result ≡ OK) ⊎ ((result ≡ NO_MEMORY) ⊎ (result ≡ NOT_SERVED)) → made ≡ 0 → (share : SessionShare) × (session.old.behind.held.share ≡ Some share) × (share.session.pending ≡ None) }
+    ensures failed { result ≢ OK → answer.new.behind ≡ answer.old.behind }
     ensures unread { result ≢ NOT_SERVED → wait.new ≡ wait.old }
-    ensures same { result ≢ OK → result ≢ NO_MEMORY → result ≢ NOT_SERVED → (session.new.held.share ≡ session.old.held.share) × (told.new ≡ told.old) }
-    ensures open { session.new.is_open ≡ session.old.is_open }
-    ensures closed { result ≡ CLOSED ↔ (session.old.is_open ≢ 1) }
-    ensures call { NO_SUCH_OP ≤ result → result ≤ NO_SUCH_MODE → (session.old.is_open ≡ 1) × IsCallFault call.now result }
-    ensures retired { result ≡ RETIRED → (share : SessionShare) × (session.old.held.share ≡ Some share) × (share.session.retired ≡ true) × ((asked : Call) × IsCall call.now asked) }
-    ensures pending { result ≡ PENDING → (made ≡ 0) × ((share : SessionShare) × (session.old.held.share ≡ Some share) × (share.session.pending ≢ None) × ((asked : Call) × IsCall call.now asked)) }
-    ensures statuses { (result ≡ OK) ⊎ ((result ≡ CLOSED) ⊎ ((result ≡ RETIRED) ⊎ ((result ≡ PENDING) ⊎ ((result ≡ NO_MEMORY) ⊎ ((result ≡ NOT_SERVED) ⊎ ((NO_SUCH_OP ≤ result) × (result ≤ NO_SUCH_MODE))))))) }
+    ensures same { result ≢ OK → result ≢ NO_MEMORY → result ≢ NOT_SERVED → (session.new.behind.held.share ≡ session.old.behind.held.share) × (told.new ≡ told.old) }
+    ensures open { session.new.behind.is_open ≡ session.old.behind.is_open }
+    ensures closed { result ≢ NULL_POINTER → (result ≡ CLOSED ↔ (session.old.behind.is_open ≢ 1)) }
+    ensures call { NO_SUCH_OP ≤ result → result ≤ NO_SUCH_MODE → (session.old.behind.is_open ≡ 1) × IsCallFault call.old.behind result }
+    ensures retired { result ≡ RETIRED → (share : SessionShare) × (session.old.behind.held.share ≡ Some share) × (share.session.retired ≡ true) × ((asked : Call) × IsCall call.old.behind asked) }
+    ensures pending { result ≡ PENDING → (made ≡ 0) × ((share : SessionShare) × (session.old.behind.held.share ≡ Some share) × (share.session.pending ≢ None) × ((asked : Call) × IsCall call.old.behind asked)) }
+    ensures statuses { (result ≡ NULL_POINTER) ⊎ ((result ≡ OK) ⊎ ((result ≡ CLOSED) ⊎ ((result ≡ RETIRED) ⊎ ((result ≡ PENDING) ⊎ ((result ≡ NO_MEMORY) ⊎ ((result ≡ NOT_SERVED) ⊎ ((NO_SUCH_OP ≤ result) × (result ≤ NO_SUCH_MODE)))))))) }
 {
+    let Some(session) = session.get() else {
+        return NULL_POINTER;
+    };
+    let Some(call) = call.get() else {
+        return NULL_POINTER;
+    };
+    let Some(answer) = answer.get() else {
+        return NULL_POINTER;
+    };
     let Some(mut share) = session.take(alloc) else {
         return CLOSED;
     };
-    let status = turn_calls::turn(&mut share, call, made, turns, answer, wait, told);
+    let status = turn_calls::turn(&mut share, &call, made, turns, answer, wait, told);
     session.put(share);
     status
 }
@@ -64,29 +75,36 @@ pub extern "C" fn pelgaisti_raw_session_turn(
 #[unsafe(no_mangle)]
 pub extern "C" fn pelgaisti_raw_session_look(
     alloc: Global,
-    session: &mut SessionHandle,
+    session: &mut SessionPointer,
     looked: u64,
     turns: u64,
-    answer: &mut AnswerNumbers,
+    answer: &mut AnswerPointer,
     wait: &mut u32,
     told: &mut usize,
 ) -> u32
-    ensures ok { result ≡ OK → (before after : SessionShare) × (session.old.held.share ≡ Some before) × (session.new.held.share ≡ Some after)
-        × IsLookAnswered before after answer.new }
-    ensures memory { result ≡ NO_MEMORY → (before after : SessionShare) × (session.old.held.share ≡ Some before) × (session.new.held.share ≡ Some after)
+    ensures null { result ≡ NULL_POINTER ↔ ((session.old.at ≡ null_ptr) ⊎ (answer.old.at ≡ null_ptr)) }
+    ensures ok { result ≡ OK → (before after : SessionShare) × (session.old.behind.held.share ≡ Some before) × (session.new.behind.held.share ≡ Some after)
+        × IsLookAnswered before after answer.new.behind }
+    ensures memory { result ≡ NO_MEMORY → (before after : SessionShare) × (session.old.behind.held.share ≡ Some before) × (session.new.behind.held.share ≡ Some after)
         × IsLookStarved before after }
-    ensures late { result ≡ NOT_SERVED → (before after : SessionShare) × (session.old.held.share ≡ Some before) × (session.new.held.share ≡ Some after)
+    ensures late { result ≡ NOT_SERVED → (before after : SessionShare) × (session.old.behind.held.share ≡ Some before) × (session.new.behind.held.share ≡ Some after)
         × IsLookMade before after looked turns wait.new }
-    ensures told { (result ≡ OK) ⊎ ((result ≡ NO_MEMORY) ⊎ (result ≡ NOT_SERVED)) → (before after : SessionShare) × (session.old.held.share ≡ Some before) × (session.new.held.share ≡ Some after)
+    ensures told { (result ≡ OK) ⊎ ((result ≡ NO_MEMORY) ⊎ (result ≡ NOT_SERVED)) → (before after : SessionShare) × (session.old.behind.held.share ≡ Some before) × (session.new.behind.held.share ≡ Some after)
         × AreToWake before after told.new }
-    ensures failed { result ≢ OK → answer.new ≡ answer.old }
+    ensures failed { result ≢ OK → answer.new.behind ≡ answer.old.behind }
     ensures unread { result ≢ NOT_SERVED → wait.new ≡ wait.old }
-    ensures same { (result ≡ CLOSED) ⊎ (result ≡ NOTHING_PENDING) → (session.new.held.share ≡ session.old.held.share) × (told.new ≡ told.old) }
-    ensures open { session.new.is_open ≡ session.old.is_open }
-    ensures closed { result ≡ CLOSED ↔ (session.old.is_open ≢ 1) }
-    ensures nothing { result ≡ NOTHING_PENDING ↔ ((share : SessionShare) × (session.old.held.share ≡ Some share) × (share.session.pending ≡ None)) }
-    ensures statuses { (result ≡ OK) ⊎ ((result ≡ CLOSED) ⊎ ((result ≡ NOTHING_PENDING) ⊎ ((result ≡ NO_MEMORY) ⊎ (result ≡ NOT_SERVED)))) }
+    ensures same { (result ≡ NULL_POINTER) ⊎ ((result ≡ CLOSED) ⊎ (result ≡ NOTHING_PENDING)) → (session.new.behind.held.share ≡ session.old.behind.held.share) × (told.new ≡ told.old) }
+    ensures open { session.new.behind.is_open ≡ session.old.behind.is_open }
+    ensures closed { result ≢ NULL_POINTER → (result ≡ CLOSED ↔ (session.old.behind.is_open ≢ 1)) }
+    ensures nothing { result ≢ NULL_POINTER → (result ≡ NOTHING_PENDING ↔ ((share : SessionShare) × (session.old.behind.held.share ≡ Some share) × (share.session.pending ≡ None))) }
+    ensures statuses { (result ≡ NULL_POINTER) ⊎ ((result ≡ OK) ⊎ ((result ≡ CLOSED) ⊎ ((result ≡ NOTHING_PENDING) ⊎ ((result ≡ NO_MEMORY) ⊎ (result ≡ NOT_SERVED))))) }
 {
+    let Some(session) = session.get() else {
+        return NULL_POINTER;
+    };
+    let Some(answer) = answer.get() else {
+        return NULL_POINTER;
+    };
     let Some(mut share) = session.take(alloc) else {
         return CLOSED;
     };

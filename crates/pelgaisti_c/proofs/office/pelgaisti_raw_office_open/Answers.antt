@@ -1,11 +1,18 @@
-use Rattle.std.proofs.Common.{◌≡◌, length, sym, ap, ◌∙◌}
+use Rattle.std.proofs.Common.{rules, ◌≡◌, List, length, sym, subst, ap, ◌∙◌}
+use Rattle.std.specs.Prelude.{Any}
 use Rattle.std.proofs.lemmas.List.{length-map}
+use Rattle.pelgaisti_c.specs.declared.session_handle.SessionHandle.{SessionHandle}
 use Rattle.pelgaisti_c.proofs.Handles.{new_tickets_count}
 use Rattle.pelgaisti_c.proofs.office.pelgaisti_raw_office_open.Goals as goal
 
 pub open_handles-requires : goal.open_handles-requires
 open_handles-requires c =
     let ws = c.in-Ok-shares_of.shares.items in
-    let made : length c.in-Ok.made.items ≡ length c.args.sessions.now = ap length c.in-Ok.ensures.sessions ∙ new_tickets_count _ _ _ in
-    let same : length c.has_open.new.handles ≡ length c.args.sessions.now = ap length c.has_open.ensures.same in
+    let made : length c.in-Ok.made.items ≡ length c.items-sessions.result.now = ap length c.in-Ok.ensures.sessions ∙ new_tickets_count _ _ _ in
+    let same : length c.has_open.new.handles ≡ length c.items-sessions.result.now = ap length c.has_open.ensures.same in
     sym (length-map ws (λ share. share.value.session)) ∙ (ap length c.in-Ok-shares_of.ensures.sessions ∙ (made ∙ sym same))
+
+pub returns-then-has_open-clause-open : goal.returns-then-has_open-clause-open
+returns-then-has_open-clause-open c = λ _.
+    let at : c.items-sessions.result.now ≡ c.args.sessions.now.behind = search rules in
+    subst (λ (handles : List SessionHandle). Any (λ handle. handle.is_open ≡ 1) handles) at (c.has_open.ensures.open (search rules))

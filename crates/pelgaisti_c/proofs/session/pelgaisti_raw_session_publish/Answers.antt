@@ -1,11 +1,29 @@
-use Rattle.std.proofs.Common.{rules, ◌≡◌, Some}
+use Rattle.std.proofs.Common.{rules, ◌≡◌, Some, subst}
+use Rattle.lock_rules.specs.declared.calls.Call.{Call}
+use Rattle.pelgaisti_c.specs.declared.numbers.CallNumbers.{CallNumbers}
+use Rattle.pelgaisti_c.specs.Numbers.{IsCall}
+use Rattle.pelgaisti_c.specs.Sessions.{IsPublished}
 use Rattle.pelgaisti_c.proofs.session.pelgaisti_raw_session_publish.Goals as goal
 
 pub returns-clause-ok : goal.returns-clause-ok
-returns-clause-ok c = λ e. let was : c.args.session.now.held.share ≡ Some c.deref_mut.result.now = search rules in (c.deref_mut.result.now, c.publish-status.new.share, was, c.put.ensures.1, c.publish-status.ensures.ok e)
+returns-clause-ok c = λ e.
+    let was : c.args.session.now.behind.held.share ≡ Some c.deref_mut.result.now = search rules in
+    let same : c.in-Some-get.call ≡ c.args.call.now.behind = search rules in (
+      c.deref_mut.result.now,
+      c.publish-status.new.share,
+      was,
+      c.put.ensures.1,
+      subst (λ (asked : CallNumbers). IsPublished c.deref_mut.result.now c.publish-status.new.share asked c.publish-status.new.posted) same (c.publish-status.ensures.ok e),
+    )
 
 pub returns-clause-retired : goal.returns-clause-retired
-returns-clause-retired c = λ e. let was : c.args.session.now.held.share ≡ Some c.deref_mut.result.now = search rules in (c.deref_mut.result.now, was, (c.publish-status.ensures.retired e).0, (c.publish-status.ensures.retired e).1)
+returns-clause-retired c = λ e.
+    let was : c.args.session.now.behind.held.share ≡ Some c.deref_mut.result.now = search rules in
+    let same : c.in-Some-get.call ≡ c.args.call.now.behind = search rules in
+    let s = c.publish-status.ensures.retired e in (c.deref_mut.result.now, was, s.0, subst (λ (asked : CallNumbers). (call : Call) × IsCall asked call) same s.1)
 
 pub returns-clause-pending : goal.returns-clause-pending
-returns-clause-pending c = λ e. let was : c.args.session.now.held.share ≡ Some c.deref_mut.result.now = search rules in (c.deref_mut.result.now, was, (c.publish-status.ensures.pending e).0, (c.publish-status.ensures.pending e).1)
+returns-clause-pending c = λ e.
+    let was : c.args.session.now.behind.held.share ≡ Some c.deref_mut.result.now = search rules in
+    let same : c.in-Some-get.call ≡ c.args.call.now.behind = search rules in
+    let s = c.publish-status.ensures.pending e in (c.deref_mut.result.now, was, s.0, subst (λ (asked : CallNumbers). (call : Call) × IsCall asked call) same s.1)
