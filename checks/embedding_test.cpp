@@ -2,6 +2,7 @@
 // that fails, and last 'N passed, M failed'.
 #include "pelgaisti.hpp"
 
+#include <array>
 #include <cstdio>
 #include <cstdlib>
 #include <future>
@@ -45,6 +46,11 @@ template <class Call> static bool throws(pelgaisti_status status, Call call) {
     return false;
 }
 
+// Only what has numbers of 32 bits one behind another is a path: no conversion of each number goes on unseen.
+static_assert(std::is_convertible_v<std::vector<std::uint32_t>, pelgaisti::resource>);
+static_assert(!std::is_convertible_v<std::vector<std::uint64_t>, pelgaisti::resource>);
+static_assert(!std::is_convertible_v<std::uint32_t, pelgaisti::resource> && !std::is_convertible_v<std::string, pelgaisti::resource>);
+
 static void books() {
     pelgaisti::book book{3};
     CHECK(book.serve(1, {op::begin}).kind == kind::began && book.serve(2, {op::begin}).value == 2);
@@ -62,6 +68,11 @@ static void books() {
     CHECK(pelgaisti::resource(path.data(), 5).level == 5 && pelgaisti::resource(path.data(), 5).numbers[4] == 5);
     CHECK(throws(PELGAISTI_NO_SUCH_LEVEL, [&] { book.held(1, {path.data(), 7}); }));
     CHECK(throws(PELGAISTI_NO_SUCH_LEVEL, [&] { book.held(1, {path.data(), 0}); }));
+    const std::uint32_t array[] = {1, 2, 3};
+    CHECK(book.held(1, array) == mode::X && book.held(1, std::array<std::uint32_t, 2>{1, 2}) == mode::IX);
+    CHECK(throws(PELGAISTI_NO_SUCH_LEVEL, [&] { book.held(1, path); }));
+    CHECK(throws(PELGAISTI_NO_SUCH_LEVEL, [&] { book.held(1, std::vector<std::uint32_t>{}); }));
+    CHECK(throws(PELGAISTI_NO_SUCH_LEVEL, [&] { static_cast<void>(book.serve(1, {op::lock, mode::S, path})); }));
     level = 0;
     CHECK(book.lock_path(2, {1, 2}, mode::S, level, ended).kind == kind::waiting && level == 1);
     CHECK(throws(PELGAISTI_NO_SUCH_LEVEL, [&] { static_cast<void>(book.lock_path(1, {1}, mode::S, level, ended)); }) && level == 1);
@@ -136,17 +147,18 @@ static void tries() {
 static void offices() {
     pelgaisti::office office{2};
     CHECK(office[0].perform({op::begin})->place == 0);
-    CHECK(!office[1].perform({op::begin}, 0) && throws(PELGAISTI_PENDING, [&] { office[1].perform({op::begin}); }));
+    CHECK(!office[1].perform({op::begin}, 0) && throws(PELGAISTI_PENDING, [&] { static_cast<void>(office[1].perform({op::begin})); }));
     // a close that fails has closed no session
     CHECK(throws(PELGAISTI_PENDING, [&] { office.close(); }) && office[0].perform({op::poll})->place == 2);
-    CHECK(office[1].resume()->reply.value == 2 && throws(PELGAISTI_NOTHING_PENDING, [&] { office[1].resume(); }));
+    CHECK(office[1].resume()->reply.value == 2);
+    CHECK(throws(PELGAISTI_NOTHING_PENDING, [&] { static_cast<void>(office[1].resume()); }));
     office[0].publish({op::lock, mode::S, {7}});
     CHECK(!office[0].collect() && office[1].serve()->served == 1 && office[0].collect()->reply.kind == kind::granted);
     std::uint32_t level = 0;
     // the path's own call is left without turns, and finished by itself; a path takes no pending call for its own
     CHECK(!office[1].lock_path({7, 8}, mode::X, level, 0) && level == 0);
-    CHECK(throws(PELGAISTI_PENDING, [&] { office[1].lock_path({7, 8}, mode::X, level); }) && level == 0);
-    CHECK(throws(PELGAISTI_PENDING, [&] { office[1].lock_path({9}, mode::X, level); }) && level == 0);
+    CHECK(throws(PELGAISTI_PENDING, [&] { static_cast<void>(office[1].lock_path({7, 8}, mode::X, level)); }) && level == 0);
+    CHECK(throws(PELGAISTI_PENDING, [&] { static_cast<void>(office[1].lock_path({9}, mode::X, level)); }) && level == 0);
     CHECK(office[0].held(2, {9})->found == mode::NL);
     CHECK(office[1].resume()->reply.kind == kind::waiting);
     CHECK(office[0].perform({op::commit})->reply.kind == kind::committed);
@@ -221,8 +233,7 @@ static void wakers() {
 static void a_task_throws() {
     pelgaisti::office office{2};
     auto task = std::async(std::launch::async, [&] {
-        office[1].perform({op::begin});
-        office[1].perform({op::lock, mode::X, {7}});
+        CHECK(office[1].perform({op::begin}) && office[1].perform({op::lock, mode::X, {7}}));
         office[1].publish({op::poll});
         throw std::runtime_error("lost");
     });

@@ -8,6 +8,8 @@
  * A call that fails throws pelgaisti::error with its status, after which nothing has changed but what its comment says. Two statuses
  * are no failures and are told by the result: ELSEWHERE by serve, by a session's take_history and by its questions, NOT_SERVED by
  * collect and what is made of it. Compiled with -fno-exceptions, a call that fails ends the program by std::abort.
+ * A compiler warns of a result that is ignored where it tells what the caller has then: a reply or an answer, which may be WAITING,
+ * how many calls of a batch were served, and entries of the history that are taken out of the library's memory.
  * pelgaisti.h says what each call does and asks of its caller.
  */
 #ifndef PELGAISTI_HPP
@@ -17,8 +19,10 @@
 #include <cstdlib>
 #include <exception>
 #include <initializer_list>
+#include <iterator>
 #include <memory>
 #include <optional>
+#include <type_traits>
 #include <utility>
 #include <vector>
 
@@ -66,10 +70,12 @@ template <class T, class Call> std::vector<T> list_by(size_t room, Call call) {
     std::vector<T> list(room);
     return list.resize(made_by<size_t>([&](auto *count) { return call(list.data(), count); })), list;
 }
-// A path of 1 to PELGAISTI_LEVELS numbers, written out or lying one behind another, as in a vector or a span; with another count of
-// numbers the calls fail with NO_SUCH_LEVEL.
+// A path of 1 to PELGAISTI_LEVELS numbers: written out, from where they lie one behind another, or what has them so, as an array, a
+// vector or a span. With another count of numbers the calls fail with NO_SUCH_LEVEL.
 struct resource : pelgaisti_resource {
     resource(std::initializer_list<uint32_t> path) : resource(path.begin(), path.size()) {}
+    template <class Path, class = std::enable_if_t<std::is_convertible_v<decltype(std::data(std::declval<const Path &>())), const uint32_t *>>>
+    resource(const Path &path) : resource(std::data(path), std::size(path)) {}
     resource(const uint32_t *path, size_t count) : pelgaisti_resource{} {
         for (; level < count && level <= PELGAISTI_LEVELS; level++)
             if (level < PELGAISTI_LEVELS) numbers[level] = path[level];
@@ -96,7 +102,7 @@ public:
         return reply(made_by<pelgaisti_reply>([&](auto *made) { return pelgaisti_book_serve(&handle_, session, &call, made); }));
     }
     // Serves the calls in order and makes each its entry of the history; how many were served: fewer if memory was refused.
-    size_t serve_batch(std::vector<entry> &calls) {
+    [[nodiscard]] size_t serve_batch(std::vector<entry> &calls) {
         return made_by<size_t>([&](auto *n) { return pelgaisti_book_serve_batch(&handle_, calls.data(), calls.size(), n); });
     }
     // Locks the ancestors of the resource in the mode that it needs there, and then the resource, from the level `level` on, which
@@ -156,7 +162,7 @@ public:
         return list_by<entry>(room, [&](auto *at, auto *n) { return pelgaisti_book_history(&handle_, first, at, room, n); });
     }
     // Up to `room` of the oldest entries that are kept, which the book lets go of. The first was at first_kept() before.
-    std::vector<entry> take_history(size_t room) {
+    [[nodiscard]] std::vector<entry> take_history(size_t room) {
         uint64_t first = first_kept();
         room = room_for(first, room);
         return list_by<entry>(room, [&](auto *at, auto *n) { return pelgaisti_book_take_history(&handle_, &first, at, room, n); });
@@ -181,23 +187,23 @@ public:
         return elsewhere(pelgaisti_session_serve(&handle_, &pass)) ? std::nullopt : std::optional(pass);
     }
     // The answer to the pending call, or nothing if the session knows none yet.
-    std::optional<answer> collect() { return told([&](auto *found) { return pelgaisti_session_collect(&handle_, found); }); }
+    [[nodiscard]] std::optional<answer> collect() { return told([&](auto *found) { return pelgaisti_session_collect(&handle_, found); }); }
     // Performs the call at once, or publishes, serves and collects, at most `turns` times. Nothing, or NO_MEMORY: resume() goes on.
-    std::optional<answer> perform(const pelgaisti::call &call, uint64_t turns = UINT64_MAX) {
+    [[nodiscard]] std::optional<answer> perform(const pelgaisti::call &call, uint64_t turns = UINT64_MAX) {
         return told([&](auto *found) { return pelgaisti_session_perform(&handle_, &call, turns, found); });
     }
-    std::optional<answer> resume(uint64_t turns = UINT64_MAX) {
+    [[nodiscard]] std::optional<answer> resume(uint64_t turns = UINT64_MAX) {
         return told([&](auto *found) { return pelgaisti_session_perform(&handle_, nullptr, turns, found); });
     }
     // Like book::lock_path, each call in at most `turns` turns. PENDING: the session has a pending call already, and nothing has
     // changed. Nothing, or NO_MEMORY: the call that locks level `level` + 1 is pending. resume() gives its answer. If that is granted,
     // or waiting and then clear, the same call goes on, with the `level` that it was left.
-    std::optional<answer> lock_path(const resource &on, mode in, uint32_t &level, uint64_t turns = UINT64_MAX) {
+    [[nodiscard]] std::optional<answer> lock_path(const resource &on, mode in, uint32_t &level, uint64_t turns = UINT64_MAX) {
         const auto how = static_cast<uint32_t>(in);
         return told([&](auto *it) { return pelgaisti_session_lock_path(&handle_, &on, how, &level, turns, it); });
     }
     // Takes up to `room` of the oldest entries that are kept, from the place `first` on; nothing if another session has the table.
-    std::optional<std::vector<entry>> take_history(size_t room, uint64_t &first) {
+    [[nodiscard]] std::optional<std::vector<entry>> take_history(size_t room, uint64_t &first) {
         if (room > 256) {  // no more room than for what is kept: takes nothing, which tells where it begins and ends
             size_t none = 0;
             uint64_t begin = 0, end = 0;
