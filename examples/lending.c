@@ -132,8 +132,8 @@ int main(int argc, char **argv) {
         clients[c].number = c;
         must(pthread_create(&threads[c], NULL, work, &clients[c]) == 0, "start", "there is no thread for a client");
     }
+    for (unsigned c = 0; c < CLIENTS; c++) pthread_join(threads[c], NULL);
     for (unsigned c = 0; c < CLIENTS; c++) {
-        pthread_join(threads[c], NULL);
         made += clients[c].made;
         victims += clients[c].victims;
         for (int a = 0; a < ACCOUNTS; a++) accounts[a] -= clients[c].added[a];
