@@ -56,7 +56,8 @@
  * moves an access to shared memory across one. For a book behind a mutex it is the mutex that does this.
  * ThreadSanitizer can't see the archive's steps. If a program is built with -fsanitize=thread, the archive tells it of them: a
  * publish releases and a collect acquires, a call that is performed at once does both, and what is done inside the archive is
- * left out.
+ * left out. If it is built with -fsanitize=memory, the archive tells MemorySanitizer what a call has written with OK or NO_MEMORY;
+ * what pelgaisti_path_call returns it can't tell.
  *
  * STATUSES. Every call on a handle returns a pelgaisti_status. A call tests its arguments first, in the order in which
  * its comment lists the statuses; the first test that fails gives the status. A status other than PELGAISTI_OK means that nothing

@@ -1,5 +1,5 @@
-/* The functions that pelgaisti.h declares. Each tells ThreadSanitizer of the call, and gives the export of the proved crate the addresses
-   of its pointers: the export tests them for NULL and does the rest. Nothing here is proved. */
+/* The functions that pelgaisti.h declares. Each tells ThreadSanitizer of the call and MemorySanitizer what it has written, and gives the
+   export of the proved crate the addresses of its pointers: the export tests them for NULL and does the rest. Nothing here is proved. */
 #include "pelgaisti_raw.h"
 #include "wait.h"
 
@@ -50,6 +50,36 @@ static COLD pelgaisti_status end_use(void *handle, int order, uint32_t status) {
     (IS_WATCHED ? (begin_use(handle, order), end_use(handle, order, call)) : (pelgaisti_status)(call))
 #define CALL(handle, call) ORDERING_CALL(handle, ORDERS_NOTHING, call)
 
+/* ---- MemorySanitizer, which can't see what the archive writes. A program that is built with it has this function. ---- */
+
+__attribute__((weak)) void __msan_unpoison(const volatile void *at, size_t size);
+
+#define IS_MARKED __builtin_expect(__msan_unpoison != NULL, 0)
+
+static COLD void note_written(void *at, size_t size) {
+    if (at) __msan_unpoison(at, size);
+}
+
+static COLD void note_listed(void *list, size_t size, size_t room, size_t *count) {
+    note_written(count, sizeof *count);
+    note_written(list, size * (*count < room ? *count : room));
+}
+
+/* The status of a call that has written so much there, if it returns OK or NO_MEMORY. */
+static inline pelgaisti_status writing(pelgaisti_status status, void *at, size_t size) {
+    if (IS_MARKED && status <= PELGAISTI_NO_MEMORY) note_written(at, size);
+    return status;
+}
+
+/* The status of a call that then has written the first elements of an array, and to `count` how many there are in all. */
+static inline pelgaisti_status listing(pelgaisti_status status, void *list, size_t size, size_t room, size_t *count) {
+    if (IS_MARKED && status <= PELGAISTI_NO_MEMORY) note_listed(list, size, room, count);
+    return status;
+}
+
+#define WRITING(at, call) writing(call, at, sizeof *(at))
+#define LISTING(list, room, count, call) listing(call, list, sizeof *(list), room, count)
+
 /* What an export is given for an array of the caller's: where it is, and how many elements it has room for. */
 #define LIST(at, room) (&(pelgaisti_raw_list){(at), (room)})
 
@@ -80,57 +110,57 @@ pelgaisti_status pelgaisti_book_close(pelgaisti_book *book) {
 }
 
 pelgaisti_status pelgaisti_book_serve(pelgaisti_book *book, uint32_t session, const pelgaisti_call *call, pelgaisti_reply *reply) {
-    return CALL(book, pelgaisti_raw_book_serve(&book, session, &call, &reply));
+    return WRITING(reply, CALL(book, pelgaisti_raw_book_serve(&book, session, &call, &reply)));
 }
 
 pelgaisti_status pelgaisti_book_serve_batch(pelgaisti_book *book, pelgaisti_entry *calls, size_t length, size_t *count) {
-    return CALL(book, pelgaisti_raw_book_serve_batch(&book, LIST(calls, length), &count));
+    return LISTING(calls, length, count, CALL(book, pelgaisti_raw_book_serve_batch(&book, LIST(calls, length), &count)));
 }
 
 pelgaisti_status pelgaisti_book_held(pelgaisti_book *book, uint32_t session, const pelgaisti_resource *resource, uint32_t *mode) {
-    return CALL(book, pelgaisti_raw_book_held(&book, session, &resource, &mode));
+    return WRITING(mode, CALL(book, pelgaisti_raw_book_held(&book, session, &resource, &mode)));
 }
 
 pelgaisti_status pelgaisti_book_holders(pelgaisti_book *book, const pelgaisti_resource *resource, pelgaisti_holder *list,
                                         size_t room, size_t *count) {
-    return CALL(book, pelgaisti_raw_book_holders(&book, &resource, LIST(list, room), &count));
+    return LISTING(list, room, count, CALL(book, pelgaisti_raw_book_holders(&book, &resource, LIST(list, room), &count)));
 }
 
 pelgaisti_status pelgaisti_book_waits_for(pelgaisti_book *book, uint32_t session, uint32_t other, uint32_t *edge) {
-    return CALL(book, pelgaisti_raw_book_waits_for(&book, session, other, &edge));
+    return WRITING(edge, CALL(book, pelgaisti_raw_book_waits_for(&book, session, other, &edge)));
 }
 
 pelgaisti_status pelgaisti_book_blockers(pelgaisti_book *book, uint32_t session, uint32_t *list, size_t room, size_t *count) {
-    return CALL(book, pelgaisti_raw_book_blockers(&book, session, LIST(list, room), &count));
+    return LISTING(list, room, count, CALL(book, pelgaisti_raw_book_blockers(&book, session, LIST(list, room), &count)));
 }
 
 pelgaisti_status pelgaisti_book_transaction(pelgaisti_book *book, uint32_t session, pelgaisti_transaction *open) {
-    return CALL(book, pelgaisti_raw_book_transaction(&book, session, &open));
+    return WRITING(open, CALL(book, pelgaisti_raw_book_transaction(&book, session, &open)));
 }
 
 pelgaisti_status pelgaisti_book_request(pelgaisti_book *book, uint32_t session, pelgaisti_claim *waiting) {
-    return CALL(book, pelgaisti_raw_book_request(&book, session, &waiting));
+    return WRITING(waiting, CALL(book, pelgaisti_raw_book_request(&book, session, &waiting)));
 }
 
 pelgaisti_status pelgaisti_book_locks(pelgaisti_book *book, size_t first, pelgaisti_claim *list, size_t room, size_t *count) {
-    return CALL(book, pelgaisti_raw_book_locks(&book, first, LIST(list, room), &count));
+    return LISTING(list, room, count, CALL(book, pelgaisti_raw_book_locks(&book, first, LIST(list, room), &count)));
 }
 
 pelgaisti_status pelgaisti_book_ended(pelgaisti_book *book, uint32_t *list, size_t room, size_t *count) {
-    return CALL(book, pelgaisti_raw_book_ended(&book, LIST(list, room), &count));
+    return LISTING(list, room, count, CALL(book, pelgaisti_raw_book_ended(&book, LIST(list, room), &count)));
 }
 
 pelgaisti_status pelgaisti_book_length(pelgaisti_book *book, uint64_t *length) {
-    return CALL(book, pelgaisti_raw_book_length(&book, &length));
+    return WRITING(length, CALL(book, pelgaisti_raw_book_length(&book, &length)));
 }
 
 pelgaisti_status pelgaisti_book_history(pelgaisti_book *book, uint64_t first, pelgaisti_entry *entries, size_t room,
                                         size_t *count) {
-    return CALL(book, pelgaisti_raw_book_history(&book, first, LIST(entries, room), &count));
+    return LISTING(entries, room, count, CALL(book, pelgaisti_raw_book_history(&book, first, LIST(entries, room), &count)));
 }
 
 pelgaisti_status pelgaisti_book_first_kept(pelgaisti_book *book, uint64_t *first) {
-    return CALL(book, pelgaisti_raw_book_first_kept(&book, &first));
+    return WRITING(first, CALL(book, pelgaisti_raw_book_first_kept(&book, &first)));
 }
 
 pelgaisti_status pelgaisti_book_keep_at_most(pelgaisti_book *book, uint64_t bound) {
@@ -139,12 +169,15 @@ pelgaisti_status pelgaisti_book_keep_at_most(pelgaisti_book *book, uint64_t boun
 
 pelgaisti_status pelgaisti_book_take_history(pelgaisti_book *book, uint64_t *first, pelgaisti_entry *entries, size_t room,
                                              size_t *count) {
-    return CALL(book, pelgaisti_raw_book_take_history(&book, &first, LIST(entries, room), &count));
+    return WRITING(first, LISTING(entries, room, count,
+                   CALL(book, pelgaisti_raw_book_take_history(&book, &first, LIST(entries, room), &count))));
 }
 
 pelgaisti_status pelgaisti_book_lock_path(pelgaisti_book *book, uint32_t session, const pelgaisti_resource *resource, uint32_t mode,
                                           uint32_t *level, pelgaisti_reply *reply, uint32_t *list, size_t room, size_t *count) {
-    return CALL(book, pelgaisti_raw_book_lock_path(&book, session, &resource, mode, &level, &reply, LIST(list, room), &count));
+    return WRITING(reply, LISTING(list, room, count,
+                   CALL(book, pelgaisti_raw_book_lock_path(&book, session, &resource, mode, &level, &reply, LIST(list, room),
+                        &count))));
 }
 
 /* ---- Offices: how they are opened, and how they wake. ---- */
@@ -199,7 +232,7 @@ static COLD void wake_listed(pelgaisti_session *session, const uint32_t *list, s
 
 pelgaisti_status pelgaisti_session_publish(pelgaisti_session *session, const pelgaisti_call *call, uint32_t *posted) {
     uint32_t unread, *at = posted ? posted : &unread;
-    return ORDERING_CALL(session, RELEASES, pelgaisti_raw_session_publish(&session, &call, &at));
+    return WRITING(at, ORDERING_CALL(session, RELEASES, pelgaisti_raw_session_publish(&session, &call, &at)));
 }
 
 pelgaisti_status pelgaisti_session_serve(pelgaisti_session *session, pelgaisti_pass *pass) {
@@ -208,7 +241,7 @@ pelgaisti_status pelgaisti_session_serve(pelgaisti_session *session, pelgaisti_p
     size_t told = 0;
     status = CALL(session, pelgaisti_raw_session_serve(&session, &made, &told));
     if (told > 0) wake_told(session, told);
-    return status;
+    return WRITING(made, status);
 }
 
 pelgaisti_status pelgaisti_session_serve_telling(pelgaisti_session *session, pelgaisti_pass *pass, uint32_t *list, size_t room,
@@ -217,7 +250,7 @@ pelgaisti_status pelgaisti_session_serve_telling(pelgaisti_session *session, pel
     pelgaisti_status status;
     status = CALL(session, pelgaisti_raw_session_serve_telling(&session, &made, LIST(list, room), &count));
     if (status == PELGAISTI_OK && *count > 0) wake_listed(session, list, *count);
-    return status;
+    return WRITING(made, LISTING(list, room, count, status));
 }
 
 pelgaisti_status pelgaisti_session_perform_at_once(pelgaisti_session *session, const pelgaisti_call *call, pelgaisti_pass *pass,
@@ -228,7 +261,7 @@ pelgaisti_status pelgaisti_session_perform_at_once(pelgaisti_session *session, c
     status = ORDERING_CALL(session, RELEASES | ACQUIRES,
                            pelgaisti_raw_session_perform_at_once(&session, &call, &made, &answer, &told));
     if (told > 0) wake_told(session, told);
-    return status;
+    return WRITING(made, WRITING(answer, status));
 }
 
 pelgaisti_status pelgaisti_session_perform_telling(pelgaisti_session *session, const pelgaisti_call *call, pelgaisti_pass *pass,
@@ -238,11 +271,11 @@ pelgaisti_status pelgaisti_session_perform_telling(pelgaisti_session *session, c
     status = ORDERING_CALL(session, RELEASES | ACQUIRES,
                            pelgaisti_raw_session_perform_telling(&session, &call, &made, &answer, LIST(list, room), &count));
     if ((status == PELGAISTI_OK || status == PELGAISTI_NO_MEMORY) && *count > 0) wake_listed(session, list, *count);
-    return status;
+    return WRITING(made, WRITING(answer, LISTING(list, room, count, status)));
 }
 
 pelgaisti_status pelgaisti_session_collect(pelgaisti_session *session, pelgaisti_answer *answer) {
-    return ORDERING_CALL(session, ACQUIRES, pelgaisti_raw_session_collect(&session, &answer));
+    return WRITING(answer, ORDERING_CALL(session, ACQUIRES, pelgaisti_raw_session_collect(&session, &answer)));
 }
 
 /* A whole call, and what its last turn has written. It lies in memory, so that a call that is answered by its first turn saves no
@@ -286,7 +319,7 @@ pelgaisti_status pelgaisti_session_perform(pelgaisti_session *session, const pel
     it.turns = turns;
     it.answer = answer;
     status = make_turn(&it, 0);
-    return status == PELGAISTI_OK && it.told == 0 ? status : go_on(&it, status);
+    return WRITING(answer, status == PELGAISTI_OK && it.told == 0 ? status : go_on(&it, status));
 }
 
 pelgaisti_status pelgaisti_session_lock_path(pelgaisti_session *session, const pelgaisti_resource *resource, uint32_t mode,
@@ -300,56 +333,60 @@ pelgaisti_status pelgaisti_session_lock_path(pelgaisti_session *session, const p
                                pelgaisti_raw_session_path_turn(&session, &resource, mode, &level, &made, turns, &answer, &wait,
                                                                &told));
         if (told > 0) wake_told(session, told);
-        if (status != PELGAISTI_NOT_SERVED || wait == 0) return status;
+        if (status != PELGAISTI_NOT_SERVED || wait == 0) return WRITING(answer, status);
         wait_before_turn(wait);
     }
 }
 
 pelgaisti_status pelgaisti_session_take_history(pelgaisti_session *session, uint64_t *first, pelgaisti_entry *entries,
                                                 size_t room, size_t *count) {
-    return CALL(session, pelgaisti_raw_session_take_history(&session, &first, LIST(entries, room), &count));
+    return WRITING(first, LISTING(entries, room, count,
+                   CALL(session, pelgaisti_raw_session_take_history(&session, &first, LIST(entries, room), &count))));
 }
 
 pelgaisti_status pelgaisti_session_held(pelgaisti_session *session, uint32_t whose, const pelgaisti_resource *resource,
                                         uint32_t *mode, uint64_t *seen) {
-    return CALL(session, pelgaisti_raw_session_held(&session, whose, &resource, &mode, &seen));
+    return WRITING(mode, WRITING(seen, CALL(session, pelgaisti_raw_session_held(&session, whose, &resource, &mode, &seen))));
 }
 
 pelgaisti_status pelgaisti_session_transaction(pelgaisti_session *session, uint32_t whose, pelgaisti_transaction *open,
                                                uint64_t *seen) {
-    return CALL(session, pelgaisti_raw_session_transaction(&session, whose, &open, &seen));
+    return WRITING(open, WRITING(seen, CALL(session, pelgaisti_raw_session_transaction(&session, whose, &open, &seen))));
 }
 
 pelgaisti_status pelgaisti_session_request(pelgaisti_session *session, uint32_t whose, pelgaisti_claim *waiting, uint64_t *seen) {
-    return CALL(session, pelgaisti_raw_session_request(&session, whose, &waiting, &seen));
+    return WRITING(waiting, WRITING(seen, CALL(session, pelgaisti_raw_session_request(&session, whose, &waiting, &seen))));
 }
 
 pelgaisti_status pelgaisti_session_waits_for(pelgaisti_session *session, uint32_t whose, uint32_t other, uint32_t *edge,
                                              uint64_t *seen) {
-    return CALL(session, pelgaisti_raw_session_waits_for(&session, whose, other, &edge, &seen));
+    return WRITING(edge, WRITING(seen, CALL(session, pelgaisti_raw_session_waits_for(&session, whose, other, &edge, &seen))));
 }
 
 pelgaisti_status pelgaisti_session_holders(pelgaisti_session *session, const pelgaisti_resource *resource, pelgaisti_holder *list,
                                            size_t room, size_t *count, uint64_t *seen) {
-    return CALL(session, pelgaisti_raw_session_holders(&session, &resource, LIST(list, room), &count, &seen));
+    return LISTING(list, room, count, WRITING(seen,
+                   CALL(session, pelgaisti_raw_session_holders(&session, &resource, LIST(list, room), &count, &seen))));
 }
 
 pelgaisti_status pelgaisti_session_blockers(pelgaisti_session *session, uint32_t whose, uint32_t *list, size_t room,
                                             size_t *count, uint64_t *seen) {
-    return CALL(session, pelgaisti_raw_session_blockers(&session, whose, LIST(list, room), &count, &seen));
+    return LISTING(list, room, count, WRITING(seen,
+                   CALL(session, pelgaisti_raw_session_blockers(&session, whose, LIST(list, room), &count, &seen))));
 }
 
 pelgaisti_status pelgaisti_session_locks(pelgaisti_session *session, size_t first, pelgaisti_claim *list, size_t room,
                                          size_t *count, uint64_t *seen) {
-    return CALL(session, pelgaisti_raw_session_locks(&session, first, LIST(list, room), &count, &seen));
+    return LISTING(list, room, count, WRITING(seen,
+                   CALL(session, pelgaisti_raw_session_locks(&session, first, LIST(list, room), &count, &seen))));
 }
 
 pelgaisti_status pelgaisti_session_seen(pelgaisti_session *session, uint64_t *seen) {
-    return CALL(session, pelgaisti_raw_session_seen(&session, &seen));
+    return WRITING(seen, CALL(session, pelgaisti_raw_session_seen(&session, &seen)));
 }
 
 pelgaisti_status pelgaisti_session_mark(pelgaisti_session *session, uint64_t *mark) {
-    return CALL(session, pelgaisti_raw_session_mark(&session, &mark));
+    return WRITING(mark, CALL(session, pelgaisti_raw_session_mark(&session, &mark)));
 }
 
 pelgaisti_status pelgaisti_session_retire(pelgaisti_session *session) {

@@ -1,0 +1,105 @@
+/* Each call writes what its comment says, and MemorySanitizer, which this is built with, knows of it: of variables that nobody else has
+   written, every byte that a call has written is asked for. With the word `unwritten` it asks for one that a failed call hasn't
+   written, which MemorySanitizer reports. */
+#include "pelgaisti.h"
+#include <sanitizer/msan_interface.h>
+#include <stdio.h>
+#include <string.h>
+
+static int faults;
+
+#define OK(call) ((call) == PELGAISTI_OK ? 0 : (faults++, fprintf(stderr, "line %d\n", __LINE__)))
+#define FORGET(thing) __msan_poison(&(thing), sizeof(thing))
+#define READ(thing) __msan_check_mem_is_initialized(&(thing), sizeof(thing))
+
+/* Makes a call, which writes these. */
+#define WRITES_1(a, call) (FORGET(a), OK(call), READ(a))
+#define WRITES_2(a, b, call) (FORGET(b), WRITES_1(a, call), READ(b))
+#define WRITES_3(a, b, c, call) (FORGET(c), WRITES_2(a, b, call), READ(c))
+
+static const pelgaisti_resource page = {2, {1, 2}};
+
+static void of_a_book(void) {
+    pelgaisti_book book = pelgaisti_empty_book();
+    pelgaisti_call begin = {PELGAISTI_BEGIN, 0, {0}}, lock = {PELGAISTI_LOCK, PELGAISTI_X, {1, {9}}};
+    pelgaisti_reply reply, path_reply;
+    pelgaisti_entry batch[1], history[2], taken[2];
+    pelgaisti_holder holders[1];
+    pelgaisti_transaction open;
+    pelgaisti_claim waiting, locks[1];
+    uint32_t mode, edge, level = 0, blockers[1], told[2];
+    uint64_t length, first_kept, first;
+    size_t count;
+    OK(pelgaisti_book_open(&book, 2));
+    WRITES_1(reply, pelgaisti_book_serve(&book, 1, &begin, &reply));
+    memset(batch, 0, sizeof batch);
+    batch[0].session = 2;
+    batch[0].call = begin;
+    WRITES_2(count, batch, pelgaisti_book_serve_batch(&book, batch, 1, &count));
+    OK(pelgaisti_book_serve(&book, 1, &lock, &reply));
+    OK(pelgaisti_book_serve(&book, 2, &lock, &reply));
+    WRITES_1(mode, pelgaisti_book_held(&book, 1, &lock.resource, &mode));
+    WRITES_2(count, holders, pelgaisti_book_holders(&book, &lock.resource, holders, 1, &count));
+    WRITES_1(edge, pelgaisti_book_waits_for(&book, 2, 1, &edge));
+    WRITES_2(count, blockers, pelgaisti_book_blockers(&book, 2, blockers, 1, &count));
+    WRITES_1(open, pelgaisti_book_transaction(&book, 1, &open));
+    WRITES_1(waiting, pelgaisti_book_request(&book, 2, &waiting));
+    WRITES_2(count, locks, pelgaisti_book_locks(&book, 0, locks, 1, &count));
+    WRITES_1(count, pelgaisti_book_ended(&book, told, 2, &count));
+    WRITES_2(path_reply, count, pelgaisti_book_lock_path(&book, 1, &page, PELGAISTI_S, &level, &path_reply, told, 2, &count));
+    WRITES_1(length, pelgaisti_book_length(&book, &length));
+    WRITES_2(count, history, pelgaisti_book_history(&book, 0, history, 2, &count));
+    WRITES_1(first_kept, pelgaisti_book_first_kept(&book, &first_kept));
+    WRITES_3(first, count, taken, pelgaisti_book_take_history(&book, &first, taken, 2, &count));
+    OK(pelgaisti_book_close(&book));
+}
+
+static void of_an_office(void) {
+    pelgaisti_session sessions[2] = {PELGAISTI_EMPTY, PELGAISTI_EMPTY};
+    pelgaisti_book book = PELGAISTI_EMPTY;
+    pelgaisti_call begin = {PELGAISTI_BEGIN, 0, {0}}, lock = {PELGAISTI_LOCK, PELGAISTI_X, {1, {9}}};
+    pelgaisti_answer performed, made, told_of, collected, locked;
+    pelgaisti_pass served, at_once, telling, serving;
+    pelgaisti_entry taken[2];
+    pelgaisti_holder holders[1];
+    pelgaisti_transaction open;
+    pelgaisti_claim waiting, locks[1];
+    uint32_t mode, edge, posted, level = 0, blockers[1], told[2];
+    uint64_t seen, mark, first;
+    size_t count;
+    OK(pelgaisti_office_open(sessions, 2));
+    WRITES_1(performed, pelgaisti_session_perform(&sessions[0], &begin, 1, &performed));
+    WRITES_2(made, at_once, pelgaisti_session_perform_at_once(&sessions[1], &begin, &at_once, &made));
+    WRITES_3(told_of, telling, count, pelgaisti_session_perform_telling(&sessions[0], &lock, &telling, &told_of, told, 2, &count));
+    WRITES_1(posted, pelgaisti_session_publish(&sessions[1], &lock, &posted));
+    WRITES_1(served, pelgaisti_session_serve(&sessions[0], &served));
+    WRITES_1(collected, pelgaisti_session_collect(&sessions[1], &collected));
+    WRITES_2(serving, count, pelgaisti_session_serve_telling(&sessions[0], &serving, told, 2, &count));
+    WRITES_1(locked, pelgaisti_session_lock_path(&sessions[0], &page, PELGAISTI_S, &level, 1, &locked));
+    WRITES_2(mode, seen, pelgaisti_session_held(&sessions[0], 1, &lock.resource, &mode, &seen));
+    WRITES_2(open, seen, pelgaisti_session_transaction(&sessions[0], 1, &open, &seen));
+    WRITES_2(waiting, seen, pelgaisti_session_request(&sessions[0], 2, &waiting, &seen));
+    WRITES_2(edge, seen, pelgaisti_session_waits_for(&sessions[0], 2, 1, &edge, &seen));
+    WRITES_3(holders, count, seen, pelgaisti_session_holders(&sessions[0], &lock.resource, holders, 1, &count, &seen));
+    WRITES_3(blockers, count, seen, pelgaisti_session_blockers(&sessions[0], 2, blockers, 1, &count, &seen));
+    WRITES_3(locks, count, seen, pelgaisti_session_locks(&sessions[0], 0, locks, 1, &count, &seen));
+    WRITES_1(seen, pelgaisti_session_seen(&sessions[0], &seen));
+    WRITES_1(mark, pelgaisti_session_mark(&sessions[0], &mark));
+    WRITES_3(first, count, taken, pelgaisti_session_take_history(&sessions[0], &first, taken, 2, &count));
+    OK(pelgaisti_session_hand_in(&sessions[1], &sessions[0]));
+    OK(pelgaisti_office_close(&sessions[0], &book));
+    OK(pelgaisti_book_close(&book));
+}
+
+int main(int argc, char **argv) {
+    (void)argv;
+    of_a_book();
+    of_an_office();
+    if (argc == 2) {
+        pelgaisti_book closed = PELGAISTI_EMPTY;
+        uint64_t length;
+        FORGET(length);
+        if (pelgaisti_book_length(&closed, &length) != PELGAISTI_OK) READ(length);
+    }
+    return faults > 0 ? 1 : 0;
+}
