@@ -12,7 +12,6 @@ use Rattle.lock_rules.specs.declared.calls.Why.{Why}
 use Rattle.lock_rules.specs.declared.calls.Transaction.{Transaction}
 use Rattle.lock_rules.specs.State.{Claim, State, held_mode, request_of, is_open, is_doomed, doomed_in, with_table}
 use Rattle.lock_rules.specs.Queue.{with_request}
-use Rattle.lock_rules.specs.Waits.{doom}
 use Rattle.lock_rules.specs.Step.{Outcome, target_of, tests, step}
 use Rattle.lock_rules.specs.Legal.{state_of}
 use Rattle.lock_rules.specs.Laws.{AreVictims}
@@ -24,7 +23,7 @@ use Rattle.lock_rules.proofs.Steps.{all-pass, is-none, state-lawful, try-locks}
 use Rattle.lock_rules.proofs.Taken.{none, passes}
 use Rattle.lock_rules.proofs.Requests.{lock-asks, convert-asks, try-asks}
 use Rattle.lock_rules.proofs.Refusals.{refused-keeps, one-target}
-use Rattle.lock_rules.proofs.Doomed.{keep-theirs}
+use Rattle.lock_rules.proofs.Doomed.{doom-dooms, keep-theirs}
 use Rattle.sequential.specs.Histories.{IsEntryWithin}
 use Rattle.lock_explain.specs.Endings.{is_new_victim}
 use Rattle.lock_explain.specs.Waiting.{BeginsToWait, request_made}
@@ -97,11 +96,6 @@ no-new st after u e h = let p = and_parts (not (is_doomed st u)) (is_doomed afte
     go : (b : Bool) → not b ≡ true → b ≡ true → ⊥
     go true n h = cc
     go false n h = cc
-
--- an open transaction is doomed by a doom
-doom-dooms : (o : Option Transaction) → is_some o ≡ true → doomed_in (doom o) ≡ true
-doom-dooms None h = absurd (cc)
-doom-dooms (Some x) h = refl
 
 -- a session of 1 to n whose transaction the call makes a victim
 pub record HasNewVictim (n : ℕ) (st after : State) : Type 0 where

@@ -2,16 +2,15 @@
 use Rattle.std.proofs.Common.{◌≡◌, ℕ, ◌<◌, ◌≤◌, Bool, true, false, cond, eqb, inl, inr, List, [], ◌∷◌, Option, Some, None, refl, sym, ◌∙◌, ap, arith}
 use Rattle.std.proofs.lemmas.Bool.{cases_Bool}
 use Rattle.std.proofs.lemmas.Bool.Decides.{nat_tests, Decides-eqb}
-use Rattle.waits_for.specs.Walks.{AreOnCircle}
 use Rattle.lock_rules.specs.declared.calls.Transaction.{Transaction}
 use Rattle.lock_rules.specs.State.{State, is_open, number_in, number_of}
-use Rattle.lock_rules.specs.Waits.{waits_for, doom, after_victim}
+use Rattle.lock_rules.specs.Waits.{doom, after_victim}
 use Rattle.lock_rules.specs.Laws.{AreVictims}
 use Rattle.lock_rules.specs.Effects.{IsAmong}
 use Rattle.lock_rules.specs.Sound.{IsNumbered}
 use Rattle.lock_rules.proofs.Owners.{victim-numbered}
 use Rattle.lock_rules.proofs.Victims.{on_circle-open}
-use Rattle.lock_explain.proofs.KeptCycles.{cancelled-cycle}
+use Rattle.lock_rules.proofs.KeptCycles.{cancelled-cycle, victims-on}
 
 -- lists that fall
 
@@ -63,12 +62,6 @@ victim-number v st u = elim (cases_Bool (eqb u v)) [
 ]
 
 -- victims one after another
-
--- each victim was on a cycle with s from the beginning
-pub victims-on : (s : ℕ) (vs : List ℕ) (st last : State) → AreVictims s vs st last → (u : ℕ) → IsAmong u vs → AreOnCircle (waits_for st.table) s u
-victims-on s [] st last a u i = absurd i
-victims-on s (v ∷ vs) st last a u (inl e) = rw e a.0.on_circle
-victims-on s (v ∷ vs) st last a u (inr i) = (cancelled-cycle v st.table s u (victims-on s vs (after_victim v st) last a.1 u i)).0
 
 -- a lower or equal number of another session is lower
 lower : (st : State) → IsNumbered st → (u v : ℕ) → is_open st u ≡ true → is_open st v ≡ true → eqb u v ≡ false → number_of st u ≤ number_of st v → number_of st u < number_of st v

@@ -10,7 +10,6 @@ pub mod OpenWithin
 pub mod Beginnings
 pub mod BegunWaits
 pub mod ServedCalls
-pub mod KeptCycles
 pub mod FallingVictims
 pub mod ChosenVictims
 pub mod VictimsTold

@@ -14,6 +14,7 @@ use Rattle.lock_rules.specs.Legal.{state_of}
 use Rattle.lock_rules.specs.Laws.{AreVictims}
 use Rattle.lock_rules.proofs.Alters.{true≢false}
 use Rattle.lock_rules.proofs.Settle.{reaches-walk}
+use Rattle.lock_rules.proofs.KeptCycles.{victims-on}
 use Rattle.sequential.specs.Histories.{IsEntryWithin}
 use Rattle.sequential.proofs.Members.{Member, contains-member, member-contains}
 use Rattle.lock_explain.specs.declared.explanation.Explanation.{Explanation}
@@ -25,7 +26,7 @@ use Rattle.lock_explain.specs.Explanations.{IsExplanation, IsWaitOfCall, AreVict
 use Rattle.lock_explain.specs.Waiting.{BeginsToWait, request_made, party_of, waiting_state}
 use Rattle.lock_explain.proofs.Beginnings.{tells-wait}
 use Rattle.lock_explain.proofs.ChosenVictims.{chosen, member-among, sessions_of}
-use Rattle.lock_explain.proofs.FallingVictims.{victims-on, victims-number}
+use Rattle.lock_explain.proofs.FallingVictims.{victims-number}
 use Rattle.lock_explain.proofs.ForSessions.{session-member, there}
 use Rattle.lock_explain.proofs.OnCycle.{no-members}
 

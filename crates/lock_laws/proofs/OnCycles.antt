@@ -1,17 +1,16 @@
 -- Victims are on the cycles that a request closes, and each of these cycles has a victim on it.
 use Rattle.std.proofs.Common.{◌≡◌, ℕ, suc, ◌+◌, Bool, true, false, cond, not, eqb, ◌&&◌, inl, inr, List, [], ◌∷◌, Option, Some, None, refl, sym, ◌∙◌, ap, arith, Contains}
-use Rattle.std.specs.Prelude.{is_some}
 use Rattle.std.proofs.lemmas.Bool.{and_from, or_cases, or_parts, cases_Bool}
 use Rattle.std.proofs.lemmas.Bool.Decides.{Decides-eqb}
 use Rattle.lock_modes.specs.declared.Mode.{Mode}
-use Rattle.waits_for.specs.Walks.{IsWalk, Reaches, AreOnCircle}
+use Rattle.waits_for.specs.Walks.{IsWalk, Reaches}
 use Rattle.lock_rules.specs.declared.calls.Call.{Call}
 use Rattle.lock_rules.specs.declared.calls.Call.TheVariants.{Begin, Lock, Convert, Poll, Release, Commit, Abort, Try, Withdraw}
 use Rattle.lock_rules.specs.declared.calls.Transaction.{Transaction}
 use Rattle.lock_rules.specs.declared.calls.Why.{Why}
 use Rattle.lock_rules.specs.Entries.{Entry}
-use Rattle.lock_rules.specs.State.{Claim, Table, State, held_mode, request_of, doomed_in, is_doomed, with_table}
-use Rattle.lock_rules.specs.Queue.{queue, fits, after_grant, is_granted_at_once, granted_while_fitting, after_promotion, after_promotions}
+use Rattle.lock_rules.specs.State.{Table, State, held_mode, request_of, doomed_in, is_doomed, with_table}
+use Rattle.lock_rules.specs.Queue.{after_grant, is_granted_at_once}
 use Rattle.lock_rules.specs.Waits.{waits_for, doom, resource_of_request, without_request, after_cancel, after_victim}
 use Rattle.lock_rules.specs.Step.{target_of, would_wait, tests, first_failing, is_held, after_wait, after_asking, act, outcome_of, step}
 use Rattle.lock_rules.specs.Legal.{state_of}
@@ -19,9 +18,10 @@ use Rattle.lock_rules.specs.Laws.{HasNoCircle, AreVictims}
 use Rattle.lock_rules.specs.Effects.{IsAmong}
 use Rattle.lock_rules.specs.Sound.{IsOnce}
 use Rattle.lock_rules.proofs.Walks.{has}
-use Rattle.lock_rules.proofs.Alters.{Alters, NoCircle, true≢false, beside, no_circle-from, waits_for-alters, waits_for-gone}
-use Rattle.lock_rules.proofs.Sound.{granted-alters, no_more-alters}
-use Rattle.lock_rules.proofs.Doomed.{victims-keep}
+use Rattle.lock_rules.proofs.Alters.{Alters, NoCircle, true≢false, beside, no_circle-from, waits_for-alters}
+use Rattle.lock_rules.proofs.Sound.{no_more-alters}
+use Rattle.lock_rules.proofs.Doomed.{doom-dooms, victims-keep}
+use Rattle.lock_rules.proofs.KeptCycles.{victims-on}
 use Rattle.lock_rules.proofs.Requests.{try-leaves}
 use Rattle.lock_rules.proofs.Victims.{on_circle-open}
 use Rattle.lock_laws.specs.Cycles.{DoCyclesGoThrough, AreVictimsOnCycles, AreDoomedOnCycles, HasEachCycleDoomed}
@@ -62,65 +62,13 @@ victims-on_cycles : (s : ℕ) (vs : List ℕ) (st last : State) → IsUnsettled 
 victims-on_cycles s [] st last i a = none-left s st i.beside_s a.0
 victims-on_cycles s (v ∷ vs) st last i a = (a.0.on_circle, through s st i.beside_s, victims-on_cycles s vs (after_victim v st) last (victim-unsettled s v st i) a.1)
 
--- a victim makes no cycle
+-- a victim ends no other cycle
 
 module _ (v : ℕ) (t t' : Table) (a : Alters v t t') where
-  -- a session from which a walk leads isn't v
-  walks-apart : (s : ℕ) (ws : List ℕ) (u : ℕ) → IsWalk (waits_for t') s ws u → eqb s v ≡ false
-  walks-apart s ws u walk = elim (cases_Bool (eqb s v)) [
-    | inr n ↦ n
-    | inl y ↦ let e = (Decides-eqb s v).0 y in absurd (first ws (rw e at walk))
-  ]
-    where
-      first : (ws : List ℕ) → IsWalk (waits_for t') v ws u → ⊥
-      first [] walk = true≢false walk (waits_for-gone v t t' a u)
-      first (w ∷ ws) walk = true≢false walk.0 (waits_for-gone v t t' a w)
-
-  -- a walk to another session than v was there before
-  walk-was : (s : ℕ) (ws : List ℕ) (u : ℕ) → eqb u v ≡ false → IsWalk (waits_for t') s ws u → IsWalk (waits_for t) s ws u
-  walk-was s [] u n walk = sym (waits_for-alters v t t' a s u (walks-apart s [] u walk) n) ∙ walk
-  walk-was s (w ∷ ws) u n walk = (sym (waits_for-alters v t t' a s w (walks-apart s (w ∷ ws) u walk) (walks-apart w ws u walk.1)) ∙ walk.0, walk-was w ws u n walk.1)
-
-  -- so two sessions on a cycle were on one before
-  circle-was : (s u : ℕ) → AreOnCircle (waits_for t') s u → AreOnCircle (waits_for t) s u
-  circle-was s u c = record {
-    there = record { others = c.there.others; walk = walk-was s c.there.others u (walks-apart u c.back.others s c.back.walk) c.there.walk };
-    back = record { others = c.back.others; walk = walk-was u c.back.others s (walks-apart s c.there.others u c.there.walk) c.back.walk };
-  }
-
   -- a walk that doesn't visit v stays
   walk-stays : (s : ℕ) (ws : List ℕ) (u : ℕ) → eqb s v ≡ false → has v ws ≡ false → eqb u v ≡ false → IsWalk (waits_for t) s ws u → IsWalk (waits_for t') s ws u
   walk-stays s [] u n h k walk = waits_for-alters v t t' a s u n k ∙ walk
   walk-stays s (w ∷ ws) u n h k walk = let p = or_parts (eqb w v) (has v ws) h in (waits_for-alters v t t' a s w n p.0 ∙ walk.0, walk-stays w ws u p.0 p.1 k walk.1)
-
--- two sessions on a cycle of the second table are on one of the first
-abbrev AreCirclesOld : Table → Table → Type 0
-AreCirclesOld t t' = (s u : ℕ) → AreOnCircle (waits_for t') s u → AreOnCircle (waits_for t) s u
-
--- grants make no cycle
-front-old : (qs : List Claim) (t : Table) → AreCirclesOld t (granted_while_fitting qs t)
-front-old [] t = λ s u c. c
-front-old (q ∷ qs) t = go (front-old qs (after_grant q.session q.resource q.mode t)) (fits t q.session q.resource q.mode)
-  where
-    go : AreCirclesOld (after_grant q.session q.resource q.mode t) (granted_while_fitting qs (after_grant q.session q.resource q.mode t))
-        → (b : Bool) → AreCirclesOld t (cond b (granted_while_fitting qs (after_grant q.session q.resource q.mode t)) t)
-    go rest true = λ s u c. circle-was q.session t (after_grant q.session q.resource q.mode t) (granted-alters q.session q.resource q.mode t) s u (rest s u c)
-    go rest false = λ s u c. c
-
--- nor do promotions
-promoted-old : (rs : List (List ℕ)) (t : Table) → AreCirclesOld t (after_promotions rs t)
-promoted-old [] t = λ s u c. c
-promoted-old (r ∷ rs) t = λ s u c. front-old (queue t r) t s u (promoted-old rs (after_promotion r t) s u c)
-
--- nor does a victim
-victim-old : (v : ℕ) (t : Table) → AreCirclesOld t (after_cancel v t)
-victim-old v t s u c = circle-was v t (without_request v t) (no_more-alters v t) s u (promoted-old (resource_of_request (request_of v t.requests)) (without_request v t) s u c)
-
--- each victim was on a cycle with s before the first was chosen
-victims-were_on : (s : ℕ) (vs : List ℕ) (st last : State) → AreVictims s vs st last → (v : ℕ) → IsAmong v vs → AreOnCircle (waits_for st.table) s v
-victims-were_on s [] st last a v i = absurd i
-victims-were_on s (w ∷ vs) st last a v (inl e) = rw e a.0.on_circle
-victims-were_on s (w ∷ vs) st last a v (inr i) = victim-old w st.table s v (victims-were_on s vs (after_victim w st) last a.1 v i)
 
 -- who is doomed
 
@@ -131,11 +79,6 @@ doomed-among s (w ∷ vs) st last a v n y = elim (cases_Bool (eqb v w)) [
   | inl e ↦ inl ((Decides-eqb v w).0 e)
   | inr k ↦ inr (doomed-among s vs (after_victim w st) last a.1 v (ap (λ (b : Bool). doomed_in (cond b (doom (st.begun w)) (st.begun v))) k ∙ n) y)
 ]
-
--- the doom of an open transaction dooms it
-doom-dooms : (o : Option Transaction) → is_some o ≡ true → doomed_in (doom o) ≡ true
-doom-dooms None h = absurd (cc)
-doom-dooms (Some x) h = refl
 
 module _ (st : State) (s v : ℕ) (n : is_doomed st v ≡ false) where
   -- a request that begins to wait, if the request dooms v
@@ -184,7 +127,7 @@ doomed-closes st s v c d =
       resource = w.0;
       target = w.1;
       begins = w.2;
-      on_cycle = victims-were_on s a.0 (with_waiting s w.0 w.1 st) (step st s c).state a.1 v (doomed-among s a.0 (with_waiting s w.0 w.1 st) (step st s c).state a.1 v d.0 d.1);
+      on_cycle = victims-on s a.0 (with_waiting s w.0 w.1 st) (step st s c).state a.1 v (doomed-among s a.0 (with_waiting s w.0 w.1 st) (step st s c).state a.1 v d.0 d.1);
     }
 
 -- each cycle has a victim on it
@@ -222,7 +165,7 @@ module _ (es : List Entry) (s : ℕ) (c : Call) (r : List ℕ) (k : Mode) (b : B
       let a = call-victims (state_of es) s c r k b in
       let m = meets-victim s a.0 (with_waiting s r k (state_of es)) (step (state_of es) s c).state i a.1 u ws walk in
       let d = (victims-keep s a.0 (with_waiting s r k (state_of es)) (step (state_of es) s c).state i.sound.once a.1).victims m.0 m.1 in
-      let o = on_circle-open (with_waiting s r k (state_of es)) s m.0 i.numbered (victims-were_on s a.0 (with_waiting s r k (state_of es)) (step (state_of es) s c).state a.1 m.0 m.1) in
+      let o = on_circle-open (with_waiting s r k (state_of es)) s m.0 i.numbered (victims-on s a.0 (with_waiting s r k (state_of es)) (step (state_of es) s c).state a.1 m.0 m.1) in
       (m.0, contained m.0 (u ∷ ws) m.2, ap doomed_in d.doomed ∙ doom-dooms ((state_of es).begun m.0) o)
 
 -- each cycle that a call closes has a session on it that is doomed after the call

@@ -11,18 +11,6 @@ use Rattle.lock_programs.specs.declared.program.Program.{Program}
 use Rattle.lock_programs.specs.Starts.{start_calls, last_call, call_before, path_calls}
 use Rattle.lock_programs.specs.Calls.{path_of, calls_of}
 
--- an item of the first of two lists
-pub get-left : {T : Type 0} (xs ys : List T) (k : ℕ) (x : T) → slice_get xs k ≡ Some x → slice_get (xs ++ ys) k ≡ Some x
-get-left [] ys k x h = absurd (cc)
-get-left (z ∷ zs) ys zero x h = h
-get-left (z ∷ zs) ys (suc k) x h = get-left zs ys k x h
-
--- an item of the second
-pub get-right : {T : Type 0} (xs ys : List T) (k n : ℕ) (x : T) → n ≡ length xs + k → slice_get ys k ≡ Some x → slice_get (xs ++ ys) n ≡ Some x
-get-right [] ys k n x e h = let f : n ≡ k = omega (arith, e) in ap (slice_get ys) f ∙ h
-get-right (z ∷ zs) ys k zero x e h = absurd (omega (arith, e))
-get-right (z ∷ zs) ys k (suc n) x e h = get-right zs ys k n x (omega (arith, e)) h
-
 -- as many calls on a path as were counted
 pub path-length : (r : List ℕ) (above : Mode) (last : Last) (from n : ℕ) → length (path_calls r above last from n) ≡ n
 path-length r above last from zero = refl

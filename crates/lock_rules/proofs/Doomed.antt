@@ -3,7 +3,8 @@ use Rattle.std.proofs.Common.{◌≡◌, ℕ, Bool, true, false, cond, not, eqb,
 use Rattle.std.proofs.lemmas.Bool.{or_cases, cases_Bool}
 use Rattle.std.proofs.lemmas.Bool.Decides.{Decides-eqb}
 use Rattle.lock_tree.specs.Paths.{same_path}
-use Rattle.lock_rules.specs.State.{Claim, Table, State, request_of, with_table}
+use Rattle.lock_rules.specs.declared.calls.Transaction.{Transaction}
+use Rattle.lock_rules.specs.State.{Claim, Table, State, request_of, doomed_in, with_table}
 use Rattle.lock_rules.specs.Queue.{with_request, after_promotions}
 use Rattle.lock_rules.specs.Waits.{resource_of_request, without_request, after_cancel, doom, after_victim}
 use Rattle.lock_rules.specs.Laws.{AreVictims, ArePromotionsLongest}
@@ -19,6 +20,11 @@ use Rattle.lock_rules.proofs.Taken.{IsUnchangedOrPromoted, refl-same, same-same,
 use Rattle.lock_rules.specs.declared.calls.Call.TheVariants.{Withdraw}
 use Rattle.lock_rules.specs.declared.calls.Reply.TheVariants.{Withdrawn}
 use Rattle.lock_rules.specs.Step.{Outcome, tests}
+
+-- the doom of an open transaction dooms it
+pub doom-dooms : (o : Option Transaction) → is_some o ≡ true → doomed_in (doom o) ≡ true
+doom-dooms None h = absurd (cc)
+doom-dooms (Some x) h = refl
 
 -- one victim
 

@@ -37,3 +37,4 @@ pub mod OpNumbers
 pub mod Ended
 pub mod ResourceOrder
 pub mod Listings
+pub mod KeptCycles

@@ -9,9 +9,7 @@ use Rattle.lock_rules.specs.declared.calls.Reply.{Reply}
 use Rattle.lock_rules.specs.declared.calls.Reply.TheVariants.{Granted, Waiting, Deadlock, Refused}
 use Rattle.lock_rules.specs.declared.calls.Why.{Why}
 use Rattle.lock_rules.specs.declared.calls.Why.TheVariants.{NoTransaction, IsWaiting, IsDoomed, NothingAsked, NotHeld, ParentNotHeld, TooManyLocks, WouldWait}
-use Rattle.lock_rules.specs.declared.calls.Transaction.{Transaction}
 use Rattle.lock_rules.specs.State.{Claim, Table, State, held_mode, mode_or_nothing, request_of, is_open, is_waiting, is_doomed, doomed_in, with_table}
-use Rattle.lock_rules.specs.Waits.{doom}
 use Rattle.lock_rules.specs.Queue.{queue, is_empty, fits, after_grant, is_granted_at_once, with_request}
 use Rattle.lock_rules.specs.Step.{Outcome, target_of, is_nothing, tests, first_failing, after_wait, is_held, after_asking, ask, outcome_of, would_wait}
 use Rattle.lock_rules.specs.Effects.{IsPromotionOf, IsTarget, IsFree, IsWaitOf, IsReplyAfterWait, IsWaitSettled, IsAnswerTo, IsLockAnswered, IsConvertAnswered, IsLockOfHeldConvert, IsGrantedHeld, IsConversionHeld, IsTryAnswered, DoesTryLeaveWaits}
@@ -24,7 +22,7 @@ use Rattle.lock_rules.proofs.Steps.{all-pass, is-none, try-locks, last-passes}
 use Rattle.lock_rules.proofs.States.{grant-one}
 use Rattle.lock_rules.proofs.Taken.{none, passes, step-acts}
 use Rattle.lock_rules.proofs.Victims.{settled-victims}
-use Rattle.lock_rules.proofs.Doomed.{victims-keep, among-or-not}
+use Rattle.lock_rules.proofs.Doomed.{doom-dooms, victims-keep, among-or-not}
 
 -- the target
 
@@ -178,10 +176,6 @@ module _ (st : State) (s : ℕ) (r : List ℕ) (k : Mode) where
 
   -- after a request, a session that isn't doomed and doesn't wait holds the target
   module _ (once : IsOnce st.table.requests) (n : request_of s st.table.requests ≡ None) (opened : is_open st s ≡ true) (up : at_or_below (mode_or_nothing (held_mode st.table s r)) k ≡ true) where
-    doomed-is : (o : Option Transaction) → is_some o ≡ true → doomed_in (doom o) ≡ true
-    doomed-is None e = absurd (cc)
-    doomed-is (Some x) e = refl
-
     own-request : request_of s (st.table.requests ++ new s r k ∷ []) ≡ Some (new s r k)
     own-request = request_of-push s st.table.requests (new s r k) n refl
 
@@ -195,7 +189,7 @@ module _ (st : State) (s : ℕ) (r : List ℕ) (k : Mode) where
         let v = settled-victims (length st.table.requests + 2) s waiting few in
         let kept = victims-keep s v.0 waiting (after_wait st s r k) (once-push s r k st.table.requests once n) v.1 in
         elim (among-or-not s v.0) [
-          | inl i ↦ absurd (true≢false (ap doomed_in (kept.victims s i).doomed ∙ doomed-is (st.begun s) opened) d)
+          | inl i ↦ absurd (true≢false (ap doomed_in (kept.victims s i).doomed ∙ doom-dooms (st.begun s) opened) d)
           | inr m ↦ elim (kept.others s m) [
             | inl a ↦ absurd (none (is-none (request_of s (after_wait st s r k).table.requests) w) (a.request ∙ own-request))
             | inr p ↦ promoted-held (after_wait st s r k).table p.0 p.1

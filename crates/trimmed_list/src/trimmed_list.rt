@@ -135,13 +135,7 @@ impl<T: Drop> TrimmedList<T> {
             return;
         }
         let count = dead as usize;
-        let len = self.tail.len();
-        if count == len {
-            self.tail.clear();
-        } else {
-            self.tail.rotate_left(count);
-            self.tail.truncate(len - count);
-        }
+        self.tail.drain(..count);
         self.dropped += dead;
     }
 

@@ -3,9 +3,11 @@ use Rattle.std.proofs.Common.{◌≡◌, ℕ, Bool, true, false, cond, eqb, inl,
 use Rattle.std.proofs.lemmas.Bool.{cases_Bool}
 use Rattle.std.proofs.lemmas.Bool.Decides.{Decides-eqb}
 use Rattle.waits_for.specs.Walks.{IsWalk, AreOnCircle}
-use Rattle.lock_rules.specs.State.{Claim, Table, request_of}
+use Rattle.lock_rules.specs.State.{Claim, Table, State, request_of}
 use Rattle.lock_rules.specs.Queue.{queue, fits, after_grant, granted_while_fitting, after_promotion, after_promotions}
-use Rattle.lock_rules.specs.Waits.{waits_for, resource_of_request, without_request, after_cancel}
+use Rattle.lock_rules.specs.Waits.{waits_for, resource_of_request, without_request, after_cancel, after_victim}
+use Rattle.lock_rules.specs.Laws.{AreVictims}
+use Rattle.lock_rules.specs.Effects.{IsAmong}
 use Rattle.lock_rules.proofs.Alters.{Alters, true≢false, waits_for-alters, waits_for-gone}
 use Rattle.lock_rules.proofs.Sound.{granted-alters, no_more-alters}
 
@@ -20,7 +22,7 @@ module _ (v : ℕ) (t t' : Table) (a : Alters v t t') where
   ]
 
   -- nor is a session from which a walk leads on
-  walk-apart : (s : ℕ) (ws : List ℕ) (u : ℕ) → IsWalk (waits_for t') s ws u → eqb s v ≡ false
+  pub walk-apart : (s : ℕ) (ws : List ℕ) (u : ℕ) → IsWalk (waits_for t') s ws u → eqb s v ≡ false
   walk-apart s [] u walk = waits-apart s u walk
   walk-apart s (w ∷ ws) u walk = waits-apart s w walk.0
 
@@ -67,3 +69,9 @@ cancelled-cycle v t s u c =
     let a = no_more-alters v t in
     let b = promoted-cycles (resource_of_request (request_of v t.requests)) (without_request v t) s u c in
     (cycle-before v t (without_request v t) a s u b, cycle-apart v t (without_request v t) a s u b)
+
+-- each victim of those that are chosen one after another was on a cycle with s from the beginning
+pub victims-on : (s : ℕ) (vs : List ℕ) (st last : State) → AreVictims s vs st last → (u : ℕ) → IsAmong u vs → AreOnCircle (waits_for st.table) s u
+victims-on s [] st last a u i = absurd i
+victims-on s (v ∷ vs) st last a u (inl e) = rw e a.0.on_circle
+victims-on s (v ∷ vs) st last a u (inr i) = (cancelled-cycle v st.table s u (victims-on s vs (after_victim v st) last a.1 u i)).0
