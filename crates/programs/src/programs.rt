@@ -58,6 +58,15 @@ impl<O: Programmed> Programs<O> {
     {
         &self.object
     }
+
+    /// Gives up the programs for the object that served their calls.
+    pub fn into_object(self) -> O
+        ensures object { result ≡ self.object }
+        ensures history { O.history result ≡ flat O.form self.history }
+    {
+        let Programs { object, history: _ } = self;
+        object
+    }
 }
 
 impl<O: Programmed> Sequential for Programs<O> {
