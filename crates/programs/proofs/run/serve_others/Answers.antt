@@ -23,7 +23,7 @@ loop-at-init g c =
 
 pub returns-in_default-clause-done : goal.returns-in_default-clause-done
 returns-in_default-clause-done g c = λ before b.
-    run-at-cut g.O.Programmed.form _ _ _ _ _ _ _ _ (c.loop-at.invariant.running before b) (omega (arith, c.loop-at-test.true, c.length-length.ensures)) (ap g.O.Sequential.history c.in_default.ensures.refused)
+    run-at-cut g.O.Programmed.form _ _ _ _ _ _ _ _ (c.loop-at.invariant.running before b) (omega (arith, c.loop-at.auto.at)) (omega (arith, c.loop-at-test.true, c.length-length.ensures)) (ap g.O.Sequential.history c.in_default.ensures.refused)
     (c.refuse.ensures.replies c.args.program.now) c.refuse.ensures.first c.refuse.ensures.refused
 
 pub returns-then-not-goes_on-2-clause-done : goal.returns-then-not-goes_on-2-clause-done
