@@ -111,7 +111,7 @@ module _ {P A C R : Type 0} (form : Form P A C R) where
     history = e ∙ h.history ∙ ap (λ (rs : List R). old ++ entries s (form.calls p) rs) (sym f);
     run = (
       subst (λ (q : List R). IsRun form (form.calls p) q (form.refused b)) (sym f)
-        (subst (IsRun form (form.calls p) (form.replies p a)) (sym j) (run-cut (form.calls p) (form.replies p a) h.going (omega (arith, h.count, l)))),
+          (subst (IsRun form (form.calls p) (form.replies p a)) (sym j) (run-cut (form.calls p) (form.replies p a) h.going (omega (arith, h.count, l)))),
       λ x. omega (arith, some, h.count, ap (λ (q : List R). length q) f),
     );
   }

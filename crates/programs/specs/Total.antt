@@ -82,8 +82,7 @@ module _ {P A C R : Type 0} (form : Form P A C R) (is_legal : List (Entry C R) �
         a.0,
         legal-push form is_legal s p a.0 h l
             (subst (λ (rs : List R). is_legal (flat form h ++ entries s (form.calls p) rs)) (sym a.1) r.legal)
-            a.2
-            (
+            a.2 (
               subst (λ (rs : List R). IsRun form (form.calls p) rs (form.refused a.0)) (sym a.1) (subst (IsRun form (form.calls p) r.replies) (sym a.3) r.run),
               λ (e : form.refused a.0 ≡ true). absurd (let f = a.3 in cc),
             ),
