@@ -10,6 +10,7 @@
 //! ([`laws`]).
 #![tactic(auto)]
 
+mod has_book;
 pub mod laws;
 mod opening;
 mod paths;
@@ -19,9 +20,10 @@ pub use combining::{
     CloseFault, Ended, GoesOn, Nobody, OpenFault, Posted, Told, Turn, Wait, back_off, call, resume,
     row_turn, turn,
 };
+pub use has_book::HasBook;
 pub use lock_board::{Knowledge, Ticket as Session};
 use lock_desk::{Book, Entry, Reply};
-pub use opening::open_keeping;
+pub use opening::{book_keeping, open_keeping};
 pub use paths::{NextOfPath, PathPerformed, WhileGranted, lock_path, path_turn};
 
 /// A lock table that threads share by reference, each with sessions of its own.
