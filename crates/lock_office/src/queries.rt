@@ -14,12 +14,12 @@ ghost use Rattle.lock_rules.specs.Listing.{listing_of, waiting_line};
 ghost use Rattle.publication.specs.Boards.{HasCallsOf};
 ghost use Rattle.combining.specs.Sessions.{IsSessionOf};
 ghost use Rattle.lock_desk.specs.Queries.{blockers_among};
-ghost use Rattle.combining.specs.Looks.{HasLooked};
+ghost use Rattle.combining.specs.Looks.{IsLooking, HasBegunToLook, HasLooked};
 
 use crate::has_book::HasBook;
 use combining::Office;
 use lock_desk::{Book, Claim, Mode, NoMemory, Resource, Transaction};
-use publication::Ticket as Session;
+use publication::{Load, Ticket as Session};
 use std::alloc::Global;
 
 /// The answer to a question about the lock table of an open office.
@@ -46,6 +46,20 @@ fn list_blockers(book: &Book, sessions: u16, whose: u16, list: &mut Vec<u16>)
     }
 }
 
+/// Gives the lock table back, and returns how many calls its history has.
+fn end_look<O: HasBook>(office: &Office<O>, session: &mut Session<O>, load: Box<Load<O>>) -> u64
+    requires looks { IsLooking O.Sequential office.now session.old load.value }
+    ensures ours { IsSessionOf office.now session.new }
+    ensures looked { (before : _) → HasBegunToLook O.Sequential before session.old → HasLooked O.Sequential before session.new }
+    ensures front { session.new.front ≡ O.history load.value.object }
+    ensures length { result ≡ length (O.calls session.new.front) }
+    ensures calls { HasCallsOf session.new.front session.new }
+{
+    let length = load.object.book().served();
+    office.end_look(session, load);
+    length
+}
+
 /// The mode of the lock that session `whose` holds on `resource`, `None` if it holds none, as `Book::held` tells it.
 ///
 /// `None` in place of an answer, with nothing changed, means that another session had the lock table, as
@@ -65,10 +79,8 @@ pub fn held<O: HasBook>(
     ensures calls { HasCallsOf session.new.front session.new }
 {
     let load = office.look(session)?;
-    let book = load.object.book();
-    let length = book.served();
-    let found = book.held(whose, resource);
-    office.end_look(session, load);
+    let found = load.object.book().held(whose, resource);
+    let length = end_look(office, session, load);
     Some(Snapshot { length, found })
 }
 
@@ -88,10 +100,8 @@ pub fn waits_for<O: HasBook>(
     ensures calls { HasCallsOf session.new.front session.new }
 {
     let load = office.look(session)?;
-    let book = load.object.book();
-    let length = book.served();
-    let found = book.waits_for(whose, other);
-    office.end_look(session, load);
+    let found = load.object.book().waits_for(whose, other);
+    let length = end_look(office, session, load);
     Some(Snapshot { length, found })
 }
 
@@ -111,10 +121,8 @@ pub fn transaction<O: HasBook>(
     ensures calls { HasCallsOf session.new.front session.new }
 {
     let load = office.look(session)?;
-    let book = load.object.book();
-    let length = book.served();
-    let found = book.transaction(whose);
-    office.end_look(session, load);
+    let found = load.object.book().transaction(whose);
+    let length = end_look(office, session, load);
     Some(Snapshot { length, found })
 }
 
@@ -133,10 +141,8 @@ pub fn request<O: HasBook>(
     ensures calls { HasCallsOf session.new.front session.new }
 {
     let load = office.look(session)?;
-    let book = load.object.book();
-    let length = book.served();
-    let found = book.request(whose);
-    office.end_look(session, load);
+    let found = load.object.book().request(whose);
+    let length = end_look(office, session, load);
     Some(Snapshot { length, found })
 }
 
@@ -164,10 +170,8 @@ pub fn holders<O: HasBook>(
     let Some(load) = office.look(session) else {
         return Ok(None);
     };
-    let book = load.object.book();
-    let length = book.served();
-    let listed = book.holders(resource, list);
-    office.end_look(session, load);
+    let listed = load.object.book().holders(resource, list);
+    let length = end_look(office, session, load);
     match listed {
         Ok(()) => Ok(Some(length)),
         Err(refused) => Err(refused),
@@ -201,10 +205,8 @@ pub fn blockers<O: HasBook>(
     let Some(load) = office.look(session) else {
         return Ok(None);
     };
-    let book = load.object.book();
-    let length = book.served();
-    list_blockers(book, sessions, whose, list);
-    office.end_look(session, load);
+    list_blockers(load.object.book(), sessions, whose, list);
+    let length = end_look(office, session, load);
     Ok(Some(length))
 }
 
@@ -231,10 +233,8 @@ pub fn locks<O: HasBook>(
     let Some(load) = office.look(session) else {
         return Ok(None);
     };
-    let book = load.object.book();
-    let length = book.served();
-    let listed = book.locks(alloc, list);
-    office.end_look(session, load);
+    let listed = load.object.book().locks(alloc, list);
+    let length = end_look(office, session, load);
     match listed {
         Ok(()) => Ok(Some(length)),
         Err(refused) => Err(refused),

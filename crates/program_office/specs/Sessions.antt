@@ -6,8 +6,8 @@ use Rattle.lock_programs.specs.declared.answer.Answer.{Answer as ProgramAnswer}
 use Rattle.lock_programs.specs.Calls.{calls_of}
 use Rattle.lock_desk.specs.Batches.{makes_room}
 use Rattle.programs.specs.Form.{first_goes_first}
-use Rattle.publication.specs.Views.{BoardView}
 use Rattle.combining.specs.Sessions as any
+pub use Rattle.combining.specs.Sessions.{IsSessionOf, IsIdle, HasNothingPending, IsPendingServed}
 use Rattle.combining.specs.Looks.{HasLooked as HasLookedAt}
 use Rattle.combining.specs.declared.office.Answer.{Answer as AnswerOf}
 use Rattle.combining.specs.declared.office.perform.Performed.{Performed as PerformedOf}
@@ -18,18 +18,6 @@ Answer = AnswerOf ProgramAnswer
 
 abbrev pub Performed : Type 0
 Performed = PerformedOf ProgramAnswer
-
-abbrev pub IsSessionOf : BoardView → TicketView → Type 0
-IsSessionOf = any.IsSessionOf
-
-abbrev pub IsIdle : TicketView → Type 0
-IsIdle = any.IsIdle
-
-abbrev pub HasNothingPending : TicketView → Type 0
-HasNothingPending = any.HasNothingPending
-
-abbrev pub IsPendingServed : TicketView → Type 0
-IsPendingServed = any.IsPendingServed
 
 abbrev pub IsPassed : TicketView → TicketView → ℕ → Type 0
 IsPassed = any.IsPassed program_object
