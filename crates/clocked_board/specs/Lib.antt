@@ -1,0 +1,4 @@
+pub mod Counters
+pub mod Kinds
+pub mod Moments
+pub mod Rule
