@@ -8,7 +8,7 @@ module _ {C R : Type 0} where
   same-append true x xs ys = refl
   same-append false x xs ys = refl
 
-  noted-append : (i at : ℕ) (xs ys : List (Event C R)) → noted_from i at (xs ++ ys) ≡ noted_from i at xs ++ noted_from i (at + length xs) ys
+  pub noted-append : (i at : ℕ) (xs ys : List (Event C R)) → noted_from i at (xs ++ ys) ≡ noted_from i at xs ++ noted_from i (at + length xs) ys
   noted-append i at [] ys = let z : at ≡ at + 0 = omega arith in ap (λ (p : ℕ). noted_from i p ys) z
   noted-append i at (e ∷ xs) ys =
       let n : at + 1 + length xs ≡ at + suc (length xs) = omega arith in

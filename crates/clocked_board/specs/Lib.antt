@@ -1,3 +1,4 @@
+pub mod Closed
 pub mod Counters
 pub mod Kinds
 pub mod Moments

@@ -2,11 +2,12 @@
 
 ghost use Rattle.std.specs.Prelude.{◌≡◌, ◌≢◌, ◌⊎◌, ◌+◌, ◌<◌, ◌≤◌, ℕ, [], true, false, Some, None, IfOk, IfSome, IfNone};
 ghost use Rattle.atomic_table.specs.Seated.{TableId};
+ghost use Rattle.clocked_board.specs.Closed.{WereLinearizable};
 ghost use Rattle.clocked_board.specs.Counters.{ONE};
 ghost use Rattle.clocked_board.specs.Rule.{maker, new_session};
 ghost use Rattle.clocked_board.specs.Kinds.{calling, returning, seizing, serving, releasing};
 
-use crate::kinds::{BoardRule, Enrol, Publish, Release, Seize, Serve, Take};
+use crate::kinds::{BoardRule, Enrol, Gather, Publish, Release, Seize, Serve, Take};
 use crate::view::View;
 use crate::words::{EMPTY, FREE, LAST, LOCK, POSTED};
 use atomic_table::Table;
@@ -23,7 +24,7 @@ pub type Board = Table<u8, View, (), BoardRule, Global>;
 
 /// A new board, and the seats of its sessions 1 and 2, which have made no call.
 pub fn open(alloc: Global) -> Result<(Board, Seat, Seat), NoMemory>
-    ensures ours { IfOk result (λ made. (made.0.shared.table_id.words ≡ 3) × (made.1.table_id ≡ made.0.shared.table_id) × (made.2.table_id ≡ made.0.shared.table_id)) }
+    ensures ours { IfOk result (λ made. (made.0.shared.table_id.words ≡ 3) × (made.0.shared.table_id.slots ≡ 0) × (made.1.table_id ≡ made.0.shared.table_id) × (made.2.table_id ≡ made.0.shared.table_id)) }
     ensures first { IfOk result (λ made. made.1.me ≡ (new_session 1, [])) }
     ensures second { IfOk result (λ made. made.2.me ≡ (new_session 2, [])) }
 {
@@ -124,4 +125,16 @@ pub fn serve(shared: &Shared, seat: &mut Seat, number: u64) -> bool
     let value = serve_record(shared, seat, 2, value);
     release(shared, seat, value);
     true
+}
+
+/// Ends the board, to which both sessions hand in their seats. A session's last call may not have returned.
+pub fn close(board: Board, first: Seat, second: Seat)
+    requires ours { (first.table_id ≡ board.shared.table_id) × (second.table_id ≡ board.shared.table_id) × (board.shared.table_id.words ≡ 3) × (board.shared.table_id.slots ≡ 0) }
+    requires first { (first.me.0.number ≡ 1) × (first.me.0.handed ≡ []) }
+    requires second { (second.me.0.number ≡ 2) × (second.me.0.handed ≡ []) × (second.me.0.has_lock ≡ false) × (second.me.1 ≡ []) }
+    ensures linearizable { WereLinearizable first.me.0.log second.me.0.log }
+{
+    let mut closing = first;
+    board.shared.join_seat::<Gather>(&mut closing, second);
+    board.close_with(closing).free();
 }

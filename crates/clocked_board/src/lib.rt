@@ -4,9 +4,10 @@
 
 mod board;
 mod kinds;
+pub mod laws;
 mod view;
 mod words;
 
-pub use board::{Board, Seat, Shared, collect, open, publish, serve};
+pub use board::{Board, Seat, Shared, close, collect, open, publish, serve};
 pub use kinds::BoardRule;
 pub use view::View;
