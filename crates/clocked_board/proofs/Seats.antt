@@ -3,7 +3,7 @@ use Rattle.std.proofs.Common.{◌≡◌, ◌≢◌, ◌⊎◌, inl, inr, ⊎_eli
 use mathlib.Core.Option as opt
 use native.Mathlib.Decide.{ℕ_discrete}
 use lib.ListN.{get_elem?}
-use Rattle.atomic_table.specs.Table.{Splits, Joins, Final, Seen}
+use Rattle.atomic_table.specs.Table.{Splits, Joins}
 use Rattle.atomic_table.proofs.Lists.{at_set, set_else, at_longer, at_last}
 use Rattle.sequential.specs.Linearizable.{Event, invocation, response, Calls, after_response, after_events}
 use Rattle.clocked_board.specs.Moments.{noted_from, noted}
@@ -303,19 +303,14 @@ enrols-as id v made first is few = subst (λ (n : ℕ). Splits IsRuled n v (make
     (subst (λ (x : View). Splits IsRuled 0 x (maker (x.made + 1)) (new_session (x.made + 1))) (sym is) (enrols made few))
 
 -- What the last state says, when session 2 was handed in to session 1.
-pub closed : (words slots : List ℕ) (id : ℕ) (v w : View) → v.number ≡ 1 → v.handed ≡ [] → w.number ≡ 2 → Final (Seen IsRuled id (gathering v w)) words slots → WereLinearizable v.log w.log
-closed words slots id v w first none second last =
-    let s = last.0 in
-    let r = last.1.0 in
-    let me = last.1.1 in record {
+pub closed : (s : BoardState) (id : ℕ) (v w u : View) → IsRuled s → HasView s id u → u ≡ gathering v w → v.number ≡ 1 → v.handed ≡ [] → w.number ≡ 2 → WereLinearizable v.log w.log
+closed s id v w u r there is first none second =
+    let me : HasView s id (gathering v w) = there ∙ ap opt.some is in record {
       events = r.events;
       history = r.history;
       first_noted = r.are_events.noted_so id (gathering v w) 1 v.log me (inl ((λ z. omega (arith, z, first)), first, refl));
-      second_noted = r.are_events.noted_so id (gathering v w) 2 w.log me (inr (
-        0,
-        ap (λ (l : List (ℕ × List (ℕ × Event ℕ ℕ))). get_elem? (l ++ (w.number, w.log) ∷ []) 0) none
-            ∙ ap (λ (n : ℕ). opt.some (n, w.log)) second,
-      ));
+      second_noted = r.are_events.noted_so id (gathering v w) 2 w.log me (inr (0, ap (λ (l : List (ℕ × List (ℕ × Event ℕ ℕ))). get_elem? (l ++ (w.number, w.log) ∷ []) 0) none
+          ∙ ap (λ (n : ℕ). opt.some (n, w.log)) second));
       well_formed = r.well_formed;
       linear = r.linear;
     }

@@ -19,4 +19,4 @@ returns c =
     let q = c.requires.second in
     let e = c.join_seat.ensures in
     let last = c.close_with.ensures.values.2 in
-    record { linearizable = closed _ _ c.join_seat.new.seat.id c.args.first.me.0 c.args.second.me.0 p.0 p.1 q.0 (subst (λ (x : View). Final (Seen IsRuled c.join_seat.new.seat.id x) _ _) (ap (λ (m : Me ℕ View). m.0) e.2) last) }
+    record { linearizable = closed last.0 c.join_seat.new.seat.id c.args.first.me.0 c.args.second.me.0 c.join_seat.new.seat.me.0 last.1.0 last.1.1 (ap (λ (m : Me ℕ View). m.0) e.2) p.0 p.1 q.0 }
