@@ -297,10 +297,21 @@ gathers id v other w some no_lock none s r at apart beside = record {
         ))
         (at_end v.handed (w.number, w.log) (i, log) p e)
 
+-- It is no event.
+pub enrols-events : (made : ℕ) (few : made + 1 < 3) (s : BoardState) (r : IsRuled s) (at : HasView s 0 (maker made)) → (enrols made few s r at).events ≡ r.events
+unfolding enrols
+enrols-events made few s r at = refl
+
 -- The same, of a seat that has this view.
 pub enrols-as : (id : ℕ) (v : View) (made : ℕ) → id ≡ 0 → v ≡ maker made → made + 1 < 3 → Splits IsRuled id v (maker (v.made + 1)) (new_session (v.made + 1))
 enrols-as id v made first is few = subst (λ (n : ℕ). Splits IsRuled n v (maker (v.made + 1)) (new_session (v.made + 1))) (sym first)
     (subst (λ (x : View). Splits IsRuled 0 x (maker (x.made + 1)) (new_session (x.made + 1))) (sym is) (enrols made few))
+
+-- That is no event.
+pub gathers-events : (id : ℕ) (v : View) (other : ℕ) (w : View) (some : w.number ≢ 0) (no_lock : w.has_lock ≡ false) (none : w.handed ≡ []) (s : BoardState) (r : IsRuled s) (at : HasView s id v) (apart : ¬ (other ≡ id))
+    (beside : get_elem? (set s.views id (gathering v w)) other ≡ opt.some w) → (gathers id v other w some no_lock none s r at apart beside).events ≡ r.events
+unfolding gathers
+gathers-events id v other w some no_lock none s r at apart beside = refl
 
 -- What the last state says, when session 2 was handed in to session 1.
 pub closed : (s : BoardState) (id : ℕ) (v w u : View) → IsRuled s → HasView s id u → u ≡ gathering v w → v.number ≡ 1 → v.handed ≡ [] → w.number ≡ 2 → WereLinearizable v.log w.log
@@ -309,8 +320,11 @@ closed s id v w u r there is first none second =
       events = r.events;
       history = r.history;
       first_noted = r.are_events.noted_so id (gathering v w) 1 v.log me (inl ((λ z. omega (arith, z, first)), first, refl));
-      second_noted = r.are_events.noted_so id (gathering v w) 2 w.log me (inr (0, ap (λ (l : List (ℕ × List (ℕ × Event ℕ ℕ))). get_elem? (l ++ (w.number, w.log) ∷ []) 0) none
-          ∙ ap (λ (n : ℕ). opt.some (n, w.log)) second));
+      second_noted = r.are_events.noted_so id (gathering v w) 2 w.log me (inr (
+        0,
+        ap (λ (l : List (ℕ × List (ℕ × Event ℕ ℕ))). get_elem? (l ++ (w.number, w.log) ∷ []) 0) none
+            ∙ ap (λ (n : ℕ). opt.some (n, w.log)) second,
+      ));
       well_formed = r.well_formed;
       linear = r.linear;
     }

@@ -1,8 +1,5 @@
-use Rattle.std.proofs.Common.{rules, ◌≡◌, ℕ, ◌∙◌, sym, ap, subst, arith}
-use Rattle.std.specs.Slots.{slots_items}
-use Rattle.atomic_table.specs.Table.{Me, Final, Seen}
-use Rattle.clocked_board.specs.Rule.{IsRuled}
-use Rattle.clocked_board.specs.Kinds.{gathering}
+use Rattle.std.proofs.Common.{rules, ℕ, ap, arith}
+use Rattle.atomic_table.specs.Table.{Me}
 use Rattle.clocked_board.specs.declared.view.View.{View}
 use Rattle.clocked_board.proofs.Seats.{gathers, closed}
 use Rattle.clocked_board.proofs.board.close.Goals as goal
