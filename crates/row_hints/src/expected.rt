@@ -31,7 +31,7 @@ pub fn expected_text(
     let mut lines = Lines::new(alloc);
     let first = format!(in alloc; "place {place}: the reply isn't the lock table's")?;
     lines.put_first(first.as_str())?;
-    put_entry(&mut lines, "in the history:  ", place, *told)?;
+    put_entry(&mut lines, "in the history:   ", place, *told)?;
     let right = Entry {
         session: told.session,
         call: told.call,

@@ -1,7 +1,7 @@
 //! What helps if a place, a session, an op or a mode is wrong, or a field isn't empty.
 
 use crate::hint::{BadRow, Field};
-use crate::lexing::Span;
+use crate::lexing::{Span, field_span, unquoted};
 use crate::lines::Lines;
 use crate::marked_row::shown;
 use crate::shape_help::NO_COMMENTS;
@@ -43,15 +43,22 @@ pub(crate) fn put_blanks(lines: &mut Lines, field: &[u8]) -> Result<bool, NoMemo
     Ok(true)
 }
 
-/// Writes that the row is a comment or a header, if its first field tells so. Returns whether it does.
+/// Whether the row may be a header: the first row, with a word in front and no op.
+fn may_be_header(bad: &BadRow<'_>) -> bool {
+    let has_word = match unquoted(field_span(bad.row, 0).of(bad.row)) {
+        [first, ..] => first.is_ascii_alphabetic(),
+        [] => false,
+    };
+    bad.number == 1 && has_word && same_letters(bad.field(Field::Op), &OP_WORDS).is_none()
+}
+
+/// Writes that the row is a comment or may be a header, if it is so. Returns whether it is.
 fn put_no_row(lines: &mut Lines, bad: &BadRow<'_>) -> Result<bool, NoMemory> {
     if bad.row.starts_with(b"#") {
         lines.put(NO_COMMENTS)?;
         return Ok(true);
     }
-    let first = bad.row.iter().find(|byte| byte.is_ascii_alphabetic());
-    let op = bad.field(Field::Op);
-    if bad.number == 1 && first.is_some() && same_letters(op, &OP_WORDS).is_none() {
+    if may_be_header(bad) {
         lines.put("is it a header? rows have none: take the line out")?;
         return Ok(true);
     }

@@ -13,11 +13,11 @@ fn wanted_count(bad: &BadRow<'_>) -> u64 {
     if bad.command.reads_history() { 7 } else { 4 }
 }
 
-/// What is marked: the fields that are too many, or the whole row.
+/// What is marked: the fields that are too many, or the whole row, if too few are there or it is of a history.
 fn mark_of(bad: &BadRow<'_>, count: u64) -> Span {
     let wanted = wanted_count(bad);
     let end = bad.row.len();
-    if count <= wanted {
+    if count <= wanted || count == 7 {
         return Span { start: 0, end };
     }
     let start = field_span(bad.row, wanted).start;
