@@ -1,1 +1,1 @@
--- Nothing.
+pub mod HintTexts

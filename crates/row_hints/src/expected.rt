@@ -1,6 +1,7 @@
 //! A wrong reply of a history, beside the right one.
 
-ghost use Rattle.std.specs.Prelude.{◌≡◌, ◌+◌, ◌≤◌, ◌^◌, IfOk};
+ghost use Rattle.std.specs.Prelude.{IfOk};
+ghost use Rattle.row_hints.specs.HintTexts.{IsHintText};
 
 use crate::lexing::{Span, field_span, row_length};
 use crate::lines::Lines;
@@ -12,7 +13,7 @@ use std::io::Write;
 
 /// Writes the row of an entry behind `head`, with a mark below the reply and its value.
 fn put_entry(lines: &mut Lines, head: &str, place: u64, entry: Entry) -> Result<(), NoMemory> {
-    let text = piece_text(lines.alloc, place, &[entry])?;
+    let text = piece_text(lines.alloc(), place, &[entry])?;
     let (length, _) = row_length(&text);
     let row = text.get(..length).unwrap_or(b"");
     let start = field_span(row, 5).start;
@@ -27,7 +28,9 @@ pub fn expected_text(
     place: u64,
     told: &Entry,
     given: &Reply,
-) -> Result<Vec<u8>, NoMemory> {
+) -> Result<Vec<u8>, NoMemory>
+    ensures { IfOk result (λ text. IsHintText text.items) }
+{
     let mut lines = Lines::new(alloc);
     let first = format!(in alloc; "place {place}: the reply isn't the lock table's")?;
     lines.put_first(first.as_str())?;

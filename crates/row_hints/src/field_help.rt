@@ -22,7 +22,7 @@ const REPEATED_BYTES: usize = 24;
 
 /// Writes the word that is meant.
 pub(crate) fn put_meant(lines: &mut Lines, word: &str) -> Result<(), NoMemory> {
-    lines.put(format!(in lines.alloc; "is '{word}' meant?")?.as_str())
+    lines.put(format!(in lines.alloc(); "is '{word}' meant?")?.as_str())
 }
 
 /// Writes that blanks count, if the field has some at its ends. Returns whether it has.
@@ -36,9 +36,9 @@ pub(crate) fn put_blanks(lines: &mut Lines, field: &[u8]) -> Result<bool, NoMemo
         return Ok(true);
     }
     let first = inner.get(..REPEATED_BYTES).unwrap_or(inner);
-    let text = shown(lines.alloc, first)?;
+    let text = shown(lines.alloc(), first)?;
     let rest = if first.len() < inner.len() { ".." } else { "" };
-    let line = format!(in lines.alloc; "blanks count: write '{text}{rest}'")?;
+    let line = format!(in lines.alloc(); "blanks count: write '{text}{rest}'")?;
     lines.put(line.as_str())?;
     Ok(true)
 }
@@ -73,21 +73,21 @@ pub(crate) fn put_place(lines: &mut Lines, bad: &BadRow<'_>) -> Result<(), NoMem
         return Ok(());
     }
     let place = bad.number.saturating_sub(1);
-    let line = format!(in lines.alloc; "places count rows from 0: this row's is {place}")?;
+    let line = format!(in lines.alloc(); "places count rows from 0: this row's is {place}")?;
     lines.put(line.as_str())
 }
 
 /// Writes which sessions there are, if the field is a number.
 fn put_session_number(lines: &mut Lines, digits: &[u8], sessions: u16) -> Result<(), NoMemory> {
     let line = match parse_numeral(digits, u64::from(MAX_SESSIONS)) {
-        Ok(0) => format!(in lines.alloc; "sessions are numbered from 1 to {sessions}")?,
-        Ok(number) => format!(in lines.alloc;
+        Ok(0) => format!(in lines.alloc(); "sessions are numbered from 1 to {sessions}")?,
+        Ok(number) => format!(in lines.alloc();
             "sessions are numbered from 1 to {sessions}: --sessions {number} makes room for this one"
         )?,
-        Err(_) if digits.starts_with(b"0") => format!(in lines.alloc;
+        Err(_) if digits.starts_with(b"0") => format!(in lines.alloc();
             "numbers have no leading zeros"
         )?,
-        Err(_) => format!(in lines.alloc; "there are at most {MAX_SESSIONS} sessions")?,
+        Err(_) => format!(in lines.alloc(); "there are at most {MAX_SESSIONS} sessions")?,
     };
     lines.put(line.as_str())
 }
@@ -101,7 +101,7 @@ pub(crate) fn put_session(lines: &mut Lines, bad: &BadRow<'_>) -> Result<(), NoM
     }
     let sessions = bad.sessions;
     if field.iter().any(|byte| !byte.is_ascii_digit()) || field.is_empty() {
-        let line = format!(in lines.alloc;
+        let line = format!(in lines.alloc();
             "a session is a number from 1 to {sessions}, in digits"
         )?;
         return lines.put(line.as_str());
@@ -117,7 +117,7 @@ pub(crate) fn put_op(lines: &mut Lines, bad: &BadRow<'_>) -> Result<(), NoMemory
         return Ok(());
     }
     if let Some(word) = same_letters(field, &OP_WORDS) {
-        let line = format!(in lines.alloc; "ops are in lower case: write '{word}'")?;
+        let line = format!(in lines.alloc(); "ops are in lower case: write '{word}'")?;
         return lines.put(line.as_str());
     }
     if let Some(word) = meant_op(field) {
@@ -132,7 +132,7 @@ pub(crate) fn put_mode_help(lines: &mut Lines, field: &[u8]) -> Result<(), NoMem
         return Ok(());
     }
     if let Some(word) = same_letters(field, &MODE_WORDS) {
-        let line = format!(in lines.alloc; "modes are in upper case: write '{word}'")?;
+        let line = format!(in lines.alloc(); "modes are in upper case: write '{word}'")?;
         return lines.put(line.as_str());
     }
     if let Some(word) = meant_mode(field) {
@@ -152,7 +152,7 @@ pub(crate) fn put_mode(lines: &mut Lines, bad: &BadRow<'_>) -> Result<(), NoMemo
     let field = bad.field(Field::Mode);
     if field.is_empty() {
         let op = op_word_of(bad);
-        lines.put(format!(in lines.alloc; "{op} takes a mode")?.as_str())?;
+        lines.put(format!(in lines.alloc(); "{op} takes a mode")?.as_str())?;
     }
     put_mode_help(lines, field)
 }
@@ -174,7 +174,7 @@ pub(crate) fn put_extra(lines: &mut Lines, bad: &BadRow<'_>) -> Result<(), NoMem
         Span { start, end }
     };
     bad.put_row(lines, mark)?;
-    let line = format!(in lines.alloc;
+    let line = format!(in lines.alloc();
         "{op} takes no resource and no mode: leave both fields empty"
     )?;
     lines.put(line.as_str())

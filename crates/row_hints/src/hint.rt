@@ -1,6 +1,7 @@
 //! The hint to the fault of a row.
 
-ghost use Rattle.std.specs.Prelude.{◌≡◌, IfOk};
+ghost use Rattle.std.specs.Prelude.{IfOk};
+ghost use Rattle.row_hints.specs.HintTexts.{IsHintText};
 
 use crate::field_help::{put_extra, put_mode, put_op, put_place, put_session};
 use crate::kept::KeptRows;
@@ -112,7 +113,7 @@ impl BadRow<'_> {
     /// Writes the row with a mark below this part.
     pub(crate) fn put_row(&self, lines: &mut Lines, mark: Span) -> Result<(), NoMemory> {
         let number = self.line;
-        let head = format!(in lines.alloc; "line {number}: ")?;
+        let head = format!(in lines.alloc(); "line {number}: ")?;
         put_marked_row(lines, head.as_str(), self.row, mark)
     }
 
@@ -174,7 +175,9 @@ pub fn hint_text(
     fault: &TraceFault,
     command: Command,
     sessions: u16,
-) -> Result<Vec<u8>, NoMemory> {
+) -> Result<Vec<u8>, NoMemory>
+    ensures { IfOk result (λ text. IsHintText text.items) }
+{
     let mut lines = Lines::new(alloc);
     if let Some(bad) = bad_row(rows, fault.row, command, sessions) {
         put_hint(&mut lines, &bad, fault.kind)?;

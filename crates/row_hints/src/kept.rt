@@ -1,5 +1,8 @@
 //! A reader that keeps the last rows of what it reads, so that a bad row can be shown.
 
+ghost use Rattle.std.specs.Prelude.{◌≡◌};
+ghost use Rattle.row_hints.specs.KeptReaders.{reader_of};
+
 use crate::lexing::count_rows;
 use std::alloc::Global;
 use std::io;
@@ -118,7 +121,9 @@ pub struct Kept<R> {
 
 impl<R> Kept<R> {
     /// Wraps a reader of which nothing was read.
-    pub fn new(alloc: Global, input: R) -> Kept<R> {
+    pub fn new(alloc: Global, input: R) -> Kept<R>
+        ensures { reader_of result ≡ input }
+    {
         Kept {
             input,
             rows: KeptRows::new(alloc),
@@ -132,7 +137,7 @@ impl<R> Kept<R> {
 }
 
 impl<R: Read> Read for Kept<R> {
-    ghost remaining = { λ kept. R.remaining kept.input };
+    ghost remaining = { λ kept. R.remaining (reader_of kept) };
 
     /// Reads from the reader, and keeps what it gave.
     fn read(&mut self, bytes: &mut [u8]) -> io::Result<usize> {

@@ -79,7 +79,7 @@ pub(crate) fn put_marked_row(
         start: mark_end,
         end: part.end,
     };
-    let mut line = String::from_str(lines.alloc, head)?;
+    let mut line = String::from_str(lines.alloc(), head)?;
     if part.start > 0 {
         line.push_str("..")?;
     }
@@ -97,7 +97,7 @@ pub(crate) fn put_marked_row(
 
 /// Writes the line of the mark.
 fn put_mark(lines: &mut Lines, column: usize, width: usize) -> Result<(), NoMemory> {
-    let mut line = String::new(lines.alloc);
+    let mut line = String::new(lines.alloc());
     put_times(&mut line, " ", column)?;
     line.push_str("^")?;
     put_times(&mut line, "~", width.saturating_sub(1))?;

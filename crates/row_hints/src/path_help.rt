@@ -66,7 +66,7 @@ pub(crate) fn put_path(
     match fault {
         PathFault::Empty if field.is_empty() => {
             let op = op_word_of(bad);
-            lines.put(format!(in lines.alloc; "{op} takes a resource")?.as_str())?;
+            lines.put(format!(in lines.alloc(); "{op} takes a resource")?.as_str())?;
             lines.put(RESOURCES_ARE)
         }
         PathFault::Empty => lines.put("a number is missing beside the '/'"),

@@ -18,7 +18,7 @@ pub(crate) fn put_reply(lines: &mut Lines, bad: &BadRow<'_>) -> Result<(), NoMem
         return Ok(());
     }
     if let Some(word) = same_letters(field, &REPLY_WORDS) {
-        let line = format!(in lines.alloc; "replies are in lower case: write '{word}'")?;
+        let line = format!(in lines.alloc(); "replies are in lower case: write '{word}'")?;
         return lines.put(line.as_str());
     }
     if let Some(word) = meant_reply(field) {
@@ -48,12 +48,12 @@ pub(crate) fn put_value(lines: &mut Lines, bad: &BadRow<'_>) -> Result<(), NoMem
         _ if put_blanks(lines, field)? => Ok(()),
         "began" => lines.put("began has the number of the transaction"),
         "committed" | "aborted" => {
-            let line = format!(in lines.alloc; "{reply} has the number of locks given back")?;
+            let line = format!(in lines.alloc(); "{reply} has the number of locks given back")?;
             lines.put(line.as_str())
         }
         "refused" => put_why(lines, field),
         _ => {
-            let line = format!(in lines.alloc; "{reply} has no value: leave the field empty")?;
+            let line = format!(in lines.alloc(); "{reply} has no value: leave the field empty")?;
             lines.put(line.as_str())
         }
     }

@@ -44,8 +44,8 @@ fn put_wanted(lines: &mut Lines, bad: &BadRow<'_>, count: u64) -> Result<(), NoM
     } else {
         "1,begin,,"
     };
-    lines.put(format!(in lines.alloc; "{count} {unit}: {wanted}")?.as_str())?;
-    lines.put(format!(in lines.alloc;
+    lines.put(format!(in lines.alloc(); "{count} {unit}: {wanted}")?.as_str())?;
+    lines.put(format!(in lines.alloc();
         "empty fields have their commas too, as in {example}"
     )?.as_str())
 }
@@ -54,10 +54,10 @@ fn put_wanted(lines: &mut Lines, bad: &BadRow<'_>, count: u64) -> Result<(), NoM
 fn put_by_count(lines: &mut Lines, bad: &BadRow<'_>, count: u64) -> Result<(), NoMemory> {
     let name = bad.command.name();
     let line = match (bad.command.reads_history(), count) {
-        (true, 4) => format!(in lines.alloc;
+        (true, 4) => format!(in lines.alloc();
             "4 fields: this is a trace, and {name} reads a history; glm replay writes a trace's history"
         )?,
-        (false, 7) => format!(in lines.alloc;
+        (false, 7) => format!(in lines.alloc();
             "7 fields: this is a history, and {name} reads a trace, which has only fields 2 to 5 of each row"
         )?,
         _ => return put_wanted(lines, bad, count),
