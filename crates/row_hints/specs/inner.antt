@@ -1,1 +1,2 @@
 pub mod PrintableBytes
+pub mod Spots

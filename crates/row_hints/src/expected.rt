@@ -29,7 +29,7 @@ pub fn expected_text(
     told: &Entry,
     given: &Reply,
 ) -> Result<Vec<u8>, NoMemory>
-    ensures { IfOk result (λ text. IsHintText text.items) }
+    ensures lines { IfOk result (λ text. IsHintText text.items) }
 {
     let mut lines = Lines::new(alloc);
     let first = format!(in alloc; "place {place}: the reply isn't the lock table's")?;

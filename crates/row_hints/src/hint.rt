@@ -176,7 +176,7 @@ pub fn hint_text(
     command: Command,
     sessions: u16,
 ) -> Result<Vec<u8>, NoMemory>
-    ensures { IfOk result (λ text. IsHintText text.items) }
+    ensures lines { IfOk result (λ text. IsHintText text.items) }
 {
     let mut lines = Lines::new(alloc);
     if let Some(bad) = bad_row(rows, fault.row, command, sessions) {

@@ -122,7 +122,7 @@ pub struct Kept<R> {
 impl<R> Kept<R> {
     /// Wraps a reader of which nothing was read.
     pub fn new(alloc: Global, input: R) -> Kept<R>
-        ensures { reader_of result ≡ input }
+        ensures source { reader_of result ≡ input }
     {
         Kept {
             input,

@@ -1,5 +1,11 @@
 //! Finds rows and fields in a text, by the rules of the `csv` crate.
 
+ghost use Rattle.std.specs.Prelude.{◌≡◌};
+ghost use Rattle.csv.specs.Machine.{step};
+ghost use Rattle.csv.specs.Reading.{default_config};
+ghost use Rattle.csv.specs.declared.parser.State.{State};
+ghost use Rattle.row_hints.specs.inner.Spots.{IsSpotOf};
+
 /// Where in a row the next byte is, by the rules of the `csv` crate.
 #[derive(Clone, Copy, Debug, Drop, PartialEq, Eq)]
 pub(crate) enum Spot {
@@ -17,7 +23,9 @@ pub(crate) enum Spot {
 
 impl Spot {
     /// The spot behind `byte`.
-    pub(crate) fn after(self, byte: u8) -> Spot {
+    pub(crate) fn after(self, byte: u8) -> Spot
+        ensures csv { (state : State) → IsSpotOf state self → IsSpotOf (step default_config state byte).0 result }
+    {
         match (self, byte) {
             (Spot::Quoted, b'"') => Spot::QuoteInQuoted,
             (Spot::Quoted, _) => Spot::Quoted,
