@@ -1,10 +1,10 @@
 -- Hints, line by line.
-use Rattle.std.proofs.Common.{◌≡◌, ◌≤◌, ◌<◌, ◌⊎◌, inl, inr, ℕ, Bool, true, false, refl, sym, subst, ◌∙◌, ap, List, [], ◌∷◌, ◌++◌, append_assoc, codes, map, get_or, arith}
+use Rattle.std.proofs.Common.{◌≡◌, inl, inr, ℕ, refl, sym, subst, ◌∙◌, ap, List, [], ◌∷◌, ◌++◌, codes, map, get_or, arith}
 use Rattle.std.specs.Prelude.{Result, Ok, Err, OnOk, OnErr}
-use Rattle.std.specs.List.{All, flat_map}
+use Rattle.std.specs.List.{All}
 use Rattle.std.proofs.lemmas.List.{flat_map_more}
 use Rattle.std.proofs.lemmas.List.Elements.{All-nil, All-cons, All-append, All-map}
-use Rattle.row_hints.specs.HintTexts.{IsPrintable, BeginsWith, IsHintLine, IsHintText, with_line_feed}
+use Rattle.row_hints.specs.HintTexts.{IsPrintable, IsHintLine, IsHintText, with_line_feed}
 use Rattle.row_hints.specs.inner.PrintableBytes.{printable_byte}
 
 -- A text with one line more.

@@ -1,2 +1,3 @@
 pub mod PrintableBytes
 pub mod Spots
+pub mod WordLists

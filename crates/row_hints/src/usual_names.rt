@@ -1,6 +1,12 @@
 //! The words of rows, and words that stand for them elsewhere.
 
-use lock_rules::Why;
+ghost use Rattle.std.specs.Prelude.{◌≡◌, map};
+ghost use Rattle.lock_modes.specs.Codes.{name_of};
+ghost use Rattle.lock_trace.specs.Words.{word_of, word_of_reply};
+ghost use Rattle.row_hints.specs.inner.WordLists.{texts};
+
+use lock_modes::MODES;
+use lock_rules::{OPS, REFUSALS, REPLY_KINDS, Why};
 
 /// The ops of a trace.
 pub(crate) const OP_WORDS: [&str; 9] = [
@@ -23,6 +29,13 @@ pub(crate) const REPLY_WORDS: [&str; 10] = [
     "refused",
     "withdrawn",
 ];
+
+/// The words are those that rows have.
+fn words_are_those_of_rows()
+    ensures ops { texts OP_WORDS ≡ map word_of OPS }
+    ensures modes { texts MODE_WORDS ≡ map name_of MODES }
+    ensures replies { texts REPLY_WORDS ≡ map word_of_reply REPLY_KINDS }
+{}
 
 /// What other systems call an op, and the op.
 const OTHER_OPS: [(&str, &str); 30] = [
@@ -178,7 +191,7 @@ pub(crate) fn meant_reply(field: &[u8]) -> Option<&'static str> {
 
 /// The refusal whose name the field is but for upper and lower case.
 pub(crate) fn meant_why(field: &[u8]) -> Option<&'static str> {
-    for why in lock_rules::REFUSALS {
+    for why in REFUSALS {
         let name = Why::name(why);
         if field.eq_ignore_ascii_case(name.as_bytes()) {
             return Some(name);
