@@ -92,11 +92,11 @@ const TRACES: [(&str, &str); 43] = [
     ),
     (
         "# a,b,c,d",
-        "  line 1: # a,b,c,d\n          ^~~\n  comments aren't read: take the line out\n",
+        "  line 1: # a,b,c,d\n          ^~~\n  is it a comment? --comments skips lines that begin with '#'\n",
     ),
     (
         "# a\n",
-        "  line 1: # a\n          ^~~\n  comments aren't read: take the line out\n",
+        "  line 1: # a\n          ^~~\n  is it a comment? --comments skips lines that begin with '#'\n",
     ),
     (
         "0,1,begin,,,began,1\n",

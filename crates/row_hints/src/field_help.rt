@@ -4,7 +4,7 @@ use crate::hint::{BadRow, Field};
 use crate::lexing::{Span, field_span, unquoted};
 use crate::lines::Lines;
 use crate::marked_row::shown;
-use crate::shape_help::NO_COMMENTS;
+use crate::shape_help::MAY_BE_COMMENT;
 use crate::usual_names::{MODE_WORDS, OP_WORDS, meant_mode, meant_op, same_letters};
 use lock_rules::MAX_SESSIONS;
 use lock_tree::parse_numeral;
@@ -55,7 +55,7 @@ fn may_be_header(bad: &BadRow<'_>) -> bool {
 /// Writes that the row is a comment or may be a header, if it is so. Returns whether it is.
 fn put_no_row(lines: &mut Lines, bad: &BadRow<'_>) -> Result<bool, NoMemory> {
     if bad.row.starts_with(b"#") {
-        lines.put(NO_COMMENTS)?;
+        lines.put(MAY_BE_COMMENT)?;
         return Ok(true);
     }
     if may_be_header(bad) {

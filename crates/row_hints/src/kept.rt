@@ -109,8 +109,8 @@ impl KeptRows {
     }
 }
 
-/// A reader that gives what the reader in it gives, and keeps the last rows of it. Lend it to what reads, and ask it for the
-/// rows afterwards.
+/// A reader that gives what the reader in it gives, and keeps the last rows of it. Lend it to what reads rows, and ask it for
+/// the rows afterwards. What leaves out lines that are no rows, as comments, belongs into it: rows are counted in what it gives.
 #[derive(Drop)]
 pub struct Kept<R> {
     /// The reader.

@@ -5,8 +5,9 @@ use crate::lexing::{Span, field_count, field_span, is_unclosed};
 use crate::lines::Lines;
 use std::alloc::AllocError as NoMemory;
 
-/// The line for a comment.
-pub(crate) const NO_COMMENTS: &str = "comments aren't read: take the line out";
+/// The line for a row that may be a comment.
+pub(crate) const MAY_BE_COMMENT: &str =
+    "is it a comment? --comments skips lines that begin with '#'";
 
 /// How many fields the command's rows have.
 fn wanted_count(bad: &BadRow<'_>) -> u64 {
@@ -70,7 +71,7 @@ pub(crate) fn put_shape(lines: &mut Lines, bad: &BadRow<'_>) -> Result<(), NoMem
     let count = field_count(bad.row);
     bad.put_row(lines, mark_of(bad, count))?;
     if bad.row.starts_with(b"#") {
-        return lines.put(NO_COMMENTS);
+        return lines.put(MAY_BE_COMMENT);
     }
     if is_unclosed(bad.row) {
         return lines.put("a quote isn't closed: the field goes on to the end of the input");
