@@ -30,13 +30,6 @@ pub(crate) const REPLY_WORDS: [&str; 10] = [
     "withdrawn",
 ];
 
-/// The words are those that rows have.
-fn words_are_those_of_rows()
-    ensures ops { texts OP_WORDS ≡ map word_of OPS }
-    ensures modes { texts MODE_WORDS ≡ map name_of MODES }
-    ensures replies { texts REPLY_WORDS ≡ map word_of_reply REPLY_KINDS }
-{}
-
 /// What other systems call an op, and the op.
 const OTHER_OPS: [(&str, &str); 30] = [
     ("acquire", "lock"),
@@ -199,3 +192,10 @@ pub(crate) fn meant_why(field: &[u8]) -> Option<&'static str> {
     }
     None
 }
+
+/// The words are those that rows have.
+fn words_are_those_of_rows()
+    ensures ops { texts OP_WORDS ≡ map word_of OPS }
+    ensures modes { texts MODE_WORDS ≡ map name_of MODES }
+    ensures replies { texts REPLY_WORDS ≡ map word_of_reply REPLY_KINDS }
+{}
