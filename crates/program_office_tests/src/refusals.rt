@@ -207,18 +207,22 @@ fn commit(rt: &impl Abort, office: &Office, only: &mut Session, way: Way) -> Ref
     }
 }
 
+/// The resource of this level on the path to the record.
+fn on_path(rt: &impl Abort, record: &Resource, level: usize) -> Resource {
+    let numbers = record.numbers();
+    assert!(rt; level <= numbers.len());
+    Resource::from_numbers(&numbers[..level]).expect(rt, "a resource")
+}
+
 /// The flat history is the same, whether memory was refused or not: each call once.
 fn want_history(rt: &impl Abort, book: &Book, record: &Resource) {
-    let numbers = record.numbers();
-    assert!(rt; numbers.len() == 5);
     let ix = Reply::Granted(Mode::IX);
-    let on = |level: usize| Resource::from_numbers(&numbers[..level]).expect(rt, "a resource");
     let history = [
         entry(1, Call::Begin, Reply::Began(1)),
-        entry(1, Call::Lock(on(1), Mode::IX), ix),
-        entry(1, Call::Lock(on(2), Mode::IX), ix),
-        entry(1, Call::Lock(on(3), Mode::IX), ix),
-        entry(1, Call::Lock(on(4), Mode::IX), ix),
+        entry(1, Call::Lock(on_path(rt, record, 1), Mode::IX), ix),
+        entry(1, Call::Lock(on_path(rt, record, 2), Mode::IX), ix),
+        entry(1, Call::Lock(on_path(rt, record, 3), Mode::IX), ix),
+        entry(1, Call::Lock(on_path(rt, record, 4), Mode::IX), ix),
         entry(1, Call::Lock(*record, Mode::X), Reply::Granted(Mode::X)),
         entry(1, Call::Commit, Reply::Committed(5)),
         entry(1, Call::Begin, Reply::Began(2)),
