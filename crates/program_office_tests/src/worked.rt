@@ -4,10 +4,10 @@ ghost use Rattle.std.specs.Prelude.{◌≡◌, ◌≤◌, All, IfSome};
 ghost use Rattle.combining.specs.Sessions.{IsSessionOf, IsIdle};
 
 use crate::answers::{entry, want_kept};
-use crate::offices::{Answered, Office, Session, closed, want_answer, want_told};
-use combining::{Called, Ended, Performed, call};
+use crate::offices::{Answered, Office, Session, closed, want, want_answer, want_told};
+use combining::{Called, Ended, Performed, call, resume};
 use lock_desk::{Book, Call, Entry, Mode, Reply, Resource, Why};
-use lock_programs::Program;
+use lock_programs::{Program, Start};
 use std::alloc::Global;
 use std::process::Abort;
 use std::test::Fail;
@@ -21,6 +21,8 @@ enum Way {
     Published,
     /// By a whole call.
     Whole,
+    /// Publishes it, and resumes it: no turn changes nothing, and one turn answers it.
+    Resumed,
 }
 
 /// An entry of a worked history, and the session whose wait it ends; 0 if it ends none.
@@ -30,6 +32,29 @@ struct Worked {
     entry: Entry,
     /// The session whose wait it ends.
     ends: u16,
+}
+
+/// Publishes a program, and resumes it. `None` if it is answered without a turn, or not by one.
+fn make_resumed(
+    office: &Office,
+    session: &mut Session,
+    program: &Program,
+    ended: &mut Ended,
+) -> Option<Answered>
+    requires ours { IsSessionOf office.now session.old × IsIdle session.old }
+    requires room { office.now.sessions ≤ ended.old.room }
+    ensures ours { IsSessionOf office.now session.new }
+    ensures idle { IfSome result (λ _. IsIdle session.new) }
+    ensures room { ended.new.room ≡ ended.old.room }
+{
+    let _posted = office.publish(session, *program);
+    let Called::NotYet = resume(office, session, 0, ended) else {
+        return None;
+    };
+    match resume(office, session, 1, ended) {
+        Called::Answered(answer) => Some(answer),
+        _ => None,
+    }
 }
 
 /// Makes a program in this way. `None` if there is no answer.
@@ -60,6 +85,7 @@ fn make(
             Called::Answered(answer) => Some(answer),
             _ => None,
         },
+        Way::Resumed => make_resumed(office, session, program, ended),
     }
 }
 
@@ -134,7 +160,8 @@ fn want_worked(rt: &impl Abort, alloc: Global, history: &[Worked], way: Way) -> 
 fn want_in_each_way(rt: &impl Abort, alloc: Global, history: &[Worked]) -> Result<(), Fail> {
     want_worked(rt, alloc, history, Way::AtOnce)?;
     want_worked(rt, alloc, history, Way::Published)?;
-    want_worked(rt, alloc, history, Way::Whole)
+    want_worked(rt, alloc, history, Way::Whole)?;
+    want_worked(rt, alloc, history, Way::Resumed)
 }
 
 /// A call that ends no wait.
@@ -218,4 +245,54 @@ fn programs_of_one_call_give_the_histories_of_calls(rt: HostRuntime) -> Result<(
     want_in_each_way(&rt, rt.alloc(), &told(one))?;
     want_in_each_way(&rt, rt.alloc(), &left(one))?;
     want_in_each_way(&rt, rt.alloc(), &paths(one, file, page))
+}
+
+/// Makes the calls of `paths` by four programs: those of a path are one, up to where it waits.
+fn make_paths(
+    rt: &impl Abort,
+    office: &Office,
+    first: &mut Session,
+    second: &mut Session,
+    file: Resource,
+    page: Resource,
+)
+    requires first { IsSessionOf office.now first.old }
+    requires second { IsSessionOf office.now second.old }
+    ensures first { IsSessionOf office.now first.new }
+    ensures second { IsSessionOf office.now second.new }
+{
+    assert!(rt; page.level() == 3 && file.level() == 2);
+    let (ix, x) = (Reply::Granted(Mode::IX), Reply::Granted(Mode::X));
+    let writes = Program::locks(Start::Begins, &file, Mode::X, 0);
+    want(rt, office, first, &writes, 0, 0, &[Reply::Began(1), ix, x]);
+    let waits = Program::locks(Start::Begins, &page, Mode::X, 0);
+    want(
+        rt,
+        office,
+        second,
+        &waits,
+        1,
+        3,
+        &[Reply::Began(2), ix, Reply::Waiting],
+    );
+    let ends = Program::start(Start::Commits);
+    want(rt, office, first, &ends, 2, 6, &[Reply::Committed(2)]);
+    let rest = Program::locks(Start::Nothing, &page, Mode::X, 1);
+    want(rt, office, second, &rest, 3, 7, &[ix, x]);
+}
+
+/// Programs of several calls give the history of their calls, too.
+#[test]
+fn programs_of_paths_give_the_history_of_their_calls(rt: HostRuntime) -> Result<(), Fail> {
+    let one = Resource::from_numbers(&[1]).ok_or("no resource")?;
+    let file = Resource::from_numbers(&[1, 2]).ok_or("no resource")?;
+    let page = Resource::from_numbers(&[1, 2, 5]).ok_or("no resource")?;
+    let (office, mut sessions) = Office::open(rt.alloc(), 2)?;
+    let mut second = sessions.pop().expect(&rt, "session 2");
+    let mut first = sessions.pop().expect(&rt, "session 1");
+    make_paths(&rt, &office, &mut first, &mut second, file, page);
+    sessions.push(first)?;
+    sessions.push(second)?;
+    let object = closed(&rt, office, sessions);
+    want_history(&rt, rt.alloc(), object.object(), &paths(one, file, page))
 }
