@@ -165,21 +165,21 @@ fn want_in_each_way(rt: &impl Abort, alloc: Global, history: &[Worked]) -> Resul
 }
 
 /// A call that ends no wait.
-fn made(session: u16, call: Call, reply: Reply) -> Worked {
+fn made(session: u16, call: &Call, reply: Reply) -> Worked {
     ends(session, call, reply, 0)
 }
 
 /// A call that ends the wait of this session.
-fn ends(session: u16, call: Call, reply: Reply, ends: u16) -> Worked {
+fn ends(session: u16, call: &Call, reply: Reply, ends: u16) -> Worked {
     Worked {
-        entry: entry(session, call, reply),
+        entry: entry(session, *call, reply),
         ends,
     }
 }
 
 /// A begin alone.
 fn begun() -> [Worked; 1] {
-    [made(1, Call::Begin, Reply::Began(1))]
+    [made(1, &Call::Begin, Reply::Began(1))]
 }
 
 /// Sessions 1 and 2 wait for each other's commits by turns.
@@ -187,35 +187,35 @@ fn told(one: Resource) -> [Worked; 15] {
     let write = Call::Lock(one, Mode::X);
     let read = Call::Lock(one, Mode::S);
     [
-        made(1, Call::Begin, Reply::Began(1)),
-        made(2, Call::Begin, Reply::Began(2)),
-        made(1, write, Reply::Granted(Mode::X)),
-        made(2, read, Reply::Waiting),
-        ends(1, Call::Commit, Reply::Committed(1), 2),
-        made(1, Call::Begin, Reply::Began(3)),
-        made(1, write, Reply::Waiting),
-        ends(2, Call::Commit, Reply::Committed(1), 1),
-        made(2, Call::Begin, Reply::Began(4)),
-        made(2, write, Reply::Waiting),
-        ends(1, Call::Commit, Reply::Committed(1), 2),
-        made(2, Call::Poll, Reply::Clear),
-        made(1, Call::Begin, Reply::Began(5)),
-        made(1, write, Reply::Waiting),
-        ends(2, Call::Commit, Reply::Committed(1), 1),
+        made(1, &Call::Begin, Reply::Began(1)),
+        made(2, &Call::Begin, Reply::Began(2)),
+        made(1, &write, Reply::Granted(Mode::X)),
+        made(2, &read, Reply::Waiting),
+        ends(1, &Call::Commit, Reply::Committed(1), 2),
+        made(1, &Call::Begin, Reply::Began(3)),
+        made(1, &write, Reply::Waiting),
+        ends(2, &Call::Commit, Reply::Committed(1), 1),
+        made(2, &Call::Begin, Reply::Began(4)),
+        made(2, &write, Reply::Waiting),
+        ends(1, &Call::Commit, Reply::Committed(1), 2),
+        made(2, &Call::Poll, Reply::Clear),
+        made(1, &Call::Begin, Reply::Began(5)),
+        made(1, &write, Reply::Waiting),
+        ends(2, &Call::Commit, Reply::Committed(1), 1),
     ]
 }
 
 /// Session 1 leaves a poll and its lock, and session 2 goes on.
 fn left(one: Resource) -> [Worked; 7] {
     [
-        made(1, Call::Begin, Reply::Began(1)),
-        made(2, Call::Begin, Reply::Began(2)),
-        made(1, Call::Lock(one, Mode::X), Reply::Granted(Mode::X)),
-        made(2, Call::Lock(one, Mode::S), Reply::Waiting),
-        made(1, Call::Poll, Reply::Clear),
+        made(1, &Call::Begin, Reply::Began(1)),
+        made(2, &Call::Begin, Reply::Began(2)),
+        made(1, &Call::Lock(one, Mode::X), Reply::Granted(Mode::X)),
+        made(2, &Call::Lock(one, Mode::S), Reply::Waiting),
+        made(1, &Call::Poll, Reply::Clear),
         // who withdraws isn't told of it
-        ends(2, Call::Withdraw, Reply::Withdrawn, 0),
-        made(2, Call::Try(one, Mode::S), Reply::Refused(Why::WouldWait)),
+        ends(2, &Call::Withdraw, Reply::Withdrawn, 0),
+        made(2, &Call::Try(one, Mode::S), Reply::Refused(Why::WouldWait)),
     ]
 }
 
@@ -223,15 +223,15 @@ fn left(one: Resource) -> [Worked; 7] {
 fn paths(one: Resource, file: Resource, page: Resource) -> [Worked; 9] {
     let ix = Reply::Granted(Mode::IX);
     [
-        made(1, Call::Begin, Reply::Began(1)),
-        made(1, Call::Lock(one, Mode::IX), ix),
-        made(1, Call::Lock(file, Mode::X), Reply::Granted(Mode::X)),
-        made(2, Call::Begin, Reply::Began(2)),
-        made(2, Call::Lock(one, Mode::IX), ix),
-        made(2, Call::Lock(file, Mode::IX), Reply::Waiting),
-        ends(1, Call::Commit, Reply::Committed(2), 2),
-        made(2, Call::Lock(file, Mode::IX), ix),
-        made(2, Call::Lock(page, Mode::X), Reply::Granted(Mode::X)),
+        made(1, &Call::Begin, Reply::Began(1)),
+        made(1, &Call::Lock(one, Mode::IX), ix),
+        made(1, &Call::Lock(file, Mode::X), Reply::Granted(Mode::X)),
+        made(2, &Call::Begin, Reply::Began(2)),
+        made(2, &Call::Lock(one, Mode::IX), ix),
+        made(2, &Call::Lock(file, Mode::IX), Reply::Waiting),
+        ends(1, &Call::Commit, Reply::Committed(2), 2),
+        made(2, &Call::Lock(file, Mode::IX), ix),
+        made(2, &Call::Lock(page, Mode::X), Reply::Granted(Mode::X)),
     ]
 }
 

@@ -1,7 +1,8 @@
 //! Transfers through an office, by programs and by single calls.
 
-ghost use Rattle.std.specs.Prelude.{◌≡◌, ◌<◌, ◌≤◌, [], IfOk, length};
+ghost use Rattle.std.specs.Prelude.{◌≡◌, ◌≤◌, [], IfOk};
 ghost use Rattle.std.specs.Bool.{OnTrue};
+ghost use Rattle.std.specs.List.{All};
 ghost use Rattle.lock_bench.specs.declared.timing.TheConstants.{SESSIONS};
 ghost use Rattle.combining.specs.Sessions.{IsSessionOf, IsIdle};
 
@@ -60,12 +61,15 @@ fn make_transfer<O: Asked>(office: &Office<O>, session: &mut Session<O>, number:
     requires ours { IsSessionOf office.now session.old × IsIdle session.old }
     ensures ours { OnTrue result (IsSessionOf office.now session.new × IsIdle session.new) }
 {
-    let Some([from, to, end]) = transfer(session.number(), number) else {
+    let Some(programs) = transfer(session.number(), number) else {
         return false;
     };
-    O::make(office, session, &from)
-        && O::make(office, session, &to)
-        && O::make(office, session, &end)
+    for program in &programs {
+        if !O::make(office, session, program) {
+            return false;
+        }
+    }
+    true
 }
 
 /// Makes so many transfers. Fails if a call isn't granted or done, or isn't answered.
@@ -149,21 +153,30 @@ pub fn turn_of_programs<R: Threads + Clock + Sync>(
     spans::whole(spans)
 }
 
-/// Makes so many transfers of the only session of an office of this object, which has served no calls.
-fn make_alone<O: Asked>(alloc: Global, object: O, count: u64) -> Result<(), Fault>
-    requires empty { O.history object ≡ [] }
+/// Makes so many transfers of the first session.
+fn make_of_first<O: Asked>(
+    office: &Office<O>,
+    sessions: &mut Vec<Session<O>>,
+    count: u64,
+) -> Result<(), Fault>
+    requires ours { All (λ session. IsSessionOf office.now session × IsIdle session) sessions.old.items }
 {
-    let (office, mut sessions) = Office::share(alloc, object).map_err(|_| Fault::NoMemory)?;
-    let mut session = sessions.pop().ok_or(Fault::NoAnswer)?;
-    make_transfers(&office, &mut session, count)
+    if sessions.is_empty() {
+        return Err(Fault::NoAnswer);
+    }
+    make_transfers(office, &mut sessions[0], count)
 }
 
 /// Makes so many transfers by single calls, on one thread.
 pub fn make_by_calls(alloc: Global, count: u64) -> Result<(), Fault> {
-    make_alone(alloc, new_book(alloc, 1)?, count)
+    let book = new_book(alloc, 1)?;
+    let (office, mut sessions) = Office::share(alloc, book).map_err(|_| Fault::NoMemory)?;
+    make_of_first(&office, &mut sessions, count)
 }
 
 /// Makes so many transfers by programs, on one thread.
 pub fn make_by_programs(alloc: Global, count: u64) -> Result<(), Fault> {
-    make_alone(alloc, Programs::new(new_book(alloc, 1)?), count)
+    let object = Programs::new(new_book(alloc, 1)?);
+    let (office, mut sessions) = Office::share(alloc, object).map_err(|_| Fault::NoMemory)?;
+    make_of_first(&office, &mut sessions, count)
 }
