@@ -3,7 +3,7 @@
 //! The history of calls is that of the office's programs laid end to end (`flat_history`). `IsRuled s` says that the rule of the board
 //! holds in state `s`, as `atomic_table` promises it of the running board between any two atomic steps.
 
-ghost use Rattle.std.specs.Prelude.{◌≡◌, ◌≢◌, ◌⊎◌, ◌↔◌, ℕ, true, List, [], ◌∷◌, ◌++◌, Option, Some, None, slice_get};
+ghost use Rattle.std.specs.Prelude.{◌≡◌, ◌≢◌, ◌⊎◌, ◌↔◌, ℕ, ◌<◌, ◌≤◌, true, List, [], ◌∷◌, ◌++◌, Option, Some, None, slice_get};
 ghost use Rattle.lock_modes.specs.declared.Mode.{Mode};
 ghost use Rattle.lock_rules.specs.declared.calls.Call.{Call};
 ghost use Rattle.lock_rules.specs.declared.calls.Reply.{Reply};
@@ -11,7 +11,8 @@ ghost use Rattle.lock_rules.specs.Legal.{state_of};
 ghost use Rattle.lock_rules.specs.Laws.{HoldsAtLeast, GoTogether};
 ghost use Rattle.lock_programs.specs.declared.program.Program.{Program};
 ghost use Rattle.lock_programs.specs.Calls.{calls_of};
-ghost use Rattle.lock_programs.specs.Answers.{replies_of};
+ghost use Rattle.lock_programs.specs.Answers.{replies_of, program_form};
+ghost use Rattle.programs.specs.Laws.{IsBefore};
 ghost use Rattle.publication.specs.Views.{BoardView, asks, entry};
 ghost use Rattle.publication.specs.Boards.{HasCallsOf};
 ghost use Rattle.publication.specs.Collected.{HasCollected};
@@ -111,9 +112,12 @@ pub fn no_wake_up_is_lost()
 
 /// The order of the history of calls keeps real time, program by program. In a run, a program whose answer any session had collected in
 /// state `s` stands wholly before each program that a session publishes, or performs, after `s`, by whichever session, whether or not
-/// that one has heard of it, and whether or not its answer is collected.
+/// that one has heard of it, and whether or not its answer is collected. And each program that a session knew of when it published one
+/// of its own, at a place below the floor of that one, stands wholly before it (`known`).
 pub fn programs_stand_in_the_order_of_time()
-    ensures { (s t : BoardState) → IsRuled s → IsRun s t → DoProgramsRespectTime s t }
+    ensures in_time { (s t : BoardState) → IsRuled s → IsRun s t → DoProgramsRespectTime s t }
+    ensures known { (history : List ProgramEntry) (earlier floor place : ℕ) (x y : ProgramEntry) → IsLegal history → earlier < floor → floor ≤ place →
+        slice_get history earlier ≡ Some x → slice_get history place ≡ Some y → IsBefore program_form x y }
 {}
 
 /// A program of one call that was answered with a reply has its call in the history of calls, at the place that the answer tells, with
