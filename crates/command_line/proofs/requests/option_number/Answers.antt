@@ -2,7 +2,7 @@ use Rattle.std.proofs.Common.{rules, arith, sym, ◌≡◌, ◌∙◌}
 use Rattle.std.specs.Prelude.{Ok, Err}
 use Rattle.lock_tree.specs.Numerals.{reading_of_numeral}
 use Rattle.command_line.proofs.Gives.{no_text_found, nothing_given, numeral_given, numeral_not_given, reading_is, text_found}
-use Rattle.command_line.proofs.args.option_number.Goals as goal
+use Rattle.command_line.proofs.requests.option_number.Goals as goal
 
 pub returns-in_default-clause-none : goal.returns-in_default-clause-none
 returns-in_default-clause-none c = nothing_given _ _ _ (no_text_found _ _ _ c.option_text.ensures c.in_default.is)

@@ -6,7 +6,7 @@ use Rattle.clap.specs.Faults.{fault_of, is_simple_and_free}
 use Rattle.clap.specs.Kinds.{FailsBy}
 use Rattle.clap.proofs.OnLiterals.{clap_on_literals}
 use Rattle.command_line.specs.CommandLine.{glm_command}
-use Rattle.command_line.proofs.args.parse.Goals as goal
+use Rattle.command_line.proofs.requests.parse.Goals as goal
 
 -- the program's command is simple enough for the parser's contract
 is_simple_command : is_simple glm_command ≡ true

@@ -6,7 +6,7 @@ use Rattle.lock_tree.specs.Numerals.{reading_of_numeral}
 use Rattle.command_line.specs.declared.args.TheConstants.{MAX_PLACE}
 use Rattle.command_line.proofs.AskShow.{place_given, place_not_given}
 use Rattle.command_line.proofs.Gives.{reading_is, text_found}
-use Rattle.command_line.proofs.args.option_place.Goals as goal
+use Rattle.command_line.proofs.requests.option_place.Goals as goal
 
 pub returns-in-Ok-clause-ok : goal.returns-in-Ok-clause-ok
 returns-in-Ok-clause-ok c =
