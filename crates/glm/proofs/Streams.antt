@@ -1,6 +1,7 @@
 -- What the outcome of a command on files says of the standard streams.
-use Rattle.std.proofs.Common.{arith, rules, ap, refl, sym, subst, subst₂, ◌≡◌, ◌≢◌, ◌∙◌, ℕ, Bool, true, false, List, Option, Some, None, Ok, Err, option_map, if◌then◌else◌, ◌↔◌, true≢false}
+use Rattle.std.proofs.Common.{ap, inl, inr, refl, sym, subst, subst₂, ◌≡◌, ◌≢◌, ◌∙◌, ℕ, Bool, true, false, List, Option, Some, None, Ok, Err, option_map, if◌then◌else◌, ◌↔◌, true≢false}
 use Rattle.std.specs.Io.KnownBytes.{Keeps}
+use Rattle.std.proofs.KnownBytes.{Keeps-refl}
 use Rattle.clap.specs.Walk.{Row, Text}
 use Rattle.clap.specs.Kinds.{IsAmong, Kinds}
 use Rattle.clap.specs.Simple.{subcommand_of}
@@ -13,7 +14,7 @@ use Rattle.row_comments.specs.Comments.{text_read, without_comments}
 use Rattle.glm.specs.declared.outcomes.Outcome.{Outcome}
 use Rattle.glm.specs.declared.outcomes.Outcome.TheVariants as outcome
 use Rattle.glm.specs.Outcomes.{HasDone, status_of_outcome}
-use Rattle.glm.specs.Streams.{HasDoneInFile, HasDoneOnStreams, HasOutcome}
+use Rattle.glm.specs.Streams.{HasDoneInFile, HasDoneOnStreams, HasOutcome, IsFileFault}
 
 -- standard output stays as it was if what was written did
 kept_in : (words : List Text) (input old new : Option (List ℕ)) (o : Outcome) (s : HasDoneOnStreams words input old new o) → Keeps s.before s.after
@@ -91,3 +92,42 @@ on_streams words asked input old new outcome.VersionFailed ask s = absurd (no_ve
 on_streams words asked input old new outcome.Misused ask s = absurd (s.has_done.0.no_request asked ask)
 on_streams words asked input old new outcome.OutOfMemory ask s = kept_on_streams words input old new _ s s.has_done
 on_streams words asked input old new outcome.FileFailed ask s = kept_on_streams words input old new _ s s.has_done
+
+-- a file that couldn't be opened or written leaves standard output as it was
+pub file_failed_outcome : (words : List Text) (input known : Option (List ℕ)) (o : Outcome) → IsFileFault o → HasOutcome words input known known o
+file_failed_outcome words input known o (inl is) = subst (λ (p : Outcome). HasOutcome words input known known p) (sym is) (Keeps-refl known)
+file_failed_outcome words input known o (inr is) = subst (λ (p : Outcome). HasOutcome words input known known p) (sym is) (Keeps-refl known)
+
+-- a file that couldn't be written has the outcome of one of which no bytes are known
+pub file_failed_in_file : (words : List Text) (input : Option (List ℕ)) (o : Outcome) → IsFileFault o → HasDoneInFile words input o
+file_failed_in_file words input o (inl is) = (None, None, subst (λ (p : Outcome). HasDone words input None None p) (sym is) (Keeps-refl None))
+file_failed_in_file words input o (inr is) = (None, None, subst (λ (p : Outcome). HasDone words input None None p) (sym is) (Keeps-refl None))
+
+-- no file is named if none is named by its text
+none_named : {A B : Type 0} (f : A → B) (file : Option A) → option_map f file ≡ None → file ≡ None
+none_named f None is = refl
+none_named f (Some a) is = cc
+
+-- a flag that isn't set
+not_set : (b : Bool) → ¬ (b ≡ true) → b ≡ false
+not_set true no = absurd (no refl)
+not_set false no = refl
+
+-- the outcome of a command on the streams that its request names
+pub of_request : (words : List Text) (request : Request) (input source read old new before after : Option (List ℕ)) (o : Outcome) → Ask words request.command
+    → HasStreamsOf (subcommand_of glm_command words) request → (request.input ≡ None → source ≡ input) → read ≡ text_read request.skips_comments source
+    → (request.output ≡ None → (before ≡ old) × (after ≡ new)) → (request.output ≢ None → Keeps old new)
+    → HasDone words read before after o → HasOutcome words input old new o
+of_request words request input source read old new before after o ask streams reads text prints keeps done =
+    on_streams words request.command input old new o ask (record {
+      read = read;
+      before = before;
+      after = after;
+      reads = λ none whole. text ∙ ap (λ (b : Bool). text_read b source) (not_set request.skips_comments (λ set. whole (streams.comments.0 set)))
+          ∙ reads (none_named _ request.input (streams.input ∙ none));
+      skips = λ none skip. text ∙ ap (λ (b : Bool). text_read b source) (streams.comments.1 skip)
+          ∙ ap (option_map without_comments) (reads (none_named _ request.input (streams.input ∙ none)));
+      prints = λ none. prints (none_named _ request.output (streams.output ∙ none));
+      keeps = λ some. keeps (λ none. some (sym streams.output ∙ ap (option_map (λ text. text.now)) none));
+      has_done = done;
+    })

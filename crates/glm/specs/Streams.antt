@@ -1,5 +1,5 @@
 -- What an outcome says if the words may name a file to read and a file to write.
-use Rattle.std.specs.Prelude.{◌≡◌, ◌≢◌, ℕ, List, Option, None, option_map}
+use Rattle.std.specs.Prelude.{◌≡◌, ◌≢◌, ◌⊎◌, ℕ, List, Option, None, option_map}
 use Rattle.std.specs.Io.KnownBytes.{Keeps}
 use Rattle.clap.specs.Walk.{Text}
 use Rattle.command_line.specs.Streams.{SkipComments, input_file, output_file}
@@ -7,6 +7,10 @@ use Rattle.row_comments.specs.Comments.{without_comments}
 use Rattle.glm.specs.declared.outcomes.Outcome.{Outcome}
 use Rattle.glm.specs.declared.outcomes.Outcome.TheVariants as outcome
 use Rattle.glm.specs.Outcomes.{HasDone}
+
+-- the outcome of a file that couldn't be opened or written, or for whose name there was no memory
+abbrev pub IsFileFault : Outcome → Type 0
+IsFileFault o = (o ≡ outcome.FileFailed) ⊎ (o ≡ outcome.OutOfMemory)
 
 -- what an outcome says if a file was written, of which no bytes are known
 abbrev pub HasDoneInFile : List Text → Option (List ℕ) → Outcome → Type 0

@@ -1,8 +1,8 @@
 //! The outcome of one execution of the program, with its exit status and its line on standard error.
 
-ghost use Rattle.std.specs.Prelude.{◌≡◌, ℕ, List, Option};
-ghost use Rattle.clap.specs.Walk.{Text};
-ghost use Rattle.glm.specs.Outcomes.{HasDone, status_of_outcome};
+ghost use Rattle.std.specs.Prelude.{◌≡◌};
+ghost use Rattle.glm.specs.Outcomes.{status_of_outcome};
+ghost use Rattle.glm.specs.Streams.{IsFileFault};
 ghost use Rattle.glm.specs.Statuses.{status_for, status_for_show, status_of_kind};
 
 use history_commands::{ShowFault, Verdict};
@@ -129,7 +129,7 @@ pub(crate) fn file_failed<E: Write>(
     error: &io::Error,
     errors: &mut E,
 ) -> Outcome
-    ensures { (words : List Text) (input old : Option (List ℕ)) → HasDone words input old old result }
+    ensures { IsFileFault result }
 {
     if error.kind() == ErrorKind::OutOfMemory {
         return Outcome::OutOfMemory;
