@@ -110,8 +110,8 @@ none_named f (Some a) is = cc
 
 -- a flag that isn't set
 not_set : (b : Bool) → ¬ (b ≡ true) → b ≡ false
-not_set true no = absurd (no refl)
-not_set false no = refl
+not_set true isnt = absurd (isnt refl)
+not_set false isnt = refl
 
 -- the outcome of a command on the streams that its request names
 pub of_request : (words : List Text) (request : Request) (input source read old new before after : Option (List ℕ)) (o : Outcome) → Ask words request.command

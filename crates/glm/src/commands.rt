@@ -9,7 +9,7 @@ ghost use Rattle.lock_rules.specs.declared.calls.TheConstants.{MAX_SESSIONS};
 ghost use Rattle.glm.specs.declared.outcomes.Outcome.{Outcome};
 ghost use Rattle.glm.specs.declared.outcomes.TheConstants.{DONE, ILLEGAL, NO_MEMORY, DEVICE, STOPPED};
 ghost use Rattle.command_line.specs.CommandLine.{Ask, AskReplayInPieces, AskRunInPieces, HasNumbers, glm_command};
-ghost use Rattle.command_line.specs.Streams.{HasStreamsOf, SkipComments, input_file, output_file};
+ghost use Rattle.command_line.specs.Streams.{HasStreamsOf, SkipComments as AskNoComments, input_file, output_file};
 ghost use Rattle.glm.specs.Outcomes.{HasDone, HasPrintedPart, PrintsVerdict, status_of_outcome};
 ghost use Rattle.history_commands.specs.Verdicts.{text_of_verdict};
 ghost use Rattle.glm.specs.Streams.{HasDoneInFile, HasOutcome};
@@ -157,7 +157,7 @@ fn run_request<'a, T: Threads + Wait + Files, R: Read + Drop, W: Write, E: Write
     output: &mut W,
     errors: &mut E,
 ) -> Outcome
-    requires numbers { HasNumbers request.entry.command }
+    requires numbers { HasNumbers request.command }
     ensures { (words : List Text) → Ask words request.entry.command → HasStreamsOf (subcommand_of glm_command words) request.entry
         → HasOutcome words (R.remaining input) (W.contents output.old) (W.contents output.new) result }
 {
@@ -226,7 +226,7 @@ pub fn program<'a, T: Threads + Wait + Files, R: Read + Drop, W: Write, E: Write
     ensures outcome { (outcome : Outcome) × (result ≡ status_of_outcome outcome)
         × HasOutcome (texts words.entry.now) (R.remaining input) (W.contents output.old) (W.contents output.new) outcome }
     // the same for words that name no file, and don't skip comments
-    ensures standard { input_file (texts words.entry.now) ≡ None → output_file (texts words.entry.now) ≡ None → ¬ SkipComments (texts words.entry.now)
+    ensures standard { input_file (texts words.entry.now) ≡ None → output_file (texts words.entry.now) ≡ None → ¬ AskNoComments (texts words.entry.now)
         → (outcome : Outcome) × (result ≡ status_of_outcome outcome)
         × HasDone (texts words.entry.now) (R.remaining input) (W.contents output.old) (W.contents output.new) outcome }
     ensures status { IsStatus result }

@@ -1,4 +1,6 @@
-use Rattle.std.proofs.Common.{subst}
+use Rattle.std.proofs.Common.{rules, subst, ◌≡◌}
+use Rattle.command_line.specs.declared.args.Delivery.TheVariants as delivery
+use Rattle.command_line.specs.declared.args.CommandRequest.TheVariants as request
 use Rattle.command_line.specs.declared.args.CommandRequest.{CommandRequest}
 use Rattle.command_line.specs.CommandLine.{Ask}
 use Rattle.glm.proofs.commands.perform.Goals as goal
@@ -9,7 +11,7 @@ returns-in-Replay-default-Whole c c' =
     let done = c'.replay.ensures in
     λ words asked. record {
       sessions = c'.in-Replay-default-Whole.sessions;
-      asked = subst (λ (r : CommandRequest). Ask words r) c'.in-Replay-default-Whole.is asked;
+      asked = (let is : c'.args.command ≡ request.Replay c'.in-Replay-default-Whole.sessions delivery.Whole = search rules in subst (λ (r : CommandRequest). Ask words r) is asked);
       kept = done.kept;
       part = done.part;
       served = done.served;
@@ -22,7 +24,7 @@ returns-in-Replay-default-InPieces c c' =
     let done = c'.replay_in_pieces.ensures in
     λ words asked. record {
       sessions = c'.in-Replay-default-InPieces.sessions;
-      asked = subst (λ (r : CommandRequest). Ask words r) c'.in-Replay-default-InPieces.is asked;
+      asked = (let is : c'.args.command ≡ request.Replay c'.in-Replay-default-InPieces.sessions delivery.InPieces = search rules in subst (λ (r : CommandRequest). Ask words r) is asked);
       kept = done.kept;
       front = done.front;
       part = done.part;
@@ -37,7 +39,7 @@ returns-in-Run-default-default-Whole c c' =
     λ words asked. record {
       sessions = c'.in-Run-default-default-Whole.sessions;
       turns = c'.in-Run-default-default-Whole.turns;
-      asked = subst (λ (r : CommandRequest). Ask words r) c'.in-Run-default-default-Whole.is asked;
+      asked = (let is : c'.args.command ≡ request.Run c'.in-Run-default-default-Whole.sessions c'.in-Run-default-default-Whole.turns delivery.Whole = search rules in subst (λ (r : CommandRequest). Ask words r) is asked);
       kept = done.kept;
       part = done.part;
       performed = done.performed;
@@ -50,7 +52,7 @@ returns-in-Run-default-default-InPieces c c' =
     λ words asked. record {
       sessions = c'.in-Run-default-default-InPieces.sessions;
       turns = c'.in-Run-default-default-InPieces.turns;
-      asked = subst (λ (r : CommandRequest). Ask words r) c'.in-Run-default-default-InPieces.is asked;
+      asked = (let is : c'.args.command ≡ request.Run c'.in-Run-default-default-InPieces.sessions c'.in-Run-default-default-InPieces.turns delivery.InPieces = search rules in subst (λ (r : CommandRequest). Ask words r) is asked);
       kept = done.kept;
       front = done.front;
       part = done.part;
@@ -63,7 +65,7 @@ returns-in-Check c c' =
     let done = c'.write_verdict.ensures in
     λ words asked. record {
       sessions = c'.in-Check.sessions;
-      asked = subst (λ (r : CommandRequest). Ask words r) c'.in-Check.is asked;
+      asked = (let is : c'.args.command ≡ request.Check c'.in-Check.sessions = search rules in subst (λ (r : CommandRequest). Ask words r) is asked);
       kept = done.kept;
       part = done.part;
       written = done.written;
@@ -78,7 +80,7 @@ returns-in-Show c c' =
       sessions = c'.in-Show.sessions;
       place = c'.in-Show.place;
       form = c'.in-Show.form;
-      asked = subst (λ (r : CommandRequest). Ask words r) c'.in-Show.is asked;
+      asked = (let is : c'.args.command ≡ request.Show c'.in-Show.sessions c'.in-Show.place c'.in-Show.form = search rules in subst (λ (r : CommandRequest). Ask words r) is asked);
       kept = done.kept;
       part = done.part;
       shown = done.shown;
@@ -92,7 +94,7 @@ returns-in-Explain c c' =
       sessions = c'.in-Explain.sessions;
       place = c'.in-Explain.place;
       form = c'.in-Explain.form;
-      asked = subst (λ (r : CommandRequest). Ask words r) c'.in-Explain.is asked;
+      asked = (let is : c'.args.command ≡ request.Explain c'.in-Explain.sessions c'.in-Explain.place c'.in-Explain.form = search rules in subst (λ (r : CommandRequest). Ask words r) is asked);
       kept = done.kept;
       part = done.part;
       explained = done.explained;
