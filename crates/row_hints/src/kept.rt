@@ -3,7 +3,7 @@
 ghost use Rattle.std.specs.Prelude.{◌≡◌};
 ghost use Rattle.row_hints.specs.KeptReaders.{reader_of};
 
-use crate::lexing::count_rows;
+use crate::lexing::{count_plain_rows, count_rows};
 use std::alloc::Global;
 use std::io;
 use std::io::Read;
@@ -75,7 +75,10 @@ impl KeptRows {
 
     /// Lets go of rows from the front, up to half of what may be kept.
     fn drop_rows(&mut self) {
-        let counted = count_rows(self.rows_text(), KEPT_BYTES / 2, u64::MAX);
+        let counted = match count_plain_rows(self.rows_text(), KEPT_BYTES / 2) {
+            Some(counted) => counted,
+            None => count_rows(self.rows_text(), KEPT_BYTES / 2, u64::MAX),
+        };
         let dropped = self.mark_length().saturating_add(counted.bytes);
         self.rows = self.rows.saturating_add(counted.rows);
         self.lines = self.lines.saturating_add(counted.lines);

@@ -101,6 +101,33 @@ pub(crate) fn count_rows(text: &[u8], most: usize, index: u64) -> Counted {
     counted
 }
 
+/// Counts whole lines from the front of the text, up to `most` bytes. `None` if one of these has a quote or a carriage return,
+/// by which `count_rows` has to decide, or none ends there.
+pub(crate) fn count_plain_rows(text: &[u8], most: usize) -> Option<Counted> {
+    let front = text.get(..most)?;
+    let end = front
+        .iter()
+        .rposition(|byte| *byte == b'\n')?
+        .saturating_add(1);
+    let mut rows = 0u64;
+    let mut lines = 0u64;
+    let mut is_plain = true;
+    let mut last = b'\n';
+    for byte in text.get(..end)? {
+        let ends = *byte == b'\n';
+        lines = lines.wrapping_add(u64::from(ends));
+        rows = rows.wrapping_add(u64::from(ends & (last != b'\n')));
+        is_plain &= (*byte != b'"') & (*byte != b'\r');
+        last = *byte;
+    }
+    let counted = Counted {
+        bytes: end,
+        rows,
+        lines,
+    };
+    is_plain.then_some(counted)
+}
+
 /// The length of the row at the front of the text, without its line end, and whether the text has its end.
 pub(crate) fn row_length(text: &[u8]) -> (usize, bool) {
     let mut spot = Spot::RowStart;
