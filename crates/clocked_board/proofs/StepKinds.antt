@@ -5,7 +5,7 @@ use mathlib.Core.Logic.{dite}
 use native.Mathlib.Decide.{ℕ_discrete}
 use Rattle.sequential.specs.declared.entry.Entry.{Entry}
 use Rattle.sequential.specs.Histories.{Answered, calls_of}
-use Rattle.sequential.specs.Linearizable.{Event, invocation, response, Calls, calls_in, performed_by}
+use Rattle.sequential.specs.Linearizable.{Event, invocation, response, Calls, calls_in, MayFollow, performed_by}
 use Rattle.sequential.proofs.SessionCalls.{calls_of-push}
 use Rattle.counter.specs.Counting.{value_after}
 use Rattle.counter.proofs.Pushes.{value-push, legal-push}
@@ -13,7 +13,7 @@ use Rattle.clocked_board.specs.Moments.{session_of}
 use Rattle.clocked_board.specs.Counters.{ONE}
 use Rattle.clocked_board.specs.declared.view.View.{View}
 use Rattle.clocked_board.specs.Rule.{BoardState, word, HasView, RecordState, idle, posted, served, IsSeat, IsRuled}
-use Rattle.clocked_board.specs.Kinds.{calling, returning, seizing, serving, releasing}
+use Rattle.clocked_board.specs.Kinds.{noting, calling, returning, seizing, serving, releasing}
 use Rattle.clocked_board.proofs.Moments.{calls-other, calls-made, calls-returned}
 use Rattle.clocked_board.proofs.Linear.{well_formed-push, event-linear, entry-linear}
 use Rattle.clocked_board.proofs.Keeps.{completed, id-is, next, same-events, one-more, word-here, word-else, ruled}
@@ -22,11 +22,11 @@ use Rattle.clocked_board.proofs.Keeps.{completed, id-is, next, same-events, one-
 state-as : (w x : ℕ) (performed : List (ℕ × ℕ)) (calls others : Calls ℕ ℕ) → x ≡ w → others ≡ calls → RecordState w performed calls → RecordState x performed others
 state-as w x performed calls others e f t = subst (λ (n : ℕ). RecordState n performed others) (sym e) (subst (RecordState w performed) (sym f) t)
 
--- A session with no call pending publishes one.
-published : (w x : ℕ) (performed : List (ℕ × ℕ)) (before after : Calls ℕ ℕ) → RecordState w performed before → before.pending ≡ None → x ≡ 1 → after ≡ record { returned = before.returned; pending = Some ONE } → RecordState x performed after
-published w x performed before after (idle is none same) free new made = posted new (ap (λ (c : Calls ℕ ℕ). c.pending) made) (same ∙ sym (ap (λ (c : Calls ℕ ℕ). c.returned) made))
-published w x performed before after (posted is some same) free new made = absurd (let z = sym some ∙ free in cc z)
-published w x performed before after (served reply is some same) free new made = absurd (let z = sym some ∙ free in cc z)
+-- If no call is pending, the history has those that have returned.
+settled : (w : ℕ) (performed : List (ℕ × ℕ)) (calls : Calls ℕ ℕ) → RecordState w performed calls → calls.pending ≡ None → performed ≡ calls.returned
+settled w performed calls (idle is none same) free = same
+settled w performed calls (posted is some same) free = same
+settled w performed calls (served reply is some same) free = absurd (let z = sym some ∙ free in cc z)
 
 -- A word of 2 or more is a reply.
 replied : (w reply : ℕ) (performed : List (ℕ × ℕ)) (calls : Calls ℕ ℕ) → RecordState w performed calls → w ≡ reply + 2 → (calls.pending ≡ Some ONE) × (performed ≡ calls.returned ++ (ONE, reply) ∷ [])
@@ -91,47 +91,54 @@ module _ (s : BoardState) (r : IsRuled s) (id : ℕ) (v : View) (at : HasView s 
       lock = λ has. let t = q.lock has in (same ∙ t.0, t.1, t.2, t.3);
     }
 
+    -- An event of the session, at a step that writes its record's word.
+    module _ (e : Event ℕ ℕ) (n : ℕ) (calls : Calls ℕ ℕ) (whose : session_of e ≡ v.number) (may : MayFollow 2 r.events e) (made : calls_in v.number (r.events ++ e ∷ []) ≡ calls)
+        (state : RecordState n (performed_by number r.history) calls) where
+      abbrev E : List (Event ℕ ℕ)
+      E = r.events ++ e ∷ []
+
+      abbrev noted_view : View
+      noted_view = noting v (length r.events) e calls
+
+      abbrev t : BoardState
+      t = next s r id v at noted_view refl refl number n
+
+      lock_same : word t 0 ≡ word s 0
+      lock_same = word-else s r id v at noted_view refl refl number n 0 (λ z. omega (arith, some, z))
+
+      records : (j : ℕ) → 0 < j → j < 3 → RecordState (word t j) (performed_by j r.history) (calls_in j E)
+      records j a b = dite (ℕ_discrete j number)
+          (λ is. subst (λ (x : ℕ). RecordState (word t x) (performed_by x r.history) (calls_in x E)) (sym is)
+          (state-as n (word t number) (performed_by number r.history) calls (calls_in number E) (word-here s r id v at noted_view refl refl number n few) (ap (λ (x : ℕ). calls_in x E) (sym mine) ∙ made) state))
+          (λ ne. state-as (word s j) (word t j) (performed_by j r.history) (calls_in j r.events) (calls_in j E) (word-else s r id v at noted_view refl refl number n j ne)
+          (calls-other j r.events e (λ z. ne (sym z ∙ (whose ∙ mine)))) (r.records j a b))
+
+      event-kept : IsRuled t
+      event-kept = ruled s r id v at noted_view refl refl number n E r.history
+          (well_formed-push 2 r.events e r.well_formed may)
+          (event-linear 2 r.events r.history e r.linear (λ j a b. completed (word t j) (performed_by j r.history) (calls_in j E) (records j a (omega (arith, b)))))
+          (one-more s r id v at noted_view refl refl number n e is_some whose refl) refl
+          (λ k u ne there. other-seat e (word t 0) k u (whose ∙ mine) lock_same ne (r.seats k u there))
+          (record {
+            session = λ x. let q = (r.seats id v at).session x in (q.0, q.1, sym (ap (λ (y : ℕ). calls_in y E) (sym (id-is s r id v at is_some)) ∙ made));
+            now = omega (arith, length-append r.events (e ∷ []));
+            lock = λ has. let q = (r.seats id v at).lock has in (lock_same ∙ q.0, q.1, q.2, q.3);
+          })
+          records
+          (λ is_free. lock_same ∙ r.free (subst (λ (x : ℕ). 3 ≤ x) lock_same is_free))
+
+    calls_as : v.calls ≡ calls_in v.number r.events
+    calls_as = is-calls ∙ ap (λ (x : ℕ). calls_in x r.events) (sym mine)
+
     -- The session publishes its call.
     pub publish-kept : v.calls.pending ≡ None → IsRuled (next s r id v at (calling v (length r.events)) refl refl number 1)
-    publish-kept free = ruled s r id v at w refl refl number 1 E r.history
-        (well_formed-push 2 r.events e r.well_formed (omega (arith, some, mine), omega (arith, few, mine), ap (λ (c : Calls ℕ ℕ). c.pending) (sym (is-calls ∙ ap (λ (x : ℕ). calls_in x r.events) (sym mine))) ∙ free))
-        (event-linear 2 r.events r.history e r.linear (λ j a b. completed (word t j) (performed_by j r.history) (calls_in j E) (records j a (omega (arith, b)))))
-        (one-more s r id v at w refl refl number 1 e is_some refl refl) refl
-        (λ k u ne there. other-seat e (word t 0) k u mine lock_same ne (r.seats k u there))
-        (record {
-          session = λ n. let q = (r.seats id v at).session n in (q.0, q.1, sym (ap (λ (x : ℕ). calls_in x E) (sym (id-is s r id v at is_some)) ∙ made));
-          now = omega (arith, length-append r.events (e ∷ []));
-          lock = λ has. let q = (r.seats id v at).lock has in (lock_same ∙ q.0, q.1, q.2, q.3);
-        })
-        records
-        (λ is_free. lock_same ∙ r.free (subst (λ (x : ℕ). 3 ≤ x) lock_same is_free))
-      where
-        w : View
-        w = calling v (length r.events)
-
-        e : Event ℕ ℕ
-        e = invocation v.number ONE
-
-        E : List (Event ℕ ℕ)
-        E = r.events ++ e ∷ []
-
-        t : BoardState
-        t = next s r id v at w refl refl number 1
-
-        lock_same : word t 0 ≡ word s 0
-        lock_same = word-else s r id v at w refl refl number 1 0 (λ z. omega (arith, some, z))
-
-        made : calls_in v.number E ≡ record { returned = v.calls.returned; pending = Some ONE }
-        made = calls-made v.number r.events ONE ∙ ap {B = Calls ℕ ℕ} (λ (c : Calls ℕ ℕ). record { returned = c.returned; pending = Some ONE }) (sym (is-calls ∙ ap (λ (x : ℕ). calls_in x r.events) (sym mine)))
-
-        records : (j : ℕ) → 0 < j → j < 3 → RecordState (word t j) (performed_by j r.history) (calls_in j E)
-        records j a b = dite (ℕ_discrete j number)
-            (λ is. subst (λ (x : ℕ). RecordState (word t x) (performed_by x r.history) (calls_in x E)) (sym is)
-            (published (word s number) (word t number) (performed_by number r.history) (calls_in number r.events) (calls_in number E) (r.records number some few)
-            (ap (λ (c : Calls ℕ ℕ). c.pending) (sym is-calls) ∙ free) (word-here s r id v at w refl refl number 1 few)
-            (ap (λ (x : ℕ). calls_in x E) (sym mine) ∙ (made ∙ ap {B = Calls ℕ ℕ} (λ (c : Calls ℕ ℕ). record { returned = c.returned; pending = Some ONE }) is-calls))))
-            (λ ne. state-as (word s j) (word t j) (performed_by j r.history) (calls_in j r.events) (calls_in j E) (word-else s r id v at w refl refl number 1 j ne)
-            (calls-other j r.events e (λ z. ne (sym z ∙ mine))) (r.records j a b))
+    publish-kept free =
+        let e : Event ℕ ℕ = invocation v.number ONE in
+        event-kept e 1 (record { returned = v.calls.returned; pending = Some ONE }) refl
+        (omega (arith, some, mine), omega (arith, few, mine), ap (λ (c : Calls ℕ ℕ). c.pending) (sym calls_as) ∙ free)
+        (calls-made v.number r.events ONE ∙ ap {B = Calls ℕ ℕ} (λ (c : Calls ℕ ℕ). record { returned = c.returned; pending = Some ONE }) (sym calls_as))
+        (posted refl refl (settled (word s number) (performed_by number r.history) (calls_in number r.events) (r.records number some few) (ap (λ (c : Calls ℕ ℕ). c.pending) (sym is-calls) ∙ free)
+        ∙ ap (λ (c : Calls ℕ ℕ). c.returned) (sym is-calls)))
 
     -- What the word of a served record says.
     pub reply-is : (reply : ℕ) → word s number ≡ reply + 2 → v.calls.pending ≡ Some ONE
@@ -139,56 +146,14 @@ module _ (s : BoardState) (r : IsRuled s) (id : ℕ) (v : View) (at : HasView s 
 
     -- The session takes its reply.
     pub take-kept : (reply : ℕ) → word s number ≡ reply + 2 → IsRuled (next s r id v at (returning v (length r.events) reply) refl refl number 0)
-    take-kept reply is = ruled s r id v at w refl refl number 0 E r.history
-        (well_formed-push 2 r.events e r.well_formed (
-          omega (arith, some, mine),
-          omega (arith, few, mine),
-          (λ z. let p = reply-is reply is in let q = ap (λ (c : Calls ℕ ℕ). c.pending) (is-calls ∙ ap (λ (x : ℕ). calls_in x r.events) (sym mine)) in let y = sym p ∙ (q ∙ z) in absurd (cc y)),
-        ))
-        (event-linear 2 r.events r.history e r.linear (λ j a b. completed (word t j) (performed_by j r.history) (calls_in j E) (records j a (omega (arith, b)))))
-        (one-more s r id v at w refl refl number 0 e is_some refl refl) refl
-        (λ k u ne there. other-seat e (word t 0) k u mine lock_same ne (r.seats k u there))
-        (record {
-          session = λ n. let q = (r.seats id v at).session n in (q.0, q.1, sym (ap (λ (x : ℕ). calls_in x E) (sym (id-is s r id v at is_some)) ∙ back));
-          now = omega (arith, length-append r.events (e ∷ []));
-          lock = λ has. let q = (r.seats id v at).lock has in (lock_same ∙ q.0, q.1, q.2, q.3);
-        })
-        records
-        (λ is_free. lock_same ∙ r.free (subst (λ (x : ℕ). 3 ≤ x) lock_same is_free))
-      where
-        w : View
-        w = returning v (length r.events) reply
-
-        e : Event ℕ ℕ
-        e = response v.number reply
-
-        E : List (Event ℕ ℕ)
-        E = r.events ++ e ∷ []
-
-        t : BoardState
-        t = next s r id v at w refl refl number 0
-
-        lock_same : word t 0 ≡ word s 0
-        lock_same = word-else s r id v at w refl refl number 0 0 (λ z. omega (arith, some, z))
-
-        calls_as : v.calls ≡ calls_in v.number r.events
-        calls_as = is-calls ∙ ap (λ (x : ℕ). calls_in x r.events) (sym mine)
-
-        back : calls_in v.number E ≡ record { returned = v.calls.returned ++ (ONE, reply) ∷ []; pending = None }
-        back = calls-returned v.number r.events ONE reply (ap (λ (c : Calls ℕ ℕ). c.pending) (sym calls_as) ∙ reply-is reply is)
-            ∙ ap {B = Calls ℕ ℕ} (λ (c : Calls ℕ ℕ). record { returned = c.returned ++ (ONE, reply) ∷ []; pending = None }) (sym calls_as)
-
-        here : RecordState (word t number) (performed_by number r.history) (calls_in number E)
-        here = let q = replied (word s number) reply (performed_by number r.history) (calls_in number r.events) (r.records number some few) is in
-            let b = ap (λ (x : ℕ). calls_in x E) (sym mine) ∙ back in
-            idle (word-here s r id v at w refl refl number 0 few) (ap (λ (c : Calls ℕ ℕ). c.pending) b)
-            (q.1 ∙ (ap (λ (c : Calls ℕ ℕ). c.returned ++ (ONE, reply) ∷ []) (sym is-calls) ∙ sym (ap (λ (c : Calls ℕ ℕ). c.returned) b)))
-
-        records : (j : ℕ) → 0 < j → j < 3 → RecordState (word t j) (performed_by j r.history) (calls_in j E)
-        records j a b = dite (ℕ_discrete j number)
-            (λ is. subst (λ (x : ℕ). RecordState (word t x) (performed_by x r.history) (calls_in x E)) (sym is) here)
-            (λ ne. state-as (word s j) (word t j) (performed_by j r.history) (calls_in j r.events) (calls_in j E) (word-else s r id v at w refl refl number 0 j ne)
-            (calls-other j r.events e (λ z. ne (sym z ∙ mine))) (r.records j a b))
+    take-kept reply is =
+        let e : Event ℕ ℕ = response v.number reply in
+        let is_pending = ap (λ (c : Calls ℕ ℕ). c.pending) (sym calls_as) ∙ reply-is reply is in
+        let q = replied (word s number) reply (performed_by number r.history) (calls_in number r.events) (r.records number some few) is in
+        event-kept e 0 (record { returned = v.calls.returned ++ (ONE, reply) ∷ []; pending = None }) refl
+        (omega (arith, some, mine), omega (arith, few, mine), (λ z. let y = sym is_pending ∙ z in absurd (cc y)))
+        (calls-returned v.number r.events ONE reply is_pending ∙ ap {B = Calls ℕ ℕ} (λ (c : Calls ℕ ℕ). record { returned = c.returned ++ (ONE, reply) ∷ []; pending = None }) (sym calls_as))
+        (idle refl refl (q.1 ∙ ap (λ (c : Calls ℕ ℕ). c.returned ++ (ONE, reply) ∷ []) (sym is-calls)))
 
     -- The session takes the lock word.
     pub seize-kept : 3 ≤ word s 0 → IsRuled (next s r id v at (seizing v (value_after 0 r.history)) refl refl 0 number)

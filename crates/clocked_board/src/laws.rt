@@ -19,7 +19,8 @@ pub fn calls_are_linearizable_at_every_instant()
 
 /// The clock is right. A step on a word changes the view of its seat alone. If that view then has one event more, whatever moment
 /// it has noted for it, the event comes behind all events so far, and the moment is how many these are. If the view has no event
-/// more, no event has happened; nor when a seat is made or handed in. So the order of the events is the order of the steps at which they were noted.
+/// more, no event has happened; nor when a seat is made or handed in. So the order of the events is the order of the steps at
+/// which they were noted.
 pub fn events_happen_when_they_are_noted()
     ensures event { (s : BoardState) (at put id : ℕ) (carried : List (ℕ × ℕ)) (v w : ViewValue) (act : Act ℕ) (x : ℕ × Event ℕ ℕ) (before after : List (Event ℕ ℕ)) →
         HasView s id v → v.number ≢ 0 → w.number ≡ v.number → w.handed ≡ v.handed → w.log ≡ v.log ++ x ∷ [] →
