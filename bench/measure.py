@@ -15,7 +15,6 @@ The sections, with the minutes that they take on 4 free processors:
     growth        a new book and a new office of 256 and of 1,024 sessions, by bench/memory.c                0
     sharing       a book behind a mutex and an office, by bench/sharing.c on the traces of bench/sharing.py  1 1/2
     lock_bench    the same traces by lock_bench mutex and lock_bench threads                                 1/2
-    transfers     bank transfers by programs and call by call, by an office and a mutex, by lock_bench transfers     1/2
     objects       a queue and a map, by an office, a mutex, and queues without a lock, by object_bench       1 1/2
     waiting       three ways to wait for locks, by bench/waiting.c                                           1
     embedding     the boundary to C beside lock_bench seq and, if its library is there, Berkeley DB          1/2

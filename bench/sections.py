@@ -245,31 +245,6 @@ class LockBench(Sharing):
         return table(["threads, sessions", *kinds], rows)
 
 
-class Transfers(Section):
-    name, heading, needs = "transfers", "Bank transfers: `lock_bench transfers`", (LOCK_BENCH,)
-    how = "Nanoseconds a transfer, 40,000 transfers in all; in a round the median of 9 turns of each way, which take turns."
-    THREADS = (1, 2, 4, 8)
-    COUNT, TURNS = 40_000, 9
-    # each way, as lock_bench prints it, and what the table says of it
-    WAYS = {
-        "calls": "office, call by call",
-        "programs": "office, by programs",
-        "mutex_calls": "mutex locked for each call",
-        "mutex_programs": "mutex locked for each program",
-    }
-
-    def cases(self):
-        return [(threads, lambda n=threads: self.told(n)) for threads in self.THREADS]
-
-    def told(self, threads):
-        words = [LOCK_BENCH, "transfers", str(threads), str(self.few(self.COUNT) // threads), str(self.few(self.TURNS))]
-        return {way: float(number) for way, number in re.findall(r"^(\w+)=([\d.]+)$", output_of(words), re.MULTILINE)}
-
-    def tables(self, found):
-        rows = [[threads, *(found.text(threads, way) for way in self.WAYS)] for threads in self.THREADS]
-        return table(["threads", *self.WAYS.values()], rows)
-
-
 class Objects(Section):
     name, heading, needs = "objects", "How threads share small objects: `object_bench`", (OBJECT_BENCH,)
     how = "Nanoseconds a call, 8,000,000 calls in all."
@@ -409,5 +384,5 @@ class Instructions(Section):
         return table(["calls", "instructions", "at most"], [[told, f"{int(a):,}", f"{int(b):,}"] for told, a, b in self.lines])
 
 
-SECTIONS = [Replay, Worst, Memory, Growth, Sharing, LockBench, Transfers, Objects, Waiting, Embedding, Instructions]
+SECTIONS = [Replay, Worst, Memory, Growth, Sharing, LockBench, Objects, Waiting, Embedding, Instructions]
 

@@ -11,9 +11,6 @@ what was counted when it was set (more for the smallest count), and below what t
 builds in which it was broken; for locks of a batch, with locks of two databases in turn, which make no run; for a second holder,
 with the least that two requests for memory take. If calls have become dearer for a good reason, set the bound anew.
 
-A bank transfer, of three programs or ten calls, is counted through an office of one thread and on a book alone: what lies between the
-two is what handing it over takes, and by programs it has to take at most half of that call by call.
-
 The dearest calls known (bench/worst.py) are counted by `glm replay`, as the difference between traces with them and without. A
 search for cycles that takes the square of the sessions for each victim goes far beyond their bounds.
 
@@ -41,10 +38,6 @@ import worst  # noqa: E402
 
 LOCK_BENCH = TOP / "crates/lock_bench/out/lock_bench"
 GLM = TOP / "crates/glm_main/out/glm_main"
-# how many transfers lead up to as many that are counted, so that memory has been taken and each account locked
-TRANSFERS = 1000
-# the most instructions that handing over a transfer by programs takes, as a share of those of handing it over call by call
-MOST_OF_CALLS = 0.5
 # the greatest peak over ever new resources, as a multiple of the peak over few
 MOST_MEMORY = 1.05
 
@@ -170,12 +163,6 @@ def instructions_of_a_dear_call(case, folder):
     return (instructions_of_a_replay(rows, sessions, folder) - instructions_of_a_replay(others, sessions, folder)) / number
 
 
-def instructions_of_a_transfer(way):
-    """The instructions of a transfer of lock_bench."""
-    few, many = (counted([LOCK_BENCH, "transfer", way, str(number)]) for number in (TRANSFERS, 2 * TRANSFERS))
-    return (many - few) / TRANSFERS
-
-
 def program_through_c(folder):
     """Builds checks/instructions.c."""
     program = folder / "instructions"
@@ -244,10 +231,6 @@ def main():
             dear = pool.map(lambda case: instructions_of_a_dear_call(case, folder), DEAREST)
             for (name, *_, most), instructions in zip(CASES + DEAREST + THROUGH_C, [*found, *dear, *through_c]):
                 judge(name, instructions, most, "instructions")
-            calls, programs, book = pool.map(instructions_of_a_transfer, ("calls", "programs", "book"))
-            print(f"a transfer: {calls:.0f} instructions call by call, {programs:.0f} by programs, {book:.0f} of a book alone")
-            share = (programs - book) / (calls - book)
-            judge("programs hand a transfer over in", share, MOST_OF_CALLS, "of the instructions of its calls", digits=2)
         few, new = (peak(transactions(databases), folder) for databases in (8, 100_000))
         judge("idle cells serve ever new resources", new / few, MOST_MEMORY, "times the memory of few", digits=2)
     left_out = "" if has_valgrind else "; instructions left out, since valgrind isn't on the path"

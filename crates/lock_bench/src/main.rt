@@ -2,8 +2,7 @@
 //!
 //! `main.rt` reads the words and the trace, and prints the result. `single.rt` times one book on one thread,
 //! `threads.rt` an office and `mutexes.rt` a book behind a mutex, each on many threads; `spans.rt` has the time from
-//! the first thread's start to the last one's end, `timing.rt` nanoseconds and faults. `transfers.rt` times bank transfers by
-//! programs and by single calls, without a trace.
+//! the first thread's start to the last one's end, `timing.rt` nanoseconds and faults.
 //!
 //! A turn makes a fresh lock table and serves all rows of the trace; the clock starts once the trace is read. The
 //! fastest of some turns counts, divided by the number of rows.
@@ -17,7 +16,6 @@ mod single;
 mod spans;
 mod threads;
 mod timing;
-mod transfers;
 
 ghost use Rattle.std.specs.Prelude.{◌<◌};
 ghost use Rattle.std.specs.List.{All};
@@ -39,18 +37,11 @@ const USAGE: &str = "Times the lock table and the office on a trace.
     lock_bench threads FILE T TIMES    has T threads perform the rows through a fresh office, TIMES times
     lock_bench mutex FILE T TIMES      has T threads perform the rows on a fresh book behind a mutex, TIMES times
     lock_bench count FILE TIMES        serves the rows as seq does, and looks at no clock
-    lock_bench transfers T N TIMES     has T threads make N bank transfers each, in each of four ways, TIMES times
-    lock_bench transfer WAY N          makes N of them on one thread, and looks at no clock
 
 seq, threads and mutex print ns_per_call=NUMBER: the nanoseconds of the best turn, divided by the number of
 rows. The clock starts when the trace is read. Each thread has the sessions whose number modulo T is its own,
 and performs their rows in the order of the trace; the clock of threads and mutex runs from the start of the
 first to the end of the last.
-
-A transfer begins, locks two accounts in X with their pages, table and database in IX, and commits: three programs, of
-ten calls. transfers prints calls=, programs=, mutex_calls= and mutex_programs=: the median of the turns in nanoseconds
-a transfer, by single calls and by programs through an office, and on a book with a mutex locked for each call and for
-each program. The ways take turns. WAY of transfer is calls or programs, through an office, or book, without one.
 
 The status is 0; 1 where the trace couldn't be read or served; 2 where the words are others.
 ";
@@ -102,20 +93,6 @@ fn best_turn<R: Runtime + Threads + Wait + Sync>(
     Ok(best)
 }
 
-/// Times transfers: the words are how many threads make how many transfers, how many times.
-fn time_transfers<R: Runtime + Threads + Wait + Sync>(
-    rt: &R,
-    alloc: Global,
-    words: &[String],
-) -> Result<(), Fault> {
-    if words.len() != 3 {
-        return Err(Fault::Misused);
-    }
-    let threads = number(words[0].as_str())?;
-    let transfers = number(words[1].as_str())?;
-    transfers::time(rt, alloc, threads, transfers, number(words[2].as_str())?)
-}
-
 /// Runs the command that the words ask for and prints its result. The first word is the program's own name.
 fn perform<R: Runtime + Threads + Wait + Sync>(
     rt: &R,
@@ -124,13 +101,6 @@ fn perform<R: Runtime + Threads + Wait + Sync>(
 ) -> Result<(), Fault> {
     if words.len() < 4 {
         return Err(Fault::Misused);
-    }
-    match (words[1].as_str(), words.len()) {
-        ("transfer", 4) => {
-            return transfers::count(alloc, words[2].as_str(), number(words[3].as_str())?);
-        }
-        ("transfers", 5) => return time_transfers(rt, alloc, &words[2..]),
-        _ => {}
     }
     let text = fs::read(rt, words[2].as_str()).map_err(|_| Fault::Device)?;
     let rows = read_trace(alloc, text.as_slice(), SESSIONS).map_err(|_| Fault::NoTrace)?;
