@@ -20,7 +20,7 @@ use Rattle.lock_desk.specs.BookView.{BookView}
 use Rattle.lock_desk.specs.Batches.{TellsFrom}
 use Rattle.pelgaisti_c.specs.declared.program_numbers.ProgramNumbers.{ProgramNumbers}
 use Rattle.pelgaisti_c.specs.declared.program_numbers.TheConstants.{NO_CALL}
-use Rattle.pelgaisti_c.specs.declared.status.TheConstants.{NO_SUCH_OP, NO_SUCH_LEVEL, NO_SUCH_MODE, NO_SUCH_START, NOT_ON_PATH, NO_SUCH_ABOVE}
+use Rattle.pelgaisti_c.specs.declared.status.TheConstants.{NOT_ON_PATH, NO_SUCH_ABOVE}
 use Rattle.pelgaisti_c.specs.Numbers.{IsModeCode, IsCall, IsCallFault}
 use Rattle.pelgaisti_c.specs.Programs.{IsStart, IsOnPath, LeadsTo, IsProgramFault, HasRun, stop_number, stop_of}
 
