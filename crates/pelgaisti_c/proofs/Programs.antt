@@ -9,7 +9,7 @@ use Rattle.lock_rules.specs.Entries.{Entry}
 use Rattle.lock_rules.specs.Legal.{IsLegal}
 use Rattle.lock_rules.specs.State.{empty}
 use Rattle.programs.specs.Flat.{entries}
-use Rattle.programs.specs.inner.Running.{HasRun as RunOn}
+use Rattle.programs.specs.Runs.{HasRun as RunOn}
 use Rattle.lock_programs.specs.declared.program.Program.{Program}
 use Rattle.lock_programs.specs.declared.answer.Answer.{Answer}
 use Rattle.lock_programs.specs.Calls.{calls_of}
@@ -98,23 +98,3 @@ run_on_book before after s p a h i j k legal told = record {
   legal = legal;
   ended = told;
 }
-
--- the book tells of one more call of a program, and of those before it
-pub tells_next : (before now after : BookView) (at : ℕ) → (at ≡ 0 → now ≡ before) → (at ≢ 0 → TellsFrom now (length before.history)) → length before.history ≤ length now.history
-    → ((at == 0) ≡ true → TellsFrom after (length now.history)) → ((at == 0) ≡ false → (from : ℕ) → from ≤ length now.history → TellsFrom now from → TellsFrom after from)
-    → TellsFrom after (length before.history)
-tells_next before now after at same told few anew on = by (at == 0) refl
-  where
-    by : (first : Bool) → (at == 0) ≡ first → TellsFrom after (length before.history)
-    by true e = subst (λ (b : BookView). TellsFrom after (length b.history)) (same (eqb-true at 0 e)) (anew e)
-    by false e = on e (length before.history) few (told (λ z. absurd (let u : false ≡ true = sym e ∙ ap (λ n. n == 0) z in cc)))
-
-one_call : (c d : Call) → Some c ≡ Some d → c ≡ d
-one_call c d e = cc
-
--- the reply to the last entry of a legal history fits the program's next call
-pub fits_next : (p : Program) (at count : ℕ) (c : Call) (s : ℕ) (r : Reply) (old new : List Entry) → slice_get (calls_of p) at ≡ Some c → count ≡ at
-    → new ≡ old ++ record { session = s; call = c; reply = r } ∷ [] → IsLegal new → (d : Call) → slice_get (calls_of p) count ≡ Some d → fits d r ≡ true
-fits_next p at count c s r old new h n e legal d g =
-    subst (λ (x : Call). fits x r ≡ true) (one_call c d (sym h ∙ ap (slice_get (calls_of p)) (sym n) ∙ g))
-    (last-fits empty old (record { session = s; call = c; reply = r }) (subst IsLegal e legal))

@@ -9,7 +9,7 @@ use Rattle.lock_rules.specs.declared.kinds.Op.{Op}
 use Rattle.lock_rules.specs.declared.kinds.Op.TheVariants as op
 use Rattle.lock_rules.specs.Kinds.{ops_with_resource, ops_with_mode, kind_of_reply, number_of_kind}
 use Rattle.lock_rules.specs.Legal.{IsLegal}
-use Rattle.programs.specs.Flat.{entries, IsRun}
+use Rattle.programs.specs.Flat.{entries, IsAnswer}
 use Rattle.lock_programs.specs.declared.program.TheConstants.{CALLS}
 use Rattle.lock_programs.specs.declared.program.Start.{Start}
 use Rattle.lock_programs.specs.declared.program.Start.TheVariants.{Nothing, Begins, Commits, Aborts, CommitsAndBegins, AbortsAndBegins}
@@ -124,7 +124,7 @@ numbers_of_answer p a = record {
 -- whose wait these calls have ended
 pub record HasRun (before after : BookView) (s : ℕ) (p : Program) (a : Answer) : Type 0 where
   pub place : a.first ≡ length before.history
-  pub run : IsRun program_form (calls_of p) (replies_of p a) a.is_refused
+  pub run : IsAnswer program_form p a
   pub history : after ≡ record before { history = before.history ++ entries s (calls_of p) (replies_of p a); ended = after.ended }
   pub legal : IsLegal after.history
   pub ended : TellsFrom after (length before.history)

@@ -1,7 +1,6 @@
 //! A program of calls on the book that a handle holds.
 
-ghost use Rattle.std.specs.Prelude.{◌≡◌, ◌≢◌, ◌≤◌, ◌⊎◌, ℕ, true, false, [], ◌∷◌, ◌++◌, IfOk, OnErr, length};
-ghost use Rattle.lock_desk.specs.Batches.{TellsFrom};
+ghost use Rattle.std.specs.Prelude.{◌≡◌, ◌≢◌, ◌≤◌, ◌⊎◌, IfOk, OnErr};
 ghost use Rattle.lock_programs.specs.declared.program.Program.{Program as ProgramValue};
 ghost use Rattle.pelgaisti_c.specs.Calls.{IsSession};
 ghost use Rattle.pelgaisti_c.specs.Paths.{HasRoom};
@@ -13,61 +12,16 @@ use crate::status::{
     NO_MEMORY, NO_ROOM, NO_SUCH_ABOVE, NO_SUCH_MODE, NO_SUCH_OP, NO_SUCH_SESSION, NO_SUCH_START, OK,
 };
 use lock_desk::{Book, NoMemory};
-use lock_programs::{Answer, Program, goes_on_behind};
-use lock_rules::{Call, Reply};
-use programs::Continuing;
-use sequential::{Sequential, Serving};
+use lock_programs::{Answer, Program};
 
-/// Serves a call of a program. The book tells whose wait it has ended; if it isn't the first call, of those told before, too.
-fn serve_next(book: &mut Book, session: u16, call: Call, is_first: bool) -> Result<Reply, NoMemory>
-    requires some { 1 ≤ session }
-    requires within { session ≤ book.old.sessions }
-    ensures entry { IfOk result (λ reply. book.new.history ≡ book.old.history ++ record { session = session; call = call; reply = reply } ∷ []) }
-    ensures anew { IfOk result (λ _. is_first ≡ true → TellsFrom book.new (length book.old.history)) }
-    ensures on { IfOk result (λ _. is_first ≡ false → (from : ℕ) → from ≤ length book.old.history → TellsFrom book.old from → TellsFrom book.new from) }
-    ensures same { (book.new.sessions ≡ book.old.sessions) × (book.new.cut ≡ book.old.cut) × (book.new.bound ≡ book.old.bound) }
-    ensures refused { OnErr result (book.new ≡ book.old) }
-{
-    if is_first {
-        Serving::serve(book, session, call)
-    } else {
-        Continuing::serve_on(book, session, call)
-    }
-}
-
-/// Serves the calls of a program, one after another, until the first reply behind which it doesn't go on. If memory is refused to
-/// the first call, nothing changes; if it is refused to a later one, the answer says so.
+/// Runs a program, as `programs::run` does. The book tells whose wait its calls have ended.
 fn run(book: &mut Book, session: u16, program: &Program) -> Result<Answer, NoMemory>
     requires some { 1 ≤ session }
     requires within { session ≤ book.old.sessions }
     ensures done { IfOk result (λ answer. HasRun book.old book.new session program.now answer) }
     ensures refused { OnErr result (book.new ≡ book.old) }
 {
-    let length = program.length();
-    let mut answer = Answer::none_served(Sequential::served(book));
-    if length == 0 {
-        Continuing::tell_anew(book);
-        return Ok(answer);
-    }
-    for at in 0..length {
-        let call = program.call(at);
-        let reply = match serve_next(book, session, call, at == 0) {
-            Ok(reply) => reply,
-            Err(refused) => {
-                if at == 0 {
-                    return Err(refused);
-                }
-                answer.refuse();
-                return Ok(answer);
-            }
-        };
-        let _served = Sequential::served(book);
-        answer.append(program, reply);
-        if !goes_on_behind(&reply) {
-            return Ok(answer);
-        }
-    }
-    Ok(answer)
+    programs::run(book, session, program)
 }
 
 /// Runs the program that the numbers encode. Writes the answer, and the sessions whose wait its calls have ended, with their number.

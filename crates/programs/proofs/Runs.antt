@@ -3,7 +3,8 @@ use Rattle.std.proofs.Common.{◌≡◌, inl, inr, ℕ, ◌+◌, ◌<◌, Bool, 
 use Rattle.sequential.specs.declared.entry.Entry.{Entry}
 use Rattle.programs.specs.Form.{Form, AllGoOn}
 use Rattle.programs.specs.Flat.{entry, entries, IsRun}
-use Rattle.programs.specs.inner.Running.{HasRun, HasBegun, IsRunning}
+use Rattle.programs.specs.Runs.{HasRun}
+use Rattle.programs.specs.inner.Running.{HasBegun, IsRunning}
 
 -- one more reply is one more entry
 pub entries-push : {C R : Type 0} (s : ℕ) (cs : List C) (rs : List R) (c : C) (r : R) → slice_get cs (length rs) ≡ Some c → entries s cs (rs ++ r ∷ []) ≡ entries s cs rs ++ entry s c r ∷ []

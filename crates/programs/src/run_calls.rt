@@ -2,15 +2,16 @@
 
 ghost use Rattle.std.specs.Prelude.{◌≡◌, ◌≤◌, ℕ, false, List, [], length, IfOk, OnErr};
 ghost use Rattle.sequential.specs.declared.entry.Entry.{Entry as EntryValue};
-ghost use Rattle.programs.specs.inner.Running.{HasRun, HasBegun};
+ghost use Rattle.programs.specs.Runs.{HasRun};
+ghost use Rattle.programs.specs.inner.Running.{HasBegun};
 
 use crate::form::Programmed;
 use std::alloc::AllocError as NoMemory;
 
-/// Serves the calls of a program, one after another, until the first reply behind which the object doesn't go on. The object tells
-/// of these calls afterwards. If memory is refused to the first call, nothing changes; if it is refused to a later one, the answer
-/// says so.
-pub(crate) fn run<O: Programmed>(
+/// Runs a program of a session: serves its calls, one after another, until the first reply behind which the object doesn't go on.
+/// The object tells of these calls afterwards. Fails with `NoMemory` if memory is refused to the first call; the object is unchanged
+/// then. If it is refused to a later one, the answer says so, and this call and those behind it are in no history.
+pub fn run<O: Programmed>(
     object: &mut O,
     session: u16,
     program: &O::Program,

@@ -1,7 +1,7 @@
 use Rattle.std.proofs.Common.{refl, sym, ap, ◌∙◌, arith}
 use Rattle.programs.proofs.Pushes.{longer-push}
 use Rattle.programs.proofs.Runs.{some-calls, begun-on, begun-stop, running-push, run-at-stop, run-at-cut, run-at-end}
-use Rattle.programs.proofs.run.serve_others.Goals as goal
+use Rattle.programs.proofs.run_calls.serve_others.Goals as goal
 
 pub returns-then-not-goes_on-clause-done : goal.returns-then-not-goes_on-clause-done
 returns-then-not-goes_on-clause-done g c = λ before b.

@@ -2,7 +2,7 @@ use Rattle.std.proofs.Common.{◌≡◌, ◌≤◌, ℕ, List, length}
 use Rattle.sequential.specs.declared.entry.Entry.{Entry}
 use Rattle.programs.specs.Form.{AllGoOn}
 use Rattle.programs.specs.inner.Running.{HasBegun, IsRunning}
-use Rattle.programs.proofs.run.serve_others.Given as goal
+use Rattle.programs.proofs.run_calls.serve_others.Given as goal
 
 -- The calls before the index are served, the object tells of them, and the program goes on.
 abbrev pub invariant-loop-at : goal.invariant-loop-at
