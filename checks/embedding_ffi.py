@@ -11,7 +11,7 @@ def rust(name):
     """The type of ffi.rs for a type of the header."""
     if name in HANDLES:
         return "RawHandle"
-    return NUMBERS.get(name) or "Raw" + name.removeprefix("pelgaisti_").capitalize()
+    return NUMBERS.get(name) or "Raw" + name.removeprefix("pelgaisti_").title().replace("_", "")
 
 
 def parameter(text):

@@ -57,11 +57,11 @@ static void try_meanwhile(void) {
     } while (0)
 
 /* The calls that may lack memory, and how often memory was refused to each. */
-enum { BOOK_OPEN, BOOK_SERVE, BOOK_SERVE_BATCH, BOOK_LOCK_PATH, BOOK_HOLDERS, BOOK_LOCKS, OFFICE_OPEN, SESSION_SERVE, AT_ONCE, TELLING,
+enum { BOOK_OPEN, BOOK_SERVE, BOOK_SERVE_BATCH, BOOK_LOCK_PATH, BOOK_RUN, BOOK_HOLDERS, BOOK_LOCKS, OFFICE_OPEN, SESSION_SERVE, AT_ONCE, TELLING,
        SESSION_HOLDERS, SESSION_BLOCKERS, SESSION_LOCKS, HAND_IN, OFFICE_CLOSE, OPEN_WAKING, WAKING_SERVE, WAKING_SERVE_TELLING,
        WAKING_AT_ONCE, WAKING_TELLING, WAKING_PERFORM, WAKING_PATH, LACKING };
-static const char *const lacking[LACKING] = {"book_open", "book_serve", "book_serve_batch", "book_lock_path", "book_holders",
-                                             "book_locks", "office_open", "session_serve", "session_perform_at_once",
+static const char *const lacking[LACKING] = {"book_open", "book_serve", "book_serve_batch", "book_lock_path", "book_run",
+                                             "book_holders", "book_locks", "office_open", "session_serve", "session_perform_at_once",
                                              "session_perform_telling", "session_holders", "session_blockers", "session_locks",
                                              "session_hand_in", "office_close", "office_open_waking", "session_serve, which wakes",
                                              "session_serve_telling, which wakes", "session_perform_at_once, which wakes",
@@ -71,6 +71,9 @@ static long lacked[LACKING];
 
 /* How many batches were refused memory behind the calls that they served. */
 static long cut_short;
+
+/* How many programs were refused memory behind the calls that they served. */
+static long run_short;
 
 /* How many passes were refused memory and served all calls nevertheless, one after another. */
 static long met;
@@ -252,6 +255,59 @@ static void paths(void) {
         CHECK(level == PELGAISTI_LEVELS && told_of == 1);
         serve_surely(&book, 3, call_of(PELGAISTI_POLL, 0, 0), PELGAISTI_DEADLOCK);
         for (uint32_t s = 1; s <= 3; s++) serve_surely(&book, s, call_of(PELGAISTI_ABORT, 0, 0), PELGAISTI_ABORTED);
+    }
+    CHECK(pelgaisti_book_close(&book) == PELGAISTI_OK);
+}
+
+/* Runs a program of one lock on a new database, again if memory is refused: then nothing has changed. */
+static void run_lock(pelgaisti_book *book, uint32_t session, uint32_t number) {
+    pelgaisti_program program = {PELGAISTI_NOTHING, 1, PELGAISTI_NL, {PELGAISTI_LOCK, PELGAISTI_IX, {1, {number}}}};
+    pelgaisti_program_answer answer = {77, 77, 77, 77, {{77, 88}}};
+    uint32_t list[3] = {77, 77, 77};
+    uint64_t length = length_of(book);
+    size_t count = 99;
+    while (is_lacking(BOOK_RUN, pelgaisti_book_run(book, session, &program, &answer, list, 3, &count)))
+        CHECK(answer.place == 77 && answer.served == 77 && count == 0 && list[0] == 77 && length_of(book) == length);
+    CHECK(answer.place == length && answer.served == 1 && answer.replies[0].kind == PELGAISTI_GRANTED && count == 0);
+}
+
+/* Session 1 runs a program that commits what session 2 waits for, begins, and locks a new path. If memory is refused to the commit,
+   nothing has changed, and the same program is run again; if to a later call, the answer says so, the program tells of session 2 all the
+   same, and one of the calls that are left goes on. From round to round the history is longer, and session 3 has one lock more. */
+static void programs(void) {
+    pelgaisti_book book = PELGAISTI_EMPTY;
+    while (is_lacking(BOOK_OPEN, pelgaisti_book_open(&book, 3))) continue;
+    for (uint32_t s = 1; s <= 3; s++) serve_surely(&book, s, begin, PELGAISTI_BEGAN);
+    for (uint32_t round = 0; round < 24; round++) {
+        pelgaisti_program program = {PELGAISTI_COMMITS_AND_BEGINS, 1, PELGAISTI_IX, {PELGAISTI_LOCK, PELGAISTI_X, {5, {7, round, 1, 1, 1}}}};
+        uint32_t left = PELGAISTI_CALLS, told_of = 0;
+        run_lock(&book, 3, 100 + round);
+        serve_surely(&book, 1, call_of(PELGAISTI_LOCK, PELGAISTI_X, 8), PELGAISTI_GRANTED);
+        serve_surely(&book, 2, call_of(PELGAISTI_LOCK, PELGAISTI_X, 8), PELGAISTI_WAITING);
+        while (left > 0) {
+            pelgaisti_program_answer answer = {77, 77, 77, 77, {{77, 88}}};
+            uint32_t list[3] = {77, 77, 77}, length = (uint32_t)length_of(&book), status;
+            size_t count = 99;
+            status = pelgaisti_book_run(&book, 1, &program, &answer, list, 3, &count);
+            if (is_lacking(BOOK_RUN, status)) {
+                CHECK(answer.place == 77 && answer.served == 77 && count == 0 && list[0] == 77 && length_of(&book) == length);
+                continue;
+            }
+            CHECK(status == PELGAISTI_OK && answer.place == length && answer.stop == 0 && length_of(&book) == length + answer.served);
+            CHECK(answer.served > 0 && answer.served <= left && answer.starved == (answer.served < left));
+            CHECK(count == (left == PELGAISTI_CALLS) && (count == 0 || list[0] == 2));
+            told_of += (uint32_t)count;
+            run_short += answer.starved;
+            left -= answer.served;
+            program.start = left == 6 ? PELGAISTI_BEGINS : PELGAISTI_NOTHING;
+            program.from = left < 6 ? 6 - left : 1;
+        }
+        CHECK(told_of == 1);
+        serve_surely(&book, 2, call_of(PELGAISTI_POLL, 0, 0), PELGAISTI_CLEAR);
+        for (uint32_t s = 1; s <= 2; s++) {
+            serve_surely(&book, s, call_of(PELGAISTI_COMMIT, 0, 0), PELGAISTI_COMMITTED);
+            serve_surely(&book, s, begin, PELGAISTI_BEGAN);
+        }
     }
     CHECK(pelgaisti_book_close(&book) == PELGAISTI_OK);
 }
@@ -565,6 +621,7 @@ static void each_in_turn(const char *name, void (*play)(void), long row) {
 int main(void) {
     each_in_turn("books", books, 1);
     each_in_turn("paths", paths, 1);
+    each_in_turn("programs", programs, 1);
     each_in_turn("offices", offices, 1);
     each_in_turn("wakers", wakers, 1);
     each_in_turn("wakers, two in a row", wakers, 2); /* a path tries once more before its call is left pending */
@@ -573,7 +630,7 @@ int main(void) {
             failed++;
             printf("memory was never refused to %s\n", lacking[call]);
         }
-    CHECK(met > 0 && cut_short > 0 && told_before > 0);
+    CHECK(met > 0 && cut_short > 0 && run_short > 0 && told_before > 0);
     for (int call = WAKING_SERVE; call <= WAKING_PATH; call++)
         if (!woken_then[call]) {
             failed++;

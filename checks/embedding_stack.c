@@ -15,6 +15,8 @@ static pelgaisti_entry entries[SESSIONS * LOCKS];
 static uint32_t list[PELGAISTI_MAX_SESSIONS];
 static pelgaisti_answer answer;
 static pelgaisti_reply reply;
+static const pelgaisti_program program = {PELGAISTI_ABORTS, 0, 0, {PELGAISTI_POLL, 0, {0, {0}}}};
+static pelgaisti_program_answer made;
 static uint32_t level;
 static size_t count;
 static uint64_t place;
@@ -64,6 +66,7 @@ static void *work(void *unused) {
     MUST(pelgaisti_book_serve(&book, 1, &entries[0].call, &reply) == PELGAISTI_OK);
     level = 0;
     MUST(pelgaisti_book_lock_path(&book, 1, &path, PELGAISTI_S, &level, &reply, list, PELGAISTI_MAX_SESSIONS, &count) == PELGAISTI_OK);
+    MUST(pelgaisti_book_run(&book, 1, &program, &made, list, PELGAISTI_MAX_SESSIONS, &count) == PELGAISTI_OK && made.served == 2);
     MUST(pelgaisti_book_take_history(&book, &place, entries, 10, &count) == PELGAISTI_OK);
     MUST(pelgaisti_book_close(&book) == PELGAISTI_OK);
     return unused;

@@ -54,7 +54,7 @@ static const struct {
     {ANY(book_holders), "pplrp"}, {ANY(book_waits_for), "pnnp"}, {ANY(book_blockers), "pnlrp"}, {ANY(book_transaction), "pnp"},
     {ANY(book_request), "pnp"}, {ANY(book_locks), "pnlrp"}, {ANY(book_ended), "plrp"}, {ANY(book_length), "pp"},
     {ANY(book_history), "pnlrp"}, {ANY(book_first_kept), "pp"}, {ANY(book_keep_at_most), "pn"}, {ANY(book_take_history), "pplrp"},
-    {ANY(book_lock_path), "pnpnpplrp"}, {ANY(office_open), "pn"}, {ANY(office_open_keeping), "pnn"}, {ANY(office_open_waking), "pnnp"},
+    {ANY(book_lock_path), "pnpnpplrp"}, {ANY(book_run), "pnpplrp"}, {ANY(office_open), "pn"}, {ANY(office_open_keeping), "pnn"}, {ANY(office_open_waking), "pnnp"},
     {ANY(session_publish), "ppo"}, {ANY(session_serve), "po"}, {ANY(session_serve_telling), "polrp"},
     {ANY(session_perform_at_once), "ppop"}, {ANY(session_perform_telling), "ppoplrp"}, {ANY(session_collect), "pp"},
     {ANY(session_take_history), "pplrp"}, {ANY(session_held), "pnppp"}, {ANY(session_transaction), "pnpp"},
@@ -400,7 +400,7 @@ static void numbers_have_names(void) {
     static const char *const statuses[] = {"OK", "NO_MEMORY", "CLOSED", "NO_SUCH_SESSION", "NO_SUCH_OP", "NO_SUCH_LEVEL",
                                            "NO_SUCH_MODE", "OPEN", "NO_SUCH_COUNT", "PENDING", "NOTHING_PENDING", "NOT_SERVED",
                                            "RETIRED", "ELSEWHERE", "OTHER_OFFICE", "MISSING", "COPIED", "NULL", "SAME", "LET_GO",
-                                           "NO_ROOM"};
+                                           "NO_ROOM", "NO_SUCH_START", "NOT_ON_PATH", "NO_SUCH_ABOVE"};
     static const char *const modes[] = {"NL", "IS", "unknown", "IX", "unknown", "S", "unknown", "SIX", "unknown", "unknown",
                                         "unknown", "unknown", "unknown", "U", "unknown", "X", "unknown"};
     static const char *const ops[] = {"unknown", "begin", "lock", "convert", "poll", "release", "commit", "abort", "try", "withdraw",
@@ -410,7 +410,7 @@ static void numbers_have_names(void) {
     static const char *const refusals[] = {"unknown", "AlreadyOpen", "NoTransaction", "IsWaiting", "IsDoomed", "NothingAsked",
                                            "NotHeld", "ParentNotHeld", "ChildHeld", "TooManyLocks", "unknown", "WouldWait",
                                            "NotWaiting", "unknown"};
-    static const uint64_t off[] = {21, 255, 256, 65536, UINT32_MAX, (uint64_t)1 << 32, ((uint64_t)1 << 32) + 1, UINT64_MAX};
+    static const uint64_t off[] = {24, 255, 256, 65536, UINT32_MAX, (uint64_t)1 << 32, ((uint64_t)1 << 32) + 1, UINT64_MAX};
 
     for (size_t k = 0; k < COUNT(statuses); k++) CHECK(!strcmp(pelgaisti_status_name(k), statuses[k]));
     for (size_t k = 0; k < COUNT(modes); k++) CHECK(!strcmp(pelgaisti_mode_name(k), modes[k]));
@@ -1392,6 +1392,169 @@ static void paths_tell(void) {
     }
 }
 
+/* A program whose last call is this one, with no ancestors. */
+static pelgaisti_program program_of(uint32_t start, pelgaisti_call last) {
+    pelgaisti_program program;
+    program.start = start;
+    program.from = last.resource.level;
+    program.above = PELGAISTI_NL;
+    program.last = last;
+    return program;
+}
+
+/* Whether a program gets this status, and then nothing has changed, and nobody is told of. */
+static int is_unrun(pelgaisti_book *book, uint32_t session, pelgaisti_program program, size_t room, pelgaisti_status status) {
+    pelgaisti_program_answer answer;
+    unsigned char before[sizeof answer];
+    uint32_t list[3] = {77, 77, 77};
+    uint64_t length = 0, after = 0;
+    size_t count = 99;
+    memset(&answer, 0x55, sizeof answer);
+    memcpy(before, &answer, sizeof answer);
+    CHECK(pelgaisti_book_length(book, &length) == PELGAISTI_OK);
+    CHECK(pelgaisti_book_run(book, session, &program, &answer, list, room, &count) == status);
+    CHECK(pelgaisti_book_length(book, &after) == PELGAISTI_OK);
+    return count == 0 && list[0] == 77 && after == length && !memcmp(before, &answer, sizeof answer);
+}
+
+/* Each bad number of a program gives its status, the first of them in the order of the header's comment. */
+static void programs_refuse(void) {
+    static const uint32_t off_starts[] = {6, 7, 255, 256, UINT32_MAX}, ends[] = {PELGAISTI_BEGIN, PELGAISTI_COMMIT, PELGAISTI_ABORT};
+    static const uint32_t on_resources[] = {PELGAISTI_LOCK, PELGAISTI_CONVERT, PELGAISTI_TRY, PELGAISTI_RELEASE};
+    pelgaisti_book book = PELGAISTI_EMPTY;
+    pelgaisti_program program = program_of(PELGAISTI_BEGINS, call_of(PELGAISTI_LOCK, PELGAISTI_X, 2, 7, 1));
+    pelgaisti_program_answer answer;
+    uint32_t list[3];
+    size_t count = 99;
+    CHECK(pelgaisti_book_run(&book, 1, &program, &answer, list, 3, &count) == PELGAISTI_CLOSED && count == 0);
+    CHECK(pelgaisti_book_open(&book, 3) == PELGAISTI_OK);
+    program.start = 6;
+    for (size_t room = 0; room < 3; room++) CHECK(is_unrun(&book, 4, program, room, PELGAISTI_NO_ROOM));
+    for (size_t k = 0; k < COUNT(off_sessions); k++)
+        CHECK(is_unrun(&book, off_sessions[k], program, 3, PELGAISTI_NO_SUCH_SESSION));
+    program.last.op = 10;
+    for (size_t k = 0; k < COUNT(off_starts); k++) {
+        program.start = off_starts[k];
+        CHECK(is_unrun(&book, 1, program, 3, PELGAISTI_NO_SUCH_START));
+    }
+    for (program.start = 0; program.start < 6; program.start++) {
+        for (size_t k = 1; k < COUNT(off_ops); k++) {
+            program.last.op = off_ops[k];
+            program.last.resource.level = 0;
+            CHECK(is_unrun(&book, 1, program, 3, PELGAISTI_NO_SUCH_OP));
+        }
+        for (size_t k = 0; k < COUNT(ends); k++) {
+            program.last.op = ends[k];
+            CHECK(is_unrun(&book, 1, program, 3, PELGAISTI_NO_SUCH_OP));
+        }
+    }
+    for (size_t n = 0; n < COUNT(on_resources); n++) {
+        for (size_t k = 0; k < COUNT(off_levels); k++) {
+            program = program_of(PELGAISTI_BEGINS, call_of(on_resources[n], 2, off_levels[k], 1, 2));
+            CHECK(is_unrun(&book, 1, program, 3, PELGAISTI_NO_SUCH_LEVEL));
+        }
+        for (size_t k = 0; n < 3 && k < COUNT(off_modes); k++) {
+            program = program_of(PELGAISTI_BEGINS, call_of(on_resources[n], off_modes[k], 2, 1, 2));
+            program.from = 0;
+            CHECK(is_unrun(&book, 1, program, 3, PELGAISTI_NO_SUCH_MODE));
+        }
+        program = program_of(PELGAISTI_BEGINS, call_of(on_resources[n], PELGAISTI_X, 2, 1, 2));
+        program.above = 2;
+        static const uint32_t off_path[] = {0, 3, 6, 258, UINT32_MAX};
+        for (size_t k = 0; k < COUNT(off_path); k++) {
+            program.from = off_path[k];
+            CHECK(is_unrun(&book, 1, program, 3, PELGAISTI_NOT_ON_PATH));
+        }
+        for (program.from = 1; program.from <= 2; program.from++)
+            for (size_t k = 0; k < COUNT(off_modes); k++) {
+                program.above = off_modes[k];
+                CHECK(is_unrun(&book, 1, program, 3, PELGAISTI_NO_SUCH_ABOVE));
+            }
+    }
+    CHECK(pelgaisti_book_close(&book) == PELGAISTI_OK);
+}
+
+/* Runs a program with so many replies, of which the last has this kind; then the answer says so, and tells of nobody. */
+static pelgaisti_program_answer run(pelgaisti_book *book, uint32_t session, pelgaisti_program program, uint32_t served, uint32_t kind) {
+    pelgaisti_program_answer answer;
+    uint32_t list[3] = {77, 77, 77};
+    size_t count = 99;
+    uint64_t length = 0, after = 0;
+    memset(&answer, 0x55, sizeof answer);
+    CHECK(pelgaisti_book_length(book, &length) == PELGAISTI_OK);
+    CHECK(pelgaisti_book_run(book, session, &program, &answer, list, 3, &count) == PELGAISTI_OK);
+    CHECK(pelgaisti_book_length(book, &after) == PELGAISTI_OK && after == length + served);
+    CHECK(answer.place == length && answer.served == served && answer.starved == 0 && count == 0 && list[0] == 77);
+    CHECK(served == 0 || answer.replies[served - 1].kind == kind);
+    CHECK(answer.stop == (kind == PELGAISTI_WAITING || kind == PELGAISTI_DEADLOCK || kind == PELGAISTI_REFUSED ? kind : 0));
+    for (uint32_t k = served; k < PELGAISTI_CALLS; k++) CHECK(answer.replies[k].kind == 0 && answer.replies[k].value == 0);
+    return answer;
+}
+
+/* Programs of each start, and of each last call; the longest; and one that stops at each kind of reply at which programs stop. */
+static void programs_are_run(void) {
+    pelgaisti_book book = PELGAISTI_EMPTY;
+    pelgaisti_call none = call_of(0, 77, 78, 79, 80), poll = call_of(PELGAISTI_POLL, 77, 78, 79, 80);
+    pelgaisti_call write_7 = call_of(PELGAISTI_LOCK, PELGAISTI_X, 1, 7, 0);
+    pelgaisti_program longest = program_of(PELGAISTI_COMMITS_AND_BEGINS, call_of(PELGAISTI_LOCK, PELGAISTI_X, 5, 7, 1));
+    pelgaisti_program_answer answer;
+    pelgaisti_entry entries[PELGAISTI_CALLS];
+    uint32_t list[3] = {77, 77, 77}, mode = 99;
+    size_t count = 99;
+    CHECK(pelgaisti_book_open(&book, 3) == PELGAISTI_OK);
+    run(&book, 1, program_of(PELGAISTI_NOTHING, none), 0, 0);
+    CHECK(run(&book, 1, program_of(PELGAISTI_BEGINS, none), 1, PELGAISTI_BEGAN).replies[0].value == 1);
+    run(&book, 1, program_of(PELGAISTI_COMMITS, none), 1, PELGAISTI_COMMITTED);
+    CHECK(run(&book, 1, program_of(PELGAISTI_BEGINS, poll), 2, PELGAISTI_CLEAR).replies[0].value == 2);
+    run(&book, 1, program_of(PELGAISTI_ABORTS, none), 1, PELGAISTI_ABORTED);
+    CHECK(run(&book, 1, program_of(PELGAISTI_COMMITS_AND_BEGINS, none), 1, PELGAISTI_REFUSED).replies[0].value == PELGAISTI_NO_TRANSACTION);
+    CHECK(run(&book, 1, program_of(PELGAISTI_BEGINS, none), 1, PELGAISTI_BEGAN).replies[0].value == 3);
+    CHECK(run(&book, 1, program_of(PELGAISTI_ABORTS_AND_BEGINS, none), 2, PELGAISTI_BEGAN).replies[1].value == 4);
+    /* seven calls: a commit, a begin and a path of five */
+    longest.from = 1;
+    longest.above = PELGAISTI_IX;
+    answer = run(&book, 1, longest, PELGAISTI_CALLS, PELGAISTI_GRANTED);
+    CHECK(answer.replies[0].kind == PELGAISTI_COMMITTED && answer.replies[1].kind == PELGAISTI_BEGAN && answer.replies[1].value == 5);
+    for (int k = 2; k < 6; k++) CHECK(answer.replies[k].kind == PELGAISTI_GRANTED && answer.replies[k].value == PELGAISTI_IX);
+    CHECK(answer.replies[6].value == PELGAISTI_X);
+    CHECK(pelgaisti_book_history(&book, answer.place, entries, PELGAISTI_CALLS, &count) == PELGAISTI_OK && count == PELGAISTI_CALLS);
+    for (size_t k = 0; k < count; k++)
+        CHECK(entries[k].session == 1 && entries[k].reply.kind == answer.replies[k].kind && entries[k].reply.value == answer.replies[k].value);
+    CHECK(entries[4].call.op == PELGAISTI_LOCK && entries[4].call.mode == PELGAISTI_IX && entries[4].call.resource.level == 3);
+    CHECK(pelgaisti_book_held(&book, 1, &longest.last.resource, &mode) == PELGAISTI_OK && mode == PELGAISTI_X);
+    /* the rest of a path, and each other last call */
+    longest.start = PELGAISTI_NOTHING;
+    longest.from = 4;
+    longest.last.op = PELGAISTI_TRY;
+    longest.last.resource.numbers[4] = 9;
+    run(&book, 1, longest, 2, PELGAISTI_GRANTED);
+    longest.last.op = PELGAISTI_CONVERT;
+    longest.from = 5;
+    run(&book, 1, longest, 1, PELGAISTI_GRANTED);
+    longest.last.op = PELGAISTI_RELEASE;
+    run(&book, 1, longest, 1, PELGAISTI_RELEASED);
+    CHECK(run(&book, 1, longest, 1, PELGAISTI_REFUSED).replies[0].value == PELGAISTI_NOT_HELD);
+    CHECK(run(&book, 1, program_of(PELGAISTI_NOTHING, call_of(PELGAISTI_WITHDRAW, 0, 0, 0, 0)), 1, PELGAISTI_REFUSED).replies[0].value ==
+          PELGAISTI_NOT_WAITING);
+    /* it waits at its second call, and makes no further one */
+    longest = program_of(PELGAISTI_BEGINS, call_of(PELGAISTI_LOCK, PELGAISTI_S, 2, 7, 1));
+    longest.from = 1;
+    longest.above = PELGAISTI_SIX;
+    run(&book, 2, longest, 2, PELGAISTI_WAITING);
+    run(&book, 2, program_of(PELGAISTI_NOTHING, poll), 1, PELGAISTI_WAITING);
+    /* the commit ends its wait, though another call follows in the program */
+    longest = program_of(PELGAISTI_COMMITS_AND_BEGINS, poll);
+    CHECK(pelgaisti_book_run(&book, 1, &longest, &answer, list, 3, &count) == PELGAISTI_OK && answer.served == 3);
+    CHECK(count == 1 && list[0] == 2 && list[1] == 77);
+    CHECK(pelgaisti_book_ended(&book, list, 3, &count) == PELGAISTI_OK && count == 1 && list[0] == 2);
+    run(&book, 2, program_of(PELGAISTI_NOTHING, poll), 1, PELGAISTI_CLEAR);
+    /* session 1 waits for 2, which would wait for 1, and is younger: a victim */
+    CHECK(replies(&book, 1, call_of(PELGAISTI_LOCK, PELGAISTI_X, 1, 8, 0), PELGAISTI_GRANTED, PELGAISTI_X));
+    run(&book, 2, program_of(PELGAISTI_NOTHING, call_of(PELGAISTI_LOCK, PELGAISTI_X, 1, 8, 0)), 1, PELGAISTI_WAITING);
+    run(&book, 1, program_of(PELGAISTI_NOTHING, write_7), 1, PELGAISTI_DEADLOCK);
+    CHECK(pelgaisti_book_close(&book) == PELGAISTI_OK);
+}
+
 /* Tries that are granted and that are refused; withdrawals of the first request of a queue and of a conversion, and their refusals.
    Session s has transaction s. */
 static void tries_and_withdrawals(void) {
@@ -2286,6 +2449,8 @@ int main(int argc, char **argv) {
     paths_and_pending_calls();
     paths_without_turns();
     paths_tell();
+    programs_refuse();
+    programs_are_run();
     modes_meet();
     sessions_refuse();
     marks_differ();

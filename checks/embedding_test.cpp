@@ -122,6 +122,29 @@ static void paths_tell() {
     }
 }
 
+// A program of a commit, a begin and a path; one that stops where it waits; and single calls.
+static void programs() {
+    using pelgaisti::program, pelgaisti::start;
+    pelgaisti::book book{2};
+    std::vector<std::uint32_t> ended{9};
+    auto answer = book.run(1, program::locks(start::begins, {7, 2, 40}, mode::X), ended);
+    CHECK(answer.place() == 0 && answer.size() == 4 && !answer.stopped() && !answer.starved());
+    CHECK(answer[0].kind == kind::began && answer[1].value == PELGAISTI_IX && answer[3].value == PELGAISTI_X);
+    answer = book.run(2, program::locks(start::begins, {7, 2}, mode::S), ended);
+    CHECK(answer.place() == 4 && answer.size() == 3 && answer.stopped() && answer[2].kind == kind::waiting);
+    CHECK(ended == std::vector<std::uint32_t>{9} && book.run(1, program(start::nothing), ended).size() == 0);
+    answer = book.run(1, program::locks(start::commits_and_begins, {8, 1}, mode::X, 1), ended);
+    CHECK(answer.size() == 4 && answer[0].value == 3 && ended == (std::vector<std::uint32_t>{9, 2}));
+    CHECK(book.run(1, program::locks(start::nothing, {8, 2}, mode::X, 2), ended).size() == 1);
+    CHECK(book.run(2, program(start::nothing, {op::poll}), ended)[0].kind == kind::clear);
+    CHECK(book.run(2, program(start::aborts, {op::try_lock, mode::S, {8}}), ended).stopped());
+    CHECK(throws(PELGAISTI_NOT_ON_PATH, [&] { static_cast<void>(book.run(1, program::locks(start::begins, {8}, mode::X, 2), ended)); }));
+    CHECK(throws(PELGAISTI_NO_SUCH_OP, [&] { static_cast<void>(book.run(1, program(start::commits, {op::begin}), ended)); }));
+    CHECK(throws(PELGAISTI_NO_SUCH_LEVEL, [&] { static_cast<void>(book.run(1, program::locks(start::begins, {}, mode::X), ended)); }));
+    CHECK(throws(PELGAISTI_NO_SUCH_SESSION, [&] { static_cast<void>(book.run(3, program(start::begins), ended)); }));
+    CHECK(ended.size() == 2);
+}
+
 static void tries() {
     const auto refused = [](const pelgaisti::reply &reply, pelgaisti::refusal why) {
         return reply.kind == kind::refused && reply.value == static_cast<std::uint64_t>(why);
@@ -307,7 +330,7 @@ static void names() {
 }
 
 int main() {
-    for (const auto test : {books, paths_tell, tries, offices, wakers, a_task_throws, offices_are_left, sizes, names}) {
+    for (const auto test : {books, paths_tell, programs, tries, offices, wakers, a_task_throws, offices_are_left, sizes, names}) {
         try {
             test();
         } catch (const pelgaisti::error &error) {

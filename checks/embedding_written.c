@@ -22,6 +22,8 @@ static const pelgaisti_resource page = {2, {1, 2}};
 static void of_a_book(void) {
     pelgaisti_book book = pelgaisti_empty_book();
     pelgaisti_call begin = {PELGAISTI_BEGIN, 0, {0}}, lock = {PELGAISTI_LOCK, PELGAISTI_X, {1, {9}}};
+    pelgaisti_program program = {PELGAISTI_NOTHING, 0, 0, {PELGAISTI_POLL, 0, {0}}};
+    pelgaisti_program_answer answer;
     pelgaisti_reply reply, path_reply;
     pelgaisti_entry batch[1], history[2], taken[2];
     pelgaisti_holder holders[1];
@@ -47,6 +49,7 @@ static void of_a_book(void) {
     WRITES_2(count, locks, pelgaisti_book_locks(&book, 0, locks, 1, &count));
     WRITES_1(count, pelgaisti_book_ended(&book, told, 2, &count));
     WRITES_2(path_reply, count, pelgaisti_book_lock_path(&book, 1, &page, PELGAISTI_S, &level, &path_reply, told, 2, &count));
+    WRITES_2(answer, count, pelgaisti_book_run(&book, 1, &program, &answer, told, 2, &count));
     WRITES_1(length, pelgaisti_book_length(&book, &length));
     WRITES_2(count, history, pelgaisti_book_history(&book, 0, history, 2, &count));
     WRITES_1(first_kept, pelgaisti_book_first_kept(&book, &first_kept));

@@ -228,7 +228,17 @@ def runs_in_pieces(rows):
     return is_right
 
 
-def trials_of_the_program():
+def ends_in_file(target, history):
+    """Like `ends` with status 0, but the history is in a file, of which nothing else is ever seen."""
+    is_ended = ends(0, b"")
+
+    def is_right(ended):
+        return is_ended(ended) and (ended[0] != 0 or target.read_bytes() == history)
+
+    return is_right
+
+
+def trials_of_the_program(folder):
     for name, rows in TRACES.items():
         trace, history = trace_of(rows), history_of(rows)
         yield Trial(f"replay of {name}", [PROGRAM, "replay"], ends(0, history), trace)
@@ -252,6 +262,16 @@ def trials_of_the_program():
     yield Trial("replay --stream of three pieces", words, ends_in_pieces(history), trace_of(THREE_PIECES))
     words = [PROGRAM, "run", "--stream"]
     yield Trial("run --stream of three pieces", words, runs_in_pieces(THREE_PIECES), trace_of(THREE_PIECES), quiet=3)
+    trace, history = TOP / "examples/tree.csv", (TOP / "examples/tree.history.csv").read_bytes()
+    yield Trial("replay of a file", [PROGRAM, "replay", trace], ends(0, history))
+    commented = b"# a tree\n" + trace.read_bytes()
+    yield Trial("replay with comments", [PROGRAM, "replay", "--comments"], ends(0, history), commented)
+    for name, target in ("a file", folder / "history.csv"), ("a link", folder / "link.csv"):
+        if name == "a link":
+            target.symlink_to("linked.csv")
+            (folder / "linked.csv").write_bytes(history)
+        words = [PROGRAM, "replay", trace, "-o", target]
+        yield Trial(f"replay to {name}", words, ends_in_file(target, history))
     illegal = (TOP / "examples/illegal.csv").read_bytes()
     yield Trial("check of a history that isn't legal", [PROGRAM, "check"], ends(3, b"illegal 2\n"), illegal)
     faulty = b"1,begin,,\n1,lock,01,S\n"
@@ -287,7 +307,7 @@ def main():
     with tempfile.TemporaryDirectory() as name, ThreadPoolExecutor(PROCESSORS) as pool:
         folder = Path(name)
         library = build(folder, words.over_gate)
-        for trial in (*trials_of_the_program(), *trials_of_tests()):
+        for trial in (*trials_of_the_program(folder), *trials_of_tests()):
             before, told = passed, set()
             for number, ended in trial.rounds(library, folder, pool):
                 if trial.is_right(ended):

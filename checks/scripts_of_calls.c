@@ -40,6 +40,8 @@
    - refused_batch: the rows are served as a batch, and as far as they were, one by one in a second book, which must be the same; so
      must both be at the end.
    - random: 16 batches of 64 random calls, one by one in a second book: replies and histories are the same.
+   - programs N: N random programs of eight sessions, whose calls are served one by one in a second book: the replies and the history are
+     the same, a program stops where the header says, and it tells of the sessions whose wait one of its calls has ended, and no other.
    - edges N: N random calls of eight sessions. After each, who waits for whom must be what a model says, which knows the waiting
      requests by replies and polls, and the holders from the book.
 
@@ -675,6 +677,80 @@ static void want_same_at_random(void) {
 
 enum { EIGHT = 8 };
 
+/* The calls of a program, as the header says. Returns how many there are. */
+static size_t calls_of(const pelgaisti_program *program, pelgaisti_call calls[PELGAISTI_CALLS]) {
+    static const uint32_t starts[6][2] = {{0, 0}, {PELGAISTI_BEGIN, 0}, {PELGAISTI_COMMIT, 0}, {PELGAISTI_ABORT, 0},
+                                          {PELGAISTI_COMMIT, PELGAISTI_BEGIN}, {PELGAISTI_ABORT, PELGAISTI_BEGIN}};
+    const pelgaisti_resource *on = &program->last.resource;
+    uint32_t level;
+    size_t count = 0, k;
+    for (k = 0; k < 2; k++)
+        if (starts[program->start][k]) calls[count++] = entry_of(0, starts[program->start][k], 0, path(0, 0, 0), 0, 0).call;
+    for (level = program->from; level < on->level; level++)
+        calls[count++] = entry_of(0, PELGAISTI_LOCK, program->above, path(level, on->numbers[0], level < 2 ? 0 : on->numbers[1]), 0, 0).call;
+    if (program->last.op) calls[count++] = program->last;
+    return count;
+}
+
+/* A random program of locks on paths of up to three levels, most of them. */
+static pelgaisti_program random_program(void) {
+    static const uint32_t drawn[6] = {PELGAISTI_X, PELGAISTI_S, PELGAISTI_IX, PELGAISTI_U, PELGAISTI_IS, PELGAISTI_S};
+    static const uint32_t ops[12] = {PELGAISTI_LOCK, PELGAISTI_LOCK, PELGAISTI_LOCK, PELGAISTI_LOCK, PELGAISTI_LOCK, PELGAISTI_TRY, PELGAISTI_TRY,
+                                     PELGAISTI_CONVERT, PELGAISTI_RELEASE, PELGAISTI_WITHDRAW, PELGAISTI_POLL, 0};
+    uint32_t op = ops[draw(12)], level = 1 + draw(3);
+    pelgaisti_program program = {draw(6), 0, 0, {0, 0, {0, {0}}}};
+    int has_resource = has_mode(op) || op == PELGAISTI_RELEASE;
+    program.last = entry_of(0, op, has_mode(op) ? drawn[draw(6)] : 0, path(has_resource ? level : 0, 1 + draw(2), 1 + draw(2)), 0, 0).call;
+    if (has_resource) program.from = 1 + draw(level);
+    program.above = draw(4) ? pelgaisti_parent_mode(program.last.mode) : PELGAISTI_IS;
+    return program;
+}
+
+/* Runs a program in the book, again if memory is refused to its first call, and serves its calls in the second book. */
+static pelgaisti_program_answer run_in_both(uint32_t session, const pelgaisti_program *program) {
+    pelgaisti_program_answer answer = {77, 77, 77, 77, {{77, 88}}};
+    pelgaisti_call calls[PELGAISTI_CALLS];
+    uint32_t list[EIGHT], ended[EIGHT];
+    uint64_t before = length_of(&book);
+    size_t count = 99, all = calls_of(program, calls), k, n, marked = 0;
+    int has_ended[EIGHT + 1] = {0};
+    pelgaisti_status status = pelgaisti_book_run(&book, session, program, &answer, list, EIGHT, &count);
+    if (status == PELGAISTI_NO_MEMORY) {
+        want(answer.served == 77 && count == 0 && length_of(&book) == before, "history after a refusal", before);
+        status = pelgaisti_book_run(&book, session, program, &answer, list, EIGHT, &count);
+    }
+    want(status == PELGAISTI_OK && answer.place == before && answer.served <= all, "program at", before);
+    for (k = 0; k < answer.served && !is_wrong; k++) {
+        pelgaisti_entry entry = {session, calls[k], {0, 0}};
+        pelgaisti_reply reply = serve(&twin, &entry);
+        uint32_t stops = reply.kind == PELGAISTI_WAITING || reply.kind == PELGAISTI_DEADLOCK || reply.kind == PELGAISTI_REFUSED ? reply.kind : 0;
+        want(same_reply(&answer.replies[k], &reply), "reply in a program", before + k);
+        want(stops == (k + 1 == answer.served ? answer.stop : 0), "stop of a program at", before + k);
+        want(pelgaisti_book_ended(&twin, ended, EIGHT, &n) == PELGAISTI_OK && n <= EIGHT, "ended", before + k);
+        while (n > 0) marked += !has_ended[ended[--n]], has_ended[ended[n]] = 1;
+    }
+    want(answer.served == all || answer.stop || answer.starved, "calls of a program at", before);
+    want(count == marked, "sessions that a program tells of at", before);
+    for (k = 0; k < count && !is_wrong; k++) want(has_ended[list[k]], "session that a program tells of", list[k]);
+    return answer;
+}
+
+static void want_programs(uint64_t turns) {
+    uint64_t turn, whole = 0, stopped = 0, most = 0;
+    seed = 20261128;
+    open_book(&twin);
+    for (turn = 0; turn < turns && !is_wrong; turn++) {
+        uint32_t session = 1 + draw(EIGHT);
+        pelgaisti_program program = random_program();
+        pelgaisti_program_answer answer = run_in_both(session, &program);
+        whole += !answer.stop;
+        stopped += answer.stop && answer.served > 1;
+        if (answer.served > most) most = answer.served;
+    }
+    want_same_history();
+    want(whole > 20 && stopped > 20 && most > 3, "programs seen", whole);
+}
+
 /* The model's waiting requests, and counts of what was brought about. */
 static struct request {
     int waits, is_conversion;
@@ -826,6 +902,7 @@ static int perform_last(const char *word, const uint64_t *n, size_t count, const
     else if (!strcmp(word, "crowd")) need(!count && sessions == 256, word), want_crowd();
     else if (!strcmp(word, "refused_batch")) need(!count && length_of_rows, word), want_refused_batch(rows, length_of_rows);
     else if (!strcmp(word, "random")) need(!count && sessions == 40, word), want_same_at_random();
+    else if (!strcmp(word, "programs")) need(count == 1 && sessions == EIGHT, word), want_programs(n[0]);
     else if (!strcmp(word, "edges")) need(count == 1 && sessions == EIGHT, word), want_edges(n[0]);
     else return 0;
     return 1;

@@ -123,7 +123,10 @@ typedef enum pelgaisti_status {
     PELGAISTI_NULL = 17,           /* a pointer is NULL and must not be [null, exactly then; of a waker tested] */
     PELGAISTI_SAME = 18,           /* both arguments are the same handle [tested] */
     PELGAISTI_LET_GO = 19,         /* the entry at this place of the history was let go [let_go, exactly then] */
-    PELGAISTI_NO_ROOM = 20         /* the array has room for fewer sessions than the office, or the book, has [room, exactly then] */
+    PELGAISTI_NO_ROOM = 20,        /* the array has room for fewer sessions than the office, or the book, has [room, exactly then] */
+    PELGAISTI_NO_SUCH_START = 21,  /* the program's `start` is not a pelgaisti_start [program] */
+    PELGAISTI_NOT_ON_PATH = 22,    /* the program's `from` is not in 1 to the level of its last call's resource [program] */
+    PELGAISTI_NO_SUCH_ABOVE = 23   /* the program's `above` is not a pelgaisti_mode [program] */
 } pelgaisti_status;
 
 /* The lock modes of Gray, Lorie, Putzolu and Traiger (1976), and U. The or of two codes is their least upper bound's code. */
@@ -190,7 +193,18 @@ typedef enum pelgaisti_posted {
     PELGAISTI_UNLISTED = 2 /* not yet: only passes of the session itself visit it. Each serve of the session tries to list it */
 } pelgaisti_posted;
 
+/* What a program does with the session's transaction first. */
+typedef enum pelgaisti_start {
+    PELGAISTI_NOTHING = 0,           /* nothing */
+    PELGAISTI_BEGINS = 1,            /* BEGIN */
+    PELGAISTI_COMMITS = 2,           /* COMMIT */
+    PELGAISTI_ABORTS = 3,            /* ABORT */
+    PELGAISTI_COMMITS_AND_BEGINS = 4, /* COMMIT, and then BEGIN */
+    PELGAISTI_ABORTS_AND_BEGINS = 5  /* ABORT, and then BEGIN */
+} pelgaisti_start;
+
 #define PELGAISTI_LEVELS 5
+#define PELGAISTI_CALLS 7
 #define PELGAISTI_MAX_SESSIONS 1024
 #define PELGAISTI_MAX_LOCKS 4096
 
@@ -272,6 +286,28 @@ typedef struct pelgaisti_pass {
     uint32_t starved; /* 1 if calls were put back, since memory was refused for one: they stay published. Otherwise 0 */
 } pelgaisti_pass;
 
+/* A program: several calls of a session that are made as one. It does what `start` says, then locks the ancestors of the last call's
+   resource in the mode `above`, from the level `from` on, each by a LOCK of its own, and then makes the last call. The last call's op is
+   LOCK, CONVERT, TRY or RELEASE, which are on a resource; POLL or WITHDRAW, with which `from` and `above` are not read; or 0 for no call
+   but what `start` says. With the resource's own level for `from` no ancestor is locked, so that each single call is a program, too.
+   PELGAISTI_CALLS are the most: a commit, a begin, and a path of PELGAISTI_LEVELS. */
+typedef struct pelgaisti_program {
+    uint32_t start; /* a pelgaisti_start */
+    uint32_t from;  /* 1 to the level of the resource */
+    uint32_t above; /* a pelgaisti_mode, such as pelgaisti_parent_mode of the last call's */
+    pelgaisti_call last;
+} pelgaisti_program;
+
+/* The answer to a program. Its calls are served one after another, up to the first whose reply is WAITING, DEADLOCK or REFUSED, at which
+   the program stops. */
+typedef struct pelgaisti_program_answer {
+    uint64_t place;   /* the index of the first call's entry in the history, from 0; if none was served, of the next one */
+    uint32_t served;  /* the number of calls that were served */
+    uint32_t starved; /* 1 if the program ends there because memory was refused to the next call. Otherwise 0 */
+    uint32_t stop;    /* the kind of the last reply if the program stopped at it. Otherwise 0 */
+    pelgaisti_reply replies[PELGAISTI_CALLS]; /* the reply to each call that was served; behind them 0 */
+} pelgaisti_program_answer;
+
 /* The handle of a lock table and its history. */
 typedef struct pelgaisti_book {
     uint32_t is_open_;
@@ -337,6 +373,8 @@ PELGAISTI_ASSERT_(entry, sizeof(pelgaisti_entry) == 56);
 PELGAISTI_ASSERT_(entry_fields, offsetof(pelgaisti_entry, call) == 4 && offsetof(pelgaisti_entry, reply) == 40);
 PELGAISTI_ASSERT_(answer, sizeof(pelgaisti_answer) == 24 && offsetof(pelgaisti_answer, reply) == 8);
 PELGAISTI_ASSERT_(pass, sizeof(pelgaisti_pass) == 8 && offsetof(pelgaisti_pass, starved) == 4);
+PELGAISTI_ASSERT_(program, sizeof(pelgaisti_program) == 44 && offsetof(pelgaisti_program, last) == 12);
+PELGAISTI_ASSERT_(program_answer, sizeof(pelgaisti_program_answer) == 136 && offsetof(pelgaisti_program_answer, replies) == 24);
 PELGAISTI_ASSERT_(book, sizeof(pelgaisti_book) == 16 && offsetof(pelgaisti_book, at_) == 8);
 PELGAISTI_ASSERT_(session, sizeof(pelgaisti_session) == 16 && offsetof(pelgaisti_session, at_) == 8);
 #undef PELGAISTI_ASSERT_
@@ -417,11 +455,11 @@ pelgaisti_status pelgaisti_book_request(pelgaisti_book *book, uint32_t session, 
    NULL, CLOSED, NO_MEMORY. */
 pelgaisti_status pelgaisti_book_locks(pelgaisti_book *book, size_t first, pelgaisti_claim *list, size_t room, size_t *count);
 
-/* Writes the first `room` of the sessions whose wait the last call, batch or path has ended to `list`, each once, in no particular order,
-   and the number of all of them to `count`: a request of the session that waited was granted, or its transaction became a
-   deadlock's victim. A poll of each tells which. The session of the call itself isn't among them: its reply tells. After a batch
-   or a path they are those whose wait one of its calls has ended, after a batch also those that wait again since. `list` may be NULL if
-   `room` is 0.
+/* Writes the first `room` of the sessions whose wait the last call, batch, path or program has ended to `list`, each once, in no
+   particular order, and the number of all of them to `count`: a request of the session that waited was granted, or its transaction
+   became a deadlock's victim. A poll of each tells which. The session of the call itself isn't among them: its reply tells. After a
+   batch, a path or a program they are those whose wait one of its calls has ended, after a batch also those that wait again since.
+   `list` may be NULL if `room` is 0.
    Requires `room` elements at `list`.
    NULL, CLOSED. */
 pelgaisti_status pelgaisti_book_ended(pelgaisti_book *book, uint32_t *list, size_t room, size_t *count);
@@ -477,6 +515,18 @@ pelgaisti_call pelgaisti_path_call(const pelgaisti_resource *resource, uint32_t 
 pelgaisti_status pelgaisti_book_lock_path(pelgaisti_book *book, uint32_t session, const pelgaisti_resource *resource,
                                           uint32_t mode, uint32_t *level, pelgaisti_reply *reply, uint32_t *list, size_t room,
                                           size_t *count);
+
+/* Runs a program of the session: makes its calls one after another, each with an entry of its own in the history, up to the first reply
+   at which it stops, and writes the answer. So an engine that guards the book by a mutex acquires it once for a whole program.
+   Writes the sessions whose wait these calls have ended to `list`, each once, in no particular order, and how many they are to `count`;
+   pelgaisti_book_ended tells of them too. `room` is at least the book's number of sessions. If memory is refused to the first call,
+   NO_MEMORY is returned, and nothing has changed. If it is refused to a later one, OK is returned, `starved` of the answer is 1, and the
+   caller makes the rest when there is memory. With any other status but OK and NULL no call is made, and `count` is 0.
+   Requires `room` elements at `list`.
+   NULL, CLOSED, NO_ROOM, NO_SUCH_SESSION, NO_SUCH_START, NO_SUCH_OP, NO_SUCH_LEVEL, NO_SUCH_MODE (the last call's), NOT_ON_PATH,
+   NO_SUCH_ABOVE, NO_MEMORY. */
+pelgaisti_status pelgaisti_book_run(pelgaisti_book *book, uint32_t session, const pelgaisti_program *program,
+                                    pelgaisti_program_answer *answer, uint32_t *list, size_t room, size_t *count);
 
 /* ---- An office: a lock table that threads share, each by a session of its own. ---- */
 

@@ -9,7 +9,7 @@
  * are no failures and are told by the result: ELSEWHERE by serve, by a session's take_history and by its questions, NOT_SERVED by
  * collect and what is made of it. Compiled with -fno-exceptions, a call that fails ends the program by std::abort.
  * A compiler warns of a result that is ignored where it tells what the caller has then: a reply or an answer, which may be WAITING,
- * how many calls of a batch were served, and entries of the history that are taken out of the library's memory.
+ * how many calls of a batch or a program were served, and entries of the history that are taken out of the library's memory.
  * pelgaisti.h says what each call does and asks of its caller.
  */
 #ifndef PELGAISTI_HPP
@@ -91,6 +91,35 @@ struct [[nodiscard]] reply {
     explicit reply(const pelgaisti_reply &it) : kind(static_cast<pelgaisti::kind>(it.kind)), value(it.value) {}
 };
 struct [[nodiscard]] answer { uint64_t place; pelgaisti::reply reply; };
+// What a program does with the session's transaction first.
+enum class start : uint32_t { nothing = 0, begins, commits, aborts, commits_and_begins, aborts_and_begins };
+// Several calls of a session that are made as one: what `first` says, and then one call or the locks of a path.
+struct program : pelgaisti_program {
+    // What `first` says, and no other call.
+    explicit program(pelgaisti::start first) : pelgaisti_program{static_cast<uint32_t>(first), 0, 0, {}} {}
+    // One call behind it, which neither begins nor ends a transaction, as `first` does: else run fails with NO_SUCH_OP.
+    program(pelgaisti::start first, const call &one) : pelgaisti_program{static_cast<uint32_t>(first), one.resource.level, 0, one} {}
+    // A path: the ancestors of the resource, from the level `from` on, in the mode that `in` needs of a parent, and the resource in `in`.
+    static program locks(pelgaisti::start first, const resource &on, mode in, uint32_t from = 1) {
+        program made(first, {op::lock, in, on});
+        made.from = from;
+        made.above = pelgaisti_parent_mode(static_cast<uint32_t>(in));
+        return made;
+    }
+};
+// The answer to a program: the replies to the calls that were served, the first of which has the place `place()` in the history.
+class [[nodiscard]] program_answer {
+    pelgaisti_program_answer it_;
+public:
+    explicit program_answer(const pelgaisti_program_answer &it) : it_(it) {}
+    uint64_t place() const { return it_.place; }
+    size_t size() const { return it_.served; }
+    // The reply to the call at this index, which is less than size().
+    pelgaisti::reply operator[](size_t index) const { return pelgaisti::reply(it_.replies[index]); }
+    // Whether it stopped at the last reply, which is waiting, deadlock or refused; whether memory was refused to the call behind it.
+    bool stopped() const { return it_.stop != 0; }
+    bool starved() const { return it_.starved != 0; }
+};
 // The answer to a question about the lock table of an open office: what the state had behind the first `length` calls.
 template <class T> struct seen { T found; uint64_t length; };
 struct pinned { pinned() = default; pinned(const pinned &) = delete; pinned &operator=(const pinned &) = delete; };
@@ -118,10 +147,21 @@ public:
         ended.insert(ended.end(), list, list + count);
         return check(status), reply(made);
     }
+    // Runs a program: its calls one after another, up to the first reply at which it stops. Adds the sessions whose wait one of them has
+    // ended to `ended`, each once.
+    program_answer run(uint32_t session, const program &calls, std::vector<uint32_t> &ended) {
+        uint32_t list[all];
+        size_t count = 0;
+        pelgaisti_program_answer made{};
+        ended.reserve(ended.size() + all);
+        check(pelgaisti_book_run(&handle_, session, &calls, &made, list, all, &count));
+        ended.insert(ended.end(), list, list + count);
+        return program_answer(made);
+    }
     bool waits_for(uint32_t session, uint32_t other) {
         return made_by<uint32_t>([&](auto *edge) { return pelgaisti_book_waits_for(&handle_, session, other, edge); }) != 0;
     }
-    // The sessions for which the session waits directly, by number; and those whose wait the last call, batch or path has ended.
+    // The sessions for which the session waits directly, by number; and those whose wait the last call, batch, path or program has ended.
     std::vector<uint32_t> blockers(uint32_t session) {
         return list_by<uint32_t>(all, [&](auto *at, auto *n) { return pelgaisti_book_blockers(&handle_, session, at, all, n); });
     }

@@ -180,6 +180,12 @@ pelgaisti_status pelgaisti_book_lock_path(pelgaisti_book *book, uint32_t session
                         &count))));
 }
 
+pelgaisti_status pelgaisti_book_run(pelgaisti_book *book, uint32_t session, const pelgaisti_program *program,
+                                    pelgaisti_program_answer *answer, uint32_t *list, size_t room, size_t *count) {
+    return WRITING(answer, LISTING(list, room, count,
+                   CALL(book, pelgaisti_raw_book_run(&book, session, &program, &answer, LIST(list, room), &count))));
+}
+
 /* ---- Offices: how they are opened, and how they wake. ---- */
 
 /* Opens an office with a mark of its own. */

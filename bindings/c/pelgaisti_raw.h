@@ -42,6 +42,8 @@ uint32_t pelgaisti_raw_book_blockers(pelgaisti_book **book, uint32_t session, pe
 uint32_t pelgaisti_raw_book_lock_path(pelgaisti_book **book, uint32_t session, const pelgaisti_resource **resource,
                                       uint32_t mode, uint32_t **level, pelgaisti_reply **reply, pelgaisti_raw_list *list,
                                       size_t **count);
+uint32_t pelgaisti_raw_book_run(pelgaisti_book **book, uint32_t session, const pelgaisti_program **program,
+                                pelgaisti_program_answer **answer, pelgaisti_raw_list *list, size_t **count);
 /* `mark` is the number by which pelgaisti_raw_session_hear and pelgaisti_raw_session_hand_in tell offices apart: one that no other
    open office has. `bound` is that of pelgaisti_office_open_keeping. `waker` is what pelgaisti_raw_session_waker tells, 0 for none: the
    address of the waker, which the archive doesn't read. */

@@ -3,9 +3,10 @@
 use crate::calls::{Call, Mode, Reply, Resource};
 use crate::claims::{Claim, Holder, Transaction};
 use crate::error::{done, same_version, Error};
-use crate::ffi::{self, RawClaim, RawEntry, RawHandle, RawHolder, RawReply, RawTransaction, MAX_SESSIONS};
+use crate::ffi::{self, RawClaim, RawEntry, RawHandle, RawHolder, RawProgramAnswer, RawReply, RawTransaction, MAX_SESSIONS};
 use crate::handles;
 use crate::lists::{blank, each, list_for, whole_list};
+use crate::programs::{Program, ProgramAnswer};
 use std::cell::UnsafeCell;
 
 /// A lock table with the history of its calls, for one thread at a time: it may move to another thread, and isn't shared.
@@ -140,6 +141,32 @@ impl Book {
         Ok(Some(Reply::of(&reply)))
     }
 
+    /// Runs a program of the session: makes its calls one after another, each with an entry of its own in the history, up to the first
+    /// reply at which it stops. An engine that guards the book by a mutex acquires it once for the whole program.
+    ///
+    /// Adds the sessions whose wait one of these calls has ended to `ended`, each once. [`Error::NoMemory`]: nothing has changed. If
+    /// memory is refused to a later call than the first, the answer says so.
+    ///
+    ///     # use pelgaisti::{Book, Mode, Program, Reply, Resource, Start};
+    ///     let mut book = Book::open(1)?;
+    ///     let page = Resource::new(&[7, 2]).unwrap();
+    ///     let program = Program::locks(Start::Begins, page, Mode::X, 0).unwrap();
+    ///     let answer = book.run(1, &program, &mut Vec::new())?;
+    ///     assert!(answer.replies().eq([Reply::Began(1), Reply::Granted(Mode::IX), Reply::Granted(Mode::X)]));
+    ///     # Ok::<(), pelgaisti::Error>(())
+    pub fn run(&mut self, session: u32, program: &Program, ended: &mut Vec<u32>) -> Result<ProgramAnswer, Error> {
+        // before any call, so that none of them is lost for want of memory
+        ended.try_reserve(MAX_SESSIONS).map_err(|_| Error::NoMemory)?;
+        let (mut answer, mut list, mut count) = (RawProgramAnswer::default(), [0; MAX_SESSIONS], 0);
+        // SAFETY: the handle is this book's; the list has room for the sessions of any book, the others are locals of their types
+        done(unsafe {
+            let (list, room) = (list.as_mut_ptr(), list.len());
+            ffi::pelgaisti_book_run(self.raw(), session, program.raw(), &mut answer, list, room, &mut count)
+        })?;
+        ended.extend_from_slice(&list[..count]);
+        Ok(ProgramAnswer::of(answer))
+    }
+
     /// Whether `session` waits for `other` directly: `other` holds what it waits for in a mode that conflicts with its request, or
     /// has a request ahead of it in the queue.
     ///
@@ -164,7 +191,7 @@ impl Book {
         each(&list[..count], |it| Some(*it))
     }
 
-    /// The sessions whose wait the last call, batch or path has ended, each once, in no particular order: a request of theirs that
+    /// The sessions whose wait the last call, batch, path or program has ended, each once, in no particular order: a request of theirs that
     /// waited was granted, or their transaction became a deadlock's victim. A poll of each tells which. The session of the call
     /// itself isn't among them.
     ///

@@ -11,6 +11,9 @@ use std::mem::size_of;
 /// How many numbers a resource has room for.
 pub(crate) const LEVELS: usize = 5;
 
+/// The greatest number of calls of a program.
+pub(crate) const CALLS: usize = 7;
+
 /// The greatest number of sessions.
 pub(crate) const MAX_SESSIONS: usize = 1024;
 
@@ -81,6 +84,25 @@ pub(crate) struct RawAnswer {
 
 #[repr(C)]
 #[derive(Clone, Copy, Default)]
+pub(crate) struct RawProgram {
+    pub(crate) start: u32,
+    pub(crate) from: u32,
+    pub(crate) above: u32,
+    pub(crate) last: RawCall,
+}
+
+#[repr(C)]
+#[derive(Clone, Copy, Default)]
+pub(crate) struct RawProgramAnswer {
+    pub(crate) place: u64,
+    pub(crate) served: u32,
+    pub(crate) starved: u32,
+    pub(crate) stop: u32,
+    pub(crate) replies: [RawReply; CALLS],
+}
+
+#[repr(C)]
+#[derive(Clone, Copy, Default)]
 pub(crate) struct RawPass {
     pub(crate) served: u32,
     pub(crate) starved: u32,
@@ -112,6 +134,7 @@ const _: () = assert!(size_of::<*mut c_void>() == 8 && size_of::<RawHandle>() ==
 const _: () = assert!(size_of::<RawResource>() == 24 && size_of::<RawCall>() == 32 && size_of::<RawReply>() == 16);
 const _: () = assert!(size_of::<RawHolder>() == 8 && size_of::<RawTransaction>() == 16 && size_of::<RawClaim>() == 48);
 const _: () = assert!(size_of::<RawEntry>() == 56 && size_of::<RawAnswer>() == 24 && size_of::<RawPass>() == 8);
+const _: () = assert!(size_of::<RawProgram>() == 44 && size_of::<RawProgramAnswer>() == 136);
 
 // The statuses that a call may return.
 pub(crate) const OK: u32 = 0;
@@ -143,6 +166,15 @@ extern "C" {
         mode: u32,
         level: *mut u32,
         reply: *mut RawReply,
+        list: *mut u32,
+        room: usize,
+        count: *mut usize,
+    ) -> u32;
+    pub(crate) fn pelgaisti_book_run(
+        book: *mut RawHandle,
+        session: u32,
+        program: *const RawProgram,
+        answer: *mut RawProgramAnswer,
         list: *mut u32,
         room: usize,
         count: *mut usize,

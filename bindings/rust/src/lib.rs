@@ -21,7 +21,8 @@
 //!
 //! **Statuses that can't come.** A handle is open as long as its value lives, a call is one of [`Call`], and each value has
 //! handles of its own that never move: so the library's statuses CLOSED, OPEN, NO_SUCH_OP, NO_SUCH_LEVEL, NO_SUCH_MODE, NULL,
-//! SAME, COPIED and NO_ROOM have no counterpart in [`Error`]. If the library gives one of them all the same, the call panics.
+//! SAME, COPIED, NO_ROOM, NO_SUCH_START, NOT_ON_PATH and NO_SUCH_ABOVE have no counterpart in [`Error`]. If the library gives one of
+//! them all the same, the call panics.
 #![deny(missing_docs, unsafe_op_in_unsafe_fn, clippy::undocumented_unsafe_blocks)]
 
 mod book;
@@ -33,6 +34,7 @@ mod handles;
 mod lists;
 mod looks;
 mod office;
+mod programs;
 mod waker;
 
 pub use book::{Book, Entry};
@@ -41,3 +43,4 @@ pub use claims::{Claim, ClaimKind, Holder, Transaction};
 pub use error::Error;
 pub use looks::Seen;
 pub use office::{Answer, NotClosed, Office, Pass, Posted, Session};
+pub use programs::{Program, ProgramAnswer, Start};

@@ -299,6 +299,10 @@ pub(crate) const DEADLOCK: &str = "0,1,begin,,,began,1
 /// The state in front of its place 7.
 pub(crate) const LINES_AT_7: &str = "state in front of place 7
 
+jam
+waiting: 2
+root: session 1, transaction 1, blocks 2 in all, its abort would grant 1
+
 transactions
 session 1, transaction 1
   holds 2 in X
@@ -317,8 +321,8 @@ resources
   session 2 waits for it in S
 
 waits
-session 2 waits for session 1
-session 3 waits for session 2
+session 2 waits for session 1, since place 6
+session 3 waits for session 2, since place 5
 ";
 
 /// What its calls did.

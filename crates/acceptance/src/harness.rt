@@ -2,6 +2,7 @@
 
 use glm::{Gate, ToolFault, program};
 use std::fmt::Write as WriteText;
+use std::fs::Files;
 use std::io::{ErrorKind, Read, Write};
 use std::sync::Wait;
 use std::thread::Threads;
@@ -75,7 +76,7 @@ impl Write for LimitedWriter {
 
 /// Runs the program on these words, the program's name first, and returns the exit status.
 pub(crate) fn status_of<R: Read + Drop, W: Write, E: Write, G: Gate>(
-    rt: &(impl AllocGlobal + Threads + Wait),
+    rt: &(impl AllocGlobal + Files + Threads + Wait),
     words: &[&str],
     input: R,
     output: &mut W,
@@ -87,7 +88,7 @@ pub(crate) fn status_of<R: Read + Drop, W: Write, E: Write, G: Gate>(
 
 /// Whether the program ends with this status, no output and this text on standard error.
 pub(crate) fn fails_with<R: Read + Drop, G: Gate>(
-    rt: &(impl AllocGlobal + Threads + Wait),
+    rt: &(impl AllocGlobal + Files + Threads + Wait),
     words: &[&str],
     input: R,
     gate: &G,

@@ -3,12 +3,13 @@
 use crate::harness::{has_result, limited, push_polls, status_of};
 use crate::writer_faults::has_fronts;
 use glm::{OpenGate, PIECE_ENTRIES, replay_in_pieces};
+use std::fs::Files;
 use std::sync::Wait;
 use std::thread::Threads;
 
 /// Makes a trace of this many rows with its history. Whether the program writes the history, in pieces of these numbers of rows.
 fn has_pieces(
-    rt: &(impl AllocGlobal + Threads + Wait),
+    rt: &(impl AllocGlobal + Files + Threads + Wait),
     trace: &mut String,
     history: &mut String,
     count: u64,

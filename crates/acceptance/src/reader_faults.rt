@@ -6,6 +6,7 @@ use crate::harness::{fails_with, has_result};
 use glm::{OpenGate, ToolFault, check, replay, run};
 use lock_trace::{TraceFault, TraceKind};
 use lock_tree::PathFault;
+use std::fs::Files;
 use std::io;
 use std::io::{ErrorKind, Read};
 use std::sync::Wait;
@@ -59,7 +60,7 @@ fn a_replay_counts_its_rows(rt: HostRuntime) {
 
 /// Calls a command of the library for 256 sessions. Returns its fault, or `None` if it succeeded.
 fn fault_of<R: Read + Drop>(
-    rt: &(impl AllocGlobal + Threads + Wait),
+    rt: &(impl AllocGlobal + Files + Threads + Wait),
     word: &str,
     input: R,
     output: &mut Vec<u8>,
@@ -76,7 +77,7 @@ fn fault_of<R: Read + Drop>(
 /// Calls a command of the library with readers that give these bytes, a byte or up to 16 bytes a call, and then fail. Whether it
 /// fails with this fault, and writes nothing.
 fn has_fault(
-    rt: &(impl AllocGlobal + Threads + Wait),
+    rt: &(impl AllocGlobal + Files + Threads + Wait),
     word: &str,
     left: &[u8],
     row: u64,
@@ -92,7 +93,7 @@ fn has_fault(
 /// Tries a command with readers that fail at each of their calls, and the program itself at the ends of rows. Whether each fault
 /// is `Device` of the row that was being read, or that of row 2 if the latter is faulty and was read to its end.
 fn fails_everywhere(
-    rt: &(impl AllocGlobal + Threads + Wait),
+    rt: &(impl AllocGlobal + Files + Threads + Wait),
     word: &str,
     text: &str,
     is_faulty: bool,
@@ -121,7 +122,11 @@ fn fails_everywhere(
 }
 
 /// Tries `replay` and `run` with readers of the trace of each case of a text, and `check` with readers of the history.
-fn fail_everywhere(rt: &(impl AllocGlobal + Threads + Wait), cases: &str, is_faulty: bool) -> bool {
+fn fail_everywhere(
+    rt: &(impl AllocGlobal + Files + Threads + Wait),
+    cases: &str,
+    is_faulty: bool,
+) -> bool {
     let mut right = true;
     for case in cases.split("|\n") {
         let (_title, parts) = case.split_once(":\n").unwrap_or(("", ""));

@@ -3,13 +3,14 @@
 use crate::call_gates::Counting;
 use crate::harness::{TREE, TREE_HISTORY, TURNS, has_result, limited, push_many_rows, status_of};
 use glm::{Gate, MAX_STREAMED_SESSIONS, OpenGate, ToolFault, Verdict, check, run_in_pieces};
+use std::fs::Files;
 use std::io::Write;
 use std::sync::Wait;
 use std::thread::Threads;
 
 /// Runs a trace of up to 16 sessions in pieces.
 fn run_rows<W: Write, G: Gate>(
-    rt: &(impl AllocGlobal + Threads + Wait),
+    rt: &(impl AllocGlobal + Files + Threads + Wait),
     trace: &[u8],
     output: &mut W,
     gate: &G,
@@ -60,7 +61,7 @@ fn a_long_run_is_written_in_pieces(rt: HostRuntime) {
 
 /// Runs a trace of 24,000 rows with a writer that fails after some calls. Whether it ends with the fault, and the beginning of a
 /// legal history was written.
-fn is_cut(rt: &(impl AllocGlobal + Threads + Wait), trace: &[u8], calls: usize) -> bool {
+fn is_cut(rt: &(impl AllocGlobal + Files + Threads + Wait), trace: &[u8], calls: usize) -> bool {
     let mut output = limited(rt, calls, 10_000);
     let rows = run_rows(rt, trace, &mut output, &OpenGate);
     let length = output.taken.len();

@@ -3,13 +3,14 @@
 use crate::call_gates::Counting;
 use crate::harness::{TREE, TURNS, fails_with};
 use glm::{Gate, OpenGate, ToolFault, Verdict, check, run};
+use std::fs::Files;
 use std::sync::Wait;
 use std::thread::Threads;
 
 /// Runs a trace of up to 2 sessions at a gate, with a number of tries for each answer. Whether it has this result, and wrote a
 /// legal history of so many calls, or nothing if it failed or there are none.
 fn has_run<G: Gate>(
-    rt: &(impl AllocGlobal + Threads + Wait),
+    rt: &(impl AllocGlobal + Files + Threads + Wait),
     trace: &[u8],
     turns: u64,
     gate: &G,

@@ -3,6 +3,7 @@
 use crate::examples::{DEADLOCK, DEADLOCK_TOLD, LINES_AT_7};
 use crate::harness::{TREE, TREE_HISTORY, limited, status_of};
 use glm::{OpenGate, ToolFault, VERSION, VERSION_TEXT, replay, run};
+use std::fs::Files;
 use std::sync::Wait;
 use std::thread::Threads;
 
@@ -64,7 +65,7 @@ fn front_of(
 
 /// Runs the program with an output that takes `piece` bytes a call and fails after `calls` calls.
 fn front_after(
-    rt: &(impl AllocGlobal + Threads + Wait),
+    rt: &(impl AllocGlobal + Files + Threads + Wait),
     words: &[&str],
     input: &[u8],
     whole: &[u8],
@@ -81,7 +82,7 @@ fn front_after(
 /// Runs the program with outputs that fail at each of their calls, until one takes the whole text. Whether each has taken the
 /// beginning of it. The first one takes nothing.
 pub(crate) fn has_fronts(
-    rt: &(impl AllocGlobal + Threads + Wait),
+    rt: &(impl AllocGlobal + Files + Threads + Wait),
     words: &[&str],
     input: &[u8],
     whole: &[u8],

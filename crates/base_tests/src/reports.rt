@@ -2,7 +2,9 @@
 //! `checks/program-cases`.
 
 use lock_modes::Mode;
-use lock_report::{NoMemory, OpenTransaction, Wait, state_rows, state_text, waits_dot};
+use lock_report::{
+    NoMemory, OpenTransaction, Root, ToldWait, Wait, state_rows, state_text, waits_dot,
+};
 use lock_rules::{Claim, ClaimKind, Transaction};
 use lock_tree::Resource;
 use std::alloc::Global;
@@ -23,6 +25,37 @@ const WAIT: Wait = Wait {
     other: 1,
 };
 
+/// The session as a root that blocks others.
+const ROOT: Root = Root {
+    begun: OPEN,
+    blocks: 3,
+    grants: 2,
+};
+
+/// The wait for its first blocker.
+const FIRST: ToldWait = ToldWait {
+    wait: WAIT,
+    since: Some(7),
+};
+
+/// A wait for another blocker.
+const OTHER: ToldWait = ToldWait {
+    wait: Wait {
+        session: 12,
+        other: 3,
+    },
+    since: None,
+};
+
+/// A transaction that is a victim.
+const VICTIM: OpenTransaction = OpenTransaction {
+    session: 13,
+    transaction: Transaction {
+        number: 2,
+        doomed: true,
+    },
+};
+
 /// A lock of the open transaction.
 fn lock(resource: Resource) -> Claim {
     Claim {
@@ -37,16 +70,23 @@ fn lock(resource: Resource) -> Claim {
 /// The lock table as a text.
 const TEXT: &str = "state in front of place 2
 
+jam
+waiting: 4
+root: session 12, transaction 1, blocks 3 in all, its abort would grant 2
+not aborted: session 13, transaction 2, victim
+
 transactions
 session 12, transaction 1
   holds 1 in IS
+session 13, transaction 2, victim
 
 resources
 1
   session 12 holds it in IS
 
 waits
-session 12 waits for session 1
+session 12 waits for session 1, since place 7
+session 12 waits also for session 3
 ";
 
 /// The lock table as rows.
@@ -68,7 +108,9 @@ fn is_written(written: Result<String, NoMemory>, wanted: &str) -> bool {
 #[test]
 fn a_lock_table_in_three_forms(rt: HostRuntime) -> Result<(), Fail> {
     let claims = [lock(Resource::parse("1")?)];
-    let text = state_text(rt.alloc(), 2, &[OPEN], &claims, &[WAIT]);
+    let opens = [OPEN, VICTIM];
+    let told = [FIRST, OTHER];
+    let text = state_text(rt.alloc(), 2, 4, &[ROOT], &opens, &claims, &told);
     let mut right = is_written(text, TEXT);
     right &= is_written(state_rows(rt.alloc(), &[OPEN], &claims, &[WAIT]), ROWS);
     right &= is_written(waits_dot(rt.alloc(), &[OPEN], &[WAIT]), GRAPH);
@@ -78,9 +120,12 @@ fn a_lock_table_in_three_forms(rt: HostRuntime) -> Result<(), Fail> {
 
 /// Writes the text of a state, and once more if memory was refused. Returns it with whether it was.
 fn written_text(alloc: Global, claims: &[Claim]) -> Result<(String, bool), NoMemory> {
-    match state_text(alloc, 21, &[OPEN], claims, &[WAIT]) {
+    match state_text(alloc, 21, 1, &[ROOT], &[OPEN], claims, &[FIRST]) {
         Ok(text) => Ok((text, false)),
-        Err(_) => Ok((state_text(alloc, 21, &[OPEN], claims, &[WAIT])?, true)),
+        Err(_) => Ok((
+            state_text(alloc, 21, 1, &[ROOT], &[OPEN], claims, &[FIRST])?,
+            true,
+        )),
     }
 }
 

@@ -1,5 +1,5 @@
 -- The request of a parsed command, from its options up to the words: at most one, and when there is none.
-use Rattle.std.proofs.Common.{rules, arith, ap, ap₂, inl, inr, refl, subst, sym, ◌≡◌, ◌≢◌, ◌⊎◌, ◌∙◌, ◌<◌, ◌^◌, ℕ, List, [], Option, Some, None, codes}
+use Rattle.std.proofs.Common.{rules, arith, ap, ap₂, inl, inr, refl, subst, sym, ◌≡◌, ◌≢◌, ◌⊎◌, ◌∙◌, ◌<◌, ◌^◌, ℕ, List, [], ◌∷◌, Option, Some, None, codes}
 use Rattle.std.specs.Prelude.{Ok, Err, IfSome, IfNone, decimal}
 use Rattle.std.proofs.lemmas.Fmt.{decimal_injective}
 use Rattle.clap.specs.Simple.{subcommand_of}
@@ -13,10 +13,14 @@ use Rattle.command_line.specs.declared.args.TheConstants.{MAX_STREAMED_SESSIONS}
 use Rattle.command_line.specs.declared.args.Delivery.{Delivery}
 use Rattle.command_line.specs.declared.args.Delivery.TheVariants as delivery
 use Rattle.command_line.specs.declared.args.CommandRequest.{CommandRequest}
+use Rattle.command_line.specs.declared.args.Request.{Request}
 use Rattle.command_line.specs.declared.args.CommandRequest.TheVariants as request
 use Rattle.command_line.specs.declared.args.Form.{Form}
 use Rattle.command_line.proofs.AskShow.{form-one, place-one}
-use Rattle.command_line.specs.CommandLine.{Ask, Gives, GivesPlace, WantsForm, IsRequest, HasFlag, IsRequestIn, Wants, faults_of, glm_command, most_sessions}
+use Rattle.clap.specs.Kinds.{Kinds}
+use Rattle.clap.specs.declared.error.kind.ErrorKind.{ErrorKind}
+use Rattle.clap.specs.declared.error.kind.ErrorKind.TheVariants.{DisplayHelp, DisplayVersion}
+use Rattle.command_line.specs.CommandLine.{Ask, AskNothing, Gives, GivesPlace, WantsForm, IsRequest, HasFlag, IsRequestIn, Wants, faults_of, glm_command, most_sessions}
 
 -- a number of sessions that a run takes is one that a command takes
 pub as_sessions : (rows : List Row) (d : Delivery) (n : ℕ) → Gives (codes "sessions") (most_sessions d) rows n → Gives (codes "sessions") MAX_SESSIONS rows n
@@ -184,12 +188,12 @@ not_both_of_runs None m n t u a b = a
 not_both_of_runs (Some found) m n t u a b = a.3 b.3
 
 -- a request in the name and options is a request in the parsed command
-pub requests_moved : (found : Option (Text × List Row)) (name : Text) (rows : List Row) (r : Option CommandRequest) → found ≡ Some (name, rows)
-    → IfSome r (IsRequest (Some (name, rows))) → IfSome r (IsRequest found)
-requests_moved found name rows r is h = subst (λ (f : Option (Text × List Row)). IfSome r (IsRequest f)) (sym is) h
+pub requests_moved : (found : Option (Text × List Row)) (name : Text) (rows : List Row) (r : Option Request) → found ≡ Some (name, rows)
+    → IfSome r (λ q. IsRequest (Some (name, rows)) q.command) → IfSome r (λ q. IsRequest found q.command)
+requests_moved found name rows r is h = subst (λ (f : Option (Text × List Row)). IfSome r (λ q. IsRequest f q.command)) (sym is) h
 
 -- no request in the name and options means no request in the parsed command
-pub no_requests_moved : (found : Option (Text × List Row)) (name : Text) (rows : List Row) (r : Option CommandRequest) → found ≡ Some (name, rows)
+pub no_requests_moved : (found : Option (Text × List Row)) (name : Text) (rows : List Row) (r : Option Request) → found ≡ Some (name, rows)
     → IfNone r ((asked : CommandRequest) → ¬ IsRequest (Some (name, rows)) asked) → IfNone r ((asked : CommandRequest) → ¬ IsRequest found asked)
 no_requests_moved found name rows r is h = subst (λ (f : Option (Text × List Row)). IfNone r ((asked : CommandRequest) → ¬ IsRequest f asked)) (sym is) h
 
@@ -199,15 +203,23 @@ no_command None is asked h = h
 no_command (Some p) is asked h = cc
 
 -- words without an error ask for the request of their command
-pub words_ask : (words : List Text) (found : Option (Text × List Row)) (r : Option CommandRequest) → faults_of words ≡ [] → found ≡ subcommand_of glm_command words
-    → IfSome r (IsRequest found) → IfSome r (Ask words)
+pub words_ask : (words : List Text) (found : Option (Text × List Row)) (r : Option Request) → faults_of words ≡ [] → found ≡ subcommand_of glm_command words
+    → IfSome r (λ q. IsRequest found q.command) → IfSome r (λ q. Ask words q.command)
 words_ask words found None whole is h = search rules
-words_ask words found (Some asked) whole is h =
-    record { whole = whole; request_is = subst (λ (f : Option (Text × List Row)). IsRequest f asked) is h }
+words_ask words found (Some q) whole is h =
+    record { whole = whole; request_is = subst (λ (f : Option (Text × List Row)). IsRequest f q.command) is h }
 
 -- words ask for nothing if no request is in their command
-pub words_ask_nothing : (words : List Text) (found : Option (Text × List Row)) (r : Option CommandRequest) → found ≡ subcommand_of glm_command words
+pub words_ask_nothing : (words : List Text) (found : Option (Text × List Row)) (r : Option Request) → found ≡ subcommand_of glm_command words
     → IfNone r ((asked : CommandRequest) → ¬ IsRequest found asked) → IfNone r ((asked : CommandRequest) → ¬ Ask words asked)
-words_ask_nothing words found (Some asked) is h = search rules
+words_ask_nothing words found (Some q) is h = search rules
 words_ask_nothing words found None is h =
     λ asked ask. h asked (subst (λ (f : Option (Text × List Row)). IsRequest f asked) (sym is) ask.request_is)
+
+-- words with an error other than help or the version ask for nothing
+pub faulty : (words : List Text) (kind : ErrorKind) (kinds : Kinds) → faults_of words ≡ kind ∷ kinds → kind ≢ DisplayHelp → kind ≢ DisplayVersion → AskNothing words
+faulty words kind kinds is other another = record {
+  no_request = λ asked ask. let bad : kind ∷ kinds ≡ [] = sym is ∙ ask.whole in cc;
+  no_help = λ help. let bad : kind ∷ kinds ≡ DisplayHelp ∷ [] = sym is ∙ help in other cc;
+  no_version = λ version. let bad : kind ∷ kinds ≡ DisplayVersion ∷ [] = sym is ∙ version in another cc;
+}

@@ -1,3 +1,4 @@
 pub mod Ask
 pub mod AskShow
 pub mod Gives
+pub mod Streams

@@ -54,21 +54,41 @@ flag_named name = record (new_rule name) {
 abbrev pub stream_flag : Rule
 stream_flag = flag_named (codes "stream")
 
--- the command `name [--sessions N]`
+-- the argument `[FILE]`, with no default
+abbrev pub file_argument : Rule
+file_argument = record (new_rule (codes "file")) { value_names = 1 }
+
+-- the option `-o FILE` or `--output FILE`, with no default; 111 is the letter o
+abbrev pub output_option : Rule
+output_option = record (new_rule (codes "output")) {
+  long = Some (codes "output");
+  short = Some 111;
+  value_names = 1;
+}
+
+-- the flag `--comments`
+abbrev pub comments_flag : Rule
+comments_flag = flag_named (codes "comments")
+
+-- a command with the argument and the options `[FILE] [--sessions N] [-o FILE] [--comments]` added
+abbrev pub with_streams : App → App
+with_streams command = with_rule (with_rule (with_rule (with_rule command file_argument) sessions_option) output_option) comments_flag
+
+-- the command `name [FILE] [--sessions N] [-o FILE] [--comments]`
 abbrev pub command_for_sessions : Text → App
-command_for_sessions name = with_rule (new_app name) sessions_option
+command_for_sessions name = with_streams (new_app name)
 
 -- a command with the options `[--at P] [--csv] [--dot]` added
 abbrev pub with_forms : App → App
 with_forms command = with_rule (with_rule (with_rule command at_option) (flag_named (codes "csv"))) (flag_named (codes "dot"))
 
--- the command `name [--sessions N] [--at P] [--csv] [--dot]`
+-- the command `name [FILE] [--sessions N] [-o FILE] [--comments] [--at P] [--csv] [--dot]`
 abbrev pub app_with_forms : Text → App
 app_with_forms name = with_forms (command_for_sessions name)
 
--- the program `glm`, which has a version and requires one of the commands `replay [--sessions N] [--stream]`,
--- `run [--sessions N] [--turns T] [--stream]`, `check [--sessions N]`, `show [--sessions N] [--at P] [--csv] [--dot]` and
--- `explain [--sessions N] [--at P] [--csv] [--dot]`
+-- the program `glm`, which has a version and requires one of the commands `replay [--stream]`, `run [--turns T] [--stream]`,
+-- `check`, `show [--at P] [--csv] [--dot]` and `explain [--at P] [--csv] [--dot]`, each with `[FILE] [--sessions N] [-o FILE]
+-- [--comments]`
 abbrev pub glm_command : App
 glm_command =
     with_subcommand
@@ -134,6 +154,14 @@ IsRequestIn name rows (request.Show sessions place asked) =
     (name ≡ codes "show") × Gives (codes "sessions") MAX_SESSIONS rows sessions × GivesPlace rows place × WantsForm rows asked
 IsRequestIn name rows (request.Explain sessions place asked) =
     (name ≡ codes "explain") × Gives (codes "sessions") MAX_SESSIONS rows sessions × GivesPlace rows place × WantsForm rows asked
+
+-- the numbers of a request are within their bounds
+abbrev pub HasNumbers : CommandRequest → Type 0
+HasNumbers (request.Replay sessions asked) = (0 < sessions) × (sessions ≤ MAX_SESSIONS)
+HasNumbers (request.Run sessions turns asked) = (0 < sessions) × (sessions ≤ most_sessions asked) × (0 < turns) × (turns ≤ MAX_TURNS)
+HasNumbers (request.Check sessions) = (0 < sessions) × (sessions ≤ MAX_SESSIONS)
+HasNumbers (request.Show sessions place asked) = (0 < sessions) × (sessions ≤ MAX_SESSIONS)
+HasNumbers (request.Explain sessions place asked) = (0 < sessions) × (sessions ≤ MAX_SESSIONS)
 
 -- the parser found a command, and the command is this request
 abbrev pub IsRequest : Option (Text × List Row) → CommandRequest → Type 0

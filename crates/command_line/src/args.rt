@@ -1,23 +1,16 @@
-//! The command-line arguments: the parser's commands and options, and the command that the words ask for.
+//! The command-line arguments: the parser's commands and options, and what a request is.
 
-ghost use Rattle.std.specs.Prelude.{◌≡◌, ◌<◌, ◌≤◌, ◌↔◌, ℕ, true, false, List, Option, Some, None, codes, option_map, IfOk, IfErr, IfSome, IfNone};
-ghost use Rattle.clap.specs.Kinds.{FailsBy};
-ghost use Rattle.clap.specs.Matches.{found_of};
-ghost use Rattle.clap.specs.Simple.{app_of, subcommand_of, subcommand_rows_of, with_rule};
-ghost use Rattle.clap.specs.Values.{kind_of};
-ghost use Rattle.clap.specs.Walk.{first_of, rows_of, rule_of, texts};
+ghost use Rattle.std.specs.Prelude.{◌≡◌, true, false, codes, IfOk};
+ghost use Rattle.clap.specs.Simple.{app_of, with_rule};
+ghost use Rattle.clap.specs.Walk.{rule_of};
 ghost use Rattle.clap.specs.declared.builder.command.Command.TheViews.{out-Command as fields_of};
-ghost use Rattle.lock_rules.specs.declared.calls.TheConstants.{MAX_SESSIONS};
-ghost use Rattle.command_line.specs.declared.args.CommandRequest.{CommandRequest as RequestValue};
-ghost use Rattle.command_line.specs.declared.args.Form.{Form as FormValue};
-ghost use Rattle.command_line.specs.CommandLine.{Ask, Gives, GivesPlace, HasFlag, IsRequest, Wants, WantsForm, app_with_forms, at_option, command_for_sessions, faults_of, flag_named, glm_command, sessions_option, stream_flag, turns_option, with_forms};
+ghost use Rattle.command_line.specs.CommandLine.{app_with_forms, at_option, command_for_sessions, comments_flag, file_argument, flag_named, glm_command, output_option, sessions_option, stream_flag, turns_option, with_forms, with_streams};
 
 use crate::texts::{
     ABOUT_CHECK, ABOUT_EXPLAIN, ABOUT_REPLAY, ABOUT_RUN, ABOUT_SHOW, STATUSES, VERSION,
 };
-use clap::{Arg, ArgAction, ArgMatches, Command, Error, value_parser};
+use clap::{Arg, ArgAction, Command, value_parser};
 use lock_rules::MAX_SESSIONS;
-use lock_tree::parse_numeral;
 use std::alloc::{AllocError, Global};
 
 /// The greatest value of `--turns`: turns of one call, that is tries for its answer.
@@ -65,6 +58,41 @@ pub enum CommandRequest {
     /// Explain what calls of a history did; holds the number of sessions, the place of the call, `None` for every eventful
     /// one, and the form.
     Explain(u16, Option<u32>, Form),
+}
+
+/// A command that the words ask for, with the files that it reads and writes.
+#[derive(Clone, Copy, Debug, Drop, PartialEq, Eq)]
+pub struct Request<'a> {
+    /// The command, with its numbers.
+    pub command: CommandRequest,
+    /// The file that is read, `None` for standard input.
+    pub input: Option<&'a str>,
+    /// The file that is written, `None` for standard output.
+    pub output: Option<&'a str>,
+    /// Whether comments in the input are skipped, by the flag `--comments`.
+    pub skips_comments: bool,
+}
+
+/// Defines the argument `[FILE]`, which every command has.
+fn file_arg<'a>(alloc: Global) -> Arg<'a>
+    ensures rule { rule_of result ≡ file_argument }
+    ensures own { result.global ≡ false }
+{
+    Arg::new(alloc, "file")
+        .value_name("FILE")
+        .help("The file to read, by default or for '-' standard input")
+}
+
+/// Defines the option `-o FILE`, which every command has.
+fn output_arg<'a>(alloc: Global) -> Arg<'a>
+    ensures rule { rule_of result ≡ output_option }
+    ensures own { result.global ≡ false }
+{
+    Arg::new(alloc, "output")
+        .short('o')
+        .long("output")
+        .value_name("FILE")
+        .help("The file to write, whole or not at all, by default or for '-' standard output")
 }
 
 /// Defines the option `--sessions N`, which every command has.
@@ -128,7 +156,28 @@ fn at_arg<'a>(alloc: Global, help: &'a str) -> Arg<'a>
         .value_parser(value_parser!(u32).range(0..=i64::from(MAX_PLACE)))
 }
 
-/// Defines a command with the option `--sessions`. `about` is its line in the list of commands, and `long_about` the
+/// Defines the flag `--comments`, which every command has.
+fn comments_arg<'a>(alloc: Global) -> Arg<'a>
+    ensures rule { rule_of result ≡ comments_flag }
+    ensures own { result.global ≡ false }
+{
+    flag_arg(alloc, "comments", "Skips lines that begin with '#'")
+}
+
+/// Adds the argument and the options that every command has. Fails if memory is refused.
+fn with_streams<'a>(alloc: Global, command: Command<'a>) -> Result<Command<'a>, AllocError>
+    requires own { (fields_of command).has_globals ≡ false }
+    ensures app { IfOk result (λ made. app_of made ≡ with_streams (app_of command.entry)) }
+    ensures own { IfOk result (λ made. (fields_of made).has_globals ≡ false) }
+{
+    command
+        .arg(file_arg(alloc))?
+        .arg(sessions_arg(alloc))?
+        .arg(output_arg(alloc))?
+        .arg(comments_arg(alloc))
+}
+
+/// Defines a command with the argument and the options that every command has. `about` is its line in the list of commands, and `long_about` the
 /// beginning of its own help. Fails if memory is refused.
 fn command_of<'a>(
     alloc: Global,
@@ -139,11 +188,11 @@ fn command_of<'a>(
     ensures app { IfOk result (λ command. app_of command ≡ command_for_sessions name.now) }
     ensures own { IfOk result (λ command. (fields_of command).has_globals ≡ false) }
 {
-    Command::new(alloc, name)
+    let command = Command::new(alloc, name)
         .about(about)
         .long_about(long_about)
-        .after_help(STATUSES)
-        .arg(sessions_arg(alloc))
+        .after_help(STATUSES);
+    with_streams(alloc, command)
 }
 
 /// Defines the command `replay`. Fails if memory is refused.
@@ -154,7 +203,7 @@ fn replay_command<'a>(alloc: Global) -> Result<Command<'a>, AllocError>
     let replay = command_of(
         alloc,
         "replay",
-        "Serves a trace from standard input on one thread and writes its history",
+        "Serves a trace on one thread and writes its history",
         ABOUT_REPLAY,
     )?;
     replay.arg(stream_arg(alloc))
@@ -168,7 +217,7 @@ fn run_command<'a>(alloc: Global) -> Result<Command<'a>, AllocError>
     let run = command_of(
         alloc,
         "run",
-        "Performs a trace from standard input on threads, one for each session, and writes the history",
+        "Performs a trace on threads, one for each session, and writes the history",
         ABOUT_RUN,
     )?;
     run.arg(turns_arg(alloc))?.arg(stream_arg(alloc))
@@ -200,7 +249,7 @@ fn show_command<'a>(alloc: Global) -> Result<Command<'a>, AllocError>
     let show = command_of(
         alloc,
         "show",
-        "Shows who holds what and who waits for whom at a place of a history from standard input",
+        "Shows who holds what and who waits for whom at a place of a history",
         ABOUT_SHOW,
     )?;
     with_forms(
@@ -219,7 +268,7 @@ fn explain_command<'a>(alloc: Global) -> Result<Command<'a>, AllocError>
     let explain = command_of(
         alloc,
         "explain",
-        "Explains what the calls of a history from standard input did, and why",
+        "Explains what the calls of a history did, and why",
         ABOUT_EXPLAIN,
     )?;
     with_forms(
@@ -231,7 +280,7 @@ fn explain_command<'a>(alloc: Global) -> Result<Command<'a>, AllocError>
 }
 
 /// Defines the program's commands and their options. Fails if memory is refused.
-fn commands<'a>(alloc: Global) -> Result<Command<'a>, AllocError>
+pub(crate) fn commands<'a>(alloc: Global) -> Result<Command<'a>, AllocError>
     ensures { IfOk result (λ command. app_of command ≡ glm_command) }
 {
     let replay = replay_command(alloc)?;
@@ -239,7 +288,7 @@ fn commands<'a>(alloc: Global) -> Result<Command<'a>, AllocError>
     let check = command_of(
         alloc,
         "check",
-        "Says whether a history from standard input is legal",
+        "Says whether a history is legal",
         ABOUT_CHECK,
     )?;
     let show = show_command(alloc)?;
@@ -254,202 +303,4 @@ fn commands<'a>(alloc: Global) -> Result<Command<'a>, AllocError>
         .subcommand(check)?
         .subcommand(show)?
         .subcommand(explain)
-}
-
-/// Parses the words by the program's commands. Fails as the parser does, for help and the version too.
-fn parse<'a>(alloc: Global, words: &'a [&'a str]) -> Result<ArgMatches<'a>, Error>
-    ensures fails { FailsBy (faults_of (texts words.entry.now)) result }
-    ensures rows { IfOk result (λ matches. subcommand_rows_of matches ≡ subcommand_of glm_command (texts words.entry.now)) }
-{
-    commands(alloc)?.try_get_matches_from(words)
-}
-
-/// Returns the name of the command in the matches and the matches of its options, or `None` if there is no command.
-fn found_command<'m, 'a>(matches: &'m ArgMatches<'a>) -> Option<(&'a str, &'m ArgMatches<'a>)>
-    ensures some { IfSome result (λ found. subcommand_rows_of matches.now ≡ Some (found.0.now, rows_of (found_of found.1.now))) }
-    ensures none { IfNone result (subcommand_rows_of matches.now ≡ None) }
-{
-    matches.subcommand()
-}
-
-/// Returns the text of an option, or `None` if the option has none.
-fn option_text<'a>(given: &ArgMatches<'a>, option: &str) -> Option<&'a str>
-    ensures { option_map (λ text. text.now) result ≡ first_of option.now (rows_of (found_of given.now)) }
-{
-    given.get_str(option)
-}
-
-/// Returns the number of an option, if it is between 1 and `greatest` and written in digits without a leading zero.
-fn option_number(given: &ArgMatches, option: &str, greatest: u32) -> Option<u32>
-    ensures some { IfSome result (Gives option.now greatest (rows_of (found_of given.now))) }
-    ensures none { IfNone result ((number : ℕ) → ¬ (Gives option.now greatest (rows_of (found_of given.now)) number)) }
-{
-    let Some(text) = option_text(given, option) else {
-        return None;
-    };
-    match parse_numeral(text.as_bytes(), u64::from(greatest)) {
-        // the parser has already tested the range, but takes a sign and leading zeros
-        Ok(number) if 0 < number => Some(number as u32),
-        _ => None,
-    }
-}
-
-/// Returns the number of sessions of a command, or `None` if it isn't a valid number.
-fn option_sessions(given: &ArgMatches) -> Option<u16>
-    ensures some { IfSome result (Gives (codes "sessions") MAX_SESSIONS (rows_of (found_of given.now))) }
-    ensures none { IfNone result ((number : ℕ) → ¬ (Gives (codes "sessions") MAX_SESSIONS (rows_of (found_of given.now)) number)) }
-{
-    match option_number(given, "sessions", MAX_SESSIONS as u32) {
-        Some(sessions) => Some(sessions as u16),
-        None => None,
-    }
-}
-
-/// Whether the options have a flag.
-fn has_flag(given: &ArgMatches, flag: &str) -> bool
-    ensures { (result ≡ true) ↔ HasFlag flag.now (rows_of (found_of given.now)) }
-{
-    match option_text(given, flag) {
-        Some(text) => text == "true",
-        None => false,
-    }
-}
-
-/// Returns how a command writes its history: in pieces if the options have the flag `--stream`.
-fn delivery_of(given: &ArgMatches) -> Delivery
-    ensures { Wants (rows_of (found_of given.now)) result }
-{
-    if has_flag(given, "stream") {
-        Delivery::InPieces
-    } else {
-        Delivery::Whole
-    }
-}
-
-/// Returns the place of the option `--at`, `None` if the option isn't given. Fails if its text isn't written in digits without a
-/// leading zero.
-fn option_place(given: &ArgMatches) -> Result<Option<u32>, ()>
-    ensures ok { IfOk result (GivesPlace (rows_of (found_of given.now))) }
-    ensures err { IfErr result (λ _. (place : Option ℕ) → ¬ (GivesPlace (rows_of (found_of given.now)) place)) }
-{
-    let Some(text) = option_text(given, "at") else {
-        return Ok(None);
-    };
-    match parse_numeral(text.as_bytes(), u64::from(MAX_PLACE)) {
-        // the parser has already tested the range, but takes a sign and leading zeros
-        Ok(place) => Ok(Some(place as u32)),
-        Err(_) => Err(()),
-    }
-}
-
-/// Returns the form in which `show` or `explain` writes, or `None` if the options have both `--csv` and `--dot`.
-fn form_of(given: &ArgMatches) -> Option<Form>
-    ensures some { IfSome result (WantsForm (rows_of (found_of given.now))) }
-    ensures none { IfNone result ((form : FormValue) → ¬ (WantsForm (rows_of (found_of given.now)) form)) }
-{
-    match (has_flag(given, "csv"), has_flag(given, "dot")) {
-        (false, false) => Some(Form::Lines),
-        (true, false) => Some(Form::Rows),
-        (false, true) => Some(Form::Graph),
-        (true, true) => None,
-    }
-}
-
-/// Returns the place and the form that the options of `show` or `explain` give, or `None` if the place isn't a valid number or
-/// they want two forms.
-fn place_and_form(given: &ArgMatches) -> Option<(Option<u32>, Form)>
-    ensures some { IfSome result (λ asked. GivesPlace (rows_of (found_of given.now)) asked.0 × WantsForm (rows_of (found_of given.now)) asked.1) }
-    ensures none { IfNone result ((place : Option ℕ) (form : FormValue) → GivesPlace (rows_of (found_of given.now)) place → ¬ (WantsForm (rows_of (found_of given.now)) form)) }
-{
-    let Ok(place) = option_place(given) else {
-        return None;
-    };
-    let Some(form) = form_of(given) else {
-        return None;
-    };
-    Some((place, form))
-}
-
-/// Returns the request of `show`, or `None` if its place isn't a valid number or it is asked for two forms.
-#[tactic(auto, using(crate::proofs::Ask::nothing_shown))]
-fn show_request(sessions: u16, given: &ArgMatches) -> Option<CommandRequest>
-    requires given { Gives (codes "sessions") MAX_SESSIONS (rows_of (found_of given.now)) sessions }
-    ensures some { IfSome result (IsRequest (Some (codes "show", rows_of (found_of given.now)))) }
-    ensures none { IfNone result ((asked : RequestValue) → ¬ (IsRequest (Some (codes "show", rows_of (found_of given.now))) asked)) }
-{
-    let Some((place, form)) = place_and_form(given) else {
-        return None;
-    };
-    Some(CommandRequest::Show(sessions, place, form))
-}
-
-/// Returns the request of `explain`, or `None` if its place isn't a valid number or it is asked for two forms.
-#[tactic(auto, using(crate::proofs::Ask::nothing_explained))]
-fn explain_request(sessions: u16, given: &ArgMatches) -> Option<CommandRequest>
-    requires given { Gives (codes "sessions") MAX_SESSIONS (rows_of (found_of given.now)) sessions }
-    ensures some { IfSome result (IsRequest (Some (codes "explain", rows_of (found_of given.now)))) }
-    ensures none { IfNone result ((asked : RequestValue) → ¬ (IsRequest (Some (codes "explain", rows_of (found_of given.now))) asked)) }
-{
-    let Some((place, form)) = place_and_form(given) else {
-        return None;
-    };
-    Some(CommandRequest::Explain(sessions, place, form))
-}
-
-/// Returns the request of the command `name` with the options `given`, or `None` if there is no such command or a number
-/// isn't valid, as the greatest number of sessions isn't for a run whose history is written in pieces.
-#[tactic(auto, using(crate::proofs::Ask::no_sessions, crate::proofs::Ask::no_turns, crate::proofs::Ask::no_streamed, crate::proofs::Ask::no_name))]
-fn request_named(name: &str, given: &ArgMatches) -> Option<CommandRequest>
-    ensures some { IfSome result (IsRequest (Some (name.now, rows_of (found_of given.now)))) }
-    ensures none { IfNone result ((asked : RequestValue) → ¬ (IsRequest (Some (name.now, rows_of (found_of given.now))) asked)) }
-{
-    let Some(sessions) = option_sessions(given) else {
-        return None;
-    };
-    if name == "replay" {
-        return Some(CommandRequest::Replay(sessions, delivery_of(given)));
-    }
-    if name == "run" {
-        let Some(turns) = option_number(given, "turns", MAX_TURNS) else {
-            return None;
-        };
-        return match delivery_of(given) {
-            Delivery::InPieces if sessions > MAX_STREAMED_SESSIONS => None,
-            delivery => Some(CommandRequest::Run(sessions, turns, delivery)),
-        };
-    }
-    if name == "check" {
-        return Some(CommandRequest::Check(sessions));
-    }
-    if name == "show" {
-        return show_request(sessions, given);
-    }
-    if name == "explain" {
-        return explain_request(sessions, given);
-    }
-    None
-}
-
-/// Returns the request in the matches, or `None` if there is no command or a number isn't valid.
-#[tactic(auto, using(crate::proofs::Ask::requests_moved, crate::proofs::Ask::no_requests_moved, crate::proofs::Ask::no_command))]
-fn found_request(matches: &ArgMatches) -> Option<CommandRequest>
-    ensures some { IfSome result (IsRequest (subcommand_rows_of matches.now)) }
-    ensures none { IfNone result ((asked : RequestValue) → ¬ (IsRequest (subcommand_rows_of matches.now) asked)) }
-{
-    match found_command(matches) {
-        Some((name, given)) => request_named(name, given),
-        None => None,
-    }
-}
-
-/// Parses the words. Returns the request, or `None` if the words ask for no command with valid numbers. The error is the
-/// parser's; help and the version are among its errors.
-#[tactic(auto, using(crate::proofs::Ask::words_ask, crate::proofs::Ask::words_ask_nothing))]
-pub fn request_of<'a>(alloc: Global, words: &'a [&'a str]) -> Result<Option<CommandRequest>, Error>
-    ensures fails { FailsBy (faults_of (texts words.entry.now)) result }
-    ensures some { IfOk result (λ asked. IfSome asked (Ask (texts words.entry.now))) }
-    ensures none { IfOk result (λ asked. IfNone asked ((request : RequestValue) → ¬ (Ask (texts words.entry.now) request))) }
-{
-    let matches = parse(alloc, words)?;
-    Ok(found_request(&matches))
 }

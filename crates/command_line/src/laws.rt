@@ -7,6 +7,7 @@ ghost use Rattle.command_line.specs.declared.args.CommandRequest.{CommandRequest
 ghost use Rattle.command_line.specs.declared.args.TheConstants.{MAX_STREAMED_SESSIONS, MAX_TURNS};
 ghost use Rattle.command_line.specs.declared.args.Form.TheVariants as Form;
 ghost use Rattle.command_line.specs.CommandLine.{Ask, AskCheck, AskExplain, AskHelp, AskNothing, AskReplay, AskReplayInPieces, AskRun, AskRunInPieces, AskShow, AskVersion};
+ghost use Rattle.command_line.specs.Streams.{SkipComments, input_file, output_file};
 
 /// A command line asks for at most one command with its numbers. A command line that asks for a command asks neither for
 /// help nor for the version.
@@ -63,4 +64,20 @@ pub fn words_ask_as_documented()
     ensures explain_graph { AskExplain (codes "glm" ∷ codes "explain" ∷ codes "--dot" ∷ []) 256 None Form.Graph }
     ensures explain_two_forms { AskNothing (codes "glm" ∷ codes "explain" ∷ codes "--csv" ∷ codes "--dot" ∷ []) }
     ensures explain_zeros { AskNothing (codes "glm" ∷ codes "explain" ∷ codes "--at=07" ∷ []) }
+{}
+
+/// Command lines with the files that they name: `-` is a standard stream, and so is a file that is left out. No command takes two
+/// files to read.
+pub fn words_name_files()
+    ensures none { (input_file (codes "glm" ∷ codes "replay" ∷ []) ≡ None) × (output_file (codes "glm" ∷ codes "replay" ∷ []) ≡ None) }
+    ensures read { AskReplay (codes "glm" ∷ codes "replay" ∷ codes "a.csv" ∷ []) 256 × (input_file (codes "glm" ∷ codes "replay" ∷ codes "a.csv" ∷ []) ≡ Some (codes "a.csv")) }
+    ensures dash { AskCheck (codes "glm" ∷ codes "check" ∷ codes "-" ∷ []) 256 × (input_file (codes "glm" ∷ codes "check" ∷ codes "-" ∷ []) ≡ None) }
+    ensures between { input_file (codes "glm" ∷ codes "run" ∷ codes "--stream" ∷ codes "a.csv" ∷ codes "--turns=9" ∷ []) ≡ Some (codes "a.csv") }
+    ensures write { AskCheck (codes "glm" ∷ codes "check" ∷ codes "-o" ∷ codes "b.txt" ∷ []) 256 × (output_file (codes "glm" ∷ codes "check" ∷ codes "-o" ∷ codes "b.txt" ∷ []) ≡ Some (codes "b.txt")) }
+    ensures write_long { output_file (codes "glm" ∷ codes "show" ∷ codes "--output=b.txt" ∷ []) ≡ Some (codes "b.txt") }
+    ensures write_dash { output_file (codes "glm" ∷ codes "explain" ∷ codes "-o" ∷ codes "-" ∷ []) ≡ None }
+    ensures two { AskNothing (codes "glm" ∷ codes "replay" ∷ codes "a.csv" ∷ codes "b.csv" ∷ []) }
+    ensures no_target { AskNothing (codes "glm" ∷ codes "replay" ∷ codes "-o" ∷ []) }
+    ensures comments { SkipComments (codes "glm" ∷ codes "replay" ∷ codes "--comments" ∷ []) }
+    ensures no_comments { ¬ SkipComments (codes "glm" ∷ codes "replay" ∷ []) }
 {}

@@ -1,16 +1,18 @@
 //! The command line of `glm`: what its words ask for, and the texts of its help.
 //!
-//! `args.rt` has the parser's commands and options, and the request that the words make; `texts.rt` the help texts and the
-//! version; `laws.rt` what command lines ask for, as laws.
+//! `args.rt` has the parser's commands and options, and `requests.rt` makes a request of the words; `texts.rt` has the help texts
+//! and the version; `laws.rt` what command lines ask for, as laws.
 //!
 //! Proved: which request a list of words makes, for every list, by the definitions of `clap`'s grammar.
 #![tactic(auto)]
 
 mod args;
 pub mod laws;
+mod requests;
 mod texts;
 
 pub use args::{
-    CommandRequest, Delivery, Form, MAX_PLACE, MAX_STREAMED_SESSIONS, MAX_TURNS, request_of,
+    CommandRequest, Delivery, Form, MAX_PLACE, MAX_STREAMED_SESSIONS, MAX_TURNS, Request,
 };
+pub use requests::request_of;
 pub use texts::{NOT_A_NUMERAL, VERSION, VERSION_TEXT};

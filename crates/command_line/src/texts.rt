@@ -8,7 +8,7 @@ pub const VERSION_TEXT: &str = "glm 0.8.0\nproved with rattle-kit-13f, logic dac
 
 /// The beginning of the help of `replay`.
 pub(crate) const ABOUT_REPLAY: &str =
-    "Serves a trace from standard input on one thread, and writes its history to standard output.
+    "Serves a trace, from a file or standard input, on one thread, and writes its history to standard output or a file.
 
 A row of a trace is session,op,resource,mode, one for each call. A resource is 1 to 5 numbers joined by '/', of a
 database, a file, a page, a record and a field. A mode is IS, IX, S, SIX, U or X.
@@ -30,14 +30,14 @@ With --stream the history is written in pieces of 4096 rows while calls are serv
 written. What is written is the same. A row that is refused is still named before anything is written; if memory is
 refused, the rows that were served before may have been written.
 
-An example: glm replay < examples/queue.csv";
+An example: glm replay examples/queue.csv";
 
 /// The beginning of the help of `run`.
 pub(crate) const ABOUT_RUN: &str =
-    "Performs a trace from standard input on threads, one for each session that has a row, and writes the history that
-came about to standard output. The rows of a session are performed in their order, each once the one before is answered,
-whatever the answer was; how those of two sessions fall between one another differs from run to run. While a request
-waits, its session's rows are refused, except poll, withdraw and abort.
+    "Performs a trace, from a file or standard input, on threads, one for each session that has a row, and writes the history
+that came about to standard output or a file. The rows of a session are performed in their order, each once the one
+before is answered, whatever the answer was; how those of two sessions fall between one another differs from run to run.
+While a request waits, its session's rows are refused, except poll, withdraw and abort.
 
 A row of a trace is session,op,resource,mode, one for each call, and one of the history
 place,session,op,resource,mode,reply,value; 'glm help replay' shows a row of each form.
@@ -51,13 +51,13 @@ once it is written. Calls wait while 16384 rows are still to be written. One mor
 are at most 1023 others. A row that is refused is still named before anything is written; if memory is refused, or tries
 run out, the rows that were served before may have been written.
 
-An example: glm run < examples/queue.csv";
+An example: glm run examples/queue.csv";
 
 /// The beginning of the help of `check`.
 pub(crate) const ABOUT_CHECK: &str =
-    "Reads a history from standard input, and says on standard output whether it is legal: whether each reply is the
-one that the lock table gives there. It writes 'legal', with the number of entries, or 'illegal', with the first place
-whose reply is another.
+    "Reads a history, from a file or standard input, and says on standard output whether it is legal: whether each reply is
+the one that the lock table gives there. It writes 'legal', with the number of entries, or 'illegal', with the first
+place whose reply is another.
 
 A row of a history is place,session,op,resource,mode,reply,value, one for each call. A reply has the value beside it.
 
@@ -69,15 +69,16 @@ A row of a history is place,session,op,resource,mode,reply,value, one for each c
   5,1,lock,1,S,refused,NoTransaction       the name of the refusal
   6,3,withdraw,,,withdrawn,
 
-An example: glm check < examples/queue.history.csv";
+An example: glm check examples/queue.history.csv";
 
 /// The beginning of the help of `show`.
 pub(crate) const ABOUT_SHOW: &str =
-    "Reads a history from standard input, checks it as 'check' does, and writes the state of the lock table in front of the
-row with the place P, or at the end: which transactions are open, with what they hold and wait for; the holders and the
-queue of each resource; and who waits for whom. A history that isn't legal gives the line of 'check', and status 3.
+    "Reads a history, from a file or standard input, checks it as 'check' does, and writes the state of the lock table in
+front of the row with the place P, or at the end: which transactions are open, with what they hold and wait for; the
+holders and the queue of each resource; and who waits for whom. A history that isn't legal gives the line of 'check',
+and status 3.
 
-  glm show --at 7 < examples/deadlock.history.csv
+  glm show --at 7 examples/deadlock.history.csv
 
   session 2, transaction 2
     holds 1 in S
@@ -88,13 +89,13 @@ With --csv the same is written as rows row,session,transaction,victim,resource,m
 
 /// The beginning of the help of `explain`.
 pub(crate) const ABOUT_EXPLAIN: &str =
-    "Reads a history from standard input, checks it as 'check' does, and writes what the call in the row with the
+    "Reads a history, from a file or standard input, checks it as 'check' does, and writes what the call in the row with the
 place P did and why: which test refused it, and what failed it; for whom its request waits, and through what;
 the cycles of waits that it closed; which transactions became deadlock victims; whose requests it granted.
 Without --at it writes this of each call that was refused, whose request waited, or that ended the wait of
 another session. A history that isn't legal gives the line of 'check', and status 3.
 
-  glm explain --at 7 < examples/deadlock.history.csv
+  glm explain --at 7 examples/deadlock.history.csv
 
   7,1,lock,1,S,granted,S
     begins to wait for 1 in S
@@ -111,7 +112,7 @@ pub(crate) const STATUSES: &str = "Exit status:
   2  the words of the command line are off, or --at is no place of the history
   3  the history isn't legal
   4  memory was refused
-  5  reading or writing failed, or a thread couldn't be started
+  5  reading or writing failed, a file couldn't be opened, or a thread couldn't be started
   6  a gate stayed shut, or tries ran out";
 
 /// The message for a number that the parser takes but that has a sign or a leading zero, or that is the greatest number of

@@ -1,2 +1,3 @@
 pub mod PartsWritten
 pub mod Silent
+pub mod Streams

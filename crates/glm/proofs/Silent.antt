@@ -36,6 +36,7 @@ silent words input old new outcome.VersionShown status is did whole run done ill
 silent words input old new outcome.VersionFailed status is did whole run done illegal device = absurd (device is)
 silent words input old new outcome.Misused status is did whole run done illegal device = did.1
 silent words input old new outcome.OutOfMemory status is did whole run done illegal device = did
+silent words input old new outcome.FileFailed status is did whole run done illegal device = did
 
 -- unless a run in pieces is asked for, nothing is written without a verdict if no device failed, memory was not refused and it
 -- isn't done
@@ -65,6 +66,7 @@ silent_in_pieces words input old new outcome.VersionShown status is did run done
 silent_in_pieces words input old new outcome.VersionFailed status is did run done illegal device memory = absurd (device is)
 silent_in_pieces words input old new outcome.Misused status is did run done illegal device memory = did.1
 silent_in_pieces words input old new outcome.OutOfMemory status is did run done illegal device memory = did
+silent_in_pieces words input old new outcome.FileFailed status is did run done illegal device memory = did
 
 -- nothing is written without a verdict if no device failed, memory was not refused, no thread was stopped and it isn't done
 pub silent_always : (words : List Text) (input old new : Option (List ℕ)) (o : Outcome) (status : ℕ) → status ≡ status_of_outcome o
@@ -97,3 +99,4 @@ silent_always words input old new outcome.VersionShown status is did done illega
 silent_always words input old new outcome.VersionFailed status is did done illegal device memory stopped = absurd (device is)
 silent_always words input old new outcome.Misused status is did done illegal device memory stopped = did.1
 silent_always words input old new outcome.OutOfMemory status is did done illegal device memory stopped = did
+silent_always words input old new outcome.FileFailed status is did done illegal device memory stopped = did

@@ -47,6 +47,7 @@ status_of_outcome outcome.VersionShown = DONE
 status_of_outcome outcome.VersionFailed = DEVICE
 status_of_outcome outcome.Misused = USAGE
 status_of_outcome outcome.OutOfMemory = NO_MEMORY
+status_of_outcome outcome.FileFailed = DEVICE
 
 -- the words ask for a replay, and `answer` is its result; the output holds `old` before and `new` after
 pub record HasAnswered (words : List Text) (input old new : Option (List ℕ)) (answer : Result ℕ ToolFault) : Type 0 where
@@ -144,7 +145,7 @@ pub record HasAnsweredExplain (words : List Text) (input old new : Option (List 
 abbrev pub text_of_version : List ℕ
 text_of_version = codes "glm 0.8.0\nproved with rattle-kit-13f, logic dac8208d650f15bf\n"
 
--- what an outcome says of the words, the input's bytes and the output, which holds `old` before and `new` after
+-- what an outcome says of the words, the bytes of what was read, and what was written, which holds `old` before and `new` after
 abbrev pub HasDone : List Text → Option (List ℕ) → Option (List ℕ) → Option (List ℕ) → Outcome → Type 0
 HasDone words input old new (outcome.Replay answer) = HasAnswered words input old new answer
 HasDone words input old new (outcome.ReplayInPieces answer) = HasAnsweredInPieces words input old new answer
@@ -159,3 +160,4 @@ HasDone words input old new outcome.VersionShown = AskVersion words × Appends o
 HasDone words input old new outcome.VersionFailed = AskVersion words × AppendsPart old new text_of_version
 HasDone words input old new outcome.Misused = AskNothing words × Keeps old new
 HasDone words input old new outcome.OutOfMemory = Keeps old new
+HasDone words input old new outcome.FileFailed = Keeps old new

@@ -24,3 +24,4 @@ IsOutcomeOfError kind old new outcome.VersionFailed = (kind ≡ error.DisplayVer
 IsOutcomeOfError kind old new outcome.Misused =
     (kind ≢ error.DisplayHelp) × (kind ≢ error.DisplayVersion) × (kind ≢ error.OutOfMemory) × Keeps old new
 IsOutcomeOfError kind old new outcome.OutOfMemory = (kind ≡ error.OutOfMemory) × Keeps old new
+IsOutcomeOfError kind old new outcome.FileFailed = ⊥

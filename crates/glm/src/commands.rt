@@ -1,27 +1,33 @@
 //! The whole program except its streams: parses the command line and runs the command.
 
-ghost use Rattle.std.specs.Prelude.{◌≡◌, ◌≢◌, ◌<◌, ◌≤◌, ℕ, List, Some, IfOk, IfErr, string_bytes};
+ghost use Rattle.std.specs.Prelude.{◌≡◌, ◌≢◌, ◌<◌, ◌≤◌, ℕ, List, None, Some, IfOk, IfErr, string_bytes};
 ghost use Rattle.std.specs.Io.KnownBytes.{Keeps, Appends};
 ghost use Rattle.clap.specs.Values.{kind_of};
-ghost use Rattle.clap.specs.Walk.{texts};
+ghost use Rattle.clap.specs.Simple.{subcommand_of};
+ghost use Rattle.clap.specs.Walk.{Text, texts};
 ghost use Rattle.lock_rules.specs.declared.calls.TheConstants.{MAX_SESSIONS};
 ghost use Rattle.glm.specs.declared.outcomes.Outcome.{Outcome};
 ghost use Rattle.glm.specs.declared.outcomes.TheConstants.{DONE, ILLEGAL, NO_MEMORY, DEVICE, STOPPED};
-ghost use Rattle.command_line.specs.CommandLine.{AskReplayInPieces, AskRunInPieces};
+ghost use Rattle.command_line.specs.CommandLine.{Ask, AskReplayInPieces, AskRunInPieces, HasNumbers, glm_command};
+ghost use Rattle.command_line.specs.Streams.{HasStreamsOf, SkipComments as AskNoComments, input_file, output_file};
 ghost use Rattle.glm.specs.Outcomes.{HasDone, HasPrintedPart, PrintsVerdict, status_of_outcome};
 ghost use Rattle.history_commands.specs.Verdicts.{text_of_verdict};
+ghost use Rattle.glm.specs.Streams.{HasDoneInFile, HasOutcome};
 ghost use Rattle.glm.specs.ParserErrors.{IsOutcomeOfError};
 ghost use Rattle.replay_commands.specs.Replays.{IsFaultOfOneThread};
 ghost use Rattle.glm.specs.Statuses.{IsStatus};
 
-use crate::outcomes::Outcome;
+use crate::outcomes::{Outcome, file_failed};
 use clap::Error;
 use clap::error::ErrorKind;
-use command_line::{CommandRequest, Delivery, NOT_A_NUMERAL, VERSION_TEXT, request_of};
+use command_line::{CommandRequest, Delivery, NOT_A_NUMERAL, Request, VERSION_TEXT, request_of};
+use file_streams::{NewFile, open_source};
 use history_commands::{Verdict, check, explain, show, verdict_line};
 use replay_commands::{ToolFault, replay, replay_in_pieces, write_text};
+use row_comments::SkipComments;
 use run_commands::{Gate, run, run_in_pieces};
 use std::alloc::Global;
+use std::fs::Files;
 use std::io::{Read, Write};
 use std::sync::Wait;
 use std::thread::Threads;
@@ -74,8 +80,101 @@ fn write_verdict<R: Read + Drop, W: Write>(
     Ok(verdict)
 }
 
+/// Runs a command: reads `input`, and writes to `output`.
+fn perform<T: Threads + Wait, R: Read + Drop, W: Write, G: Gate>(
+    rt: &T,
+    alloc: Global,
+    gate: &G,
+    command: CommandRequest,
+    input: R,
+    output: &mut W,
+) -> Outcome
+    requires numbers { HasNumbers command }
+    ensures { (words : List Text) → Ask words command → HasDone words (R.remaining input) (W.contents output.old) (W.contents output.new) result }
+{
+    match command {
+        CommandRequest::Replay(sessions, Delivery::Whole) => {
+            Outcome::Replay(replay(alloc, input, output, sessions))
+        }
+        CommandRequest::Replay(sessions, Delivery::InPieces) => {
+            Outcome::ReplayInPieces(replay_in_pieces(alloc, input, output, sessions))
+        }
+        CommandRequest::Run(sessions, turns, Delivery::Whole) => {
+            let turns = u64::from(turns);
+            Outcome::Run(run(rt, alloc, input, output, sessions, turns, gate))
+        }
+        CommandRequest::Run(sessions, turns, Delivery::InPieces) => {
+            let turns = u64::from(turns);
+            Outcome::RunInPieces(run_in_pieces(rt, alloc, input, output, sessions, turns, gate))
+        }
+        CommandRequest::Check(sessions) => {
+            Outcome::Check(write_verdict(alloc, input, output, sessions))
+        }
+        CommandRequest::Show(sessions, place, form) => {
+            Outcome::Show(show(alloc, input, output, sessions, place, form))
+        }
+        CommandRequest::Explain(sessions, place, form) => {
+            Outcome::Explain(explain(alloc, input, output, sessions, place, form))
+        }
+    }
+}
+
+/// Runs a command that writes to the file at `path`, which gets the text only if the command was done.
+fn perform_to_file<T: Threads + Wait + Files, R: Read + Drop, E: Write, G: Gate>(
+    rt: &T,
+    alloc: Global,
+    gate: &G,
+    command: CommandRequest,
+    input: R,
+    path: &str,
+    errors: &mut E,
+) -> Outcome
+    requires numbers { HasNumbers command }
+    ensures { (words : List Text) → Ask words command → HasDoneInFile words (R.remaining input) result }
+{
+    let mut file = match NewFile::create(rt, alloc, path) {
+        Ok(file) => file,
+        Err(error) => return file_failed("write", path, &error, errors),
+    };
+    let outcome = perform(rt, alloc, gate, command, input, &mut file.output);
+    if !outcome.is_done() {
+        file.remove(rt);
+        return outcome;
+    }
+    match file.replace(rt) {
+        Ok(()) => outcome,
+        Err(error) => file_failed("write", path, &error, errors),
+    }
+}
+
+/// Runs the command of a request on the files that it names. `input` and `output` are the standard streams.
+fn run_request<'a, T: Threads + Wait + Files, R: Read + Drop, W: Write, E: Write, G: Gate>(
+    rt: &T,
+    alloc: Global,
+    gate: &G,
+    request: Request<'a>,
+    input: R,
+    output: &mut W,
+    errors: &mut E,
+) -> Outcome
+    requires numbers { HasNumbers request.command }
+    ensures { (words : List Text) → Ask words request.entry.command → HasStreamsOf (subcommand_of glm_command words) request.entry
+        → HasOutcome words (R.remaining input) (W.contents output.old) (W.contents output.new) result }
+{
+    let text = match open_source(rt, request.input, input) {
+        Ok(source) => SkipComments::new(source, request.skips_comments),
+        Err(error) => {
+            return file_failed("read", request.input.unwrap_or("-"), &error, errors);
+        }
+    };
+    match request.output {
+        None => perform(rt, alloc, gate, request.command, text, output),
+        Some(path) => perform_to_file(rt, alloc, gate, request.command, text, path, errors),
+    }
+}
+
 /// Parses the words and runs the command that they ask for. Usage errors are written to `errors`.
-fn outcome_of<'a, T: Threads + Wait, R: Read + Drop, W: Write, E: Write, G: Gate>(
+fn outcome_of<'a, T: Threads + Wait + Files, R: Read + Drop, W: Write, E: Write, G: Gate>(
     words: &'a [&'a str],
     rt: &T,
     alloc: Global,
@@ -84,32 +183,10 @@ fn outcome_of<'a, T: Threads + Wait, R: Read + Drop, W: Write, E: Write, G: Gate
     output: &mut W,
     errors: &mut E,
 ) -> Outcome
-    ensures { HasDone (texts words.entry.now) (R.remaining input) (W.contents output.old) (W.contents output.new) result }
+    ensures { HasOutcome (texts words.entry.now) (R.remaining input) (W.contents output.old) (W.contents output.new) result }
 {
     match request_of(alloc, words) {
-        Ok(Some(CommandRequest::Replay(sessions, Delivery::Whole))) => {
-            Outcome::Replay(replay(alloc, input, output, sessions))
-        }
-        Ok(Some(CommandRequest::Replay(sessions, Delivery::InPieces))) => {
-            Outcome::ReplayInPieces(replay_in_pieces(alloc, input, output, sessions))
-        }
-        Ok(Some(CommandRequest::Run(sessions, turns, Delivery::Whole))) => {
-            let turns = u64::from(turns);
-            Outcome::Run(run(rt, alloc, input, output, sessions, turns, gate))
-        }
-        Ok(Some(CommandRequest::Run(sessions, turns, Delivery::InPieces))) => {
-            let turns = u64::from(turns);
-            Outcome::RunInPieces(run_in_pieces(rt, alloc, input, output, sessions, turns, gate))
-        }
-        Ok(Some(CommandRequest::Check(sessions))) => {
-            Outcome::Check(write_verdict(alloc, input, output, sessions))
-        }
-        Ok(Some(CommandRequest::Show(sessions, place, form))) => {
-            Outcome::Show(show(alloc, input, output, sessions, place, form))
-        }
-        Ok(Some(CommandRequest::Explain(sessions, place, form))) => {
-            Outcome::Explain(explain(alloc, input, output, sessions, place, form))
-        }
+        Ok(Some(request)) => run_request(rt, alloc, gate, request, input, output, errors),
         Ok(None) => {
             let _reported = errors.write_all(NOT_A_NUMERAL.as_bytes());
             Outcome::Misused
@@ -129,11 +206,14 @@ fn outcome_of<'a, T: Threads + Wait, R: Read + Drop, W: Write, E: Write, G: Gate
 /// - 5: a reader or writer failed, or a thread couldn't be started
 /// - 6: a gate stayed shut, or a call ran out of tries
 ///
-/// A fault is reported in one line on `errors`, and a usage error in several lines. A failure of `errors` changes no
-/// status. `output` is written only with status 0, with status 3 (the verdict), with status 5 if the writer failed on the
+/// A fault is reported in one line on `errors`, and a usage error in several lines; behind the line of a file that can't be opened
+/// or written stands one that names it. A failure of `errors` changes no status.
+///
+/// Words that name a file to read or to write have it read or written in place of `input` or `output`. A file is written only
+/// with status 0 or 3, whole; what follows is of `output` then. `output` is written only with status 0, with status 3 (the verdict), with status 5 if the writer failed on the
 /// way, with status 4 if memory was refused on the way of a replay or a run that writes its history in pieces, or with status
 /// 6 if such a run was stopped on its way.
-pub fn program<'a, T: Threads + Wait, R: Read + Drop, W: Write, E: Write, G: Gate>(
+pub fn program<'a, T: Threads + Wait + Files, R: Read + Drop, W: Write, E: Write, G: Gate>(
     rt: &T,
     alloc: Global,
     words: &'a [&'a str],
@@ -144,6 +224,10 @@ pub fn program<'a, T: Threads + Wait, R: Read + Drop, W: Write, E: Write, G: Gat
 ) -> u8
     // the status of an outcome that says what the words ask for and what was done
     ensures outcome { (outcome : Outcome) × (result ≡ status_of_outcome outcome)
+        × HasOutcome (texts words.entry.now) (R.remaining input) (W.contents output.old) (W.contents output.new) outcome }
+    // the same for words that name no file, and don't skip comments
+    ensures standard { input_file (texts words.entry.now) ≡ None → output_file (texts words.entry.now) ≡ None → ¬ AskNoComments (texts words.entry.now)
+        → (outcome : Outcome) × (result ≡ status_of_outcome outcome)
         × HasDone (texts words.entry.now) (R.remaining input) (W.contents output.old) (W.contents output.new) outcome }
     ensures status { IsStatus result }
     ensures silent { ((n : ℕ) → ¬ (AskReplayInPieces (texts words.entry.now) n)) → ((n turns : ℕ) → ¬ (AskRunInPieces (texts words.entry.now) n turns))

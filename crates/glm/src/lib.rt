@@ -3,11 +3,12 @@
 //!
 //! `commands.rt` is the whole program except its streams, and `outcomes.rt` has statuses and messages. The command line is
 //! `command_line`'s, `replay` is of `replay_commands`, `run` of `run_commands`, `check`, `show` and `explain` are of
-//! `history_commands`.
+//! `history_commands`. `row_comments` skips comments, and `file_streams` opens and writes files.
 //!
-//! Proved: what each command wrote, with its result and exit status, for every input, also after a fault. Only tested:
-//! that memory or a device failed when a status says so, the lines on standard error, and when a history is written in
-//! pieces. Not claimed: that a run on threads returns.
+//! Proved: what each command wrote, with its result and exit status, for every input, also after a fault; and that the
+//! standard streams are read and written, or kept, as the words that name files say. Only tested: what files have, that
+//! memory or a device failed when a status says so, the lines on standard error, and when a history is written in pieces.
+//! Not claimed: that a run on threads returns.
 #![tactic(auto)]
 
 mod commands;

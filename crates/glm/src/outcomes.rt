@@ -2,13 +2,15 @@
 
 ghost use Rattle.std.specs.Prelude.{◌≡◌};
 ghost use Rattle.glm.specs.Outcomes.{status_of_outcome};
+ghost use Rattle.glm.specs.Streams.{IsFileFault};
 ghost use Rattle.glm.specs.Statuses.{status_for, status_for_show, status_of_kind};
 
 use history_commands::{ShowFault, Verdict};
 use lock_trace::{TraceFault, TraceKind};
 use replay_commands::ToolFault;
 use std::fmt::Display;
-use std::io::Write;
+use std::io;
+use std::io::{ErrorKind, Write};
 
 /// Exit status: the command was done, or help or the version was shown.
 pub const DONE: u8 = 0;
@@ -60,8 +62,10 @@ pub(crate) enum Outcome {
     VersionFailed,
     /// The command line is wrong; the usage error was already written.
     Misused,
-    /// Memory was refused to the parser of the command line.
+    /// Memory was refused to the parser of the command line, or for the name of a file.
     OutOfMemory,
+    /// A file that the words name couldn't be opened or written; the lines on standard error were already written.
+    FileFailed,
 }
 
 /// The exit status of a row's fault.
@@ -118,7 +122,29 @@ fn report_show_fault<E: Write>(fault: &ShowFault, errors: &mut E) {
     report_line(status_of_show_fault(fault), fault, errors);
 }
 
+/// Writes the lines of a file that couldn't be opened to do something with it. Returns the outcome.
+pub(crate) fn file_failed<E: Write>(
+    act: &str,
+    path: &str,
+    error: &io::Error,
+    errors: &mut E,
+) -> Outcome
+    ensures { IsFileFault result }
+{
+    if error.kind() == ErrorKind::OutOfMemory {
+        return Outcome::OutOfMemory;
+    }
+    report_fault(&ToolFault::Device, errors);
+    let _reported = writeln!(errors, "glm: can't {act} {path}: {error}");
+    Outcome::FileFailed
+}
+
 impl Outcome {
+    /// Whether the command was done, so that what it wrote is whole.
+    pub(crate) fn is_done(&self) -> bool {
+        matches!(self.status(), DONE | ILLEGAL)
+    }
+
     /// The exit status of the outcome.
     pub(crate) fn status(&self) -> u8
         ensures { result ≡ status_of_outcome self.now }
@@ -138,7 +164,7 @@ impl Outcome {
             Outcome::Run(Err(fault)) | Outcome::RunInPieces(Err(fault)) => status_of_fault(fault),
             Outcome::Check(Err(fault)) => status_of_fault(fault),
             Outcome::Show(Err(fault)) | Outcome::Explain(Err(fault)) => status_of_show_fault(fault),
-            Outcome::HelpFailed | Outcome::VersionFailed => DEVICE,
+            Outcome::HelpFailed | Outcome::VersionFailed | Outcome::FileFailed => DEVICE,
             Outcome::Misused => USAGE,
             Outcome::OutOfMemory => NO_MEMORY,
         }
@@ -165,7 +191,8 @@ impl Outcome {
             Outcome::Replay(Ok(_)) | Outcome::ReplayInPieces(Ok(_)) => {}
             Outcome::Run(Ok(_)) | Outcome::RunInPieces(Ok(_)) => {}
             Outcome::Check(Ok(_)) | Outcome::Show(Ok(_)) | Outcome::Explain(Ok(_)) => {}
-            Outcome::HelpShown | Outcome::VersionShown | Outcome::Misused => {}
+            Outcome::HelpShown | Outcome::VersionShown => {}
+            Outcome::Misused | Outcome::FileFailed => {}
         }
     }
 }

@@ -1,4 +1,6 @@
 pub mod ExplainedParts
 pub mod IsVerdict
+pub mod LinesTold
 pub mod PartsWritten
+pub mod WithinFront
 pub mod WithoutRequest

@@ -15,6 +15,8 @@ use Rattle.lock_report.specs.declared.snapshot.Wait.{Wait}
 use Rattle.lock_report.specs.StateText.{text_of_state}
 use Rattle.lock_report.specs.StateRows.{rows_of_state}
 use Rattle.lock_report.specs.Dot.{dot_of_waits}
+use Rattle.jam_report.specs.Roots.{roots_of, waiting_in}
+use Rattle.jam_report.specs.Waits.{waits_told}
 use Rattle.command_line.specs.declared.args.Form.{Form}
 use Rattle.command_line.specs.declared.args.Form.TheVariants as form
 use Rattle.history_commands.specs.declared.checking.Verdict.{Verdict}
@@ -45,11 +47,18 @@ waits_by n st s = flat_map (wait_of st s) (range_with_len 1 n)
 abbrev pub waits_of : ℕ → State → List Wait
 waits_of n st = flat_map (waits_by n st) (range_with_len 1 n)
 
--- the text of a state in front of a place: the open transactions, the locks and requests, and who waits for whom
-abbrev pub text_in : Form → ℕ → ℕ → State → List ℕ
-text_in form.Lines n place st = text_of_state place (opens_of n st) (listing_of st) (waits_of n st)
-text_in form.Rows n place st = rows_of_state (opens_of n st) (listing_of st) (waits_of n st)
-text_in form.Graph n place st = dot_of_waits (opens_of n st) (waits_of n st)
+-- the text for people of the state in front of a place, to which these entries have led: who blocks whom, the open transactions,
+-- the locks and requests, and who waits for whom, since when
+abbrev pub lines_in : ℕ → ℕ → List Entry → List ℕ
+lines_in n place front =
+    let st = state_of front in
+    text_of_state place (length (waiting_in n st)) (roots_of n st) (opens_of n st) (listing_of st) (waits_told n st front)
+
+-- the text of the state in front of a place, to which these entries have led
+abbrev pub text_in : Form → ℕ → ℕ → List Entry → List ℕ
+text_in form.Lines n place front = lines_in n place front
+text_in form.Rows n place front = rows_of_state (opens_of n (state_of front)) (listing_of (state_of front)) (waits_of n (state_of front))
+text_in form.Graph n place front = dot_of_waits (opens_of n (state_of front)) (waits_of n (state_of front))
 
 -- the place that is shown: the one that was asked for, or the end of the history
 abbrev pub place_shown : Option ℕ → List Entry → ℕ
@@ -58,7 +67,7 @@ place_shown (Some place) history = place
 
 -- what is written of a history with this verdict: if it is legal, the state behind the entries in front of the place, else the verdict
 abbrev pub text_shown : Form → ℕ → ℕ → List Entry → Verdict → List ℕ
-text_shown form n place history (verdict.Legal count) = text_in form n place (state_of (take place history))
+text_shown form n place history (verdict.Legal count) = text_in form n place (take place history)
 text_shown form n place history (verdict.Illegal first) = text_of_verdict (verdict.Illegal first)
 
 -- the text is what is written of some history of the sessions 1 to n that has the place and this verdict

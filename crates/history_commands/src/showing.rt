@@ -4,13 +4,15 @@ ghost use Rattle.std.specs.Prelude.{◌≡◌, ◌≢◌, ℕ, ◌<◌, ◌≤�
 ghost use Rattle.std.specs.Io.KnownBytes.{Keeps};
 ghost use Rattle.lock_rules.specs.declared.calls.TheConstants.{MAX_SESSIONS};
 ghost use Rattle.lock_rules.specs.Legal.{state_of};
+ghost use Rattle.sequential.specs.Histories.{IsEntryWithin};
 ghost use Rattle.lock_trace.specs.Entries.{IsEntry};
-ghost use Rattle.history_commands.specs.Showing.{HasShown, HasShownPart, Shows, open_of, opens_of, place_shown, text_in, text_shown, wait_of, waits_by, waits_of};
+ghost use Rattle.history_commands.specs.Showing.{HasShown, HasShownPart, Shows, open_of, opens_of, place_shown, lines_in, text_in, text_shown, wait_of, waits_by, waits_of};
 ghost use Rattle.history_commands.specs.Verdicts.{IsVerdict, text_of_verdict};
 
 use crate::checking::{Verdict, first_wrong, fresh_book, verdict_line};
 use crate::show_fault::ShowFault;
 use command_line::Form;
+use jam_report::{count_waiting, roots_of, waits_told};
 use lock_desk::{Book, Entry, NoMemory};
 use lock_report::{OpenTransaction, Wait, state_rows, state_text, waits_dot};
 use lock_trace::read_history;
@@ -90,10 +92,36 @@ fn all_waits(alloc: Global, book: &Book) -> Result<Vec<Wait>, NoMemory>
     Ok(waits)
 }
 
-/// The text of the book's state, in front of the place. Fails if memory is refused.
-fn book_text(alloc: Global, book: &Book, place: u64, form: Form) -> Result<String, NoMemory>
-    ensures { IfOk result (λ text. string_bytes text ≡ text_in form book.now.sessions place (state_of book.now.history)) }
+/// The text for people of the book's state, in front of the place, to which the entries have led. Fails if memory is refused.
+fn lines_text(alloc: Global, book: &Book, front: &[Entry], place: u64) -> Result<String, NoMemory>
+    requires within { All (IsEntryWithin book.now.sessions) front.now }
+    requires served { book.now.history ≡ front.now }
+    ensures { IfOk result (λ text. string_bytes text ≡ lines_in book.now.sessions place front.now) }
 {
+    let opens = open_transactions(alloc, book)?;
+    let mut claims = Vec::new(alloc);
+    book.locks(alloc, &mut claims)?;
+    let roots = roots_of(alloc, book, front)?;
+    let waits = waits_told(alloc, book, front)?;
+    let waiting = count_waiting(book);
+    state_text(alloc, place, waiting, &roots, &opens, &claims, &waits)
+}
+
+/// The text of the book's state, in front of the place, to which the entries have led. Fails if memory is refused.
+fn book_text(
+    alloc: Global,
+    book: &Book,
+    front: &[Entry],
+    place: u64,
+    form: Form,
+) -> Result<String, NoMemory>
+    requires within { All (IsEntryWithin book.now.sessions) front.now }
+    requires served { book.now.history ≡ front.now }
+    ensures { IfOk result (λ text. string_bytes text ≡ text_in form book.now.sessions place front.now) }
+{
+    if form == Form::Lines {
+        return lines_text(alloc, book, front, place);
+    }
     let opens = open_transactions(alloc, book)?;
     let waits = all_waits(alloc, book)?;
     if form == Form::Graph {
@@ -101,10 +129,7 @@ fn book_text(alloc: Global, book: &Book, place: u64, form: Form) -> Result<Strin
     }
     let mut claims = Vec::new(alloc);
     book.locks(alloc, &mut claims)?;
-    if form == Form::Rows {
-        return state_rows(alloc, &opens, &claims, &waits);
-    }
-    state_text(alloc, place, &opens, &claims, &waits)
+    state_rows(alloc, &opens, &claims, &waits)
 }
 
 /// The text of a history that isn't legal: the line of its verdict. Fails if memory is refused.
@@ -119,6 +144,7 @@ fn illegal_text(alloc: Global, first: u64) -> Result<Shown, NoMemory>
 
 /// Serves the entries on the book, which has served none, makes the text of the state in front of `place` on the way, and goes on to
 /// the first reply that isn't the book's. Fails if memory is refused.
+#[tactic(auto, using(crate::proofs::WithinFront::within_front))]
 fn shown_on(
     alloc: Global,
     book: &mut Book,
@@ -134,7 +160,7 @@ fn shown_on(
     if let Some(first) = first_wrong(book, entries, 0, place)? {
         return illegal_text(alloc, first);
     }
-    let text = book_text(alloc, book, place as u64, form)?;
+    let text = book_text(alloc, book, &entries[..place], place as u64, form)?;
     if let Some(first) = first_wrong(book, entries, place, entries.len())? {
         return illegal_text(alloc, first);
     }
@@ -173,8 +199,8 @@ fn place_asked(place: Option<u32>, entries: &[Entry]) -> usize
 }
 
 /// Reads the whole text of a history of sessions 1 to `sessions`, at most `MAX_SESSIONS`, checks it as [`check`] does, and writes
-/// the state of the lock table in front of the entry at index `place`, `None` for the end of the history: which transactions are
-/// open, who holds what, who waits for what, and who waits for whom. If the history isn't legal, the line of its verdict is
+/// the state of the lock table in front of the entry at index `place`, `None` for the end of the history: who blocks others, which
+/// transactions are open, who holds what, who waits for what, and who waits for whom, since when. If the history isn't legal, the line of its verdict is
 /// written instead. Returns the verdict.
 ///
 /// The whole text is made before its first byte is written. After every fault except `Device` nothing was written; after

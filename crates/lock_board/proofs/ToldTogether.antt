@@ -1,5 +1,5 @@
 -- What two sessions of a board were told goes together, in every state with the rule.
-use Rattle.std.proofs.Common.{◌≡◌, ◌≢◌, ◌⊎◌, inl, inr, ℕ, ◌<◌, true, false, not, ◌||◌, Option, List, [], ◌∷◌, ◌++◌, refl, sym, ap, subst, ◌∙◌, arith, append-nil}
+use Rattle.std.proofs.Common.{◌≡◌, ◌≢◌, ◌⊎◌, inl, inr, ℕ, true, false, not, ◌||◌, Option, List, [], ◌∷◌, ◌++◌, refl, sym, subst, ◌∙◌, append-nil}
 use mathlib.Core.Option as opt
 use Rattle.std.specs.List.{All}
 use Rattle.std.proofs.lemmas.Bool.{or_left, or_right}
@@ -24,7 +24,8 @@ use Rattle.publication.specs.Views.{answer, asks}
 use Rattle.lock_board.specs.LockBoards.{Pending, Own, BoardState, IsOrderly, SlotValue}
 use Rattle.publication.specs.Rule.{word, home, own_at, RecordState}
 use Rattle.publication.specs.Rule.RecordState.{vacant, posted, busy, served, retired}
-use Rattle.lock_board.specs.HoldsAsTold.{KeptLock, HoldsAsTold, ReadsAsTold, WritesAsTold}
+use Rattle.lock_board.specs.HoldsAsTold.{KeptLock, HoldsAsTold, MayReadAsTold, MayWriteAsTold}
+use Rattle.lock_board.specs.Exclusion.{DoToldModesGoTogether, IsExclusiveAsTold, IsAccessApartAsTold}
 use Rattle.publication.specs.Collected.{HasCollected}
 use Rattle.publication.proofs.Collected.{own-of}
 use Rattle.lock_board.proofs.ToldIsHeld.{told-grant, told-later}
@@ -43,6 +44,36 @@ none-beside-x k g = implied (are_compatible X k || are_compatible k X) (is_nothi
     tests : GoTogether X k → (are_compatible X k || are_compatible k X) ≡ true
     tests (inl h) = or_left (are_compatible X k) (are_compatible k X) (compatible-tests X k h)
     tests (inr h) = or_right (are_compatible X k) (are_compatible k X) (compatible-tests k X h)
+
+-- What two sessions were told that they hold, if each holds it in the state of one history.
+
+module _ (h : List Entry) (i : ℕ) (Told : List ℕ → Mode → Type 0) (holds : (r : List ℕ) (m : Mode) → Told r m → HoldsAtLeast (state_of h).table i r m) where
+  reads : (x : List ℕ) → MayReadAsTold Told x → Reads (state_of h).table i x
+  reads x t = let k = holds t.resource t.mode t.told in (t.resource, t.over, (k.0, k.1, order-from S k.0 (at_or_below-trans S t.mode k.0 (order-tests t.reads) (order-tests k.2))))
+
+  writes : (x : List ℕ) → MayWriteAsTold Told x → Writes (state_of h).table i x
+  writes x t = let k = holds t.resource t.mode t.told in (t.resource, t.over, (k.0, k.1, order-from X k.0 (at_or_below-trans X t.mode k.0 (order-tests t.writes) (order-tests k.2))))
+
+module _ (h : List Entry) (i j : ℕ) (ne : i ≢ j) (Mine Theirs : List ℕ → Mode → Type 0) (my-locks : (r : List ℕ) (m : Mode) → Mine r m → HoldsAtLeast (state_of h).table i r m) (their-locks : (r : List ℕ) (m : Mode) → Theirs r m → HoldsAtLeast (state_of h).table j r m) where
+  pub modes-together : (r : List ℕ) (m k : Mode) → Mine r m → Theirs r k → GoTogether m k
+  modes-together r m k t u =
+      let x = my-locks r m t in
+      let y = their-locks r k u in
+      together-below m x.0 k y.0 x.2 y.2 ((lawful h).holders_compatible i j r x.0 y.0 ne x.1 y.1)
+
+  pub none-beside : (r : List ℕ) (k : Mode) → Mine r X → Theirs r k → ⊥
+  none-beside r k t u =
+      let x = my-locks r X t in
+      let y = their-locks r k u in
+      let some : is_nothing y.0 ≡ false = ((state-lawful h).sound.held_under j r y.0 y.1).1 in
+      let none : is_nothing y.0 ≡ true = none-beside-x y.0 (together-below X x.0 y.0 y.0 x.2 same ((lawful h).holders_compatible i j r x.0 y.0 ne x.1 y.1)) in
+      absurd (cc (some, none))
+
+  pub access-apart : (x : List ℕ) → MayWriteAsTold Mine x → MayReadAsTold Theirs x ⊎ MayWriteAsTold Theirs x → ⊥
+  access-apart x t u = (lawful h).access_compatible i j x ne (writes h i Mine my-locks x t) (elim u [
+    | inl k ↦ inl (reads h j Theirs their-locks x k)
+    | inr k ↦ inr (writes h j Theirs their-locks x k)
+  ])
 
 module _ (refuses : (st : State) → DoesRefusalKeep st) where
   -- A lock held as told is held after any legal history in which the session's calls are its answers and then calls that
@@ -80,35 +111,14 @@ module _ (refuses : (st : State) → DoesRefusalKeep st) where
         stands-held o.history o.legal i (word s i) (home s i) (own_at o.owns i) (o.stands i d.some d.small) r m
         (subst (λ (l : List Answered). HoldsAsTold l (own_at o.owns i).pending r m) (sym d.answers_are) (subst (λ (p : Option Pending). HoldsAsTold answers p r m) (sym d.pending_is) told))
 
-    pub together : (i j : ℕ) (mine theirs : List Answered) (my_pending their_pending : Option Pending) → i ≢ j → HasCollected s i mine my_pending → HasCollected s j theirs their_pending
-        → (r : List ℕ) (m k : Mode) → HoldsAsTold mine my_pending r m → HoldsAsTold theirs their_pending r k → GoTogether m k
-    together i j mine theirs my_pending their_pending ne a b r m k t u =
-        let x = held i mine my_pending a r m t in
-        let y = held j theirs their_pending b r k u in
-        together-below m x.0 k y.0 x.2 y.2 ((lawful o.history).holders_compatible i j r x.0 y.0 ne x.1 y.1)
+    pub together : DoToldModesGoTogether HoldsAsTold s
+    together i j mine theirs my_pending their_pending ne a b =
+        modes-together o.history i j ne (HoldsAsTold mine my_pending) (HoldsAsTold theirs their_pending) (held i mine my_pending a) (held j theirs their_pending b)
 
-    pub exclusive : (i j : ℕ) (mine theirs : List Answered) (my_pending their_pending : Option Pending) → i ≢ j → HasCollected s i mine my_pending → HasCollected s j theirs their_pending
-        → (r : List ℕ) (k : Mode) → HoldsAsTold mine my_pending r X → HoldsAsTold theirs their_pending r k → ⊥
-    exclusive i j mine theirs my_pending their_pending ne a b r k t u =
-        let x = held i mine my_pending a r X t in
-        let y = held j theirs their_pending b r k u in
-        let some : is_nothing y.0 ≡ false = ((state-lawful o.history).sound.held_under j r y.0 y.1).1 in
-        let none : is_nothing y.0 ≡ true = none-beside-x y.0 (together-below X x.0 y.0 y.0 x.2 same ((lawful o.history).holders_compatible i j r x.0 y.0 ne x.1 y.1)) in
-        absurd (cc (some, none))
+    pub exclusive : IsExclusiveAsTold HoldsAsTold s
+    exclusive i j mine theirs my_pending their_pending ne a b =
+        none-beside o.history i j ne (HoldsAsTold mine my_pending) (HoldsAsTold theirs their_pending) (held i mine my_pending a) (held j theirs their_pending b)
 
-    reads : (i : ℕ) (answers : List Answered) (pending : Option Pending) (x : List ℕ) → HasCollected s i answers pending → ReadsAsTold answers pending x → Reads (state_of o.history).table i x
-    reads i answers pending x has t =
-        let h = held i answers pending has t.resource t.mode t.told in
-        (t.resource, t.over, (h.0, h.1, order-from S h.0 (at_or_below-trans S t.mode h.0 (order-tests t.reads) (order-tests h.2))))
-
-    writes : (i : ℕ) (answers : List Answered) (pending : Option Pending) (x : List ℕ) → HasCollected s i answers pending → WritesAsTold answers pending x → Writes (state_of o.history).table i x
-    writes i answers pending x has t =
-        let h = held i answers pending has t.resource t.mode t.told in
-        (t.resource, t.over, (h.0, h.1, order-from X h.0 (at_or_below-trans X t.mode h.0 (order-tests t.writes) (order-tests h.2))))
-
-    pub apart : (i j : ℕ) (mine theirs : List Answered) (my_pending their_pending : Option Pending) → i ≢ j → HasCollected s i mine my_pending → HasCollected s j theirs their_pending
-        → (x : List ℕ) → WritesAsTold mine my_pending x → ReadsAsTold theirs their_pending x ⊎ WritesAsTold theirs their_pending x → ⊥
-    apart i j mine theirs my_pending their_pending ne a b x t u = (lawful o.history).access_compatible i j x ne (writes i mine my_pending x a t) (elim u [
-      | inl k ↦ inl (reads j theirs their_pending x b k)
-      | inr k ↦ inr (writes j theirs their_pending x b k)
-    ])
+    pub apart : IsAccessApartAsTold HoldsAsTold s
+    apart i j mine theirs my_pending their_pending ne a b =
+        access-apart o.history i j ne (HoldsAsTold mine my_pending) (HoldsAsTold theirs their_pending) (held i mine my_pending a) (held j theirs their_pending b)

@@ -90,18 +90,26 @@ pub record HoldsAsTold (answers : List Answered) (pending : Option Pending) (r :
   pub told : WasGranted answers r m ⊎ WasGrantedLater answers r m
   pub kept : (p : Pending) → pending ≡ Some p → KeepsLock r p.call
 
--- The session was told that it holds the resource, or an ancestor of it, in S, SIX, U or X: it may read the resource.
-pub record ReadsAsTold (answers : List Answered) (pending : Option Pending) (x : List ℕ) : Type 0 where
-  pub resource : List ℕ
-  pub over : IsAtOrOver resource x
-  pub mode : Mode
-  pub told : HoldsAsTold answers pending resource mode
-  pub reads : IsAtOrBelow S mode
+module _ (HeldAsTold : List ℕ → Mode → Type 0) where
+  -- The session was told that it holds the resource, or an ancestor of it, in S, SIX, U or X: it may read the resource.
+  pub record MayReadAsTold (x : List ℕ) : Type 0 where
+    pub resource : List ℕ
+    pub over : IsAtOrOver resource x
+    pub mode : Mode
+    pub told : HeldAsTold resource mode
+    pub reads : IsAtOrBelow S mode
 
--- The session was told that it holds the resource, or an ancestor of it, in X: it may write the resource.
-pub record WritesAsTold (answers : List Answered) (pending : Option Pending) (x : List ℕ) : Type 0 where
-  pub resource : List ℕ
-  pub over : IsAtOrOver resource x
-  pub mode : Mode
-  pub told : HoldsAsTold answers pending resource mode
-  pub writes : IsAtOrBelow X mode
+  -- The session was told that it holds the resource, or an ancestor of it, in X: it may write the resource.
+  pub record MayWriteAsTold (x : List ℕ) : Type 0 where
+    pub resource : List ℕ
+    pub over : IsAtOrOver resource x
+    pub mode : Mode
+    pub told : HeldAsTold resource mode
+    pub writes : IsAtOrBelow X mode
+
+-- The same of a session with these answers and this pending call.
+abbrev pub ReadsAsTold : List Answered → Option Pending → List ℕ → Type 0
+ReadsAsTold answers pending = MayReadAsTold (HoldsAsTold answers pending)
+
+abbrev pub WritesAsTold : List Answered → Option Pending → List ℕ → Type 0
+WritesAsTold answers pending = MayWriteAsTold (HoldsAsTold answers pending)

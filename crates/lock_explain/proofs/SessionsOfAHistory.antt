@@ -100,7 +100,7 @@ all-inside n es w =
     record { waiting = λ s q e. h s (i.waiting s q e); holding = λ s r m e. h s (i.holding s r m e) }
 
 -- who waits, and who is waited for, waits or holds a lock
-waits-open : (p : ℕ → Bool) (t : Table) → AllOpen p t → (i u : ℕ) → waits_for t i u ≡ true → (p i ≡ true) × (p u ≡ true)
+pub waits-open : (p : ℕ → Bool) (t : Table) → AllOpen p t → (i u : ℕ) → waits_for t i u ≡ true → (p i ≡ true) × (p u ≡ true)
 waits-open p t o i u h = go (request_of i t.requests) refl (and_parts (not (eqb u i)) (keeps_waiting t u (request_of i t.requests)) h).1
   where
     holds : (r : List ℕ) (m : Mode) (k : Option Mode) → held_mode t u r ≡ k → conflicts m k ≡ true → p u ≡ true

@@ -1,1 +1,2 @@
+pub mod OneHistory
 pub mod WakesTold

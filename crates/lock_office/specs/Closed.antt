@@ -18,8 +18,8 @@ answers_of = answers_of_any
 abbrev pub IsClosed : BoardView → List TicketView → BookView → Type 0
 IsClosed = IsClosedOf book_object
 
--- One sequential history of these sessions, in which each session finds its calls.
-pub record IsOneHistory (sessions : List TicketView) (history : List Entry) : Type 0 where
+-- One sequential history of these sessions, in which each session, by its number, finds the calls that it collected.
+pub record IsOneHistoryOf {T : Type 0} (number : T → ℕ) (collected : T → List Answered) (sessions : List T) (history : List Entry) : Type 0 where
   -- every reply is the one that the sequential lock manager gives at its place
   pub replies : AreRepliesOfSteps history
   -- no two transactions ever hold one resource in modes that conflict in both orders
@@ -36,8 +36,12 @@ pub record IsOneHistory (sessions : List TicketView) (history : List Entry) : Ty
   pub dooms : (front later rest : List Entry) → history ≡ front ++ later ++ rest → DoesDoomStand front later
   pub requests : (front later rest : List Entry) → history ≡ front ++ later ++ rest → DoesRequestStand front later
   -- what a session collected are exactly its entries of the history
-  pub entries : All (λ session. (a : Answered) → Contains session.collected a ↔ IsEntryOf session.number history a) sessions
+  pub entries : All (λ session. (a : Answered) → Contains (collected session) a ↔ IsEntryOf (number session) history a) sessions
   -- each session's answers have rising places: each call is in the history once, in the session's order
-  pub in_order : All (λ session. ArePlacesRising session.collected) sessions
+  pub in_order : All (λ session. ArePlacesRising (collected session)) sessions
   -- every entry is a call of one of these sessions
-  pub whose : All (λ entry. Any (λ session. session.number ≡ entry.session) sessions) history
+  pub whose : All (λ entry. Any (λ session. number session ≡ entry.session) sessions) history
+
+-- One sequential history of these sessions, in which each session finds its calls.
+abbrev pub IsOneHistory : List TicketView → List Entry → Type 0
+IsOneHistory = IsOneHistoryOf (λ session. session.number) (λ session. session.collected)

@@ -26,14 +26,6 @@ use lock_rules::laws;
 pub fn closed_offices_have_one_history()
     ensures { (office : BoardView) (sessions : List TicketView) (book : BookView) → IsClosed office sessions book → IsOneHistory sessions book.history }
 {
-    laws::histories_are_legal_by_steps();
-    laws::holders_are_compatible();
-    laws::no_incompatible_access();
-    laws::no_waits_form_a_circle();
-    laws::states_are_lawful();
-    laws::grants_stand();
-    laws::dooms_stand();
-    laws::requests_stand();
     one_history_of_any_object::<Book>();
 }
 

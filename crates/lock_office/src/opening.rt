@@ -1,6 +1,6 @@
 //! An office whose lock table lets go of its history.
 
-ghost use Rattle.std.specs.Prelude.{◌≡◌, ◌<◌, ◌↔◌, Err, IfOk};
+ghost use Rattle.std.specs.Prelude.{◌≡◌, ◌<◌, ◌↔◌, [], Err, IfOk};
 ghost use Rattle.std.specs.List.{All};
 ghost use Rattle.lock_board.specs.LockBoards.{new_tickets};
 ghost use Rattle.lock_office.specs.Sessions.{IsSessionOf, IsIdle};
@@ -11,6 +11,28 @@ use lock_board::Ticket as Session;
 use lock_desk::Book;
 use lock_rules::MAX_SESSIONS;
 use std::alloc::{AllocError as NoMemory, Global};
+
+/// A book for an office: for sessions 1 to `sessions`, with an empty history, of which it keeps at most the newest `bound` entries in
+/// memory. With `NO_BOUND` all entries are kept.
+pub fn book_keeping(alloc: Global, sessions: u16, bound: u64) -> Result<Book, OpenFault>
+    ensures none { (result ≡ Err OpenFault.NoSessions) ↔ (sessions ≡ 0) }
+    ensures many { (result ≡ Err OpenFault.TooManySessions) ↔ (MAX_SESSIONS < sessions) }
+    ensures sessions { IfOk result (λ book. book.sessions ≡ sessions) }
+    ensures bound { IfOk result (λ book. book.bound ≡ bound) }
+    ensures empty { IfOk result (λ book. book.history ≡ []) }
+{
+    if sessions == 0 {
+        return Err(OpenFault::NoSessions);
+    }
+    if sessions > MAX_SESSIONS {
+        return Err(OpenFault::TooManySessions);
+    }
+    let Ok(mut book) = Book::new(alloc, sessions) else {
+        return Err(OpenFault::NoMemory);
+    };
+    book.keep_at_most(bound);
+    Ok(book)
+}
 
 /// Opens an office as `Office::open` does, whose lock table keeps at most the newest `bound` entries of its history in memory.
 /// Older ones are let go as calls are served, so that the memory of an office follows what is held and waited for. Contracts go
@@ -27,16 +49,7 @@ pub fn open_keeping(
     ensures sessions { IfOk result (λ made. made.1.items ≡ new_tickets made.0.id sessions sessions) }
     ensures ready { IfOk result (λ made. All (λ session. IsSessionOf made.0 session × IsIdle session) made.1.items) }
 {
-    if sessions == 0 {
-        return Err(OpenFault::NoSessions);
-    }
-    if sessions > MAX_SESSIONS {
-        return Err(OpenFault::TooManySessions);
-    }
-    let Ok(mut book) = Book::new(alloc, sessions) else {
-        return Err(OpenFault::NoMemory);
-    };
-    book.keep_at_most(bound);
+    let book = book_keeping(alloc, sessions, bound)?;
     match Office::share(alloc, book) {
         Ok(made) => Ok(made),
         Err(NoMemory) => Err(OpenFault::NoMemory),

@@ -3,6 +3,8 @@
 //! Each question is asked of an office by one of its sessions. It tries once for the lock table, as `serve` does, reads it, and
 //! gives it back. It serves no calls, changes nothing, and the session need not be idle. The answer is that of one moment: the
 //! number of calls that the history had then comes with it, and the session knows the whole history up to there.
+//!
+//! An office of programs (`Programs<Book>`) can be asked as well: then the calls are those of its programs, laid end to end.
 
 ghost use Rattle.std.specs.Prelude.{◌≡◌, ◌≢◌, ◌+◌, ◌<◌, ◌≤◌, true, false, [], Some, None, Ok, IfOk, IfErr, IfSome, IfNone, length, vec_capacity};
 ghost use Rattle.lock_rules.specs.State.{held_mode, holders};
@@ -10,13 +12,14 @@ ghost use Rattle.lock_rules.specs.Waits.{waits_for};
 ghost use Rattle.lock_rules.specs.Legal.{state_of};
 ghost use Rattle.lock_rules.specs.Listing.{listing_of, waiting_line};
 ghost use Rattle.publication.specs.Boards.{HasCallsOf};
-ghost use Rattle.lock_office.specs.Sessions.{IsSessionOf};
+ghost use Rattle.combining.specs.Sessions.{IsSessionOf};
 ghost use Rattle.lock_desk.specs.Queries.{blockers_among};
-ghost use Rattle.lock_office.specs.Queries.{HasLooked};
+ghost use Rattle.combining.specs.Looks.{IsLooking, HasBegunToLook, HasLooked};
 
-use crate::Office;
-use lock_board::Ticket as Session;
+use crate::has_book::HasBook;
+use combining::Office;
 use lock_desk::{Book, Claim, Mode, NoMemory, Resource, Transaction};
+use publication::{Load, Ticket as Session};
 use std::alloc::Global;
 
 /// The answer to a question about the lock table of an open office.
@@ -43,89 +46,103 @@ fn list_blockers(book: &Book, sessions: u16, whose: u16, list: &mut Vec<u16>)
     }
 }
 
+/// Gives the lock table back, and returns how many calls its history has.
+fn end_look<O: HasBook>(office: &Office<O>, session: &mut Session<O>, load: Box<Load<O>>) -> u64
+    requires looks { IsLooking O.Sequential office.now session.old load.value }
+    ensures ours { IsSessionOf office.now session.new }
+    ensures looked { (before : _) → HasBegunToLook O.Sequential before session.old → HasLooked O.Sequential before session.new }
+    ensures front { session.new.front ≡ O.history load.value.object }
+    ensures length { result ≡ length (O.calls session.new.front) }
+    ensures calls { HasCallsOf session.new.front session.new }
+{
+    let length = load.object.book().served();
+    office.end_look(session, load);
+    length
+}
+
 /// The mode of the lock that session `whose` holds on `resource`, `None` if it holds none, as `Book::held` tells it.
 ///
 /// `None` in place of an answer, with nothing changed, means that another session had the lock table, as
 /// `Turn::Elsewhere` of `serve` does.
-pub fn held(
-    office: &Office,
-    session: &mut Session,
+pub fn held<O: HasBook>(
+    office: &Office<O>,
+    session: &mut Session<O>,
     whose: u16,
     resource: Resource,
 ) -> Option<Snapshot<Option<Mode>>>
     requires ours { IsSessionOf office.now session.old }
     ensures ours { IsSessionOf office.now session.new }
-    ensures looked { IfSome result (λ _. HasLooked session.old session.new) }
-    ensures length { IfSome result (λ seen. seen.length ≡ length session.new.front) }
-    ensures found { IfSome result (λ seen. seen.found ≡ held_mode (state_of session.new.front).table whose resource) }
+    ensures looked { IfSome result (λ _. HasLooked O.Sequential session.old session.new) }
+    ensures length { IfSome result (λ seen. seen.length ≡ length (O.calls session.new.front)) }
+    ensures found { IfSome result (λ seen. seen.found ≡ held_mode (state_of (O.calls session.new.front)).table whose resource) }
     ensures none { IfNone result ((session.new ≡ session.old) × (1 < office.now.sessions)) }
     ensures calls { HasCallsOf session.new.front session.new }
 {
     let load = office.look(session)?;
-    let found = load.object.held(whose, resource);
-    let length = office.end_look(session, load);
+    let found = load.object.book().held(whose, resource);
+    let length = end_look(office, session, load);
     Some(Snapshot { length, found })
 }
 
 /// Whether session `whose` waits for `other` directly, as `Book::waits_for` tells it. `None` is as with `held`.
-pub fn waits_for(
-    office: &Office,
-    session: &mut Session,
+pub fn waits_for<O: HasBook>(
+    office: &Office<O>,
+    session: &mut Session<O>,
     whose: u16,
     other: u16,
 ) -> Option<Snapshot<bool>>
     requires ours { IsSessionOf office.now session.old }
     ensures ours { IsSessionOf office.now session.new }
-    ensures looked { IfSome result (λ _. HasLooked session.old session.new) }
-    ensures length { IfSome result (λ seen. seen.length ≡ length session.new.front) }
-    ensures found { IfSome result (λ seen. seen.found ≡ waits_for (state_of session.new.front).table whose other) }
+    ensures looked { IfSome result (λ _. HasLooked O.Sequential session.old session.new) }
+    ensures length { IfSome result (λ seen. seen.length ≡ length (O.calls session.new.front)) }
+    ensures found { IfSome result (λ seen. seen.found ≡ waits_for (state_of (O.calls session.new.front)).table whose other) }
     ensures none { IfNone result ((session.new ≡ session.old) × (1 < office.now.sessions)) }
     ensures calls { HasCallsOf session.new.front session.new }
 {
     let load = office.look(session)?;
-    let found = load.object.waits_for(whose, other);
-    let length = office.end_look(session, load);
+    let found = load.object.book().waits_for(whose, other);
+    let length = end_look(office, session, load);
     Some(Snapshot { length, found })
 }
 
 /// The open transaction of session `whose`, as `Book::transaction` tells it. `None` in place of an answer is as with
 /// `held`.
-pub fn transaction(
-    office: &Office,
-    session: &mut Session,
+pub fn transaction<O: HasBook>(
+    office: &Office<O>,
+    session: &mut Session<O>,
     whose: u16,
 ) -> Option<Snapshot<Option<Transaction>>>
     requires ours { IsSessionOf office.now session.old }
     ensures ours { IsSessionOf office.now session.new }
-    ensures looked { IfSome result (λ _. HasLooked session.old session.new) }
-    ensures length { IfSome result (λ seen. seen.length ≡ length session.new.front) }
-    ensures found { IfSome result (λ seen. seen.found ≡ (state_of session.new.front).begun whose) }
+    ensures looked { IfSome result (λ _. HasLooked O.Sequential session.old session.new) }
+    ensures length { IfSome result (λ seen. seen.length ≡ length (O.calls session.new.front)) }
+    ensures found { IfSome result (λ seen. seen.found ≡ (state_of (O.calls session.new.front)).begun whose) }
     ensures none { IfNone result ((session.new ≡ session.old) × (1 < office.now.sessions)) }
     ensures calls { HasCallsOf session.new.front session.new }
 {
     let load = office.look(session)?;
-    let found = load.object.transaction(whose);
-    let length = office.end_look(session, load);
+    let found = load.object.book().transaction(whose);
+    let length = end_look(office, session, load);
     Some(Snapshot { length, found })
 }
 
 /// The waiting request of session `whose`, as `Book::request` tells it. `None` in place of an answer is as with `held`.
-pub fn request(
-    office: &Office,
-    session: &mut Session,
+pub fn request<O: HasBook>(
+    office: &Office<O>,
+    session: &mut Session<O>,
     whose: u16,
 ) -> Option<Snapshot<Option<Claim>>>
     requires ours { IsSessionOf office.now session.old }
     ensures ours { IsSessionOf office.now session.new }
-    ensures looked { IfSome result (λ _. HasLooked session.old session.new) }
-    ensures length { IfSome result (λ seen. seen.length ≡ length session.new.front) }
-    ensures found { IfSome result (λ seen. seen.found ≡ waiting_line (state_of session.new.front) whose) }
+    ensures looked { IfSome result (λ _. HasLooked O.Sequential session.old session.new) }
+    ensures length { IfSome result (λ seen. seen.length ≡ length (O.calls session.new.front)) }
+    ensures found { IfSome result (λ seen. seen.found ≡ waiting_line (state_of (O.calls session.new.front)) whose) }
     ensures none { IfNone result ((session.new ≡ session.old) × (1 < office.now.sessions)) }
     ensures calls { HasCallsOf session.new.front session.new }
 {
     let load = office.look(session)?;
-    let found = load.object.request(whose);
-    let length = office.end_look(session, load);
+    let found = load.object.book().request(whose);
+    let length = end_look(office, session, load);
     Some(Snapshot { length, found })
 }
 
@@ -135,26 +152,26 @@ pub fn request(
 /// `Ok(None)`, with nothing changed, means that another session had the lock table. Fails with `NoMemory` if `list`
 /// would have to grow and memory is refused: its contents are unchanged then, and the session knows the history up to
 /// there all the same.
-pub fn holders(
-    office: &Office,
-    session: &mut Session,
+pub fn holders<O: HasBook>(
+    office: &Office<O>,
+    session: &mut Session<O>,
     resource: Resource,
     list: &mut Vec<(u16, Mode)>,
 ) -> Result<Option<u64>, NoMemory>
     requires ours { IsSessionOf office.now session.old }
     ensures ours { IsSessionOf office.now session.new }
-    ensures looked { (seen : _) → result ≡ Ok (Some seen) → HasLooked session.old session.new }
-    ensures length { (seen : _) → result ≡ Ok (Some seen) → seen ≡ length session.new.front }
-    ensures found { (seen : _) → result ≡ Ok (Some seen) → list.new.items ≡ holders resource (state_of session.new.front).table.held }
+    ensures looked { (seen : _) → result ≡ Ok (Some seen) → HasLooked O.Sequential session.old session.new }
+    ensures length { (seen : _) → result ≡ Ok (Some seen) → seen ≡ length (O.calls session.new.front) }
+    ensures found { (seen : _) → result ≡ Ok (Some seen) → list.new.items ≡ holders resource (state_of (O.calls session.new.front)).table.held }
     ensures none { result ≡ Ok None → (session.new ≡ session.old) × (list.new.items ≡ list.old.items) × (1 < office.now.sessions) }
-    ensures err { IfErr result (λ _. HasLooked session.old session.new × (list.new.items ≡ list.old.items)) }
+    ensures err { IfErr result (λ _. HasLooked O.Sequential session.old session.new × (list.new.items ≡ list.old.items)) }
     ensures calls { HasCallsOf session.new.front session.new }
 {
     let Some(load) = office.look(session) else {
         return Ok(None);
     };
-    let listed = load.object.holders(resource, list);
-    let length = office.end_look(session, load);
+    let listed = load.object.book().holders(resource, list);
+    let length = end_look(office, session, load);
     match listed {
         Ok(()) => Ok(Some(length)),
         Err(refused) => Err(refused),
@@ -167,17 +184,17 @@ pub fn holders(
 /// Memory for all sessions of the office is reserved first, before the lock table is tried for. `Ok(None)`, with nothing
 /// changed, means that another session had the lock table. Fails with `NoMemory`, with nothing changed, if memory is
 /// refused.
-pub fn blockers(
-    office: &Office,
-    session: &mut Session,
+pub fn blockers<O: HasBook>(
+    office: &Office<O>,
+    session: &mut Session<O>,
     whose: u16,
     list: &mut Vec<u16>,
 ) -> Result<Option<u64>, NoMemory>
     requires ours { IsSessionOf office.now session.old }
     ensures ours { IsSessionOf office.now session.new }
-    ensures looked { (seen : _) → result ≡ Ok (Some seen) → HasLooked session.old session.new }
-    ensures length { (seen : _) → result ≡ Ok (Some seen) → seen ≡ length session.new.front }
-    ensures found { (seen : _) → result ≡ Ok (Some seen) → list.new.items ≡ blockers_among office.now.sessions (state_of session.new.front).table whose }
+    ensures looked { (seen : _) → result ≡ Ok (Some seen) → HasLooked O.Sequential session.old session.new }
+    ensures length { (seen : _) → result ≡ Ok (Some seen) → seen ≡ length (O.calls session.new.front) }
+    ensures found { (seen : _) → result ≡ Ok (Some seen) → list.new.items ≡ blockers_among office.now.sessions (state_of (O.calls session.new.front)).table whose }
     ensures none { result ≡ Ok None → (session.new ≡ session.old) × (list.new.items ≡ list.old.items) × (1 < office.now.sessions) }
     ensures err { IfErr result (λ _. (session.new ≡ session.old) × (list.new.items ≡ list.old.items)) }
     ensures calls { IfOk result (λ _. HasCallsOf session.new.front session.new) }
@@ -188,8 +205,8 @@ pub fn blockers(
     let Some(load) = office.look(session) else {
         return Ok(None);
     };
-    list_blockers(&load.object, sessions, whose, list);
-    let length = office.end_look(session, load);
+    list_blockers(load.object.book(), sessions, whose, list);
+    let length = end_look(office, session, load);
     Ok(Some(length))
 }
 
@@ -198,26 +215,26 @@ pub fn blockers(
 ///
 /// While it lists them, no other session can become the combiner: its cost is that of `Book::locks`. `Ok(None)` and
 /// `NoMemory` are as with `holders`.
-pub fn locks(
-    office: &Office,
+pub fn locks<O: HasBook>(
+    office: &Office<O>,
     alloc: Global,
-    session: &mut Session,
+    session: &mut Session<O>,
     list: &mut Vec<Claim>,
 ) -> Result<Option<u64>, NoMemory>
     requires ours { IsSessionOf office.now session.old }
     ensures ours { IsSessionOf office.now session.new }
-    ensures looked { (seen : _) → result ≡ Ok (Some seen) → HasLooked session.old session.new }
-    ensures length { (seen : _) → result ≡ Ok (Some seen) → seen ≡ length session.new.front }
-    ensures found { (seen : _) → result ≡ Ok (Some seen) → list.new.items ≡ listing_of (state_of session.new.front) }
+    ensures looked { (seen : _) → result ≡ Ok (Some seen) → HasLooked O.Sequential session.old session.new }
+    ensures length { (seen : _) → result ≡ Ok (Some seen) → seen ≡ length (O.calls session.new.front) }
+    ensures found { (seen : _) → result ≡ Ok (Some seen) → list.new.items ≡ listing_of (state_of (O.calls session.new.front)) }
     ensures none { result ≡ Ok None → (session.new ≡ session.old) × (list.new.items ≡ list.old.items) × (1 < office.now.sessions) }
-    ensures err { IfErr result (λ _. HasLooked session.old session.new × (list.new.items ≡ list.old.items)) }
+    ensures err { IfErr result (λ _. HasLooked O.Sequential session.old session.new × (list.new.items ≡ list.old.items)) }
     ensures calls { HasCallsOf session.new.front session.new }
 {
     let Some(load) = office.look(session) else {
         return Ok(None);
     };
-    let listed = load.object.locks(alloc, list);
-    let length = office.end_look(session, load);
+    let listed = load.object.book().locks(alloc, list);
+    let length = end_look(office, session, load);
     match listed {
         Ok(()) => Ok(Some(length)),
         Err(refused) => Err(refused),

@@ -1,5 +1,5 @@
 -- A text is written piece by piece, a piece for each item of a list.
-use Rattle.std.proofs.Common.{◌≡◌, ℕ, ◌+◌, ◌<◌, List, [], ◌∷◌, ◌++◌, take, take-suc, get_or, length, ap, sym, ◌∙◌, add-one}
+use Rattle.std.proofs.Common.{◌≡◌, ℕ, ◌+◌, ◌<◌, List, [], ◌∷◌, ◌++◌, take, take-suc, get_or, length, ap, sym, ◌∙◌, append_assoc, add-one}
 use Rattle.std.specs.List.{flat_map}
 use Rattle.std.proofs.lemmas.List.{flat_map_more}
 
@@ -16,3 +16,7 @@ pub next_piece : {X : Type 0} (f : X → List ℕ) (xs : List X) (i : ℕ) (d : 
     → out2 ≡ start ++ flat_map f (take (i + 1) xs)
 next_piece {X} f xs i d start out out2 lt so_far more =
     more ∙ ap (λ (t : List ℕ). t ++ f (get_or xs i d)) so_far ∙ flat_map_more f start (take i xs) (get_or xs i d) ∙ ap (λ (ys : List X). start ++ flat_map f ys) (sym (take_more xs i d lt))
+
+-- After one part more, the text so far has both.
+pub next_part : (start a b mid out : List ℕ) → mid ≡ start ++ a → out ≡ mid ++ b → out ≡ start ++ (a ++ b)
+next_part start a b mid out so_far more = more ∙ ap (λ (t : List ℕ). t ++ b) so_far ∙ append_assoc start a b

@@ -4,27 +4,18 @@ use Rattle.std.specs.List.{flat_map}
 use Rattle.lock_modes.specs.Codes.{name_of}
 use Rattle.lock_tree.specs.Paths.{same_path}
 use Rattle.lock_tree.specs.Text.{text_of}
-use Rattle.lock_rules.specs.declared.calls.Transaction.{Transaction}
 use Rattle.lock_rules.specs.declared.listing.Claim.{Claim}
 use Rattle.lock_rules.specs.declared.listing.ClaimKind.{ClaimKind}
 use Rattle.lock_rules.specs.declared.listing.ClaimKind.TheVariants.{Held, Conversion, Fresh}
 use Rattle.lock_report.specs.declared.snapshot.OpenTransaction.{OpenTransaction}
-use Rattle.lock_report.specs.declared.snapshot.Wait.{Wait}
+use Rattle.lock_report.specs.declared.snapshot.Root.{Root}
+use Rattle.lock_report.specs.declared.snapshot.ToldWait.{ToldWait}
+use Rattle.lock_report.specs.JamText.{session_heading, lines_of_jam, line_of_wait}
 
 -- the text of a section, or the line `none` if the section has nothing to show
 abbrev pub text_or_none : {X : Type 0} → List X → List ℕ → List ℕ
 text_or_none [] text = codes "none\n"
 text_or_none (x ∷ xs) text = text
-
--- the mark of a deadlock victim, at the end of a line
-abbrev pub victim_mark : Transaction → List ℕ
-victim_mark t = if t.doomed then codes ", victim" else []
-
--- the first line of a session: its number and its transaction
-abbrev pub session_heading : OpenTransaction → List ℕ
-session_heading o =
-    codes "session " ++ decimal o.session ++ codes ", transaction " ++ decimal o.transaction.number
-    ++ victim_mark o.transaction ++ codes "\n"
 
 -- what a session does with a resource, below the session
 abbrev pub session_verb : ClaimKind → List ℕ
@@ -78,10 +69,6 @@ abbrev pub resource_lines : Option (List ℕ) → List Claim → List ℕ
 resource_lines last [] = []
 resource_lines last (c ∷ cs) = resource_heading last c.resource ++ line_of_resource c ++ resource_lines (Some c.resource) cs
 
--- the line of a wait
-abbrev pub line_of_wait : Wait → List ℕ
-line_of_wait w = codes "session " ++ decimal w.session ++ codes " waits for session " ++ decimal w.other ++ codes "\n"
-
 -- the section of the open transactions, each with its claims
 abbrev pub transactions_section : List OpenTransaction → List Claim → List ℕ
 transactions_section opens claims = text_or_none opens (flat_map (session_lines claims) opens)
@@ -91,13 +78,15 @@ abbrev pub resources_section : List Claim → List ℕ
 resources_section claims = text_or_none claims (resource_lines None claims)
 
 -- the section of the waits
-abbrev pub waits_section : List Wait → List ℕ
+abbrev pub waits_section : List ToldWait → List ℕ
 waits_section waits = text_or_none waits (flat_map line_of_wait waits)
 
--- the state in front of a place of the history: the open transactions, the claims in the order of a listing, and the waits
-abbrev pub text_of_state : ℕ → List OpenTransaction → List Claim → List Wait → List ℕ
-text_of_state place opens claims waits =
+-- the state in front of a place of the history: the jam, the open transactions, the claims in the order of a listing, and the
+-- waits
+abbrev pub text_of_state : ℕ → ℕ → List Root → List OpenTransaction → List Claim → List ToldWait → List ℕ
+text_of_state place waiting roots opens claims waits =
     codes "state in front of place " ++ decimal place
-    ++ codes "\n\ntransactions\n" ++ transactions_section opens claims
+    ++ codes "\n\njam\n" ++ lines_of_jam waiting roots opens
+    ++ codes "\ntransactions\n" ++ transactions_section opens claims
     ++ codes "\nresources\n" ++ resources_section claims
     ++ codes "\nwaits\n" ++ waits_section waits

@@ -1,8 +1,8 @@
 //! The state of a lock table as text: for people, as CSV rows, and the waits-for graph for Graphviz.
 //!
-//! `text.rt` writes the text for people, `rows.rt` the rows, `dot.rt` the graph. `snapshot.rt` has the open
-//! transactions and the waits that a report shows beside the claims of a listing, `by_session.rt` sorts the claims by
-//! session.
+//! `text.rt` writes the text for people, `rows.rt` the rows, `dot.rt` the graph. `jam.rt` the parts of
+//! the text that tell who blocks whom. `snapshot.rt` has the open transactions, the waits and the roots that a report
+//! shows beside the claims of a listing, `by_session.rt` sorts the claims by session.
 //!
 //! A report is written from lists that the caller took from a lock table, one line or row for each item, in the order
 //! given. The text for people also has the claims of each transaction, found in the sorted copy.
@@ -14,12 +14,13 @@
 
 mod by_session;
 mod dot;
+mod jam;
 mod rows;
 mod snapshot;
 mod text;
 
 pub use dot::waits_dot;
 pub use rows::state_rows;
-pub use snapshot::{OpenTransaction, Wait};
+pub use snapshot::{OpenTransaction, Root, ToldWait, Wait};
 pub use std::alloc::AllocError as NoMemory;
 pub use text::state_text;

@@ -1,4 +1,4 @@
-//! What a report shows beside the claims of a listing: the open transactions and the waits.
+//! What a report shows beside the claims of a listing: the open transactions, the waits, and who blocks them.
 
 use lock_rules::Transaction;
 
@@ -18,4 +18,24 @@ pub struct Wait {
     pub session: u16,
     /// The session that it waits for.
     pub other: u16,
+}
+
+/// A session that waits for none, and for which others wait.
+#[derive(Clone, Copy, Debug, PartialEq, Eq, Hash)]
+pub struct Root {
+    /// The session, with its open transaction.
+    pub begun: OpenTransaction,
+    /// How many sessions wait for it, directly or through others.
+    pub blocks: u64,
+    /// How many waiting requests its abort would grant.
+    pub grants: u64,
+}
+
+/// An edge of the waits-for graph, as the text for people tells it.
+#[derive(Clone, Copy, Debug, PartialEq, Eq, Hash)]
+pub struct ToldWait {
+    /// The wait.
+    pub wait: Wait,
+    /// If the other session is the first blocker of the one that waits, the place of the call since which it waits.
+    pub since: Option<u64>,
 }

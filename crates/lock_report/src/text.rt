@@ -2,35 +2,19 @@
 
 ghost use Rattle.std.specs.Prelude.{◌≡◌, ◌++◌, IfOk, OnOk, None, string_bytes};
 ghost use Rattle.std.specs.List.{flat_map};
-ghost use Rattle.lock_report.specs.StateText.{victim_mark, session_heading, session_verb, resource_verb, mode_word, line_of_session, session_lines, line_of_resource, is_last, resource_heading, resource_lines, line_of_wait, transactions_section, resources_section, waits_section, text_of_state};
+ghost use Rattle.lock_report.specs.StateText.{session_verb, resource_verb, mode_word, line_of_session, session_lines, line_of_resource, is_last, resource_heading, resource_lines, transactions_section, resources_section, waits_section, text_of_state};
 ghost use Rattle.lock_report.specs.inner.BySession.{Ascends};
 
 use crate::by_session::{claims_by_session, claims_of_session};
-use crate::snapshot::{OpenTransaction, Wait};
-use lock_rules::{Claim, ClaimKind, Transaction};
+use crate::jam::{put_jam, put_lines_of_waits, put_session_heading};
+use crate::snapshot::{OpenTransaction, Root, ToldWait};
+use lock_rules::{Claim, ClaimKind};
 use lock_tree::{Resource, same_path_is_equality};
 use std::alloc::{AllocError as NoMemory, Global};
 use std::fmt::Write;
 
 /// The line of a section that has nothing to show.
 const NOTHING: &str = "none\n";
-
-/// The mark of a deadlock victim.
-fn victim_text(transaction: Transaction) -> &'static str
-    ensures { result.now ≡ victim_mark transaction }
-{
-    if transaction.doomed { ", victim" } else { "" }
-}
-
-/// Writes the first line of a session.
-fn put_session_heading(out: &mut String, begun: &OpenTransaction) -> Result<(), NoMemory>
-    ensures { OnOk result (string_bytes out.new ≡ string_bytes out.old ++ session_heading begun.now) }
-{
-    let session = begun.session;
-    let number = begun.transaction.number;
-    let victim = victim_text(begun.transaction);
-    writeln!(out, "session {session}, transaction {number}{victim}")
-}
 
 /// What a session does with a resource, below the session.
 fn session_verb(kind: ClaimKind) -> &'static str
@@ -121,29 +105,8 @@ fn put_resource_heading(
     writeln!(out, "{resource}")
 }
 
-/// Writes the line of a wait.
-fn put_line_of_wait(out: &mut String, wait: &Wait) -> Result<(), NoMemory>
-    ensures { OnOk result (string_bytes out.new ≡ string_bytes out.old ++ line_of_wait wait.now) }
-{
-    writeln!(
-        out,
-        "session {} waits for session {}",
-        wait.session, wait.other
-    )
-}
-
-/// Writes the lines of the waits.
-fn put_lines_of_waits(out: &mut String, waits: &[Wait]) -> Result<(), NoMemory>
-    ensures { OnOk result (string_bytes out.new ≡ string_bytes out.old ++ flat_map line_of_wait waits.now) }
-{
-    for wait in waits {
-        put_line_of_wait(out, wait)?;
-    }
-    Ok(())
-}
-
 /// Writes the section of the waits.
-fn put_waits(out: &mut String, waits: &[Wait]) -> Result<(), NoMemory>
+fn put_waits(out: &mut String, waits: &[ToldWait]) -> Result<(), NoMemory>
     ensures { OnOk result (string_bytes out.new ≡ string_bytes out.old ++ waits_section waits.now) }
 {
     if waits.is_empty() {
@@ -215,20 +178,24 @@ fn put_transactions(
     put_sessions(out, &sorted, opens)
 }
 
-/// The state of a lock table as text for people, in front of the entry at index `place` of its history: each open
-/// transaction with its claims, then each resource with its claims, and then the waits. `claims` has the order of a
-/// listing: resource by resource. Fails only with `NoMemory`.
+/// The state of a lock table as text for people, in front of the entry at index `place` of its history: how many sessions
+/// wait, the roots and the victims, then each open transaction with its claims, then each resource with its claims, and then
+/// the waits. `claims` has the order of a listing: resource by resource. Fails only with `NoMemory`.
 pub fn state_text(
     alloc: Global,
     place: u64,
+    waiting: u64,
+    roots: &[Root],
     opens: &[OpenTransaction],
     claims: &[Claim],
-    waits: &[Wait],
+    waits: &[ToldWait],
 ) -> Result<String, NoMemory>
-    ensures { IfOk result (λ text. string_bytes text ≡ text_of_state place opens.now claims.now waits.now) }
+    ensures { IfOk result (λ text. string_bytes text ≡ text_of_state place waiting roots.now opens.now claims.now waits.now) }
 {
     let mut out = String::new(alloc);
-    writeln!(out, "state in front of place {place}\n\ntransactions")?;
+    writeln!(out, "state in front of place {place}\n\njam")?;
+    put_jam(&mut out, waiting, roots, opens)?;
+    out.push_str("\ntransactions\n")?;
     put_transactions(alloc, &mut out, opens, claims)?;
     out.push_str("\nresources\n")?;
     put_resources(&mut out, claims)?;

@@ -4,6 +4,7 @@ pub mod HeldValues
 pub mod Writing
 pub mod Handles
 pub mod Batches
+pub mod Programs
 pub mod Starved
 pub mod Blockers
 pub mod SameOffice

@@ -1,5 +1,5 @@
 -- Writing numbers to an array, one element at a time.
-use Rattle.std.proofs.Common.{◌≡◌, ℕ, zero, suc, ◌<◌, List, [], ◌∷◌, length, get_or, set, refl, ap, arith}
+use Rattle.std.proofs.Common.{◌≡◌, ℕ, zero, suc, ◌<◌, List, [], ◌∷◌, length, get_or, set, Some, slice_get, refl, sym, ap, arith}
 use Rattle.pelgaisti_c.specs.Calls.{written}
 
 -- writing the element at index k makes the written part one element longer
@@ -10,3 +10,11 @@ next_written numbers k (x ∷ xs) [] d h l = absurd (omega (arith, l))
 next_written numbers zero (x ∷ xs) (y ∷ ys) d h l = refl
 next_written numbers (suc k) (x ∷ xs) (y ∷ ys) d h l =
     ap (λ rest. numbers x ∷ rest) (next_written numbers k xs ys d (omega (arith, h)) (omega (arith, l)))
+
+-- the same, of an element that is read from a list in the contracts
+pub next_told : {X Y : Type 0} (numbers : X → Y) (k : ℕ) (items : List X) (places : List Y) (x : X) → slice_get items k ≡ Some x → k < length places
+    → set (written numbers k items places) k (numbers x) ≡ written numbers (suc k) items places
+next_told numbers k [] places x h l = absurd (cc)
+next_told numbers k (y ∷ xs) [] x h l = absurd (omega (arith, l))
+next_told numbers zero (y ∷ xs) (z ∷ ys) x h l = let e : y ≡ x = cc in ap (λ v. numbers v ∷ ys) (sym e)
+next_told numbers (suc k) (y ∷ xs) (z ∷ ys) x h l = ap (λ rest. numbers y ∷ rest) (next_told numbers k xs ys x h (omega (arith, l)))

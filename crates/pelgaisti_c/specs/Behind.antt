@@ -18,6 +18,10 @@ use Rattle.pelgaisti_c.specs.declared.claims.ClaimNumbers.{ClaimNumbers}
 use Rattle.pelgaisti_c.specs.contracts.claims.ClaimNumbers.{the_row as claim_row}
 use Rattle.pelgaisti_c.specs.declared.numbers.PassNumbers.{PassNumbers}
 use Rattle.pelgaisti_c.specs.contracts.numbers.PassNumbers.{the_row as pass_row}
+use Rattle.pelgaisti_c.specs.declared.program_numbers.ProgramNumbers.{ProgramNumbers}
+use Rattle.pelgaisti_c.specs.contracts.program_numbers.ProgramNumbers.{the_row as program_row}
+use Rattle.pelgaisti_c.specs.declared.program_numbers.ProgramAnswerNumbers.{ProgramAnswerNumbers}
+use Rattle.pelgaisti_c.specs.contracts.program_numbers.ProgramAnswerNumbers.{the_row as program_answer_row}
 use Rattle.pelgaisti_c.specs.declared.numbers.ReplyNumbers.{ReplyNumbers}
 use Rattle.pelgaisti_c.specs.contracts.numbers.ReplyNumbers.{the_row as reply_row}
 use Rattle.pelgaisti_c.specs.declared.claims.TransactionNumbers.{TransactionNumbers}
@@ -70,6 +74,9 @@ claim_behind = maybe_at claim_row
 abbrev pub pass_behind : Ptr → PassNumbers → Fml
 pass_behind = maybe_at pass_row
 
+abbrev pub program_answer_behind : Ptr → ProgramAnswerNumbers → Fml
+program_answer_behind = maybe_at program_answer_row
+
 abbrev pub reply_behind : Ptr → ReplyNumbers → Fml
 reply_behind = maybe_at reply_row
 
@@ -87,6 +94,9 @@ u64_behind = maybe_at u64
 
 abbrev pub call_shared : Ptr → CallNumbers → Fml
 call_shared = maybe_shared call_row
+
+abbrev pub program_shared : Ptr → ProgramNumbers → Fml
+program_shared = maybe_shared program_row
 
 abbrev pub resource_shared : Ptr → ResourceNumbers → Fml
 resource_shared = maybe_shared resource_row
@@ -122,6 +132,9 @@ claim_coded = claim_row.coded
 abbrev pub pass_coded : Coded PassNumbers
 pass_coded = pass_row.coded
 
+abbrev pub program_answer_coded : Coded ProgramAnswerNumbers
+program_answer_coded = program_answer_row.coded
+
 abbrev pub reply_coded : Coded ReplyNumbers
 reply_coded = reply_row.coded
 
@@ -145,6 +158,9 @@ sessions_coded = coded_list u32.coded
 
 abbrev pub call_coded : Coded CallNumbers
 call_coded = call_row.coded
+
+abbrev pub program_coded : Coded ProgramNumbers
+program_coded = program_row.coded
 
 abbrev pub resource_coded : Coded ResourceNumbers
 resource_coded = resource_row.coded

@@ -4,6 +4,7 @@ pub mod Paths
 pub mod Calls
 pub mod Claims
 pub mod Batches
+pub mod Programs
 pub mod Sessions
 pub mod Turns
 pub mod PathTurns

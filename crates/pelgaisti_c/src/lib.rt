@@ -1,10 +1,11 @@
 //! The lock manager for C: exports over books and over the sessions of offices, which C holds by handles in its own
 //! memory.
 //!
-//! Exports: `book.rt`, `listing_exports.rt`, `path_exports.rt`, `path_step_exports.rt`, `office.rt`, `session.rt`, `turn_exports.rt`,
-//! `path_turn_exports.rt`, `query_exports.rt`, `close_exports.rt`, `version.rt`. What they do, on what a handle holds: `book_calls.rt`,
-//! `batch.rt`, `listing.rt`, `path_calls.rt`, `session_calls.rt`, `turn_calls.rt`, `path_turn_calls.rt`, `queries.rt`, `hand_in.rt`. Numbers
-//! of C's structs: `numbers.rt`, `claims.rt`, `status.rt`. Handles: `book_handle.rt`, `session_handle.rt`, and what is in them.
+//! Exports: `book.rt`, `listing_exports.rt`, `path_exports.rt`, `path_step_exports.rt`, `program_exports.rt`, `office.rt`, `session.rt`,
+//! `turn_exports.rt`, `path_turn_exports.rt`, `query_exports.rt`, `close_exports.rt`, `version.rt`. What they do, on what a handle holds:
+//! `book_calls.rt`, `batch.rt`, `listing.rt`, `path_calls.rt`, `program_calls.rt`, `session_calls.rt`, `turn_calls.rt`,
+//! `path_turn_calls.rt`, `queries.rt`, `hand_in.rt`. Numbers of C's structs: `numbers.rt`, `program_numbers.rt`, `claims.rt`, `status.rt`.
+//! Handles: `book_handle.rt`, `session_handle.rt`, and what is in them.
 //!
 //! An export tests the caller's pointers for null, which C gives by their addresses (`pointers/`), takes the value out of the handle, makes
 //! one call of `lock_desk`, `combining` or `lock_office`, writes the reply in numbers, puts the value back, and returns a status. Of what it
@@ -36,6 +37,9 @@ mod path_step_exports;
 mod path_turn_calls;
 mod path_turn_exports;
 mod pointers;
+mod program_calls;
+mod program_exports;
+mod program_numbers;
 mod queries;
 mod query_exports;
 mod raw_box;
@@ -56,8 +60,9 @@ pub use numbers::{
 };
 pub use pointers::{
     AnswerPointer, BookPointer, CallPointer, ClaimList, ClaimPointer, EntryList, HandleList,
-    HolderList, PassPointer, ReplyPointer, ResourcePointer, SessionList, SessionPointer,
-    SizePointer, TransactionPointer, U32Pointer, U64Pointer,
+    HolderList, PassPointer, ProgramAnswerPointer, ProgramPointer, ReplyPointer, ResourcePointer,
+    SessionList, SessionPointer, SizePointer, TransactionPointer, U32Pointer, U64Pointer,
 };
+pub use program_numbers::{ProgramAnswerNumbers, ProgramNumbers};
 pub use session_handle::SessionHandle;
 pub use version::HEADER_VERSION;

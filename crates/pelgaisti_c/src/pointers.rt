@@ -13,8 +13,11 @@ mod integers;
 mod lists;
 mod structs;
 
-pub use constants::{CallPointer, ResourcePointer};
+pub use constants::{CallPointer, ProgramPointer, ResourcePointer};
 pub use handles::{BookPointer, SessionPointer};
 pub use integers::{SizePointer, U32Pointer, U64Pointer};
 pub use lists::{ClaimList, EntryList, HandleList, HolderList, SessionList};
-pub use structs::{AnswerPointer, ClaimPointer, PassPointer, ReplyPointer, TransactionPointer};
+pub use structs::{
+    AnswerPointer, ClaimPointer, PassPointer, ProgramAnswerPointer, ReplyPointer,
+    TransactionPointer,
+};

@@ -62,3 +62,12 @@ pub const LET_GO: u32 = 19;
 
 /// The array has room for fewer sessions than the office has.
 pub const NO_ROOM: u32 = 20;
+
+/// A program begins with nothing that has this number.
+pub const NO_SUCH_START: u32 = 21;
+
+/// The level from which a program's path is to be locked isn't one of the path.
+pub const NOT_ON_PATH: u32 = 22;
+
+/// No mode has the code that a program has for the ancestors.
+pub const NO_SUCH_ABOVE: u32 = 23;

@@ -1,6 +1,6 @@
 //! Programs of additions: those of a counter, which replies with the sum before.
 
-use crate::asking::{ask, ask_all, ask_on, item};
+use crate::asking::{ask, ask_all, ask_on, item, run_program};
 use counter_programs::{ADDS, AddsCounter, BLOCK};
 use programs::{CallList, Continuing, Programs, ReplyList, serve_each_on};
 use sequential::{Fresh, Sequential, Serving, are_within};
@@ -80,5 +80,17 @@ fn batches_of_programs_are_answered(rt: HostRuntime) -> Result<(), Fail> {
     let mut counter = Programs::fresh(rt.alloc(), 2)?;
     let mut adder = AddsCounter::fresh(rt.alloc(), 2)?;
     want_batches(&rt, &mut counter, &mut adder);
+    Ok(())
+}
+
+/// A program that is run on the counter itself, and the counter that an object of programs gives back.
+#[test]
+fn programs_run_without_an_object_of_programs(rt: HostRuntime) -> Result<(), Fail> {
+    let mut counter = Programs::<AddsCounter>::fresh(rt.alloc(), 2)?;
+    want_replies(&rt, ask(&mut counter, 2, adds(2, 30)), 0, &[0, 30]);
+    let mut adder = counter.into_object();
+    assert_eq!(rt; adder.served(), 2);
+    want_replies(&rt, run_program(&mut adder, 1, &adds(3, 3)), 2, &[60, 63]);
+    assert_eq!(rt; adder.served(), 4);
     Ok(())
 }

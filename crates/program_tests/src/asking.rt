@@ -1,6 +1,6 @@
 //! Programs for an object, if their sessions are the object's.
 
-use programs::Continuing;
+use programs::{Continuing, Programmed, run};
 use sequential::{Batching, Item, Serving, are_within};
 
 /// A program of a batch that isn't served yet.
@@ -41,4 +41,16 @@ pub(crate) fn ask_all<O: Batching>(
         return None;
     }
     Some(object.serve_batch(items))
+}
+
+/// Runs a program on the object that serves its calls. `None` as of `ask`.
+pub(crate) fn run_program<O: Programmed>(
+    object: &mut O,
+    session: u16,
+    program: &O::Program,
+) -> Option<O::Answer> {
+    if session < 1 || object.sessions() < session {
+        return None;
+    }
+    run(object, session, program).ok()
 }

@@ -2,7 +2,7 @@
 use Rattle.std.proofs.Common.{◌≡◌, inl, inr, ℕ, zero, suc, ◌+◌, ◌<◌, ◌≤◌, Bool, List, [], ◌∷◌, ◌++◌, length, Some, slice_get, refl, ap, subst, ◌∙◌, arith}
 use Rattle.sequential.specs.declared.entry.Entry.{Entry}
 use Rattle.programs.specs.Form.{Form}
-use Rattle.programs.specs.Flat.{entry, entries, entries_of, flat, IsRun, AreRun}
+use Rattle.programs.specs.Flat.{entry, entries, entries_of, flat, IsRun, IsAnswer, AreRun}
 use Rattle.programs.specs.Laws.{served, IsPlaced}
 
 -- an item of the first of two lists
@@ -53,7 +53,7 @@ module _ {P A C R : Type 0} (form : Form P A C R) where
   pub record IsAt (place : ℕ) (h : List (Entry P A)) (e : Entry P A) : Type 0 where
     pub behind : ℕ
     pub first : form.first e.reply ≡ place + behind
-    pub run : IsRun form (form.calls e.call) (form.replies e.call e.reply) (form.refused e.reply)
+    pub run : IsAnswer form e.call e.reply
     pub calls : (k : ℕ) → k < served form e → (c : C) × (r : R) × (slice_get (form.calls e.call) k ≡ Some c) × (slice_get (form.replies e.call e.reply) k ≡ Some r) × (slice_get (flat form h) (behind + k) ≡ Some (entry e.session c r))
 
   -- the first program of a history
@@ -63,7 +63,7 @@ module _ {P A C R : Type 0} (form : Form P A C R) where
     first = omega (arith, h.0);
     run = h.1;
     calls = λ (k : ℕ) (l : k < served form e).
-        let n : length (form.replies e.call e.reply) ≤ length (form.calls e.call) = run-few (form.calls e.call) (form.replies e.call e.reply) (form.refused e.reply) h.1 in
+        let n : length (form.replies e.call e.reply) ≤ length (form.calls e.call) = run-few (form.calls e.call) (form.replies e.call e.reply) (form.refused e.reply) h.1.0 in
         let f : IsEntryAt e.session (form.calls e.call) (form.replies e.call e.reply) (entries_of form e) k = entries-at e.session (form.calls e.call) (form.replies e.call e.reply) k n l in
         let z : 0 + k ≡ k = omega arith in
         (f.call, f.reply, f.of_calls, f.of_replies, ap (slice_get (flat form (e ∷ es))) z ∙ get-left (entries_of form e) (flat form es) k (entry e.session f.call f.reply) f.of_entries);
@@ -107,5 +107,5 @@ module _ {P A C R : Type 0} (form : Form P A C R) where
   ordered place (x ∷ xs) zero (suc j) e f a l g k =
       let q : x ≡ e = cc in
       let p : IsAt (place + length (entries_of form x)) xs f = at-place (place + length (entries_of form x)) xs j f a.2 k in
-      subst (λ (y : Entry P A). form.first y.reply + served form y ≤ form.first f.reply) q (omega (arith, a.0, p.first, entries_of-length x a.1))
+      subst (λ (y : Entry P A). form.first y.reply + served form y ≤ form.first f.reply) q (omega (arith, a.0, p.first, entries_of-length x a.1.0))
   ordered place (x ∷ xs) (suc i) (suc j) e f a l g k = ordered (place + length (entries_of form x)) xs i j e f a.2 (omega (arith, l)) g k

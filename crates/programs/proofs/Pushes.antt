@@ -11,7 +11,7 @@ use Rattle.programs.specs.Fronts.{flat-append}
 use Rattle.programs.specs.Determined.{flat-push}
 use Rattle.programs.specs.Total.{legal-push}
 use Rattle.programs.specs.Views.{ProgramsView, place_of}
-use Rattle.programs.specs.inner.Running.{HasRun}
+use Rattle.programs.specs.Runs.{HasRun}
 
 -- no fewer items
 pub longer-push : {T : Type 0} (n : ℕ) (xs ys : List T) (x : T) → ys ≡ xs ++ x ∷ [] → n ≤ length xs → n ≤ length ys

@@ -3,7 +3,8 @@ use Rattle.std.proofs.Common.{◌≡◌, inl, inr, ℕ, ◌+◌, ◌<◌, Bool, 
 use Rattle.sequential.specs.declared.entry.Entry.{Entry}
 use Rattle.programs.specs.Form.{Form, AllGoOn}
 use Rattle.programs.specs.Flat.{entry, entries, IsRun}
-use Rattle.programs.specs.inner.Running.{HasRun, HasBegun, IsRunning}
+use Rattle.programs.specs.Runs.{HasRun}
+use Rattle.programs.specs.inner.Running.{HasBegun, IsRunning}
 
 -- one more reply is one more entry
 pub entries-push : {C R : Type 0} (s : ℕ) (cs : List C) (rs : List R) (c : C) (r : R) → slice_get cs (length rs) ≡ Some c → entries s cs (rs ++ r ∷ []) ≡ entries s cs rs ++ entry s c r ∷ []
@@ -94,20 +95,26 @@ module _ {P A C R : Type 0} (form : Form P A C R) where
   run-at-stop s p old new newer a b at c r h l g e f i j k = record {
     first = i ∙ h.first;
     history = longer s p old new newer a b at c r h g e f;
-    run = as_run (form.replies p b) (form.refused b) f (j ∙ h.refused) (run-stopped (form.calls p) (form.replies p a) r h.going (omega (arith, h.count, l)) k);
+    run = (
+      as_run (form.replies p b) (form.refused b) f (j ∙ h.refused) (run-stopped (form.calls p) (form.replies p a) r h.going (omega (arith, h.count, l)) k),
+      λ x. absurd (let y = j in let z = h.refused in cc),
+    );
   }
     where
       as_run : (rs : List R) (x : Bool) → rs ≡ form.replies p a ++ r ∷ [] → x ≡ false → IsRun form (form.calls p) (form.replies p a ++ r ∷ []) false → IsRun form (form.calls p) rs x
       as_run rs x u v w = subst (λ (q : List R). IsRun form (form.calls p) q x) (sym u) (subst (IsRun form (form.calls p) (form.replies p a ++ r ∷ [])) (sym v) w)
 
   -- memory was refused to the next call
-  pub run-at-cut : (s : ℕ) (p : P) (old new newer : List (Entry C R)) (a b : A) (at : ℕ) → IsRunning form s p old new a at → at < length (form.calls p)
+  pub run-at-cut : (s : ℕ) (p : P) (old new newer : List (Entry C R)) (a b : A) (at : ℕ) → IsRunning form s p old new a at → 0 < at → at < length (form.calls p)
       → newer ≡ new → form.replies p b ≡ form.replies p a → form.first b ≡ form.first a → form.refused b ≡ true → HasRun form s p old newer b
-  run-at-cut s p old new newer a b at h l e f i j = record {
+  run-at-cut s p old new newer a b at h some l e f i j = record {
     first = i ∙ h.first;
     history = e ∙ h.history ∙ ap (λ (rs : List R). old ++ entries s (form.calls p) rs) (sym f);
-    run = subst (λ (q : List R). IsRun form (form.calls p) q (form.refused b)) (sym f)
-        (subst (IsRun form (form.calls p) (form.replies p a)) (sym j) (run-cut (form.calls p) (form.replies p a) h.going (omega (arith, h.count, l))));
+    run = (
+      subst (λ (q : List R). IsRun form (form.calls p) q (form.refused b)) (sym f)
+          (subst (IsRun form (form.calls p) (form.replies p a)) (sym j) (run-cut (form.calls p) (form.replies p a) h.going (omega (arith, h.count, l)))),
+      λ x. omega (arith, some, h.count, ap (λ (q : List R). length q) f),
+    );
   }
 
   -- all calls were served
@@ -115,7 +122,10 @@ module _ {P A C R : Type 0} (form : Form P A C R) where
   run-at-end s p old new a at h n = record {
     first = h.first;
     history = h.history;
-    run = subst (IsRun form (form.calls p) (form.replies p a)) (sym h.refused) (run-whole (form.calls p) (form.replies p a) h.going (h.count ∙ n));
+    run = (
+      subst (IsRun form (form.calls p) (form.replies p a)) (sym h.refused) (run-whole (form.calls p) (form.replies p a) h.going (h.count ∙ n)),
+      λ x. absurd (let y = h.refused in cc),
+    );
   }
 
   -- a program of no calls

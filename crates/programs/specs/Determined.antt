@@ -3,7 +3,7 @@ use Rattle.std.specs.Prelude.{◌≡◌, ℕ, ◌+◌, Bool, true, false, List, 
 use Rattle.std.proofs.Common.{inl, inr, length-append, append_assoc, append-nil, sym, ap, subst, ◌∙◌, arith}
 use Rattle.sequential.specs.declared.entry.Entry.{Entry}
 use Rattle.programs.specs.Form.{Form}
-use Rattle.programs.specs.Flat.{entry, entries, entries_of, flat, IsRun, AreRun, IsLegal}
+use Rattle.programs.specs.Flat.{entry, entries, entries_of, flat, IsRun, IsAnswer, AreRun, IsLegal}
 use Rattle.programs.specs.Answers.{RepliesAgree, AnswersAgree, AreSame}
 use Rattle.programs.specs.Fronts.{flat-append}
 
@@ -13,7 +13,7 @@ module _ {P A C R : Type 0} (form : Form P A C R) where
   flat-push h e = flat-append form h (e ∷ []) ∙ ap (λ (l : List (Entry C R)). flat form h ++ l) (append-nil (entries_of form e))
 
   -- The last answer of a history, by what is told of it.
-  pub last-run : (place : ℕ) (h : List (Entry P A)) (e : Entry P A) → AreRun form place (h ++ e ∷ []) → (form.first e.reply ≡ place + length (flat form h)) × IsRun form (form.calls e.call) (form.replies e.call e.reply) (form.refused e.reply)
+  pub last-run : (place : ℕ) (h : List (Entry P A)) (e : Entry P A) → AreRun form place (h ++ e ∷ []) → (form.first e.reply ≡ place + length (flat form h)) × IsAnswer form e.call e.reply
   last-run place [] e r = (omega (arith, r.0), r.1)
   last-run place (x ∷ xs) e r =
       let n = last-run (place + length (entries_of form x)) xs e r.2 in
@@ -65,7 +65,7 @@ module _ {P A C R : Type 0} (form : Form P A C R) (agree : C → R → R → Typ
       let w = last-run form 0 h (entry s p b) m.1 in (
         v.0 ∙ sym w.0,
         run-agree is_legal fronts det s (form.calls p) (form.replies p a) (form.replies p b) (form.refused a) (form.refused b) (flat form h)
-            (subst is_legal (flat-push form h (entry s p a)) l.0) (subst is_legal (flat-push form h (entry s p b)) m.0) v.1 w.1,
+            (subst is_legal (flat-push form h (entry s p a)) l.0) (subst is_legal (flat-push form h (entry s p b)) m.0) v.1.0 w.1.0,
       )
 
   -- If only equal replies agree, those that agree are the same.

@@ -1,5 +1,5 @@
 -- Histories of programs, and the histories of the calls that the programs made.
-use Rattle.std.specs.Prelude.{◌≡◌, ◌⊎◌, ℕ, ◌+◌, Bool, true, false, List, [], ◌∷◌, ◌++◌, length}
+use Rattle.std.specs.Prelude.{◌≡◌, ◌⊎◌, ℕ, ◌+◌, ◌<◌, Bool, true, false, List, [], ◌∷◌, ◌++◌, length}
 use Rattle.sequential.specs.declared.entry.Entry.{Entry}
 use Rattle.sequential.specs.Histories.{Answered}
 use Rattle.programs.specs.Form.{Form}
@@ -44,12 +44,16 @@ module _ {P A C R : Type 0} (form : Form P A C R) where
   IsRun (c ∷ cs) (r ∷ rs) refused =
       ((form.goes_on r ≡ true) × IsRun cs rs refused) ⊎ ((form.goes_on r ≡ false) × (rs ≡ []) × (refused ≡ false))
 
+  -- The program can have this answer: its replies are those to the program. If memory was refused to a call, one before it was
+  -- served: a program whose first call is refused memory has no answer.
+  abbrev pub IsAnswer : P → A → Type 0
+  IsAnswer p a = IsRun (form.calls p) (form.replies p a) (form.refused a) × (form.refused a ≡ true → 0 < length (form.replies p a))
+
   -- Each answer is one that its program can have, and has the place of its first call, if the first program's is this one.
   abbrev pub AreRun : ℕ → List (Entry P A) → Type 0
   AreRun place [] = Unit {0}
   AreRun place (e ∷ es) =
-      (form.first e.reply ≡ place) × IsRun (form.calls e.call) (form.replies e.call e.reply) (form.refused e.reply)
-      × AreRun (place + length (entries_of e)) es
+      (form.first e.reply ≡ place) × IsAnswer e.call e.reply × AreRun (place + length (entries_of e)) es
 
   -- A history of programs is legal: the calls laid end to end are, and each answer tells of its program's.
   abbrev pub IsLegal : (List (Entry C R) → Type 0) → List (Entry P A) → Type 0

@@ -32,9 +32,9 @@ module _ {P A C R : Type 0} (form : Form P A C R) where
       served e < length (form.calls e.call)
       → (form.refused e.reply ≡ true) ⊎ ((k : ℕ) × (r : R) × (k + 1 ≡ served e) × (slice_get (form.replies e.call e.reply) k ≡ Some r) × (form.goes_on r ≡ false))
 
-  -- If memory was refused, calls are left, and the program goes on behind each reply.
+  -- If memory was refused, one call at least was served, calls are left, and the program goes on behind each reply.
   abbrev pub IsCut : Entry P A → Type 0
   IsCut e =
       form.refused e.reply ≡ true
-      → (served e < length (form.calls e.call))
+      → (0 < served e) × (served e < length (form.calls e.call))
       × ((k : ℕ) (r : R) → slice_get (form.replies e.call e.reply) k ≡ Some r → form.goes_on r ≡ true)

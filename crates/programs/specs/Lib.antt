@@ -2,6 +2,7 @@ pub mod Form
 pub mod Flat
 pub mod Answers
 pub mod Ended
+pub mod Runs
 pub mod Fronts
 pub mod Determined
 pub mod Total

@@ -3,21 +3,21 @@ use Rattle.std.specs.Prelude.{◌≡◌, ℕ, zero, suc, ◌+◌, Bool, true, fa
 use Rattle.std.proofs.Common.{inl, inr, length-append, append_assoc, append-nil, refl, sym, subst, arith}
 use Rattle.sequential.specs.declared.entry.Entry.{Entry}
 use Rattle.programs.specs.Form.{Form}
-use Rattle.programs.specs.Flat.{entry, entries, entries_of, flat, IsRun, AreRun, IsLegal}
+use Rattle.programs.specs.Flat.{entry, entries, entries_of, flat, IsRun, IsAnswer, AreRun, IsLegal}
 use Rattle.programs.specs.Answers.{RepliesFit, AreTold}
 use Rattle.programs.specs.Determined.{flat-push}
 
 module _ {P A C R : Type 0} (form : Form P A C R) where
   -- One answer more, which is one that its program can have.
   pub are_run-push : (place : ℕ) (h : List (Entry P A)) (e : Entry P A) → AreRun form place h → form.first e.reply ≡ place + length (flat form h)
-      → IsRun form (form.calls e.call) (form.replies e.call e.reply) (form.refused e.reply) → AreRun form place (h ++ e ∷ [])
+      → IsAnswer form e.call e.reply → AreRun form place (h ++ e ∷ [])
   are_run-push place [] e h f r = (omega (arith, f), r, tt)
   are_run-push place (x ∷ xs) e h f r =
       (h.0, h.1, are_run-push (place + length (entries_of form x)) xs e h.2 (omega (arith, f, length-append (entries_of form x) (flat form xs))) r)
 
   -- One program more, whose calls follow those of a legal history.
   pub legal-push : (is_legal : List (Entry C R) → Type 0) (s : ℕ) (p : P) (a : A) (h : List (Entry P A)) → IsLegal form is_legal h → is_legal (flat form h ++ entries_of form (entry s p a))
-      → form.first a ≡ length (flat form h) → IsRun form (form.calls p) (form.replies p a) (form.refused a) → IsLegal form is_legal (h ++ entry s p a ∷ [])
+      → form.first a ≡ length (flat form h) → IsAnswer form p a → IsLegal form is_legal (h ++ entry s p a ∷ [])
   legal-push is_legal s p a h l n f r =
       let q : form.first a ≡ 0 + length (flat form h) = omega (arith, f) in
       (subst is_legal (sym (flat-push form h (entry s p a))) n, are_run-push 0 h (entry s p a) l.1 q r)
@@ -82,6 +82,8 @@ module _ {P A C R : Type 0} (form : Form P A C R) (is_legal : List (Entry C R) �
         a.0,
         legal-push form is_legal s p a.0 h l
             (subst (λ (rs : List R). is_legal (flat form h ++ entries s (form.calls p) rs)) (sym a.1) r.legal)
-            a.2
-            (subst (λ (rs : List R). IsRun form (form.calls p) rs (form.refused a.0)) (sym a.1) (subst (IsRun form (form.calls p) r.replies) (sym a.3) r.run)),
+            a.2 (
+              subst (λ (rs : List R). IsRun form (form.calls p) rs (form.refused a.0)) (sym a.1) (subst (IsRun form (form.calls p) r.replies) (sym a.3) r.run),
+              λ (e : form.refused a.0 ≡ true). absurd (let f = a.3 in cc),
+            ),
       )

@@ -5,7 +5,7 @@
 //! shares it. Its history, with the programs laid end to end, is the history of the object that serves the calls.
 //!
 //! `continuing.rt` has the trait of an object that tells of several calls at once, `form.rt` that of one whose calls may be made
-//! in programs. `run.rt` runs a program. `programs.rt` has the object whose calls are programs; its folder has what lets go of a
+//! in programs. `run_calls.rt` runs a program. `programs.rt` has the object whose calls are programs; its folder has what lets go of a
 //! history, tells whose waits have ended, and makes an object for a number of sessions, where the object of the calls does.
 //! `counted.rt` has the list of its history, `lists.rt` programs and answers that list calls and replies. `laws.rt` says what
 //! follows of histories.
@@ -19,9 +19,10 @@ mod form;
 pub mod laws;
 mod lists;
 mod programs;
-mod run;
+mod run_calls;
 
 pub use continuing::{Continuing, serve_each_on};
 pub use form::Programmed;
 pub use lists::{CallList, ReplyList};
 pub use programs::Programs;
+pub use run_calls::run;

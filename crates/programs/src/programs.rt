@@ -10,7 +10,7 @@ mod trimming;
 use crate::continuing::{Continuing, serve_each_on};
 use crate::counted::CountedList;
 use crate::form::Programmed;
-use crate::run::{run, run_on};
+use crate::run_calls::{run, run_on};
 use sequential::{Batching, Entry, Item, Sequential, Serving};
 use std::alloc::AllocError as NoMemory;
 use std::marker::Model;

@@ -10,7 +10,7 @@ use Rattle.atomic_table.proofs.Lists.{exchanged, set_here, set_else, at_last}
 use Rattle.sequential.specs.declared.entry.Entry.{Entry}
 use Rattle.sequential.specs.Histories.{Answered, calls_of}
 use Rattle.publication.specs.Words.{word_of, session_of_word, POSTED, BUSY, SERVED}
-use Rattle.publication.specs.List.{belongs, IsLinked, IsRuled, IsBounded}
+use Rattle.publication.specs.List.{belongs, IsLinked, IsBounded}
 use Rattle.publication.specs.Views.{Own, Combiner, IsAccountedIn, entry, answer, asks}
 use Rattle.publication.specs.Rule.{blank, BoardState, word, home, seat, own_at, announced, IsPosted, IsBusy, RecordState, HasObject, IsOpened, IsOrderly}
 use Rattle.publication.specs.Rule.RecordState.{posted, busy, served}

@@ -1,6 +1,6 @@
 //! The rule of the board's table, and the kinds of its atomic steps. Each kind names its definition in
-//! `specs/Kinds.antt`. A `Play` is a step on a word; a `Split` makes a new seat out of one, and a `Join` makes one
-//! seat of two.
+//! `specs/Kinds.antt`, or in `specs/Runs.antt` if it requires something of its word and its seat: then its step tells that
+//! this was met. A `Play` is a step on a word; a `Split` makes a new seat out of one, and a `Join` makes one seat of two.
 use crate::slot::SlotValue;
 use crate::view::View;
 use atomic_table::{Join, Play, Split, TableRule};
@@ -148,9 +148,10 @@ impl<O: Sequential> Play<SlotValue<O>, View<O::Call, O::Reply>> for LookForReply
 pub struct Take;
 
 impl<O: Sequential> Play<SlotValue<O>, View<O::Call, O::Reply>> for Take {
-    ghost use Rattle.publication.specs.Kinds.{takes_reply};
+    ghost use Rattle.publication.specs.Runs.{take_reply};
+    ghost use Rattle.publication.specs.Told.{tells};
 
-    ghost then = { takes_reply O.Sequential };
+    ghost then = { tells O.Sequential take_reply };
 }
 
 /// A session reads the lock word.
@@ -183,17 +184,19 @@ pub struct Seize<K> {
 
 impl<O: Sequential, K: Keeping> Play<SlotValue<O>, View<O::Call, O::Reply>> for Seize<K> {
     ghost use Rattle.publication.specs.Kinds.{seizes_within};
+    ghost use Rattle.publication.specs.Runs.{seize, StepRequires};
 
-    ghost then = { seizes_within O.Sequential K.bound };
+    ghost then = { λ st m found n. seizes_within O.Sequential K.bound st m found n × StepRequires O.Sequential seize st.word m };
 }
 
 /// The combiner frees the lock word.
 pub struct Release;
 
 impl<O: Sequential> Play<SlotValue<O>, View<O::Call, O::Reply>> for Release {
-    ghost use Rattle.publication.specs.Kinds.{releases};
+    ghost use Rattle.publication.specs.Runs.{release};
+    ghost use Rattle.publication.specs.Told.{tells};
 
-    ghost then = { releases };
+    ghost then = { tells O.Sequential release };
 }
 
 /// The combiner reads a record's state word.
@@ -209,45 +212,50 @@ impl<O: Sequential> Play<SlotValue<O>, View<O::Call, O::Reply>> for LookAtRecord
 pub struct Open;
 
 impl<O: Sequential> Play<SlotValue<O>, View<O::Call, O::Reply>> for Open {
-    ghost use Rattle.publication.specs.Kinds.{opens};
+    ghost use Rattle.publication.specs.Runs.{open_record};
+    ghost use Rattle.publication.specs.Told.{tells};
 
-    ghost then = { opens };
+    ghost then = { tells O.Sequential open_record };
 }
 
 /// The combiner lays the slot of an opened record down.
 pub struct Lay;
 
 impl<O: Sequential> Play<SlotValue<O>, View<O::Call, O::Reply>> for Lay {
-    ghost use Rattle.publication.specs.Kinds.{lays};
+    ghost use Rattle.publication.specs.Runs.{lay};
+    ghost use Rattle.publication.specs.Told.{tells};
 
-    ghost then = { lays };
+    ghost then = { tells O.Sequential lay };
 }
 
 /// The combiner takes the slot of an opened record again.
 pub struct Pick;
 
 impl<O: Sequential> Play<SlotValue<O>, View<O::Call, O::Reply>> for Pick {
-    ghost use Rattle.publication.specs.Kinds.{picks};
+    ghost use Rattle.publication.specs.Runs.{pick};
+    ghost use Rattle.publication.specs.Told.{tells};
 
-    ghost then = { picks };
+    ghost then = { tells O.Sequential pick };
 }
 
 /// The combiner answers an opened call.
 pub struct Answer;
 
 impl<O: Sequential> Play<SlotValue<O>, View<O::Call, O::Reply>> for Answer {
-    ghost use Rattle.publication.specs.Kinds.{answers};
+    ghost use Rattle.publication.specs.Runs.{answer_record};
+    ghost use Rattle.publication.specs.Told.{tells};
 
-    ghost then = { answers O.Sequential };
+    ghost then = { tells O.Sequential answer_record };
 }
 
 /// The combiner posts an opened call again.
 pub struct PutBack;
 
 impl<O: Sequential> Play<SlotValue<O>, View<O::Call, O::Reply>> for PutBack {
-    ghost use Rattle.publication.specs.Kinds.{puts_back};
+    ghost use Rattle.publication.specs.Runs.{put_back};
+    ghost use Rattle.publication.specs.Told.{tells};
 
-    ghost then = { puts_back };
+    ghost then = { tells O.Sequential put_back };
 }
 
 /// The call and the reply that a direct entry enters into the history. Both are ghost values, so the step is one load of
@@ -277,9 +285,9 @@ pub struct Enter<E> {
 
 impl<O: Sequential, E: DirectEntry<O::Call, O::Reply>> Play<SlotValue<O>, View<O::Call, O::Reply>>
     for Enter<E> {
-    ghost use Rattle.publication.specs.Kinds.{enters_named};
+    ghost use Rattle.publication.specs.Told.{tells_entry};
 
-    ghost then = { enters_named E.call E.reply };
+    ghost then = { tells_entry O.Sequential E.call E.reply };
 }
 
 /// A copy of what a seat knows is split off it.

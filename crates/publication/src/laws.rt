@@ -64,8 +64,9 @@ pub fn only_answers_and_direct_entries_change_the_history<O: Sequential>()
 {}
 
 /// A step of the table is a step of the model (`IsStep`), whatever word it writes and whatever slots it moves, if its
-/// seat carries only its own slots, what the kind requires holds, and the outcome is as the kind says. That the rule
-/// holds afterwards is `Allows` of `atomic_table`, which is proved wherever `steps.rt` makes a step.
+/// seat carries only its own slots, what the kind requires holds, and the outcome is as the kind says. The last two are what
+/// each step in `steps.rt` tells (`tells`, `specs/Told.antt`). That the rule holds afterwards is `Allows` of `atomic_table`,
+/// which is proved there, too.
 pub fn steps_of_the_table_are_such_steps<O: Sequential>()
     ensures { (name : StepName O.Call O.Reply) (id at first second : ℕ) (m : Seated O O.Call O.Reply) (put : ℕ) (s : BoardState O O.Call O.Reply) (w : View O.Call O.Reply) (a : Act (SlotValue O O.Call O.Reply)) →
         get_elem? s.views id ≡ opt.some m.0 → CarriesOnlyItsOwn s.homes m.1 → StepRequires O.Sequential name at m → Valid s.homes m.1 a →

@@ -11,6 +11,8 @@ use Rattle.pelgaisti_c.specs.declared.claims.ClaimNumbers.{ClaimNumbers}
 use Rattle.pelgaisti_c.specs.contracts.claims.ClaimNumbers.{the_row as claim_row}
 use Rattle.pelgaisti_c.specs.declared.numbers.PassNumbers.{PassNumbers}
 use Rattle.pelgaisti_c.specs.contracts.numbers.PassNumbers.{the_row as pass_row}
+use Rattle.pelgaisti_c.specs.declared.program_numbers.ProgramAnswerNumbers.{ProgramAnswerNumbers}
+use Rattle.pelgaisti_c.specs.contracts.program_numbers.ProgramAnswerNumbers.{the_row as program_answer_row}
 use Rattle.pelgaisti_c.specs.declared.numbers.ReplyNumbers.{ReplyNumbers}
 use Rattle.pelgaisti_c.specs.contracts.numbers.ReplyNumbers.{the_row as reply_row}
 use Rattle.pelgaisti_c.specs.declared.claims.TransactionNumbers.{TransactionNumbers}
@@ -25,6 +27,8 @@ use Rattle.pelgaisti_c.specs.declared.pointers.structs.ClaimPointer.{ClaimPointe
 use Rattle.pelgaisti_c.specs.contracts.pointers.structs.ClaimPointer.{the_row as claim_pointer_row}
 use Rattle.pelgaisti_c.specs.declared.pointers.structs.PassPointer.{PassPointer}
 use Rattle.pelgaisti_c.specs.contracts.pointers.structs.PassPointer.{the_row as pass_pointer_row}
+use Rattle.pelgaisti_c.specs.declared.pointers.structs.ProgramAnswerPointer.{ProgramAnswerPointer}
+use Rattle.pelgaisti_c.specs.contracts.pointers.structs.ProgramAnswerPointer.{the_row as program_answer_pointer_row}
 use Rattle.pelgaisti_c.specs.declared.pointers.structs.ReplyPointer.{ReplyPointer}
 use Rattle.pelgaisti_c.specs.contracts.pointers.structs.ReplyPointer.{the_row as reply_pointer_row}
 use Rattle.pelgaisti_c.specs.declared.pointers.structs.TransactionPointer.{TransactionPointer}
@@ -65,6 +69,9 @@ lends_of_claim_pointer p r = LendsIf claim_pointer_row claim_row p r (λ x. reco
 
 abbrev pub lends_of_pass_pointer : MutBor PassPointer → Option (MutBor PassNumbers) → Fml
 lends_of_pass_pointer p r = LendsIf pass_pointer_row pass_row p r (λ x. record p.now { behind = x }) p.now
+
+abbrev pub lends_of_program_answer_pointer : MutBor ProgramAnswerPointer → Option (MutBor ProgramAnswerNumbers) → Fml
+lends_of_program_answer_pointer p r = LendsIf program_answer_pointer_row program_answer_row p r (λ x. record p.now { behind = x }) p.now
 
 abbrev pub lends_of_reply_pointer : MutBor ReplyPointer → Option (MutBor ReplyNumbers) → Fml
 lends_of_reply_pointer p r = LendsIf reply_pointer_row reply_row p r (λ x. record p.now { behind = x }) p.now

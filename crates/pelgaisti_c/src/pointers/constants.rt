@@ -4,9 +4,11 @@ ghost use Rattle.std.specs.Prelude.{◌≡◌, ◌≢◌, MatchOption};
 ghost use denote.RawPtr.{Testable, null_ptr};
 ghost use Rattle.pelgaisti_c.specs.declared.numbers.CallNumbers.{CallNumbers};
 ghost use Rattle.pelgaisti_c.specs.declared.numbers.ResourceNumbers.{ResourceNumbers};
-ghost use Rattle.pelgaisti_c.specs.Behind.{call_coded, resource_coded};
+ghost use Rattle.pelgaisti_c.specs.declared.program_numbers.ProgramNumbers.{ProgramNumbers};
+ghost use Rattle.pelgaisti_c.specs.Behind.{call_coded, program_coded, resource_coded};
 
 use crate::numbers::{CallNumbers, ResourceNumbers};
+use crate::program_numbers::ProgramNumbers;
 use std::marker::Model;
 
 /// A pointer of C, null or to a call that is only read.
@@ -26,6 +28,34 @@ impl Model for CallPointer {
 impl CallPointer {
     /// A copy of what lies behind the pointer, or `None` at null.
     pub(crate) fn get(&mut self) -> Option<CallNumbers>
+        ensures value { MatchOption result (self.old.at ≡ null_ptr) (λ r. (self.old.at ≢ null_ptr) × (r ≡ self.old.behind)) }
+        ensures same { self.new ≡ self.old }
+    {
+        let at = self.at;
+        if at == std::ptr::null() {
+            return None;
+        }
+        unsafe { Some(*at) }
+    }
+}
+
+/// A pointer of C, null or to a program that is only read.
+#[repr(C)]
+pub struct ProgramPointer {
+    pub at: *const ProgramNumbers,
+    ghost testable: { Testable at },
+    pub ghost behind: { ProgramNumbers } by { program_coded },
+}
+
+impl Model for ProgramPointer {
+    ghost use Rattle.pelgaisti_c.specs.Behind.{program_shared};
+
+    ghost also_owns = { λ p. program_shared p.at p.behind };
+}
+
+impl ProgramPointer {
+    /// A copy of what lies behind the pointer, or `None` at null.
+    pub(crate) fn get(&mut self) -> Option<ProgramNumbers>
         ensures value { MatchOption result (self.old.at ≡ null_ptr) (λ r. (self.old.at ≢ null_ptr) × (r ≡ self.old.behind)) }
         ensures same { self.new ≡ self.old }
     {

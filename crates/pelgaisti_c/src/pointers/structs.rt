@@ -7,10 +7,12 @@ ghost use Rattle.pelgaisti_c.specs.declared.claims.ClaimNumbers.{ClaimNumbers};
 ghost use Rattle.pelgaisti_c.specs.declared.numbers.PassNumbers.{PassNumbers};
 ghost use Rattle.pelgaisti_c.specs.declared.numbers.ReplyNumbers.{ReplyNumbers};
 ghost use Rattle.pelgaisti_c.specs.declared.claims.TransactionNumbers.{TransactionNumbers};
-ghost use Rattle.pelgaisti_c.specs.Behind.{answer_coded, claim_coded, pass_coded, reply_coded, transaction_coded};
+ghost use Rattle.pelgaisti_c.specs.declared.program_numbers.ProgramAnswerNumbers.{ProgramAnswerNumbers};
+ghost use Rattle.pelgaisti_c.specs.Behind.{answer_coded, claim_coded, pass_coded, program_answer_coded, reply_coded, transaction_coded};
 
 use crate::claims::{ClaimNumbers, TransactionNumbers};
 use crate::numbers::{AnswerNumbers, PassNumbers, ReplyNumbers};
+use crate::program_numbers::ProgramAnswerNumbers;
 use std::marker::Model;
 
 /// A pointer of C, null or to an answer.
@@ -96,6 +98,37 @@ impl PassPointer {
     /// What lies behind the pointer, or `None` at null.
     pub(crate) fn get(&mut self) -> Option<&mut PassNumbers>
         ensures* lends { sem 𝓛 (lends_of_pass_pointer self.entry result) }
+        ensures value { MatchOption result (self.old.at ≡ null_ptr) (λ r. (self.old.at ≢ null_ptr) × (r.now ≡ self.old.behind)) }
+    {
+        let at = self.at;
+        if at == std::ptr::null_mut() {
+            return None;
+        }
+        unsafe { Some(&mut *at) }
+    }
+}
+
+/// A pointer of C, null or to the answer to a program.
+#[repr(C)]
+pub struct ProgramAnswerPointer {
+    pub at: *mut ProgramAnswerNumbers,
+    ghost testable: { Testable at },
+    pub ghost behind: { ProgramAnswerNumbers } by { program_answer_coded },
+}
+
+impl Model for ProgramAnswerPointer {
+    ghost use Rattle.pelgaisti_c.specs.Behind.{program_answer_behind};
+
+    ghost also_owns = { λ p. program_answer_behind p.at p.behind };
+}
+
+impl ProgramAnswerPointer {
+    ghost use Rattle.std.specs.Borrow.{sem};
+    ghost use Rattle.pelgaisti_c.specs.inner.Lending.{lends_of_program_answer_pointer};
+
+    /// What lies behind the pointer, or `None` at null.
+    pub(crate) fn get(&mut self) -> Option<&mut ProgramAnswerNumbers>
+        ensures* lends { sem 𝓛 (lends_of_program_answer_pointer self.entry result) }
         ensures value { MatchOption result (self.old.at ≡ null_ptr) (λ r. (self.old.at ≢ null_ptr) × (r.now ≡ self.old.behind)) }
     {
         let at = self.at;

@@ -2,15 +2,9 @@
 use Rattle.std.specs.Prelude.{◌≡◌, ℕ, false, List, [], ◌∷◌, ◌++◌, length, Some, slice_get}
 use Rattle.sequential.specs.declared.entry.Entry.{Entry}
 use Rattle.programs.specs.Form.{Form, AllGoOn}
-use Rattle.programs.specs.Flat.{entry, entries, IsRun}
+use Rattle.programs.specs.Flat.{entry, entries}
 
 module _ {P A C R : Type 0} (form : Form P A C R) where
-  -- The program was run: from the history `old` to the history `new`, with this answer.
-  pub record HasRun (s : ℕ) (p : P) (old new : List (Entry C R)) (a : A) : Type 0 where
-    pub first : form.first a ≡ length old
-    pub history : new ≡ old ++ entries s (form.calls p) (form.replies p a)
-    pub run : IsRun form (form.calls p) (form.replies p a) (form.refused a)
-
   -- The first call of the program was served with this reply, which the answer doesn't have yet.
   pub record HasBegun (s : ℕ) (p : P) (old new : List (Entry C R)) (a : A) (reply : R) : Type 0 where
     pub call : C

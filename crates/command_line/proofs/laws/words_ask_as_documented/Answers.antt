@@ -13,18 +13,10 @@ use Rattle.lock_rules.specs.declared.calls.TheConstants.{MAX_SESSIONS}
 use Rattle.command_line.specs.CommandLine.{AskNothing, Gives, HasFlag, IsRequest, faults_of, glm_command}
 use Rattle.command_line.specs.declared.args.TheConstants.{MAX_PLACE, MAX_TURNS}
 use Rattle.command_line.specs.declared.args.TheConstants.{MAX_STREAMED_SESSIONS}
-use Rattle.command_line.proofs.Ask.{nothing_told, no_streamed, no_such_sessions, sessions_text}
+use Rattle.command_line.proofs.Ask.{faulty, nothing_told, no_streamed, no_such_sessions, sessions_text}
 use Rattle.command_line.proofs.AskShow.{place_given, place_not_given, two_forms}
 use Rattle.command_line.proofs.Gives.{numeral_given}
 use Rattle.command_line.proofs.laws.words_ask_as_documented.Goals as goal
-
--- words with an error other than help or the version ask for nothing
-faulty : (words : List Text) (kind : ErrorKind) (kinds : Kinds) → faults_of words ≡ kind ∷ kinds → kind ≢ DisplayHelp → kind ≢ DisplayVersion → AskNothing words
-faulty words kind kinds is other another = record {
-  no_request = λ asked ask. let bad : kind ∷ kinds ≡ [] = sym is ∙ ask.whole in cc;
-  no_help = λ help. let bad : kind ∷ kinds ≡ DisplayHelp ∷ [] = sym is ∙ help in other cc;
-  no_version = λ version. let bad : kind ∷ kinds ≡ DisplayVersion ∷ [] = sym is ∙ version in another cc;
-}
 
 -- words without an error ask for nothing if they name `show` or `explain` and a place that isn't read as a number
 unplaced : (words : List Text) (name : Text) (rows : List Row) (text : Text) (fault : NumeralFault) → faults_of words ≡ []

@@ -1,4 +1,4 @@
-use Rattle.std.proofs.Common.{rules, ◌≡◌, ◌∷◌, ◌∙◌, ℕ, List, eqb, sym, ap, subst}
+use Rattle.std.proofs.Common.{rules, ◌≡◌, ◌∷◌, ◌∙◌, ℕ, List, eqb, refl, sym, ap, subst}
 use mathlib.Core.Option as opt
 use prog.Atomic.{either}
 use Rattle.atomic_table.specs.Table.{Allows, step, rest}
@@ -18,14 +18,14 @@ compare_exchange-found-requires g c =
     let bound = bound_of g.O.Sequential.bound c.args.shared.now.key.object.items in (
       search rules,
       search rules,
-      subst (λ (b : ℕ). Allows (IsBounded g.O.Sequential bound) n seat.id seat.me 0 (λ k. either (eqb k FREE) c.args.number k) (seizes_within g.O.Sequential b (step n 0 FREE c.args.number opt.none) seat.me)) (sym c.requires.named)
-          (seize_kept n seat.id c.args.number seat.me.0 seat.me.1 mine c.requires.mine.1),
+      (λ state rule many seated short. let r = (subst (λ (b : ℕ). Allows (IsBounded g.O.Sequential bound) n seat.id seat.me 0 (λ k. either (eqb k FREE) c.args.number k) (seizes_within g.O.Sequential b (step n 0 FREE c.args.number opt.none) seat.me)) (sym c.requires.named)
+          (seize_kept n seat.id c.args.number seat.me.0 seat.me.1 mine c.requires.mine.1)) state rule many seated short in (r.0, r.1, r.2, r.3, (r.4, refl))),
     )
 
 pub exchange-requires : goal.exchange-requires
 exchange-requires g c =
     let m = c.is_free.new.seat.me in
-    let t = c.compare_exchange-found.ensures.2.0.0 (search rules) in
+    let t = c.compare_exchange-found.ensures.2.0.0.0 (search rules) in
     let held : SlotValue _ _ _ = ObjectLoad t.0 in
     let out : c.compare_exchange-found.new.seat.me.1 ≡ (0, held) ∷ m.1 = ap (λ (x : Seated _ _ _). x.1) t.1 in
     (search rules, (held, out ∙ ap (λ (l : List (ℕ × SlotValue _ _ _)). (0, held) ∷ rest l) (sym out)))

@@ -1,0 +1,149 @@
+//! Programs: several calls of a session that are made as one, and the answers to them.
+
+use crate::calls::{Call, Mode, Reply, Resource};
+use crate::ffi::{RawCall, RawProgram, RawProgramAnswer};
+
+/// What a program does with the session's transaction first.
+#[derive(Clone, Copy, Debug, PartialEq, Eq, Hash)]
+pub enum Start {
+    /// Nothing.
+    Nothing,
+    /// Begins one.
+    Begins,
+    /// Commits the open one.
+    Commits,
+    /// Aborts the open one.
+    Aborts,
+    /// Commits the open one and begins the next.
+    CommitsAndBegins,
+    /// Aborts the open one and begins the next.
+    AbortsAndBegins,
+}
+
+impl Start {
+    fn number(self) -> u32 {
+        match self {
+            Start::Nothing => 0,
+            Start::Begins => 1,
+            Start::Commits => 2,
+            Start::Aborts => 3,
+            Start::CommitsAndBegins => 4,
+            Start::AbortsAndBegins => 5,
+        }
+    }
+}
+
+/// Several calls of a session that are made as one: what a [`Start`] says, and then one call or the locks of a path. At most 7.
+#[derive(Clone, Copy)]
+pub struct Program {
+    raw: RawProgram,
+}
+
+impl Program {
+    /// What `first` says, and no other call.
+    ///
+    ///     # use pelgaisti::{Book, Program, Reply, Start};
+    ///     let mut book = Book::open(1)?;
+    ///     assert!(book.run(1, &Program::start(Start::Begins), &mut vec![])?.replies().eq([Reply::Began(1)]));
+    ///     # Ok::<(), pelgaisti::Error>(())
+    pub fn start(first: Start) -> Program {
+        Program {
+            raw: RawProgram {
+                start: first.number(),
+                ..RawProgram::default()
+            },
+        }
+    }
+
+    /// One call of any kind.
+    ///
+    ///     # use pelgaisti::{Book, Call, Program, Reply};
+    ///     let mut book = Book::open(1)?;
+    ///     assert!(book.run(1, &Program::one(&Call::Poll), &mut vec![])?.replies().count() == 1);
+    ///     assert!(book.run(1, &Program::one(&Call::Begin), &mut vec![])?.replies().eq([Reply::Began(1)]));
+    ///     # Ok::<(), pelgaisti::Error>(())
+    pub fn one(call: &Call) -> Program {
+        match call {
+            Call::Begin => Program::start(Start::Begins),
+            Call::Commit => Program::start(Start::Commits),
+            Call::Abort => Program::start(Start::Aborts),
+            other => Program::behind(Start::Nothing, other.raw()),
+        }
+    }
+
+    /// The program that ends with this call, of which no ancestor is locked.
+    fn behind(first: Start, last: RawCall) -> Program {
+        Program {
+            raw: RawProgram {
+                start: first.number(),
+                from: last.resource.level,
+                above: 0,
+                last,
+            },
+        }
+    }
+
+    /// What `first` says, then locks on the ancestors of the resource in the mode that `mode` needs of a parent, and on the resource in
+    /// `mode`: the rest of a path of which `locked` levels are locked. `None` if all are.
+    ///
+    ///     # use pelgaisti::{Mode, Program, Resource, Start};
+    ///     let page = Resource::new(&[7, 2, 40]).unwrap();
+    ///     assert!(Program::locks(Start::Begins, page, Mode::X, 0).is_some());
+    ///     assert!(Program::locks(Start::Begins, page, Mode::X, 3).is_none());
+    pub fn locks(first: Start, resource: Resource, mode: Mode, locked: usize) -> Option<Program> {
+        Program::path(first, locked + 1, mode.of_parent(), &Call::Lock(resource, mode))
+    }
+
+    /// What `first` says, then locks on the ancestors of the call's resource in the mode `above`, from the level `from` on, and then the
+    /// call. `None` if the call has no resource, or `from` isn't from 1 to its level.
+    ///
+    ///     # use pelgaisti::{Call, Mode, Program, Resource, Start};
+    ///     let record = Resource::new(&[7, 2, 40, 1]).unwrap();
+    ///     let of = |from, call| Program::path(Start::Commits, from, Mode::IX, &call).is_some();
+    ///     assert!(of(1, Call::Try(record, Mode::X)) && !of(5, Call::Try(record, Mode::X)) && !of(1, Call::Poll));
+    pub fn path(first: Start, from: usize, above: Mode, last: &Call) -> Option<Program> {
+        let mut program = Program::behind(first, last.raw());
+        if from < 1 || from > program.raw.from as usize {
+            return None;
+        }
+        program.raw.from = from as u32;
+        program.raw.above = above.code();
+        Some(program)
+    }
+
+    pub(crate) fn raw(&self) -> &RawProgram {
+        &self.raw
+    }
+}
+
+/// The answer to a program.
+#[derive(Clone, Copy)]
+pub struct ProgramAnswer {
+    raw: RawProgramAnswer,
+}
+
+impl ProgramAnswer {
+    pub(crate) fn of(raw: RawProgramAnswer) -> ProgramAnswer {
+        ProgramAnswer { raw }
+    }
+
+    /// The index of the first call's entry in the history; if no call was served, of the next one.
+    pub fn place(&self) -> u64 {
+        self.raw.place
+    }
+
+    /// The reply to each call that was served.
+    pub fn replies(&self) -> impl ExactSizeIterator<Item = Reply> + '_ {
+        self.raw.replies[..self.raw.served as usize].iter().map(Reply::of)
+    }
+
+    /// Whether the program stopped at its last reply, which is then `Waiting`, `Deadlock` or a refusal.
+    pub fn stopped(&self) -> bool {
+        self.raw.stop != 0
+    }
+
+    /// Whether memory was refused to the call behind those that were served.
+    pub fn starved(&self) -> bool {
+        self.raw.starved != 0
+    }
+}

@@ -1,0 +1,12 @@
+use Rattle.std.proofs.Common.{◌+◌, ◌≤◌, ℕ, ◌∙◌, arith}
+use Rattle.lock_rules.specs.Legal.{state_of}
+use Rattle.lock_rules.specs.Waits.{reaches}
+use Rattle.jam_report.proofs.Counted.{counted}
+use Rattle.jam_report.proofs.roots.count_blocked.Goals as goal
+
+pub loop-below-preserved : goal.loop-below-preserved
+loop-below-preserved c = record {
+  count = counted (λ u. reaches (state_of c.args.book.now.history).table u c.args.session) c.loop-below.below c.loop-below.count c.one_if-count.result c.leads_to.result c.loop-below.invariant.count c.one_if-count.ensures.value c.leads_to.ensures.walk;
+  few = omega (arith, c.loop-below.invariant.few, c.one_if-count.ensures.few);
+  same = c.leads_to.ensures.same ∙ c.loop-below.invariant.same;
+}

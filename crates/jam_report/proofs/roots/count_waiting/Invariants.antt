@@ -1,0 +1,12 @@
+use Rattle.std.proofs.Common.{◌≡◌, ◌≤◌, ℕ, filter, length}
+use Rattle.std.specs.List.{range_with_len}
+use Rattle.lock_rules.specs.Legal.{state_of}
+use Rattle.lock_rules.specs.State.{is_waiting}
+use Rattle.jam_report.proofs.roots.count_waiting.Given as goal
+
+-- of the sessions so far, those that pass are counted
+abbrev pub invariant-loop-below : goal.invariant-loop-below
+invariant-loop-below l = record {
+  count : l.count ≡ length (filter (is_waiting (state_of l.book.history)) (range_with_len 1 l.below));
+  few : l.count ≤ l.below;
+}

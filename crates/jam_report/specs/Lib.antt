@@ -1,0 +1,5 @@
+-- What public contracts speak of.
+pub mod Roots
+pub mod Waits
+-- What only private contracts speak of.
+pub mod inner

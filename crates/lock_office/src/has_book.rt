@@ -1,0 +1,39 @@
+//! What has a book: the book itself, and an object whose calls are programs.
+
+ghost use Rattle.std.specs.Prelude.{◌≡◌, List};
+ghost use Rattle.sequential.specs.declared.entry.Entry.{Entry as EntryOf};
+ghost use Rattle.lock_rules.specs.Entries.{Entry};
+
+use lock_desk::Book;
+use programs::{Programmed, Programs};
+use sequential::Batching;
+
+/// An object that serves its calls by a book.
+pub trait HasBook: Batching {
+    // The calls of the book's history, by the history of the object.
+    ghost calls: { List (EntryOf Self.Call Self.Reply) → List Entry };
+
+    /// The book.
+    fn book(&self) -> &Book
+        ensures history { result.now.history ≡ calls (Self.history self.now) }
+        ensures sessions { result.now.sessions ≡ Self.sessions self.now };
+}
+
+impl HasBook for Book {
+    ghost calls = { λ history. history };
+
+    fn book(&self) -> &Book {
+        self
+    }
+}
+
+/// The calls are those of the programs, laid end to end.
+impl<O: Programmed + HasBook> HasBook for Programs<O> {
+    ghost use Rattle.programs.specs.Flat.{flat};
+
+    ghost calls = { λ history. O.calls (flat O.form history) };
+
+    fn book(&self) -> &Book {
+        self.object().book()
+    }
+}

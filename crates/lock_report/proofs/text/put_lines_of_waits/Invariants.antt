@@ -1,8 +1,0 @@
-use Rattle.std.proofs.Common.{◌≡◌, ◌++◌, take, string_bytes}
-use Rattle.std.specs.List.{flat_map}
-use Rattle.lock_report.specs.StateText.{line_of_wait}
-use Rattle.lock_report.proofs.text.put_lines_of_waits.Given as goal
-
--- The lines of the waits before this one are written.
-abbrev pub invariant-loop-wait : goal.invariant-loop-wait
-invariant-loop-wait l = string_bytes l.out ≡ string_bytes l.fn.out ++ flat_map line_of_wait (take l.wait-index l.waits)

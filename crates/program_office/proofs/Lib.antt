@@ -1,0 +1,6 @@
+pub mod Flats
+pub mod Held
+pub mod InTime
+pub mod PathPrograms
+pub mod Places
+pub mod Together

@@ -1,0 +1,40 @@
+-- What contracts see of an office of programs and its sessions: that of any office, with programs of a book as the object.
+use Rattle.std.specs.Prelude.{ℕ, List}
+use Rattle.lock_rules.specs.Entries.{Entry}
+use Rattle.lock_programs.specs.declared.program.Program.{Program}
+use Rattle.lock_programs.specs.declared.answer.Answer.{Answer as ProgramAnswer}
+use Rattle.lock_programs.specs.Calls.{calls_of}
+use Rattle.lock_desk.specs.Batches.{makes_room}
+use Rattle.programs.specs.Form.{first_goes_first}
+use Rattle.combining.specs.Sessions as any
+pub use Rattle.combining.specs.Sessions.{IsSessionOf, IsIdle, HasNothingPending, IsPendingServed}
+use Rattle.combining.specs.Looks.{HasLooked as HasLookedAt}
+use Rattle.combining.specs.declared.office.Answer.{Answer as AnswerOf}
+use Rattle.combining.specs.declared.office.perform.Performed.{Performed as PerformedOf}
+use Rattle.program_office.specs.ProgramBoards.{TicketView, program_object, flat_history}
+
+abbrev pub Answer : Type 0
+Answer = AnswerOf ProgramAnswer
+
+abbrev pub Performed : Type 0
+Performed = PerformedOf ProgramAnswer
+
+abbrev pub IsPassed : TicketView → TicketView → ℕ → Type 0
+IsPassed = any.IsPassed program_object
+
+abbrev pub IsCollected : TicketView → TicketView → ℕ → ProgramAnswer → Type 0
+IsCollected = any.IsCollected program_object
+
+-- A program goes first whose first call makes room.
+abbrev pub IsPerformed : TicketView → TicketView → Program → ℕ → ProgramAnswer → ℕ → Type 0
+IsPerformed before after program = any.IsPerformed program_object (first_goes_first makes_room (calls_of program)) before after program
+
+abbrev pub IsRefused : TicketView → TicketView → Type 0
+IsRefused = any.IsRefused program_object
+
+-- What is written down of a history are the entries of its calls.
+abbrev pub HasTakenPiece : TicketView → TicketView → ℕ → List Entry → Type 0
+HasTakenPiece = any.HasTakenPiece program_object flat_history
+
+abbrev pub HasLooked : TicketView → TicketView → Type 0
+HasLooked = HasLookedAt program_object

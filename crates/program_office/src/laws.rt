@@ -1,0 +1,147 @@
+//! What the contracts of this crate imply together. A law is the contract of a function that does nothing.
+//!
+//! The history of calls is that of the office's programs laid end to end (`flat_history`). `IsRuled s` says that the rule of the board
+//! holds in state `s`, as `atomic_table` promises it of the running board between any two atomic steps.
+
+ghost use Rattle.std.specs.Prelude.{◌≡◌, ◌≢◌, ◌⊎◌, ◌↔◌, ℕ, ◌<◌, ◌≤◌, true, List, [], ◌∷◌, ◌++◌, Option, Some, None, slice_get};
+ghost use Rattle.lock_modes.specs.declared.Mode.{Mode};
+ghost use Rattle.lock_rules.specs.declared.calls.Call.{Call};
+ghost use Rattle.lock_rules.specs.declared.calls.Reply.{Reply};
+ghost use Rattle.lock_rules.specs.Legal.{state_of};
+ghost use Rattle.lock_rules.specs.Laws.{HoldsAtLeast, GoTogether};
+ghost use Rattle.lock_programs.specs.declared.program.Program.{Program};
+ghost use Rattle.lock_programs.specs.Calls.{calls_of};
+ghost use Rattle.lock_programs.specs.Answers.{replies_of, program_form};
+ghost use Rattle.programs.specs.Laws.{IsBefore};
+ghost use Rattle.publication.specs.Views.{BoardView, asks, entry};
+ghost use Rattle.publication.specs.Boards.{HasCallsOf};
+ghost use Rattle.publication.specs.Collected.{HasCollected};
+ghost use Rattle.lock_board.specs.HoldsAsTold.{HoldsAsTold as HoldsAsToldByCalls};
+ghost use Rattle.lock_office.specs.Ended.{AreWakesTold};
+ghost use Rattle.lock_office.specs.Paths.{rest_of_path};
+ghost use Rattle.program_office.specs.ProgramBoards.{ProgramsView, ProgramEntry, AnsweredProgram, Pending, TicketView, BoardState, IsLegal, IsRuled, IsRun, history_of, flat_history, calls_answered};
+ghost use Rattle.program_office.specs.Closed.{IsClosed, IsOneHistory};
+ghost use Rattle.program_office.specs.HoldsAsTold.{KeepsLock, KeptLock, HoldsAsTold, ReadsAsTold, WritesAsTold, ToldModesGoTogether, IsToldExclusive, IsToldAccessCompatible};
+ghost use Rattle.program_office.specs.Ended.{AreToldBy, places_of_calls};
+ghost use Rattle.program_office.specs.InTime.{DoProgramsRespectTime};
+ghost use Rattle.program_office.specs.Paths.{granted_among, IsGrantedFirst};
+
+use combining::laws::closed_offices_have_one_history as one_history_of_any_object;
+use lock_desk::Book;
+use lock_programs::laws::replies_fit;
+use lock_rules::laws;
+use programs::Programs;
+use programs::laws::{
+    programs_stand_side_by_side, programs_stop_at_a_cause,
+    sessions_make_the_calls_of_their_programs,
+};
+use sequential::laws::calls_are_in_order;
+
+/// Whatever programs the threads made, and however their atomic steps interleaved, the history of a closed office is sequential, that
+/// of the programs and that of their calls. In the history of calls every reply is the one that the sequential lock manager gives at its
+/// place. No two transactions ever held one resource in modes that conflict in both orders, or had incompatible access to a resource,
+/// directly or through an ancestor. No waits formed a circle. The calls of each program stand side by side in it. Each session's calls
+/// in it are those of the programs that it collected answers to, each once, in order, up to where each program stopped.
+pub fn closed_offices_have_one_history()
+    ensures { (office : BoardView) (sessions : List TicketView) (programs : ProgramsView) → IsClosed office sessions programs → IsOneHistory sessions programs.history }
+{
+    one_history_of_any_object::<Programs<Book>>();
+    programs_stand_side_by_side::<Book>();
+    programs_stop_at_a_cause::<Book>();
+    sessions_make_the_calls_of_their_programs::<Book>();
+    calls_are_in_order::<Book>();
+}
+
+/// When a session that makes programs holds a lock as told. Without a pending program it does so exactly if it does by the replies to
+/// the calls of its programs (`lock_board::laws::what_is_told_begins_and_ends` says when that is). It lasts past each program of which no
+/// call gave the resource back, and while a program is pending of which no call may. It ends when the session publishes, or performs,
+/// any other program.
+pub fn what_is_told_begins_and_ends()
+    ensures by_calls { (answers : List AnsweredProgram) (r : List ℕ) (m : Mode) →
+        HoldsAsTold answers None r m ↔ HoldsAsToldByCalls (calls_answered answers) None r m }
+    ensures stays { (answers : List AnsweredProgram) (a : AnsweredProgram) (pending : Option Pending) (r : List ℕ) (m : Mode) →
+        KeptLock r a → HoldsAsTold answers pending r m → HoldsAsTold (answers ++ a ∷ []) None r m }
+    ensures keeps { (a : AnsweredProgram) (r : List ℕ) → KeepsLock r a.call → KeptLock r a }
+    ensures asks_on { (answers : List AnsweredProgram) (program : Program) (floor : ℕ) (r : List ℕ) (m : Mode) →
+        KeepsLock r program → HoldsAsTold answers None r m → HoldsAsTold answers (Some (asks program floor)) r m }
+    ensures asked_back { (answers : List AnsweredProgram) (program : Program) (floor : ℕ) (r : List ℕ) (m : Mode) →
+        (KeepsLock r program → ⊥) → HoldsAsTold answers (Some (asks program floor)) r m → ⊥ }
+{}
+
+/// After a `hear`, the locks that the two sessions were told they hold are compatible, in at least one order. `Office::hear` says that
+/// one legal history then has the programs of both: those that each collected answers to, or those and its pending one. If one was told
+/// that it may write a resource, outright or through an ancestor, the other was not told that it may read or write it.
+pub fn told_locks_go_together()
+    ensures modes { (history : List ProgramEntry) (session other : TicketView) (r : List ℕ) (m k : Mode) →
+        IsLegal history → session.number ≢ other.number → HasCallsOf history session → HasCallsOf history other →
+        HoldsAsTold session.collected session.pending r m → HoldsAsTold other.collected other.pending r k → GoTogether m k }
+    ensures access { (history : List ProgramEntry) (session other : TicketView) (x : List ℕ) →
+        IsLegal history → session.number ≢ other.number → HasCallsOf history session → HasCallsOf history other →
+        WritesAsTold session.collected session.pending x →
+        ReadsAsTold other.collected other.pending x ⊎ WritesAsTold other.collected other.pending x → ⊥ }
+{
+    laws::refusals_keep_the_state();
+}
+
+/// Mutual exclusion between any two atomic steps, whatever programs are posted, opened or served at that moment. No two sessions of a
+/// board were told that they hold one resource in modes that conflict in both orders. If a session was told that it may write a
+/// resource, outright or through an ancestor, no other was told that it may read or write it. A lock no longer counts from the step on
+/// that publishes a program of which a call may give it back, or enters one directly. What counts is held in the state of the history
+/// of calls, in the mode told or one above it (`held`).
+pub fn sessions_are_told_what_goes_together()
+    ensures modes { (s : BoardState) → IsRuled s → ToldModesGoTogether s }
+    ensures exclusive { (s : BoardState) → IsRuled s → IsToldExclusive s }
+    ensures access { (s : BoardState) → IsRuled s → IsToldAccessCompatible s }
+    ensures held { (s : BoardState) (i : ℕ) (answers : List AnsweredProgram) (pending : Option Pending) (r : List ℕ) (m : Mode) →
+        IsRuled s → HasCollected s i answers pending → HoldsAsTold answers pending r m →
+        HoldsAtLeast (state_of (flat_history (history_of s))).table i r m }
+{
+    laws::refusals_keep_the_state();
+}
+
+/// Why a session that waits may sleep until a pass tells it. A call that tells (`serve_telling`, `perform_telling`, `call`, `resume`)
+/// tells each session whose wait was ended by a call of a program that the call's passes have entered, wherever in the program that call
+/// stands. So of the history of calls, and of the places there that the entered programs have, all is true that
+/// `lock_office::laws::no_wake_up_is_lost` says of its history and places.
+pub fn no_wake_up_is_lost()
+    ensures { (sessions : ℕ) (history : List ProgramEntry) (places list : List ℕ) → AreToldBy sessions history places list →
+        AreWakesTold sessions (flat_history history) (places_of_calls history places) list }
+{
+    lock_office::laws::no_wake_up_is_lost();
+}
+
+/// The order of the history of calls keeps real time, program by program. In a run, a program whose answer any session had collected in
+/// state `s` stands wholly before each program that a session publishes, or performs, after `s`, by whichever session, whether or not
+/// that one has heard of it, and whether or not its answer is collected. And each program that a session knew of when it published one
+/// of its own, at a place below the floor of that one, stands wholly before it (`known`).
+pub fn programs_stand_in_the_order_of_time()
+    ensures in_time { (s t : BoardState) → IsRuled s → IsRun s t → DoProgramsRespectTime s t }
+    ensures known { (history : List ProgramEntry) (earlier floor place : ℕ) (x y : ProgramEntry) → IsLegal history → earlier < floor → floor ≤ place →
+        slice_get history earlier ≡ Some x → slice_get history place ≡ Some y → IsBefore program_form x y }
+{}
+
+/// A program of one call that was answered with a reply has its call in the history of calls, at the place that the answer tells, with
+/// this reply. Without one, memory was refused to the call, and it is in no history.
+pub fn single_calls_stand_where_told()
+    ensures stands { (history : List ProgramEntry) (place : ℕ) (program : ProgramEntry) (call : Call) (reply : Reply) → IsLegal history →
+        slice_get history place ≡ Some program → calls_of program.call ≡ call ∷ [] → replies_of program.call program.reply ≡ reply ∷ [] →
+        slice_get (flat_history history) program.reply.first ≡ Some (entry program.session call reply) }
+    ensures refused { (history : List ProgramEntry) (place : ℕ) (program : ProgramEntry) (call : Call) → IsLegal history →
+        slice_get history place ≡ Some program → calls_of program.call ≡ call ∷ [] → replies_of program.call program.reply ≡ [] →
+        program.reply.is_refused ≡ true }
+{
+    programs_stand_side_by_side::<Book>();
+    programs_stop_at_a_cause::<Book>();
+}
+
+/// A path of locks is one program. `path_program` has the calls that `lock_office::lock_path` makes of the rest of a path, one for each
+/// level. As many levels of the rest are locked as locks were granted (`levels_granted`): those, from the uppermost on, have a reply that
+/// grants them, and behind them the path is locked, or the next reply grants nothing and is the last, or memory was refused.
+pub fn paths_are_programs()
+    ensures { (history : List ProgramEntry) (place : ℕ) (program : ProgramEntry) (resource : List ℕ) (mode : Mode) (locked : ℕ) → IsLegal history →
+        slice_get history place ≡ Some program → calls_of program.call ≡ rest_of_path resource mode locked →
+        IsGrantedFirst program (granted_among (replies_of program.call program.reply)) }
+{
+    programs_stand_side_by_side::<Book>();
+    replies_fit();
+}

@@ -1,0 +1,34 @@
+//! An office of programs whose lock table lets go of its history.
+
+ghost use Rattle.std.specs.Prelude.{◌≡◌, ◌<◌, ◌↔◌, Err, IfOk};
+ghost use Rattle.std.specs.List.{All};
+ghost use Rattle.lock_rules.specs.declared.calls.TheConstants.{MAX_SESSIONS};
+ghost use Rattle.program_office.specs.ProgramBoards.{new_tickets};
+ghost use Rattle.program_office.specs.Sessions.{IsSessionOf, IsIdle};
+
+use crate::{Office, Session};
+use combining::OpenFault;
+use lock_office::book_keeping;
+use programs::Programs;
+use std::alloc::{AllocError as NoMemory, Global};
+
+/// Opens an office as `Office::open` does, whose lock table keeps at most the newest `bound` entries of the history of calls in memory,
+/// as `lock_office::open_keeping` says. With `NO_BOUND` all entries are kept.
+pub fn open_keeping(
+    alloc: Global,
+    sessions: u16,
+    bound: u64,
+) -> Result<(Office, Vec<Session>), OpenFault>
+    ensures none { (result ≡ Err OpenFault.NoSessions) ↔ (sessions ≡ 0) }
+    ensures many { (result ≡ Err OpenFault.TooManySessions) ↔ (MAX_SESSIONS < sessions) }
+    ensures office { IfOk result (λ made. made.0.sessions ≡ sessions) }
+    ensures bound { IfOk result (λ made. made.0.bound ≡ bound) }
+    ensures sessions { IfOk result (λ made. made.1.items ≡ new_tickets made.0.id sessions sessions) }
+    ensures ready { IfOk result (λ made. All (λ session. IsSessionOf made.0 session × IsIdle session) made.1.items) }
+{
+    let book = book_keeping(alloc, sessions, bound)?;
+    match Office::share(alloc, Programs::new(book)) {
+        Ok(made) => Ok(made),
+        Err(NoMemory) => Err(OpenFault::NoMemory),
+    }
+}

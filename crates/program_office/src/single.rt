@@ -1,0 +1,24 @@
+//! Single calls at an office of programs.
+
+ghost use Rattle.std.specs.Prelude.{◌≡◌, [], ◌∷◌, IfSome, IfNone};
+ghost use Rattle.program_office.specs.Single.{HasReplies};
+
+use lock_desk::{Call, Reply};
+use lock_programs::{Answer as ProgramAnswer, Program};
+
+/// The answer to a program of this one call, `Program::one(call)`, as `lock_office` gives it: the place of the call in the history of
+/// calls, and the reply. `None` if memory was refused to the call, as the answer then says.
+pub fn reply_of_one(call: Call, answer: &ProgramAnswer) -> Option<lock_office::Answer>
+    ensures place { IfSome result (λ one. one.place ≡ answer.now.first) }
+    ensures reply { IfSome result (λ one. HasReplies call answer.now (one.reply ∷ [])) }
+    ensures none { IfNone result (HasReplies call answer.now []) }
+{
+    let program = Program::one(call);
+    if answer.served(&program) == 0 {
+        return None;
+    }
+    Some(combining::Answer {
+        place: answer.first(),
+        reply: answer.reply(&program, 0),
+    })
+}

@@ -1,0 +1,2 @@
+pub mod ReadShown
+pub mod Skipped

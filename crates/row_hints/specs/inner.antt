@@ -1,0 +1,3 @@
+pub mod PrintableBytes
+pub mod Spots
+pub mod WordLists
