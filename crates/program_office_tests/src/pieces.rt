@@ -86,6 +86,26 @@ fn take_a_commit(rt: &impl Abort, alloc: Global, office: &Office, only: &mut Ses
     want(rt, office, only, &commits, 3, 6, &[Reply::Committed(0)]);
 }
 
+/// Takes both: first the path, and then the commit.
+fn take_both(
+    rt: &impl Abort,
+    alloc: Global,
+    office: &Office,
+    sessions: &mut Vec<Session>,
+    database: Resource,
+    file: Resource,
+    page: Resource,
+) -> Result<(), NoMemory>
+    requires ours { All (λ session. IsSessionOf office.now session × IsIdle session) sessions.old.items }
+    ensures ours { IfOk result (λ _. All (IsSessionOf office.now) sessions.new.items) }
+{
+    assert!(rt; !sessions.is_empty());
+    let only = &mut sessions[0];
+    take_a_path(rt, alloc, office, only, database, file, page)?;
+    take_a_commit(rt, alloc, office, only);
+    Ok(())
+}
+
 /// The closed object has served four programs of seven calls, and keeps the last one, which nobody has taken.
 fn want_left(rt: &impl Abort, object: &Programs<Book>) {
     assert!(rt; object.served() == 4 && object.object().served() == 7);
@@ -101,10 +121,8 @@ fn pieces_have_entries_of_calls(rt: HostRuntime) -> Result<(), Fail> {
     let file = Resource::from_numbers(&[7, 2]).ok_or("no resource")?;
     let page = Resource::from_numbers(&[7, 2, 5]).ok_or("no resource")?;
     let (office, mut sessions) = open_keeping(rt.alloc())?;
-    let mut only = sessions.pop().expect(&rt, "session 1");
-    take_a_path(&rt, rt.alloc(), &office, &mut only, database, file, page)?;
-    take_a_commit(&rt, rt.alloc(), &office, &mut only);
-    sessions.push(only)?;
+    let alloc = rt.alloc();
+    take_both(&rt, alloc, &office, &mut sessions, database, file, page)?;
     let object = closed(&rt, office, sessions);
     want_left(&rt, &object);
     Ok(())
