@@ -47,6 +47,7 @@ TESTED = {
     "desk_tests": ("refusals::",),
     "object_tests": ("refusals::",),
     "office_tests": ("boards::", "calls::", "closing::", "offices::"),
+    "program_office_tests": ("refusals::",),
 }
 # what tests print of a refusal: for each of these texts there has to be a round that prints it and nothing else
 TOLD = {
@@ -56,6 +57,9 @@ TOLD = {
     "refusals::a_refused_call_of_an_object_is_made_at_the_second_try": {"refused call"},
     "refusals::a_refused_key_is_added_at_the_second_try": {"refused key"},
     "refusals::a_refused_path_goes_on_at_the_second_try": {"refused path"},
+    "refusals::refused_programs_go_on_at_the_second_try": {
+        *("refused published", "refused at once", "refused whole call", "stopped published", "stopped at once", "stopped whole call"),
+    },
     "reports::refused_texts_are_written_at_the_second_try": {"refused"},
     "traces::reports_the_row_in_which_memory_was_refused": {"refused in row 1", "refused in row 3", "refused in row 5"},
     "waits::refused_rows_are_made_at_the_second_try": {"refused"},
