@@ -12,11 +12,13 @@
 //! program stand side by side, what `lock_office` proves of its history ([`laws`]).
 #![tactic(auto)]
 
+mod call_session;
 pub mod laws;
 mod opening;
 mod paths;
 mod single;
 
+pub use call_session::{CallSession, NextOfPath};
 pub use combining::{
     CloseFault, Ended, GoesOn, Nobody, OpenFault, Posted, Told, Turn, Wait, back_off, call, look,
     resume, turn,
