@@ -19,7 +19,7 @@ returns c h place e resource mode locked legal is calls =
     let same_reply : p.1 ≡ reply = let m = p.3 in cc (m, b) in
     subst (λ (q : Reply). Fits call q) same_reply (subst (λ (d : Call). Fits d p.1) same_call
     (each-fits c.replies_fit.ensures (flat_history h) legal.0 (e.reply.first + k) (entry e.session p.0 p.1) p.4)) in
-    let run = (at-place program_form 0 h place e legal.1 is).run in
+    let run = (at-place program_form 0 h place e legal.1 is).run.0 in
     let g = granted-first (calls_of e.call) (replies_of e.call e.reply) e.reply.is_refused (subst AreLocks (sym calls) (path-locks resource mode locked)) run fit in
     record {
       first = g.first;
