@@ -30,6 +30,7 @@ use Rattle.combining.proofs.EndedWaits.{split-at}
 use Rattle.lock_office.specs.Sessions.{Answer}
 use Rattle.lock_office.specs.Paths.{rest_of_path}
 use Rattle.program_office.specs.declared.call_session.CallSession.TheInside.{Inside}
+use Rattle.program_office.specs.declared.call_session.descending.NextOfPath.{NextOfPath}
 use Rattle.program_office.specs.inner.CallSessions.{IsReadable}
 use Rattle.program_office.specs.ProgramBoards.{TicketView, Pending, ProgramEntry, program_object, IsLegal}
 use Rattle.program_office.specs.Sessions.{IsPassed, IsPerformed}
@@ -107,6 +108,9 @@ read-performed P x y n m b d is h =
 
 pub read-next : (P : Answer → Type 0) (x y : Answer) → Next.Answered x ≡ Next.Answered y → P x → P y
 read-next P x y is h = let e : x ≡ y = cc in subst P e h
+
+pub read-path : (P : ℕ → Answer → Type 0) (n m : ℕ) (x y : Answer) → NextOfPath.Performed n x ≡ NextOfPath.Performed m y → P n x → P m y
+read-path P n m x y is h = let e : n ≡ m = cc in let f : x ≡ y = cc in subst (λ (k : ℕ). P k y) e (subst (λ (a : Answer). P n a) f h)
 
 abbrev WaitOf : Pause → Next Reply
 WaitOf x = Next.Wait x

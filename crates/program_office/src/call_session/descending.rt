@@ -2,14 +2,14 @@
 
 ghost use Rattle.std.specs.Prelude.{◌≡◌, ◌≢◌, ◌+◌, ◌^◌, ◌-◌, ◌<◌, ◌≤◌, ◌++◌, ◌∷◌, [], if◌then◌else◌, min, true, false, None, List, length};
 ghost use Rattle.combining.specs.declared.backoff.TheConstants.{TRIES_AT_ONCE};
-ghost use Rattle.combining.specs.Calls.{IsWaitingOn};
+ghost use Rattle.combining.specs.Calls.{IsWaitingOn, HasGoneOn};
 ghost use Rattle.combining.specs.Ended.{AreToldBy, HasRoom, entered_since};
 ghost use Rattle.combining.specs.Waits.{IsWaitAfterTry, IsWaitAfterLook};
 ghost use Rattle.lock_desk.specs.Paths.{lock_of_level, grants};
 ghost use Rattle.lock_programs.specs.Answers.{replies_of};
 ghost use Rattle.lock_rules.specs.declared.calls.Reply.{Reply as ReplyValue};
 ghost use Rattle.program_office.specs.Sessions.{IsSessionOf, IsIdle};
-ghost use Rattle.program_office.specs.SingleCalls.{IsCalled, IsAnswered, IsCalling};
+ghost use Rattle.program_office.specs.SingleCalls.{IsCalled, IsAnswered, IsCalling, HasStarvedCalling};
 ghost use Rattle.program_office.specs.PathTurns.{IsPathPerformed};
 
 use crate::call_session::CallSession;
@@ -90,8 +90,11 @@ impl CallSession {
         ensures idle { (level : _) (answer : _) → result ≡ NextOfPath.Performed level answer → IsIdle self.new }
         ensures unanswered { (level : _) (answer : _) → result ≢ NextOfPath.Answered level answer }
         ensures starved { result ≡ NextOfPath.Starved → IsCalling self.old self.new (lock_of_level resource.now mode (locked + 1)) }
+        ensures refused { result ≡ NextOfPath.Starved → HasStarvedCalling self.old self.new (lock_of_level resource.now mode (locked + 1)) }
         ensures waits { (w : _) → result ≡ NextOfPath.Wait w → (self.new ≡ self.old) × (1 < office.now.sessions) }
         ensures wait { (w : _) → result ≡ NextOfPath.Wait w → IsWaitAfterTry tried w }
+        ensures live { self.new.retired ≡ false }
+        ensures on { HasGoneOn self.old self.new }
         ensures told { AreToldBy T.ends office.now.sessions self.new.front (entered_since self.old self.new) (T.list told.new) }
         ensures room { T.room told.new ≡ T.room told.old }
     {
@@ -141,6 +144,7 @@ impl CallSession {
         ensures idle { (level : _) (answer : _) → result ≡ NextOfPath.Performed level answer → IsIdle self.new }
         ensures idle_answered { (level : _) (answer : _) → result ≡ NextOfPath.Answered level answer → IsIdle self.new }
         ensures starved { result ≡ NextOfPath.Starved → self.old.pending ≡ None → IsCalling self.old self.new (lock_of_level resource.now mode (locked + 1)) }
+        ensures refused { result ≡ NextOfPath.Starved → self.old.pending ≡ None → HasStarvedCalling self.old self.new (lock_of_level resource.now mode (locked + 1)) }
         ensures starved_on { result ≡ NextOfPath.Starved → self.old.pending ≢ None → IsWaitingOn self.old self.new × (self.old.put_backs < self.new.put_backs) }
         ensures tried { (w : _) → result ≡ NextOfPath.Wait w → self.old.pending ≡ None → made < TRIES_AT_ONCE → (self.new ≡ self.old) × (1 < office.now.sessions) }
         ensures published { (w : _) → result ≡ NextOfPath.Wait w → self.old.pending ≡ None → TRIES_AT_ONCE ≤ made
@@ -149,6 +153,8 @@ impl CallSession {
         ensures wait_tried { (w : _) → result ≡ NextOfPath.Wait w → self.old.pending ≡ None → made < TRIES_AT_ONCE → IsWaitAfterTry made w }
         ensures wait_published { (w : _) → result ≡ NextOfPath.Wait w → self.old.pending ≡ None → TRIES_AT_ONCE ≤ made → IsWaitAfterLook 0 w }
         ensures wait_looked { (w : _) → result ≡ NextOfPath.Wait w → self.old.pending ≢ None → IsWaitAfterLook made w }
+        ensures live { self.new.retired ≡ false }
+        ensures on { HasGoneOn self.old self.new }
         ensures told { AreToldBy T.ends office.now.sessions self.new.front (entered_since self.old self.new) (T.list told.new) }
         ensures room { T.room told.new ≡ T.room told.old }
     {

@@ -7,8 +7,8 @@ ghost use Rattle.combining.specs.Ended.{AreToldBy, HasRoom, entered_since};
 ghost use Rattle.program_office.specs.Sessions.{IsSessionOf, IsIdle, IsRefused, IsPerformed as IsProgramPerformed};
 ghost use Rattle.program_office.specs.SingleCalls.{IsPerformed};
 
-use crate::call_session::{CallSession, answer_of};
 use crate::Office;
+use crate::call_session::{CallSession, answer_of};
 use combining::{Nobody, Performed, Told};
 use lock_desk::{Book, Call, Reply};
 use lock_programs::{Answer as ProgramAnswer, Program};
