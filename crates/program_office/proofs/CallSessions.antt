@@ -25,6 +25,7 @@ use Rattle.combining.specs.declared.office.Turn.{Turn}
 use Rattle.combining.specs.declared.office.Turn.TheVariants.{Elsewhere, Pass}
 use Rattle.combining.specs.declared.office.perform.Performed.{Performed}
 use Rattle.combining.specs.declared.backoff.Wait.{Wait as Pause}
+use Rattle.combining.specs.declared.calling.Called.{Called}
 use Rattle.combining.specs.declared.calling.Next.{Next}
 use Rattle.combining.proofs.EndedWaits.{split-at}
 use Rattle.lock_office.specs.Sessions.{Answer}
@@ -34,7 +35,7 @@ use Rattle.program_office.specs.declared.call_session.descending.NextOfPath.{Nex
 use Rattle.program_office.specs.inner.CallSessions.{IsReadable}
 use Rattle.program_office.specs.ProgramBoards.{TicketView, Pending, ProgramEntry, program_object, IsLegal}
 use Rattle.program_office.specs.Sessions.{IsPassed, IsPerformed}
-use Rattle.program_office.specs.SingleCalls.{MakesOneCall}
+use Rattle.program_office.specs.SingleCalls.{MakesOneCall, IsAnswered}
 use Rattle.program_office.proofs.OneReplies.{some-replies, one-reply}
 
 -- an answer in a legal history is one that its program can have
@@ -62,6 +63,20 @@ reply-at h i s p a c one legal at = one-reply p a c one (answered-at h i s p a l
 
 pub performed-reply : (s t : TicketView) (p : Program) (at : ℕ) (a : ProgramAnswer) (n : ℕ) (c : Call) → MakesOneCall p c → IsPerformed s t p at a n → OneReply p a
 performed-reply s t p at a n c one h = one-reply p a c one (performed-answered s t p at a n h)
+
+-- the pending call is answered
+pub single-answered : (s t : TicketView) (at : ℕ) (a : ProgramAnswer) (asked : Program) (place : ℕ) (reply : Reply) (d : any.IsAnswered program_object s t at a)
+    → (d.0 ≡ asked) × ((c : Call) × MakesOneCall d.0 c) → replies_of asked a ≡ reply ∷ [] → a.first ≡ place → IsAnswered s t place reply
+single-answered s t at a asked place reply d kept replies first = record {
+  program = d.0;
+  floor = d.1;
+  pending = d.2;
+  answer = a;
+  at = at;
+  call = kept.1.0;
+  one = record { calls = kept.1.1; replies = subst (λ (p : Program). replies_of p a ≡ reply ∷ []) (sym kept.0) replies; place_is = first };
+  answered = d.3;
+}
 
 -- What is kept of a session, as it goes on.
 
@@ -108,6 +123,9 @@ read-performed P x y n m b d is h =
 
 pub read-next : (P : Answer → Type 0) (x y : Answer) → Next.Answered x ≡ Next.Answered y → P x → P y
 read-next P x y is h = let e : x ≡ y = cc in subst P e h
+
+pub read-called : (P : Answer → Type 0) (x y : Answer) → Called.Answered x ≡ Called.Answered y → P x → P y
+read-called P x y is h = let e : x ≡ y = cc in subst P e h
 
 pub read-path : (P : ℕ → Answer → Type 0) (n m : ℕ) (x y : Answer) → NextOfPath.Performed n x ≡ NextOfPath.Performed m y → P n x → P m y
 read-path P n m x y is h = let e : n ≡ m = cc in let f : x ≡ y = cc in subst (λ (k : ℕ). P k y) e (subst (λ (a : Answer). P n a) f h)

@@ -1,7 +1,7 @@
 //! A session that makes single calls at an office of programs: each call is a program of one call.
 //!
-//! Its calls are those of `combining`, in its files `performing.rt`, `turning.rt` and `looking.rt`, and are answered with the place of
-//! the call in the history of calls, and the reply. `descending.rt` goes down a path, by a program of several calls.
+//! Its calls are those of `combining`, in its files `performing.rt`, `turning.rt`, `calling.rt` and `looking.rt`, and are answered with the
+//! place of the call in the history of calls, and the reply. `descending.rt` goes down a path, by a program of several calls.
 
 ghost use Rattle.std.specs.Prelude.{◌≡◌, ◌≢◌, ◌⊎◌, ◌+◌, ◌<◌, ◌≤◌, ◌↔◌, ◌∷◌, [], true, false, IsTrue, None, Some, Ok, IfOk, IfErr, IfSome, IfNone, length, slice_index, vec_len, max};
 ghost use mathlib.Core.List.{IsPrefix};
@@ -17,6 +17,7 @@ ghost use Rattle.program_office.specs.ProgramBoards.{IsLegal, flat_history};
 ghost use Rattle.program_office.specs.Sessions.{IsSessionOf, IsIdle, IsPendingServed, IsPassed, HasTakenPiece};
 ghost use Rattle.program_office.specs.SingleCalls.{MakesOneCall, IsCollected};
 
+mod calling;
 mod descending;
 mod looking;
 mod performing;

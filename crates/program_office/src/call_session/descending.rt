@@ -114,10 +114,10 @@ impl CallSession {
         }
     }
 
-    /// Makes one turn on the way down a path of which `locked` levels are locked, behind `made` turns. A session with no call pending tries
-    /// to lock the rest of the path at once, by one program, in its first `TRIES_AT_ONCE` turns, and publishes the call of the next level in
-    /// the next one. A session with a call pending makes a turn as `look` does; what is told then is right if the pending call is that of
-    /// the next level. Tells whose waits the turn's passes and calls have ended, and nobody else.
+    /// Makes one turn on the way down a path of which `locked` levels are locked, behind `made` turns. A session with no call pending
+    /// tries to lock the rest of the path at once, by one program, in its first `TRIES_AT_ONCE` turns, and publishes the call of the next
+    /// level in the next one. A session with a call pending makes a turn as `look` does; what is told then is right if the pending call is
+    /// that of the next level. Tells whose waits the turn's passes and calls have ended, and nobody else.
     ///
     /// The caller goes on from the level that is told, behind no turns, until the path is locked or a reply doesn't grant its lock.
     pub fn path_turn<T: Told<Programs<Book>>>(

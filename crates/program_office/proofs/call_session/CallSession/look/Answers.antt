@@ -4,7 +4,7 @@ use Rattle.lock_programs.specs.Answers.{replies_of}
 use Rattle.lock_office.specs.Sessions.{Answer}
 use Rattle.program_office.specs.ProgramBoards.{TicketView}
 use Rattle.program_office.specs.SingleCalls.{IsAnswered}
-use Rattle.program_office.proofs.CallSessions.{reply-at, read-next}
+use Rattle.program_office.proofs.CallSessions.{reply-at, read-next, single-answered}
 use Rattle.program_office.proofs.call_session.CallSession.look.Goals.{in-Answered, in-Starved, in-Wait}
 use Rattle.program_office.proofs.call_session.CallSession.look.Goals as goal
 
@@ -25,16 +25,7 @@ returns-clause-answered g c = λ answer is.
           let k = c.self.invariant d.0 d.1 d.2 in
           let read = w.answer_of.result in
           let told = w.answer_of.ensures in
-          let done : IsAnswered c.self.inside.session c.look.new.session read.place read.reply = record {
-            program = d.0;
-            floor = d.1;
-            pending = d.2;
-            answer = found.reply;
-            at = found.place;
-            call = k.1.0;
-            one = record { calls = k.1.1; replies = subst (λ (p : Program). replies_of p found.reply ≡ read.reply ∷ []) (sym k.0) told.replies; place_is = told.place };
-            answered = d.3;
-          } in
+          let done : IsAnswered c.self.inside.session c.look.new.session read.place read.reply = single-answered c.self.inside.session c.look.new.session found.place found.reply c.self.inside.asked read.place read.reply d k told.replies told.place in
           read-next (λ (a : Answer). IsAnswered c.args.self.now c.look.new.session a.place a.reply) read answer (sym w.result-is ∙ is)
           (subst (λ (t : TicketView). IsAnswered t c.look.new.session read.place read.reply) c.self.view_is done)
       | in-Starved w ↦ absurd (let e = sym w.result-is ∙ is in cc)

@@ -9,7 +9,7 @@ use Rattle.combining.specs.Waits.{IsWaitAfterLook}
 use Rattle.lock_office.specs.Sessions.{Answer}
 use Rattle.program_office.specs.ProgramBoards.{TicketView}
 use Rattle.program_office.specs.SingleCalls.{MakesOneCall, IsCalled, IsAnswered, IsCalling, HasStarvedCalling}
-use Rattle.program_office.proofs.CallSessions.{turn-reply, readable-turn, readable-idle, read-next, read-wait, compared}
+use Rattle.program_office.proofs.CallSessions.{turn-reply, single-answered, readable-turn, readable-idle, read-next, read-wait, compared}
 use Rattle.program_office.proofs.call_session.CallSession.turn.Goals.{in-Answered, in-Starved, in-Wait}
 use Rattle.program_office.proofs.call_session.CallSession.turn.Goals as goal
 
@@ -75,16 +75,7 @@ returns-clause-answered g c = λ answer is some.
           let k = c.program_for-asked.ensures.pending d.0 d.1 (sym same ∙ d.2) in
           let read = w.answer_of.result in
           let told = w.answer_of.ensures in
-          let done : IsAnswered s c.turn.new.session read.place read.reply = record {
-            program = d.0;
-            floor = d.1;
-            pending = d.2;
-            answer = found.reply;
-            at = found.place;
-            call = k.1.0;
-            one = record { calls = k.1.1; replies = subst (λ (p : Program). replies_of p found.reply ≡ read.reply ∷ []) (sym k.0) told.replies; place_is = told.place };
-            answered = d.3;
-          } in
+          let done : IsAnswered s c.turn.new.session read.place read.reply = single-answered s c.turn.new.session found.place found.reply c.program_for-asked.result read.place read.reply d k told.replies told.place in
           read-next (λ (a : Answer). IsAnswered c.args.self.now c.turn.new.session a.place a.reply) read answer (sym w.result-is ∙ is)
           (subst (λ (t : TicketView). IsAnswered t c.turn.new.session read.place read.reply) c.self.view_is done)
       | in-Starved w ↦ absurd (let e = sym w.result-is ∙ is in cc)
