@@ -1,5 +1,5 @@
 -- Sessions of an office of programs that make single calls: each is a program of one call.
-use Rattle.std.specs.Prelude.{◌≡◌, ◌≢◌, ℕ, Some, None, [], ◌∷◌}
+use Rattle.std.specs.Prelude.{◌≡◌, ℕ, Some, [], ◌∷◌}
 use Rattle.lock_rules.specs.declared.calls.Call.{Call}
 use Rattle.lock_rules.specs.declared.calls.Reply.{Reply}
 use Rattle.lock_programs.specs.declared.program.Program.{Program}

@@ -1,4 +1,4 @@
-use Rattle.std.proofs.Common.{◌≡◌, ◌∙◌, ℕ, Bool, sym, subst}
+use Rattle.std.proofs.Common.{◌∙◌, ℕ, Bool, sym, subst}
 use Rattle.lock_office.specs.Sessions.{Answer}
 use Rattle.program_office.specs.ProgramBoards.{TicketView}
 use Rattle.program_office.specs.SingleCalls.{IsPerformed}

@@ -1,4 +1,4 @@
-use Rattle.std.proofs.Common.{◌≡◌, ◌<◌, ◌⊎◌, sym, subst}
+use Rattle.std.proofs.Common.{◌≡◌, ◌<◌, ◌⊎◌, subst}
 use Rattle.publication.specs.Boards.{publishing, enlisted, tried}
 use Rattle.program_office.specs.ProgramBoards.{TicketView}
 use Rattle.program_office.proofs.CallSessions.{published, readable-asking, asks-same}

@@ -1,6 +1,5 @@
-use Rattle.std.proofs.Common.{◌≡◌, ◌+◌, ℕ, inl, inr, refl, ap, subst}
+use Rattle.std.proofs.Common.{◌+◌, ℕ, inl, inr, refl, ap, subst}
 use Rattle.lock_rules.specs.declared.calls.Call.{Call}
-use Rattle.lock_desk.specs.Paths.{lock_of_level}
 use Rattle.lock_office.specs.Sessions.{Answer}
 use Rattle.combining.proofs.Turns.{published, posted-waits, posted-cases, posted-same, performed-called, called-on, refused-on, on-same, on-trans}
 use Rattle.program_office.specs.ProgramBoards.{program_object}

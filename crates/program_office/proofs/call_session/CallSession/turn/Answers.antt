@@ -1,7 +1,6 @@
-use Rattle.std.proofs.Common.{◌≡◌, ◌≢◌, ◌∙◌, ⊎_elim, inl, inr, ℕ, None, Some, [], ◌∷◌, ap, sym, subst}
+use Rattle.std.proofs.Common.{◌≡◌, ◌∙◌, ⊎_elim, inl, inr, ℕ, None, Some, ap, sym, subst}
 use Rattle.lock_rules.specs.declared.calls.Call.{Call}
 use Rattle.lock_programs.specs.declared.program.Program.{Program}
-use Rattle.lock_programs.specs.Answers.{replies_of}
 use Rattle.publication.specs.Views.{asks}
 use Rattle.combining.specs.declared.backoff.TheConstants.{TRIES_AT_ONCE}
 use Rattle.combining.specs.declared.backoff.Wait.{Wait as Pause}

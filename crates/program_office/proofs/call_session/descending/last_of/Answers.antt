@@ -1,4 +1,4 @@
-use Rattle.std.proofs.Common.{rules, ◌≡◌, ◌∙◌, ℕ, zero, suc, ◌+◌, ◌-◌, ◌^◌, ◌<◌, List, [], ◌∷◌, ◌++◌, length, Some, slice_get, refl, ap, arith}
+use Rattle.std.proofs.Common.{rules, ◌≡◌, ℕ, zero, suc, ◌+◌, ◌-◌, ◌^◌, List, [], ◌∷◌, ◌++◌, length, Some, slice_get, refl, ap, arith}
 use Rattle.std.specs.Prelude.{min}
 use Rattle.lock_rules.specs.declared.calls.Reply.{Reply}
 use Rattle.lock_programs.specs.Answers.{replies_of}
