@@ -1,21 +1,16 @@
 -- Why numbers encode no program, at which reply a program has stopped, and what was run on a book.
-use Rattle.std.proofs.Common.{◌≡◌, ◌≢◌, ◌≤◌, ◌⊎◌, inl, inr, ℕ, zero, suc, ◌+◌, Bool, true, false, ◌==◌, List, [], ◌∷◌, ◌++◌, length, Some, slice_get, refl, sym, ap, ◌∙◌, subst, arith}
-use Rattle.std.proofs.lemmas.Bool.{eqb-true}
+use Rattle.std.proofs.Common.{◌≡◌, ◌≢◌, ◌⊎◌, inl, inr, ℕ, zero, suc, ◌+◌, List, [], ◌∷◌, ◌++◌, length, Some, slice_get, sym, ap, arith}
 use Rattle.lock_modes.specs.declared.Mode.{Mode}
-use Rattle.lock_rules.specs.declared.calls.Call.{Call}
 use Rattle.lock_rules.specs.declared.calls.Call.TheVariants.{Lock, Convert, Try, Release}
 use Rattle.lock_rules.specs.declared.calls.Reply.{Reply}
 use Rattle.lock_rules.specs.Entries.{Entry}
 use Rattle.lock_rules.specs.Legal.{IsLegal}
-use Rattle.lock_rules.specs.State.{empty}
 use Rattle.programs.specs.Flat.{entries}
 use Rattle.programs.specs.Runs.{HasRun as RunOn}
 use Rattle.lock_programs.specs.declared.program.Program.{Program}
 use Rattle.lock_programs.specs.declared.answer.Answer.{Answer}
 use Rattle.lock_programs.specs.Calls.{calls_of}
-use Rattle.lock_programs.specs.Fits.{fits}
 use Rattle.lock_programs.specs.Answers.{replies_of, program_form}
-use Rattle.lock_programs.proofs.Steps.{last-fits}
 use Rattle.lock_desk.specs.BookView.{BookView}
 use Rattle.lock_desk.specs.Batches.{TellsFrom}
 use Rattle.pelgaisti_c.specs.declared.program_numbers.ProgramNumbers.{ProgramNumbers}

@@ -21,7 +21,8 @@ fn run(book: &mut Book, session: u16, program: &Program) -> Result<Answer, NoMem
     ensures done { IfOk result (λ answer. HasRun book.old book.new session program.now answer) }
     ensures refused { OnErr result (book.new ≡ book.old) }
 {
-    programs::run(book, session, program)
+    let answer = programs::run(book, session, program)?;
+    Ok(answer)
 }
 
 /// Runs the program that the numbers encode. Writes the answer, and the sessions whose wait its calls have ended, with their number.
