@@ -4,3 +4,5 @@ pub mod InTime
 pub mod PathPrograms
 pub mod Places
 pub mod Together
+pub mod OneReplies
+pub mod CallSessions

@@ -6,3 +6,7 @@ pub mod HoldsAsTold
 pub mod Ended
 pub mod InTime
 pub mod Paths
+pub mod SingleCalls
+pub mod PathTurns
+-- what only private items speak of
+pub mod inner

@@ -120,9 +120,12 @@ pub fn programs_stand_in_the_order_of_time()
         slice_get history earlier ≡ Some x → slice_get history place ≡ Some y → IsBefore program_form x y }
 {}
 
-/// A program of one call that was answered with a reply has its call in the history of calls, at the place that the answer tells, with
-/// this reply. Without one, memory was refused to the call, and it is in no history.
+/// A program of one call that stands in a history of programs was answered with one reply (`answered`), so that `reply_of_one` of its
+/// answer isn't `None`. Its call is in the history of calls, at the place that the answer tells, with this reply. An answer with no reply,
+/// which is in no history, says that memory was refused (`refused`).
 pub fn single_calls_stand_where_told()
+    ensures answered { (history : List ProgramEntry) (place : ℕ) (program : ProgramEntry) (call : Call) → IsLegal history →
+        slice_get history place ≡ Some program → calls_of program.call ≡ call ∷ [] → (reply : Reply) × (replies_of program.call program.reply ≡ reply ∷ []) }
     ensures stands { (history : List ProgramEntry) (place : ℕ) (program : ProgramEntry) (call : Call) (reply : Reply) → IsLegal history →
         slice_get history place ≡ Some program → calls_of program.call ≡ call ∷ [] → replies_of program.call program.reply ≡ reply ∷ [] →
         slice_get (flat_history history) program.reply.first ≡ Some (entry program.session call reply) }

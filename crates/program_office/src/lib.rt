@@ -5,18 +5,20 @@
 //! begin or not, and the calls of a path; its calls are served one after another, up to the first that isn't granted or done. Its answer
 //! has the place of the first call in the history of calls, and all replies follow from it.
 //!
-//! `opening.rt` opens an office that lets go of its history, `single.rt` reads the answer to a program of one call, `paths.rt` counts
-//! the levels of a path that a program locked, and `laws.rt` says what holds of locks.
+//! `opening.rt` opens an office that lets go of its history, `single.rt` reads the answer to a program of one call, `call_session.rt` is a
+//! session that makes single calls, `paths.rt` counts the levels of a path that a program locked, and `laws.rt` says what holds of locks.
 //!
 //! Proved, beside what `combining` proves of any object and `programs` of programs: of the history of calls, in which the calls of each
 //! program stand side by side, what `lock_office` proves of its history ([`laws`]).
 #![tactic(auto)]
 
+mod call_session;
 pub mod laws;
 mod opening;
 mod paths;
 mod single;
 
+pub use call_session::{CallSession, NextOfPath};
 pub use combining::{
     CloseFault, Ended, GoesOn, Nobody, OpenFault, Posted, Told, Turn, Wait, back_off, call, look,
     resume, turn,

@@ -7,7 +7,8 @@ use lock_desk::{Call, Reply};
 use lock_programs::{Answer as ProgramAnswer, Program};
 
 /// The answer to a program of this one call, `Program::one(call)`, as `lock_office` gives it: the place of the call in the history of
-/// calls, and the reply. `None` if memory was refused to the call, as the answer then says.
+/// calls, and the reply. `None` if the answer has no reply to the call, which no answer in a legal history has
+/// (`laws::single_calls_stand_where_told`).
 pub fn reply_of_one(call: Call, answer: &ProgramAnswer) -> Option<lock_office::Answer>
     ensures place { IfSome result (λ one. one.place ≡ answer.now.first) }
     ensures reply { IfSome result (λ one. HasReplies call answer.now (one.reply ∷ [])) }

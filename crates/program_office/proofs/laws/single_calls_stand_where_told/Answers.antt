@@ -3,13 +3,18 @@ use Rattle.lock_rules.specs.declared.calls.Call.{Call}
 use Rattle.lock_rules.specs.declared.calls.Reply.{Reply}
 use Rattle.publication.specs.Views.{entry}
 use Rattle.lock_programs.specs.Calls.{calls_of}
-use Rattle.lock_programs.specs.Answers.{replies_of}
+use Rattle.lock_programs.specs.Answers.{replies_of, program_form}
+use Rattle.programs.proofs.Placed.{at-place}
 use Rattle.program_office.specs.ProgramBoards.{flat_history}
+use Rattle.program_office.proofs.OneReplies.{one-reply}
 use Rattle.program_office.proofs.laws.single_calls_stand_where_told.Goals as goal
 
 -- the only item of a list is its first
 first-is : {T : Type 0} (l : List T) (x y : T) → l ≡ x ∷ [] → slice_get l 0 ≡ Some y → x ≡ y
 first-is {T} l x y only at = let e : Some x ≡ Some y = sym (ap (λ (k : List T). slice_get k 0) only) ∙ at in cc e
+
+pub returns-clause-answered : goal.returns-clause-answered
+returns-clause-answered c h place e call legal is calls = one-reply e.call e.reply call calls (at-place program_form 0 h place e legal.1 is).run
 
 pub returns-clause-stands : goal.returns-clause-stands
 returns-clause-stands c h place e call reply legal is calls replies =

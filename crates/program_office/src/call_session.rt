@@ -1,0 +1,247 @@
+//! A session that makes single calls at an office of programs: each call is a program of one call.
+//!
+//! Its calls are those of `combining`, in its files `performing.rt`, `turning.rt`, `calling.rt` and `looking.rt`, and are answered with the
+//! place of the call in the history of calls, and the reply. `descending.rt` goes down a path, by a program of several calls.
+
+ghost use Rattle.std.specs.Prelude.{◌≡◌, ◌≢◌, ◌⊎◌, ◌+◌, ◌<◌, ◌≤◌, ◌↔◌, ◌∷◌, [], true, false, IsTrue, None, Some, Ok, IfOk, IfErr, IfSome, IfNone, length, slice_index, vec_len, max};
+ghost use mathlib.Core.List.{IsPrefix};
+ghost use Rattle.sequential.specs.Histories.{calls_of as calls_of_session};
+ghost use Rattle.publication.specs.Kinds.{longer, maxes};
+ghost use Rattle.publication.specs.Boards.{HasCallsOf, heard_from, known_by, publishing, enlisted, tried};
+ghost use Rattle.lock_programs.specs.declared.program.Program.{Program as ProgramValue};
+ghost use Rattle.lock_programs.specs.Answers.{replies_of};
+ghost use Rattle.lock_rules.specs.declared.calls.Reply.{Reply as ReplyValue};
+ghost use Rattle.combining.specs.Sessions.{HasTriedToList};
+ghost use Rattle.combining.specs.Ended.{AreToldBy, HasRoom, entered_since};
+ghost use Rattle.program_office.specs.ProgramBoards.{IsLegal, flat_history};
+ghost use Rattle.program_office.specs.Sessions.{IsSessionOf, IsIdle, IsPendingServed, IsPassed, HasTakenPiece};
+ghost use Rattle.program_office.specs.SingleCalls.{MakesOneCall, IsCollected};
+
+mod calling;
+mod descending;
+mod looking;
+mod performing;
+mod turning;
+
+use crate::{HistoryPiece, Knowledge, Office, Session};
+use combining::{Posted, Told, Turn};
+pub use descending::NextOfPath;
+use lock_desk::{Book, Call, Reply};
+use lock_office::Answer;
+use lock_programs::{Answer as ProgramAnswer, Program};
+use programs::Programs;
+use std::alloc::{AllocError as NoMemory, Global};
+use std::marker::Model;
+
+/// A session that makes single calls.
+#[derive(Drop)]
+pub struct CallSession {
+    /// The session as the office made it.
+    session: Session,
+    /// The program that is pending, by which its answer is read. If none is pending, nothing relies on it.
+    asked: Program,
+}
+
+impl Model for CallSession {
+    ghost use Rattle.program_office.specs.ProgramBoards.{TicketView};
+    ghost use Rattle.program_office.specs.inner.CallSessions.{session_of, IsReadable};
+
+    ghost Value = { TicketView };
+
+    ghost view = { session_of };
+
+    ghost invariant = { IsReadable };
+}
+
+/// The answer to a program of one call that was served: the place of the call in the history of calls, and the reply.
+fn answer_of(asked: &Program, answer: &ProgramAnswer) -> Answer
+    requires served { (reply : ReplyValue) × (replies_of asked.now answer.now ≡ reply ∷ []) }
+    ensures replies { replies_of asked.now answer.now ≡ result.reply ∷ [] }
+    ensures place { answer.now.first ≡ result.place }
+{
+    combining::Answer {
+        place: answer.first(),
+        reply: answer.reply(asked, 0),
+    }
+}
+
+impl CallSession {
+    /// Makes single calls by a session that has no program pending.
+    pub fn new(session: Session) -> CallSession
+        requires none { session.pending ≡ None }
+        ensures { result ≡ session }
+    {
+        CallSession {
+            session,
+            asked: Program::one(Call::Poll),
+        }
+    }
+
+    /// Gives up the session as the office made it, for programs of several calls that are published, and for `Office::close`. A pending
+    /// call stays pending, as a program of one call.
+    pub fn into_session(self) -> Session
+        ensures { result ≡ self }
+    {
+        let CallSession { session, asked: _ } = self;
+        session
+    }
+
+    /// The session's number, from 1 on.
+    pub fn number(&self) -> u16
+        ensures { result ≡ self.now.number }
+    {
+        self.session.number()
+    }
+
+    /// Whether the session may make a call: none is pending, and it hasn't retired.
+    pub fn is_idle(&self) -> bool
+        ensures { IsTrue result ↔ ((self.now.pending ≡ None) × (self.now.retired ≡ false)) }
+    {
+        self.session.is_idle()
+    }
+
+    /// Whether the session has retired and makes no more calls.
+    pub fn is_retired(&self) -> bool
+        ensures { result ≡ self.now.retired }
+    {
+        self.session.is_retired()
+    }
+
+    /// Publishes a call, as `Office::publish` does.
+    pub fn publish(&mut self, office: &Office, call: Call) -> Posted
+        requires ours { IsSessionOf office.now self.old }
+        requires idle { IsIdle self.old }
+        ensures ours { IsSessionOf office.now self.new }
+        ensures published { (program : ProgramValue) × MakesOneCall program call
+            × (result ≡ Posted.Listed → (self.new ≡ enlisted (publishing self.old program)) ⊎ (self.new ≡ tried (enlisted (publishing self.old program))))
+            × (result ≡ Posted.Unlisted → (self.new ≡ tried (publishing self.old program)) × (1 < office.now.sessions)) }
+    {
+        self.asked = Program::one(call);
+        let asked = self.asked;
+        office.publish(&mut self.session, asked)
+    }
+
+    /// Serves, as `Office::serve` does.
+    pub fn serve(&mut self, office: &Office) -> Turn
+        requires ours { IsSessionOf office.now self.old }
+        ensures ours { IsSessionOf office.now self.new }
+        ensures elsewhere { result ≡ Turn.Elsewhere → HasTriedToList self.old self.new × (1 < office.now.sessions) }
+        ensures pass { (served : _) (starved : _) → result ≡ Turn.Pass served starved → IsPassed self.old self.new served }
+        ensures starved { (served : _) (starved : _) → result ≡ Turn.Pass served starved → IsTrue starved ↔ (self.old.put_backs < self.new.put_backs) }
+        ensures rises { (j : _) → heard_from self.old j ≤ heard_from self.new j }
+        ensures calls { HasCallsOf self.new.front self.new }
+        ensures own { (served : _) → result ≡ Turn.Pass served false → self.old.pending ≢ None → IsPendingServed self.new }
+        ensures heard { (served j : _) → result ≡ Turn.Pass served false → 0 < j → j ≤ office.now.sessions
+            → heard_from self.old j ≤ length (calls_of_session j self.new.front) }
+    {
+        office.serve(&mut self.session)
+    }
+
+    /// Serves and tells, as `Office::serve_telling` does.
+    pub fn serve_telling<T: Told<Programs<Book>>>(&mut self, office: &Office, told: &mut T) -> Turn
+        requires ours { IsSessionOf office.now self.old }
+        requires room { HasRoom (T.room told.old) office.now.sessions }
+        ensures ours { IsSessionOf office.now self.new }
+        ensures elsewhere { result ≡ Turn.Elsewhere → HasTriedToList self.old self.new × (1 < office.now.sessions) }
+        ensures pass { (served : _) (starved : _) → result ≡ Turn.Pass served starved → IsPassed self.old self.new served }
+        ensures starved { (served : _) (starved : _) → result ≡ Turn.Pass served starved → IsTrue starved ↔ (self.old.put_backs < self.new.put_backs) }
+        ensures rises { (j : _) → heard_from self.old j ≤ heard_from self.new j }
+        ensures calls { HasCallsOf self.new.front self.new }
+        ensures own { (served : _) → result ≡ Turn.Pass served false → self.old.pending ≢ None → IsPendingServed self.new }
+        ensures heard { (served j : _) → result ≡ Turn.Pass served false → 0 < j → j ≤ office.now.sessions
+            → heard_from self.old j ≤ length (calls_of_session j self.new.front) }
+        ensures told { AreToldBy T.ends office.now.sessions self.new.front (entered_since self.old self.new) (T.list told.new) }
+        ensures none { result ≡ Turn.Elsewhere → T.list told.new ≡ [] }
+        ensures room { T.room told.new ≡ T.room told.old }
+    {
+        office.serve_telling(&mut self.session, told)
+    }
+
+    /// Takes the answer to the pending call, as `Office::collect` does.
+    pub fn collect(&mut self, office: &Office) -> Option<Answer>
+        requires ours { IsSessionOf office.now self.old }
+        ensures ours { IsSessionOf office.now self.new }
+        ensures some { IfSome result (λ answer. IsCollected self.old self.new answer.place answer.reply) }
+        ensures idle { IfSome result (λ _. IsIdle self.new) }
+        ensures none { IfNone result (self.new ≡ self.old) }
+        ensures late { IfNone result (self.old.pending ≢ None → ¬ (IsPendingServed self.old)) }
+    {
+        let asked = self.asked;
+        match office.collect(&mut self.session) {
+            Some(found) => Some(answer_of(&asked, &found.reply)),
+            None => None,
+        }
+    }
+
+    /// What the session knows, as `Office::knowledge` tells it.
+    pub fn knowledge(&mut self, office: &Office) -> Knowledge
+        requires ours { IsSessionOf office.now self.old }
+        ensures ours { IsSessionOf office.now self.new }
+        ensures same { self.new ≡ self.old }
+        ensures knowledge { result ≡ known_by self.old }
+    {
+        office.knowledge(&mut self.session)
+    }
+
+    /// Learns what another session knew, as `Office::heed` does.
+    pub fn heed(&mut self, office: &Office, knowledge: Knowledge)
+        requires ours { IsSessionOf office.now self.old × (knowledge.board ≡ office.now.id) }
+        ensures ours { IsSessionOf office.now self.new }
+        ensures session { self.new ≡ record self.old {
+          front = longer self.old.front knowledge.front;
+          heard = maxes self.old.heard knowledge.heard;
+        } }
+        ensures fronts { IsPrefix self.old.front self.new.front × IsPrefix knowledge.front self.new.front }
+        ensures legal { IsLegal self.new.front }
+        ensures heard { (j : _) → heard_from self.new j ≡ max (heard_from self.old j) (slice_index knowledge.heard j) }
+        ensures calls { HasCallsOf self.new.front self.new }
+    {
+        office.heed(&mut self.session, knowledge);
+    }
+
+    /// Learns what the other session knows, as `Office::hear` does.
+    pub fn hear(&mut self, office: &Office, other: &mut CallSession)
+        requires ours { IsSessionOf office.now self.old × IsSessionOf office.now other.old }
+        ensures ours { IsSessionOf office.now self.new × IsSessionOf office.now other.new }
+        ensures other { other.new ≡ other.old }
+        ensures session { self.new ≡ record self.old {
+          front = longer self.old.front other.old.front;
+          heard = maxes self.old.heard other.old.heard;
+        } }
+        ensures fronts { IsPrefix self.old.front self.new.front × IsPrefix other.old.front self.new.front }
+        ensures legal { IsLegal self.new.front }
+        ensures heard { (j : _) → heard_from self.new j ≡ max (heard_from self.old j) (heard_from other.old j) }
+        ensures calls { HasCallsOf self.new.front self.new × HasCallsOf self.new.front other.new }
+    {
+        office.hear(&mut self.session, &mut other.session);
+    }
+
+    /// Retires: the session makes no more calls.
+    pub fn retire(&mut self, office: &Office)
+        requires ours { IsSessionOf office.now self.old }
+        requires idle { IsIdle self.old }
+        ensures ours { IsSessionOf office.now self.new }
+        ensures session { self.new ≡ record self.old { retired = true } }
+    {
+        office.retire(&mut self.session);
+    }
+
+    /// Takes the oldest entries of the history of calls that are kept, at most `most`, as `Office::take_oldest` does.
+    pub fn take_oldest(
+        &mut self,
+        office: &Office,
+        alloc: Global,
+        most: usize,
+    ) -> Result<Option<HistoryPiece>, NoMemory>
+        requires ours { IsSessionOf office.now self.old }
+        ensures ours { IsSessionOf office.now self.new }
+        ensures some { (piece : _) → result ≡ Ok (Some piece) → HasTakenPiece self.old self.new piece.first piece.lines.items }
+        ensures few { (piece : _) → result ≡ Ok (Some piece) → vec_len piece.lines ≤ most }
+        ensures all { (piece : _) → result ≡ Ok (Some piece) → vec_len piece.lines < most → piece.first + vec_len piece.lines ≡ length (flat_history self.new.front) }
+        ensures none { result ≡ Ok None → (self.new ≡ self.old) × (1 < office.now.sessions) }
+        ensures err { IfErr result (λ _. self.new ≡ self.old) }
+        ensures calls { IfOk result (λ _. HasCallsOf self.new.front self.new) }
+    {
+        office.take_oldest(alloc, &mut self.session, most)
+    }
+}

@@ -1,0 +1,139 @@
+//! Questions that a session asks of the lock table of its open office, as `lock_office::queries` does.
+
+ghost use Rattle.std.specs.Prelude.{◌≡◌, ◌<◌, None, Some, Ok, IfOk, IfErr, IfSome, IfNone, length};
+ghost use Rattle.lock_rules.specs.State.{held_mode, holders};
+ghost use Rattle.lock_rules.specs.Waits.{waits_for};
+ghost use Rattle.lock_rules.specs.Legal.{state_of};
+ghost use Rattle.lock_rules.specs.Listing.{listing_of, waiting_line};
+ghost use Rattle.lock_desk.specs.Queries.{blockers_among};
+ghost use Rattle.publication.specs.Boards.{HasCallsOf};
+ghost use Rattle.program_office.specs.ProgramBoards.{flat_history};
+ghost use Rattle.program_office.specs.Sessions.{IsSessionOf, HasLooked};
+
+use crate::Office;
+use crate::call_session::CallSession;
+use lock_desk::{Claim, Mode, NoMemory, Resource, Transaction};
+use lock_office::queries;
+use lock_office::queries::Snapshot;
+use std::alloc::Global;
+
+impl CallSession {
+    /// The mode of the lock that session `whose` holds on `resource`, `None` if it holds none. `None` in place of an answer, with nothing
+    /// changed, means that another session had the lock table.
+    pub fn held(
+        &mut self,
+        office: &Office,
+        whose: u16,
+        resource: Resource,
+    ) -> Option<Snapshot<Option<Mode>>>
+        requires ours { IsSessionOf office.now self.old }
+        ensures ours { IsSessionOf office.now self.new }
+        ensures looked { IfSome result (λ _. HasLooked self.old self.new) }
+        ensures length { IfSome result (λ seen. seen.length ≡ length (flat_history self.new.front)) }
+        ensures found { IfSome result (λ seen. seen.found ≡ held_mode (state_of (flat_history self.new.front)).table whose resource) }
+        ensures none { IfNone result ((self.new ≡ self.old) × (1 < office.now.sessions)) }
+        ensures calls { HasCallsOf self.new.front self.new }
+    {
+        queries::held(office, &mut self.session, whose, resource)
+    }
+
+    /// Whether session `whose` waits for `other` directly. `None` is as with `held`.
+    pub fn waits_for(&mut self, office: &Office, whose: u16, other: u16) -> Option<Snapshot<bool>>
+        requires ours { IsSessionOf office.now self.old }
+        ensures ours { IsSessionOf office.now self.new }
+        ensures looked { IfSome result (λ _. HasLooked self.old self.new) }
+        ensures length { IfSome result (λ seen. seen.length ≡ length (flat_history self.new.front)) }
+        ensures found { IfSome result (λ seen. seen.found ≡ waits_for (state_of (flat_history self.new.front)).table whose other) }
+        ensures none { IfNone result ((self.new ≡ self.old) × (1 < office.now.sessions)) }
+        ensures calls { HasCallsOf self.new.front self.new }
+    {
+        queries::waits_for(office, &mut self.session, whose, other)
+    }
+
+    /// The open transaction of session `whose`. `None` in place of an answer is as with `held`.
+    pub fn transaction(
+        &mut self,
+        office: &Office,
+        whose: u16,
+    ) -> Option<Snapshot<Option<Transaction>>>
+        requires ours { IsSessionOf office.now self.old }
+        ensures ours { IsSessionOf office.now self.new }
+        ensures looked { IfSome result (λ _. HasLooked self.old self.new) }
+        ensures length { IfSome result (λ seen. seen.length ≡ length (flat_history self.new.front)) }
+        ensures found { IfSome result (λ seen. seen.found ≡ (state_of (flat_history self.new.front)).begun whose) }
+        ensures none { IfNone result ((self.new ≡ self.old) × (1 < office.now.sessions)) }
+        ensures calls { HasCallsOf self.new.front self.new }
+    {
+        queries::transaction(office, &mut self.session, whose)
+    }
+
+    /// The waiting request of session `whose`. `None` in place of an answer is as with `held`.
+    pub fn request(&mut self, office: &Office, whose: u16) -> Option<Snapshot<Option<Claim>>>
+        requires ours { IsSessionOf office.now self.old }
+        ensures ours { IsSessionOf office.now self.new }
+        ensures looked { IfSome result (λ _. HasLooked self.old self.new) }
+        ensures length { IfSome result (λ seen. seen.length ≡ length (flat_history self.new.front)) }
+        ensures found { IfSome result (λ seen. seen.found ≡ waiting_line (state_of (flat_history self.new.front)) whose) }
+        ensures none { IfNone result ((self.new ≡ self.old) × (1 < office.now.sessions)) }
+        ensures calls { HasCallsOf self.new.front self.new }
+    {
+        queries::request(office, &mut self.session, whose)
+    }
+
+    /// Replaces the contents of `list` by the holders of `resource`, as `queries::holders` does.
+    pub fn holders(
+        &mut self,
+        office: &Office,
+        resource: Resource,
+        list: &mut Vec<(u16, Mode)>,
+    ) -> Result<Option<u64>, NoMemory>
+        requires ours { IsSessionOf office.now self.old }
+        ensures ours { IsSessionOf office.now self.new }
+        ensures looked { (seen : _) → result ≡ Ok (Some seen) → HasLooked self.old self.new }
+        ensures length { (seen : _) → result ≡ Ok (Some seen) → seen ≡ length (flat_history self.new.front) }
+        ensures found { (seen : _) → result ≡ Ok (Some seen) → list.new.items ≡ holders resource (state_of (flat_history self.new.front)).table.held }
+        ensures none { result ≡ Ok None → (self.new ≡ self.old) × (list.new.items ≡ list.old.items) × (1 < office.now.sessions) }
+        ensures err { IfErr result (λ _. HasLooked self.old self.new × (list.new.items ≡ list.old.items)) }
+        ensures calls { HasCallsOf self.new.front self.new }
+    {
+        queries::holders(office, &mut self.session, resource, list)
+    }
+
+    /// Replaces the contents of `list` by the sessions for which session `whose` waits, as `queries::blockers` does.
+    pub fn blockers(
+        &mut self,
+        office: &Office,
+        whose: u16,
+        list: &mut Vec<u16>,
+    ) -> Result<Option<u64>, NoMemory>
+        requires ours { IsSessionOf office.now self.old }
+        ensures ours { IsSessionOf office.now self.new }
+        ensures looked { (seen : _) → result ≡ Ok (Some seen) → HasLooked self.old self.new }
+        ensures length { (seen : _) → result ≡ Ok (Some seen) → seen ≡ length (flat_history self.new.front) }
+        ensures found { (seen : _) → result ≡ Ok (Some seen) → list.new.items ≡ blockers_among office.now.sessions (state_of (flat_history self.new.front)).table whose }
+        ensures none { result ≡ Ok None → (self.new ≡ self.old) × (list.new.items ≡ list.old.items) × (1 < office.now.sessions) }
+        ensures err { IfErr result (λ _. (self.new ≡ self.old) × (list.new.items ≡ list.old.items)) }
+        ensures calls { IfOk result (λ _. HasCallsOf self.new.front self.new) }
+    {
+        queries::blockers(office, &mut self.session, whose, list)
+    }
+
+    /// Replaces the contents of `list` by all locks and all waiting requests, as `queries::locks` does.
+    pub fn locks(
+        &mut self,
+        office: &Office,
+        alloc: Global,
+        list: &mut Vec<Claim>,
+    ) -> Result<Option<u64>, NoMemory>
+        requires ours { IsSessionOf office.now self.old }
+        ensures ours { IsSessionOf office.now self.new }
+        ensures looked { (seen : _) → result ≡ Ok (Some seen) → HasLooked self.old self.new }
+        ensures length { (seen : _) → result ≡ Ok (Some seen) → seen ≡ length (flat_history self.new.front) }
+        ensures found { (seen : _) → result ≡ Ok (Some seen) → list.new.items ≡ listing_of (state_of (flat_history self.new.front)) }
+        ensures none { result ≡ Ok None → (self.new ≡ self.old) × (list.new.items ≡ list.old.items) × (1 < office.now.sessions) }
+        ensures err { IfErr result (λ _. HasLooked self.old self.new × (list.new.items ≡ list.old.items)) }
+        ensures calls { HasCallsOf self.new.front self.new }
+    {
+        queries::locks(office, alloc, &mut self.session, list)
+    }
+}

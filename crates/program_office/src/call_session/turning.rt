@@ -1,0 +1,126 @@
+//! One turn of a session's call.
+
+ghost use Rattle.std.specs.Prelude.{◌≡◌, ◌≢◌, ◌+◌, ◌%◌, ◌<◌, ◌≤◌, ℕ, true, false, Some, None};
+ghost use Rattle.combining.specs.declared.backoff.TheConstants.{TRIES_AT_ONCE, LOOKS_PER_TRY};
+ghost use Rattle.combining.specs.Calls.{IsWaitingOn, HasGoneOn};
+ghost use Rattle.combining.specs.Ended.{HasAddedTold, HasRoom, entered_since};
+ghost use Rattle.combining.specs.Waits.{IsWaitAfterTry, IsWaitAfterLook};
+ghost use Rattle.program_office.specs.Sessions.{IsSessionOf, IsIdle};
+ghost use Rattle.program_office.specs.SingleCalls.{MakesOneCall, IsCalled, IsAnswered, IsCalling, HasStarvedCalling};
+ghost use Rattle.lock_programs.specs.declared.program.Program.{Program as ProgramValue};
+ghost use Rattle.lock_rules.specs.declared.calls.Call.{Call as CallValue};
+ghost use Rattle.publication.specs.Views.{asks};
+
+use crate::Office;
+use crate::call_session::{CallSession, answer_of};
+use combining::{Next, Told};
+use lock_desk::{Book, Call, Reply};
+use lock_programs::Program;
+use programs::Programs;
+
+impl CallSession {
+    /// The program that a turn of this call goes on with: the pending one, or else the program of this one call.
+    fn program_for(&self, call: &Call) -> Program
+        requires live { self.now.retired ≡ false }
+        ensures idle { self.now.pending ≡ None → MakesOneCall result call.now }
+        ensures pending { (program : ProgramValue) (floor : ℕ) → self.now.pending ≡ Some (asks program floor)
+            → (program ≡ result) × ((one : CallValue) × MakesOneCall program one) }
+    {
+        if self.session.is_idle() {
+            return Program::one(*call);
+        }
+        self.asked
+    }
+
+    /// Makes one turn of a call, as `combining::turn` does.
+    #[inline(always)]
+    pub fn turn<T: Told<Programs<Book>>>(
+        &mut self,
+        office: &Office,
+        call: &Call,
+        made: u64,
+        told: &mut T,
+    ) -> Next<Reply>
+        requires ours { IsSessionOf office.now self.old }
+        requires live { self.old.retired ≡ false }
+        requires room { HasRoom (T.room told.old) office.now.sessions }
+        ensures ours { IsSessionOf office.now self.new }
+        ensures called { (answer : _) → result ≡ Next.Answered answer → self.old.pending ≡ None → IsCalled self.old self.new call.now answer.place answer.reply }
+        ensures answered { (answer : _) → result ≡ Next.Answered answer → self.old.pending ≢ None → IsAnswered self.old self.new answer.place answer.reply }
+        ensures idle { (answer : _) → result ≡ Next.Answered answer → IsIdle self.new }
+        ensures starved { result ≡ Next.Starved → self.old.pending ≡ None → IsCalling self.old self.new call.now }
+        ensures refused { result ≡ Next.Starved → self.old.pending ≡ None → HasStarvedCalling self.old self.new call.now }
+        ensures starved_on { result ≡ Next.Starved → self.old.pending ≢ None → IsWaitingOn self.old self.new × (self.old.put_backs < self.new.put_backs) }
+        ensures tried { (w : _) → result ≡ Next.Wait w → self.old.pending ≡ None → made < TRIES_AT_ONCE → (self.new ≡ self.old) × (1 < office.now.sessions) }
+        ensures published { (w : _) → result ≡ Next.Wait w → self.old.pending ≡ None → TRIES_AT_ONCE ≤ made → IsCalling self.old self.new call.now × (1 < office.now.sessions) }
+        ensures waits { (w : _) → result ≡ Next.Wait w → self.old.pending ≢ None → IsWaitingOn self.old self.new }
+        ensures wait_tried { (w : _) → result ≡ Next.Wait w → self.old.pending ≡ None → made < TRIES_AT_ONCE → IsWaitAfterTry made w }
+        ensures wait_published { (w : _) → result ≡ Next.Wait w → self.old.pending ≡ None → TRIES_AT_ONCE ≤ made → IsWaitAfterLook 0 w }
+        ensures wait_looked { (w : _) → result ≡ Next.Wait w → self.old.pending ≢ None → IsWaitAfterLook made w }
+        ensures tries_at_once { self.old.pending ≡ None → made < TRIES_AT_ONCE → self.new.tries ≤ self.old.tries + 1 }
+        ensures tries_published { self.old.pending ≡ None → self.new.tries ≤ self.old.tries + 2 }
+        ensures tries { self.old.pending ≢ None → self.new.tries ≤ self.old.tries + 1 }
+        ensures untried { self.old.pending ≢ None → made % LOOKS_PER_TRY ≢ 0 → self.new.tries ≡ self.old.tries }
+        ensures live { self.new.retired ≡ false }
+        ensures on { HasGoneOn self.old self.new }
+        ensures told { HasAddedTold T.ends office.now.sessions self.new.front (entered_since self.old self.new) (T.list told.old) (T.list told.new) }
+        ensures room { T.room told.new ≡ T.room told.old }
+    {
+        let asked = self.program_for(call);
+        self.asked = asked;
+        match combining::turn(office, &mut self.session, &asked, made, told) {
+            Next::Answered(found) => Next::Answered(answer_of(&asked, &found.reply)),
+            Next::Starved => Next::Starved,
+            Next::Wait(wait) => Next::Wait(wait),
+        }
+    }
+
+    /// Makes one turn of the pending call, as `combining::look` does.
+    pub fn look<T: Told<Programs<Book>>>(
+        &mut self,
+        office: &Office,
+        looked: u64,
+        told: &mut T,
+    ) -> Next<Reply>
+        requires ours { IsSessionOf office.now self.old }
+        requires pending { self.old.pending ≢ None }
+        requires room { HasRoom (T.room told.old) office.now.sessions }
+        ensures ours { IsSessionOf office.now self.new }
+        ensures answered { (answer : _) → result ≡ Next.Answered answer → IsAnswered self.old self.new answer.place answer.reply }
+        ensures idle { (answer : _) → result ≡ Next.Answered answer → IsIdle self.new }
+        ensures starved { result ≡ Next.Starved → IsWaitingOn self.old self.new × (self.old.put_backs < self.new.put_backs) }
+        ensures waits { (w : _) → result ≡ Next.Wait w → IsWaitingOn self.old self.new }
+        ensures others { (w : _) → result ≡ Next.Wait w → looked % LOOKS_PER_TRY ≡ 0 → 1 < office.now.sessions }
+        ensures tries { self.new.tries ≤ self.old.tries + 1 }
+        ensures untried { looked % LOOKS_PER_TRY ≢ 0 → self.new.tries ≡ self.old.tries }
+        ensures wait { (w : _) → result ≡ Next.Wait w → IsWaitAfterLook looked w }
+        ensures on { HasGoneOn self.old self.new }
+        ensures told { HasAddedTold T.ends office.now.sessions self.new.front (entered_since self.old self.new) (T.list told.old) (T.list told.new) }
+        ensures room { T.room told.new ≡ T.room told.old }
+    {
+        let asked = self.asked;
+        match combining::look(office, &mut self.session, looked, told) {
+            Next::Answered(found) => Next::Answered(answer_of(&asked, &found.reply)),
+            Next::Starved => Next::Starved,
+            Next::Wait(wait) => Next::Wait(wait),
+        }
+    }
+
+    /// Publishes the call of a session that has none pending, as `combining::publish_if_idle` does.
+    pub fn publish_if_idle(&mut self, office: &Office, call: Call)
+        requires ours { IsSessionOf office.now self.old }
+        requires live { self.old.retired ≡ false }
+        ensures ours { IsSessionOf office.now self.new }
+        ensures published { self.old.pending ≡ None → IsCalling self.old self.new call }
+        ensures same { self.old.pending ≢ None → self.new ≡ self.old }
+        ensures known { (self.new.front ≡ self.old.front) × (self.new.entered ≡ self.old.entered) }
+        ensures tries { self.new.tries ≤ self.old.tries + 1 }
+    {
+        if !self.session.is_idle() {
+            return;
+        }
+        self.asked = Program::one(call);
+        let asked = self.asked;
+        combining::publish_if_idle(office, &mut self.session, asked);
+    }
+}
