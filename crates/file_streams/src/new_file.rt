@@ -31,7 +31,8 @@ fn is_special<T: Files>(files: &T, path: &str) -> bool {
 fn behind_links<T: Files>(files: &T, alloc: Global, path: &str) -> io::Result<String> {
     match files.canonicalize(alloc, path) {
         Ok(real) => Ok(real.into_string()),
-        Err(_) => Ok(String::from_str(alloc, path)?),
+        Err(error) if error.kind() == ErrorKind::NotFound => Ok(String::from_str(alloc, path)?),
+        Err(error) => Err(error),
     }
 }
 
