@@ -21,6 +21,7 @@ use Rattle.publication.specs.declared.board.Posted.{Posted}
 use Rattle.publication.specs.declared.board.Posted.TheVariants.{Listed, Unlisted}
 use Rattle.combining.specs.Calls.{HasGoneOn}
 use Rattle.combining.specs.Waits.{FitIntoLooks}
+use Rattle.combining.specs.Ended.{IsNotedUpTo}
 use Rattle.combining.specs.declared.backoff.TheConstants.{LOOKS_PER_TRY}
 use Rattle.combining.specs.Calls.{later, IsWaitingOn, IsAnswered, IsCalled, IsCalling}
 use Rattle.sequential.specs.declared.object.Sequential.{Ghosts}
@@ -331,3 +332,13 @@ fit-fewer few many looks le fit = omega (arith, le, fit)
 -- Tries that fit into looks fit into more.
 pub fit-longer : (tries looks more : ℕ) → looks ≤ more → FitIntoLooks tries looks → FitIntoLooks tries more
 fit-longer tries looks more le fit = omega (arith, le, fit)
+
+module _ {O C R : Type 0} {obj : Ghosts O C R} where
+  -- What is noted behind the pass in which a call was performed is true of the front up to it.
+  pub noted-performed : (first : Bool) (t u : TicketView C R) (call : C) (place : ℕ) (reply : R) (served : ℕ) (notes : List (Entry C R) → Type 0)
+      → IsPerformed obj first t u call place reply served → notes u.front → IsNotedUpTo notes u.front (place + 1)
+  noted-performed first t u call place reply served notes p noted =
+      let ahead : List (Entry C R) = t.front ++ p.others ++ p.ahead in
+      let n = ap (λ (l : List (Entry C R)). length l) p.front in
+      let m = length-append ahead (entry t.number call reply ∷ p.behind) in
+      record { front = u.front; noted = noted; longer = prefix_self u.front; length_is = omega (arith, n, m, p.place_is) }

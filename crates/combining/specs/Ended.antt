@@ -1,5 +1,6 @@
 -- Whose waits a session's passes have ended.
-use Rattle.std.specs.Prelude.{◌≢◌, ◌⊎◌, ℕ, ◌<◌, ◌≤◌, ◌↔◌, Option, IfSome, List, length, take, drop, slice_index, Contains}
+use Rattle.std.specs.Prelude.{◌≡◌, ◌≢◌, ◌⊎◌, ℕ, ◌<◌, ◌≤◌, ◌↔◌, Option, IfSome, List, length, take, drop, slice_index, max, Contains}
+use mathlib.Core.List.{IsPrefix}
 use Rattle.sequential.specs.declared.entry.Entry.{Entry}
 use Rattle.sequential.specs.EndedWaits.{HasEndedIn, HasEndedAt}
 use Rattle.publication.specs.Views.{TicketView}
@@ -40,3 +41,12 @@ module _ {C R : Type 0} (ends : List (Entry C R) → Entry C R → ℕ → Type 
     pub members : (u : ℕ) → Contains new u ↔ (Contains old u ⊎ ((1 ≤ u) × (u ≤ n) × HasEndedAt ends history places u))
     pub once : IsOnce old → IsOnce new
     pub within : (p : ℕ) → Contains places p → p < length history
+
+module _ {C R : Type 0} (notes : List (Entry C R) → Type 0) where
+  -- What was noted is true of a front of the known history, which is the whole, or ends ahead of the entries that became known by the
+  -- answer at the end of the first `known` ones.
+  pub record IsNotedUpTo (history : List (Entry C R)) (known : ℕ) : Type 0 where
+    pub front : List (Entry C R)
+    pub noted : notes front
+    pub longer : IsPrefix front history
+    pub length_is : length history ≡ max (length front) known

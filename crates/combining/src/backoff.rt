@@ -39,7 +39,7 @@ pub enum Wait {
 
 /// What to do after a try to perform a call at once, of which `tried` came before: pauses that grow from try to try, and a yield once
 /// `TRIES_BEFORE_YIELDS` were made.
-pub(crate) fn after_try(tried: u64) -> Wait
+pub fn after_try(tried: u64) -> Wait
     ensures { IsWaitAfterTry tried result }
 {
     if tried >= TRIES_BEFORE_YIELDS {

@@ -3,7 +3,7 @@
 ghost use Rattle.std.specs.Prelude.{◌≡◌, ◌≢◌, ◌⊎◌, ◌+◌, ◌-◌, ◌<◌, ◌≤◌, ◌%◌, true, false, [], None};
 ghost use Rattle.combining.specs.Sessions.{IsSessionOf, IsIdle, IsPendingServed};
 ghost use Rattle.combining.specs.Calls.{IsCalled, IsCalling, IsAnswered, IsWaitingOn, HasStarved, HasStarvedCalling, HasGoneOn};
-ghost use Rattle.combining.specs.Ended.{AreToldBy, HasAddedTold, HasRoom, entered_since};
+ghost use Rattle.combining.specs.Ended.{AreToldBy, HasAddedTold, HasRoom, IsNotedUpTo, entered_since};
 ghost use Rattle.combining.specs.Waits.{IsWaitAfterTry, IsWaitAfterLook, FitIntoLooks};
 
 use crate::backoff::{LOOKS_PER_TRY, TRIES_AT_ONCE, Wait, after_look, after_try, back_off};
@@ -54,6 +54,7 @@ fn serve_if<O: Batching, T: Told<O>>(
     ensures untried { serve_now ≡ false → session.new.tries ≡ session.old.tries }
     ensures told { HasAddedTold T.ends office.now.sessions session.new.front (entered_since session.old session.new) (T.list told.old) (T.list told.new) }
     ensures room { T.room told.new ≡ T.room told.old }
+    ensures notes { T.notes told.old session.old.front → T.notes told.new session.new.front }
 {
     if !serve_now {
         return false;
@@ -90,6 +91,9 @@ pub fn look<O: Batching, T: Told<O>>(
     ensures on { HasGoneOn session.old session.new }
     ensures told { HasAddedTold T.ends office.now.sessions session.new.front (entered_since session.old session.new) (T.list told.old) (T.list told.new) }
     ensures room { T.room told.new ≡ T.room told.old }
+    ensures noted { (answer : _) → result ≡ Next.Answered answer → T.notes told.old session.old.front → IsNotedUpTo (T.notes told.new) session.new.front (answer.place + 1) }
+    ensures notes_starved { result ≡ Next.Starved → T.notes told.old session.old.front → T.notes told.new session.new.front }
+    ensures notes_waits { (w : _) → result ≡ Next.Wait w → T.notes told.old session.old.front → T.notes told.new session.new.front }
 {
     let starved = serve_if(office, session, looked % LOOKS_PER_TRY == 0, told);
     if let Some(answer) = office.collect(session) {
@@ -124,6 +128,9 @@ fn publish_and_look<O: Batching, T: Told<O>>(
     ensures on { HasGoneOn session.old session.new }
     ensures told { HasAddedTold T.ends office.now.sessions session.new.front (entered_since session.old session.new) (T.list told.old) (T.list told.new) }
     ensures room { T.room told.new ≡ T.room told.old }
+    ensures noted { (answer : _) → result ≡ Next.Answered answer → T.notes told.old session.old.front → IsNotedUpTo (T.notes told.new) session.new.front (answer.place + 1) }
+    ensures notes_starved { result ≡ Next.Starved → T.notes told.old session.old.front → T.notes told.new session.new.front }
+    ensures notes_waits { (w : _) → result ≡ Next.Wait w → T.notes told.old session.old.front → T.notes told.new session.new.front }
 {
     let _posted = office.publish(session, call);
     look(office, session, 0, told)
@@ -152,6 +159,9 @@ fn try_at_once<O: Batching, T: Told<O>>(
     ensures on { HasGoneOn session.old session.new }
     ensures told { HasAddedTold T.ends office.now.sessions session.new.front (entered_since session.old session.new) (T.list told.old) (T.list told.new) }
     ensures room { T.room told.new ≡ T.room told.old }
+    ensures noted { (answer : _) → result ≡ Next.Answered answer → T.notes told.old session.old.front → IsNotedUpTo (T.notes told.new) session.new.front (answer.place + 1) }
+    ensures notes_starved { result ≡ Next.Starved → T.notes told.old session.old.front → T.notes told.new session.new.front }
+    ensures notes_waits { (w : _) → result ≡ Next.Wait w → T.notes told.old session.old.front → T.notes told.new session.new.front }
 {
     match office.perform_adding(session, *call, told) {
         Performed::Answered { answer, .. } => Next::Answered(answer),
@@ -200,6 +210,9 @@ pub fn turn<O: Batching, T: Told<O>>(
     ensures on { HasGoneOn session.old session.new }
     ensures told { HasAddedTold T.ends office.now.sessions session.new.front (entered_since session.old session.new) (T.list told.old) (T.list told.new) }
     ensures room { T.room told.new ≡ T.room told.old }
+    ensures noted { (answer : _) → result ≡ Next.Answered answer → T.notes told.old session.old.front → IsNotedUpTo (T.notes told.new) session.new.front (answer.place + 1) }
+    ensures notes_starved { result ≡ Next.Starved → T.notes told.old session.old.front → T.notes told.new session.new.front }
+    ensures notes_waits { (w : _) → result ≡ Next.Wait w → T.notes told.old session.old.front → T.notes told.new session.new.front }
 {
     if !session.is_idle() {
         return look(office, session, made, told);
@@ -248,6 +261,9 @@ pub fn resume<O: Batching, T: Told<O>>(
     ensures tries { FitIntoLooks (session.new.tries - session.old.tries) turns }
     ensures told { AreToldBy T.ends office.now.sessions session.new.front (entered_since session.old session.new) (T.list told.new) }
     ensures room { T.room told.new ≡ T.room told.old }
+    ensures noted { (answer : _) → result ≡ Called.Answered answer → T.notes told.old session.old.front → IsNotedUpTo (T.notes told.new) session.new.front (answer.place + 1) }
+    ensures notes_starved { result ≡ Called.Starved → T.notes told.old session.old.front → T.notes told.new session.new.front }
+    ensures notes_not_yet { result ≡ Called.NotYet → T.notes told.old session.old.front → T.notes told.new session.new.front }
 {
     told.clear();
     for looked in 0..turns {
@@ -285,6 +301,9 @@ pub fn call<O: Batching, T: Told<O>>(
     ensures tries { FitIntoLooks (session.new.tries - session.old.tries) (turns + 1) }
     ensures told { AreToldBy T.ends office.now.sessions session.new.front (entered_since session.old session.new) (T.list told.new) }
     ensures room { T.room told.new ≡ T.room told.old }
+    ensures noted { (answer : _) → result ≡ Called.Answered answer → T.notes told.old session.old.front → IsNotedUpTo (T.notes told.new) session.new.front (answer.place + 1) }
+    ensures notes_starved { result ≡ Called.Starved → T.notes told.old session.old.front → T.notes told.new session.new.front }
+    ensures notes_not_yet { result ≡ Called.NotYet → T.notes told.old session.old.front → T.notes told.new session.new.front }
 {
     told.clear();
     let asked = call;

@@ -31,7 +31,7 @@ mod told;
 
 pub use backoff::{
     DOUBLINGS, FIRST_PAUSES, LOOKS_PER_TRY, LOOKS_PER_YIELD, PAUSES, TRIES_AT_ONCE,
-    TRIES_BEFORE_YIELDS, Wait, back_off,
+    TRIES_BEFORE_YIELDS, Wait, after_try, back_off,
 };
 pub use calling::{Called, Next, call, look, publish_if_idle, resume, turn};
 pub use ended::Ended;

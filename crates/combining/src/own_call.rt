@@ -56,6 +56,7 @@ pub(crate) fn perform_own_telling<O: Batching, T: Told<O>>(
     ensures taken { load.new.pieces.items ≡ load.old.pieces.items }
     ensures told { HasAddedTold T.ends board.now.sessions session.new.front (entered_since session.old session.new) (T.list told.old) (T.list told.new) }
     ensures room { T.room told.new ≡ T.room told.old }
+    ensures notes { T.notes told.old session.old.front → T.notes told.new session.new.front }
 {
     let answer = perform_own(board, session, load, call)?;
     told.add(&load.object, 1);
@@ -78,6 +79,7 @@ pub(crate) fn serve_published_telling<O: Batching, T: Told<O>>(
     ensures served { HasServed board.now.sessions session.old session.new load.old load.new result.starved }
     ensures told { HasAddedTold T.ends board.now.sessions session.new.front (entered_since session.old session.new) (T.list told.old) (T.list told.new) }
     ensures room { T.room told.new ≡ T.room told.old }
+    ensures noted { T.notes told.new session.new.front }
 {
     let pass = serve_published(board, session, load);
     told.add(&load.object, pass.served);
@@ -102,6 +104,7 @@ fn serve_own_first<O: Batching, T: Told<O>>(
     ensures served { HasServed board.now.sessions session.old session.new load.old load.new result.0.starved }
     ensures told { HasAddedTold T.ends board.now.sessions session.new.front (entered_since session.old session.new) (T.list told.old) (T.list told.new) }
     ensures room { T.room told.new ≡ T.room told.old }
+    ensures noted { T.notes told.new session.new.front }
 {
     let answer = perform_own_telling(board, session, load, call, told);
     (serve_published_telling(board, session, load, told), answer)
@@ -125,6 +128,7 @@ fn serve_own_last<O: Batching, T: Told<O>>(
     ensures served { HasServed board.now.sessions session.old session.new load.old load.new result.0.starved }
     ensures told { HasAddedTold T.ends board.now.sessions session.new.front (entered_since session.old session.new) (T.list told.old) (T.list told.new) }
     ensures room { T.room told.new ≡ T.room told.old }
+    ensures noted { T.notes told.new session.new.front }
 {
     let pass = serve_published_telling(board, session, load, told);
     let answer = perform_own_telling(board, session, load, call, told);
@@ -150,6 +154,7 @@ pub(crate) fn serve_with_own<O: Batching, T: Told<O>>(
     ensures served { HasServed board.now.sessions session.old session.new load.old load.new result.0.starved }
     ensures told { HasAddedTold T.ends board.now.sessions session.new.front (entered_since session.old session.new) (T.list told.old) (T.list told.new) }
     ensures room { T.room told.new ≡ T.room told.old }
+    ensures noted { T.notes told.new session.new.front }
 {
     if O::goes_first(&call) {
         serve_own_first(board, session, load, call, told)

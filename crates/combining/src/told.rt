@@ -18,20 +18,25 @@ pub trait Told<O: Batching> {
     // The waits whose end it is told: this entry, behind this front of the history, has ended the wait of this session.
     ghost ends: { List (Entry O.Call O.Reply) → Entry O.Call O.Reply → ℕ → Type 0 };
 
+    // What it has noted is true of this history. Nothing is asked of who notes nothing.
+    ghost notes: { Self → List (Entry O.Call O.Reply) → Type 0 };
+
     /// Forgets all sessions.
     fn clear(&mut self)
         ensures none { list self.new ≡ [] }
-        ensures room { room self.new ≡ room self.old };
+        ensures room { room self.new ≡ room self.old }
+        ensures notes { (history : _) → notes self.old history → notes self.new history };
 
     /// Adds the sessions whose wait the last `served` calls have ended, by the object that served them, each if it was not added
-    /// before.
+    /// before. What it notes of the object's history, it notes anew.
     fn add(&mut self, object: &O, served: u32)
         requires tells { 0 < served → (from : ℕ) × O.tells_from object.now from }
         requires room { HasRoom (room self.old) (O.sessions object.now) }
         ensures members { (from u : ℕ) → (0 < served → O.tells_from object.now from) → length (O.history object.now) ≡ from + served
             → Contains (list self.new) u ↔ (Contains (list self.old) u ⊎ IsEndedFrom ends (O.sessions object.now) (O.history object.now) from u) }
         ensures once { IsOnce (list self.old) → IsOnce (list self.new) }
-        ensures room { room self.new ≡ room self.old };
+        ensures room { room self.new ≡ room self.old }
+        ensures notes { notes self.new (O.history object.now) };
 }
 
 /// Nobody is told anything.
@@ -46,6 +51,8 @@ impl<O: Batching> Told<O> for Nobody {
     ghost room = { λ _. None };
 
     ghost ends = { λ _ _ _. ⊥ };
+
+    ghost notes = { λ _ _. Unit };
 
     #[inline(always)]
     fn clear(&mut self) {}
@@ -62,6 +69,8 @@ impl<O: Telling> Told<O> for Ended {
     ghost room = { λ ended. Some ended.room };
 
     ghost ends = { O.ends };
+
+    ghost notes = { λ _ _. Unit };
 
     fn clear(&mut self) {
         self.remove_all();

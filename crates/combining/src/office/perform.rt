@@ -86,6 +86,7 @@ impl<O: Batching> Office<O> {
         ensures told { AreToldBy T.ends self.now.sessions session.new.front (entered_since session.old session.new) (T.list told.new) }
         ensures none { result ≡ Performed.Elsewhere → T.list told.new ≡ [] }
         ensures room { T.room told.new ≡ T.room told.old }
+        ensures notes { T.notes told.old session.old.front → T.notes told.new session.new.front }
     {
         told.clear();
         self.perform_adding(session, call, told)
@@ -115,6 +116,7 @@ impl<O: Batching> Office<O> {
         ensures told { HasAddedTold T.ends self.now.sessions session.new.front (entered_since session.old session.new) (T.list told.old) (T.list told.new) }
         ensures none { result ≡ Performed.Elsewhere → told.new ≡ told.old }
         ensures room { T.room told.new ≡ T.room told.old }
+        ensures notes { T.notes told.old session.old.front → T.notes told.new session.new.front }
     {
         let Some(mut load) = self.board.seize(session) else {
             return Performed::Elsewhere;

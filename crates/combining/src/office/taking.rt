@@ -17,6 +17,8 @@ pub struct HistoryPiece<L> {
     pub first: u64,
     /// What the object wrote down of its history from that place on, in order: of most objects the calls with their replies.
     pub lines: Vec<L>,
+    /// How many lines the object had written down in all by then, with those that it keeps and those that are gone.
+    pub written: u64,
 }
 
 impl<O: Trimming> Office<O> {
@@ -38,12 +40,14 @@ impl<O: Trimming> Office<O> {
         ensures ours { IsSessionOf self.now session.new }
         ensures some { IfSome result (λ piece. HasTakenPiece O.Sequential O.lines session.old session.new piece.first piece.lines.items) }
         ensures all { IfSome result (λ piece. length (O.lines session.new.front) ≤ MOST_DROPPED → piece.first + vec_len piece.lines ≡ length (O.lines session.new.front)) }
+        ensures written { IfSome result (λ piece. piece.written ≡ length (O.lines session.new.front)) }
         ensures many { IfSome result (λ piece. MOST_DROPPED < length (O.lines session.new.front) → piece.lines.items ≡ []) }
         ensures none { IfNone result ((session.new ≡ session.old) × (1 < self.now.sessions)) }
         ensures calls { HasCallsOf session.new.front session.new }
     {
         let mut load = self.board.seize(session)?;
         let first = load.object.kept_from();
+        let written = first + load.object.kept().len() as u64;
         let lines = load.object.take_kept(alloc);
         let piece = Piece {
             session: session.number(),
@@ -52,7 +56,11 @@ impl<O: Trimming> Office<O> {
         };
         load.pieces.push(&piece);
         self.board.release(session, load);
-        Some(HistoryPiece { first, lines })
+        Some(HistoryPiece {
+            first,
+            lines,
+            written,
+        })
     }
 
     /// Takes the oldest lines that the object keeps, at most `most`, else as `take_history` does: fewer only if no more are kept.
@@ -70,6 +78,7 @@ impl<O: Trimming> Office<O> {
         ensures some { (piece : _) → result ≡ Ok (Some piece) → HasTakenPiece O.Sequential O.lines session.old session.new piece.first piece.lines.items }
         ensures few { (piece : _) → result ≡ Ok (Some piece) → vec_len piece.lines ≤ most }
         ensures all { (piece : _) → result ≡ Ok (Some piece) → vec_len piece.lines < most → piece.first + vec_len piece.lines ≡ length (O.lines session.new.front) }
+        ensures written { (piece : _) → result ≡ Ok (Some piece) → piece.written ≡ length (O.lines session.new.front) }
         ensures none { result ≡ Ok None → (session.new ≡ session.old) × (1 < self.now.sessions) }
         ensures err { IfErr result (λ _. session.new ≡ session.old) }
         ensures calls { IfOk result (λ _. HasCallsOf session.new.front session.new) }
@@ -80,6 +89,7 @@ impl<O: Trimming> Office<O> {
         };
         let first = load.object.kept_from();
         let kept = load.object.kept();
+        let written = first + kept.len() as u64;
         let count = usize::min(most, kept.len());
         let Ok(()) = lines.extend_from_slice(&kept[..count]) else {
             unreachable!()
@@ -92,6 +102,10 @@ impl<O: Trimming> Office<O> {
         };
         load.pieces.push(&piece);
         self.board.release(session, load);
-        Ok(Some(HistoryPiece { first, lines }))
+        Ok(Some(HistoryPiece {
+            first,
+            lines,
+            written,
+        }))
     }
 }

@@ -1,4 +1,4 @@
-use Rattle.std.proofs.Common.{◌≡◌, ◌≢◌, ◌⊎◌, inl, inr, ⊎_elim, ◌∙◌, ◌+◌, ◌-◌, ◌%◌, ◌<◌, ◌≤◌, ℕ, zero, suc, None, [], refl, sym, ap, subst, arith}
+use Rattle.std.proofs.Common.{◌≡◌, ◌≢◌, ◌⊎◌, inl, inr, ⊎_elim, ◌∙◌, ◌+◌, ◌-◌, ◌%◌, ◌<◌, ◌≤◌, ℕ, zero, suc, None, List, [], refl, sym, ap, subst, arith}
 use Rattle.publication.specs.Views.{TicketView}
 use Rattle.combining.specs.declared.backoff.TheConstants.{TRIES_AT_ONCE, LOOKS_PER_TRY}
 use Rattle.combining.specs.declared.office.Answer.{Answer}
@@ -104,6 +104,7 @@ loop-made-preserved g c =
           (⊎_elim (λ still. inl (still, none-pending t u still c.requires.idle.0)) (λ calling. inr (calling-pending t u c.args.call calling.0)) i.calling);
       told = told-on n t u v [] (g.T.Told.list c.loop-made.told) (g.T.Told.list c.turn.new.told) (gone n t u c.args.call i.calling).entered e.on.longer e.on.entered i.told e.told;
       room = e.room ∙ i.room;
+      notes = λ before. e.notes_waits next is (i.notes before);
     }
 
 pub returns-clause-not_yet : goal.returns-clause-not_yet
@@ -173,3 +174,7 @@ returns-clause-tries g c =
     (λ still. let same : u.tries ≡ t.tries = ap (λ (x : TicketView _ _). x.tries) still in let n = e.tries in omega (arith, same, n))
     (λ calling. subst (λ (x : TicketView _ _). FitIntoLooks (x.tries - t.tries) (c.args.turns + 1)) (sym (e.same (calling-pending t u c.args.call calling.0))) (fit-longer (u.tries - t.tries) c.loop-made.made (c.args.turns + 1) (omega arith) i.tries))
     i.calling
+
+pub returns-clause-notes_not_yet : goal.returns-clause-notes_not_yet
+returns-clause-notes_not_yet g c _ before =
+    subst (λ (l : List _). g.T.Told.notes c.loop-made.told l) (sym c.publish_if_idle.ensures.known.0) (c.loop-made.invariant.notes (c.clear.ensures.notes c.args.session.now.front before))

@@ -6,7 +6,7 @@ use Rattle.combining.specs.Waits.{FitIntoLooks}
 use Rattle.combining.proofs.calling.call.Given as goal
 
 -- The call isn't made yet, or published and pending; the session has lost a try for the object if it made a turn. Those are told whose
--- waits its passes have ended.
+-- waits its passes have ended, and what is noted is true of the front that it knows.
 abbrev pub invariant-loop-made : goal.invariant-loop-made
 invariant-loop-made g l = record {
   ours : IsSessionOf l.office l.session;
@@ -15,4 +15,5 @@ invariant-loop-made g l = record {
   tries : FitIntoLooks (l.session.tries - l.initial.session.tries) l.made;
   told : HasAddedTold g.T.Told.ends l.office.sessions l.session.front (entered_since l.initial.session l.session) [] (g.T.Told.list l.told);
   room : g.T.Told.room l.told ≡ g.T.Told.room l.initial.told;
+  notes : g.T.Told.notes l.initial.told l.initial.session.front → g.T.Told.notes l.told l.session.front;
 }

@@ -1,7 +1,9 @@
-use Rattle.std.proofs.Common.{ap}
+use Rattle.std.proofs.Common.{◌≡◌, ◌+◌, ap, subst}
 use Rattle.publication.specs.Views.{TicketView}
 use Rattle.combining.proofs.EndedWaits.{told-knowing}
 use Rattle.combining.proofs.Turns.{waiting-on, on-trans, collected-on}
+use Rattle.combining.specs.declared.office.Answer.{Answer}
+use Rattle.combining.specs.Ended.{IsNotedUpTo}
 use Rattle.combining.proofs.calling.look.Goals as goal
 
 pub returns-in-Some-clause-told : goal.returns-in-Some-clause-told
@@ -16,3 +18,15 @@ returns-in-Some-clause-on g c =
     let u = c.serve_if-starved.new.session in
     let v = c.collect.new.session in
     on-trans t u v (waiting-on t u c.serve_if-starved.ensures.waits) (collected-on u v c.in-Some.answer.place c.in-Some.answer.reply c.in-Some.ensures.some)
+
+pub returns-in-Some-clause-noted : goal.returns-in-Some-clause-noted
+returns-in-Some-clause-noted g c answer is before =
+    let got = c.in-Some.ensures.some in
+    let same : c.in-Some.answer ≡ answer = cc is in
+    let noted : IsNotedUpTo (g.T.Told.notes c.serve_if-starved.new.told) c.collect.new.session.front (c.in-Some.answer.place + 1) = record {
+      front = c.serve_if-starved.new.session.front;
+      noted = c.serve_if-starved.ensures.notes before;
+      longer = got.longer;
+      length_is = got.known;
+    } in
+    subst (λ (a : Answer _). IsNotedUpTo (g.T.Told.notes c.serve_if-starved.new.told) c.collect.new.session.front (a.place + 1)) same noted

@@ -1,4 +1,6 @@
-use Rattle.std.proofs.Common.{inr, refl, arith}
+use Rattle.std.proofs.Common.{◌≡◌, inr, List, refl, sym, subst, arith}
+use Rattle.sequential.specs.declared.entry.Entry.{Entry}
+use Rattle.publication.specs.Views.{TicketView}
 use Rattle.publication.specs.Boards.{publishing}
 use Rattle.combining.proofs.EndedWaits.{told-on, told-self}
 use Rattle.combining.proofs.Turns.{on-same, on-trans, posted-cases, posted-waits, posted-same, published, published-called, waiting-trans, tries-posted}
@@ -65,3 +67,25 @@ returns-clause-tries g c =
     let p = c.publish-posted.ensures in
     let n = tries-posted c.args.session.now c.publish-posted.new.session c.args.call (posted-cases c.publish-posted.result p.listed p.unlisted) in
     omega (arith, n, c.look.ensures.tries)
+
+-- what was noted of the front when the call was published
+noted-published : {C R : Type 0} (notes : List (Entry C R) → Type 0) (t u : TicketView C R) → u.front ≡ t.front → notes t.front → notes u.front
+noted-published notes t u same before = subst notes (sym same) before
+
+pub returns-clause-noted : goal.returns-clause-noted
+returns-clause-noted g c answer is before =
+    let p = c.publish-posted.ensures in
+    let same = posted-same c.args.session.now c.publish-posted.new.session c.args.call (posted-cases c.publish-posted.result p.listed p.unlisted) in
+    c.look.ensures.noted answer is (noted-published (g.T.Told.notes c.args.told.now) c.args.session.now c.publish-posted.new.session same.0 before)
+
+pub returns-clause-notes_starved : goal.returns-clause-notes_starved
+returns-clause-notes_starved g c is before =
+    let p = c.publish-posted.ensures in
+    let same = posted-same c.args.session.now c.publish-posted.new.session c.args.call (posted-cases c.publish-posted.result p.listed p.unlisted) in
+    c.look.ensures.notes_starved is (noted-published (g.T.Told.notes c.args.told.now) c.args.session.now c.publish-posted.new.session same.0 before)
+
+pub returns-clause-notes_waits : goal.returns-clause-notes_waits
+returns-clause-notes_waits g c w is before =
+    let p = c.publish-posted.ensures in
+    let same = posted-same c.args.session.now c.publish-posted.new.session c.args.call (posted-cases c.publish-posted.result p.listed p.unlisted) in
+    c.look.ensures.notes_waits w is (noted-published (g.T.Told.notes c.args.told.now) c.args.session.now c.publish-posted.new.session same.0 before)

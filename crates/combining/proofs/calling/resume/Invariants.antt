@@ -5,7 +5,8 @@ use Rattle.combining.specs.Ended.{HasAddedTold, entered_since}
 use Rattle.combining.specs.Waits.{FitIntoLooks}
 use Rattle.combining.proofs.calling.resume.Given as goal
 
--- The session goes on waiting, and has lost a try for the object if it made a look. Those are told whose waits its passes have ended.
+-- The session goes on waiting, and has lost a try for the object if it made a look. Those are told whose waits its passes have ended, and
+-- what is noted is true of the front that it knows.
 abbrev pub invariant-loop-looked : goal.invariant-loop-looked
 invariant-loop-looked g l = record {
   ours : IsSessionOf l.office l.session;
@@ -14,4 +15,5 @@ invariant-loop-looked g l = record {
   tries : FitIntoLooks (l.session.tries - l.initial.session.tries) l.looked;
   told : HasAddedTold g.T.Told.ends l.office.sessions l.session.front (entered_since l.initial.session l.session) [] (g.T.Told.list l.told);
   room : g.T.Told.room l.told ≡ g.T.Told.room l.initial.told;
+  notes : g.T.Told.notes l.initial.told l.initial.session.front → g.T.Told.notes l.told l.session.front;
 }

@@ -1,9 +1,10 @@
-use Rattle.std.proofs.Common.{◌≡◌, inl, inr, refl, ap, subst, arith}
+use Rattle.std.proofs.Common.{◌≡◌, ◌+◌, inl, inr, List, refl, sym, ap, subst, arith}
 use Rattle.publication.specs.Views.{TicketView}
 use Rattle.combining.specs.declared.office.Answer.{Answer}
 use Rattle.combining.specs.Calls.{IsCalled}
+use Rattle.combining.specs.Ended.{IsNotedUpTo}
 use Rattle.combining.proofs.EndedWaits.{told-same}
-use Rattle.combining.proofs.Turns.{performed-called, called-on, refused-on, on-same, on-trans, posted-cases, posted-waits, posted-same, published, tries-posted}
+use Rattle.combining.proofs.Turns.{performed-called, called-on, refused-on, on-same, on-trans, posted-cases, posted-waits, posted-same, published, tries-posted, noted-performed}
 use Rattle.combining.proofs.calling.try_at_once.Goals as goal
 
 pub returns-in-Answered-clause-answered : goal.returns-in-Answered-clause-answered
@@ -73,3 +74,19 @@ returns-in-Starved-clause-tries g c =
     let n = ap (λ (x : TicketView _ _). x.tries) (c.perform_adding.ensures.refused c.in-Starved.is).session in
     let m = tries-posted u v c.args.call.now (posted-cases c.publish-posted.result p.listed p.unlisted) in
     omega (arith, n, m)
+
+pub returns-in-Answered-clause-noted : goal.returns-in-Answered-clause-noted
+returns-in-Answered-clause-noted g c answer is before =
+    let a = c.in-Answered.answer in
+    let same : a ≡ answer = cc is in
+    subst (λ (x : Answer _). IsNotedUpTo (g.T.Told.notes c.perform_adding.new.told) c.perform_adding.new.session.front (x.place + 1)) same
+    (noted-performed _ c.args.session.now c.perform_adding.new.session c.args.call.now a.place a.reply c.in-Answered.served (g.T.Told.notes c.perform_adding.new.told)
+    (c.in-Answered.ensures.answered a c.in-Answered.served c.in-Answered.starved refl) (c.perform_adding.ensures.notes before))
+
+pub returns-in-Starved-clause-notes_starved : goal.returns-in-Starved-clause-notes_starved
+returns-in-Starved-clause-notes_starved g c _ before =
+    let u = c.perform_adding.new.session in
+    let v = c.publish-posted.new.session in
+    let p = c.publish-posted.ensures in
+    let same = posted-same u v c.args.call.now (posted-cases c.publish-posted.result p.listed p.unlisted) in
+    subst (λ (l : List _). g.T.Told.notes c.perform_adding.new.told l) (sym same.0) (c.perform_adding.ensures.notes before)

@@ -64,5 +64,5 @@ returns-clause-some g c piece is =
       lines_are = which.0 ∙ ap (λ (l : List (Entry _ _)). take (length taken) (drop first (g.O.Trimming.lines l))) (sym front);
       within = omega (arith, which.1, ap (λ (l : List (Entry _ _)). length (g.O.Trimming.lines l)) front);
     } in
-    let same : record { first = first; lines = c.extend_from_slice.new.self } ≡ piece = cc is in
+    let same : record { first = first; lines = c.extend_from_slice.new.self; written = first + length c.kept-kept.result.now } ≡ piece = cc is in
     subst (λ (q : HistoryPiece _). HasTakenPiece g.O.Sequential g.O.Trimming.lines before after q.first q.lines.items) same took
