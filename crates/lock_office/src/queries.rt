@@ -146,6 +146,29 @@ pub fn request<O: HasBook>(
     Some(Snapshot { length, found })
 }
 
+/// Replaces the contents of `list` by the sessions that hold `resource`, as `holders` does, and says how many calls the history had also
+/// where memory is refused: the contents of `list` are unchanged then. `None` is as with `held`.
+pub fn list_holders<O: HasBook>(
+    office: &Office<O>,
+    session: &mut Session<O>,
+    resource: Resource,
+    list: &mut Vec<(u16, Mode)>,
+) -> Option<Snapshot<Result<(), NoMemory>>>
+    requires ours { IsSessionOf office.now session.old }
+    ensures ours { IsSessionOf office.now session.new }
+    ensures looked { IfSome result (λ _. HasLooked O.Sequential session.old session.new) }
+    ensures length { IfSome result (λ seen. seen.length ≡ length (O.calls session.new.front)) }
+    ensures found { IfSome result (λ seen. IfOk seen.found (λ _. list.new.items ≡ holders resource (state_of (O.calls session.new.front)).table.held)) }
+    ensures err { IfSome result (λ seen. IfErr seen.found (λ _. list.new.items ≡ list.old.items)) }
+    ensures none { IfNone result ((session.new ≡ session.old) × (list.new.items ≡ list.old.items) × (1 < office.now.sessions)) }
+    ensures calls { HasCallsOf session.new.front session.new }
+{
+    let load = office.look(session)?;
+    let found = load.object.book().holders(resource, list);
+    let length = end_look(office, session, load);
+    Some(Snapshot { length, found })
+}
+
 /// Replaces the contents of `list` by the sessions that hold `resource`, each with its mode, by session number, as
 /// `Book::holders` does, and returns how many calls the history had.
 ///
@@ -167,13 +190,11 @@ pub fn holders<O: HasBook>(
     ensures err { IfErr result (λ _. HasLooked O.Sequential session.old session.new × (list.new.items ≡ list.old.items)) }
     ensures calls { HasCallsOf session.new.front session.new }
 {
-    let Some(load) = office.look(session) else {
+    let Some(listed) = list_holders(office, session, resource, list) else {
         return Ok(None);
     };
-    let listed = load.object.book().holders(resource, list);
-    let length = end_look(office, session, load);
-    match listed {
-        Ok(()) => Ok(Some(length)),
+    match listed.found {
+        Ok(()) => Ok(Some(listed.length)),
         Err(refused) => Err(refused),
     }
 }
@@ -210,6 +231,29 @@ pub fn blockers<O: HasBook>(
     Ok(Some(length))
 }
 
+/// Replaces the contents of `list` by all locks and all waiting requests, as `locks` does, and says how many calls the history had also
+/// where memory is refused: the contents of `list` are unchanged then. `None` is as with `held`.
+pub fn list_locks<O: HasBook>(
+    office: &Office<O>,
+    alloc: Global,
+    session: &mut Session<O>,
+    list: &mut Vec<Claim>,
+) -> Option<Snapshot<Result<(), NoMemory>>>
+    requires ours { IsSessionOf office.now session.old }
+    ensures ours { IsSessionOf office.now session.new }
+    ensures looked { IfSome result (λ _. HasLooked O.Sequential session.old session.new) }
+    ensures length { IfSome result (λ seen. seen.length ≡ length (O.calls session.new.front)) }
+    ensures found { IfSome result (λ seen. IfOk seen.found (λ _. list.new.items ≡ listing_of (state_of (O.calls session.new.front)))) }
+    ensures err { IfSome result (λ seen. IfErr seen.found (λ _. list.new.items ≡ list.old.items)) }
+    ensures none { IfNone result ((session.new ≡ session.old) × (list.new.items ≡ list.old.items) × (1 < office.now.sessions)) }
+    ensures calls { HasCallsOf session.new.front session.new }
+{
+    let load = office.look(session)?;
+    let found = load.object.book().locks(alloc, list);
+    let length = end_look(office, session, load);
+    Some(Snapshot { length, found })
+}
+
 /// Replaces the contents of `list` by all locks and all waiting requests, as `Book::locks` lists them, and returns how many
 /// calls the history had.
 ///
@@ -230,13 +274,11 @@ pub fn locks<O: HasBook>(
     ensures err { IfErr result (λ _. HasLooked O.Sequential session.old session.new × (list.new.items ≡ list.old.items)) }
     ensures calls { HasCallsOf session.new.front session.new }
 {
-    let Some(load) = office.look(session) else {
+    let Some(listed) = list_locks(office, alloc, session, list) else {
         return Ok(None);
     };
-    let listed = load.object.book().locks(alloc, list);
-    let length = end_look(office, session, load);
-    match listed {
-        Ok(()) => Ok(Some(length)),
+    match listed.found {
+        Ok(()) => Ok(Some(listed.length)),
         Err(refused) => Err(refused),
     }
 }

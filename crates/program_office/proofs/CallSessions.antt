@@ -80,15 +80,15 @@ single-answered s t at a asked place reply d kept replies first = record {
 
 -- What is kept of a session, as it goes on.
 
-pub readable-on : (s : Inside) (t : TicketView) → IsReadable s → t.pending ≡ s.session.pending → IsReadable (record { session = t; asked = s.asked })
-readable-on s t kept pending p floor is = kept p floor (sym pending ∙ is)
+pub readable-on : (n : ℕ) (s : Inside) (t : TicketView) → IsReadable s → t.pending ≡ s.session.pending → IsReadable (record { session = t; asked = s.asked; seen = n })
+readable-on n s t kept pending p floor is = kept p floor (sym pending ∙ is)
 
-pub readable-idle : (asked : Program) (t : TicketView) → t.pending ≡ None → IsReadable (record { session = t; asked = asked })
-readable-idle asked t none p floor is = absurd (let e = sym none ∙ is in cc)
+pub readable-idle : (n : ℕ) (asked : Program) (t : TicketView) → t.pending ≡ None → IsReadable (record { session = t; asked = asked; seen = n })
+readable-idle n asked t none p floor is = absurd (let e = sym none ∙ is in cc)
 
-pub readable-asking : (asked : Program) (c : Call) (t : TicketView) → MakesOneCall asked c
-    → ((p : Program) (floor : ℕ) → t.pending ≡ Some (asks p floor) → p ≡ asked) → IsReadable (record { session = t; asked = asked })
-readable-asking asked c t one pending p floor is = let same = pending p floor is in (same, (c, subst (λ (q : Program). MakesOneCall q c) (sym same) one))
+pub readable-asking : (n : ℕ) (asked : Program) (c : Call) (t : TicketView) → MakesOneCall asked c
+    → ((p : Program) (floor : ℕ) → t.pending ≡ Some (asks p floor) → p ≡ asked) → IsReadable (record { session = t; asked = asked; seen = n })
+readable-asking n asked c t one pending p floor is = let same = pending p floor is in (same, (c, subst (λ (q : Program). MakesOneCall q c) (sym same) one))
 
 abbrev asked-or : Program → Option Pending → Program
 asked-or p None = p
@@ -142,6 +142,12 @@ pub published : {Y : Type 0} (s t : TicketView) (p : Program) (posted : Posted) 
 published s t p Posted.Listed l u = ⊎_elim (λ e. ap (λ (x : TicketView). x.pending) e) (λ e. ap (λ (x : TicketView). x.pending) e) (l refl)
 published s t p Posted.Unlisted l u = ap (λ (x : TicketView). x.pending) (u refl).0
 
+-- and nothing more is known of the history
+pub published-front : {Y : Type 0} (s t : TicketView) (p : Program) (posted : Posted) → (posted ≡ Posted.Listed → (t ≡ enlisted (publishing s p)) ⊎ (t ≡ tried (enlisted (publishing s p))))
+    → (posted ≡ Posted.Unlisted → (t ≡ tried (publishing s p)) × Y) → t.front ≡ s.front
+published-front s t p Posted.Listed l u = ⊎_elim (λ e. ap (λ (x : TicketView). x.front) e) (λ e. ap (λ (x : TicketView). x.front) e) (l refl)
+published-front s t p Posted.Unlisted l u = ap (λ (x : TicketView). x.front) (u refl).0
+
 option-cases : {X : Type 0} (o : Option Pending) → (o ≡ None → X) → ((p : Program) (floor : ℕ) → o ≡ Some (asks p floor) → X) → X
 option-cases None f g = f refl
 option-cases (Some q) f g = g q.call q.floor refl
@@ -164,9 +170,18 @@ module _ (s t : TicketView) (asked : Program) (c : Call) (idle : s.pending ≡ N
       let k = pending d.0 d.1 d.2 in
       subst (λ (q : Program). OneReply q a) k.0 (reply-at t.front place s.number d.0 a k.1.0 k.1.1 d.3.legal d.3.stands))
 
-  pub readable-turn : (s.pending ≡ None → (t.pending ≡ None) ⊎ ((floor : ℕ) × (t.pending ≡ Some (asks asked floor))))
-      → (s.pending ≢ None → t.pending ≡ s.pending) → IsReadable (record { session = t; asked = asked })
-  readable-turn new same q floor is = option-cases s.pending
+  -- its entry is in the history
+  pub turn-stands : (place : ℕ) (a : ProgramAnswer) → (s.pending ≡ None → any.IsCalled program_object s t asked place a) → (s.pending ≢ None → any.IsAnswered program_object s t place a)
+      → IsLegal t.front × (get_elem? t.front place ≡ opt.some (entry s.number asked a))
+  turn-stands place a called answered = option-cases s.pending
+      (λ none. let d = called none in (d.legal, d.stands))
+      (λ p floor is.
+      let d = answered (some-pending s.pending p floor is) in
+      (d.3.legal, subst (λ (q : Program). get_elem? t.front place ≡ opt.some (entry s.number q a)) (pending d.0 d.1 d.2).0 d.3.stands))
+
+  pub readable-turn : (n : ℕ) → (s.pending ≡ None → (t.pending ≡ None) ⊎ ((floor : ℕ) × (t.pending ≡ Some (asks asked floor))))
+      → (s.pending ≢ None → t.pending ≡ s.pending) → IsReadable (record { session = t; asked = asked; seen = n })
+  readable-turn n new same q floor is = option-cases s.pending
       (λ none. ⊎_elim
       (λ gone. absurd (let e = sym gone ∙ is in cc))
       (λ here. let e = asks-same asked q here.0 floor t.pending here.1 is in (e, (c, subst (λ (p : Program). MakesOneCall p c) (sym e) (idle none))))

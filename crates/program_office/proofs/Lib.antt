@@ -6,3 +6,4 @@ pub mod Places
 pub mod Together
 pub mod OneReplies
 pub mod CallSessions
+pub mod Seen

@@ -6,6 +6,7 @@ pub mod HoldsAsTold
 pub mod Ended
 pub mod InTime
 pub mod Paths
+pub mod Seen
 pub mod SingleCalls
 pub mod PathTurns
 -- what only private items speak of

@@ -15,7 +15,7 @@ use Rattle.lock_programs.specs.declared.answer.Answer.{Answer}
 use Rattle.lock_programs.specs.Answers.{program_form}
 use Rattle.lock_programs.specs.Nothing.{no_calls, no_replies}
 use Rattle.lock_desk.specs.BookView.{BookView}
-use Rattle.publication.specs.Views.{Pending as PendingOf, TicketView as TicketViewOf}
+use Rattle.publication.specs.Views.{Pending as PendingOf, TicketView as TicketViewOf, KnowledgeView as KnowledgeViewOf}
 use Rattle.publication.specs.Rule.{BoardState as BoardStateOf}
 use Rattle.publication.specs.List.{IsRuled as IsRuledOf}
 use Rattle.publication.specs.Runs.{IsRun as IsRunOf}
@@ -65,6 +65,9 @@ Pending = PendingOf Program
 
 abbrev pub TicketView : Type 0
 TicketView = TicketViewOf Program Answer
+
+abbrev pub KnowledgeView : Type 0
+KnowledgeView = KnowledgeViewOf Program Answer
 
 abbrev pub BoardState : Type 0
 BoardState = BoardStateOf ProgramsView Program Answer

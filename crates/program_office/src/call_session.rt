@@ -14,18 +14,24 @@ ghost use Rattle.lock_rules.specs.declared.calls.Reply.{Reply as ReplyValue};
 ghost use Rattle.combining.specs.Sessions.{HasTriedToList};
 ghost use Rattle.combining.specs.Ended.{AreToldBy, HasRoom, entered_since};
 ghost use Rattle.program_office.specs.ProgramBoards.{IsLegal, flat_history};
+ghost use Rattle.program_office.specs.Seen.{number_of_calls};
 ghost use Rattle.program_office.specs.Sessions.{IsSessionOf, IsIdle, IsPendingServed, IsPassed, HasTakenPiece};
 ghost use Rattle.program_office.specs.SingleCalls.{MakesOneCall, IsCollected};
 
 mod calling;
+mod counting;
 mod descending;
+mod knowing;
 mod looking;
 mod performing;
 mod turning;
 
-use crate::{HistoryPiece, Knowledge, Office, Session};
-use combining::{Posted, Told, Turn};
+use crate::{HistoryPiece, Office, Session};
+use combining::{Nobody, Posted, Told, Turn};
+pub use counting::Counted;
+use counting::seen_behind;
 pub use descending::NextOfPath;
+pub use knowing::CallKnowledge;
 use lock_desk::{Book, Call, Reply};
 use lock_office::Answer;
 use lock_programs::{Answer as ProgramAnswer, Program};
@@ -40,17 +46,19 @@ pub struct CallSession {
     session: Session,
     /// The program that is pending, by which its answer is read. If none is pending, nothing relies on it.
     asked: Program,
+    /// How many calls of the history the session knows.
+    seen: u64,
 }
 
 impl Model for CallSession {
     ghost use Rattle.program_office.specs.ProgramBoards.{TicketView};
-    ghost use Rattle.program_office.specs.inner.CallSessions.{session_of, IsReadable};
+    ghost use Rattle.program_office.specs.inner.CallSessions.{session_of, IsKept};
 
     ghost Value = { TicketView };
 
     ghost view = { session_of };
 
-    ghost invariant = { IsReadable };
+    ghost invariant = { IsKept };
 }
 
 /// The answer to a program of one call that was served: the place of the call in the history of calls, and the reply.
@@ -66,14 +74,17 @@ fn answer_of(asked: &Program, answer: &ProgramAnswer) -> Answer
 }
 
 impl CallSession {
-    /// Makes single calls by a session that has no program pending.
-    pub fn new(session: Session) -> CallSession
+    /// Makes single calls by a session that has no program pending. `seen` is how many calls of the history it knows: none of a session
+    /// as an office was opened with it; else what `seen` told before `into_session`.
+    pub fn new(session: Session, seen: u64) -> CallSession
         requires none { session.pending ≡ None }
+        requires seen { seen ≡ number_of_calls session.front }
         ensures { result ≡ session }
     {
         CallSession {
             session,
             asked: Program::one(Call::Poll),
+            seen,
         }
     }
 
@@ -82,7 +93,11 @@ impl CallSession {
     pub fn into_session(self) -> Session
         ensures { result ≡ self }
     {
-        let CallSession { session, asked: _ } = self;
+        let CallSession {
+            session,
+            asked: _,
+            seen: _,
+        } = self;
         session
     }
 
@@ -105,6 +120,14 @@ impl CallSession {
         ensures { result ≡ self.now.retired }
     {
         self.session.is_retired()
+    }
+
+    /// How many calls of the history the session knows: those of the programs that stand in the front of the history that it knows.
+    /// `u64::MAX` if it knows more.
+    pub fn seen(&self) -> u64
+        ensures { result ≡ number_of_calls self.now.front }
+    {
+        self.seen
     }
 
     /// Publishes a call, as `Office::publish` does.
@@ -134,13 +157,17 @@ impl CallSession {
         ensures heard { (served j : _) → result ≡ Turn.Pass served false → 0 < j → j ≤ office.now.sessions
             → heard_from self.old j ≤ length (calls_of_session j self.new.front) }
     {
-        office.serve(&mut self.session)
+        self.serve_telling(office, &mut Counted::new(Nobody))
     }
 
     /// Serves and tells, as `Office::serve_telling` does.
-    pub fn serve_telling<T: Told<Programs<Book>>>(&mut self, office: &Office, told: &mut T) -> Turn
+    pub fn serve_telling<T: Told<Programs<Book>>>(
+        &mut self,
+        office: &Office,
+        told: &mut Counted<T>,
+    ) -> Turn
         requires ours { IsSessionOf office.now self.old }
-        requires room { HasRoom (T.room told.old) office.now.sessions }
+        requires room { HasRoom (T.room told.old.told) office.now.sessions }
         ensures ours { IsSessionOf office.now self.new }
         ensures elsewhere { result ≡ Turn.Elsewhere → HasTriedToList self.old self.new × (1 < office.now.sessions) }
         ensures pass { (served : _) (starved : _) → result ≡ Turn.Pass served starved → IsPassed self.old self.new served }
@@ -150,11 +177,14 @@ impl CallSession {
         ensures own { (served : _) → result ≡ Turn.Pass served false → self.old.pending ≢ None → IsPendingServed self.new }
         ensures heard { (served j : _) → result ≡ Turn.Pass served false → 0 < j → j ≤ office.now.sessions
             → heard_from self.old j ≤ length (calls_of_session j self.new.front) }
-        ensures told { AreToldBy T.ends office.now.sessions self.new.front (entered_since self.old self.new) (T.list told.new) }
-        ensures none { result ≡ Turn.Elsewhere → T.list told.new ≡ [] }
-        ensures room { T.room told.new ≡ T.room told.old }
+        ensures told { AreToldBy T.ends office.now.sessions self.new.front (entered_since self.old self.new) (T.list told.new.told) }
+        ensures none { result ≡ Turn.Elsewhere → T.list told.new.told ≡ [] }
+        ensures room { T.room told.new.told ≡ T.room told.old.told }
     {
-        office.serve_telling(&mut self.session, told)
+        told.seen = self.seen;
+        let turn = office.serve_telling(&mut self.session, told);
+        self.seen = told.seen;
+        turn
     }
 
     /// Takes the answer to the pending call, as `Office::collect` does.
@@ -167,53 +197,9 @@ impl CallSession {
         ensures late { IfNone result (self.old.pending ≢ None → ¬ (IsPendingServed self.old)) }
     {
         let asked = self.asked;
-        match office.collect(&mut self.session) {
-            Some(found) => Some(answer_of(&asked, &found.reply)),
-            None => None,
-        }
-    }
-
-    /// What the session knows, as `Office::knowledge` tells it.
-    pub fn knowledge(&mut self, office: &Office) -> Knowledge
-        requires ours { IsSessionOf office.now self.old }
-        ensures ours { IsSessionOf office.now self.new }
-        ensures same { self.new ≡ self.old }
-        ensures knowledge { result ≡ known_by self.old }
-    {
-        office.knowledge(&mut self.session)
-    }
-
-    /// Learns what another session knew, as `Office::heed` does.
-    pub fn heed(&mut self, office: &Office, knowledge: Knowledge)
-        requires ours { IsSessionOf office.now self.old × (knowledge.board ≡ office.now.id) }
-        ensures ours { IsSessionOf office.now self.new }
-        ensures session { self.new ≡ record self.old {
-          front = longer self.old.front knowledge.front;
-          heard = maxes self.old.heard knowledge.heard;
-        } }
-        ensures fronts { IsPrefix self.old.front self.new.front × IsPrefix knowledge.front self.new.front }
-        ensures legal { IsLegal self.new.front }
-        ensures heard { (j : _) → heard_from self.new j ≡ max (heard_from self.old j) (slice_index knowledge.heard j) }
-        ensures calls { HasCallsOf self.new.front self.new }
-    {
-        office.heed(&mut self.session, knowledge);
-    }
-
-    /// Learns what the other session knows, as `Office::hear` does.
-    pub fn hear(&mut self, office: &Office, other: &mut CallSession)
-        requires ours { IsSessionOf office.now self.old × IsSessionOf office.now other.old }
-        ensures ours { IsSessionOf office.now self.new × IsSessionOf office.now other.new }
-        ensures other { other.new ≡ other.old }
-        ensures session { self.new ≡ record self.old {
-          front = longer self.old.front other.old.front;
-          heard = maxes self.old.heard other.old.heard;
-        } }
-        ensures fronts { IsPrefix self.old.front self.new.front × IsPrefix other.old.front self.new.front }
-        ensures legal { IsLegal self.new.front }
-        ensures heard { (j : _) → heard_from self.new j ≡ max (heard_from self.old j) (heard_from other.old j) }
-        ensures calls { HasCallsOf self.new.front self.new × HasCallsOf self.new.front other.new }
-    {
-        office.hear(&mut self.session, &mut other.session);
+        let found = office.collect(&mut self.session)?;
+        self.seen = seen_behind(self.seen, &asked, &found.reply);
+        Some(answer_of(&asked, &found.reply))
     }
 
     /// Retires: the session makes no more calls.
@@ -242,6 +228,10 @@ impl CallSession {
         ensures err { IfErr result (λ _. self.new ≡ self.old) }
         ensures calls { IfOk result (λ _. HasCallsOf self.new.front self.new) }
     {
-        office.take_oldest(alloc, &mut self.session, most)
+        let taken = office.take_oldest(alloc, &mut self.session, most)?;
+        if let Some(piece) = &taken {
+            self.seen = piece.written;
+        }
+        Ok(taken)
     }
 }

@@ -121,20 +121,15 @@ pub fn programs_stand_in_the_order_of_time()
 {}
 
 /// A program of one call that stands in a history of programs was answered with one reply (`answered`), so that `reply_of_one` of its
-/// answer isn't `None`. Its call is in the history of calls, at the place that the answer tells, with this reply. An answer with no reply,
-/// which is in no history, says that memory was refused (`refused`).
+/// answer isn't `None`. Its call is in the history of calls, at the place that the answer tells, with this reply.
 pub fn single_calls_stand_where_told()
     ensures answered { (history : List ProgramEntry) (place : ℕ) (program : ProgramEntry) (call : Call) → IsLegal history →
         slice_get history place ≡ Some program → calls_of program.call ≡ call ∷ [] → (reply : Reply) × (replies_of program.call program.reply ≡ reply ∷ []) }
     ensures stands { (history : List ProgramEntry) (place : ℕ) (program : ProgramEntry) (call : Call) (reply : Reply) → IsLegal history →
         slice_get history place ≡ Some program → calls_of program.call ≡ call ∷ [] → replies_of program.call program.reply ≡ reply ∷ [] →
         slice_get (flat_history history) program.reply.first ≡ Some (entry program.session call reply) }
-    ensures refused { (history : List ProgramEntry) (place : ℕ) (program : ProgramEntry) (call : Call) → IsLegal history →
-        slice_get history place ≡ Some program → calls_of program.call ≡ call ∷ [] → replies_of program.call program.reply ≡ [] →
-        program.reply.is_refused ≡ true }
 {
     programs_stand_side_by_side::<Book>();
-    programs_stop_at_a_cause::<Book>();
 }
 
 /// A path of locks is one program. `path_program` has the calls that `lock_office::lock_path` makes of the rest of a path, one for each

@@ -18,7 +18,7 @@ mod opening;
 mod paths;
 mod single;
 
-pub use call_session::{CallSession, NextOfPath};
+pub use call_session::{CallKnowledge, CallSession, Counted, NextOfPath};
 pub use combining::{
     CloseFault, Ended, GoesOn, Nobody, OpenFault, Posted, Told, Turn, Wait, back_off, call, look,
     resume, turn,

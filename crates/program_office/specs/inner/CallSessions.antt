@@ -3,9 +3,11 @@ use Rattle.std.specs.Prelude.{◌≡◌, ℕ, Some}
 use Rattle.lock_rules.specs.declared.calls.Call.{Call}
 use Rattle.lock_programs.specs.declared.program.Program.{Program}
 use Rattle.publication.specs.Views.{asks}
-use Rattle.program_office.specs.ProgramBoards.{TicketView}
+use Rattle.program_office.specs.ProgramBoards.{TicketView, KnowledgeView}
+use Rattle.program_office.specs.Seen.{number_of_calls}
 use Rattle.program_office.specs.SingleCalls.{MakesOneCall}
 use Rattle.program_office.specs.declared.call_session.CallSession.TheInside.{Inside}
+use Rattle.program_office.specs.declared.call_session.knowing.CallKnowledge.TheInside.{Inside as InsideOfKnowledge}
 
 -- what contracts see of the session
 abbrev pub session_of : Inside → TicketView
@@ -15,3 +17,16 @@ session_of s = s.session
 abbrev pub IsReadable : Inside → Type 0
 IsReadable s = (program : Program) (floor : ℕ) → s.session.pending ≡ Some (asks program floor)
     → (program ≡ s.asked) × ((call : Call) × MakesOneCall program call)
+
+-- How a session is kept: it can read its pending program's answer, and counts the calls that it knows.
+pub record IsKept (s : Inside) : Type 0 where
+  pub readable : IsReadable s
+  pub counted : s.seen ≡ number_of_calls s.session.front
+
+-- what contracts see of its knowledge
+abbrev pub knowledge_of : InsideOfKnowledge → KnowledgeView
+knowledge_of k = k.knowledge
+
+-- the calls that it knows are counted
+abbrev pub IsCounted : InsideOfKnowledge → Type 0
+IsCounted k = k.seen ≡ number_of_calls k.knowledge.front

@@ -8,6 +8,7 @@ ghost use Rattle.program_office.specs.Sessions.{IsSessionOf, IsIdle};
 ghost use Rattle.program_office.specs.SingleCalls.{IsCalled, IsAnswered, IsCalling, HasStarvedCalling};
 
 use crate::Office;
+use crate::call_session::counting::{Counted, seen_called};
 use crate::call_session::{CallSession, answer_of};
 use combining::{Called, Told};
 use lock_desk::{Book, Call, Reply};
@@ -21,11 +22,11 @@ impl CallSession {
         office: &Office,
         call: Call,
         turns: u64,
-        told: &mut T,
+        told: &mut Counted<T>,
     ) -> Called<Reply>
         requires ours { IsSessionOf office.now self.old }
         requires idle { IsIdle self.old }
-        requires room { HasRoom (T.room told.old) office.now.sessions }
+        requires room { HasRoom (T.room told.old.told) office.now.sessions }
         ensures ours { IsSessionOf office.now self.new }
         ensures answered { (answer : _) → result ≡ Called.Answered answer → IsCalled self.old self.new call answer.place answer.reply }
         ensures idle { (answer : _) → result ≡ Called.Answered answer → IsIdle self.new }
@@ -33,12 +34,15 @@ impl CallSession {
         ensures starved { result ≡ Called.Starved → IsCalling self.old self.new call }
         ensures refused { result ≡ Called.Starved → HasStarvedCalling self.old self.new call }
         ensures tries { FitIntoLooks (self.new.tries - self.old.tries) (turns + 1) }
-        ensures told { AreToldBy T.ends office.now.sessions self.new.front (entered_since self.old self.new) (T.list told.new) }
-        ensures room { T.room told.new ≡ T.room told.old }
+        ensures told { AreToldBy T.ends office.now.sessions self.new.front (entered_since self.old self.new) (T.list told.new.told) }
+        ensures room { T.room told.new.told ≡ T.room told.old.told }
     {
         self.asked = Program::one(call);
         let asked = self.asked;
-        match combining::call(office, &mut self.session, asked, turns, told) {
+        told.seen = self.seen;
+        let called = combining::call(office, &mut self.session, asked, turns, told);
+        self.seen = seen_called(told.seen, &asked, &called);
+        match called {
             Called::Answered(found) => Called::Answered(answer_of(&asked, &found.reply)),
             Called::NotYet => Called::NotYet,
             Called::Starved => Called::Starved,
@@ -50,11 +54,11 @@ impl CallSession {
         &mut self,
         office: &Office,
         turns: u64,
-        told: &mut T,
+        told: &mut Counted<T>,
     ) -> Called<Reply>
         requires ours { IsSessionOf office.now self.old }
         requires pending { self.old.pending ≢ None }
-        requires room { HasRoom (T.room told.old) office.now.sessions }
+        requires room { HasRoom (T.room told.old.told) office.now.sessions }
         ensures ours { IsSessionOf office.now self.new }
         ensures answered { (answer : _) → result ≡ Called.Answered answer → IsAnswered self.old self.new answer.place answer.reply }
         ensures idle { (answer : _) → result ≡ Called.Answered answer → IsIdle self.new }
@@ -62,11 +66,14 @@ impl CallSession {
         ensures starved { result ≡ Called.Starved → HasStarved self.old self.new }
         ensures others { result ≡ Called.NotYet → 0 < turns → 1 < office.now.sessions }
         ensures tries { FitIntoLooks (self.new.tries - self.old.tries) turns }
-        ensures told { AreToldBy T.ends office.now.sessions self.new.front (entered_since self.old self.new) (T.list told.new) }
-        ensures room { T.room told.new ≡ T.room told.old }
+        ensures told { AreToldBy T.ends office.now.sessions self.new.front (entered_since self.old self.new) (T.list told.new.told) }
+        ensures room { T.room told.new.told ≡ T.room told.old.told }
     {
         let asked = self.asked;
-        match combining::resume(office, &mut self.session, turns, told) {
+        told.seen = self.seen;
+        let called = combining::resume(office, &mut self.session, turns, told);
+        self.seen = seen_called(told.seen, &asked, &called);
+        match called {
             Called::Answered(found) => Called::Answered(answer_of(&asked, &found.reply)),
             Called::NotYet => Called::NotYet,
             Called::Starved => Called::Starved,

@@ -13,10 +13,9 @@ ghost use Rattle.program_office.specs.SingleCalls.{IsCalled, IsAnswered, IsCalli
 ghost use Rattle.program_office.specs.PathTurns.{IsPathPerformed};
 
 use crate::call_session::CallSession;
+use crate::call_session::counting::Counted;
 use crate::{Office, levels_granted, path_program};
-use combining::{
-    DOUBLINGS, FIRST_PAUSES, Next, Performed, TRIES_AT_ONCE, TRIES_BEFORE_YIELDS, Told, Wait,
-};
+use combining::{Next, Performed, TRIES_AT_ONCE, Told, Wait, after_try};
 use lock_desk::{Book, Mode, Resource, grants, lock_of_level};
 use lock_office::Answer;
 use lock_programs::{Answer as ProgramAnswer, Program};
@@ -45,17 +44,6 @@ pub enum NextOfPath {
     Wait(Wait),
 }
 
-/// What to do after a try to perform a path at once, of which `tried` came before, as after one to perform a call.
-fn after_try(tried: u64) -> Wait
-    ensures { IsWaitAfterTry tried result }
-{
-    if tried >= TRIES_BEFORE_YIELDS {
-        return Wait::Yield;
-    }
-    let doubled = u64::min(tried, DOUBLINGS);
-    Wait::Pause(FIRST_PAUSES << doubled as u32)
-}
-
 /// The last reply of a program of which a call was served, and its place in the history of calls.
 fn last_of(program: &Program, answer: &ProgramAnswer) -> Answer
     requires served { 0 < length (replies_of program.now answer.now) }
@@ -78,12 +66,12 @@ impl CallSession {
         mode: Mode,
         locked: u8,
         tried: u64,
-        told: &mut T,
+        told: &mut Counted<T>,
     ) -> NextOfPath
         requires ours { IsSessionOf office.now self.old }
         requires idle { IsIdle self.old }
         requires rest { locked < length resource.now }
-        requires room { HasRoom (T.room told.old) office.now.sessions }
+        requires room { HasRoom (T.room told.old.told) office.now.sessions }
         ensures ours { IsSessionOf office.now self.new }
         ensures performed { (level : _) (answer : _) → result ≡ NextOfPath.Performed level answer
             → IsPathPerformed resource.now mode locked self.old self.new level answer.place answer.reply }
@@ -95,8 +83,8 @@ impl CallSession {
         ensures wait { (w : _) → result ≡ NextOfPath.Wait w → IsWaitAfterTry tried w }
         ensures live { self.new.retired ≡ false }
         ensures on { HasGoneOn self.old self.new }
-        ensures told { AreToldBy T.ends office.now.sessions self.new.front (entered_since self.old self.new) (T.list told.new) }
-        ensures room { T.room told.new ≡ T.room told.old }
+        ensures told { AreToldBy T.ends office.now.sessions self.new.front (entered_since self.old self.new) (T.list told.new.told) }
+        ensures room { T.room told.new.told ≡ T.room told.old.told }
     {
         // a resource has at most LEVELS numbers
         let _numbers = resource.numbers();
@@ -127,12 +115,12 @@ impl CallSession {
         mode: Mode,
         locked: u8,
         made: u64,
-        told: &mut T,
+        told: &mut Counted<T>,
     ) -> NextOfPath
         requires ours { IsSessionOf office.now self.old }
         requires live { self.old.retired ≡ false }
         requires rest { locked < length resource.now }
-        requires room { HasRoom (T.room told.old) office.now.sessions }
+        requires room { HasRoom (T.room told.old.told) office.now.sessions }
         ensures ours { IsSessionOf office.now self.new }
         ensures performed { (level : _) (answer : _) → result ≡ NextOfPath.Performed level answer → (self.old.pending ≡ None) × (made < TRIES_AT_ONCE)
             × IsPathPerformed resource.now mode locked self.old self.new level answer.place answer.reply }
@@ -155,8 +143,8 @@ impl CallSession {
         ensures wait_looked { (w : _) → result ≡ NextOfPath.Wait w → self.old.pending ≢ None → IsWaitAfterLook made w }
         ensures live { self.new.retired ≡ false }
         ensures on { HasGoneOn self.old self.new }
-        ensures told { AreToldBy T.ends office.now.sessions self.new.front (entered_since self.old self.new) (T.list told.new) }
-        ensures room { T.room told.new ≡ T.room told.old }
+        ensures told { AreToldBy T.ends office.now.sessions self.new.front (entered_since self.old self.new) (T.list told.new.told) }
+        ensures room { T.room told.new.told ≡ T.room told.old.told }
     {
         // a resource has at most LEVELS numbers
         let _numbers = resource.numbers();

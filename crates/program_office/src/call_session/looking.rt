@@ -34,7 +34,9 @@ impl CallSession {
         ensures none { IfNone result ((self.new ≡ self.old) × (1 < office.now.sessions)) }
         ensures calls { HasCallsOf self.new.front self.new }
     {
-        queries::held(office, &mut self.session, whose, resource)
+        let told = queries::held(office, &mut self.session, whose, resource)?;
+        self.seen = told.length;
+        Some(told)
     }
 
     /// Whether session `whose` waits for `other` directly. `None` is as with `held`.
@@ -47,7 +49,9 @@ impl CallSession {
         ensures none { IfNone result ((self.new ≡ self.old) × (1 < office.now.sessions)) }
         ensures calls { HasCallsOf self.new.front self.new }
     {
-        queries::waits_for(office, &mut self.session, whose, other)
+        let told = queries::waits_for(office, &mut self.session, whose, other)?;
+        self.seen = told.length;
+        Some(told)
     }
 
     /// The open transaction of session `whose`. `None` in place of an answer is as with `held`.
@@ -64,7 +68,9 @@ impl CallSession {
         ensures none { IfNone result ((self.new ≡ self.old) × (1 < office.now.sessions)) }
         ensures calls { HasCallsOf self.new.front self.new }
     {
-        queries::transaction(office, &mut self.session, whose)
+        let told = queries::transaction(office, &mut self.session, whose)?;
+        self.seen = told.length;
+        Some(told)
     }
 
     /// The waiting request of session `whose`. `None` in place of an answer is as with `held`.
@@ -77,7 +83,9 @@ impl CallSession {
         ensures none { IfNone result ((self.new ≡ self.old) × (1 < office.now.sessions)) }
         ensures calls { HasCallsOf self.new.front self.new }
     {
-        queries::request(office, &mut self.session, whose)
+        let told = queries::request(office, &mut self.session, whose)?;
+        self.seen = told.length;
+        Some(told)
     }
 
     /// Replaces the contents of `list` by the holders of `resource`, as `queries::holders` does.
@@ -96,7 +104,14 @@ impl CallSession {
         ensures err { IfErr result (λ _. HasLooked self.old self.new × (list.new.items ≡ list.old.items)) }
         ensures calls { HasCallsOf self.new.front self.new }
     {
-        queries::holders(office, &mut self.session, resource, list)
+        let Some(listed) = queries::list_holders(office, &mut self.session, resource, list) else {
+            return Ok(None);
+        };
+        self.seen = listed.length;
+        match listed.found {
+            Ok(()) => Ok(Some(listed.length)),
+            Err(refused) => Err(refused),
+        }
     }
 
     /// Replaces the contents of `list` by the sessions for which session `whose` waits, as `queries::blockers` does.
@@ -115,7 +130,11 @@ impl CallSession {
         ensures err { IfErr result (λ _. (self.new ≡ self.old) × (list.new.items ≡ list.old.items)) }
         ensures calls { IfOk result (λ _. HasCallsOf self.new.front self.new) }
     {
-        queries::blockers(office, &mut self.session, whose, list)
+        let told = queries::blockers(office, &mut self.session, whose, list)?;
+        if let Some(length) = told {
+            self.seen = length;
+        }
+        Ok(told)
     }
 
     /// Replaces the contents of `list` by all locks and all waiting requests, as `queries::locks` does.
@@ -134,6 +153,13 @@ impl CallSession {
         ensures err { IfErr result (λ _. HasLooked self.old self.new × (list.new.items ≡ list.old.items)) }
         ensures calls { HasCallsOf self.new.front self.new }
     {
-        queries::locks(office, alloc, &mut self.session, list)
+        let Some(listed) = queries::list_locks(office, alloc, &mut self.session, list) else {
+            return Ok(None);
+        };
+        self.seen = listed.length;
+        match listed.found {
+            Ok(()) => Ok(Some(listed.length)),
+            Err(refused) => Err(refused),
+        }
     }
 }

@@ -8,6 +8,7 @@ ghost use Rattle.program_office.specs.Sessions.{IsSessionOf, IsIdle, IsRefused, 
 ghost use Rattle.program_office.specs.SingleCalls.{IsPerformed};
 
 use crate::Office;
+use crate::call_session::counting::Counted;
 use crate::call_session::{CallSession, answer_of};
 use combining::{Nobody, Performed, Told};
 use lock_desk::{Book, Call, Reply};
@@ -31,7 +32,7 @@ impl CallSession {
         ensures refused { result ≡ Performed.Starved → IsRefused self.old self.new }
         ensures calls { HasCallsOf self.new.front self.new }
     {
-        self.perform_telling(office, call, &mut Nobody)
+        self.perform_telling(office, call, &mut Counted::new(Nobody))
     }
 
     /// Performs a call at once and tells, as `Office::perform_telling` does.
@@ -39,11 +40,11 @@ impl CallSession {
         &mut self,
         office: &Office,
         call: Call,
-        told: &mut T,
+        told: &mut Counted<T>,
     ) -> Performed<Reply>
         requires ours { IsSessionOf office.now self.old }
         requires idle { IsIdle self.old }
-        requires room { HasRoom (T.room told.old) office.now.sessions }
+        requires room { HasRoom (T.room told.old.told) office.now.sessions }
         ensures ours { IsSessionOf office.now self.new }
         ensures idle { IsIdle self.new }
         ensures answered { (answer : _) (served : _) (starved : _) → result ≡ Performed.Answered answer served starved
@@ -55,12 +56,12 @@ impl CallSession {
         ensures elsewhere { result ≡ Performed.Elsewhere → (self.new ≡ self.old) × (1 < office.now.sessions) }
         ensures refused { result ≡ Performed.Starved → IsRefused self.old self.new }
         ensures calls { HasCallsOf self.new.front self.new }
-        ensures told { AreToldBy T.ends office.now.sessions self.new.front (entered_since self.old self.new) (T.list told.new) }
-        ensures none { result ≡ Performed.Elsewhere → T.list told.new ≡ [] }
-        ensures room { T.room told.new ≡ T.room told.old }
+        ensures told { AreToldBy T.ends office.now.sessions self.new.front (entered_since self.old self.new) (T.list told.new.told) }
+        ensures none { result ≡ Performed.Elsewhere → T.list told.new.told ≡ [] }
+        ensures room { T.room told.new.told ≡ T.room told.old.told }
     {
         let asked = Program::one(call);
-        match office.perform_telling(&mut self.session, asked, told) {
+        match self.perform_program(office, asked, told) {
             Performed::Answered {
                 answer: found,
                 served,
@@ -80,11 +81,11 @@ impl CallSession {
         &mut self,
         office: &Office,
         program: Program,
-        told: &mut T,
+        told: &mut Counted<T>,
     ) -> Performed<ProgramAnswer>
         requires ours { IsSessionOf office.now self.old }
         requires idle { IsIdle self.old }
-        requires room { HasRoom (T.room told.old) office.now.sessions }
+        requires room { HasRoom (T.room told.old.told) office.now.sessions }
         ensures ours { IsSessionOf office.now self.new }
         ensures idle { IsIdle self.new }
         ensures answered { (answer : _) (served : _) (starved : _) → result ≡ Performed.Answered answer served starved
@@ -96,10 +97,13 @@ impl CallSession {
         ensures elsewhere { result ≡ Performed.Elsewhere → (self.new ≡ self.old) × (1 < office.now.sessions) }
         ensures refused { result ≡ Performed.Starved → IsRefused self.old self.new }
         ensures calls { HasCallsOf self.new.front self.new }
-        ensures told { AreToldBy T.ends office.now.sessions self.new.front (entered_since self.old self.new) (T.list told.new) }
-        ensures none { result ≡ Performed.Elsewhere → T.list told.new ≡ [] }
-        ensures room { T.room told.new ≡ T.room told.old }
+        ensures told { AreToldBy T.ends office.now.sessions self.new.front (entered_since self.old self.new) (T.list told.new.told) }
+        ensures none { result ≡ Performed.Elsewhere → T.list told.new.told ≡ [] }
+        ensures room { T.room told.new.told ≡ T.room told.old.told }
     {
-        office.perform_telling(&mut self.session, program, told)
+        told.seen = self.seen;
+        let performed = office.perform_telling(&mut self.session, program, told);
+        self.seen = told.seen;
+        performed
     }
 }

@@ -12,6 +12,7 @@ ghost use Rattle.lock_rules.specs.declared.calls.Call.{Call as CallValue};
 ghost use Rattle.publication.specs.Views.{asks};
 
 use crate::Office;
+use crate::call_session::counting::{Counted, seen_next};
 use crate::call_session::{CallSession, answer_of};
 use combining::{Next, Told};
 use lock_desk::{Book, Call, Reply};
@@ -39,11 +40,11 @@ impl CallSession {
         office: &Office,
         call: &Call,
         made: u64,
-        told: &mut T,
+        told: &mut Counted<T>,
     ) -> Next<Reply>
         requires ours { IsSessionOf office.now self.old }
         requires live { self.old.retired ≡ false }
-        requires room { HasRoom (T.room told.old) office.now.sessions }
+        requires room { HasRoom (T.room told.old.told) office.now.sessions }
         ensures ours { IsSessionOf office.now self.new }
         ensures called { (answer : _) → result ≡ Next.Answered answer → self.old.pending ≡ None → IsCalled self.old self.new call.now answer.place answer.reply }
         ensures answered { (answer : _) → result ≡ Next.Answered answer → self.old.pending ≢ None → IsAnswered self.old self.new answer.place answer.reply }
@@ -63,12 +64,15 @@ impl CallSession {
         ensures untried { self.old.pending ≢ None → made % LOOKS_PER_TRY ≢ 0 → self.new.tries ≡ self.old.tries }
         ensures live { self.new.retired ≡ false }
         ensures on { HasGoneOn self.old self.new }
-        ensures told { HasAddedTold T.ends office.now.sessions self.new.front (entered_since self.old self.new) (T.list told.old) (T.list told.new) }
-        ensures room { T.room told.new ≡ T.room told.old }
+        ensures told { HasAddedTold T.ends office.now.sessions self.new.front (entered_since self.old self.new) (T.list told.old.told) (T.list told.new.told) }
+        ensures room { T.room told.new.told ≡ T.room told.old.told }
     {
         let asked = self.program_for(call);
         self.asked = asked;
-        match combining::turn(office, &mut self.session, &asked, made, told) {
+        told.seen = self.seen;
+        let next = combining::turn(office, &mut self.session, &asked, made, told);
+        self.seen = seen_next(told.seen, &asked, &next);
+        match next {
             Next::Answered(found) => Next::Answered(answer_of(&asked, &found.reply)),
             Next::Starved => Next::Starved,
             Next::Wait(wait) => Next::Wait(wait),
@@ -80,11 +84,11 @@ impl CallSession {
         &mut self,
         office: &Office,
         looked: u64,
-        told: &mut T,
+        told: &mut Counted<T>,
     ) -> Next<Reply>
         requires ours { IsSessionOf office.now self.old }
         requires pending { self.old.pending ≢ None }
-        requires room { HasRoom (T.room told.old) office.now.sessions }
+        requires room { HasRoom (T.room told.old.told) office.now.sessions }
         ensures ours { IsSessionOf office.now self.new }
         ensures answered { (answer : _) → result ≡ Next.Answered answer → IsAnswered self.old self.new answer.place answer.reply }
         ensures idle { (answer : _) → result ≡ Next.Answered answer → IsIdle self.new }
@@ -95,11 +99,14 @@ impl CallSession {
         ensures untried { looked % LOOKS_PER_TRY ≢ 0 → self.new.tries ≡ self.old.tries }
         ensures wait { (w : _) → result ≡ Next.Wait w → IsWaitAfterLook looked w }
         ensures on { HasGoneOn self.old self.new }
-        ensures told { HasAddedTold T.ends office.now.sessions self.new.front (entered_since self.old self.new) (T.list told.old) (T.list told.new) }
-        ensures room { T.room told.new ≡ T.room told.old }
+        ensures told { HasAddedTold T.ends office.now.sessions self.new.front (entered_since self.old self.new) (T.list told.old.told) (T.list told.new.told) }
+        ensures room { T.room told.new.told ≡ T.room told.old.told }
     {
         let asked = self.asked;
-        match combining::look(office, &mut self.session, looked, told) {
+        told.seen = self.seen;
+        let next = combining::look(office, &mut self.session, looked, told);
+        self.seen = seen_next(told.seen, &asked, &next);
+        match next {
             Next::Answered(found) => Next::Answered(answer_of(&asked, &found.reply)),
             Next::Starved => Next::Starved,
             Next::Wait(wait) => Next::Wait(wait),

@@ -24,9 +24,3 @@ returns-clause-stands c h place e call reply legal is calls replies =
     let same_reply : reply ≡ p.1 = first-is (replies_of e.call e.reply) reply p.1 replies p.3 in
     let z : e.reply.first ≡ e.reply.first + 0 = omega arith in
     ap (slice_get (flat_history h)) z ∙ (p.4 ∙ (λ i. Some (entry e.session (sym same_call i) (sym same_reply i))))
-
-pub returns-clause-refused : goal.returns-clause-refused
-returns-clause-refused c h place e call legal is calls replies =
-    let none : length (replies_of e.call e.reply) ≡ 0 = ap (λ (l : List Reply). length l) replies in
-    let one : length (calls_of e.call) ≡ 1 = ap (λ (l : List Call). length l) calls in
-    ⊎_elim (λ refused. refused) (λ stopped. let n = stopped.2 in absurd (omega (arith, none, n))) (c.programs_stop_at_a_cause.ensures.stops h place e legal is (omega (arith, none, one)))

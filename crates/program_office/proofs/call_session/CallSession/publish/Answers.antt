@@ -1,7 +1,8 @@
-use Rattle.std.proofs.Common.{◌≡◌, ◌<◌, ◌⊎◌, subst}
+use Rattle.std.proofs.Common.{◌≡◌, ◌<◌, ◌⊎◌, ◌∙◌, ap, sym, subst}
 use Rattle.publication.specs.Boards.{publishing, enlisted, tried}
 use Rattle.program_office.specs.ProgramBoards.{TicketView}
-use Rattle.program_office.proofs.CallSessions.{published, readable-asking, asks-same}
+use Rattle.program_office.specs.Seen.{number_of_calls}
+use Rattle.program_office.proofs.CallSessions.{published, published-front, readable-asking, asks-same}
 use Rattle.program_office.proofs.call_session.CallSession.publish.Goals as goal
 
 pub invariant_of-self : goal.invariant_of-self
@@ -10,7 +11,10 @@ invariant_of-self c =
     let t = c.publish.new.session in
     let p = c.one-self-inside.result in
     let here = published s t p c.publish.result c.publish.ensures.listed c.publish.ensures.unlisted in
-    readable-asking p c.args.call t c.one-self-inside.ensures (λ q floor is. asks-same p q _ floor t.pending here is)
+    record {
+      readable = readable-asking c.self.inside.seen p c.args.call t c.one-self-inside.ensures (λ q floor is. asks-same p q _ floor t.pending here is);
+      counted = c.self.invariant.counted ∙ ap number_of_calls (sym (published-front s t p c.publish.result c.publish.ensures.listed c.publish.ensures.unlisted));
+    }
 
 pub returns-clause-published : goal.returns-clause-published
 returns-clause-published c =

@@ -1,5 +1,6 @@
-use Rattle.std.proofs.Common.{rules, ◌≡◌, None, ap, subst}
+use Rattle.std.proofs.Common.{rules, ◌≡◌, ◌∙◌, None, ap, sym, subst}
 use Rattle.program_office.specs.ProgramBoards.{TicketView}
+use Rattle.program_office.specs.Seen.{number_of_calls}
 use Rattle.program_office.specs.SingleCalls.{IsCalling}
 use Rattle.program_office.proofs.CallSessions.{readable-asking, asks-same}
 use Rattle.program_office.proofs.call_session.CallSession.publish_if_idle.Goals as goal
@@ -11,7 +12,10 @@ invariant_of-self c =
     let p = c.one-self-inside.result in
     let none : s.pending ≡ None = search rules in
     let called = c.publish_if_idle.ensures.published none in
-    readable-asking p c.args.call t c.one-self-inside.ensures (λ q floor is. asks-same p q called.floor floor t.pending (ap (λ (x : TicketView). x.pending) called.session) is)
+    record {
+      readable = readable-asking c.self.inside.seen p c.args.call t c.one-self-inside.ensures (λ q floor is. asks-same p q called.floor floor t.pending (ap (λ (x : TicketView). x.pending) called.session) is);
+      counted = c.self.invariant.counted ∙ ap number_of_calls (sym c.publish_if_idle.ensures.known.0);
+    }
 
 pub returns-clause-published : goal.returns-clause-published
 returns-clause-published c = λ _.
