@@ -22,6 +22,7 @@ use Rattle.publication.proofs.Lists.{at_there, each_set, prefix_self, prefix_tra
 use Rattle.publication.proofs.SeatViews.{session_of, heard_few, others_of, object_of, pieces_of_seat}
 use Rattle.publication.proofs.Others.{still-true}
 use Rattle.publication.proofs.Pieces.{pieces_kept}
+use Rattle.publication.proofs.Present.{IsAlike, present_kept}
 use Rattle.publication.proofs.Histories.{calls-mine}
 use Rattle.publication.proofs.RecordStates.{is_vacant, idle_announced, grown}
 use Rattle.publication.proofs.UnchangedList.{aside, same_walk}
@@ -206,6 +207,8 @@ module _ {O C R : Type 0} {obj : Ghosts O C R} where
       opened = opened_after;
       pieces = pieces_kept o.slots s after o.pieces (omega (arith, seats_kept)) (λ z. (z, refl))
           (each_set s.views i u blank (λ j x. HasPieces o.pieces.all x) sits (let t = pieces_of_seat s o i v me in record { own = t.own; handed = t.handed; known = t.known }) (λ j ne. o.pieces.seats j));
+      present = present_kept o.slots s after seats_kept
+          (each_set s.views i u blank (λ j x. IsAlike (seat s j) x) sits (ap (λ (x : View C R). x.number) (sym is_me), ap (λ (x : View C R). x.others.handed) (sym is_me)) (λ j ne. (refl, refl))) o.present;
     }
 
     -- The publication list doesn't change.

@@ -3,6 +3,7 @@ pub mod SeatViews
 pub mod Histories
 pub mod Others
 pub mod Pieces
+pub mod Present
 pub mod RecordStates
 pub mod Accounts
 pub mod Chains

@@ -20,6 +20,7 @@ use Rattle.publication.proofs.Lists.{at_there, each_set, prefix_self}
 use Rattle.publication.proofs.SeatViews.{front_of, heard_few, whole_of}
 use Rattle.publication.proofs.Others.{still-true}
 use Rattle.publication.proofs.Pieces.{pieces_kept}
+use Rattle.publication.proofs.Present.{present_kept}
 use Rattle.publication.proofs.Chains.{chain_same, chain_head, on_right, chain_right, apart_right, link_names}
 use Rattle.publication.proofs.UnchangedList.{aside, same_walk}
 use Rattle.publication.proofs.RecordStates.{waiting_belongs, announced_listed, stands_listed, waits_for, waits_announced, at_most_one}
@@ -53,6 +54,7 @@ module _ {O C R : Type 0} {obj : Ghosts O C R} where
     opens = λ k j call at. let t = o.opens k j call at in record { object = t.object; record_of = t.record_of; is_busy = same j ∙ t.is_busy; call_of = t.call_of; empty_slot = t.empty_slot };
     opened = λ j some e. rw (same 0) (o.opened j some (sym (same j) ∙ e));
     pieces = pieces_kept o.slots s (record { words = ws; homes = s.homes; views = s.views }) o.pieces (omega arith) (λ e. (sym (same 0) ∙ e, refl)) o.pieces.seats;
+    present = present_kept o.slots s (record { words = ws; homes = s.homes; views = s.views }) refl (λ k. (refl, refl)) o.present;
   }
 
 -- Two different numbers above 0 and below n: n is at least 3.

@@ -22,6 +22,7 @@ use Rattle.publication.specs.declared.slot.SlotValue.TheVariants.{Empty, ObjectL
 use Rattle.publication.proofs.Lists.{at_there, each_set, each_snoc, prefix_self, same_all, past_end}
 use Rattle.publication.proofs.Others.{StaysGone, still-true}
 use Rattle.publication.proofs.Pieces.{unmade_none, knows_none, pieces_kept}
+use Rattle.publication.proofs.Present.{present_more}
 use Rattle.publication.proofs.UnchangedList.{Keeps, seen_listed, same_seat, unseated}
 use Rattle.publication.proofs.LockKinds.{nothing_at}
 use Rattle.sequential.specs.declared.object.Sequential.{Ghosts}
@@ -42,6 +43,11 @@ module _ {C R : Type 0} where
   first_seats : (v : View C R) (P : View C R → Type 0) → P v → P blank → (k : ℕ) → P (get_or (v ∷ []) k blank)
   first_seats v P here else zero = here
   first_seats v P here else (suc k) = else
+
+  -- The last of more seats is the new one.
+  at_seam : (l : List (View C R)) (x : View C R) → get_or (l ++ x ∷ []) (length l) blank ≡ x
+  at_seam [] x = refl
+  at_seam (y ∷ ys) x = at_seam ys x
 
 module _ {O C R : Type 0} {obj : Ghosts O C R} where
   -- The board of n sessions before any is made.
@@ -124,6 +130,11 @@ module _ {O C R : Type 0} {obj : Ghosts O C R} where
         within = λ k d few. absurd (omega arith);
         seats = each (HasPieces []) (knows_none [] first refl refl refl) (knows_none [] blank refl refl refl);
         home = λ _. untaken;
+      };
+      present = record {
+        each = λ j some small there. absurd (omega (arith, some, there));
+        apart = λ k live. absurd (each (λ u. u.number ≢ 0 → ⊥) (λ z. z refl) (λ z. z refl) k live);
+        once = λ k m p q x y at. absurd (each (λ u. get_elem? u.others.handed p ≡ opt.some x → ⊥) (λ e. opt.some-ne-none x (sym e)) (λ e. opt.some-ne-none x (sym e)) k at);
       };
     }
 
@@ -241,6 +252,9 @@ module _ {O C R : Type 0} {obj : Ghosts O C R} where
         (λ was. absurd (nothing_at 0 j call (sym (ap (λ c. get_elem? c.opened j) first_had) ∙ was)))
         (λ k n was. was)
 
+    newest : seat enrolled (length s.views) ≡ joined
+    newest = subst (λ (k : ℕ). get_or (set s.views 0 more ++ joined ∷ []) k blank ≡ joined) long_now (at_seam (set s.views 0 more) joined)
+
     enrols_one : IsOrderly obj enrolled
     enrols_one = record {
       history = o.history;
@@ -273,6 +287,10 @@ module _ {O C R : Type 0} {obj : Ghosts O C R} where
             known = λ has. absurd (cc has);
           })
           (knows_none o.pieces.all more refl refl refl) (λ k ne. o.pieces.seats k));
+      present = present_more o.slots s enrolled one_more
+          (each_seat (λ k u. k ≢ length s.views → (u.number ≡ (seat s k).number) × (u.others.handed ≡ (seat s k).others.handed)) (λ ne. absurd (ne refl))
+          (λ _. (ap (λ (u : View C R). u.number) (sym is_me), ap (λ (u : View C R). u.others.handed) (sym is_me))) (λ k a ne. (refl, refl)))
+          (ap (λ (u : View C R). u.others.handed) newest) (λ _. ap (λ (u : View C R). u.number) newest ∙ seats) o.present;
     }
 
     -- The publication list doesn't change.

@@ -12,7 +12,7 @@ use Rattle.sequential.specs.declared.entry.Entry.{Entry}
 use Rattle.publication.specs.Words.{word_of, FREE, BUSY}
 use Rattle.publication.specs.Pieces.{pieces_of}
 use Rattle.publication.specs.Views.{Own, Combiner, Listing, Handed, Others, Taken, asks}
-use Rattle.publication.specs.Rule.{blank, BoardState, word, home, seat, fresh, own_at, announced, IsHome, RecordState, HasObject, IsOpened, IsSession, IsMaker, AreTrue, pieces_in, IsOfSession, HasPieces, IsOrderly}
+use Rattle.publication.specs.Rule.{blank, BoardState, word, home, seat, fresh, own_at, announced, IsHome, RecordState, HasObject, IsOpened, IsSession, IsMaker, AreTrue, pieces_in, IsOfSession, HasPieces, ArePresent, IsOrderly}
 use Rattle.publication.specs.Kinds.{as_combiner, with_pieces}
 use Rattle.publication.specs.declared.piece.Piece.{Piece}
 use Rattle.publication.specs.declared.view.View.{View}
@@ -23,6 +23,7 @@ use Rattle.publication.proofs.Lists.{at_there, each_set, prefix_self, prefix_tra
 use Rattle.publication.proofs.SeatViews.{session_of, heard_few, others_of, object_of, opened_of, pieces_of_seat}
 use Rattle.publication.proofs.Others.{still-true}
 use Rattle.publication.proofs.Pieces.{pieces_kept}
+use Rattle.publication.proofs.Present.{IsAlike, present_kept}
 use Rattle.sequential.specs.declared.object.Sequential.{Ghosts}
 
 module _ {C : Type 0} where
@@ -101,6 +102,10 @@ module _ {O C R : Type 0} {obj : Ghosts O C R} where
 
     makes_kept : IsMaker o.slots (length (set s.views k u)) (seat after 0)
     makes_kept = subst (λ (j : ℕ). IsMaker o.slots j (seat after 0)) (sym seats_kept) (subst (λ (y : View C R). IsMaker o.slots (length s.views) y) (sym (seat_other 0 not_mine)) o.makes)
+
+    present_kept_here : ArePresent o.slots after
+    present_kept_here = present_kept o.slots s after seats_kept
+        (each_set s.views k u blank (λ j y. IsAlike (seat s j) y) sits (ap (λ (y : View C R). y.number) (sym is_me), ap (λ (y : View C R). y.others.handed) (sym is_me)) (λ j ne. (refl, refl))) o.present
 
     -- Only this seat may be the combiner's.
     combiners_kept : (h : List (Entry C R)) → (d.has_object ≡ true → HasObject h (word after 0) k u) → ((j : ℕ) → j ≢ k → (seat s j).combiner.has_object ≢ true)
@@ -217,6 +222,7 @@ module _ {O C R : Type 0} {obj : Ghosts O C R} where
             (each_set s.views k u blank (λ j y. HasPieces o.pieces.all y) sits
             (let p = pieces_of_seat s o k v me in record { own = λ some. ap (λ (y : Taken). y.own) t.pieces ∙ p.own some; handed = p.handed; known = λ _. ap (λ (y : Taken). y.all) t.pieces ∙ p.known t.has })
             (λ j ne. o.pieces.seats j));
+        present = present_kept_here;
       }
 
     -- What a step on the lock word has to show: no seat has opened a record, before or after; no other seat has the
@@ -303,4 +309,5 @@ module _ {O C R : Type 0} {obj : Ghosts O C R} where
           seats = each_set s.views k u blank (λ j y. HasPieces t.pieces y) sits pieces_here pieces_there;
           home = λ free_now. ap pieces_in slot_now ∙ t.noted (sym lock_now ∙ free_now);
         };
+        present = present_kept_here;
       }

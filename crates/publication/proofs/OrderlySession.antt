@@ -1,5 +1,5 @@
 -- A session's step on its own record keeps the rule of the records.
-use Rattle.std.proofs.Common.{◌≡◌, ◌≢◌, ℕ, ◌<◌, ◌≤◌, true, Some, None, List, length, get_or, set, sym, ap, ◌∙◌, subst, arith, length-set, get_or-set_other, get_or-set_same}
+use Rattle.std.proofs.Common.{◌≡◌, ◌≢◌, ℕ, ◌<◌, ◌≤◌, true, Some, None, List, length, get_or, set, refl, sym, ap, ◌∙◌, subst, arith, length-set, get_or-set_other, get_or-set_same}
 use mathlib.Core.Option as opt
 use mathlib.Core.Logic.{dite}
 use mathlib.Core.List.{IsPrefix}
@@ -16,6 +16,7 @@ use Rattle.publication.proofs.Lists.{at_there, each_set, prefix_self}
 use Rattle.publication.proofs.SeatViews.{session_of, heard_few, others_of, object_of, pieces_of_seat}
 use Rattle.publication.proofs.Others.{still-true}
 use Rattle.publication.proofs.Pieces.{pieces_kept}
+use Rattle.publication.proofs.Present.{IsAlike, present_kept}
 use Rattle.sequential.specs.declared.object.Sequential.{Ghosts}
 
 module _ {O C R : Type 0} {obj : Ghosts O C R} where
@@ -205,4 +206,6 @@ module _ {O C R : Type 0} {obj : Ghosts O C R} where
         opened = opened_after;
         pieces = pieces_kept o.slots s after o.pieces (omega (arith, length-set s.views i u)) (λ none. (sym (word_other 0 not_lock) ∙ none, home_other 0 not_lock))
             (each_set s.views i u blank (λ j x. HasPieces o.pieces.all x) sits (let t = pieces_of_seat s o i v me in record { own = t.own; handed = t.handed; known = t.known }) (λ j ne. o.pieces.seats j));
+        present = present_kept o.slots s after seats_kept
+            (each_set s.views i u blank (λ j x. IsAlike (seat s j) x) sits (ap (λ (x : View C R). x.number) (sym is_me), ap (λ (x : View C R). x.others.handed) (sym is_me)) (λ j ne. (refl, refl))) o.present;
       }

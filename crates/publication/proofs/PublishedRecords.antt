@@ -366,7 +366,7 @@ module _ {O C R : Type 0} where
 
       left : DoesPendingStay s c.id c.left
       left some named = elim c.cut [
-        | inl m ↦ (let e = ap (λ (v : View C R). v.number) (seat_is ∙ m.0) in absurd (omega (arith, e, named, some)))
+        | inl m ↦ (let e = ap (λ (v : View C R). v.number) seat_is ∙ m.0 in absurd (omega (arith, e, named, some)))
         | inr m ↦ inl (ap (λ (v : View C R). v.own.pending) (m.0 ∙ sym seat_is))
       ]
 

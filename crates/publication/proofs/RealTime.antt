@@ -57,13 +57,13 @@ module _ {O C R : Type 0} {obj : Ghosts O C R} where
     where
       left : KnowsAsMuch s c.id c.left
       left = elim c.cut [
-        | inl m ↦ no-object s c.id c.left (ap (λ (x : View C R). x.combiner.has_object) m.1)
+        | inl m ↦ no-object s c.id c.left (ap (λ (x : View C R). x.combiner.has_object) m.2)
         | inr m ↦ front-kept s c.id c.view c.left c.seated (ap (λ (x : View C R). x.front) m.0)
       ]
 
       right : KnowsAsMuch s (length (set s.views c.id c.left)) c.right
       right = elim c.cut [
-        | inl m ↦ no-object s (length (set s.views c.id c.left)) c.right (ap (λ (x : View C R). x.combiner.has_object) m.2)
+        | inl m ↦ no-object s (length (set s.views c.id c.left)) c.right (ap (λ (x : View C R). x.combiner.has_object) m.3)
         | inr m ↦ elim m.1 [
           | inl e ↦ no-object s (length (set s.views c.id c.left)) c.right (ap (λ (x : View C R). x.combiner.has_object) e)
           | inr e ↦ no-object s (length (set s.views c.id c.left)) c.right (ap (λ (x : View C R). x.combiner.has_object) e)

@@ -261,6 +261,22 @@ module _ {O C R : Type 0} where
     -- lock word FREE: the load notes them
     pub home : word s 0 ≡ FREE → pieces_in (home s 0) ≡ all
 
+module _ {O C R : Type 0} where
+  -- That no session is lost.
+
+  -- Session j has its seat, or was handed in to a seat.
+  abbrev pub IsPresent : BoardState O C R → ℕ → Type 0
+  IsPresent s j = ((seat s j).number ≡ j) ⊎ ((k : ℕ) × (p : ℕ) × (x : Handed C R) × (get_elem? (seat s k).others.handed p ≡ opt.some x) × (x.number ≡ j))
+
+  -- What holds of the sessions' seats between any two atomic steps.
+  pub record ArePresent (slots : ℕ) (s : BoardState O C R) : Type 0 where
+    -- each session that is made has its seat, or was handed in
+    pub each : (j : ℕ) → 0 < j → j < slots → j < length s.views → IsPresent s j
+    -- none was handed in to the seat of a session
+    pub apart : (k : ℕ) → (seat s k).number ≢ 0 → (seat s k).others.handed ≡ []
+    -- and none to two seats
+    pub once : (k m p q : ℕ) (x y : Handed C R) → get_elem? (seat s k).others.handed p ≡ opt.some x → get_elem? (seat s m).others.handed q ≡ opt.some y → x.number ≡ y.number → k ≡ m
+
 module _ {O C R : Type 0} (obj : Ghosts O C R) where
   -- The rule. While the combiner has the object, the object may be ahead of the history by calls that were performed and not
   -- answered yet. When the object goes home, its history is the board's.
@@ -309,3 +325,5 @@ module _ {O C R : Type 0} (obj : Ghosts O C R) where
     pub opened : (j : ℕ) → 0 < j → word s j ≡ BUSY → (call : C) × (get_elem? (seat s (word s 0)).combiner.opened j ≡ opt.some (Some call))
     -- the pieces of the history that sessions took are noted, and each session knows its own
     pub pieces : ArePieces slots s
+    -- no session is lost
+    pub present : ArePresent slots s

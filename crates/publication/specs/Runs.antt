@@ -139,19 +139,20 @@ module _ {O C R : Type 0} (obj : Ghosts O C R) where
     pub is : t ≡ stepped s at put id before.1 after.0 act
 
 module _ {O C R : Type 0} where
-  -- A seat is split: seat 0 makes a session, or a copy is made of what a seat knows, or of the front that it knows.
+  -- A seat is split: one that is no session's, and to which none was handed in, makes a session; or a copy is made of what a seat
+  -- knows, or of the front that it knows.
   pub record IsSeatSplit (s t : BoardState O C R) : Type 0 where
     pub id : ℕ
     pub view : View C R
     pub left : View C R
     pub right : View C R
     pub seated : get_elem? s.views id ≡ opt.some view
-    pub cut : ((view ≡ maker view.slots view.made) × (left ≡ maker view.slots (view.made + 1)) × (right ≡ new_session view.slots (view.made + 1)))
+    pub cut : ((view.number ≡ 0) × (view.others.handed ≡ []) × (left ≡ maker view.slots (view.made + 1)) × (right ≡ new_session view.slots (view.made + 1)))
         ⊎ ((left ≡ view) × ((right ≡ copy_of view) ⊎ (right ≡ front_copy_of view)))
     pub is : t ≡ record { words = s.words; homes = s.homes; views = slice_set s.views id left ++ right ∷ [] }
 
-  -- A seat is joined into another and ends: a copy of what a seat knows; or, into the closing seat, which is no session's,
-  -- the seat of a session to which none was handed in.
+  -- A seat is joined into another and ends: one that is no session's, and to which none was handed in; or, into the closing seat,
+  -- which is no session's, the seat of a session to which none was handed in.
   pub record IsSeatJoin (s t : BoardState O C R) : Type 0 where
     pub id : ℕ
     pub view : View C R
@@ -161,7 +162,7 @@ module _ {O C R : Type 0} where
     pub seated : get_elem? s.views id ≡ opt.some view
     pub apart : ¬ (other ≡ id)
     pub beside : get_elem? s.views other ≡ opt.some theirs
-    pub join : ((both ≡ joined view theirs) × (theirs ≡ copy_of theirs)) ⊎ ((both ≡ gathered view theirs) × (view.number ≡ 0) × (theirs.others.handed ≡ []))
+    pub join : ((both ≡ joined view theirs) × (theirs.number ≡ 0) × (theirs.others.handed ≡ [])) ⊎ ((both ≡ gathered view theirs) × (view.number ≡ 0) × (theirs.others.handed ≡ []))
     pub is : t ≡ record { words = s.words; homes = s.homes; views = slice_set (slice_set s.views id both) other blank }
 
 module _ {O C R : Type 0} (obj : Ghosts O C R) where

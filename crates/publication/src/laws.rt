@@ -3,7 +3,7 @@
 //! `IsRuled s` says that the rule holds in state `s`. `atomic_table` promises that it holds between any two atomic
 //! steps of the running board.
 
-ghost use Rattle.std.specs.Prelude.{◌≡◌, ◌≢◌, ◌⊎◌, ℕ, ◌+◌, List, ◌∷◌, ◌++◌, [], length, slice_index, Option, Some, None, ◌≤◌, All};
+ghost use Rattle.std.specs.Prelude.{◌≡◌, ◌≢◌, ◌⊎◌, ℕ, ◌+◌, List, ◌∷◌, ◌++◌, [], length, slice_index, slice_set, Option, Some, None, ◌≤◌, All};
 ghost use mathlib.Core.List.{IsPrefix};
 ghost use mathlib.Core.Option as opt;
 ghost use lib.ListN.{get_elem?};
@@ -13,9 +13,9 @@ ghost use Rattle.sequential.specs.declared.entry.Entry.{Entry};
 ghost use Rattle.sequential.specs.Histories.{Answered, calls_of};
 ghost use Rattle.sequential.specs.Linearizable.{Event, IsLinearization, IsLinearizable};
 ghost use Rattle.publication.specs.Views.{Pending, IsAccountedIn, entry, answer, asks};
-ghost use Rattle.publication.specs.Rule.{BoardState, seat, IsHome};
+ghost use Rattle.publication.specs.Rule.{blank, maker, new_session, BoardState, seat, IsHome};
 ghost use Rattle.publication.specs.List.{IsRuled};
-ghost use Rattle.publication.specs.Kinds.{Seated};
+ghost use Rattle.publication.specs.Kinds.{Seated, copy_of, front_copy_of, joined, gathered};
 ghost use Rattle.publication.specs.Collected.{HasCollected};
 ghost use Rattle.publication.specs.BoardHistory.{new_board, history_of, IsAppended, IsEnteredDirectly, IsAccounted};
 ghost use Rattle.publication.specs.Entered.{AreEnteredOnce};
@@ -72,6 +72,28 @@ pub fn steps_of_the_table_are_such_steps<O: Sequential>()
         get_elem? s.views id ≡ opt.some m.0 → CarriesOnlyItsOwn s.homes m.1 → StepRequires O.Sequential name at m → Valid s.homes m.1 a →
         kind_of O.Sequential name (step (length s.homes) at first second opt.none) m (slice_index s.words at) (w, carried_after m.1 a) →
         IsStep O.Sequential name s (stepped s at put id m.1 w a) }
+{}
+
+/// A split or join of seats is one of the model (`IsSeatSplit`, `IsSeatJoin`), if the rule holds before and after, as
+/// `atomic_table` demands of each: else a session would be lost. These are all that the code makes (`Split`, `Join` in
+/// `kinds.rt`): a seat makes a session (`makes`); a copy is made of what a seat knows, or of the front that it knows (`copies`,
+/// `fronts`); a seat takes such a copy in (`joins`); the closing seat takes in a session's (`gathers`).
+pub fn splits_and_joins_of_the_table_are_such_moves<O: Sequential>()
+    ensures makes { (s : BoardState O O.Call O.Reply) (id : ℕ) (v : View O.Call O.Reply) → IsRuled O.Sequential s → get_elem? s.views id ≡ opt.some v →
+        IsRuled O.Sequential record { words = s.words; homes = s.homes; views = slice_set s.views id (maker v.slots (v.made + 1)) ++ new_session v.slots (v.made + 1) ∷ [] } →
+        IsSeatSplit s record { words = s.words; homes = s.homes; views = slice_set s.views id (maker v.slots (v.made + 1)) ++ new_session v.slots (v.made + 1) ∷ [] } }
+    ensures copies { (s : BoardState O O.Call O.Reply) (id : ℕ) (v : View O.Call O.Reply) → get_elem? s.views id ≡ opt.some v →
+        IsSeatSplit s record { words = s.words; homes = s.homes; views = slice_set s.views id v ++ copy_of v ∷ [] } }
+    ensures fronts { (s : BoardState O O.Call O.Reply) (id : ℕ) (v : View O.Call O.Reply) → get_elem? s.views id ≡ opt.some v →
+        IsSeatSplit s record { words = s.words; homes = s.homes; views = slice_set s.views id v ++ front_copy_of v ∷ [] } }
+    ensures joins { (s : BoardState O O.Call O.Reply) (id other : ℕ) (v w : View O.Call O.Reply) → IsRuled O.Sequential s →
+        get_elem? s.views id ≡ opt.some v → ¬ (other ≡ id) → get_elem? s.views other ≡ opt.some w →
+        IsRuled O.Sequential record { words = s.words; homes = s.homes; views = slice_set (slice_set s.views id (joined v w)) other blank } →
+        IsSeatJoin s record { words = s.words; homes = s.homes; views = slice_set (slice_set s.views id (joined v w)) other blank } }
+    ensures gathers { (s : BoardState O O.Call O.Reply) (id other : ℕ) (v w : View O.Call O.Reply) → IsRuled O.Sequential s →
+        get_elem? s.views id ≡ opt.some v → ¬ (other ≡ id) → get_elem? s.views other ≡ opt.some w →
+        IsRuled O.Sequential record { words = s.words; homes = s.homes; views = slice_set (slice_set s.views id (gathered v w)) other blank } →
+        IsSeatJoin s record { words = s.words; homes = s.homes; views = slice_set (slice_set s.views id (gathered v w)) other blank } }
 {}
 
 /// No session is lost in a run: it still has its seat, or was handed in to close the board, and the answers that it had

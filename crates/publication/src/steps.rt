@@ -528,6 +528,7 @@ pub(crate) fn gather_seat<O: Sequential>(
     requires ours { (seat.old.table_id ≡ shared.now.table_id) × (other.table_id ≡ shared.now.table_id) }
     requires board { IsBoard shared.now.table_id }
     requires at { IsAt shared.now.table_id at }
+    requires closing { seat.old.me.0.number ≡ 0 }
     requires theirs { other.me.0.number ≡ at }
     requires settled { (is_some other.me.0.own.pending ≡ false) × (other.me.0.combiner.has_object ≡ false) }
     requires carried { other.me.1 ≡ (at, SlotValue.Empty) ∷ [] }

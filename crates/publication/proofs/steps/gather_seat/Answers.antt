@@ -27,5 +27,5 @@ join_seat-requires g c = let v = c.args.seat.now.me.0 in let w = c.args.other.me
       search rules,
       ap (λ (x : Seated _ _ _). x.1) after,
       search rules,
-      subst (λ (x : Seated _ _ _). Joins (IsBounded g.O.Sequential (bound_of g.O.Sequential.bound c.args.shared.now.key.object.items)) c.args.seat.now.id v id x.0 (gathered v x.0) blank) (sym after) (joins_bounded (gathers c.args.seat.now.id v id (leaving w) named refl c.requires.settled.1)),
+      subst (λ (x : Seated _ _ _). Joins (IsBounded g.O.Sequential (bound_of g.O.Sequential.bound c.args.shared.now.key.object.items)) c.args.seat.now.id v id x.0 (gathered v x.0) blank) (sym after) (joins_bounded (gathers c.args.seat.now.id v id (leaving w) c.requires.closing named refl c.requires.settled.1)),
     )
