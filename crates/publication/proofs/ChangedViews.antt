@@ -65,6 +65,7 @@ module _ {O C R : Type 0} {obj : Ghosts O C R} where
         opened = λ j some_session is. let t = o.opened j some_session is in (t.0, still_opened (word s 0) j t.0 t.1);
         pieces = pieces_kept o.slots s viewed o.pieces more (λ e. (e, refl)) (λ k. (sits k).pieces);
         present = present;
+        in_time = o.in_time;
       }
         where
           still_has : (k : ℕ) → (seat s k).combiner.has_object ≡ true → (get_or vs k blank).combiner.has_object ≡ true

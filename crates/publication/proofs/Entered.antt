@@ -132,7 +132,7 @@ module _ {O C R : Type 0} where
       -- No kind of step but the answer and the direct entry enters a place.
       as-it-was : (name : StepName C R) (slots at first second found : ℕ) → name ≢ answer_record → ((call : C) (reply : R) → name ≢ enter call reply) → kind_of obj name (step slots at first second opt.none) m found n → IsAsItWas m.0 n.0
       as-it-was start slots at first second found other direct told = calmly _ _ told (refl, refl, refl)
-      as-it-was post slots at first second found other direct told = calmly _ _ told (refl, refl, refl)
+      as-it-was post slots at first second found other direct told = calmly _ _ told.0 (refl, refl, refl)
       as-it-was look_at_head slots at first second found other direct told = same told.0
       as-it-was link slots at first second found other direct told = calmly _ _ told (refl, refl, refl)
       as-it-was enlist slots at first second found other direct told = dite (ℕ_discrete found first) (λ e. calmly _ _ (told.0 e) (refl, refl, refl)) (λ ne. calmly _ _ (told.1 ne).0 (refl, refl, refl))

@@ -106,7 +106,7 @@ module _ {O C R : Type 0} {obj : Ghosts O C R} where
     -- No kind of step but the answer and the direct entry changes the history.
     pub unchanged : (name : StepName C R) → name ≢ answer_record → ((call : C) (reply : R) → name ≢ enter call reply) → StepRequires obj name at m → kind_of obj name (step (length s.homes) at first second opt.none) m found n → Same
     unchanged start other direct asks told = calmly (started m.0) _ told refl refl
-    unchanged post other direct asks told = calmly (posting m.0 (asked obj m.1) (found == EMPTY)) _ told refl refl
+    unchanged post other direct asks told = calmly (posting m.0 n.0.own.log (asked obj m.1) (found == EMPTY)) _ told.0 refl refl
     unchanged look_at_head other direct asks told = same told.0
     unchanged link other direct asks told = calmly (linking m.0 first) _ told refl refl
     unchanged enlist other direct asks told = dite (ℕ_discrete found first) (λ e. calmly (enlisting m.0) _ (told.0 e) refl refl) (λ ne. calmly (losing_head m.0) _ (told.1 ne).0 refl refl)
@@ -161,7 +161,7 @@ module _ {O C R : Type 0} {obj : Ghosts O C R} where
         in-reach (x ∷ xs) (suc i) b e = omega (arith, in-reach xs i b e)
 
     -- A direct entry appends its entry to the history.
-    pub enters-history : (call : C) (reply : R) → m.0.combiner.has_object ≡ true → n ≡ (entering m.0 call reply, m.1) → p.history ≡ o.history ++ entry m.0.number call reply ∷ []
+    pub enters-history : (call : C) (reply : R) → m.0.combiner.has_object ≡ true → n ≡ (entering m.0 n.0.own.log call reply, m.1) → p.history ≡ o.history ++ entry m.0.number call reply ∷ []
     enters-history call reply has e =
         let whole : m.0.front ≡ o.history = whole_of s o id m.0 me has in
         knows (ap (λ (x : Seated O C R). x.0.combiner.has_object) e ∙ has) ∙ (ap (λ (x : Seated O C R). x.0.front) e ∙ ap (λ (l : List (Entry C R)). l ++ entry m.0.number call reply ∷ []) whole)
@@ -170,7 +170,7 @@ module _ {O C R : Type 0} {obj : Ghosts O C R} where
     pub names-combiner : m.0.combiner.has_object ≡ true → word s 0 ≡ m.0.number
     names-combiner has = let b = object_of s o id m.0 me has in b.lock_is ∙ sym b.named
 
-    pub still-names : (call : C) (reply : R) → m.0.combiner.has_object ≡ true → n ≡ (entering m.0 call reply, m.1) → word t 0 ≡ m.0.number
+    pub still-names : (call : C) (reply : R) → m.0.combiner.has_object ≡ true → n ≡ (entering m.0 n.0.own.log call reply, m.1) → word t 0 ≡ m.0.number
     still-names call reply has e =
         let b = object_of s o id m.0 me has in
         (p.combiners id (ap (λ (x : View C R). x.combiner.has_object) (seat_after ∙ ap (λ (x : Seated O C R). x.0) e) ∙ has)).lock_is ∙ sym b.named
@@ -187,11 +187,11 @@ module _ {O C R : Type 0} {obj : Ghosts O C R} where
           pending_is = ap (λ (x : View C R). x.own.pending) here ∙ none;
         }
 
-    pub seated-after : (call : C) (reply : R) → m.0.combiner.has_object ≡ true → m.0.own.pending ≡ None → n ≡ (entering m.0 call reply, m.1)
+    pub seated-after : (call : C) (reply : R) → m.0.combiner.has_object ≡ true → m.0.own.pending ≡ None → n ≡ (entering m.0 n.0.own.log call reply, m.1)
         → IsSeated t m.0.number (m.0.own.collected ++ answer (length o.history) call reply ∷ []) None
     seated-after call reply has none e =
         let b = object_of s o id m.0 me has in
-        let here : seat t m.0.number ≡ entering m.0 call reply = ap (seat t) b.named ∙ (seat_after ∙ ap (λ (x : Seated O C R). x.0) e) in
+        let here : seat t m.0.number ≡ entering m.0 n.0.own.log call reply = ap (seat t) b.named ∙ (seat_after ∙ ap (λ (x : Seated O C R). x.0) e) in
         record {
           some = omega (arith, b.session, b.named);
           named = ap (λ (x : View C R). x.number) here;

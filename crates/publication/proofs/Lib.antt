@@ -4,6 +4,11 @@ pub mod Histories
 pub mod Others
 pub mod Pieces
 pub mod Present
+pub mod Splitting
+pub mod Moments
+pub mod LinearEvents
+pub mod OnlyEvents
+pub mod InTime
 pub mod RecordStates
 pub mod Accounts
 pub mod Chains
@@ -38,4 +43,5 @@ pub mod PublishedRecords
 pub mod OwnSteps
 pub mod PieceLaws
 pub mod Linearizable
+pub mod Instants
 pub mod Entered

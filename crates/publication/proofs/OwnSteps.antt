@@ -48,7 +48,7 @@ module _ {O C R : Type 0} where
     -- Each kind of step.
     own_change : (name : StepName C R) → StepRequires obj name at m → kind_of obj name (step slots at first second opt.none) m found n → OwnChange m n at found name
     own_change start asks told = dropped (ap (λ (x : Seated O C R). x.0.own.pending) told) (ap (λ (x : Seated O C R). x.0.own.collected) told) (ap (λ (x : Seated O C R). x.0.combiner) told) (λ e. absurd (cc e)) (λ call reply e. absurd (cc e)) (inr (inr (ap (λ (x : Seated O C R). x.1) told)))
-    own_change post asks told = noted (asked obj m.1) (length m.0.front) (ap (λ (x : Seated O C R). x.0.own.pending) told) (ap (λ (x : Seated O C R). x.0.own.collected) told) (ap (λ (x : Seated O C R). x.0.combiner) told) (λ e. absurd (cc e)) (λ call reply e. absurd (cc e))
+    own_change post asks told = noted (asked obj m.1) (length m.0.front) (ap (λ (x : Seated O C R). x.0.own.pending) told.0) (ap (λ (x : Seated O C R). x.0.own.collected) told.0) (ap (λ (x : Seated O C R). x.0.combiner) told.0) (λ e. absurd (cc e)) (λ call reply e. absurd (cc e))
     own_change look_at_head asks told = unmoved look_at_head told.0 (λ call reply e. absurd (cc e))
     own_change link asks told = calm link _ _ told refl refl (λ call reply e. absurd (cc e))
     own_change enlist asks told = dite (ℕ_discrete found first) (λ e. calm enlist _ _ (told.0 e) refl refl (λ call reply e. absurd (cc e))) (λ ne. calm enlist _ _ (told.1 ne).0 refl refl (λ call reply e. absurd (cc e)))

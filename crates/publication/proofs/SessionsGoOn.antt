@@ -63,7 +63,7 @@ module _ {O C R : Type 0} where
     module _ (obj : Ghosts O C R) where
       pub follows : (name : StepName C R) (slots at first second found : ℕ) → kind_of obj name (step slots at first second opt.none) m found n → Follows m.0 n.0
       follows start slots at first second found told = calmly _ _ told refl refl refl
-      follows post slots at first second found told = calmly _ _ told refl refl refl
+      follows post slots at first second found told = calmly _ _ told.0 refl refl refl
       follows look_at_head slots at first second found told = same told.0
       follows link slots at first second found told = calmly _ _ told refl refl refl
       follows enlist slots at first second found told = dite (ℕ_discrete found first) (λ e. calmly _ _ (told.0 e) refl refl refl) (λ ne. calmly _ _ (told.1 ne).0 refl refl refl)

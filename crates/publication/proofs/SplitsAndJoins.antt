@@ -1,10 +1,12 @@
 -- The splits and joins by which one seat learns what another knows keep the rule.
-use Rattle.std.proofs.Common.{◌≡◌, ◌≢◌, ◌⊎◌, inl, inr, ⊎_elim, ℕ, ◌+◌, ◌<◌, ◌≤◌, ◌||◌, Bool, true, false, Some, None, List, [], ◌∷◌, ◌++◌, length, get_or, set, sym, refl, ap, ◌∙◌, subst, arith, length-set, length-append, get_or-set_same}
+use Rattle.std.proofs.Common.{◌≡◌, ◌≢◌, ◌⊎◌, inl, inr, ⊎_elim, ℕ, ◌+◌, ◌<◌, ◌≤◌, ◌||◌, Bool, true, false, Some, None, List, [], ◌∷◌, ◌++◌, length, map, get_or, set, sym, refl, ap, ◌∙◌, subst, arith, length-set, length-append, get_or-set_same}
+use Rattle.std.proofs.lemmas.List.{map-append}
 use mathlib.Core.Option as opt
 use mathlib.Core.List.{IsPrefix}
 use lib.ListN.{get_elem?}
 use Rattle.atomic_table.specs.Table.{Splits, Joins}
 use Rattle.sequential.specs.declared.entry.Entry.{Entry}
+use Rattle.sequential.specs.Linearizable.{Event}
 use Rattle.publication.specs.Pieces.{pieces_of}
 use Rattle.publication.specs.Views.{Own, Handed, Others}
 use Rattle.publication.specs.Rule.{blank, BoardState, word, home, seat, own_at, announced, RecordState, IsSession, IsMaker, IsHanded, AreTrue, HasPieces, ArePresent, IsOrderly}
@@ -180,6 +182,7 @@ module _ {O C R : Type 0} {obj : Ghosts O C R} where
               all_made = λ is. ⊎_elim was.all_made theirs.all_made (either_of v.others.all_made w.others.all_made is);
               beside = subst (λ (x : View C R). IsPrefix x.front o.history) w_is (o.fronts other);
               handed = was.handed;
+              logged = was.logged;
             })
             (pieces_of_seat s o id v me).handed
             (present_kept o.slots s (viewed s o vs) long
@@ -226,6 +229,9 @@ module _ {O C R : Type 0} {obj : Ghosts O C R} where
               all_made = was.all_made;
               beside = was.beside;
               handed = λ p x at. ⊎_elim (was.handed p x) (λ new. subst (IsHanded o.history (viewed s o vs) o.slots o.owns) new now) (at_pushed v.others.handed (handed_in w) p x at);
+              logged = ap (λ (l : List (ℕ × List (ℕ × Event C R))). l ++ (w.number, w.own.log) ∷ []) was.logged
+                  ∙ (ap (λ (y : Own C R). map (λ (x : Handed C R). (x.number, (own_at o.owns x.number).log)) v.others.handed ++ (w.number, y.log) ∷ []) (sym own_is)
+                  ∙ sym (map-append (λ (x : Handed C R). (x.number, (own_at o.owns x.number).log)) v.others.handed (handed_in w ∷ [])));
             })
             (λ p x at. ⊎_elim ((pieces_of_seat s o id v me).handed p x) (λ new. subst (λ (y : Handed C R). y.pieces ≡ pieces_of y.number o.pieces.all) new took_now) (at_pushed v.others.handed (handed_in w) p x at))
             (present_gathered o.slots s (viewed s o vs) id other (handed_in w) (ap (λ (x : View C R). x.number) w_is ∙ t.is) t.is

@@ -11,7 +11,7 @@ ghost use Rattle.std.specs.Global.{Box};
 ghost use Rattle.atomic_table.specs.Table.{step, Act, Valid, carried_after, stepped};
 ghost use Rattle.sequential.specs.declared.entry.Entry.{Entry};
 ghost use Rattle.sequential.specs.Histories.{Answered, calls_of};
-ghost use Rattle.sequential.specs.Linearizable.{Event, IsLinearization, IsLinearizable};
+ghost use Rattle.sequential.specs.Linearizable.{Event, calls_in, IsWellFormed, IsLinearization, IsLinearizable};
 ghost use Rattle.publication.specs.Views.{Pending, IsAccountedIn, entry, answer, asks};
 ghost use Rattle.publication.specs.Rule.{blank, maker, new_session, BoardState, seat, IsHome};
 ghost use Rattle.publication.specs.List.{IsRuled};
@@ -21,6 +21,7 @@ ghost use Rattle.publication.specs.BoardHistory.{new_board, history_of, IsAppend
 ghost use Rattle.publication.specs.Entered.{AreEnteredOnce};
 ghost use Rattle.publication.specs.Runs.{StepName, answer_record, enter, kind_of, StepRequires, CarriesOnlyItsOwn, IsStep, IsSeatSplit, IsSeatJoin, IsRun, calls_made, RespectsRealTime};
 ghost use Rattle.publication.specs.Linearizable.{AreEventsOfRun};
+ghost use Rattle.publication.specs.Instants.{AreEventsOf, calls_told};
 ghost use Rattle.publication.specs.declared.slot.Load.{Load};
 ghost use Rattle.publication.specs.declared.slot.SlotValue.{SlotValue};
 ghost use Rattle.publication.specs.declared.view.View.{View};
@@ -121,6 +122,23 @@ pub fn calls_stand_in_the_order_of_time<O: Sequential>()
 pub fn each_place_is_entered_once<O: Sequential>()
     ensures { (n : ℕ) (load : Box (Load O O.Call O.Reply)) (s : BoardState O O.Call O.Reply) →
         IsHome O.Sequential [] (n + 1) load.value → load.value.pieces.items ≡ [] → IsRun O.Sequential (new_board n load) s → AreEnteredOnce O.Sequential s }
+{}
+
+/// At every instant the calls made so far are linearizable (Herlihy and Wing 1990), of any object. The state has one list of events
+/// (`some`, `only`), which its sessions have noted with their moments: to publish a call is its invocation, to take the reply its
+/// response, and a direct entry is both. They have of each session the calls that it has collected, which have returned, and the
+/// pending one (`calls`). The board's history is a linearization of them (`history`). A board has one slot more than sessions.
+pub fn calls_are_linearizable_at_every_instant<O: Sequential>()
+    ensures some { (s : BoardState O O.Call O.Reply) → IsRuled O.Sequential s → (events : List (Event O.Call O.Reply)) × AreEventsOf s events }
+    ensures only { (s : BoardState O O.Call O.Reply) (events others : List (Event O.Call O.Reply)) → AreEventsOf s events → AreEventsOf s others → events ≡ others }
+    ensures well_formed { (n : ℕ) (s : BoardState O O.Call O.Reply) (events : List (Event O.Call O.Reply)) →
+        IsRuled O.Sequential s → length s.homes ≡ n + 1 → AreEventsOf s events → IsWellFormed n events }
+    ensures calls { (s : BoardState O O.Call O.Reply) (events : List (Event O.Call O.Reply)) (i : ℕ) (answers : List (Answered O.Call O.Reply)) (pending : Option (Pending O.Call)) →
+        IsRuled O.Sequential s → AreEventsOf s events → HasCollected s i answers pending → calls_in i events ≡ calls_told answers pending }
+    ensures history { (n : ℕ) (s : BoardState O O.Call O.Reply) (events : List (Event O.Call O.Reply)) →
+        IsRuled O.Sequential s → length s.homes ≡ n + 1 → AreEventsOf s events → IsLinearization O.Sequential n events (history_of O.Sequential s) }
+    ensures linearizable { (n : ℕ) (s : BoardState O O.Call O.Reply) (events : List (Event O.Call O.Reply)) →
+        IsRuled O.Sequential s → length s.homes ≡ n + 1 → AreEventsOf s events → IsLinearizable O.Sequential n events }
 {}
 
 /// Any object that sessions share through a board is linearizable (Herlihy and Wing 1990). In a run of a board from its opening

@@ -16,7 +16,7 @@ use Rattle.publication.proofs.steps.compare_fronts.Goals as goal
 module _ {C R : Type 0} where
   -- Joining a copy of a front alone notes the front, and nothing else.
   notes : (v w : View C R) → joined v (front_copy_of w) ≡ comparing v w
-  notes v w = ap (λ (hs : List ℕ). as_hearer v v.front hs (record { all_made = v.others.all_made || true; beside = w.front; handed = v.others.handed })) (maxes-none v.heard)
+  notes v w = ap (λ (hs : List ℕ). as_hearer v v.front hs (record { all_made = v.others.all_made || true; beside = w.front; handed = v.others.handed; logs = v.others.logs })) (maxes-none v.heard)
 
 pub split_seat-copy-requires : goal.split_seat-copy-requires
 split_seat-copy-requires g c = (search rules, search rules, splits_bounded (splits_front c.args.other.now.id c.args.other.now.me.0 c.requires.made))
