@@ -44,4 +44,5 @@ pub mod OwnSteps
 pub mod PieceLaws
 pub mod Linearizable
 pub mod Instants
+pub mod Noting
 pub mod Entered

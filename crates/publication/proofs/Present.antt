@@ -13,19 +13,21 @@ use Rattle.publication.specs.declared.view.View.{View}
 use Rattle.publication.proofs.Lists.{at_there, at_pushed, each_set, each_snoc, past_end}
 use Rattle.sequential.specs.declared.object.Sequential.{Ghosts}
 
-module _ {C R : Type 0} where
-  -- A seat stays that of the same session, and the same sessions are handed in to it.
-  abbrev pub IsAlike : View C R → View C R → Type 0
-  IsAlike v w = (w.number ≡ v.number) × (w.others.handed ≡ v.others.handed)
-
-  still_there : (xs ys : List (Handed C R)) (p : ℕ) (x : Handed C R) → get_elem? xs p ≡ opt.some x → get_elem? (xs ++ ys) p ≡ opt.some x
+module _ {A : Type 0} where
+  -- An element is there after others were appended, and the last is there.
+  pub still_there : (xs ys : List A) (p : ℕ) (x : A) → get_elem? xs p ≡ opt.some x → get_elem? (xs ++ ys) p ≡ opt.some x
   still_there [] ys p x e = absurd (opt.some-ne-none x (sym e))
   still_there (z ∷ zs) ys zero x e = e
   still_there (z ∷ zs) ys (suc p) x e = still_there zs ys p x e
 
-  last_there : (xs : List (Handed C R)) (x : Handed C R) → get_elem? (xs ++ x ∷ []) (length xs) ≡ opt.some x
+  pub last_there : (xs : List A) (x : A) → get_elem? (xs ++ x ∷ []) (length xs) ≡ opt.some x
   last_there [] x = refl
   last_there (z ∷ zs) x = last_there zs x
+
+module _ {C R : Type 0} where
+  -- A seat stays that of the same session, and the same sessions are handed in to it.
+  abbrev pub IsAlike : View C R → View C R → Type 0
+  IsAlike v w = (w.number ≡ v.number) × (w.others.handed ≡ v.others.handed)
 
   some_pushed : (xs : List (Handed C R)) (x : Handed C R) → xs ++ x ∷ [] ≡ [] → ⊥
   some_pushed [] x e = cc e

@@ -3,7 +3,7 @@
 //! `IsRuled s` says that the rule holds in state `s`. `atomic_table` promises that it holds between any two atomic
 //! steps of the running board.
 
-ghost use Rattle.std.specs.Prelude.{◌≡◌, ◌≢◌, ◌⊎◌, ℕ, ◌+◌, List, ◌∷◌, ◌++◌, [], length, slice_index, slice_set, Option, Some, None, ◌≤◌, All};
+ghost use Rattle.std.specs.Prelude.{◌≡◌, ◌≢◌, ◌⊎◌, ℕ, ◌+◌, List, ◌∷◌, ◌++◌, [], length, map, slice_index, slice_set, Option, Some, None, ◌≤◌, All};
 ghost use mathlib.Core.List.{IsPrefix};
 ghost use mathlib.Core.Option as opt;
 ghost use lib.ListN.{get_elem?};
@@ -21,7 +21,7 @@ ghost use Rattle.publication.specs.BoardHistory.{new_board, history_of, IsAppend
 ghost use Rattle.publication.specs.Entered.{AreEnteredOnce};
 ghost use Rattle.publication.specs.Runs.{StepName, answer_record, enter, kind_of, StepRequires, CarriesOnlyItsOwn, IsStep, IsSeatSplit, IsSeatJoin, IsRun, calls_made, RespectsRealTime};
 ghost use Rattle.publication.specs.Linearizable.{AreEventsOfRun};
-ghost use Rattle.publication.specs.Instants.{AreEventsOf, calls_told};
+ghost use Rattle.publication.specs.Instants.{HasView, AreEventsOf, calls_told, AreFrom};
 ghost use Rattle.publication.specs.declared.slot.Load.{Load};
 ghost use Rattle.publication.specs.declared.slot.SlotValue.{SlotValue};
 ghost use Rattle.publication.specs.declared.view.View.{View};
@@ -139,6 +139,22 @@ pub fn calls_are_linearizable_at_every_instant<O: Sequential>()
         IsRuled O.Sequential s → length s.homes ≡ n + 1 → AreEventsOf s events → IsLinearization O.Sequential n events (history_of O.Sequential s) }
     ensures linearizable { (n : ℕ) (s : BoardState O O.Call O.Reply) (events : List (Event O.Call O.Reply)) →
         IsRuled O.Sequential s → length s.homes ≡ n + 1 → AreEventsOf s events → IsLinearizable O.Sequential n events }
+{}
+
+/// The clock is right. A step on a word changes the view of its seat alone. If the view then has events more, whatever moments it
+/// has noted for them, these come behind all events so far, and the moments are how many events there were before each (`noted`).
+/// If the view has none more, no event has happened (`none`); nor if seats were split or joined (`seats`). So the order of the
+/// events is the order of the steps at which they were noted.
+pub fn events_happen_when_they_are_noted<O: Sequential>()
+    ensures noted { (s : BoardState O O.Call O.Reply) (at put id : ℕ) (carried : List (ℕ × SlotValue O O.Call O.Reply)) (v w : View O.Call O.Reply) (act : Act (SlotValue O O.Call O.Reply))
+        (more : List (ℕ × Event O.Call O.Reply)) (before after : List (Event O.Call O.Reply)) →
+        HasView s id v → v.number ≢ 0 → w.number ≡ v.number → w.others.logs ≡ v.others.logs → w.own.log ≡ v.own.log ++ more →
+        AreEventsOf s before → AreEventsOf (stepped s at put id carried w act) after → AreFrom (length before) more × (after ≡ before ++ map (λ x. x.1) more) }
+    ensures none { (s : BoardState O O.Call O.Reply) (at put id : ℕ) (carried : List (ℕ × SlotValue O O.Call O.Reply)) (v w : View O.Call O.Reply) (act : Act (SlotValue O O.Call O.Reply))
+        (before after : List (Event O.Call O.Reply)) → HasView s id v → w.number ≡ v.number → w.others.logs ≡ v.others.logs → w.own.log ≡ v.own.log →
+        AreEventsOf s before → AreEventsOf (stepped s at put id carried w act) after → after ≡ before }
+    ensures seats { (s t : BoardState O O.Call O.Reply) (before after : List (Event O.Call O.Reply)) → IsRuled O.Sequential s → IsRuled O.Sequential t →
+        IsSeatSplit s t ⊎ IsSeatJoin s t → AreEventsOf s before → AreEventsOf t after → after ≡ before }
 {}
 
 /// Any object that sessions share through a board is linearizable (Herlihy and Wing 1990). In a run of a board from its opening
