@@ -1,5 +1,5 @@
 -- The moves of a board from one state to the next, runs of them, and the order in time that a run keeps.
-use Rattle.std.specs.Prelude.{◌≡◌, ◌⊎◌, ℕ, ◌+◌, ◌<◌, ◌≤◌, cond, is_some, true, false, Option, Some, None, List, [], ◌∷◌, ◌++◌, length, slice_index, slice_index_or, slice_set, Contains}
+use Rattle.std.specs.Prelude.{◌≡◌, ◌≢◌, ◌⊎◌, ℕ, ◌+◌, ◌<◌, ◌≤◌, cond, is_some, true, false, Option, Some, None, List, [], ◌∷◌, ◌++◌, length, slice_index, slice_set, Contains}
 use mathlib.Core.Option as opt
 use lib.ListN.{get_elem?}
 use Rattle.std.specs.Global.{Box}
@@ -81,6 +81,14 @@ module _ {O C R : Type 0} where
   abbrev pub IsCombiner : Seated O C R → Type 0
   IsCombiner m = m.0.combiner.has_object ≡ true
 
+module _ {O C R : Type 0} where
+  -- The slot that the session lays down is its own.
+  pub record LaysDownItsOwn (m : Seated O C R) : Type 0 where
+    pub session : m.0.number ≢ 0
+    pub slot : SlotValue O C R
+    pub more : List (ℕ × SlotValue O C R)
+    pub carried : m.1 ≡ (m.0.number, slot) ∷ more
+
 module _ {O C R : Type 0} (obj : Ghosts O C R) where
   -- The slot that the seat lays down holds an object with the history that the session knows.
   pub record LaysDownLoad (m : Seated O C R) : Type 0 where
@@ -90,10 +98,13 @@ module _ {O C R : Type 0} (obj : Ghosts O C R) where
     pub whole : (obj.history load.value.object) ≡ m.0.front
 
 module _ {O C R : Type 0} (obj : Ghosts O C R) where
-  -- What the board's calls see to before a step of a kind: the combiner's steps are made by the combiner, it answers a
+  -- What the board's calls see to before a step of a kind: a session that starts, publishes, retires or leaves has no call
+  -- pending, and lays down its own slot; the combiner's steps are made by the combiner, it answers a
   -- record that it opened, a session takes the reply out of its own record, and the lock word is the one that is seized. A
   -- call is entered directly at a look at the lock word, by a combiner that may publish and has no call pending.
   abbrev pub StepRequires : StepName C R → ℕ → Seated O C R → Type 0
+  StepRequires start at m = m.0.own.pending ≡ None
+  StepRequires post at m = (m.0.own.pending ≡ None) × LaysDownItsOwn m
   StepRequires take_reply at m = at ≡ word_of m.0.number
   StepRequires seize at m = at ≡ word_of 0
   StepRequires release at m = IsCombiner m × LaysDownLoad obj m
@@ -103,18 +114,9 @@ module _ {O C R : Type 0} (obj : Ghosts O C R) where
   StepRequires answer_record at m = IsCombiner m × ((call : C) × (opened_in m.0 m.0.combiner.hand ≡ Some call))
   StepRequires put_back at m = IsCombiner m
   StepRequires (enter call reply) at m = (at ≡ word_of 0) × IsCombiner m × (m.0.own.pending ≡ None) × (m.0.own.retired ≡ false)
+  StepRequires retire at m = m.0.own.pending ≡ None
+  StepRequires leave at m = (m.0.own.pending ≡ None) × LaysDownItsOwn m
   StepRequires _ at m = Unit {0}
-
-module _ {O C R : Type 0} where
-  -- The seat carries slot k.
-  abbrev pub Carries : ℕ → List (ℕ × SlotValue O C R) → Type 0
-  Carries k [] = ⊥
-  Carries k (x ∷ xs) = (x.0 ≡ k) ⊎ Carries k xs
-
-  -- Each slot that a seat carries is one of the table's, not at home, and carried once.
-  abbrev pub CarriesOnlyItsOwn : List (opt.Option (SlotValue O C R)) → List (ℕ × SlotValue O C R) → Type 0
-  CarriesOnlyItsOwn homes [] = Unit {0}
-  CarriesOnlyItsOwn homes (x ∷ xs) = (x.0 < length homes) × (slice_index_or homes x.0 opt.none ≡ opt.none) × (Carries x.0 xs → ⊥) × CarriesOnlyItsOwn homes xs
 
 module _ {O C R : Type 0} (obj : Ghosts O C R) where
   -- A step of this kind, made by one seat on one word, leads from state s to state t.
@@ -130,7 +132,6 @@ module _ {O C R : Type 0} (obj : Ghosts O C R) where
     pub after : Seated O C R
     pub act : Act (SlotValue O C R)
     pub seated : get_elem? s.views id ≡ opt.some before.0
-    pub out : CarriesOnlyItsOwn s.homes before.1
     pub asked : StepRequires obj name at before
     pub valid : Valid s.homes before.1 act
     pub carried : after.1 ≡ carried_after before.1 act

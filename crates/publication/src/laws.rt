@@ -19,7 +19,7 @@ ghost use Rattle.publication.specs.Kinds.{Seated, copy_of, front_copy_of, joined
 ghost use Rattle.publication.specs.Collected.{HasCollected};
 ghost use Rattle.publication.specs.BoardHistory.{new_board, history_of, IsAppended, IsEnteredDirectly, IsAccounted};
 ghost use Rattle.publication.specs.Entered.{AreEnteredOnce};
-ghost use Rattle.publication.specs.Runs.{StepName, answer_record, enter, kind_of, StepRequires, CarriesOnlyItsOwn, IsStep, IsSeatSplit, IsSeatJoin, IsRun, calls_made, RespectsRealTime};
+ghost use Rattle.publication.specs.Runs.{StepName, answer_record, enter, kind_of, StepRequires, IsStep, IsSeatSplit, IsSeatJoin, IsRun, calls_made, RespectsRealTime};
 ghost use Rattle.publication.specs.Linearizable.{AreEventsOfRun};
 ghost use Rattle.publication.specs.Instants.{HasView, AreEventsOf, calls_told, AreFrom};
 ghost use Rattle.publication.specs.declared.slot.Load.{Load};
@@ -64,13 +64,13 @@ pub fn only_answers_and_direct_entries_change_the_history<O: Sequential>()
     ensures seats { (s t : BoardState O O.Call O.Reply) → IsRuled O.Sequential s → IsRuled O.Sequential t → IsSeatSplit s t ⊎ IsSeatJoin s t → history_of O.Sequential t ≡ history_of O.Sequential s }
 {}
 
-/// A step of the table is a step of the model (`IsStep`), whatever word it writes and whatever slots it moves, if its
-/// seat carries only its own slots, what the kind requires holds, and the outcome is as the kind says. The last two are what
-/// each step in `steps.rt` tells (`tells`, `specs/Told.antt`). That the rule holds afterwards is `Allows` of `atomic_table`,
+/// A step of the table is a step of the model (`IsStep`), whatever word it writes and whatever slots it moves, if what the kind
+/// requires holds, and the outcome is as the kind says. This is what each step in `steps.rt` tells (`tells`, `specs/Told.antt`;
+/// the other kinds require nothing). That the rule holds afterwards is `Allows` of `atomic_table`,
 /// which is proved there, too.
 pub fn steps_of_the_table_are_such_steps<O: Sequential>()
     ensures { (name : StepName O.Call O.Reply) (id at first second : ℕ) (m : Seated O O.Call O.Reply) (put : ℕ) (s : BoardState O O.Call O.Reply) (w : View O.Call O.Reply) (a : Act (SlotValue O O.Call O.Reply)) →
-        get_elem? s.views id ≡ opt.some m.0 → CarriesOnlyItsOwn s.homes m.1 → StepRequires O.Sequential name at m → Valid s.homes m.1 a →
+        get_elem? s.views id ≡ opt.some m.0 → StepRequires O.Sequential name at m → Valid s.homes m.1 a →
         kind_of O.Sequential name (step (length s.homes) at first second opt.none) m (slice_index s.words at) (w, carried_after m.1 a) →
         IsStep O.Sequential name s (stepped s at put id m.1 w a) }
 {}
