@@ -101,7 +101,7 @@ module _ {O C R : Type 0} (m m' : Seated O C R) (number seen : ℕ) (b p l r : B
   }
 
   -- After it entered a call of its own.
-  pub entered-between : (call : C) (reply : R) → p ≡ false → m' ≡ (entering m.0 call reply, m.1) → calls_of m.0.number m'.0.front ≡ m'.0.own.collected → IsBetweenCalls m' number (seen + 1) b p l r
+  pub entered-between : (call : C) (reply : R) → p ≡ false → m' ≡ (entering m.0 m'.0.own.log call reply, m.1) → calls_of m.0.number m'.0.front ≡ m'.0.own.collected → IsBetweenCalls m' number (seen + 1) b p l r
   entered-between call reply idle is calls = subst (λ (x : Seated O C R). IsBetweenCalls x number (seen + 1) b p l r) (sym is) record {
     number_is = t.number_is;
     some_number = t.some_number;

@@ -1,19 +1,17 @@
 -- The rule's history is the one that the state determines, and a step keeps it if the combiner's front stays.
-use Rattle.std.proofs.Common.{◌≡◌, ◌≢◌, ℕ, ◌<◌, cond, Bool, true, false, List, length, refl, sym, ap, ◌∙◌, arith, eq-eqb, ne_eqb, get_or-set_same, get_or-set_other}
+use Rattle.std.proofs.Common.{◌≡◌, ◌≢◌, ◌⊎◌, ⊎_elim, ℕ, ◌<◌, cond, Bool, true, false, List, length, get_or, refl, sym, ap, ◌∙◌, arith, eq-eqb, ne_eqb, get_or-set_same, get_or-set_other}
 use mathlib.Core.Option as opt
 use mathlib.Core.Logic.{dite}
 use native.Mathlib.Decide.{ℕ_discrete}
 use lib.ListN.{get_elem?}
-use Rattle.atomic_table.specs.Table.{Act, Valid, stepped}
+use Rattle.atomic_table.specs.Table.{Act, homes_after, stepped}
 use Rattle.publication.specs.Words.{FREE}
 use Rattle.publication.specs.Rule.{blank, BoardState, word, home, seat, IsOrderly}
 use Rattle.publication.specs.BoardHistory.{history_in, history_of}
-use Rattle.publication.specs.Runs.{CarriesOnlyItsOwn}
 use Rattle.publication.specs.declared.view.View.{View}
 use Rattle.publication.specs.declared.slot.SlotValue.{SlotValue}
 use Rattle.publication.specs.declared.slot.SlotValue.TheVariants.{ObjectLoad}
 use Rattle.publication.proofs.Lists.{at_there}
-use Rattle.publication.proofs.CarriedSlots.{untouched}
 use Rattle.sequential.specs.declared.object.Sequential.{Ghosts}
 
 module _ {O C R : Type 0} {obj : Ghosts O C R} where
@@ -54,7 +52,7 @@ module _ {O C R : Type 0} {obj : Ghosts O C R} where
 
   -- A step of seat id, with view v before and w after.
   module _ (s : BoardState O C R) (o : IsOrderly obj s) (at put id : ℕ) (c : List (ℕ × SlotValue O C R)) (v w : View C R) (a : Act (SlotValue O C R)) (p : IsOrderly obj (stepped s at put id c w a))
-      (me : get_elem? s.views id ≡ opt.some v) (out : CarriesOnlyItsOwn s.homes c) (valid : Valid s.homes c a) where
+      (me : get_elem? s.views id ≡ opt.some v) where
     abbrev t : BoardState O C R
     t = stepped s at put id c w a
 
@@ -85,18 +83,22 @@ module _ {O C R : Type 0} {obj : Ghosts O C R} where
     kept_here has still same = same-holder s t o p id (had has) (ap (λ (x : View C R). x.combiner.has_object) is_after ∙ still)
         (ap (λ (x : View C R). x.front) is_after ∙ (same ∙ ap (λ (x : View C R). x.front) (sym is_me)))
 
+    -- The lock's slot, if it is at home before and after, is as before.
+    abbrev pub IsLockLeft : Type 0
+    IsLockLeft = word s 0 ≡ FREE → (get_or (homes_after s.homes c a) 0 opt.none ≡ opt.none) ⊎ (get_or (homes_after s.homes c a) 0 opt.none ≡ get_or s.homes 0 opt.none)
+
     -- There is no combiner before or after.
-    stays_home : word s 0 ≡ FREE → w.combiner.has_object ≡ false → p.history ≡ o.history
-    stays_home none lacks =
+    stays_home : IsLockLeft → word s 0 ≡ FREE → w.combiner.has_object ≡ false → p.history ≡ o.history
+    stays_home left none lacks =
         let free : word t 0 ≡ FREE = none-after s t o p (λ k has. dite (ℕ_discrete k id)
         (λ e. let f : w.combiner.has_object ≡ true = ap (λ (x : View C R). x.combiner.has_object) (sym is_after) ∙ (ap (λ (n : ℕ). (seat t n).combiner.has_object) (sym e) ∙ has) in absurd (cc (f, lacks)))
         (λ ne. nobody s o none k (ap (λ (x : View C R). x.combiner.has_object) (sym (other_after k ne)) ∙ has))) in
-        same-home s t o p none free (untouched s.homes c a valid out 0 (ObjectLoad (o.free none).0) (ObjectLoad (p.free free).0) (o.free none).1 (p.free free).1)
+        same-home s t o p none free (⊎_elim (λ (gone : home t 0 ≡ opt.none). absurd (opt.some-ne-none (ObjectLoad (p.free free).0) (sym (p.free free).1 ∙ gone))) (λ same. same) (left none))
 
     -- The history stays if the seat is the combiner's before and after, with the same front, or neither before nor after.
-    pub steady : w.combiner.has_object ≡ v.combiner.has_object → (v.combiner.has_object ≡ true → w.front ≡ v.front) → p.history ≡ o.history
-    steady object front = dite (ℕ_discrete (word s 0) FREE)
-        (λ none. stays_home none (object ∙ false-not v.combiner.has_object (λ has. nobody s o none id (had has))))
+    pub steady : IsLockLeft → w.combiner.has_object ≡ v.combiner.has_object → (v.combiner.has_object ≡ true → w.front ≡ v.front) → p.history ≡ o.history
+    steady left object front = dite (ℕ_discrete (word s 0) FREE)
+        (λ none. stays_home left none (object ∙ false-not v.combiner.has_object (λ has. nobody s o none id (had has))))
         (λ some. dite (ℕ_discrete (word s 0) id)
         (λ e. let has : v.combiner.has_object ≡ true = ap (λ (x : View C R). x.combiner.has_object) (sym is_me) ∙ (ap (λ (n : ℕ). (seat s n).combiner.has_object) (sym e) ∙ (o.taken some).0) in
         kept_here has (object ∙ has) (front has))

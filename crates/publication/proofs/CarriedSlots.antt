@@ -1,12 +1,23 @@
--- A seat's act moves slots between the table and the seat; each slot keeps its value.
-use Rattle.std.proofs.Common.{◌≡◌, ◌⊎◌, inl, inr, ℕ, zero, suc, eqb, cond, Bool, List, [], ◌∷◌, get_or, set, refl, sym, ap, subst, ◌∙◌, arith, eq-eqb, ne_eqb, length-set, get_or-set_same, get_or-set_other}
+-- What an act does to the slots: it lays some of the carried ones down, one after another, and takes others.
+use Rattle.std.proofs.Common.{◌≡◌, ◌≢◌, ◌⊎◌, inl, inr, ⊎_elim, ℕ, zero, suc, List, [], ◌∷◌, ◌++◌, get_or, set, refl, sym, ap, subst, ◌∙◌, append_assoc, get_or-set_other}
+use Rattle.std.proofs.lemmas.List.{append_cancel_right, append-nil}
 use mathlib.Core.Option as opt
 use mathlib.Core.Logic.{dite}
 use native.Mathlib.Decide.{ℕ_discrete}
-use Rattle.atomic_table.specs.Table.{Act, keeps, takes, gives, chain, Valid, rest, carried_after, homes_after}
-use Rattle.publication.specs.Runs.{Carries, CarriesOnlyItsOwn}
+use lib.ListN.{get_elem?}
+use Rattle.atomic_table.specs.Table.{Act, keeps, takes, gives, chain, Valid, carried_after, homes_after}
 use Rattle.publication.specs.declared.slot.SlotValue.{SlotValue}
 use Rattle.publication.proofs.Lists.{at_there}
+
+module _ {A : Type 0} where
+  -- One list in two parts, in two ways.
+  two_splits : (xs ys zs ws : List A) → xs ++ ys ≡ zs ++ ws → ((m : List A) × (xs ≡ zs ++ m) × (ws ≡ m ++ ys)) ⊎ ((m : List A) × (zs ≡ xs ++ m) × (ys ≡ m ++ ws))
+  two_splits xs ys [] ws e = inl (xs, refl, sym e)
+  two_splits [] ys (z ∷ zs) ws e = inr (z ∷ zs, refl, e)
+  two_splits (x ∷ xs) ys (z ∷ zs) ws e = let f : x ≡ z = cc e in let r : xs ++ ys ≡ zs ++ ws = cc e in ⊎_elim
+      (λ t. inl (t.0, let g = t.1 in cc (f, g), t.2))
+      (λ t. inr (t.0, let g = t.1 in cc (f, g), t.2))
+      (two_splits xs ys zs ws r)
 
 abbrev pub Homes : Type 0 → Type 0 → Type 0 → Type 0
 Homes O C R = List (opt.Option (SlotValue O C R))
@@ -15,136 +26,170 @@ abbrev pub Carried : Type 0 → Type 0 → Type 0 → Type 0
 Carried O C R = List (ℕ × SlotValue O C R)
 
 module _ {O C R : Type 0} where
-  -- The value that the seat carries in slot k, if it carries it.
-  abbrev pub held_in : Carried O C R → ℕ → opt.Option (SlotValue O C R)
-  held_in [] k = opt.none
-  held_in (x ∷ xs) k = cond (eqb x.0 k) (opt.some x.1) (held_in xs k)
+  -- The homes after these slots were laid down, the first one first.
+  abbrev laid_all : Carried O C R → Homes O C R → Homes O C R
+  laid_all [] hs = hs
+  laid_all (x ∷ xs) hs = laid_all xs (set hs x.0 (opt.some x.1))
 
-  abbrev or_held : opt.Option (SlotValue O C R) → opt.Option (SlotValue O C R) → opt.Option (SlotValue O C R)
-  or_held opt.none y = y
-  or_held (opt.some x) y = opt.some x
+  -- The homes after these slots were taken, the first one last.
+  abbrev got_all : Carried O C R → Homes O C R → Homes O C R
+  got_all [] hs = hs
+  got_all (x ∷ xs) hs = set (got_all xs hs) x.0 opt.none
 
-  -- The value of slot k, at home or carried.
-  abbrev value : Homes O C R → Carried O C R → ℕ → opt.Option (SlotValue O C R)
-  value hs c k = or_held (get_or hs k opt.none) (held_in c k)
+  -- Each is at home when it is taken.
+  abbrev CanGet : Carried O C R → Homes O C R → Type 0
+  CanGet [] hs = Unit {0}
+  CanGet (x ∷ xs) hs = CanGet xs hs × (get_elem? (got_all xs hs) x.0 ≡ opt.some (opt.some x.1))
 
-  some-none : (x : opt.Option (SlotValue O C R)) (y : SlotValue O C R) → x ≡ opt.some y → x ≡ opt.none → ⊥
-  some-none x y e f = opt.some-ne-none y (sym e ∙ f)
+  reset : (l : Homes O C R) (i : ℕ) (y : SlotValue O C R) → get_elem? l i ≡ opt.some (opt.some y) → set (set l i opt.none) i (opt.some y) ≡ l
+  reset [] i y e = absurd (opt.some-ne-none (opt.some y) (sym e))
+  reset (h ∷ hs) zero y e = ap (λ (z : opt.Option (SlotValue O C R)). z ∷ hs) (sym (opt.some-injective h (opt.some y) e))
+  reset (h ∷ hs) (suc i) y e = ap (λ (l : Homes O C R). h ∷ l) (reset hs i y e)
 
-  -- A carried slot isn't at home.
-  out-home : (hs : Homes O C R) (c : Carried O C R) → CarriesOnlyItsOwn hs c → (k : ℕ) → Carries k c → get_or hs k opt.none ≡ opt.none
-  out-home hs [] out k h = absurd h
-  out-home hs (x ∷ xs) out k (inl e) = ap (λ (n : ℕ). get_or hs n opt.none) (sym e) ∙ out.1
-  out-home hs (x ∷ xs) out k (inr h) = out-home hs xs out.3 k h
+  -- Slots that are laid down in the order in which they were taken are where they were.
+  undo : (d m : Carried O C R) (hs : Homes O C R) → CanGet (d ++ m) hs → laid_all d (got_all (d ++ m) hs) ≡ got_all m hs
+  undo [] m hs can = refl
+  undo (x ∷ d) m hs can = ap (λ (l : Homes O C R). laid_all d l) (reset (got_all (d ++ m) hs) x.0 x.1 can.1) ∙ undo d m hs can.0
 
-  not-held : (c : Carried O C R) (k : ℕ) → (Carries k c → ⊥) → held_in c k ≡ opt.none
-  not-held [] k n = refl
-  not-held (x ∷ xs) k n = ap (λ (b : Bool). cond b (opt.some x.1) (held_in xs k)) (ne_eqb x.0 k (λ e. n (inl e))) ∙ not-held xs k (λ h. n (inr h))
+  can-rest : (d m : Carried O C R) (hs : Homes O C R) → CanGet (d ++ m) hs → CanGet m hs
+  can-rest [] m hs can = can
+  can-rest (x ∷ d) m hs can = can-rest d m hs can.0
 
-  -- The carried slots stay out when another slot leaves its home, or when a slot comes home that isn't carried.
-  cleared : (l : Homes O C R) (i k : ℕ) → get_or l k opt.none ≡ opt.none → get_or (set l i opt.none) k opt.none ≡ opt.none
-  cleared [] i k e = e
-  cleared (x ∷ xs) zero zero e = refl
-  cleared (x ∷ xs) zero (suc k) e = e
-  cleared (x ∷ xs) (suc i) zero e = e
-  cleared (x ∷ xs) (suc i) (suc k) e = cleared xs i k e
+  got-append : (u m : Carried O C R) (hs : Homes O C R) → got_all (u ++ m) hs ≡ got_all u (got_all m hs)
+  got-append [] m hs = refl
+  got-append (x ∷ u) m hs = ap (λ (l : Homes O C R). set l x.0 opt.none) (got-append u m hs)
 
-  still-out : (hs : Homes O C R) (i : ℕ) (h : opt.Option (SlotValue O C R)) (c : Carried O C R) → (h ≡ opt.none) ⊎ (Carries i c → ⊥) → CarriesOnlyItsOwn hs c → CarriesOnlyItsOwn (set hs i h) c
-  still-out hs i h [] none out = tt
-  still-out hs i h (x ∷ xs) none out = (
-    omega (arith, out.0, length-set hs i h),
-    elim none [
-      | inl e ↦ subst (λ (y : opt.Option (SlotValue O C R)). get_or (set hs i y) x.0 opt.none ≡ opt.none) (sym e) (cleared hs i x.0 out.1)
-      | inr n ↦ get_or-set_other hs i x.0 h opt.none (λ e. n (inl e)) ∙ out.1
-    ],
-    out.2,
-    still-out hs i h xs (elim none [ inl e ↦ inl e | inr n ↦ inr (λ c. n (inr c)) ]) out.3,
-  )
+  can-append : (u m : Carried O C R) (hs : Homes O C R) → CanGet u (got_all m hs) → CanGet m hs → CanGet (u ++ m) hs
+  can-append [] m hs first then = then
+  can-append (x ∷ u) m hs first then = (can-append u m hs first.0 then, ap (λ (l : Homes O C R). get_elem? l x.0) (got-append u m hs) ∙ first.1)
 
-  -- After an act each slot has its value, and the carried slots are out.
-  pub record IsMoved (hs : Homes O C R) (c : Carried O C R) (a : Act (SlotValue O C R)) : Type 0 where
-    pub out : CarriesOnlyItsOwn (homes_after hs c a) (carried_after c a)
-    pub same : (k : ℕ) → value (homes_after hs c a) (carried_after c a) k ≡ value hs c k
+  laid-append : (d m : Carried O C R) (hs : Homes O C R) → laid_all (d ++ m) hs ≡ laid_all m (laid_all d hs)
+  laid-append [] m hs = refl
+  laid-append (x ∷ d) m hs = laid-append d m (set hs x.0 (opt.some x.1))
 
-  pub moved : (hs : Homes O C R) (c : Carried O C R) (a : Act (SlotValue O C R)) → Valid hs c a → CarriesOnlyItsOwn hs c → IsMoved hs c a
-  moved hs c keeps valid out = record { out = out; same = λ k. refl }
-  moved hs c (takes i x) valid out =
-      let at = at_there hs i (opt.some x) opt.none valid in
-      let gone : get_or (set hs i opt.none) i opt.none ≡ opt.none = get_or-set_same hs i opt.none opt.none at.1 in
-      record {
-        out = (omega (arith, at.1, length-set hs i opt.none), gone, (λ h. some-none (get_or hs i opt.none) x at.0 (out-home hs c out i h)), still-out hs i opt.none c (inl refl) out);
-        same = λ k. dite (ℕ_discrete k i)
-            (λ e. subst (λ (n : ℕ). value (set hs i opt.none) ((i, x) ∷ c) n ≡ value hs c n) (sym e)
-            (ap (λ (h : opt.Option (SlotValue O C R)). or_held h (held_in ((i, x) ∷ c) i)) gone
-            ∙ (ap (λ (b : Bool). cond b (opt.some x) (held_in c i)) (eq-eqb i i refl) ∙ ap (λ (h : opt.Option (SlotValue O C R)). or_held h (held_in c i)) (sym at.0))))
-            (λ ne. ap (λ (h : opt.Option (SlotValue O C R)). or_held h (held_in ((i, x) ∷ c) k)) (get_or-set_other hs i k opt.none opt.none ne)
-            ∙ ap (λ (b : Bool). or_held (get_or hs k opt.none) (cond b (opt.some x) (held_in c k))) (ne_eqb i k (λ e. ne (sym e))));
-      }
-  moved hs [] gives valid out = record { out = tt; same = λ k. refl }
-  moved hs (x ∷ xs) gives valid out =
-      let here : get_or (set hs x.0 (opt.some x.1)) x.0 opt.none ≡ opt.some x.1 = get_or-set_same hs x.0 (opt.some x.1) opt.none out.0 in
-      record {
-        out = still-out hs x.0 (opt.some x.1) xs (inr out.2) out.3;
-        same = λ k. dite (ℕ_discrete k x.0)
-            (λ e. subst (λ (n : ℕ). value (set hs x.0 (opt.some x.1)) xs n ≡ value hs (x ∷ xs) n) (sym e)
-            (ap (λ (h : opt.Option (SlotValue O C R)). or_held h (held_in xs x.0)) here
-            ∙ sym (ap (λ (h : opt.Option (SlotValue O C R)). or_held h (held_in (x ∷ xs) x.0)) out.1 ∙ ap (λ (b : Bool). cond b (opt.some x.1) (held_in xs x.0)) (eq-eqb x.0 x.0 refl))))
-            (λ ne. ap (λ (h : opt.Option (SlotValue O C R)). or_held h (held_in xs k)) (get_or-set_other hs x.0 k (opt.some x.1) opt.none ne)
-            ∙ sym (ap (λ (b : Bool). or_held (get_or hs k opt.none) (cond b (opt.some x.1) (held_in xs k))) (ne_eqb x.0 k (λ e. ne (sym e)))));
-      }
-  moved hs c (chain a b) valid out =
-      let p = moved hs c a valid.0 out in
-      let q = moved (homes_after hs c a) (carried_after c a) b valid.1 p.out in
-      record { out = q.out; same = λ k. q.same k ∙ p.same k }
+  -- An act lays down the slots `laid` and takes the slots `got`.
+  record IsActOf (hs : Homes O C R) (c : Carried O C R) (a : Act (SlotValue O C R)) : Type 0 where
+    pub laid : Carried O C R
+    pub got : Carried O C R
+    pub kept : Carried O C R
+    pub before : c ≡ laid ++ kept
+    pub after : carried_after c a ≡ got ++ kept
+    pub can : CanGet got (laid_all laid hs)
+    pub homes : homes_after hs c a ≡ got_all got (laid_all laid hs)
 
-  -- A slot that is at home before and after an act has the same value.
-  pub untouched : (hs : Homes O C R) (c : Carried O C R) (a : Act (SlotValue O C R)) → Valid hs c a → CarriesOnlyItsOwn hs c → (k : ℕ) (y z : SlotValue O C R) → get_or hs k opt.none ≡ opt.some y → get_or (homes_after hs c a) k opt.none ≡ opt.some z
-      → get_or (homes_after hs c a) k opt.none ≡ get_or hs k opt.none
-  untouched hs c a valid out k y z was now =
-      let m = moved hs c a valid out in
-      now ∙ (ap (λ (h : opt.Option (SlotValue O C R)). or_held h (held_in (carried_after c a) k)) (sym now) ∙ (m.same k ∙ (ap (λ (h : opt.Option (SlotValue O C R)). or_held h (held_in c k)) was ∙ sym was)))
-
-  -- A slot that is at home before an act and not afterwards is carried afterwards, with its value.
-  pub left_home : (hs : Homes O C R) (c : Carried O C R) (a : Act (SlotValue O C R)) → Valid hs c a → CarriesOnlyItsOwn hs c → (k : ℕ) (y : SlotValue O C R) → get_or hs k opt.none ≡ opt.some y → get_or (homes_after hs c a) k opt.none ≡ opt.none
-      → held_in (carried_after c a) k ≡ opt.some y
-  left_home hs c a valid out k y was gone =
-      let m = moved hs c a valid out in
-      ap (λ (h : opt.Option (SlotValue O C R)). or_held h (held_in (carried_after c a) k)) (sym gone) ∙ (m.same k ∙ ap (λ (h : opt.Option (SlotValue O C R)). or_held h (held_in c k)) was)
-
-  -- A slot that is at home isn't carried, and isn't among all but the first that are.
-  pub home-not_held : (hs : Homes O C R) (c : Carried O C R) → CarriesOnlyItsOwn hs c → (k : ℕ) (y : SlotValue O C R) → get_or hs k opt.none ≡ opt.some y → (held_in c k ≡ opt.none) × (held_in (rest c) k ≡ opt.none)
-  home-not_held hs [] out k y was = (refl, refl)
-  home-not_held hs (x ∷ xs) out k y was = (
-    not-held (x ∷ xs) k (λ h. some-none (get_or hs k opt.none) y was (out-home hs (x ∷ xs) out k h)),
-    not-held xs k (λ h. some-none (get_or hs k opt.none) y was (out-home hs (x ∷ xs) out k (inr h))),
-  )
-
-  -- A slot that is carried only afterwards was at home.
-  pub taken : (hs : Homes O C R) (c : Carried O C R) (a : Act (SlotValue O C R)) → Valid hs c a → CarriesOnlyItsOwn hs c → (k : ℕ) (y : SlotValue O C R) → carried_after c a ≡ (k, y) ∷ c → get_or hs k opt.none ≡ opt.some y
-  taken hs c a valid out k y is =
-      let m = moved hs c a valid out in
-      let now : CarriesOnlyItsOwn (homes_after hs c a) ((k, y) ∷ c) = subst (CarriesOnlyItsOwn (homes_after hs c a)) is m.out in
-      let holds : or_held (get_or hs k opt.none) (held_in c k) ≡ opt.some y
-      = sym (m.same k) ∙ (ap (λ (d : Carried O C R). value (homes_after hs c a) d k) is
-      ∙ (ap (λ (h : opt.Option (SlotValue O C R)). or_held h (held_in ((k, y) ∷ c) k)) now.1 ∙ ap (λ (b : Bool). cond b (opt.some y) (held_in c k)) (eq-eqb k k refl))) in
-      go (get_or hs k opt.none) (subst (λ (h : opt.Option (SlotValue O C R)). or_held (get_or hs k opt.none) h ≡ opt.some y) (not-held c k now.2) holds)
+  act-of : (hs : Homes O C R) (c : Carried O C R) (a : Act (SlotValue O C R)) → Valid hs c a → IsActOf hs c a
+  act-of hs c keeps valid = record { laid = []; got = []; kept = c; before = refl; after = refl; can = tt; homes = refl }
+  act-of hs c (takes k y) valid = record { laid = []; got = (k, y) ∷ []; kept = c; before = refl; after = refl; can = (tt, valid); homes = refl }
+  act-of hs [] gives valid = record { laid = []; got = []; kept = []; before = refl; after = refl; can = tt; homes = refl }
+  act-of hs (x ∷ xs) gives valid = record { laid = x ∷ []; got = []; kept = xs; before = refl; after = refl; can = tt; homes = refl }
+  act-of hs c (chain a b) valid =
+      both (act-of hs c a valid.0) (act-of (homes_after hs c a) (carried_after c a) b valid.1)
     where
-      go : (h : opt.Option (SlotValue O C R)) → or_held h opt.none ≡ opt.some y → h ≡ opt.some y
-      go opt.none e = e
-      go (opt.some z) e = e
+      both : IsActOf hs c a → IsActOf (homes_after hs c a) (carried_after c a) b → IsActOf hs c (chain a b)
+      both p q = ⊎_elim
+          (λ t. let h : Homes O C R = laid_all p.laid hs in
+          let can : CanGet (q.laid ++ t.0) h = subst (λ (l : Carried O C R). CanGet l h) t.1 p.can in
+          let back : laid_all q.laid (homes_after hs c a) ≡ got_all t.0 h
+          = ap (λ (l : Homes O C R). laid_all q.laid l) (p.homes ∙ ap (λ (l : Carried O C R). got_all l h) t.1) ∙ undo q.laid t.0 h can in record {
+            laid = p.laid;
+            got = q.got ++ t.0;
+            kept = p.kept;
+            before = p.before;
+            after = q.after ∙ (ap (λ (l : Carried O C R). q.got ++ l) t.2 ∙ sym (append_assoc q.got t.0 p.kept));
+            can = can-append q.got t.0 h (subst (CanGet q.got) back q.can) (can-rest q.laid t.0 h can);
+            homes = q.homes ∙ (ap (λ (l : Homes O C R). got_all q.got l) back ∙ sym (got-append q.got t.0 h));
+          })
+          (λ t. let h : Homes O C R = laid_all p.laid hs in
+          let all : p.got ++ [] ≡ p.got = append-nil p.got in
+          let can : CanGet (p.got ++ []) h = subst (λ (l : Carried O C R). CanGet l h) (sym all) p.can in
+          let none : laid_all p.got (got_all p.got h) ≡ h = ap (λ (l : Carried O C R). laid_all p.got (got_all l h)) (sym all) ∙ undo p.got [] h can in
+          let back : laid_all q.laid (homes_after hs c a) ≡ laid_all (p.laid ++ t.0) hs
+          = ap (λ (l : Homes O C R). laid_all q.laid l) p.homes ∙ (ap (λ (l : Carried O C R). laid_all l (got_all p.got h)) t.1
+          ∙ (laid-append p.got t.0 (got_all p.got h) ∙ (ap (λ (l : Homes O C R). laid_all t.0 l) none ∙ sym (laid-append p.laid t.0 hs)))) in record {
+            laid = p.laid ++ t.0;
+            got = q.got;
+            kept = q.kept;
+            before = p.before ∙ (ap (λ (l : Carried O C R). p.laid ++ l) t.2 ∙ sym (append_assoc p.laid t.0 q.kept));
+            after = q.after;
+            can = subst (CanGet q.got) back q.can;
+            homes = q.homes ∙ ap (λ (l : Homes O C R). got_all q.got l) back;
+          })
+          (two_splits p.got p.kept q.laid q.kept (sym p.after ∙ q.before))
 
-  -- A slot that is carried only before is at home afterwards.
-  pub given : (hs : Homes O C R) (k : ℕ) (y : SlotValue O C R) (more : Carried O C R) (a : Act (SlotValue O C R)) → Valid hs ((k, y) ∷ more) a → CarriesOnlyItsOwn hs ((k, y) ∷ more) → carried_after ((k, y) ∷ more) a ≡ more
-      → get_or (homes_after hs ((k, y) ∷ more) a) k opt.none ≡ opt.some y
-  given hs k y more a valid out is =
-      let m = moved hs ((k, y) ∷ more) a valid out in
-      let after : opt.Option (SlotValue O C R) = get_or (homes_after hs ((k, y) ∷ more) a) k opt.none in
-      let before : value hs ((k, y) ∷ more) k ≡ opt.some y
-      = ap (λ (h : opt.Option (SlotValue O C R)). or_held h (held_in ((k, y) ∷ more) k)) out.1 ∙ ap (λ (b : Bool). cond b (opt.some y) (held_in more k)) (eq-eqb k k refl) in
-      let holds : or_held (get_or (homes_after hs ((k, y) ∷ more) a) k opt.none) (held_in more k) ≡ opt.some y
-      = ap (λ (d : Carried O C R). value (homes_after hs ((k, y) ∷ more) a) d k) (sym is) ∙ (m.same k ∙ before) in
-      go (get_or (homes_after hs ((k, y) ∷ more) a) k opt.none) (subst (λ (h : opt.Option (SlotValue O C R)). or_held (get_or (homes_after hs ((k, y) ∷ more) a) k opt.none) h ≡ opt.some y) (not-held more k out.2) holds)
-    where
-      go : (h : opt.Option (SlotValue O C R)) → or_held h opt.none ≡ opt.some y → h ≡ opt.some y
-      go opt.none e = e
-      go (opt.some z) e = e
+  -- What is at home in slot k afterwards: nothing, or what was there before.
+  abbrev pub IsLeft : Homes O C R → Homes O C R → ℕ → Type 0
+  IsLeft hs gs k = (get_or gs k opt.none ≡ opt.none) ⊎ (get_or gs k opt.none ≡ get_or hs k opt.none)
+
+  cleared : (l : Homes O C R) (i : ℕ) → get_or (set l i opt.none) i opt.none ≡ opt.none
+  cleared [] i = refl
+  cleared (x ∷ xs) zero = refl
+  cleared (x ∷ xs) (suc i) = cleared xs i
+
+  -- The slots that are laid down are taken again.
+  round : (d : Carried O C R) (hs : Homes O C R) (k : ℕ) → IsLeft hs (got_all d (laid_all d hs)) k
+  round [] hs k = inr refl
+  round (x ∷ d) hs k = dite (ℕ_discrete k x.0)
+      (λ e. inl (subst (λ (i : ℕ). get_or (set (got_all d (laid_all d (set hs x.0 (opt.some x.1)))) x.0 opt.none) i opt.none ≡ opt.none) (sym e) (cleared (got_all d (laid_all d (set hs x.0 (opt.some x.1)))) x.0)))
+      (λ ne. let other = get_or-set_other (got_all d (laid_all d (set hs x.0 (opt.some x.1)))) x.0 k opt.none opt.none ne in ⊎_elim
+      (λ n. inl (other ∙ n))
+      (λ s. inr (other ∙ (s ∙ get_or-set_other hs x.0 k (opt.some x.1) opt.none ne)))
+      (round d (set hs x.0 (opt.some x.1)) k))
+
+  -- The seat carries afterwards what it carried before.
+  pub left-same : (hs : Homes O C R) (c : Carried O C R) (a : Act (SlotValue O C R)) → Valid hs c a → carried_after c a ≡ c → (k : ℕ) → IsLeft hs (homes_after hs c a) k
+  left-same hs c a valid same k =
+      let p = act-of hs c a valid in
+      let one : p.got ≡ p.laid = append_cancel_right p.got p.laid p.kept (sym p.after ∙ (same ∙ p.before)) in
+      subst (λ (gs : Homes O C R). IsLeft hs gs k) (sym (p.homes ∙ ap (λ (l : Carried O C R). got_all l (laid_all p.laid hs)) one)) (round p.laid hs k)
+
+  -- It carries one slot more: that slot was at home, with this value.
+  module _ (hs : Homes O C R) (c : Carried O C R) (a : Act (SlotValue O C R)) (valid : Valid hs c a) (j : ℕ) (y : SlotValue O C R) (more : carried_after c a ≡ (j, y) ∷ c) where
+    p : IsActOf hs c a
+    p = act-of hs c a valid
+
+    one : p.got ≡ (j, y) ∷ p.laid
+    one = append_cancel_right p.got ((j, y) ∷ p.laid) p.kept (sym p.after ∙ (more ∙ ap (λ (l : Carried O C R). (j, y) ∷ l) p.before))
+
+    pub taken : get_or hs j opt.none ≡ opt.some y
+    taken =
+        let can : CanGet ((j, y) ∷ p.laid) (laid_all p.laid hs) = subst (λ (l : Carried O C R). CanGet l (laid_all p.laid hs)) one p.can in
+        let at = (at_there (got_all p.laid (laid_all p.laid hs)) j (opt.some y) opt.none can.1).0 in ⊎_elim
+        (λ n. absurd (opt.some-ne-none y (sym at ∙ n)))
+        (λ s. sym s ∙ at)
+        (round p.laid hs j)
+
+    pub left-taken : (k : ℕ) → IsLeft hs (homes_after hs c a) k
+    left-taken k = subst (λ (gs : Homes O C R). IsLeft hs gs k) (sym (p.homes ∙ ap (λ (l : Carried O C R). got_all l (laid_all p.laid hs)) one))
+        (dite (ℕ_discrete k j)
+        (λ e. inl (subst (λ (i : ℕ). get_or (set (got_all p.laid (laid_all p.laid hs)) j opt.none) i opt.none ≡ opt.none) (sym e) (cleared (got_all p.laid (laid_all p.laid hs)) j)))
+        (λ ne. let other = get_or-set_other (got_all p.laid (laid_all p.laid hs)) j k opt.none opt.none ne in ⊎_elim
+        (λ n. inl (other ∙ n))
+        (λ s. inr (other ∙ s))
+        (round p.laid hs k)))
+
+  -- It carries its first slot no more.
+  module _ (hs : Homes O C R) (j : ℕ) (y : SlotValue O C R) (c : Carried O C R) (a : Act (SlotValue O C R)) (valid : Valid hs ((j, y) ∷ c) a) (less : carried_after ((j, y) ∷ c) a ≡ c) where
+    abbrev laid-hs : Homes O C R
+    laid-hs = set hs j (opt.some y)
+
+    left-laid : (k : ℕ) → IsLeft (set hs j (opt.some y)) (homes_after hs ((j, y) ∷ c) a) k
+    left-laid k =
+        let q = act-of hs ((j, y) ∷ c) a valid in
+        let all : q.laid ≡ (j, y) ∷ q.got = append_cancel_right q.laid ((j, y) ∷ q.got) q.kept (sym q.before ∙ ap (λ (l : Carried O C R). (j, y) ∷ l) (sym less ∙ q.after)) in
+        subst (λ (gs : Homes O C R). IsLeft (set hs j (opt.some y)) gs k) (sym (q.homes ∙ ap (λ (l : Carried O C R). got_all q.got (laid_all l hs)) all)) (round q.got (set hs j (opt.some y)) k)
+
+    -- Another slot is as before.
+    pub left-given : (k : ℕ) → k ≢ j → IsLeft hs (homes_after hs ((j, y) ∷ c) a) k
+    left-given k ne = ⊎_elim (λ n. inl n) (λ s. inr (s ∙ get_or-set_other hs j k (opt.some y) opt.none ne)) (left-laid k)
+
+    -- If that slot is at home afterwards, it has this value.
+    pub given : (z : SlotValue O C R) → get_or (homes_after hs ((j, y) ∷ c) a) j opt.none ≡ opt.some z → get_or (homes_after hs ((j, y) ∷ c) a) j opt.none ≡ opt.some y
+    given z now = ⊎_elim
+        (λ n. absurd (opt.some-ne-none z (sym now ∙ n)))
+        (λ s. s ∙ ⊎_elim (λ e. e) (λ n. absurd (opt.some-ne-none z (sym now ∙ (s ∙ n)))) (set_or hs j))
+        (left-laid j)
+      where
+        set_or : (l : Homes O C R) (i : ℕ) → (get_or (set l i (opt.some y)) i opt.none ≡ opt.some y) ⊎ (get_or (set l i (opt.some y)) i opt.none ≡ opt.none)
+        set_or [] i = inr refl
+        set_or (x ∷ xs) zero = inl refl
+        set_or (x ∷ xs) (suc i) = set_or xs i

@@ -4,7 +4,7 @@ use mathlib.Core.Option as opt
 use mathlib.Core.List.{IsPrefix}
 use lib.ListN.{get_elem?}
 use Rattle.publication.specs.Views.{Combiner}
-use Rattle.publication.specs.Rule.{blank, no_combiner, BoardState, word, seat, own_at, announced, HasObject, IsOpened, IsSession, IsMaker, AreTrue, HasPieces, IsOrderly}
+use Rattle.publication.specs.Rule.{blank, no_combiner, BoardState, word, seat, own_at, announced, HasObject, IsOpened, IsSession, IsMaker, AreTrue, HasPieces, ArePresent, IsOrderly}
 use Rattle.publication.specs.declared.view.View.{View}
 use Rattle.publication.proofs.Lists.{prefix_self}
 use Rattle.publication.proofs.Others.{StaysGone, still-true}
@@ -40,8 +40,8 @@ module _ {O C R : Type 0} {obj : Ghosts O C R} where
 
       -- The rule is stated of one board, so each of its facts is proved anew for the changed board, also those that
       -- don't change; `OrderlyCombiner`, `ListKinds` and `NewBoards` do the same.
-      pub reviewed : IsMaker o.slots (length vs) (get_or vs 0 blank) → ((k : ℕ) → Sits k (get_or vs k blank)) → IsOrderly obj viewed
-      reviewed makes sits = record {
+      pub reviewed : IsMaker o.slots (length vs) (get_or vs 0 blank) → ((k : ℕ) → Sits k (get_or vs k blank)) → ArePresent o.slots viewed → IsOrderly obj viewed
+      reviewed makes sits present = record {
         history = o.history;
         slots = o.slots;
         owns = o.owns;
@@ -64,6 +64,8 @@ module _ {O C R : Type 0} {obj : Ghosts O C R} where
         opens = λ k j call is. still_open k j call is (sits k).combiner;
         opened = λ j some_session is. let t = o.opened j some_session is in (t.0, still_opened (word s 0) j t.0 t.1);
         pieces = pieces_kept o.slots s viewed o.pieces more (λ e. (e, refl)) (λ k. (sits k).pieces);
+        present = present;
+        in_time = o.in_time;
       }
         where
           still_has : (k : ℕ) → (seat s k).combiner.has_object ≡ true → (get_or vs k blank).combiner.has_object ≡ true

@@ -1,7 +1,7 @@
 -- A direct entry keeps the rule: the history, what its session knows of it and the answers that the session collected grow
 -- by the same entry.
-use Rattle.std.proofs.Common.{false, ◌≡◌, ◌≢◌, ℕ, ◌+◌, ◌^◌, ◌<◌, ◌≤◌, true, Option, Some, None, List, [], ◌∷◌, ◌++◌, length, get_or, set, sym, refl, ap, ◌∙◌, subst, arith, length-set, length-append, get_or-set_other, get_or-set_same}
-use Rattle.std.proofs.lemmas.List.{set-get_or}
+use Rattle.std.proofs.Common.{false, ◌≡◌, ◌≢◌, inl, inr, ℕ, ◌+◌, ◌^◌, ◌<◌, ◌≤◌, true, Option, Some, None, List, [], ◌∷◌, ◌++◌, length, map, get_or, set, sym, refl, ap, ◌∙◌, subst, arith, length-set, length-append, get_or-set_other, get_or-set_same}
+use Rattle.std.proofs.lemmas.List.{append_assoc, map-append, set-get_or}
 use mathlib.Core.Option as opt
 use mathlib.Core.Logic.{dite}
 use mathlib.Core.List.{IsPrefix}
@@ -10,9 +10,10 @@ use lib.ListN.{get_elem?}
 use Rattle.atomic_table.specs.Table.{keeps, step, Allows}
 use Rattle.sequential.specs.declared.entry.Entry.{Entry}
 use Rattle.sequential.specs.Histories.{Answered, calls_of}
+use Rattle.sequential.specs.Linearizable.{Event, invocation, response, performed_by, IsCompletionOf}
 use Rattle.publication.specs.Words.{word_of, BUSY}
-use Rattle.publication.specs.Views.{Own, Combiner, Others, entry, answer}
-use Rattle.publication.specs.Rule.{blank, BoardState, word, home, seat, fresh, own_at, announced, IsVacant, RecordState, HasObject, IsOpened, IsSession, IsMaker, AreTrue, HasPieces, IsOrderly}
+use Rattle.publication.specs.Views.{Own, Combiner, Others, entry, answer, asks}
+use Rattle.publication.specs.Rule.{blank, BoardState, word, home, seat, fresh, own_at, announced, IsVacant, RecordState, HasObject, IsOpened, IsSession, IsMaker, AreTrue, HasPieces, calls_known, IsInTime, IsOrderly}
 use Rattle.publication.specs.Rule.RecordState.{vacant}
 use Rattle.publication.specs.List.{IsLinked, IsRuled, IsBounded}
 use Rattle.publication.specs.Kinds.{entering, enters}
@@ -22,6 +23,8 @@ use Rattle.publication.proofs.Lists.{at_there, each_set, prefix_self, prefix_tra
 use Rattle.publication.proofs.SeatViews.{session_of, heard_few, others_of, object_of, pieces_of_seat}
 use Rattle.publication.proofs.Others.{still-true}
 use Rattle.publication.proofs.Pieces.{pieces_kept}
+use Rattle.publication.proofs.Present.{IsAlike, present_kept}
+use Rattle.publication.proofs.InTime.{completes, noted_one, entered_more, invokes, responds}
 use Rattle.publication.proofs.Histories.{calls-mine}
 use Rattle.publication.proofs.RecordStates.{is_vacant, idle_announced, grown}
 use Rattle.publication.proofs.UnchangedList.{aside, same_walk}
@@ -37,9 +40,13 @@ module _ {O C R : Type 0} {obj : Ghosts O C R} where
     abbrev i : ℕ
     i = v.number
 
+    -- The session's events after the step.
+    abbrev log : List (ℕ × Event C R)
+    log = v.own.log ++ (length o.in_time.events, invocation v.number call) ∷ (length o.in_time.events + 1, response v.number reply) ∷ []
+
     -- The session's view after the step.
     abbrev u : View C R
-    u = entering v call reply
+    u = entering v log call reply
 
     -- The history after the step.
     abbrev h : List (Entry C R)
@@ -47,15 +54,15 @@ module _ {O C R : Type 0} {obj : Ghosts O C R} where
 
     -- What the session knows of its own calls after the step.
     abbrev w : Own C R
-    w = (entering v call reply).own
+    w = (entering v log call reply).own
 
     -- The board after the step.
     abbrev after : BoardState O C R
-    after = record { words = s.words; homes = s.homes; views = set s.views v.number (entering v call reply) }
+    after = record { words = s.words; homes = s.homes; views = set s.views v.number (entering v log call reply) }
 
     -- The sessions' own calls after the step.
     abbrev owns_after : List (Own C R)
-    owns_after = set o.owns v.number (entering v call reply).own
+    owns_after = set o.owns v.number (entering v log call reply).own
 
     is_me : seat s i ≡ v
     is_me = (at_there s.views i v blank me).0
@@ -179,6 +186,62 @@ module _ {O C R : Type 0} {obj : Ghosts O C R} where
     opened_after j some_record busy = let t = o.opened j some_record busy in
         (t.0, ap (λ (d : List (Option C)). get_elem? d j) (combiner_kept (word s 0)).1 ∙ t.1)
 
+    -- The call is made, is entered into the history, and returns.
+
+    -- What the session knows of its own calls in between.
+    abbrev made : Own C R
+    made = record { started = v.own.started; retired = v.own.retired; pending = Some (asks call 0); collected = v.own.collected; listed = v.own.listed; log = v.own.log ++ (length o.in_time.events, invocation v.number call) ∷ [] }
+
+    -- The sessions' own calls in between.
+    abbrev owns_made : List (Own C R)
+    owns_made = set o.owns v.number made
+
+    made_other : (j : ℕ) → j ≢ i → own_at owns_made j ≡ own_at o.owns j
+    made_other j ne = get_or-set_other o.owns i j made fresh ne
+
+    made_here : own_at owns_made i ≡ made
+    made_here = get_or-set_same o.owns i made fresh (omega (arith, o.owns_are))
+
+    abbrev pairs : List (Answered C R) → List (C × R)
+    pairs l = map (λ (a : Answered C R). (a.call, a.reply)) l
+
+    made_complete : (j : ℕ) → 0 < j → j < o.slots → IsCompletionOf (calls_known (own_at owns_made j)) (performed_by j o.history)
+    made_complete j some few = dite (ℕ_discrete j i)
+        (λ e. subst (λ (k : ℕ). IsCompletionOf (calls_known (own_at owns_made k)) (performed_by k o.history)) (sym e)
+        (subst (λ (x : Own C R). IsCompletionOf (calls_known x) (performed_by i o.history)) (sym made_here) (inl (ap pairs was_vacant.calls))))
+        (λ ne. subst (λ (x : Own C R). IsCompletionOf (calls_known x) (performed_by j o.history)) (sym (made_other j ne)) (completes (o.stands j some few)))
+
+    entry_complete : (j : ℕ) → 0 < j → j < o.slots → IsCompletionOf (calls_known (own_at owns_made j)) (performed_by j (o.history ++ entry v.number call reply ∷ []))
+    entry_complete j some few = subst (λ (f : List (Entry C R)). IsCompletionOf (calls_known (own_at owns_made j)) (performed_by j f)) h_is (dite (ℕ_discrete j i)
+        (λ e. subst (λ (k : ℕ). IsCompletionOf (calls_known (own_at owns_made k)) (performed_by k h)) (sym e)
+        (subst (λ (x : Own C R). IsCompletionOf (calls_known x) (performed_by i h)) (sym made_here)
+        (inr (call, reply, refl, ap pairs calls_now ∙ map-append (λ (a : Answered C R). (a.call, a.reply)) v.own.collected (answer (length v.front) call reply ∷ [])))))
+        (λ ne. subst (λ (x : Own C R). IsCompletionOf (calls_known x) (performed_by j h)) (sym (made_other j ne))
+        (completes (subst (λ (f : List (Entry C R)). RecordState f j (word s j) (home s j) (own_at o.owns j)) (sym h_is) (grown o.history j i call reply ne (o.stands j some few))))))
+
+    -- After the invocation.
+    time_made : (u : IsInTime obj o.history o.slots owns_made) × (length u.events ≡ length o.in_time.events + 1)
+    time_made = noted_one o.history o.slots o.owns o.in_time owns_made i v.own made session.own_is made_here made_other
+        (invokes o.history o.slots o.owns o.in_time i v.own made session.own_is some_number small v.number refl call none refl refl refl) made_complete
+
+    -- After the entry.
+    time_entered : (u : IsInTime obj (o.history ++ entry v.number call reply ∷ []) o.slots owns_made) × (length u.events ≡ length time_made.0.events)
+    time_entered = entered_more o.history o.slots owns_made time_made.0 (entry v.number call reply) (subst obj.is_legal h_is legal)
+        (record { some = omega (arith, some_number); within = omega (arith, small, time_made.0.sessions_are) }) entry_complete
+
+    two_noted : (n : ℕ) → n ≡ length o.in_time.events + 1
+        → log ≡ (v.own.log ++ (length o.in_time.events, invocation v.number call) ∷ []) ++ (n, response v.number reply) ∷ []
+    two_noted n is = ap (λ (k : ℕ). v.own.log ++ (length o.in_time.events, invocation v.number call) ∷ (k, response v.number reply) ∷ []) (sym is)
+        ∙ sym (append_assoc v.own.log ((length o.in_time.events, invocation v.number call) ∷ []) ((n, response v.number reply) ∷ []))
+
+    -- After the response.
+    time_after : IsInTime obj h o.slots owns_after
+    time_after = subst (λ (f : List (Entry C R)). IsInTime obj f o.slots owns_after) (sym h_is)
+        ((noted_one (o.history ++ entry v.number call reply ∷ []) o.slots owns_made time_entered.0 owns_after i made w (sym made_here) own_here (λ j ne. own_other j ne ∙ sym (made_other j ne))
+        (responds (o.history ++ entry v.number call reply ∷ []) o.slots owns_made time_entered.0 i made w (sym made_here) some_number small v.number refl call (length v.front) reply refl
+        (two_noted (length time_entered.0.events) (time_entered.1 ∙ time_made.1)) refl none)
+        (λ j some few. subst (λ (f : List (Entry C R)). IsCompletionOf (calls_known (own_at owns_after j)) (performed_by j f)) h_is (completes (stands_after j some few)))).0)
+
     -- The step keeps the rule of the records.
     entered : IsOrderly obj after
     entered = record {
@@ -206,6 +269,9 @@ module _ {O C R : Type 0} {obj : Ghosts O C R} where
       opened = opened_after;
       pieces = pieces_kept o.slots s after o.pieces (omega (arith, seats_kept)) (λ z. (z, refl))
           (each_set s.views i u blank (λ j x. HasPieces o.pieces.all x) sits (let t = pieces_of_seat s o i v me in record { own = t.own; handed = t.handed; known = t.known }) (λ j ne. o.pieces.seats j));
+      present = present_kept o.slots s after seats_kept
+          (each_set s.views i u blank (λ j x. IsAlike (seat s j) x) sits (ap (λ (x : View C R). x.number) (sym is_me), ap (λ (x : View C R). x.others.handed) (sym is_me)) (λ j ne. (refl, refl))) o.present;
+      in_time = time_after;
     }
 
     -- The publication list doesn't change.
@@ -218,11 +284,11 @@ module _ {O C R : Type 0} {obj : Ghosts O C R} where
 
     enter_goes : (more : List (ℕ × SlotValue O C R)) → Goes obj s 0 i (v, more) (enters call reply (step o.slots 0 0 0 opt.none) (v, more)) (word s 0)
     enter_goes more = (
-      entering v call reply,
+      entering v log call reply,
       keeps,
       tt,
-      subst (λ (ws : List ℕ). IsRuled obj record { words = ws; homes = s.homes; views = set s.views v.number (entering v call reply) }) (sym (set-get_or s.words (word_of 0) 0)) (record { records = entered; list = still_listed }),
-      (refl, calls_now),
+      subst (λ (ws : List ℕ). IsRuled obj record { words = ws; homes = s.homes; views = set s.views v.number (entering v log call reply) }) (sym (set-get_or s.words (word_of 0) 0)) (record { records = entered; list = still_listed }),
+      (refl, calls_now, (length o.in_time.events, refl)),
     )
 
   module _ (slots id : ℕ) (v : View C R) (more : List (ℕ × SlotValue O C R)) (some_number : 0 < v.number) (has : v.combiner.has_object ≡ true) (none : v.own.pending ≡ None) (live : v.own.retired ≡ false)

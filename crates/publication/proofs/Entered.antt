@@ -132,7 +132,7 @@ module _ {O C R : Type 0} where
       -- No kind of step but the answer and the direct entry enters a place.
       as-it-was : (name : StepName C R) (slots at first second found : ℕ) → name ≢ answer_record → ((call : C) (reply : R) → name ≢ enter call reply) → kind_of obj name (step slots at first second opt.none) m found n → IsAsItWas m.0 n.0
       as-it-was start slots at first second found other direct told = calmly _ _ told (refl, refl, refl)
-      as-it-was post slots at first second found other direct told = calmly _ _ told (refl, refl, refl)
+      as-it-was post slots at first second found other direct told = calmly _ _ told.0 (refl, refl, refl)
       as-it-was look_at_head slots at first second found other direct told = same told.0
       as-it-was link slots at first second found other direct told = calmly _ _ told (refl, refl, refl)
       as-it-was enlist slots at first second found other direct told = dite (ℕ_discrete found first) (λ e. calmly _ _ (told.0 e) (refl, refl, refl)) (λ ne. calmly _ _ (told.1 ne).0 (refl, refl, refl))
@@ -279,13 +279,13 @@ module _ {O C R : Type 0} {obj : Ghosts O C R} where
 
         left : Has c.left
         left = elim c.cut [
-          | inl m ↦ λ live. absurd (live (ap (λ (v : View C R). v.number) m.1))
+          | inl m ↦ λ live. absurd (live (ap (λ (v : View C R). v.number) m.2))
           | inr m ↦ subst Has (at.0 ∙ sym m.0) (o.seats c.id)
         ]
 
         knows-left : Knows c.left
         knows-left = elim c.cut [
-          | inl m ↦ none-known c.left (ap (λ (v : View C R). v.others.handed) m.1)
+          | inl m ↦ none-known c.left (ap (λ (v : View C R). v.others.handed) m.2)
           | inr m ↦ subst Knows (at.0 ∙ sym m.0) (o.handed c.id)
         ]
 
@@ -308,13 +308,13 @@ module _ {O C R : Type 0} {obj : Ghosts O C R} where
 
         right : Has c.right
         right = elim c.cut [
-          | inl m ↦ λ live. ap (λ (v : View C R). v.combiner.entered) m.2 ∙ sym (no-place c.right.number 0 o.by (unmade live))
+          | inl m ↦ λ live. ap (λ (v : View C R). v.combiner.entered) m.3 ∙ sym (no-place c.right.number 0 o.by (unmade live))
           | inr m ↦ ⊎_elim (λ e live. absurd (live (ap (λ (v : View C R). v.number) e))) (λ e live. absurd (live (ap (λ (v : View C R). v.number) e))) m.1
         ]
 
         knows-right : Knows c.right
         knows-right = none-known c.right (elim c.cut [
-          | inl m ↦ ap (λ (v : View C R). v.others.handed) m.2
+          | inl m ↦ ap (λ (v : View C R). v.others.handed) m.3
           | inr m ↦ ⊎_elim (λ e. ap (λ (v : View C R). v.others.handed) e) (λ e. ap (λ (v : View C R). v.others.handed) e) m.1
         ])
 

@@ -57,7 +57,7 @@ module _ {O C R : Type 0} {obj : Ghosts O C R} where
           keeps,
           tt,
           subst (λ (ws : List ℕ). IsRuled obj record { words = ws; homes = s.homes; views = vs }) (sym (set-get_or s.words 0 0)) (record {
-            records = learned s o i v f v.heard v.others me k.begins
+            records = learned s o i v f v.heard v.others me refl k.begins
                 (λ has. let w = whole_of s o i v me has in prefix_whole f o.history k.begins (let a = length-begins v.front f k.mine in omega (arith, ap (λ (x : List (Entry C R)). length x) w)))
                 (heard_few s o i v me)
                 (subst (λ (x : View C R). AreTrue o.history (viewed s o vs) o.slots o.owns x.others) is_me (sits-others s o vs (omega arith) gone i))

@@ -3,6 +3,12 @@ pub mod SeatViews
 pub mod Histories
 pub mod Others
 pub mod Pieces
+pub mod Present
+pub mod Splitting
+pub mod Moments
+pub mod LinearEvents
+pub mod OnlyEvents
+pub mod InTime
 pub mod RecordStates
 pub mod Accounts
 pub mod Chains
@@ -37,4 +43,6 @@ pub mod PublishedRecords
 pub mod OwnSteps
 pub mod PieceLaws
 pub mod Linearizable
+pub mod Instants
+pub mod Noting
 pub mod Entered

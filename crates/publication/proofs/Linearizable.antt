@@ -101,14 +101,14 @@ module _ {O C R : Type 0} {obj : Ghosts O C R} where
     where
       appended : (d : IsStep obj answer_record s t) (p : IsOrderly obj t) → p.history ≡ r.records.history ++ entry d.before.0.combiner.hand d.asked.1.0 (replied obj d.before.1) ∷ []
       appended d p = (subst (λ (x : BoardState O C R). (p : IsOrderly obj x) → p.history ≡ r.records.history ++ entry d.before.0.combiner.hand d.asked.1.0 (replied obj d.before.1) ∷ []) (sym d.is)
-          (λ p. joins s r.records d.at d.put d.id d.first d.second d.before d.after d.act p d.seated d.out d.valid d.carried d.asked.1.0 d.asked.0 d.asked.1.1 d.told.0)) p
+          (λ p. joins s r.records d.at d.put d.id d.first d.second d.before d.after d.act p d.seated d.valid d.carried d.asked.1.0 d.asked.0 d.asked.1.1 d.told.0)) p
 
       answered : IsStep obj answer_record s t → All (IsEntryWithin n) (history_of obj t)
       answered d =
           let o = r.records in
           let call = d.asked.1.0 in
           let e : Entry C R = entry d.before.0.combiner.hand call (replied obj d.before.1) in
-          let w = hand-within s o d.at d.put d.id d.first d.second d.before d.after d.act (subst (IsOrderly obj) d.is q.records) d.seated d.out d.valid d.carried call d.asked.1.1 in
+          let w = hand-within s o d.at d.put d.id d.first d.second d.before d.after d.act (subst (IsOrderly obj) d.is q.records) d.seated d.valid d.carried call d.asked.1.1 in
           let few = w.1 in
           pushed-within n (history_of obj s) (history_of obj t) e (sym (is-history t q.records) ∙ (appended d q.records ∙ ap (λ (l : List (Entry C R)). l ++ e ∷ []) (is-history s o))) all w.0 (omega (arith, few, long, o.homes_are))
 

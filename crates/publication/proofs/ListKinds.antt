@@ -20,6 +20,7 @@ use Rattle.publication.proofs.Lists.{at_there, each_set, prefix_self}
 use Rattle.publication.proofs.SeatViews.{front_of, heard_few, whole_of}
 use Rattle.publication.proofs.Others.{still-true}
 use Rattle.publication.proofs.Pieces.{pieces_kept}
+use Rattle.publication.proofs.Present.{present_kept}
 use Rattle.publication.proofs.Chains.{chain_same, chain_head, on_right, chain_right, apart_right, link_names}
 use Rattle.publication.proofs.UnchangedList.{aside, same_walk}
 use Rattle.publication.proofs.RecordStates.{waiting_belongs, announced_listed, stands_listed, waits_for, waits_announced, at_most_one}
@@ -53,6 +54,8 @@ module _ {O C R : Type 0} {obj : Ghosts O C R} where
     opens = λ k j call at. let t = o.opens k j call at in record { object = t.object; record_of = t.record_of; is_busy = same j ∙ t.is_busy; call_of = t.call_of; empty_slot = t.empty_slot };
     opened = λ j some e. rw (same 0) (o.opened j some (sym (same j) ∙ e));
     pieces = pieces_kept o.slots s (record { words = ws; homes = s.homes; views = s.views }) o.pieces (omega arith) (λ e. (sym (same 0) ∙ e, refl)) o.pieces.seats;
+    present = present_kept o.slots s (record { words = ws; homes = s.homes; views = s.views }) refl (λ k. (refl, refl)) o.present;
+    in_time = o.in_time;
   }
 
 -- Two different numbers above 0 and below n: n is at least 3.
@@ -79,12 +82,12 @@ module _ {O C R : Type 0} {obj : Ghosts O C R} where
     within_slots q on = let r = l.within q on in (r.0, omega (arith, r.1, o.homes_are))
 
     -- The session learns more of the list and of its own calls; its record's words don't change.
-    own_step : (b : Bool) (heard : List ℕ) (listing : Listing) → announced v.own ≤ announced (record { started = v.own.started; retired = v.own.retired; pending = v.own.pending; collected = v.own.collected; listed = b })
-        → ((j : ℕ) → j ≢ i → get_or heard j 0 ≡ get_or v.heard j 0) → get_or heard i 0 ≤ announced (record { started = v.own.started; retired = v.own.retired; pending = v.own.pending; collected = v.own.collected; listed = b })
+    own_step : (b : Bool) (heard : List ℕ) (listing : Listing) → announced v.own ≤ announced (record { started = v.own.started; retired = v.own.retired; pending = v.own.pending; collected = v.own.collected; listed = b; log = v.own.log })
+        → ((j : ℕ) → j ≢ i → get_or heard j 0 ≡ get_or v.heard j 0) → get_or heard i 0 ≤ announced (record { started = v.own.started; retired = v.own.retired; pending = v.own.pending; collected = v.own.collected; listed = b; log = v.own.log })
         → (ws : List ℕ) → length ws ≡ length s.words → ((j : ℕ) → get_or ws (word_of j) 0 ≡ word s j)
-        → IsOrderly obj record { words = ws; homes = s.homes; views = set s.views i (as_session v v.front (record { started = v.own.started; retired = v.own.retired; pending = v.own.pending; collected = v.own.collected; listed = b }) heard listing) }
+        → IsOrderly obj record { words = ws; homes = s.homes; views = set s.views i (as_session v v.front (record { started = v.own.started; retired = v.own.retired; pending = v.own.pending; collected = v.own.collected; listed = b; log = v.own.log }) heard listing) }
     own_step b heard listing more hears hears_own ws long same =
-        let w : Own C R = record { started = v.own.started; retired = v.own.retired; pending = v.own.pending; collected = v.own.collected; listed = b } in
+        let w : Own C R = record { started = v.own.started; retired = v.own.retired; pending = v.own.pending; collected = v.own.collected; listed = b; log = v.own.log } in
         let vs : List (View C R) = set s.views i (as_session v v.front w heard listing) in
         let before : IsOrderly obj record { words = set s.words (word_of i) (word s i); homes = set s.homes i (home s i); views = vs } =
         moved s o i v (word s i) (home s i) v.front w heard listing me some_number small (lives i v is some_number s o l me small) (record {
@@ -96,6 +99,7 @@ module _ {O C R : Type 0} {obj : Ghosts O C R} where
           begins = front_of s o i v me;
           whole = whole_of s o i v me;
           stands = stands_listed b stands_here;
+          noted = inl (refl, refl);
         }) in
         let kept : IsOrderly obj record { words = s.words; homes = s.homes; views = vs } =
         subst (λ (ws : List ℕ). IsOrderly obj record { words = ws; homes = s.homes; views = vs }) (set-get_or s.words (word_of i) 0)
@@ -199,7 +203,7 @@ module _ {O C R : Type 0} {obj : Ghosts O C R} where
 
       -- The session's own calls, with the last one listed.
       abbrev own_listed : Own C R
-      own_listed = record { started = v.own.started; retired = v.own.retired; pending = v.own.pending; collected = v.own.collected; listed = true }
+      own_listed = record { started = v.own.started; retired = v.own.retired; pending = v.own.pending; collected = v.own.collected; listed = true; log = v.own.log }
 
       -- The words after an exchange that was won.
       abbrev pushed_words : List ℕ

@@ -1,5 +1,5 @@
 -- A new board has the rule, and keeps it while its sessions are made.
-use Rattle.std.proofs.Common.{◌≡◌, ◌≢◌, ℕ, zero, suc, ◌+◌, ◌<◌, ◌≤◌, Bool, true, false, Some, None, List, [], ◌∷◌, ◌++◌, length, map, replicate, get_or, set, sym, refl, ap, ◌∙◌, subst, arith, length-set, length-append, get_or-set_other, get_or-set_same, inr}
+use Rattle.std.proofs.Common.{◌≡◌, ◌≢◌, ℕ, zero, suc, ◌+◌, ◌<◌, ◌≤◌, Bool, true, false, Some, None, List, [], ◌∷◌, ◌++◌, length, map, replicate, get_or, set, sym, refl, ap, ◌∙◌, subst, arith, length-set, length-append, get_or-set_other, get_or-set_same, inl, inr}
 use Rattle.std.proofs.lemmas.List.{length-map, length-replicate}
 use mathlib.Core.Option as opt
 use mathlib.Core.List.{IsPrefix}
@@ -13,7 +13,7 @@ use Rattle.publication.specs.Words.{word_of, END, OUT}
 use Rattle.publication.specs.List.{link, belongs, IsLinked, IsRuled, IsBounded, bound_of}
 use Rattle.publication.specs.Views.{Own, Handed}
 use Rattle.publication.specs.BoardHistory.{new_board}
-use Rattle.publication.specs.Rule.{BoardState, blank, apart, AreTrue, fresh, own_at, announced, maker, new_session, word, home, seat, IsHome, IsVacant, RecordState, HasObject, IsOpened, IsSession, IsMaker, HasPieces, IsOrderly}
+use Rattle.publication.specs.Rule.{BoardState, blank, apart, AreTrue, fresh, own_at, announced, maker, new_session, word, home, seat, IsHome, IsVacant, RecordState, HasObject, IsOpened, IsSession, IsMaker, HasPieces, calls_known, IsOrderly}
 use Rattle.publication.specs.Rule.RecordState.{vacant}
 use Rattle.publication.specs.declared.view.View.{View}
 use Rattle.publication.specs.declared.slot.Load.{Load}
@@ -22,6 +22,7 @@ use Rattle.publication.specs.declared.slot.SlotValue.TheVariants.{Empty, ObjectL
 use Rattle.publication.proofs.Lists.{at_there, each_set, each_snoc, prefix_self, same_all, past_end}
 use Rattle.publication.proofs.Others.{StaysGone, still-true}
 use Rattle.publication.proofs.Pieces.{unmade_none, knows_none, pieces_kept}
+use Rattle.publication.proofs.Present.{present_more}
 use Rattle.publication.proofs.UnchangedList.{Keeps, seen_listed, same_seat, unseated}
 use Rattle.publication.proofs.LockKinds.{nothing_at}
 use Rattle.sequential.specs.declared.object.Sequential.{Ghosts}
@@ -35,13 +36,23 @@ nothings (suc n) (suc i) h = nothings n i (omega arith)
 module _ {O C R : Type 0} where
   -- A seat that knows of others only whether all sessions are made knows nothing false.
   pub told_nothing : (h : List (Entry C R)) (s : BoardState O C R) (slots : ℕ) (owns : List (Own C R)) (all_made : Bool) → (all_made ≡ true → slots ≤ length s.views) → AreTrue h s slots owns (apart all_made)
-  told_nothing h s slots owns all_made so = record { all_made = so; beside = (h, refl); handed = λ p x at. absurd (opt.some-ne-none x (sym at)) }
+  told_nothing h s slots owns all_made so = record { all_made = so; beside = (h, refl); handed = λ p x at. absurd (opt.some-ne-none x (sym at)); logged = refl }
+
+-- No element is in an empty list.
+none_split : {A : Type 0} (before after : List A) (x : A) → [] ≡ before ++ x ∷ after → ⊥
+none_split [] after x e = cc e
+none_split (y ∷ ys) after x e = cc e
 
 module _ {C R : Type 0} where
   -- What holds of every seat of a board with one seat.
   first_seats : (v : View C R) (P : View C R → Type 0) → P v → P blank → (k : ℕ) → P (get_or (v ∷ []) k blank)
   first_seats v P here else zero = here
   first_seats v P here else (suc k) = else
+
+  -- The last of more seats is the new one.
+  at_seam : (l : List (View C R)) (x : View C R) → get_or (l ++ x ∷ []) (length l) blank ≡ x
+  at_seam [] x = refl
+  at_seam (y ∷ ys) x = at_seam ys x
 
 module _ {O C R : Type 0} {obj : Ghosts O C R} where
   -- The board of n sessions before any is made.
@@ -124,6 +135,25 @@ module _ {O C R : Type 0} {obj : Ghosts O C R} where
         within = λ k d few. absurd (omega arith);
         seats = each (HasPieces []) (knows_none [] first refl refl refl) (knows_none [] blank refl refl refl);
         home = λ _. untaken;
+      };
+      present = record {
+        each = λ j some small there. absurd (omega (arith, some, there));
+        apart = λ k live. absurd (each (λ u. u.number ≢ 0 → ⊥) (λ z. z refl) (λ z. z refl) k live);
+        once = λ k m p q x y at. absurd (each (λ u. get_elem? u.others.handed p ≡ opt.some x → ⊥) (λ e. opt.some-ne-none x (sym e)) (λ e. opt.some-ne-none x (sym e)) k at);
+      };
+      in_time = record {
+        events = [];
+        sessions = n;
+        sessions_are = refl;
+        well_formed = λ before after e split. absurd (none_split before after e split);
+        linear = record {
+          legal = empty;
+          equal = λ i some few. inl refl;
+          whose = λ k d few. absurd (omega arith);
+          in_time = λ before after split i j a b c d x y first others earlier later is. absurd (none_split first others x is);
+        };
+        logs = λ j. ap (λ (x : Own C R). x.log) (same_all (n + 1) j fresh);
+        calls = λ j. ap (λ (x : Own C R). calls_known x) (sym (same_all (n + 1) j fresh));
       };
     }
 
@@ -241,6 +271,9 @@ module _ {O C R : Type 0} {obj : Ghosts O C R} where
         (λ was. absurd (nothing_at 0 j call (sym (ap (λ c. get_elem? c.opened j) first_had) ∙ was)))
         (λ k n was. was)
 
+    newest : seat enrolled (length s.views) ≡ joined
+    newest = subst (λ (k : ℕ). get_or (set s.views 0 more ++ joined ∷ []) k blank ≡ joined) long_now (at_seam (set s.views 0 more) joined)
+
     enrols_one : IsOrderly obj enrolled
     enrols_one = record {
       history = o.history;
@@ -273,6 +306,11 @@ module _ {O C R : Type 0} {obj : Ghosts O C R} where
             known = λ has. absurd (cc has);
           })
           (knows_none o.pieces.all more refl refl refl) (λ k ne. o.pieces.seats k));
+      present = present_more o.slots s enrolled one_more
+          (each_seat (λ k u. k ≢ length s.views → (u.number ≡ (seat s k).number) × (u.others.handed ≡ (seat s k).others.handed)) (λ ne. absurd (ne refl))
+          (λ _. (ap (λ (u : View C R). u.number) (sym is_me), ap (λ (u : View C R). u.others.handed) (sym is_me))) (λ k a ne. (refl, refl)))
+          (ap (λ (u : View C R). u.others.handed) newest) (λ _. ap (λ (u : View C R). u.number) newest ∙ seats) o.present;
+      in_time = o.in_time;
     }
 
     -- The publication list doesn't change.

@@ -1,6 +1,6 @@
 -- A combiner's step keeps the rule of the records: a step on a record while it has the object, and taking or giving
 -- back the object.
-use Rattle.std.proofs.Common.{◌≡◌, ◌≢◌, ℕ, ◌^◌, ◌<◌, ◌≤◌, true, Option, Some, None, List, length, get_or, set, refl, sym, ap, ◌∙◌, subst, arith, length-set, get_or-set_other, get_or-set_same}
+use Rattle.std.proofs.Common.{◌≡◌, ◌≢◌, ◌⊎◌, ⊎_elim, ℕ, ◌^◌, ◌<◌, ◌≤◌, true, Option, Some, None, List, [], ◌∷◌, ◌++◌, length, get_or, set, refl, sym, ap, ◌∙◌, subst, arith, length-set, get_or-set_other, get_or-set_same}
 use mathlib.Core.Option as opt
 use mathlib.Core.Logic.{dite}
 use mathlib.Core.List.{IsPrefix}
@@ -9,10 +9,12 @@ use lib.ListN.{get_elem?}
 use Rattle.std.specs.Global.{Box}
 use Rattle.std.specs.Prelude.{All}
 use Rattle.sequential.specs.declared.entry.Entry.{Entry}
+use Rattle.sequential.specs.Histories.{IsEntryWithin}
+use Rattle.sequential.specs.Linearizable.{performed_by, IsCompletionOf}
 use Rattle.publication.specs.Words.{word_of, FREE, BUSY}
 use Rattle.publication.specs.Pieces.{pieces_of}
 use Rattle.publication.specs.Views.{Own, Combiner, Listing, Handed, Others, Taken, asks}
-use Rattle.publication.specs.Rule.{blank, BoardState, word, home, seat, fresh, own_at, announced, IsHome, RecordState, HasObject, IsOpened, IsSession, IsMaker, AreTrue, pieces_in, IsOfSession, HasPieces, IsOrderly}
+use Rattle.publication.specs.Rule.{blank, BoardState, word, home, seat, fresh, own_at, announced, IsHome, RecordState, HasObject, IsOpened, IsSession, IsMaker, AreTrue, pieces_in, IsOfSession, HasPieces, ArePresent, calls_known, IsInTime, IsOrderly}
 use Rattle.publication.specs.Kinds.{as_combiner, with_pieces}
 use Rattle.publication.specs.declared.piece.Piece.{Piece}
 use Rattle.publication.specs.declared.view.View.{View}
@@ -23,6 +25,8 @@ use Rattle.publication.proofs.Lists.{at_there, each_set, prefix_self, prefix_tra
 use Rattle.publication.proofs.SeatViews.{session_of, heard_few, others_of, object_of, opened_of, pieces_of_seat}
 use Rattle.publication.proofs.Others.{still-true}
 use Rattle.publication.proofs.Pieces.{pieces_kept}
+use Rattle.publication.proofs.Present.{IsAlike, present_kept}
+use Rattle.publication.proofs.InTime.{completes, entered_more}
 use Rattle.sequential.specs.declared.object.Sequential.{Ghosts}
 
 module _ {C : Type 0} where
@@ -102,6 +106,10 @@ module _ {O C R : Type 0} {obj : Ghosts O C R} where
     makes_kept : IsMaker o.slots (length (set s.views k u)) (seat after 0)
     makes_kept = subst (λ (j : ℕ). IsMaker o.slots j (seat after 0)) (sym seats_kept) (subst (λ (y : View C R). IsMaker o.slots (length s.views) y) (sym (seat_other 0 not_mine)) o.makes)
 
+    present_kept_here : ArePresent o.slots after
+    present_kept_here = present_kept o.slots s after seats_kept
+        (each_set s.views k u blank (λ j y. IsAlike (seat s j) y) sits (ap (λ (y : View C R). y.number) (sym is_me), ap (λ (y : View C R). y.others.handed) (sym is_me)) (λ j ne. (refl, refl))) o.present
+
     -- Only this seat may be the combiner's.
     combiners_kept : (h : List (Entry C R)) → (d.has_object ≡ true → HasObject h (word after 0) k u) → ((j : ℕ) → j ≢ k → (seat s j).combiner.has_object ≢ true)
         → (j : ℕ) → (seat after j).combiner.has_object ≡ true → HasObject h (word after 0) j (seat after j)
@@ -120,7 +128,7 @@ module _ {O C R : Type 0} {obj : Ghosts O C R} where
     -- What a combiner's step on record x has to show, with h the history afterwards: it knows all of h; other records
     -- are opened as before, and none of their slots was in hand;
     -- record x is opened if its word is BUSY, and is in the state that its word names; the other records keep their
-    -- states in h.
+    -- states in h, which has at most one entry more, of one of the sessions.
     pub record IsRecordStep (h : List (Entry C R)) : Type 0 where
       pub has : v.combiner.has_object ≡ true
       pub still : d.has_object ≡ true
@@ -138,6 +146,7 @@ module _ {O C R : Type 0} {obj : Ghosts O C R} where
       pub stands : RecordState h x n at (own_at o.owns x)
       pub grow : (j w : ℕ) (a : opt.Option (SlotValue O C R)) (y : Own C R) → j ≢ x → RecordState o.history j w a y → RecordState h j w a y
       pub pieces : q ≡ v.pieces
+      pub entered : (h ≡ o.history) ⊎ ((e : Entry C R) × (h ≡ o.history ++ e ∷ []) × IsEntryWithin o.in_time.sessions e)
 
     module _ (h : List (Entry C R)) (t : IsRecordStep h) where
       object_before : HasObject o.history (word s 0) k v
@@ -189,6 +198,15 @@ module _ {O C R : Type 0} {obj : Ghosts O C R} where
           (λ e. let r = t.new_busy (sym (word_here t.few) ∙ (sym (ap (word after) e) ∙ is)) in (r.0, ap (λ (i : ℕ). get_elem? d.opened i) e ∙ r.1))
           (λ ne. let r = was_opened j some_session (sym (word_other j ne) ∙ is) in (r.0, t.others j ne ∙ r.1)))
 
+      -- The calls so far are linearizable.
+      in_time_after : IsInTime obj h o.slots o.owns
+      in_time_after = ⊎_elim
+          (λ same. subst (λ (f : List (Entry C R)). IsInTime obj f o.slots o.owns) (sym same) o.in_time)
+          (λ e. subst (λ (f : List (Entry C R)). IsInTime obj f o.slots o.owns) (sym e.1)
+          ((entered_more o.history o.slots o.owns o.in_time e.0 (subst obj.is_legal e.1 t.legal) e.2
+          (λ j some_session small. subst (λ (f : List (Entry C R)). IsCompletionOf (calls_known (own_at o.owns j)) (performed_by j f)) e.1 (completes (stands_after j some_session small)))).0))
+          t.entered
+
       -- A step on a record keeps the rule of the records.
       pub combined : IsOrderly obj after
       combined = record {
@@ -217,6 +235,8 @@ module _ {O C R : Type 0} {obj : Ghosts O C R} where
             (each_set s.views k u blank (λ j y. HasPieces o.pieces.all y) sits
             (let p = pieces_of_seat s o k v me in record { own = λ some. ap (λ (y : Taken). y.own) t.pieces ∙ p.own some; handed = p.handed; known = λ _. ap (λ (y : Taken). y.all) t.pieces ∙ p.known t.has })
             (λ j ne. o.pieces.seats j));
+        present = present_kept_here;
+        in_time = in_time_after;
       }
 
     -- What a step on the lock word has to show: no seat has opened a record, before or after; no other seat has the
@@ -303,4 +323,6 @@ module _ {O C R : Type 0} {obj : Ghosts O C R} where
           seats = each_set s.views k u blank (λ j y. HasPieces t.pieces y) sits pieces_here pieces_there;
           home = λ free_now. ap pieces_in slot_now ∙ t.noted (sym lock_now ∙ free_now);
         };
+        present = present_kept_here;
+        in_time = o.in_time;
       }

@@ -1,5 +1,5 @@
 -- A session's step on its own record keeps the rule of the records.
-use Rattle.std.proofs.Common.{◌≡◌, ◌≢◌, ℕ, ◌<◌, ◌≤◌, true, Some, None, List, length, get_or, set, sym, ap, ◌∙◌, subst, arith, length-set, get_or-set_other, get_or-set_same}
+use Rattle.std.proofs.Common.{◌≡◌, ◌≢◌, ℕ, ◌<◌, ◌≤◌, true, Some, None, List, length, get_or, set, refl, sym, ap, ◌∙◌, subst, arith, length-set, get_or-set_other, get_or-set_same}
 use mathlib.Core.Option as opt
 use mathlib.Core.Logic.{dite}
 use mathlib.Core.List.{IsPrefix}
@@ -8,7 +8,7 @@ use lib.ListN.{get_elem?}
 use Rattle.sequential.specs.declared.entry.Entry.{Entry}
 use Rattle.publication.specs.Words.{word_of, BUSY}
 use Rattle.publication.specs.Views.{Own, Combiner, Listing, Others}
-use Rattle.publication.specs.Rule.{blank, BoardState, word, home, seat, fresh, own_at, announced, RecordState, HasObject, IsOpened, IsSession, IsMaker, AreTrue, HasPieces, IsOrderly}
+use Rattle.publication.specs.Rule.{blank, BoardState, word, home, seat, fresh, own_at, announced, RecordState, HasObject, IsOpened, IsSession, IsMaker, AreTrue, HasPieces, IsInTime, IsOrderly}
 use Rattle.publication.specs.Kinds.{as_session}
 use Rattle.publication.specs.declared.view.View.{View}
 use Rattle.publication.specs.declared.slot.SlotValue.{SlotValue}
@@ -16,6 +16,8 @@ use Rattle.publication.proofs.Lists.{at_there, each_set, prefix_self}
 use Rattle.publication.proofs.SeatViews.{session_of, heard_few, others_of, object_of, pieces_of_seat}
 use Rattle.publication.proofs.Others.{still-true}
 use Rattle.publication.proofs.Pieces.{pieces_kept}
+use Rattle.publication.proofs.Present.{IsAlike, present_kept}
+use Rattle.publication.proofs.InTime.{NotesAtMostOne, completes, noted_event}
 use Rattle.sequential.specs.declared.object.Sequential.{Ghosts}
 
 module _ {O C R : Type 0} {obj : Ghosts O C R} where
@@ -36,7 +38,7 @@ module _ {O C R : Type 0} {obj : Ghosts O C R} where
     owns_after = set o.owns i w
 
     -- What such a step has to show: the session announces no fewer calls, hears only of its own, and its record is in
-    -- the state that its word names, BUSY only if it was BUSY before with the same call.
+    -- the state that its word names, BUSY only if it was BUSY before with the same call; and it notes at most one event.
     pub record IsOwnStep : Type 0 where
       pub more : announced v.own ≤ announced w
       pub hears : (j : ℕ) → j ≢ i → get_or heard j 0 ≡ get_or v.heard j 0
@@ -46,6 +48,7 @@ module _ {O C R : Type 0} {obj : Ghosts O C R} where
       pub begins : IsPrefix front o.history
       pub whole : v.combiner.has_object ≡ true → front ≡ o.history
       pub stands : RecordState o.history i n at w
+      pub noted : NotesAtMostOne o.in_time.sessions o.in_time.events i v.own w
 
     is_me : seat s i ≡ v
     is_me = (at_there s.views i v blank me).0
@@ -178,6 +181,11 @@ module _ {O C R : Type 0} {obj : Ghosts O C R} where
           let t = o.opened j some_record was in
           (t.0, ap (λ (m : ℕ). get_elem? (seat after m).combiner.opened j) (word_other 0 not_lock) ∙ (ap (λ (c : Combiner C). get_elem? c.opened j) (combiner_kept (word s 0)) ∙ t.1))
 
+      -- The calls so far are linearizable.
+      in_time_after : IsInTime obj o.history o.slots owns_after
+      in_time_after = noted_event o.history o.slots o.owns o.in_time owns_after i v.own w session_before.own_is own_here own_other k.noted
+          (λ j some_record few. completes (stands_after j some_record few))
+
       -- The step keeps the rule of the records.
       pub moved : IsOrderly obj after
       moved = record {
@@ -205,4 +213,7 @@ module _ {O C R : Type 0} {obj : Ghosts O C R} where
         opened = opened_after;
         pieces = pieces_kept o.slots s after o.pieces (omega (arith, length-set s.views i u)) (λ none. (sym (word_other 0 not_lock) ∙ none, home_other 0 not_lock))
             (each_set s.views i u blank (λ j x. HasPieces o.pieces.all x) sits (let t = pieces_of_seat s o i v me in record { own = t.own; handed = t.handed; known = t.known }) (λ j ne. o.pieces.seats j));
+        present = present_kept o.slots s after seats_kept
+            (each_set s.views i u blank (λ j x. IsAlike (seat s j) x) sits (ap (λ (x : View C R). x.number) (sym is_me), ap (λ (x : View C R). x.others.handed) (sym is_me)) (λ j ne. (refl, refl))) o.present;
+        in_time = in_time_after;
       }

@@ -1,10 +1,11 @@
 -- What a seat knows of other seats stays true.
-use Rattle.std.proofs.Common.{◌≡◌, ℕ, ◌<◌, ◌≤◌, List, length, ap, ◌∙◌, arith}
+use Rattle.std.proofs.Common.{◌≡◌, ℕ, ◌<◌, ◌≤◌, List, length, sym, ap, ◌∙◌, arith}
 use mathlib.Core.List.{IsPrefix}
 use Rattle.sequential.specs.declared.entry.Entry.{Entry}
 use Rattle.publication.specs.Views.{Own, Handed, Others}
 use Rattle.publication.specs.Rule.{BoardState, seat, own_at, IsHanded, AreTrue}
 use Rattle.publication.proofs.Lists.{prefix_trans}
+use Rattle.publication.proofs.InTime.{same_map}
 
 module _ {O C R : Type 0} where
   -- A seat that has lost its session gets no session again, and what that session knew of its calls doesn't change.
@@ -29,4 +30,6 @@ module _ {O C R : Type 0} where
     all_made = λ e. omega (arith, is.all_made e);
     beside = prefix_trans x.beside h g is.beside grows;
     handed = λ p y at. still-handed h g s t slots owns later y grows more gone (is.handed p y at);
+    logged = is.logged ∙ same_map (λ (y : Handed C R). (y.number, (own_at owns y.number).log)) (λ (y : Handed C R). (y.number, (own_at later y.number).log)) x.handed
+        (λ p y at. let d = is.handed p y at in ap (λ (o : Own C R). (y.number, o.log)) (sym (gone y.number d.some d.there d.gone).1));
   }

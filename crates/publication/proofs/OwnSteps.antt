@@ -1,14 +1,14 @@
 -- What a step of the session itself makes of what is published in its record.
-use Rattle.std.proofs.Common.{◌≡◌, ◌≢◌, ◌⊎◌, inl, inr, ℕ, ◌<◌, Some, None, List, [], ◌∷◌, ◌++◌, length, get_or, refl, sym, ap, subst, ◌∙◌, arith, eq-eqb, cond, Bool, get_or-set_same}
+use Rattle.std.proofs.Common.{◌≡◌, ◌≢◌, ◌⊎◌, inl, inr, ℕ, ◌<◌, Some, None, List, [], ◌∷◌, ◌++◌, length, get_or, refl, sym, ap, subst, ◌∙◌, arith, get_or-set_same}
 use mathlib.Core.Option as opt
 use mathlib.Core.Logic.{dite}
 use native.Mathlib.Decide.{ℕ_discrete}
-use Rattle.atomic_table.specs.Table.{rest, step, homes_after}
+use Rattle.atomic_table.specs.Table.{step}
 use Rattle.sequential.specs.declared.entry.Entry.{Entry}
 use Rattle.sequential.specs.Histories.{Answered, calls_of}
 use Rattle.publication.specs.Words.{word_of, FREE, POSTED, BUSY, SERVED, CLOSED, EMPTY}
 use Rattle.publication.specs.Views.{Own, Combiner, answer, asks}
-use Rattle.publication.specs.Rule.{blank, BoardState, word, home, seat, own_at}
+use Rattle.publication.specs.Rule.{blank, BoardState, word, seat, own_at}
 use Rattle.publication.specs.List.{IsRuled}
 use Rattle.publication.specs.Kinds.{Seated, asked, opened_in}
 use Rattle.publication.specs.BoardHistory.{history_of}
@@ -17,23 +17,19 @@ use Rattle.publication.specs.PublishedRecords.Published.{nothing, waiting, opene
 use Rattle.publication.specs.Runs.{StepName, start, post, look_at_head, link, enlist, look_for_reply, take_reply, look_at_lock, seize, release, walk, walk_on, unlink, mark_out, relink, look_at_record, open_record, lay, pick, answer_record, put_back, enter, learn, compare, retire, leave, kind_of, StepRequires, IsStep}
 use Rattle.publication.specs.declared.view.View.{View}
 use Rattle.publication.specs.declared.slot.SlotValue.{SlotValue}
-use Rattle.publication.specs.declared.slot.SlotValue.TheVariants.{Empty, PostedCall}
 use Rattle.publication.proofs.Lists.{at_there, there_at}
-use Rattle.publication.proofs.CarriedSlots.{held_in, untouched, left_home, home-not_held}
 use Rattle.publication.proofs.BoardHistory.{is-history}
 use Rattle.publication.proofs.RealTime.{step-unchanged}
 use Rattle.publication.proofs.SessionsGoOn.{follows}
-use Rattle.publication.proofs.PublishedRecords.{idle_word, same_pending, none_pending, CallsAre, calls_are, calls_stay_but, no_more, same_last, alike, ended, other_seat, served_further}
+use Rattle.publication.proofs.PublishedRecords.{idle_word, none_pending, CallsAre, calls_are, calls_stay_but, no_more, alike, ended, other_seat, served_further}
 use Rattle.sequential.specs.declared.object.Sequential.{Ghosts}
 
 module _ {O C R : Type 0} where
-  -- What a step does to what its session knows of its own calls: nothing; it drops a pending call, keeping who is opened; it
-  -- notes a call as pending; it takes a reply out of its own record; or it enters a call with none pending.
+  -- What a step does to what its session knows of its own calls: nothing; it notes a call as pending, with none pending before; it
+  -- takes a reply out of its own record; or it enters a call with none pending.
   data OwnChange (m n : Seated O C R) (at found : ℕ) (name : StepName C R) : Type 0 where
     kept : n.0.own.pending ≡ m.0.own.pending → n.0.own.collected ≡ m.0.own.collected → ((call : C) (reply : R) → name ≢ enter call reply) → OwnChange m n at found name
-    dropped : n.0.own.pending ≡ None → n.0.own.collected ≡ m.0.own.collected → n.0.combiner ≡ m.0.combiner → name ≢ answer_record → ((call : C) (reply : R) → name ≢ enter call reply)
-        → (n.1 ≡ m.1) ⊎ ((n.1 ≡ rest m.1) ⊎ (n.1 ≡ (m.0.number, Empty) ∷ m.1)) → OwnChange m n at found name
-    noted : (call : C) (floor : ℕ) → n.0.own.pending ≡ Some (asks call floor) → n.0.own.collected ≡ m.0.own.collected → n.0.combiner ≡ m.0.combiner → name ≢ answer_record
+    noted : (call : C) (floor : ℕ) → m.0.own.pending ≡ None → n.0.own.pending ≡ Some (asks call floor) → n.0.own.collected ≡ m.0.own.collected → n.0.combiner ≡ m.0.combiner → name ≢ answer_record
         → ((call : C) (reply : R) → name ≢ enter call reply) → OwnChange m n at found name
     took : at ≡ word_of m.0.number → found ≡ SERVED → n.0.own.pending ≡ None → OwnChange m n at found name
     entered : m.0.own.pending ≡ None → n.0.own.pending ≡ None → OwnChange m n at found name
@@ -47,8 +43,8 @@ module _ {O C R : Type 0} where
 
     -- Each kind of step.
     own_change : (name : StepName C R) → StepRequires obj name at m → kind_of obj name (step slots at first second opt.none) m found n → OwnChange m n at found name
-    own_change start asks told = dropped (ap (λ (x : Seated O C R). x.0.own.pending) told) (ap (λ (x : Seated O C R). x.0.own.collected) told) (ap (λ (x : Seated O C R). x.0.combiner) told) (λ e. absurd (cc e)) (λ call reply e. absurd (cc e)) (inr (inr (ap (λ (x : Seated O C R). x.1) told)))
-    own_change post asks told = noted (asked obj m.1) (length m.0.front) (ap (λ (x : Seated O C R). x.0.own.pending) told) (ap (λ (x : Seated O C R). x.0.own.collected) told) (ap (λ (x : Seated O C R). x.0.combiner) told) (λ e. absurd (cc e)) (λ call reply e. absurd (cc e))
+    own_change start asks told = entered asks (ap (λ (x : Seated O C R). x.0.own.pending) told)
+    own_change post asks told = noted (asked obj m.1) (length m.0.front) asks.0 (ap (λ (x : Seated O C R). x.0.own.pending) told.0) (ap (λ (x : Seated O C R). x.0.own.collected) told.0) (ap (λ (x : Seated O C R). x.0.combiner) told.0) (λ e. absurd (cc e)) (λ call reply e. absurd (cc e))
     own_change look_at_head asks told = unmoved look_at_head told.0 (λ call reply e. absurd (cc e))
     own_change link asks told = calm link _ _ told refl refl (λ call reply e. absurd (cc e))
     own_change enlist asks told = dite (ℕ_discrete found first) (λ e. calm enlist _ _ (told.0 e) refl refl (λ call reply e. absurd (cc e))) (λ ne. calm enlist _ _ (told.1 ne).0 refl refl (λ call reply e. absurd (cc e)))
@@ -74,8 +70,8 @@ module _ {O C R : Type 0} where
     own_change (enter call reply) asks told = entered asks.2 (ap (λ (x : Seated O C R). x.0.own.pending) told.0 ∙ asks.2)
     own_change learn asks told = calm learn _ _ told.0 refl refl (λ call reply e. absurd (cc e))
     own_change compare asks told = unmoved compare told.0 (λ call reply e. absurd (cc e))
-    own_change retire asks told = dropped (ap (λ (x : Seated O C R). x.0.own.pending) told) (ap (λ (x : Seated O C R). x.0.own.collected) told) (ap (λ (x : Seated O C R). x.0.combiner) told) (λ e. absurd (cc e)) (λ call reply e. absurd (cc e)) (inl (ap (λ (x : Seated O C R). x.1) told))
-    own_change leave asks told = dropped (ap (λ (x : Seated O C R). x.0.own.pending) told) (ap (λ (x : Seated O C R). x.0.own.collected) told) (ap (λ (x : Seated O C R). x.0.combiner) told) (λ e. absurd (cc e)) (λ call reply e. absurd (cc e)) (inr (inl (ap (λ (x : Seated O C R). x.1) told)))
+    own_change retire asks told = entered asks (ap (λ (x : Seated O C R). x.0.own.pending) told)
+    own_change leave asks told = entered asks.0 (ap (λ (x : Seated O C R). x.0.own.pending) told)
 
 module _ {O C R : Type 0} {obj : Ghosts O C R} where
   module _ (name : StepName C R) (s t : BoardState O C R) (r : IsRuled obj s) (q : IsRuled obj t) (c : IsStep obj name s t) (j : ℕ) (here : c.id ≡ j) (some : 0 < j) (named : (seat s j).number ≡ j) where
@@ -139,6 +135,10 @@ module _ {O C R : Type 0} {obj : Ghosts O C R} where
         after : CallsAre (calls_of j q.records.history) c.before.0.own.collected y
         after = subst (λ (l : List (Answered C R)). CallsAre (calls_of j q.records.history) l y) collected (calls_after y u)
 
+    -- With no call pending before, nothing was published.
+    only_nothing_before : c.before.0.own.pending ≡ None → (call : C) → HasCallPending s j call → ⊥
+    only_nothing_before none call p = let w = pending_before call p in none_pending c.before.0.own.pending call w.0 none w.1
+
     -- Who is opened by whom is as before.
     module _ (combiner : c.after.0.combiner ≡ c.before.0.combiner) where
       combiners : (k : ℕ) → (seat t k).combiner ≡ (seat s k).combiner
@@ -163,57 +163,15 @@ module _ {O C R : Type 0} {obj : Ghosts O C R} where
         calls_same : (y : Published C R) → IsPublished obj t j y → CallsAre (calls_of j r.records.history) c.before.0.own.collected y
         calls_same y u = subst (λ (h : List (Entry C R)). CallsAre (calls_of j h) c.before.0.own.collected y) history_stays (subst (λ (l : List (Answered C R)). CallsAre (calls_of j q.records.history) l y) collected (calls_after y u))
 
-        -- The slot in the state afterwards, by the step's act.
-        moved : (x : opt.Option (SlotValue O C R)) → home t j ≡ x → get_or (homes_after s.homes c.before.1 c.act) j opt.none ≡ x
-        moved x e = ap (λ (b : BoardState O C R). home b j) (sym c.is) ∙ e
-
-        not_empty : (a : C) → ◌≡◌ {A = SlotValue O C R} Empty (PostedCall a) → ⊥
-        not_empty a e = cc e
-
-        -- The session carries no posted call afterwards.
-        not_carried : (c.after.1 ≡ c.before.1) ⊎ ((c.after.1 ≡ rest c.before.1) ⊎ (c.after.1 ≡ (c.before.0.number, Empty) ∷ c.before.1)) → (a : C) → home s j ≡ opt.some (PostedCall a) → held_in c.after.1 j ≡ opt.some (PostedCall a) → ⊥
-        not_carried (inl e) a slot is = opt.some-ne-none (PostedCall a) (sym is ∙ (ap (λ (l : List (ℕ × SlotValue O C R)). held_in l j) e ∙ (home-not_held s.homes c.before.1 c.out j (PostedCall a) slot).0))
-        not_carried (inr (inl e)) a slot is = opt.some-ne-none (PostedCall a) (sym is ∙ (ap (λ (l : List (ℕ × SlotValue O C R)). held_in l j) e ∙ (home-not_held s.homes c.before.1 c.out j (PostedCall a) slot).1))
-        not_carried (inr (inr e)) a slot is = not_empty a (opt.some-injective Empty (PostedCall a)
-            (sym (ap (λ (l : List (ℕ × SlotValue O C R)). held_in l j) e ∙ ap (λ (b : Bool). cond b (opt.some Empty) (held_in c.before.1 j)) (eq-eqb c.before.0.number j number_is)) ∙ is))
-
-        -- The session drops a pending call: it had none.
-        dropped_moves : c.after.0.own.pending ≡ None → (c.after.1 ≡ c.before.1) ⊎ ((c.after.1 ≡ rest c.before.1) ⊎ (c.after.1 ≡ (c.before.0.number, Empty) ∷ c.before.1))
-            → (x y : Published C R) → IsPublished obj s j x → IsPublished obj t j y → Moves x y
-        dropped_moves none slots x (waiting d) p u = absurd (only_nothing none d u.pending)
-        dropped_moves none slots x (opened d) p u = absurd (only_nothing none d u.pending)
-        dropped_moves none slots x (answered d b v) p u = absurd (only_nothing none d u.pending)
-        dropped_moves none slots nothing nothing p u = inl refl
-        dropped_moves none slots (opened a) nothing p u = absurd (idle_word (word t j) BUSY u.word_is (busy_after a p.opened_is) (omega arith) (omega arith))
-        dropped_moves none slots (answered a b v) nothing p u = absurd (no_more c.before.0.own.collected (answer b a v) (sym (calls_same nothing u) ∙ calls_before (answered a b v) p))
-        dropped_moves none slots (waiting a) nothing p u = absurd (elim u.slot [
-          | inl e ↦ not_empty a (opt.some-injective Empty (PostedCall a) (sym (moved (opt.some Empty) e) ∙ (untouched s.homes c.before.1 c.act c.valid c.out j (PostedCall a) Empty p.slot (moved (opt.some Empty) e) ∙ p.slot)))
-          | inr e ↦ not_carried slots a p.slot (ap (λ (l : List (ℕ × SlotValue O C R)). held_in l j) c.carried ∙ left_home s.homes c.before.1 c.act c.valid c.out j (PostedCall a) p.slot (moved opt.none e))
-        ])
-
-        -- The session notes a call as pending: it publishes it, or had published it.
-        noted_moves : (call : C) (floor : ℕ) → c.after.0.own.pending ≡ Some (asks call floor) → (x y : Published C R) → IsPublished obj s j x → IsPublished obj t j y → Moves x y
-        noted_moves call floor is x nothing p u = absurd (none_pending c.after.0.own.pending call floor (none_after u) is)
-        noted_moves call floor is nothing (waiting d) p u = inr (inr tt)
-        noted_moves call floor is (waiting a) (waiting d) p u =
-            let now = moved (opt.some (PostedCall d)) u.slot in
-            let same : PostedCall d ≡ PostedCall a = opt.some-injective (PostedCall d) (PostedCall a) (sym now ∙ (untouched s.homes c.before.1 c.act c.valid c.out j (PostedCall a) (PostedCall d) p.slot now ∙ p.slot)) in
-            inl (cc same)
-        noted_moves call floor is (opened a) (waiting d) p u = absurd (omega (arith, u.word_is, busy_after a p.opened_is))
-        noted_moves call floor is (answered a b v) (waiting d) p u = absurd (no_more c.before.0.own.collected (answer b a v) (sym (calls_same (waiting d) u) ∙ calls_before (answered a b v) p))
-        noted_moves call floor is nothing (opened d) p u = absurd (idle_word (word s j) BUSY p.word_is (opened_before d u.opened_is).0 (omega arith) (omega arith))
-        noted_moves call floor is (waiting a) (opened d) p u = absurd (omega (arith, p.word_is, (opened_before d u.opened_is).0))
-        noted_moves call floor is (opened a) (opened d) p u =
-            let o = (opened_before d u.opened_is).1 in
-            let w = ap (λ (k : Own C R). k.pending) (r.records.sessions j (λ z. omega (arith, z, named, some))).own_is ∙ o.1 in
-            inl (ap (λ (k : C). opened k) (sym (same_pending (seat s j).own.pending a d p.pending.0 o.0 p.pending.1 w)))
-        noted_moves call floor is (answered a b v) (opened d) p u = absurd (omega (arith, p.word_is, (opened_before d u.opened_is).0))
-        noted_moves call floor is nothing (answered d b v) p u = absurd (no_more c.before.0.own.collected (answer b d v) (sym (calls_before nothing p) ∙ calls_same (answered d b v) u))
-        noted_moves call floor is (waiting a) (answered d b v) p u = absurd (no_more c.before.0.own.collected (answer b d v) (sym (calls_before (waiting a) p) ∙ calls_same (answered d b v) u))
-        noted_moves call floor is (opened a) (answered d b v) p u = absurd (no_more c.before.0.own.collected (answer b d v) (sym (calls_before (opened a) p) ∙ calls_same (answered d b v) u))
-        noted_moves call floor is (answered a e w) (answered d b v) p u =
-            let same = same_last c.before.0.own.collected (answer e a w) (answer b d v) (sym (calls_before (answered a e w) p) ∙ calls_same (answered d b v) u) in
-            inl (cc (ap (λ (z : Answered C R). z.call) same, ap (λ (z : Answered C R). z.place) same, ap (λ (z : Answered C R). z.reply) same))
+        -- The session publishes a call, with none pending before.
+        noted_moves : (call : C) (floor : ℕ) → c.before.0.own.pending ≡ None → c.after.0.own.pending ≡ Some (asks call floor) → (x y : Published C R) → IsPublished obj s j x → IsPublished obj t j y → Moves x y
+        noted_moves call floor was is x nothing p u = absurd (none_pending c.after.0.own.pending call floor (none_after u) is)
+        noted_moves call floor was is (waiting a) y p u = absurd (only_nothing_before was a p.pending)
+        noted_moves call floor was is (opened a) y p u = absurd (only_nothing_before was a p.pending)
+        noted_moves call floor was is (answered a b v) y p u = absurd (only_nothing_before was a p.pending)
+        noted_moves call floor was is nothing (waiting d) p u = inr (inr tt)
+        noted_moves call floor was is nothing (opened d) p u = absurd (idle_word (word s j) BUSY p.word_is (opened_before d u.opened_is).0 (omega arith) (omega arith))
+        noted_moves call floor was is nothing (answered d b v) p u = absurd (no_more c.before.0.own.collected (answer b d v) (sym (calls_before nothing p) ∙ calls_same (answered d b v) u))
 
     -- The session takes the reply out of its record.
     module _ (at : c.at ≡ word_of c.before.0.number) (hit : get_or s.words c.at 0 ≡ SERVED) where
@@ -230,9 +188,6 @@ module _ {O C R : Type 0} {obj : Ghosts O C R} where
       took_moves none (opened a) nothing p u = absurd (omega (arith, p.word_is, served_word))
 
     -- The session has no call pending before or after.
-    only_nothing_before : c.before.0.own.pending ≡ None → (call : C) → HasCallPending s j call → ⊥
-    only_nothing_before none call p = let w = pending_before call p in none_pending c.before.0.own.pending call w.0 none w.1
-
     idle_moves : c.before.0.own.pending ≡ None → c.after.0.own.pending ≡ None → (x y : Published C R) → IsPublished obj s j x → IsPublished obj t j y → Moves x y
     idle_moves was none x (waiting d) p u = absurd (only_nothing none d u.pending)
     idle_moves was none x (opened d) p u = absurd (only_nothing none d u.pending)
@@ -247,8 +202,7 @@ module _ {O C R : Type 0} {obj : Ghosts O C R} where
       where
         go : OwnChange c.before c.after c.at (get_or s.words c.at 0) name → Moves x y
         go (kept pending collected direct) = kept_moves pending collected direct x y p u
-        go (dropped none collected combiner other direct slots) = dropped_moves combiner collected other direct none slots x y p u
-        go (noted call floor is collected combiner other direct) = noted_moves combiner collected other direct call floor is x y p u
+        go (noted call floor was is collected combiner other direct) = noted_moves combiner collected other direct call floor was is x y p u
         go (took at hit none) = took_moves at hit none x y p u
         go (entered was none) = idle_moves was none x y p u
 

@@ -225,11 +225,11 @@ module _ {O C R : Type 0} {obj : Ghosts O C R} where
       where
         grows : q.records.history ≡ r.records.history ++ entry c.before.0.combiner.hand c.asked.1.0 (replied obj c.before.1) ∷ []
         grows = (subst (λ (x : BoardState O C R). (p : IsOrderly obj x) → p.history ≡ r.records.history ++ entry c.before.0.combiner.hand c.asked.1.0 (replied obj c.before.1) ∷ []) (sym c.is)
-            (λ p. joins s r.records c.at c.put c.id c.first c.second c.before c.after c.act p c.seated c.out c.valid c.carried c.asked.1.0 c.asked.0 c.asked.1.1 c.told.0)) q.records
+            (λ p. joins s r.records c.at c.put c.id c.first c.second c.before c.after c.act p c.seated c.valid c.carried c.asked.1.0 c.asked.0 c.asked.1.1 c.told.0)) q.records
 
         mine : c.before.0.combiner.hand ≡ j → DoCallsStay s t r.records q.records j
         mine e =
-            let w = waits-for s r.records c.at c.put c.id c.first c.second c.before c.after c.act (subst (IsOrderly obj) c.is q.records) c.seated c.out c.valid c.carried c.asked.1.0 c.asked.1.1 in
+            let w = waits-for s r.records c.at c.put c.id c.first c.second c.before c.after c.act (subst (IsOrderly obj) c.is q.records) c.seated c.valid c.carried c.asked.1.0 c.asked.1.1 in
             let b = (opened_of s r.records c.id c.before.0 c.seated c.before.0.combiner.hand c.asked.1.0 (there_at c.before.0.combiner.opened c.before.0.combiner.hand c.asked.1.0 c.asked.1.1)).is_busy in
             inr (record {
               call = c.asked.1.0;
@@ -366,7 +366,7 @@ module _ {O C R : Type 0} where
 
       left : DoesPendingStay s c.id c.left
       left some named = elim c.cut [
-        | inl m ↦ (let e = ap (λ (v : View C R). v.number) (seat_is ∙ m.0) in absurd (omega (arith, e, named, some)))
+        | inl m ↦ (let e = ap (λ (v : View C R). v.number) seat_is ∙ m.0 in absurd (omega (arith, e, named, some)))
         | inr m ↦ inl (ap (λ (v : View C R). v.own.pending) (m.0 ∙ sym seat_is))
       ]
 

@@ -57,13 +57,13 @@ module _ {O C R : Type 0} {obj : Ghosts O C R} where
     where
       left : KnowsAsMuch s c.id c.left
       left = elim c.cut [
-        | inl m ↦ no-object s c.id c.left (ap (λ (x : View C R). x.combiner.has_object) m.1)
+        | inl m ↦ no-object s c.id c.left (ap (λ (x : View C R). x.combiner.has_object) m.2)
         | inr m ↦ front-kept s c.id c.view c.left c.seated (ap (λ (x : View C R). x.front) m.0)
       ]
 
       right : KnowsAsMuch s (length (set s.views c.id c.left)) c.right
       right = elim c.cut [
-        | inl m ↦ no-object s (length (set s.views c.id c.left)) c.right (ap (λ (x : View C R). x.combiner.has_object) m.2)
+        | inl m ↦ no-object s (length (set s.views c.id c.left)) c.right (ap (λ (x : View C R). x.combiner.has_object) m.3)
         | inr m ↦ elim m.1 [
           | inl e ↦ no-object s (length (set s.views c.id c.left)) c.right (ap (λ (x : View C R). x.combiner.has_object) e)
           | inr e ↦ no-object s (length (set s.views c.id c.left)) c.right (ap (λ (x : View C R). x.combiner.has_object) e)
@@ -104,14 +104,14 @@ module _ {O C R : Type 0} {obj : Ghosts O C R} where
     where
       go : (p : IsOrderly obj t) → p.history ≡ r.records.history
       go p = (subst (λ (x : BoardState O C R). (p : IsOrderly obj x) → p.history ≡ r.records.history) (sym c.is)
-          (λ p. unchanged s r.records c.at c.put c.id c.first c.second c.before c.after c.act p c.seated c.out c.valid c.carried name other direct c.asked c.told)) p
+          (λ p. unchanged s r.records c.at c.put c.id c.first c.second c.before c.after c.act p c.seated c.valid c.carried name other direct c.asked c.told)) p
 
   pub step-joins : (s t : BoardState O C R) → IsRuled obj s → IsRuled obj t → IsStep obj answer_record s t → (e : Entry C R) × IsAppended obj s t e
   step-joins s t r q c =
       let o = r.records in
       let call = c.asked.1 in
       let e : Entry C R = entry c.before.0.combiner.hand call.0 (replied obj c.before.1) in
-      let w = waits-for s o c.at c.put c.id c.first c.second c.before c.after c.act (moved q.records) c.seated c.out c.valid c.carried call.0 call.1 in (
+      let w = waits-for s o c.at c.put c.id c.first c.second c.before c.after c.act (moved q.records) c.seated c.valid c.carried call.0 call.1 in (
         e,
         record {
           history = sym (is-history t q.records) ∙ (go q.records ∙ ap (λ (l : List (Entry C R)). l ++ e ∷ []) (is-history s o));
@@ -125,7 +125,7 @@ module _ {O C R : Type 0} {obj : Ghosts O C R} where
 
       go : (p : IsOrderly obj t) → p.history ≡ r.records.history ++ entry c.before.0.combiner.hand c.asked.1.0 (replied obj c.before.1) ∷ []
       go p = (subst (λ (x : BoardState O C R). (p : IsOrderly obj x) → p.history ≡ r.records.history ++ entry c.before.0.combiner.hand c.asked.1.0 (replied obj c.before.1) ∷ []) (sym c.is)
-          (λ p. joins s r.records c.at c.put c.id c.first c.second c.before c.after c.act p c.seated c.out c.valid c.carried c.asked.1.0 c.asked.0 c.asked.1.1 c.told.0)) p
+          (λ p. joins s r.records c.at c.put c.id c.first c.second c.before c.after c.act p c.seated c.valid c.carried c.asked.1.0 c.asked.0 c.asked.1.1 c.told.0)) p
 
   pub step-enters : (call : C) (reply : R) (s t : BoardState O C R) → IsRuled obj s → IsRuled obj t → IsStep obj (enter call reply) s t → (session : ℕ) × IsEnteredDirectly obj s t (entry session call reply)
   step-enters call reply s t r q c =
@@ -137,14 +137,14 @@ module _ {O C R : Type 0} {obj : Ghosts O C R} where
         m.number,
         record {
           history = sym (is-history t q.records) ∙ (go q.records ∙ ap (λ (l : List (Entry C R)). l ++ e ∷ []) (is-history s o));
-          combiner = names-combiner s o c.at c.put c.id c.first c.second c.before c.after c.act (moved q.records) c.seated c.out c.valid c.carried has;
+          combiner = names-combiner s o c.at c.put c.id c.first c.second c.before c.after c.act (moved q.records) c.seated c.valid c.carried has;
           still = subst (λ (x : BoardState O C R). word x 0 ≡ m.number) (sym c.is)
-              (still-names s o c.at c.put c.id c.first c.second c.before c.after c.act (moved q.records) c.seated c.out c.valid c.carried call reply has c.told.0);
+              (still-names s o c.at c.put c.id c.first c.second c.before c.after c.act (moved q.records) c.seated c.valid c.carried call reply has c.told.0);
           answers = m.own.collected;
-          before = seated-before s o c.at c.put c.id c.first c.second c.before c.after c.act (moved q.records) c.seated c.out c.valid c.carried has none;
+          before = seated-before s o c.at c.put c.id c.first c.second c.before c.after c.act (moved q.records) c.seated c.valid c.carried has none;
           after = subst (λ (l : List (Entry C R)). IsSeated t m.number (m.own.collected ++ answer (length l) call reply ∷ []) None) (is-history s o)
               (subst (λ (x : BoardState O C R). IsSeated x m.number (m.own.collected ++ answer (length o.history) call reply ∷ []) None) (sym c.is)
-              (seated-after s o c.at c.put c.id c.first c.second c.before c.after c.act (moved q.records) c.seated c.out c.valid c.carried call reply has none c.told.0));
+              (seated-after s o c.at c.put c.id c.first c.second c.before c.after c.act (moved q.records) c.seated c.valid c.carried call reply has none c.told.0));
         },
       )
     where
@@ -153,7 +153,7 @@ module _ {O C R : Type 0} {obj : Ghosts O C R} where
 
       go : (p : IsOrderly obj t) → p.history ≡ r.records.history ++ entry c.before.0.number call reply ∷ []
       go p = (subst (λ (x : BoardState O C R). (p : IsOrderly obj x) → p.history ≡ r.records.history ++ entry c.before.0.number call reply ∷ []) (sym c.is)
-          (λ p. enters-history s r.records c.at c.put c.id c.first c.second c.before c.after c.act p c.seated c.out c.valid c.carried call reply c.asked.1 c.told.0)) p
+          (λ p. enters-history s r.records c.at c.put c.id c.first c.second c.before c.after c.act p c.seated c.valid c.carried call reply c.asked.1 c.told.0)) p
 
 module _ {C R : Type 0} where
   pub is-answer : (name : StepName C R) → (name ≡ answer_record) ⊎ (name ≢ answer_record)

@@ -1,5 +1,5 @@
 -- The kinds of step of a combiner on a record keep the rule: look at record, open, lay, pick, answer and put back.
-use Rattle.std.proofs.Common.{◌≡◌, ◌≢◌, ℕ, ◌+◌, ◌^◌, ◌<◌, ◌≤◌, Bool, true, eqb, Option, Some, None, List, [], ◌∷◌, ◌++◌, length, get_or, set, sym, refl, ap, ◌∙◌, subst, arith, length-append, length-set, get_or-set_other, get_or-set_same}
+use Rattle.std.proofs.Common.{◌≡◌, ◌≢◌, inl, inr, ℕ, ◌+◌, ◌^◌, ◌<◌, ◌≤◌, Bool, true, eqb, Option, Some, None, List, [], ◌∷◌, ◌++◌, length, get_or, set, sym, refl, ap, ◌∙◌, subst, arith, length-append, length-set, get_or-set_other, get_or-set_same}
 use mathlib.Core.Option as opt
 use mathlib.Core.Logic.{dite}
 use native.Mathlib.Decide.{ℕ_discrete}
@@ -80,6 +80,7 @@ module _ {O C R : Type 0} {obj : Ghosts O C R} where
       stands = stands;
       grow = λ k w a u ne t. t;
       pieces = refl;
+      entered = inl refl;
     }
 
     own_is : v.own ≡ own_at o.owns i
@@ -300,6 +301,7 @@ module _ {O C R : Type 0} {obj : Ghosts O C R} where
           stands = served_now;
           grow = λ k w a u ne t. subst (λ (f : List (Entry C R)). RecordState f k w a u) (sym longer_is) (grown o.history k j call reply ne t);
           pieces = refl;
+          entered = inr (entry j call reply, longer_is, record { some = omega (arith, some_record); within = omega (arith, few, o.in_time.sessions_are) });
         }
 
         call_is : call_at obj v j ≡ call

@@ -89,7 +89,7 @@ module _ {O C R : Type 0} where
 module _ {C R : Type 0} where
   -- What a session knows of its calls once it has left.
   abbrev pub left : Own C R → Own C R
-  left o = record { started = false; retired = o.retired; pending = None; collected = o.collected; listed = o.listed }
+  left o = record { started = false; retired = o.retired; pending = None; collected = o.collected; listed = o.listed; log = o.log }
 
   -- The record of a session with no call pending isn't BUSY; its state stays the same once its slot is home; and all
   -- its calls in the history are collected.
@@ -230,7 +230,7 @@ module _ {O C R : Type 0} where
 
   -- The state of a record doesn't depend on whether the call was listed.
   pub stands_listed : {h : List (Entry C R)} {i w : ℕ} {at : opt.Option (SlotValue O C R)} {o : Own C R} (b : Bool) → RecordState h i w at o
-      → RecordState h i w at (record { started = o.started; retired = o.retired; pending = o.pending; collected = o.collected; listed = b })
+      → RecordState h i w at (record { started = o.started; retired = o.retired; pending = o.pending; collected = o.collected; listed = b; log = o.log })
   stands_listed b (vacant t) = vacant record { is = t.is; none = t.none; out = t.out; empty_slot = t.empty_slot; publishes = t.publishes; calls = t.calls }
   stands_listed b (posted call floor t) = posted call floor record { is = t.is; some = t.some; asked = t.asked; early = t.early; publishes = t.publishes; calls = t.calls }
   stands_listed b (busy call floor t) = busy call floor record { is = t.is; some = t.some; early = t.early; publishes = t.publishes; calls = t.calls }

@@ -1,6 +1,6 @@
 -- The kinds of step of a session on its own record keep the rule: start, post, look for reply, take, retire and
 -- leave.
-use Rattle.std.proofs.Common.{◌≡◌, ◌≢◌, ◌⊎◌, inl, inr, ⊎_elim, ℕ, zero, suc, ◌+◌, ◌<◌, ◌≤◌, ◌==◌, max, cond, Bool, true, false, Some, None, List, [], ◌∷◌, ◌++◌, length, get_or, set, take, sym, refl, ap, ◌∙◌, subst, arith, length-append, length-set, eqb, is_some, get_or-set_other, get_or-set_same}
+use Rattle.std.proofs.Common.{◌≡◌, ◌≢◌, ◌⊎◌, inl, inr, ⊎_elim, ℕ, zero, suc, ◌+◌, ◌<◌, ◌≤◌, ◌==◌, max, cond, Bool, true, false, Option, Some, None, List, [], ◌∷◌, ◌++◌, length, get_or, set, take, sym, refl, ap, ◌∙◌, subst, arith, length-append, length-set, eqb, is_some, get_or-set_other, get_or-set_same}
 use Rattle.std.proofs.lemmas.List.{set-get_or}
 use Rattle.std.proofs.Math.Seq.{take-length}
 use mathlib.Core.Option as opt
@@ -10,9 +10,10 @@ use Rattle.atomic_table.specs.Table.{Act, keeps, takes, gives, Valid, carried_af
 use Rattle.atomic_table.proofs.Lists.{exchanged, set_again}
 use Rattle.sequential.specs.declared.entry.Entry.{Entry}
 use Rattle.sequential.specs.Histories.{Answered, calls_of}
+use Rattle.sequential.specs.Linearizable.{Event, invocation, response}
 use Rattle.publication.specs.Words.{word_of, OUT, POSTED, SERVED, CLOSED, EMPTY}
 use Rattle.publication.specs.Views.{Own, entry, answer, asks}
-use Rattle.publication.specs.Rule.{blank, BoardState, word, home, seat, own_at, announced, IsVacant, IsServed, RecordState, IsOrderly}
+use Rattle.publication.specs.Rule.{blank, BoardState, word, home, seat, own_at, announced, IsVacant, IsServed, RecordState, call_of, IsOrderly}
 use Rattle.publication.specs.Rule.RecordState.{vacant, posted, retired}
 use Rattle.publication.specs.List.{belongs, IsLinked, IsRuled, IsBounded}
 use Rattle.publication.specs.Kinds.{Seated, own, as_session, forget_head, heard_all, started, starts, posting, posts, IsUnanswered, looks_for_reply, taking, Took, takes_reply, retiring, retires, leaving, leaves}
@@ -26,6 +27,7 @@ use Rattle.publication.proofs.RecordStates.{vacant_word, at_most_one, is_vacant,
 use Rattle.publication.proofs.LaidDown.{Fits, valid_of, stays_home}
 use Rattle.publication.proofs.UnchangedList.{links_kept, aside, same_walk}
 use Rattle.publication.proofs.OrderlySession.{IsOwnStep, moved}
+use Rattle.publication.proofs.InTime.{same_known, invokes, responds}
 use Rattle.sequential.specs.Meaning.{AreFrontsLegal}
 use Rattle.sequential.specs.declared.object.Sequential.{Ghosts}
 
@@ -137,7 +139,7 @@ module _ {O C R : Type 0} {obj : Ghosts O C R} where
     -- start
 
     start_step : IsVacant o.history i (word s i) (home s i) v.own
-        → IsOwnStep s o i v (word s i) opt.none v.front (own None v.own.collected v.own.listed) v.heard (forget_head v.listing) me some_number small lives
+        → IsOwnStep s o i v (word s i) opt.none v.front (own None v.own.collected v.own.listed v.own.log) v.heard (forget_head v.listing) me some_number small lives
     start_step t = record {
       more = omega (arith, idle_announced v.own t.none);
       hears = λ j ne. refl;
@@ -147,6 +149,7 @@ module _ {O C R : Type 0} {obj : Ghosts O C R} where
       begins = front_of s o i v me;
       whole = whole_of s o i v me;
       stands = vacant record { is = t.is; none = refl; out = λ _. refl; empty_slot = λ e. absurd (cc e); publishes = refl; calls = t.calls };
+      noted = inl (refl, same_known v.own (own None v.own.collected v.own.listed v.own.log) refl (sym t.none));
     }
 
     start_goes : (more : List (ℕ × SlotValue O C R)) → v.own.started ≡ false → IsVacant o.history i (word s i) (home s i) v.own
@@ -156,17 +159,21 @@ module _ {O C R : Type 0} {obj : Ghosts O C R} where
       takes i Empty,
       at_home s.homes i Empty (t.empty_slot unstarted),
       record {
-        records = moved s o i v (word s i) opt.none v.front (own None v.own.collected v.own.listed) v.heard (forget_head v.listing) me some_number small lives (start_step t);
-        list = still_listed (word s i) opt.none v.front (own None v.own.collected v.own.listed) v.heard (λ b is. is);
+        records = moved s o i v (word s i) opt.none v.front (own None v.own.collected v.own.listed v.own.log) v.heard (forget_head v.listing) me some_number small lives (start_step t);
+        list = still_listed (word s i) opt.none v.front (own None v.own.collected v.own.listed v.own.log) v.heard (λ b is. is);
       },
       ap (λ (k : ℕ). (started v, (k, Empty) ∷ more)) (sym is),
     )
 
     -- post
 
+    -- The session's events after post.
+    abbrev log_posted : C → List (ℕ × Event C R)
+    log_posted call = v.own.log ++ (length o.in_time.events, invocation v.number call) ∷ []
+
     -- The session's own calls after post.
     abbrev own_posted : C → Bool → Own C R
-    own_posted call listed = own (Some (asks call (length v.front))) v.own.collected listed
+    own_posted call listed = own (Some (asks call (length v.front))) v.own.collected listed (log_posted call)
 
     -- The heard counts after post.
     abbrev heard_posted : Bool → List ℕ
@@ -202,6 +209,7 @@ module _ {O C R : Type 0} {obj : Ghosts O C R} where
       begins = front_of s o i v me;
       whole = whole_of s o i v me;
       stands = posted call (length v.front) record { is = refl; some = refl; asked = refl; early = length-begins v.front o.history (front_of s o i v me); publishes = refl; calls = t.calls };
+      noted = inr (invokes o.history o.slots o.owns o.in_time i v.own (own_posted call b) own_is some_number small v.number is call t.none refl refl refl);
     }
 
     -- The record of a posted call has to be on the list exactly if it had to before.
@@ -213,7 +221,7 @@ module _ {O C R : Type 0} {obj : Ghosts O C R} where
     post_goes : (call : C) (more : List (ℕ × SlotValue O C R)) → IsVacant o.history i (word s i) (home s i) v.own
         → Goes obj s i i (v, (i, PostedCall call) ∷ more) (posts obj (step o.slots (word_of i) POSTED 0 opt.none) (v, (i, PostedCall call) ∷ more)) POSTED
     post_goes call more t = (
-      posting v call (word s i == EMPTY),
+      posting v (log_posted call) call (word s i == EMPTY),
       gives,
       tt,
       record {
@@ -221,7 +229,7 @@ module _ {O C R : Type 0} {obj : Ghosts O C R} where
             (post_step call (word s i == EMPTY) t);
         list = still_listed POSTED (opt.some (PostedCall call)) v.front (own_posted call (word s i == EMPTY)) (heard_posted (word s i == EMPTY)) (posted_claims (word s i) t.is);
       },
-      refl,
+      (refl, (length o.in_time.events, refl)),
     )
 
     -- look for reply
@@ -260,9 +268,13 @@ module _ {O C R : Type 0} {obj : Ghosts O C R} where
       abbrev collected : List (Answered C R)
       collected = v.own.collected ++ answer place call reply ∷ []
 
+      -- The session's events after take.
+      abbrev log_taken : List (ℕ × Event C R)
+      log_taken = v.own.log ++ (length o.in_time.events, response v.number reply) ∷ []
+
       -- The session's own calls after take.
       abbrev own_taken : Own C R
-      own_taken = record { started = true; retired = v.own.retired; pending = None; collected = collected; listed = v.own.listed }
+      own_taken = record { started = true; retired = v.own.retired; pending = None; collected = collected; listed = v.own.listed; log = log_taken }
 
       stands_there : place < length o.history
       stands_there = (at_there o.history place (entry i call reply) (entry 0 obj.any_call obj.any_reply) f.stands).1
@@ -297,12 +309,13 @@ module _ {O C R : Type 0} {obj : Ghosts O C R} where
         begins = cut_off.front;
         whole = λ has. let e : known ≡ length o.history = omega (arith, stands_there, ap (λ (l : List (Entry C R)). length l) (whole_of s o i v me has)) in rw e (take-length o.history);
         stands = vacant record { is = left_vacant b; none = refl; out = λ _. refl; empty_slot = λ e. absurd (cc e); publishes = f.publishes; calls = f.calls };
+        noted = inr (responds o.history o.slots o.owns o.in_time i v.own own_taken own_is some_number small v.number is call place reply (ap {B = Option C} call_of f.some) refl refl refl);
       }
 
       take_won : AreFrontsLegal obj → (more : List (ℕ × SlotValue O C R)) → word s i ≡ SERVED
           → Goes obj s i i (v, more) (takes_reply obj (step o.slots (word_of i) SERVED (left_word v.own.listed) opt.none) (v, more)) (left_word v.own.listed)
       take_won fronts more hit = (
-        taking v front call place reply,
+        taking v log_taken front call place reply,
         takes i (ServedReply place reply),
         at_home s.homes i (ServedReply place reply) f.replied,
         record {
@@ -311,7 +324,7 @@ module _ {O C R : Type 0} {obj : Ghosts O C R} where
               (λ b e. subst (λ (n : ℕ). belongs n v.own.listed ≡ Some b) (sym hit) (sym (left_belongs v.own.listed v.own.listed) ∙ e));
         },
         (
-          (λ _. (place, reply, (call, floor, front, f.some, ap (λ (k : ℕ). (taking v front call place reply, (k, ServedReply place reply) ∷ more)) (sym is), took fronts))),
+          (λ _. (place, reply, (call, floor, front, f.some, ap (λ (k : ℕ). (taking v log_taken front call place reply, (k, ServedReply place reply) ∷ more)) (sym is), took fronts, (length o.in_time.events, refl)))),
           λ miss. absurd (miss hit),
         ),
       )
@@ -327,7 +340,7 @@ module _ {O C R : Type 0} {obj : Ghosts O C R} where
 
     -- The session's own calls after retire.
     abbrev own_retired : Own C R
-    own_retired = record { started = true; retired = true; pending = None; collected = v.own.collected; listed = v.own.listed }
+    own_retired = record { started = true; retired = true; pending = None; collected = v.own.collected; listed = v.own.listed; log = v.own.log }
 
     retire_step : v.own.started ≡ true → IsVacant o.history i (word s i) (home s i) v.own
         → IsOwnStep s o i v CLOSED (home s i) v.front own_retired v.heard (forget_head v.listing) me some_number small lives
@@ -340,6 +353,7 @@ module _ {O C R : Type 0} {obj : Ghosts O C R} where
       begins = front_of s o i v me;
       whole = whole_of s o i v me;
       stands = retired record { is = refl; none = refl; out = λ _. t.out has_started; empty_slot = λ e. absurd (cc e); retired = refl; calls = t.calls };
+      noted = inl (refl, same_known v.own own_retired refl (sym t.none));
     }
 
     retire_goes : (more : List (ℕ × SlotValue O C R)) → v.own.started ≡ true → IsVacant o.history i (word s i) (home s i) v.own
@@ -368,6 +382,7 @@ module _ {O C R : Type 0} {obj : Ghosts O C R} where
       begins = front_of s o i v me;
       whole = whole_of s o i v me;
       stands = t.stands;
+      noted = inl (refl, same_known v.own (left v.own) refl (sym none));
     }
 
     leave_goes : (more : List (ℕ × SlotValue O C R)) → v.own.pending ≡ None

@@ -10,7 +10,7 @@ use Rattle.sequential.specs.Histories.{Answered}
 use Rattle.publication.specs.Words.{FREE, POSTED, SERVED, CLOSED, EMPTY}
 use Rattle.publication.specs.Views.{Pending, Handed, answer}
 use Rattle.publication.specs.Rule.{blank, BoardState, seat}
-use Rattle.publication.specs.Kinds.{Seated, copy_of, joined, handed_in, gathered}
+use Rattle.publication.specs.Kinds.{Seated, joined, handed_in, gathered}
 use Rattle.publication.specs.Collected.{IsSeated, IsHandedIn, HasCollected}
 use Rattle.publication.specs.Runs.{StepName, start, post, look_at_head, link, enlist, look_for_reply, take_reply, look_at_lock, seize, release, walk, walk_on, unlink, mark_out, relink, look_at_record, open_record, lay, pick, answer_record, put_back, enter, learn, compare, retire, leave, kind_of, IsStep, IsSeatSplit, IsSeatJoin, IsMove, IsRun, stop, move}
 use Rattle.publication.specs.declared.view.View.{View}
@@ -63,7 +63,7 @@ module _ {O C R : Type 0} where
     module _ (obj : Ghosts O C R) where
       pub follows : (name : StepName C R) (slots at first second found : ℕ) → kind_of obj name (step slots at first second opt.none) m found n → Follows m.0 n.0
       follows start slots at first second found told = calmly _ _ told refl refl refl
-      follows post slots at first second found told = calmly _ _ told refl refl refl
+      follows post slots at first second found told = calmly _ _ told.0 refl refl refl
       follows look_at_head slots at first second found told = same told.0
       follows link slots at first second found told = calmly _ _ told refl refl refl
       follows enlist slots at first second found told = dite (ℕ_discrete found first) (λ e. calmly _ _ (told.0 e) refl refl refl) (λ ne. calmly _ _ (told.1 ne).0 refl refl refl)
@@ -158,7 +158,7 @@ module _ {O C R : Type 0} where
       where
         left : Follows c.view c.left
         left = elim c.cut [
-          | inl m ↦ nobody c.view c.left (ap (λ (x : View C R). x.number) m.0) (ap (λ (x : View C R). x.others.handed) m.0)
+          | inl m ↦ nobody c.view c.left m.0 m.1
           | inr m ↦ subst (Follows c.view) (sym m.0) (itself c.view)
         ]
 
@@ -186,10 +186,10 @@ module _ {O C R : Type 0} where
       me_after : seat t c.id ≡ c.both
       me_after = each (λ k x. k ≡ c.id → x ≡ c.both) (λ _. refl) (λ e. absurd (c.apart e)) (λ k ne e. absurd (ne e)) c.id refl
 
-      joined-on : c.both ≡ joined c.view c.theirs → c.theirs ≡ copy_of c.theirs → GoesOn t i a
-      joined-on is copies = each-on s t i a p (each (λ k x. Follows (seat s k) x)
+      joined-on : c.both ≡ joined c.view c.theirs → c.theirs.number ≡ 0 → c.theirs.others.handed ≡ [] → GoesOn t i a
+      joined-on is none empty = each-on s t i a p (each (λ k x. Follows (seat s k) x)
           (subst (λ (v : View C R). Follows v c.both) (sym is_me) (subst (Follows c.view) (sym is) (like c.view (joined c.view c.theirs) refl refl refl)))
-          (subst (λ (v : View C R). Follows v blank) (sym is_other) (nobody c.theirs blank (ap (λ (x : View C R). x.number) copies) (ap (λ (x : View C R). x.others.handed) copies)))
+          (subst (λ (v : View C R). Follows v blank) (sym is_other) (nobody c.theirs blank none empty))
           (λ k ne. itself (seat s k))) has
 
       gathered-on : c.both ≡ gathered c.view c.theirs → c.theirs.others.handed ≡ [] → GoesOn t i a
@@ -230,7 +230,7 @@ module _ {O C R : Type 0} where
 
       taken-on : GoesOn t i a
       taken-on = elim c.join [
-        | inl m ↦ joined-on m.0 m.1
+        | inl m ↦ joined-on m.0 m.1 m.2
         | inr m ↦ gathered-on m.0 m.2
       ]
 

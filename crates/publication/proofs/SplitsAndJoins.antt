@@ -1,13 +1,15 @@
 -- The splits and joins by which one seat learns what another knows keep the rule.
-use Rattle.std.proofs.Common.{◌≡◌, ◌≢◌, ◌⊎◌, inl, inr, ⊎_elim, ℕ, ◌+◌, ◌<◌, ◌≤◌, ◌||◌, Bool, true, false, Some, None, List, [], ◌∷◌, ◌++◌, length, get_or, set, sym, refl, ap, ◌∙◌, subst, arith, length-set, length-append, get_or-set_same}
+use Rattle.std.proofs.Common.{◌≡◌, ◌≢◌, ◌⊎◌, inl, inr, ⊎_elim, ℕ, ◌+◌, ◌<◌, ◌≤◌, ◌||◌, Bool, true, false, Some, None, List, [], ◌∷◌, ◌++◌, length, map, get_or, set, sym, refl, ap, ◌∙◌, subst, arith, length-set, length-append, get_or-set_same}
+use Rattle.std.proofs.lemmas.List.{map-append}
 use mathlib.Core.Option as opt
 use mathlib.Core.List.{IsPrefix}
 use lib.ListN.{get_elem?}
 use Rattle.atomic_table.specs.Table.{Splits, Joins}
 use Rattle.sequential.specs.declared.entry.Entry.{Entry}
+use Rattle.sequential.specs.Linearizable.{Event}
 use Rattle.publication.specs.Pieces.{pieces_of}
 use Rattle.publication.specs.Views.{Own, Handed, Others}
-use Rattle.publication.specs.Rule.{blank, BoardState, word, home, seat, own_at, announced, RecordState, IsSession, IsMaker, IsHanded, AreTrue, HasPieces, IsOrderly}
+use Rattle.publication.specs.Rule.{blank, BoardState, word, home, seat, own_at, announced, RecordState, IsSession, IsMaker, IsHanded, AreTrue, HasPieces, ArePresent, IsOrderly}
 use Rattle.publication.specs.List.{belongs, IsLinked, IsRuled}
 use Rattle.publication.specs.Kinds.{copy_with, copy_of, front_copy_of, as_hearer, joined, handed_in, gathered}
 use Rattle.publication.specs.declared.view.View.{View}
@@ -16,6 +18,7 @@ use Rattle.publication.proofs.Lists.{at_there, at_pushed, each_set, each_snoc, p
 use Rattle.publication.proofs.SeatViews.{seat_of, session_of, front_of, heard_few, object_of, whole_of, pieces_of_seat}
 use Rattle.publication.proofs.Others.{StaysGone}
 use Rattle.publication.proofs.Pieces.{knows_none}
+use Rattle.publication.proofs.Present.{IsAlike, present_kept, present_more, present_gathered}
 use Rattle.publication.proofs.LongerFronts.{maxes-at}
 use Rattle.publication.proofs.NewBoards.{told_nothing}
 use Rattle.publication.proofs.ChangedViews.{viewed, Sits, sits-same, sits-others, reviewed}
@@ -60,9 +63,10 @@ module _ {O C R : Type 0} {obj : Ghosts O C R} where
 
     -- A seat that learns a front of the history, and heard counts not above what was announced, keeps the rule of the
     -- records.
-    pub learned : IsPrefix front o.history → (v.combiner.has_object ≡ true → front ≡ o.history) → ((j : ℕ) → get_or heard j 0 ≤ announced (own_at o.owns j))
+    pub learned : others.handed ≡ v.others.handed → IsPrefix front o.history → (v.combiner.has_object ≡ true → front ≡ o.history) → ((j : ℕ) → get_or heard j 0 ≤ announced (own_at o.owns j))
         → AreTrue o.history (viewed s o (set s.views id u)) o.slots o.owns others → KnowsPieces → IsOrderly obj (viewed s o (set s.views id u))
-    learned begins whole hears tells took =
+    learned same begins whole hears tells took =
+        let kept : others.handed ≡ (seat s id).others.handed = same ∙ ap (λ (x : View C R). x.others.handed) (sym is_me) in
         let vs : List (View C R) = set s.views id u in
         let sits : id < length s.views = (at_there s.views id v blank me).1 in
         let long : length vs ≡ length s.views = length-set s.views id u in
@@ -72,6 +76,7 @@ module _ {O C R : Type 0} {obj : Ghosts O C R} where
         (λ e. makes_on o.slots (length s.views) v front heard others (subst (λ (x : View C R). IsMaker o.slots (length s.views) x) (ap (seat s) (sym e) ∙ is_me) o.makes))
         (λ j ne e. subst (λ (i : ℕ). IsMaker o.slots (length s.views) (seat s i)) (sym e) o.makes) 0 refl))
         (each_set s.views id u blank (Sits s o vs) sits (sits_here vs begins whole hears tells took) (λ k ne. sits-same s o vs (omega arith) gone k))
+        (present_kept o.slots s (viewed s o vs) long (each_set s.views id u blank (λ j x. IsAlike (seat s j) x) sits (ap (λ (x : View C R). x.number) (sym is_me), kept) (λ j ne. (refl, refl))) o.present)
 
     -- It also takes in seat `other`, which ends.
     module _ (other : ℕ) (w : View C R) (apart_from : ¬ (other ≡ id)) (with : get_elem? (set s.views id u) other ≡ opt.some w) where
@@ -94,7 +99,7 @@ module _ {O C R : Type 0} {obj : Ghosts O C R} where
       pub long_joint : length joint ≡ length s.views
       long_joint = length-set (set s.views id u) other blank ∙ length-set s.views id u
 
-      each : (P : ℕ → View C R → Type 0) → P other blank → P id u → ((j : ℕ) → j ≢ id → j ≢ other → P j (seat s j)) → (j : ℕ) → P j (get_or joint j blank)
+      pub each : (P : ℕ → View C R → Type 0) → P other blank → P id u → ((j : ℕ) → j ≢ id → j ≢ other → P j (seat s j)) → (j : ℕ) → P j (get_or joint j blank)
       each P left here else = each_set (set s.views id u) other blank blank P sits_other left
           (λ j not_other. each_set s.views id u blank (λ i x. i ≢ other → P i x) (at_there s.views id v blank me).1 (λ _. here) (λ i not_me not_o. else i not_me not_o) j not_other)
 
@@ -104,8 +109,8 @@ module _ {O C R : Type 0} {obj : Ghosts O C R} where
 
       -- The join keeps the rule of the records.
       pub merged : other ≢ 0 → w.own.pending ≡ None → w.combiner.has_object ≡ false → IsPrefix front o.history → (v.combiner.has_object ≡ true → front ≡ o.history) → ((j : ℕ) → get_or heard j 0 ≤ announced (own_at o.owns j))
-          → AreTrue o.history (viewed s o joint) o.slots o.owns others → KnowsPieces → IsOrderly obj (viewed s o joint)
-      merged not_first settled no_object begins whole hears tells took =
+          → AreTrue o.history (viewed s o joint) o.slots o.owns others → KnowsPieces → ArePresent o.slots (viewed s o joint) → IsOrderly obj (viewed s o joint)
+      merged not_first settled no_object begins whole hears tells took present =
           let long = long_joint in
           reviewed s o joint (omega arith)
           (subst (λ (n : ℕ). IsMaker o.slots n (get_or joint 0 blank)) (sym long) (each (λ j x. j ≡ 0 → IsMaker o.slots (length s.views) x) (λ e. absurd (not_first e))
@@ -123,6 +128,7 @@ module _ {O C R : Type 0} {obj : Ghosts O C R} where
             pieces = knows_none o.pieces.all blank refl refl refl;
           })
           (sits_here joint begins whole hears tells took) (λ k a b. sits-same s o joint (omega arith) gone_joint k))
+          present
 
 module _ {O C R : Type 0} where
   -- A seat that learns doesn't change the publication list.
@@ -155,8 +161,8 @@ either_of false b e = inr e
 
 module _ {O C R : Type 0} {obj : Ghosts O C R} where
   -- Join copy: a copy of what another seat knows is joined in.
-  pub joins_copy : (id : ℕ) (v : View C R) (other : ℕ) (w : View C R) → w.number ≡ 0 → w.slots ≡ 0 → w.combiner.has_object ≡ false → (w.own.pending ≡ None) × (w.own.listed ≡ false) → Joins (IsRuled obj) id v other w (joined v w) blank
-  joins_copy id v other w no_number no_slots no_object idle s r me apart_from with =
+  pub joins_copy : (id : ℕ) (v : View C R) (other : ℕ) (w : View C R) → w.number ≡ 0 → w.others.handed ≡ [] → w.slots ≡ 0 → w.combiner.has_object ≡ false → (w.own.pending ≡ None) × (w.own.listed ≡ false) → Joins (IsRuled obj) id v other w (joined v w) blank
+  joins_copy id v other w no_number none_handed no_slots no_object idle s r me apart_from with =
       let o = r.records in
       let k : Others C R = (joined v w).others in
       let hs : List ℕ = (joined v w).heard in
@@ -176,15 +182,20 @@ module _ {O C R : Type 0} {obj : Ghosts O C R} where
               all_made = λ is. ⊎_elim was.all_made theirs.all_made (either_of v.others.all_made w.others.all_made is);
               beside = subst (λ (x : View C R). IsPrefix x.front o.history) w_is (o.fronts other);
               handed = was.handed;
+              logged = was.logged;
             })
-            (pieces_of_seat s o id v me).handed;
+            (pieces_of_seat s o id v me).handed
+            (present_kept o.slots s (viewed s o vs) long
+            (each s o id v v.front hs k me other w apart_from with (λ j x. IsAlike (seat s j) x)
+            (sym (ap (λ (x : View C R). x.number) w_is ∙ no_number), sym (ap (λ (x : View C R). x.others.handed) w_is ∙ none_handed))
+            (ap (λ (x : View C R). x.number) (sym (seat_of s o id v me)), ap (λ (x : View C R). x.others.handed) (sym (seat_of s o id v me))) (λ j a b. (refl, refl))) o.present);
         list = merged_listed s r.list id v v.front hs k other w me with (λ b some is.
             ap (λ (y : View C R). belongs (word s other) y.own.listed) w_is ∙ (ap (λ (y : Bool). belongs (word s other) y) idle.1 ∙ is));
       }
 
   -- Gather: the seat of a session is joined in.
-  pub gathers : (id : ℕ) (v : View C R) (other : ℕ) (w : View C R) → w.number ≢ 0 → w.own.pending ≡ None → w.combiner.has_object ≡ false → Joins (IsRuled obj) id v other w (gathered v w) blank
-  gathers id v other w some_number settled no_object s r me apart_from with =
+  pub gathers : (id : ℕ) (v : View C R) (other : ℕ) (w : View C R) → v.number ≡ 0 → w.number ≢ 0 → w.own.pending ≡ None → w.combiner.has_object ≡ false → Joins (IsRuled obj) id v other w (gathered v w) blank
+  gathers id v other w no_number some_number settled no_object s r me apart_from with =
       let o = r.records in
       let k : Others C R = (gathered v w).others in
       let w_is : seat s other ≡ w = is_other s o id v v.front v.heard k me other w apart_from with in
@@ -203,6 +214,10 @@ module _ {O C R : Type 0} {obj : Ghosts O C R} where
         collected = ap (λ x. x.collected) own_is;
         begins = subst (λ (x : View C R). IsPrefix x.front o.history) w_is (o.fronts other);
       } in
+      let v_is : seat s id ≡ v = seat_of s o id v me in
+      let seats = each s o id v v.front v.heard k me other w apart_from with in
+      let mine : get_or vs id blank ≡ gathered v w = seats (λ j x. j ≡ id → x ≡ gathered v w) (λ e. absurd (apart_from e)) (λ _. refl) (λ j a b e. absurd (a e)) id refl in
+      let theirs : get_or vs other blank ≡ blank = seats (λ j x. j ≡ other → x ≡ blank) (λ _. refl) (λ e. absurd (apart_from (sym e))) (λ j a b e. absurd (b e)) other refl in
       let took_now : w.pieces.own ≡ pieces_of w.number o.pieces.all = (subst (HasPieces o.pieces.all) w_is (o.pieces.seats other)).own some_number in
       let stands : RecordState o.history other (word s other) (home s other) w.own = subst (λ (y : Own C R). RecordState o.history other (word s other) (home s other) y) (sym t.own_is) (o.stands other (omega (arith, t.is)) t.small) in
       record {
@@ -214,8 +229,19 @@ module _ {O C R : Type 0} {obj : Ghosts O C R} where
               all_made = was.all_made;
               beside = was.beside;
               handed = λ p x at. ⊎_elim (was.handed p x) (λ new. subst (IsHanded o.history (viewed s o vs) o.slots o.owns) new now) (at_pushed v.others.handed (handed_in w) p x at);
+              logged = ap (λ (l : List (ℕ × List (ℕ × Event C R))). l ++ (w.number, w.own.log) ∷ []) was.logged
+                  ∙ (ap (λ (y : Own C R). map (λ (x : Handed C R). (x.number, (own_at o.owns x.number).log)) v.others.handed ++ (w.number, y.log) ∷ []) (sym own_is)
+                  ∙ sym (map-append (λ (x : Handed C R). (x.number, (own_at o.owns x.number).log)) v.others.handed (handed_in w ∷ [])));
             })
-            (λ p x at. ⊎_elim ((pieces_of_seat s o id v me).handed p x) (λ new. subst (λ (y : Handed C R). y.pieces ≡ pieces_of y.number o.pieces.all) new took_now) (at_pushed v.others.handed (handed_in w) p x at));
+            (λ p x at. ⊎_elim ((pieces_of_seat s o id v me).handed p x) (λ new. subst (λ (y : Handed C R). y.pieces ≡ pieces_of y.number o.pieces.all) new took_now) (at_pushed v.others.handed (handed_in w) p x at))
+            (present_gathered o.slots s (viewed s o vs) id other (handed_in w) (ap (λ (x : View C R). x.number) w_is ∙ t.is) t.is
+            (ap (λ (x : View C R). x.number) mine ∙ no_number) (ap (λ (x : View C R). x.number) v_is ∙ no_number) (ap (λ (x : View C R). x.others.handed) theirs)
+            (ap (λ (x : View C R). x.others.handed) mine ∙ ap (λ (x : View C R). x.others.handed ++ handed_in w ∷ []) (sym v_is))
+            (λ j a b. seats (λ i x. i ≢ id → i ≢ other → IsAlike (seat s i) x) (λ _ ne. absurd (ne refl)) (λ ne _. absurd (ne refl)) (λ i c d _ _. (refl, refl)) j a b)
+            (o.present.apart other (λ none. some_number (ap (λ (x : View C R). x.number) (sym w_is) ∙ none)))
+            apart_from
+            (λ j p y at e. some_number (ap (λ (x : View C R). x.number) (sym w_is) ∙ (ap (λ (i : ℕ). (seat s i).number) (sym e) ∙ ((o.others j).handed p y at).gone)))
+            long o.present);
         list = merged_listed s r.list id v v.front v.heard k other w me with (λ b some is.
             ap (λ (y : View C R). belongs (word s other) y.own.listed) w_is ∙ idle_belongs stands settled false w.own.listed b is);
       }
@@ -245,7 +271,9 @@ module _ {O C R : Type 0} {obj : Ghosts O C R} where
               combiner = inr (ap (λ (x : View C R). x.combiner.has_object) (past_end s.views blank), refl);
               pieces = knows_none o.pieces.all b refl refl refl;
             })
-            (sits-same s o vs (omega arith) gone));
+            (sits-same s o vs (omega arith) gone))
+            (present_more o.slots s (viewed s o vs) long (λ j ne. each (λ i x. i ≢ length s.views → IsAlike (seat s i) x) (λ z. absurd (z refl)) (λ i _. (refl, refl)) j ne)
+            (ap (λ (x : View C R). x.others.handed) (newest s.views b)) (λ few. absurd (omega (arith, few, enough))) o.present);
         list = seen_listed s l vs (each (Keeps s (viewed_as s l vs) l)
             (unseated s l vs (length s.views) b (ap (λ (x : View C R). x.own.listed) (sym (past_end s.views blank))) refl refl)
             (λ j. same_seat s (viewed_as s l vs) l j (λ c some. refl)));
@@ -254,6 +282,10 @@ module _ {O C R : Type 0} {obj : Ghosts O C R} where
       first_kept : (l : List (View C R)) (b : View C R) → 0 < length l → get_or (l ++ b ∷ []) 0 blank ≡ get_or l 0 blank
       first_kept [] b h = absurd (omega arith)
       first_kept (x ∷ xs) b h = refl
+
+      newest : (l : List (View C R)) (b : View C R) → get_or (l ++ b ∷ []) (length l) blank ≡ b
+      newest [] b = refl
+      newest (x ∷ xs) b = newest xs b
 
   -- Split copy: a new seat has a copy of what the seat knows.
   pub splits_copy : (id : ℕ) (v : View C R) → v.others.all_made ≡ true → Splits (IsRuled obj) id v v (copy_of v)

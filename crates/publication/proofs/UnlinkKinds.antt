@@ -214,6 +214,7 @@ module _ {O C R : Type 0} {obj : Ghosts O C R} where
         stands = let t = is_empty (o.stands w some_off few) hit in vacant record { is = inr refl; none = t.none; out = t.out; empty_slot = t.empty_slot; publishes = t.publishes; calls = t.calls };
         grow = λ j x a y ne t. t;
         pieces = refl;
+        entered = inl refl;
       }
 
       mark_records : word s w ≡ EMPTY → IsOrderly obj marked_state

@@ -40,6 +40,7 @@ use Rattle.atomic_table.specs.Table.{Me, Step, rest}
 use Rattle.std.specs.Global.{Box}
 use Rattle.sequential.specs.declared.entry.Entry.{Entry}
 use Rattle.sequential.specs.Histories.{Answered, calls_of}
+use Rattle.sequential.specs.Linearizable.{Event, invocation, response}
 use Rattle.publication.specs.Words.{session_of_word, END, FREE, POSTED, SERVED, CLOSED, EMPTY}
 use Rattle.publication.specs.Pieces.{pieces_of, added}
 use Rattle.publication.specs.Views.{Pending, Own, Combiner, Listing, Handed, Others, Taken, IsAccountedIn, entry, answer, asks}
@@ -67,8 +68,8 @@ Kind O C R = Step (SlotValue O C R) → Outcome O C R
 
 module _ {C R : Type 0} where
   -- What a session that can publish knows of its own calls.
-  abbrev pub own : Option (Pending C) → List (Answered C R) → Bool → Own C R
-  own pending collected listed = record { started = true; retired = false; pending = pending; collected = collected; listed = listed }
+  abbrev pub own : Option (Pending C) → List (Answered C R) → Bool → List (ℕ × Event C R) → Own C R
+  own pending collected listed log = record { started = true; retired = false; pending = pending; collected = collected; listed = listed; log = log }
 
 module _ {C : Type 0} where
   -- The combiner's part of a view, after a step that puts no call back and enters none.
@@ -105,12 +106,17 @@ module _ {C R : Type 0} where
 
   -- The session owns its record's slot from now on.
   abbrev pub started : View C R → View C R
-  started v = as_session v v.front (own None v.own.collected v.own.listed) v.heard (forget_head v.listing)
+  started v = as_session v v.front (own None v.own.collected v.own.listed v.own.log) v.heard (forget_head v.listing)
 
 module _ {O C R : Type 0} where
   -- Start: the session takes its record's slot, which is empty.
   abbrev pub starts : Kind O C R
   starts st m found n = n ≡ (started m.0, (m.0.number, Empty) ∷ m.1)
+
+module _ {O C R : Type 0} where
+  -- The session notes an event of its own, at some moment. The rule says at which.
+  abbrev pub Notes : Seated O C R → Seated O C R → Event C R → Type 0
+  Notes m n event = (moment : ℕ) × (n.0.own.log ≡ m.0.own.log ++ (moment, event) ∷ [])
 
 module _ {O C R : Type 0} (obj : Ghosts O C R) where
   -- Post.
@@ -126,14 +132,14 @@ module _ {C R : Type 0} where
   heard_all v = slice_set v.heard v.number (length v.own.collected + 1)
 
   -- The call is pending, with the number of known entries as its floor. If the record was on the list, the call is
-  -- listed and heard.
-  abbrev pub posting : View C R → C → Bool → View C R
-  posting v call listed = as_session v v.front (own (Some (asks call (length v.front))) v.own.collected listed) (cond listed (heard_all v) v.heard) (forget_head v.listing)
+  -- listed and heard. The session's events are these then.
+  abbrev pub posting : View C R → List (ℕ × Event C R) → C → Bool → View C R
+  posting v log call listed = as_session v v.front (own (Some (asks call (length v.front))) v.own.collected listed log) (cond listed (heard_all v) v.heard) (forget_head v.listing)
 
 module _ {O C R : Type 0} (obj : Ghosts O C R) where
-  -- Post: the call in the slot is published. It is listed if the record was EMPTY.
+  -- Post: the call in the slot is published. It is listed if the record was EMPTY. This is the invocation.
   abbrev pub posts : Kind O C R
-  posts st m found n = n ≡ (posting m.0 (asked obj m.1) (found == EMPTY), rest m.1)
+  posts st m found n = (n ≡ (posting m.0 n.0.own.log (asked obj m.1) (found == EMPTY), rest m.1)) × Notes m n (invocation m.0.number (asked obj m.1))
 
 -- Enlist a record: put it at the head of the publication list.
 
@@ -163,7 +169,7 @@ module _ {C R : Type 0} where
 
   -- The exchange of the head word was won: one try more, and the pending call is listed and heard.
   abbrev pub enlisting : View C R → View C R
-  enlisting v = as_session v v.front (record { started = v.own.started; retired = v.own.retired; pending = v.own.pending; collected = v.own.collected; listed = true }) (heard_all v) (tried_head v.listing)
+  enlisting v = as_session v v.front (record { started = v.own.started; retired = v.own.retired; pending = v.own.pending; collected = v.own.collected; listed = true; log = v.own.log }) (heard_all v) (tried_head v.listing)
 
 module _ {O C R : Type 0} where
   -- Enlist: if the head word is still the head as seen, the record becomes the list's first; else the exchange is lost.
@@ -183,9 +189,9 @@ module _ {O C R : Type 0} where
   looks_for_reply st m found n = (n ≡ m) × (found ≢ SERVED → IsUnanswered m.0)
 
 module _ {C R : Type 0} where
-  -- The pending call is collected with its reply and place, and nothing is pending.
-  abbrev pub taking : View C R → List (Entry C R) → C → ℕ → R → View C R
-  taking v front call place reply = as_session v front (record { started = true; retired = v.own.retired; pending = None; collected = v.own.collected ++ answer place call reply ∷ []; listed = v.own.listed }) v.heard (forget_head v.listing)
+  -- The pending call is collected with its reply and place, and nothing is pending. The session's events are these then.
+  abbrev pub taking : View C R → List (ℕ × Event C R) → List (Entry C R) → C → ℕ → R → View C R
+  taking v log front call place reply = as_session v front (record { started = true; retired = v.own.retired; pending = None; collected = v.own.collected ++ answer place call reply ∷ []; listed = v.own.listed; log = log }) v.heard (forget_head v.listing)
 
 module _ {O C R : Type 0} (obj : Ghosts O C R) where
   -- What a session learns with a reply: a legal front of the history that continues the known one, and ends with the
@@ -202,11 +208,11 @@ module _ {O C R : Type 0} (obj : Ghosts O C R) where
 
 module _ {O C R : Type 0} (obj : Ghosts O C R) where
   -- The pending call was answered with this reply at this place, and the session carries the slot again, with this
-  -- value in it.
+  -- value in it. This is the response.
   abbrev pub HasTaken : Seated O C R → Seated O C R → SlotValue O C R → ℕ → R → Type 0
   HasTaken m n held place reply = (call : C) × (floor : ℕ) × (front : List (Entry C R)) × (m.0.own.pending ≡ Some (asks call floor))
-      × (n ≡ (taking m.0 front call place reply, (m.0.number, held) ∷ m.1))
-      × Took obj m.0.number m.0.front m.0.own.collected call floor place reply front
+      × (n ≡ (taking m.0 n.0.own.log front call place reply, (m.0.number, held) ∷ m.1))
+      × Took obj m.0.number m.0.front m.0.own.collected call floor place reply front × Notes m n (response m.0.number reply)
 
 module _ {O C R : Type 0} (obj : Ghosts O C R) where
   -- Take: if the record is SERVED, the session takes the reply; else nothing changes.
@@ -459,15 +465,16 @@ module _ {C R : Type 0} where
   -- Direct entry: the combiner enters a call of its own into the history, without its record. Publish, answer and take are
   -- one step.
 
-  -- The call's entry is the last of the known history, its place is entered, and its answer is collected.
-  abbrev pub entering : View C R → C → R → View C R
-  entering v call reply = record {
+  -- The call's entry is the last of the known history, its place is entered, and its answer is collected. The session's events
+  -- are these then.
+  abbrev pub entering : View C R → List (ℕ × Event C R) → C → R → View C R
+  entering v log call reply = record {
     of = v.of;
     number = v.number;
     slots = v.slots;
     made = v.made;
     front = v.front ++ entry v.number call reply ∷ [];
-    own = record { started = v.own.started; retired = v.own.retired; pending = v.own.pending; collected = v.own.collected ++ answer (length v.front) call reply ∷ []; listed = v.own.listed };
+    own = record { started = v.own.started; retired = v.own.retired; pending = v.own.pending; collected = v.own.collected ++ answer (length v.front) call reply ∷ []; listed = v.own.listed; log = log };
     combiner = with_entered v v.combiner;
     heard = v.heard;
     listing = v.listing;
@@ -476,9 +483,11 @@ module _ {C R : Type 0} where
   }
 
 module _ {O C R : Type 0} where
-  -- Enter this call with this reply: the session has collected all its calls in the longer history.
+  -- Enter this call with this reply: the session has collected all its calls in the longer history. This is the invocation, and
+  -- right behind it the response.
   abbrev pub enters : C → R → Kind O C R
-  enters call reply st m found n = (n ≡ (entering m.0 call reply, m.1)) × (calls_of m.0.number n.0.front ≡ n.0.own.collected)
+  enters call reply st m found n = (n ≡ (entering m.0 n.0.own.log call reply, m.1)) × (calls_of m.0.number n.0.front ≡ n.0.own.collected)
+      × ((moment : ℕ) × (n.0.own.log ≡ m.0.own.log ++ (moment, invocation m.0.number call) ∷ (moment + 1, response m.0.number reply) ∷ []))
 
   -- The same, where the call and the reply are named; a step that names none says nothing.
   abbrev pub enters_named : Option C → Option R → Kind O C R
@@ -514,7 +523,7 @@ maxes (x ∷ xs) (y ∷ ys) = max x y ∷ maxes xs ys
 module _ {C R : Type 0} where
   -- The seat counts as heard the larger number for each session, and notes the other's front beside its own.
   abbrev pub joined : View C R → View C R → View C R
-  joined v w = as_hearer v v.front (maxes v.heard w.heard) (record { all_made = v.others.all_made || w.others.all_made; beside = w.front; handed = v.others.handed })
+  joined v w = as_hearer v v.front (maxes v.heard w.heard) (record { all_made = v.others.all_made || w.others.all_made; beside = w.front; handed = v.others.handed; logs = v.others.logs })
 
   -- The longer of two fronts of the history; the first if both are as long.
   abbrev pub longer : List (Entry C R) → List (Entry C R) → List (Entry C R)
@@ -556,13 +565,13 @@ module _ {O C R : Type 0} where
 module _ {C R : Type 0} where
   -- The seat after it compared another's front with its own: it notes that front beside its own, and learns nothing else.
   abbrev pub comparing : View C R → View C R → View C R
-  comparing v w = as_hearer v v.front v.heard (record { all_made = v.others.all_made || true; beside = w.front; handed = v.others.handed })
+  comparing v w = as_hearer v v.front v.heard (record { all_made = v.others.all_made || true; beside = w.front; handed = v.others.handed; logs = v.others.logs })
 
   -- Retire.
 
   -- The session publishes no more calls.
   abbrev pub retiring : View C R → View C R
-  retiring v = as_session v v.front (record { started = true; retired = true; pending = None; collected = v.own.collected; listed = v.own.listed }) v.heard (forget_head v.listing)
+  retiring v = as_session v v.front (record { started = true; retired = true; pending = None; collected = v.own.collected; listed = v.own.listed; log = v.own.log }) v.heard (forget_head v.listing)
 
 module _ {O C R : Type 0} where
   -- Retire: the record is CLOSED, and the session keeps its slot.
@@ -574,7 +583,7 @@ module _ {C R : Type 0} where
 
   -- The session doesn't own its record's slot any more.
   abbrev pub leaving : View C R → View C R
-  leaving v = as_session v v.front (record { started = false; retired = v.own.retired; pending = None; collected = v.own.collected; listed = v.own.listed }) v.heard (forget_head v.listing)
+  leaving v = as_session v v.front (record { started = false; retired = v.own.retired; pending = None; collected = v.own.collected; listed = v.own.listed; log = v.own.log }) v.heard (forget_head v.listing)
 
 module _ {O C R : Type 0} where
   -- Leave: the session's slot goes home, empty.
@@ -588,4 +597,4 @@ module _ {C R : Type 0} where
 
   -- The session is added to those that were handed in.
   abbrev pub gathered : View C R → View C R → View C R
-  gathered v w = as_hearer v v.front v.heard (record { all_made = v.others.all_made; beside = v.others.beside; handed = v.others.handed ++ handed_in w ∷ [] })
+  gathered v w = as_hearer v v.front v.heard (record { all_made = v.others.all_made; beside = v.others.beside; handed = v.others.handed ++ handed_in w ∷ []; logs = v.others.logs ++ (w.number, w.own.log) ∷ [] })

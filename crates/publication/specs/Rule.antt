@@ -1,7 +1,7 @@
 -- The rule of the publication records, which holds between any two atomic steps. Number 0 is the lock's, number i is
 -- that of session i's record; each has a state word and a slot. A slot is a place for one value: the value is at home
 -- in the table, or out with the one seat that took it. List.antt has the rule of the publication list.
-use Rattle.std.specs.Prelude.{◌≡◌, ◌≢◌, ℕ, ◌+◌, ◌^◌, ◌<◌, ◌≤◌, ◌⊎◌, nat_le, ◌&&◌, Bool, true, false, cond, is_some, Some, None, List, [], ◌∷◌, ◌++◌, length, slice_index, slice_index_or, replicate, vec_len, vec_capacity, All}
+use Rattle.std.specs.Prelude.{◌≡◌, ◌≢◌, ℕ, ◌+◌, ◌^◌, ◌<◌, ◌≤◌, ◌⊎◌, nat_le, ◌&&◌, Bool, true, false, cond, is_some, Option, Some, None, List, [], ◌∷◌, ◌++◌, length, map, slice_index, slice_index_or, replicate, vec_len, vec_capacity, All}
 use mathlib.Core.Option as opt
 use mathlib.Core.List.{IsPrefix}
 use lib.ListN.{get_elem?}
@@ -10,9 +10,11 @@ use Rattle.std.specs.Global.{Box}
 use Rattle.trimmed_list.specs.declared.trimmed_list.TheConstants.{NO_BOUND}
 use Rattle.sequential.specs.declared.entry.Entry.{Entry}
 use Rattle.sequential.specs.Histories.{calls_of}
+use Rattle.sequential.specs.Linearizable.{Event, Calls, calls_in, IsWellFormed, IsLinearization}
 use Rattle.publication.specs.Words.{word_of, FREE, OUT, POSTED, BUSY, SERVED, CLOSED, EMPTY}
+use Rattle.publication.specs.Moments.{noted_by}
 use Rattle.publication.specs.Pieces.{pieces_of, AreInOrder, AreInARow}
-use Rattle.publication.specs.Views.{Own, Combiner, Listing, Handed, Others, Taken, entry, answer, asks}
+use Rattle.publication.specs.Views.{Pending, Own, Combiner, Listing, Handed, Others, Taken, entry, answer, asks}
 use Rattle.publication.specs.declared.piece.Piece.{Piece}
 use Rattle.publication.specs.declared.view.View.{View}
 use Rattle.publication.specs.declared.slot.Load.{Load}
@@ -25,7 +27,7 @@ module _ {C R : Type 0} where
 
   -- A session that hasn't taken its first step: nothing published.
   abbrev pub fresh : Own C R
-  fresh = record { started = false; retired = false; pending = None; collected = []; listed = false }
+  fresh = record { started = false; retired = false; pending = None; collected = []; listed = false; log = [] }
 
 module _ {C : Type 0} where
   -- A session that isn't the combiner, and has opened no record.
@@ -43,7 +45,7 @@ no_pieces = record { own = []; all = [] }
 module _ {C R : Type 0} where
   -- Nothing is known of other seats except whether all sessions are made.
   abbrev pub apart : Bool → Others C R
-  apart all_made = record { all_made = all_made; beside = []; handed = [] }
+  apart all_made = record { all_made = all_made; beside = []; handed = []; logs = [] }
 
   -- The first seat, which makes the sessions, after it has made `made` of them.
   abbrev pub maker : ℕ → ℕ → View C R
@@ -220,11 +222,12 @@ module _ {O C R : Type 0} where
     pub begins : IsPrefix x.front h
 
   -- What a seat knows of others is true: if it says that all sessions are made, there is a seat for each; the front
-  -- learned from another seat begins the history; and each session that it says was handed in was.
+  -- learned from another seat begins the history; each session that it says was handed in was; and of these it has the logs.
   pub record AreTrue (h : List (Entry C R)) (s : BoardState O C R) (slots : ℕ) (owns : List (Own C R)) (others : Others C R) : Type 0 where
     pub all_made : others.all_made ≡ true → slots ≤ length s.views
     pub beside : IsPrefix others.beside h
     pub handed : (p : ℕ) (x : Handed C R) → get_elem? others.handed p ≡ opt.some x → IsHanded h s slots owns x
+    pub logged : others.logs ≡ map (λ x. (x.number, (own_at owns x.number).log)) others.handed
 
 module _ {C R : Type 0} where
   -- The pieces of the history that sessions took.
@@ -260,6 +263,50 @@ module _ {O C R : Type 0} where
     pub seats : (k : ℕ) → HasPieces all (seat s k)
     -- lock word FREE: the load notes them
     pub home : word s 0 ≡ FREE → pieces_in (home s 0) ≡ all
+
+module _ {O C R : Type 0} where
+  -- That no session is lost.
+
+  -- Session j has its seat, or was handed in to a seat.
+  abbrev pub IsPresent : BoardState O C R → ℕ → Type 0
+  IsPresent s j = ((seat s j).number ≡ j) ⊎ ((k : ℕ) × (p : ℕ) × (x : Handed C R) × (get_elem? (seat s k).others.handed p ≡ opt.some x) × (x.number ≡ j))
+
+  -- What holds of the sessions' seats between any two atomic steps.
+  pub record ArePresent (slots : ℕ) (s : BoardState O C R) : Type 0 where
+    -- each session that is made has its seat, or was handed in
+    pub each : (j : ℕ) → 0 < j → j < slots → j < length s.views → IsPresent s j
+    -- none was handed in to the seat of a session
+    pub apart : (k : ℕ) → (seat s k).number ≢ 0 → (seat s k).others.handed ≡ []
+    -- and none to two seats
+    pub once : (k m p q : ℕ) (x y : Handed C R) → get_elem? (seat s k).others.handed p ≡ opt.some x → get_elem? (seat s m).others.handed q ≡ opt.some y → x.number ≡ y.number → k ≡ m
+
+-- Real time.
+
+-- The call that waits for its reply.
+abbrev pub call_of : {C : Type 0} → Option (Pending C) → Option C
+call_of None = None
+call_of (Some p) = Some p.call
+
+module _ {C R : Type 0} where
+  -- The session's calls, as it knows them: those that it collected have returned, and the pending one hasn't.
+  abbrev pub calls_known : Own C R → Calls C R
+  calls_known o = record { returned = map (λ a. (a.call, a.reply)) o.collected; pending = call_of o.pending }
+
+module _ {O C R : Type 0} (obj : Ghosts O C R) where
+  -- What holds in real time between any two atomic steps. To publish a call is its invocation, to take its reply the response; a
+  -- direct entry is both.
+  pub record IsInTime (h : List (Entry C R)) (slots : ℕ) (owns : List (Own C R)) : Type 0 where
+    -- all events so far, of all sessions
+    pub events : List (Event C R)
+    -- the number of sessions, each of which makes one call after another
+    pub sessions : ℕ
+    pub sessions_are : sessions + 1 ≡ slots
+    pub well_formed : IsWellFormed sessions events
+    -- the calls so far are linearizable: the history is legal, has the calls of each session, and keeps the order of real time
+    pub linear : IsLinearization obj sessions events h
+    -- each session has noted its own events, each with its moment, and knows its calls
+    pub logs : (j : ℕ) → (own_at owns j).log ≡ noted_by j events
+    pub calls : (j : ℕ) → calls_in j events ≡ calls_known (own_at owns j)
 
 module _ {O C R : Type 0} (obj : Ghosts O C R) where
   -- The rule. While the combiner has the object, the object may be ahead of the history by calls that were performed and not
@@ -309,3 +356,7 @@ module _ {O C R : Type 0} (obj : Ghosts O C R) where
     pub opened : (j : ℕ) → 0 < j → word s j ≡ BUSY → (call : C) × (get_elem? (seat s (word s 0)).combiner.opened j ≡ opt.some (Some call))
     -- the pieces of the history that sessions took are noted, and each session knows its own
     pub pieces : ArePieces slots s
+    -- no session is lost
+    pub present : ArePresent slots s
+    -- the calls so far are linearizable
+    pub in_time : IsInTime obj history slots owns

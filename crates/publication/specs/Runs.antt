@@ -1,5 +1,5 @@
 -- The moves of a board from one state to the next, runs of them, and the order in time that a run keeps.
-use Rattle.std.specs.Prelude.{◌≡◌, ◌⊎◌, ℕ, ◌+◌, ◌<◌, ◌≤◌, cond, is_some, true, false, Option, Some, None, List, [], ◌∷◌, ◌++◌, length, slice_index, slice_index_or, slice_set, Contains}
+use Rattle.std.specs.Prelude.{◌≡◌, ◌≢◌, ◌⊎◌, ℕ, ◌+◌, ◌<◌, ◌≤◌, cond, is_some, true, false, Option, Some, None, List, [], ◌∷◌, ◌++◌, length, slice_index, slice_set, Contains}
 use mathlib.Core.Option as opt
 use lib.ListN.{get_elem?}
 use Rattle.std.specs.Global.{Box}
@@ -81,6 +81,14 @@ module _ {O C R : Type 0} where
   abbrev pub IsCombiner : Seated O C R → Type 0
   IsCombiner m = m.0.combiner.has_object ≡ true
 
+module _ {O C R : Type 0} where
+  -- The slot that the session lays down is its own.
+  pub record LaysDownItsOwn (m : Seated O C R) : Type 0 where
+    pub session : m.0.number ≢ 0
+    pub slot : SlotValue O C R
+    pub more : List (ℕ × SlotValue O C R)
+    pub carried : m.1 ≡ (m.0.number, slot) ∷ more
+
 module _ {O C R : Type 0} (obj : Ghosts O C R) where
   -- The slot that the seat lays down holds an object with the history that the session knows.
   pub record LaysDownLoad (m : Seated O C R) : Type 0 where
@@ -90,10 +98,13 @@ module _ {O C R : Type 0} (obj : Ghosts O C R) where
     pub whole : (obj.history load.value.object) ≡ m.0.front
 
 module _ {O C R : Type 0} (obj : Ghosts O C R) where
-  -- What the board's calls see to before a step of a kind: the combiner's steps are made by the combiner, it answers a
+  -- What the board's calls see to before a step of a kind: a session that starts, publishes, retires or leaves has no call
+  -- pending, and lays down its own slot; the combiner's steps are made by the combiner, it answers a
   -- record that it opened, a session takes the reply out of its own record, and the lock word is the one that is seized. A
   -- call is entered directly at a look at the lock word, by a combiner that may publish and has no call pending.
   abbrev pub StepRequires : StepName C R → ℕ → Seated O C R → Type 0
+  StepRequires start at m = m.0.own.pending ≡ None
+  StepRequires post at m = (m.0.own.pending ≡ None) × LaysDownItsOwn m
   StepRequires take_reply at m = at ≡ word_of m.0.number
   StepRequires seize at m = at ≡ word_of 0
   StepRequires release at m = IsCombiner m × LaysDownLoad obj m
@@ -103,18 +114,9 @@ module _ {O C R : Type 0} (obj : Ghosts O C R) where
   StepRequires answer_record at m = IsCombiner m × ((call : C) × (opened_in m.0 m.0.combiner.hand ≡ Some call))
   StepRequires put_back at m = IsCombiner m
   StepRequires (enter call reply) at m = (at ≡ word_of 0) × IsCombiner m × (m.0.own.pending ≡ None) × (m.0.own.retired ≡ false)
+  StepRequires retire at m = m.0.own.pending ≡ None
+  StepRequires leave at m = (m.0.own.pending ≡ None) × LaysDownItsOwn m
   StepRequires _ at m = Unit {0}
-
-module _ {O C R : Type 0} where
-  -- The seat carries slot k.
-  abbrev pub Carries : ℕ → List (ℕ × SlotValue O C R) → Type 0
-  Carries k [] = ⊥
-  Carries k (x ∷ xs) = (x.0 ≡ k) ⊎ Carries k xs
-
-  -- Each slot that a seat carries is one of the table's, not at home, and carried once.
-  abbrev pub CarriesOnlyItsOwn : List (opt.Option (SlotValue O C R)) → List (ℕ × SlotValue O C R) → Type 0
-  CarriesOnlyItsOwn homes [] = Unit {0}
-  CarriesOnlyItsOwn homes (x ∷ xs) = (x.0 < length homes) × (slice_index_or homes x.0 opt.none ≡ opt.none) × (Carries x.0 xs → ⊥) × CarriesOnlyItsOwn homes xs
 
 module _ {O C R : Type 0} (obj : Ghosts O C R) where
   -- A step of this kind, made by one seat on one word, leads from state s to state t.
@@ -130,7 +132,6 @@ module _ {O C R : Type 0} (obj : Ghosts O C R) where
     pub after : Seated O C R
     pub act : Act (SlotValue O C R)
     pub seated : get_elem? s.views id ≡ opt.some before.0
-    pub out : CarriesOnlyItsOwn s.homes before.1
     pub asked : StepRequires obj name at before
     pub valid : Valid s.homes before.1 act
     pub carried : after.1 ≡ carried_after before.1 act
@@ -139,19 +140,20 @@ module _ {O C R : Type 0} (obj : Ghosts O C R) where
     pub is : t ≡ stepped s at put id before.1 after.0 act
 
 module _ {O C R : Type 0} where
-  -- A seat is split: seat 0 makes a session, or a copy is made of what a seat knows, or of the front that it knows.
+  -- A seat is split: one that is no session's, and to which none was handed in, makes a session; or a copy is made of what a seat
+  -- knows, or of the front that it knows.
   pub record IsSeatSplit (s t : BoardState O C R) : Type 0 where
     pub id : ℕ
     pub view : View C R
     pub left : View C R
     pub right : View C R
     pub seated : get_elem? s.views id ≡ opt.some view
-    pub cut : ((view ≡ maker view.slots view.made) × (left ≡ maker view.slots (view.made + 1)) × (right ≡ new_session view.slots (view.made + 1)))
+    pub cut : ((view.number ≡ 0) × (view.others.handed ≡ []) × (left ≡ maker view.slots (view.made + 1)) × (right ≡ new_session view.slots (view.made + 1)))
         ⊎ ((left ≡ view) × ((right ≡ copy_of view) ⊎ (right ≡ front_copy_of view)))
     pub is : t ≡ record { words = s.words; homes = s.homes; views = slice_set s.views id left ++ right ∷ [] }
 
-  -- A seat is joined into another and ends: a copy of what a seat knows; or, into the closing seat, which is no session's,
-  -- the seat of a session to which none was handed in.
+  -- A seat is joined into another and ends: one that is no session's, and to which none was handed in; or, into the closing seat,
+  -- which is no session's, the seat of a session to which none was handed in.
   pub record IsSeatJoin (s t : BoardState O C R) : Type 0 where
     pub id : ℕ
     pub view : View C R
@@ -161,7 +163,7 @@ module _ {O C R : Type 0} where
     pub seated : get_elem? s.views id ≡ opt.some view
     pub apart : ¬ (other ≡ id)
     pub beside : get_elem? s.views other ≡ opt.some theirs
-    pub join : ((both ≡ joined view theirs) × (theirs ≡ copy_of theirs)) ⊎ ((both ≡ gathered view theirs) × (view.number ≡ 0) × (theirs.others.handed ≡ []))
+    pub join : ((both ≡ joined view theirs) × (theirs.number ≡ 0) × (theirs.others.handed ≡ [])) ⊎ ((both ≡ gathered view theirs) × (view.number ≡ 0) × (theirs.others.handed ≡ []))
     pub is : t ≡ record { words = s.words; homes = s.homes; views = slice_set (slice_set s.views id both) other blank }
 
 module _ {O C R : Type 0} (obj : Ghosts O C R) where

@@ -6,6 +6,7 @@ use Rattle.std.specs.Prelude.{◌≡◌, ◌⊎◌, ℕ, ◌≤◌, Bool, Option
 use Rattle.atomic_table.specs.Seated.{TableId}
 use Rattle.sequential.specs.declared.entry.Entry.{Entry}
 use Rattle.sequential.specs.Histories.{Answered, calls_of}
+use Rattle.sequential.specs.Linearizable.{Event}
 use Rattle.publication.specs.declared.piece.Piece.{Piece}
 
 -- A call that its session has published and not collected yet. `floor` is the number of history entries that the
@@ -27,6 +28,8 @@ pub record Own (C R : Type 0) : Type 0 where
   pub collected : List (Answered C R)
   -- the call that it published last is listed, so a combiner's walk meets its record
   pub listed : Bool
+  -- its own events, in order, each with its moment: how many events there were before it, of all sessions
+  pub log : List (ℕ × Event C R)
 
 -- The combiner's part of a view.
 pub record Combiner (C : Type 0) : Type 0 where
@@ -76,6 +79,8 @@ pub record Others (C R : Type 0) : Type 0 where
   pub beside : List (Entry C R)
   -- the sessions whose seats were joined into this one to close the board, in that order
   pub handed : List (Handed C R)
+  -- and what each of these has noted of its own events
+  pub logs : List (ℕ × List (ℕ × Event C R))
 
 -- What a session knows of the pieces of the history that were taken.
 pub record Taken : Type 0 where

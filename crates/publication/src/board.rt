@@ -363,6 +363,7 @@ impl<O: Sequential> Board<O> {
         requires ours { IsOf self.now ticket.old }
         ensures ticket { ticket.new ≡ ticket.old }
         ensures seat { (result.table_id ≡ self.now.id) × (result.me.0.others.handed ≡ []) }
+        ensures closing { result.me.0.number ≡ 0 }
     {
         steps::split_copy(&self.table.shared, &mut ticket.seat)
     }
@@ -370,8 +371,10 @@ impl<O: Sequential> Board<O> {
     /// Joins the seat of one ticket into the closing seat.
     fn join_ticket(&self, closing: &mut Seat<O>, ticket: Ticket<O>)
         requires ours { (closing.old.table_id ≡ self.now.id) × IsOf self.now ticket }
+        requires closing { closing.old.me.0.number ≡ 0 }
         requires settled { IsSettled ticket }
         ensures ours { closing.new.table_id ≡ closing.old.table_id }
+        ensures closing { closing.new.me.0.number ≡ 0 }
         ensures handed { closing.new.me.0.others.handed ≡ closing.old.me.0.others.handed ++ handed_by ticket ∷ [] }
     {
         let Ticket {
@@ -389,8 +392,10 @@ impl<O: Sequential> Board<O> {
     /// Joins the seats of these tickets into the closing seat, in order.
     fn join_tickets(&self, closing: &mut Seat<O>, tickets: Vec<Ticket<O>>)
         requires ours { (closing.old.table_id ≡ self.now.id) × All (IsOf self.now) tickets.items }
+        requires closing { closing.old.me.0.number ≡ 0 }
         requires settled { All IsSettled tickets.items }
         ensures ours { closing.new.table_id ≡ closing.old.table_id }
+        ensures closing { closing.new.me.0.number ≡ 0 }
         ensures handed { closing.new.me.0.others.handed ≡ closing.old.me.0.others.handed ++ map handed_by tickets.items }
     {
         for ticket in tickets {

@@ -49,18 +49,20 @@ impl<C, R> Split<View<C, R>> for Enrol {
 pub struct Start;
 
 impl<O: Sequential> Play<SlotValue<O>, View<O::Call, O::Reply>> for Start {
-    ghost use Rattle.publication.specs.Kinds.{starts};
+    ghost use Rattle.publication.specs.Runs.{start};
+    ghost use Rattle.publication.specs.Told.{tells};
 
-    ghost then = { starts };
+    ghost then = { tells O.Sequential start };
 }
 
 /// A session publishes the call in its slot.
 pub struct Post;
 
 impl<O: Sequential> Play<SlotValue<O>, View<O::Call, O::Reply>> for Post {
-    ghost use Rattle.publication.specs.Kinds.{posts};
+    ghost use Rattle.publication.specs.Runs.{post};
+    ghost use Rattle.publication.specs.Told.{tells};
 
-    ghost then = { posts O.Sequential };
+    ghost then = { tells O.Sequential post };
 }
 
 /// A session reads the head word.
@@ -346,18 +348,20 @@ impl<O: Sequential> Play<SlotValue<O>, View<O::Call, O::Reply>> for Compare {
 pub struct Retire;
 
 impl<O: Sequential> Play<SlotValue<O>, View<O::Call, O::Reply>> for Retire {
-    ghost use Rattle.publication.specs.Kinds.{retires};
+    ghost use Rattle.publication.specs.Runs.{retire};
+    ghost use Rattle.publication.specs.Told.{tells};
 
-    ghost then = { retires };
+    ghost then = { tells O.Sequential retire };
 }
 
 /// A session that is handed in lays its record's slot down.
 pub struct Leave;
 
 impl<O: Sequential> Play<SlotValue<O>, View<O::Call, O::Reply>> for Leave {
-    ghost use Rattle.publication.specs.Kinds.{leaves};
+    ghost use Rattle.publication.specs.Runs.{leave};
+    ghost use Rattle.publication.specs.Told.{tells};
 
-    ghost then = { leaves };
+    ghost then = { tells O.Sequential leave };
 }
 
 /// The closing seat takes in the seat of a session that left.

@@ -3,7 +3,7 @@
 //! `IsRuled s` says that the rule holds in state `s`. `atomic_table` promises that it holds between any two atomic
 //! steps of the running board.
 
-ghost use Rattle.std.specs.Prelude.{◌≡◌, ◌≢◌, ◌⊎◌, ℕ, ◌+◌, List, ◌∷◌, ◌++◌, [], length, slice_index, Option, Some, None, ◌≤◌, All};
+ghost use Rattle.std.specs.Prelude.{◌≡◌, ◌≢◌, ◌⊎◌, ℕ, ◌+◌, List, ◌∷◌, ◌++◌, [], length, map, slice_index, slice_set, Option, Some, None, ◌≤◌, All};
 ghost use mathlib.Core.List.{IsPrefix};
 ghost use mathlib.Core.Option as opt;
 ghost use lib.ListN.{get_elem?};
@@ -11,16 +11,17 @@ ghost use Rattle.std.specs.Global.{Box};
 ghost use Rattle.atomic_table.specs.Table.{step, Act, Valid, carried_after, stepped};
 ghost use Rattle.sequential.specs.declared.entry.Entry.{Entry};
 ghost use Rattle.sequential.specs.Histories.{Answered, calls_of};
-ghost use Rattle.sequential.specs.Linearizable.{Event, IsLinearization, IsLinearizable};
+ghost use Rattle.sequential.specs.Linearizable.{Event, calls_in, IsWellFormed, IsLinearization, IsLinearizable};
 ghost use Rattle.publication.specs.Views.{Pending, IsAccountedIn, entry, answer, asks};
-ghost use Rattle.publication.specs.Rule.{BoardState, seat, IsHome};
+ghost use Rattle.publication.specs.Rule.{blank, maker, new_session, BoardState, seat, IsHome};
 ghost use Rattle.publication.specs.List.{IsRuled};
-ghost use Rattle.publication.specs.Kinds.{Seated};
+ghost use Rattle.publication.specs.Kinds.{Seated, copy_of, front_copy_of, joined, gathered};
 ghost use Rattle.publication.specs.Collected.{HasCollected};
 ghost use Rattle.publication.specs.BoardHistory.{new_board, history_of, IsAppended, IsEnteredDirectly, IsAccounted};
 ghost use Rattle.publication.specs.Entered.{AreEnteredOnce};
-ghost use Rattle.publication.specs.Runs.{StepName, answer_record, enter, kind_of, StepRequires, CarriesOnlyItsOwn, IsStep, IsSeatSplit, IsSeatJoin, IsRun, calls_made, RespectsRealTime};
+ghost use Rattle.publication.specs.Runs.{StepName, answer_record, enter, kind_of, StepRequires, IsStep, IsSeatSplit, IsSeatJoin, IsRun, calls_made, RespectsRealTime};
 ghost use Rattle.publication.specs.Linearizable.{AreEventsOfRun};
+ghost use Rattle.publication.specs.Instants.{HasView, AreEventsOf, calls_told, AreFrom};
 ghost use Rattle.publication.specs.declared.slot.Load.{Load};
 ghost use Rattle.publication.specs.declared.slot.SlotValue.{SlotValue};
 ghost use Rattle.publication.specs.declared.view.View.{View};
@@ -63,15 +64,37 @@ pub fn only_answers_and_direct_entries_change_the_history<O: Sequential>()
     ensures seats { (s t : BoardState O O.Call O.Reply) → IsRuled O.Sequential s → IsRuled O.Sequential t → IsSeatSplit s t ⊎ IsSeatJoin s t → history_of O.Sequential t ≡ history_of O.Sequential s }
 {}
 
-/// A step of the table is a step of the model (`IsStep`), whatever word it writes and whatever slots it moves, if its
-/// seat carries only its own slots, what the kind requires holds, and the outcome is as the kind says. The last two are what
-/// each step in `steps.rt` tells (`tells`, `specs/Told.antt`). That the rule holds afterwards is `Allows` of `atomic_table`,
+/// A step of the table is a step of the model (`IsStep`), whatever word it writes and whatever slots it moves, if what the kind
+/// requires holds, and the outcome is as the kind says. This is what each step in `steps.rt` tells (`tells`, `specs/Told.antt`;
+/// the other kinds require nothing). That the rule holds afterwards is `Allows` of `atomic_table`,
 /// which is proved there, too.
 pub fn steps_of_the_table_are_such_steps<O: Sequential>()
     ensures { (name : StepName O.Call O.Reply) (id at first second : ℕ) (m : Seated O O.Call O.Reply) (put : ℕ) (s : BoardState O O.Call O.Reply) (w : View O.Call O.Reply) (a : Act (SlotValue O O.Call O.Reply)) →
-        get_elem? s.views id ≡ opt.some m.0 → CarriesOnlyItsOwn s.homes m.1 → StepRequires O.Sequential name at m → Valid s.homes m.1 a →
+        get_elem? s.views id ≡ opt.some m.0 → StepRequires O.Sequential name at m → Valid s.homes m.1 a →
         kind_of O.Sequential name (step (length s.homes) at first second opt.none) m (slice_index s.words at) (w, carried_after m.1 a) →
         IsStep O.Sequential name s (stepped s at put id m.1 w a) }
+{}
+
+/// A split or join of seats is one of the model (`IsSeatSplit`, `IsSeatJoin`), if the rule holds before and after, as
+/// `atomic_table` demands of each: else a session would be lost. These are all that the code makes (`Split`, `Join` in
+/// `kinds.rt`): a seat makes a session (`makes`); a copy is made of what a seat knows, or of the front that it knows (`copies`,
+/// `fronts`); a seat takes such a copy in (`joins`); the closing seat takes in a session's (`gathers`).
+pub fn splits_and_joins_of_the_table_are_such_moves<O: Sequential>()
+    ensures makes { (s : BoardState O O.Call O.Reply) (id : ℕ) (v : View O.Call O.Reply) → IsRuled O.Sequential s → get_elem? s.views id ≡ opt.some v →
+        IsRuled O.Sequential record { words = s.words; homes = s.homes; views = slice_set s.views id (maker v.slots (v.made + 1)) ++ new_session v.slots (v.made + 1) ∷ [] } →
+        IsSeatSplit s record { words = s.words; homes = s.homes; views = slice_set s.views id (maker v.slots (v.made + 1)) ++ new_session v.slots (v.made + 1) ∷ [] } }
+    ensures copies { (s : BoardState O O.Call O.Reply) (id : ℕ) (v : View O.Call O.Reply) → get_elem? s.views id ≡ opt.some v →
+        IsSeatSplit s record { words = s.words; homes = s.homes; views = slice_set s.views id v ++ copy_of v ∷ [] } }
+    ensures fronts { (s : BoardState O O.Call O.Reply) (id : ℕ) (v : View O.Call O.Reply) → get_elem? s.views id ≡ opt.some v →
+        IsSeatSplit s record { words = s.words; homes = s.homes; views = slice_set s.views id v ++ front_copy_of v ∷ [] } }
+    ensures joins { (s : BoardState O O.Call O.Reply) (id other : ℕ) (v w : View O.Call O.Reply) → IsRuled O.Sequential s →
+        get_elem? s.views id ≡ opt.some v → ¬ (other ≡ id) → get_elem? s.views other ≡ opt.some w →
+        IsRuled O.Sequential record { words = s.words; homes = s.homes; views = slice_set (slice_set s.views id (joined v w)) other blank } →
+        IsSeatJoin s record { words = s.words; homes = s.homes; views = slice_set (slice_set s.views id (joined v w)) other blank } }
+    ensures gathers { (s : BoardState O O.Call O.Reply) (id other : ℕ) (v w : View O.Call O.Reply) → IsRuled O.Sequential s →
+        get_elem? s.views id ≡ opt.some v → ¬ (other ≡ id) → get_elem? s.views other ≡ opt.some w →
+        IsRuled O.Sequential record { words = s.words; homes = s.homes; views = slice_set (slice_set s.views id (gathered v w)) other blank } →
+        IsSeatJoin s record { words = s.words; homes = s.homes; views = slice_set (slice_set s.views id (gathered v w)) other blank } }
 {}
 
 /// No session is lost in a run: it still has its seat, or was handed in to close the board, and the answers that it had
@@ -99,6 +122,39 @@ pub fn calls_stand_in_the_order_of_time<O: Sequential>()
 pub fn each_place_is_entered_once<O: Sequential>()
     ensures { (n : ℕ) (load : Box (Load O O.Call O.Reply)) (s : BoardState O O.Call O.Reply) →
         IsHome O.Sequential [] (n + 1) load.value → load.value.pieces.items ≡ [] → IsRun O.Sequential (new_board n load) s → AreEnteredOnce O.Sequential s }
+{}
+
+/// At every instant the calls made so far are linearizable (Herlihy and Wing 1990), of any object. The state has one list of events
+/// (`some`, `only`), which its sessions have noted with their moments: to publish a call is its invocation, to take the reply its
+/// response, and a direct entry is both. They have of each session the calls that it has collected, which have returned, and the
+/// pending one (`calls`). The board's history is a linearization of them (`history`). A board has one slot more than sessions.
+pub fn calls_are_linearizable_at_every_instant<O: Sequential>()
+    ensures some { (s : BoardState O O.Call O.Reply) → IsRuled O.Sequential s → (events : List (Event O.Call O.Reply)) × AreEventsOf s events }
+    ensures only { (s : BoardState O O.Call O.Reply) (events others : List (Event O.Call O.Reply)) → AreEventsOf s events → AreEventsOf s others → events ≡ others }
+    ensures well_formed { (n : ℕ) (s : BoardState O O.Call O.Reply) (events : List (Event O.Call O.Reply)) →
+        IsRuled O.Sequential s → length s.homes ≡ n + 1 → AreEventsOf s events → IsWellFormed n events }
+    ensures calls { (s : BoardState O O.Call O.Reply) (events : List (Event O.Call O.Reply)) (i : ℕ) (answers : List (Answered O.Call O.Reply)) (pending : Option (Pending O.Call)) →
+        IsRuled O.Sequential s → AreEventsOf s events → HasCollected s i answers pending → calls_in i events ≡ calls_told answers pending }
+    ensures history { (n : ℕ) (s : BoardState O O.Call O.Reply) (events : List (Event O.Call O.Reply)) →
+        IsRuled O.Sequential s → length s.homes ≡ n + 1 → AreEventsOf s events → IsLinearization O.Sequential n events (history_of O.Sequential s) }
+    ensures linearizable { (n : ℕ) (s : BoardState O O.Call O.Reply) (events : List (Event O.Call O.Reply)) →
+        IsRuled O.Sequential s → length s.homes ≡ n + 1 → AreEventsOf s events → IsLinearizable O.Sequential n events }
+{}
+
+/// The clock is right. A step on a word changes the view of its seat alone. If the view then has events more, whatever moments it
+/// has noted for them, these come behind all events so far, and the moments are how many events there were before each (`noted`).
+/// If the view has none more, no event has happened (`none`); nor if seats were split or joined (`seats`). So the order of the
+/// events is the order of the steps at which they were noted.
+pub fn events_happen_when_they_are_noted<O: Sequential>()
+    ensures noted { (s : BoardState O O.Call O.Reply) (at put id : ℕ) (carried : List (ℕ × SlotValue O O.Call O.Reply)) (v w : View O.Call O.Reply) (act : Act (SlotValue O O.Call O.Reply))
+        (more : List (ℕ × Event O.Call O.Reply)) (before after : List (Event O.Call O.Reply)) →
+        HasView s id v → v.number ≢ 0 → w.number ≡ v.number → w.others.logs ≡ v.others.logs → w.own.log ≡ v.own.log ++ more →
+        AreEventsOf s before → AreEventsOf (stepped s at put id carried w act) after → AreFrom (length before) more × (after ≡ before ++ map (λ x. x.1) more) }
+    ensures none { (s : BoardState O O.Call O.Reply) (at put id : ℕ) (carried : List (ℕ × SlotValue O O.Call O.Reply)) (v w : View O.Call O.Reply) (act : Act (SlotValue O O.Call O.Reply))
+        (before after : List (Event O.Call O.Reply)) → HasView s id v → w.number ≡ v.number → w.others.logs ≡ v.others.logs → w.own.log ≡ v.own.log →
+        AreEventsOf s before → AreEventsOf (stepped s at put id carried w act) after → after ≡ before }
+    ensures seats { (s t : BoardState O O.Call O.Reply) (before after : List (Event O.Call O.Reply)) → IsRuled O.Sequential s → IsRuled O.Sequential t →
+        IsSeatSplit s t ⊎ IsSeatJoin s t → AreEventsOf s before → AreEventsOf t after → after ≡ before }
 {}
 
 /// Any object that sessions share through a board is linearizable (Herlihy and Wing 1990). In a run of a board from its opening

@@ -15,8 +15,9 @@
 //! of the publication list is shorter: `specs/PublicationList.antt` says which records are on it, `specs/PublishedRecords.antt` what
 //! is published in each.
 //!
-//! Proved: the rule holds between any two atomic steps; so there is one legal history, and no posted call is lost. Not
-//! claimed: that a published call is ever served. No call waits, and [`Board::new`] alone takes memory.
+//! Proved: the rule holds between any two atomic steps; so there is one legal history, no posted call is lost, and the
+//! calls made so far are linearizable. Not claimed: that a published call is ever served. No call waits, and
+//! [`Board::new`] alone takes memory.
 #![tactic(auto)]
 
 mod board;

@@ -44,7 +44,8 @@ pub fn listed_calls_are_on_the_list<O: Sequential>()
 /// The first record is never taken off the list. To take off or link again the record behind another leaves the first one
 /// where it is. While a record is unlinked, the record that was in front of it is on the list, and the link of the
 /// unlinked one names what follows there. A step that writes the head word only as `enlist` does leaves the first record
-/// the first, or puts its session's record in front of the whole list; a split or join of seats changes nothing.
+/// the first, or puts its session's record in front of the whole list; a split or join of seats changes nothing. (The rule
+/// alone doesn't say how the head word is written: with the first record CLOSED, it could name the second one.)
 pub fn the_first_record_is_never_taken_off<O: Sequential>()
     ensures without { (before : ℕ) (list : List ℕ) → first_of (without before list) ≡ first_of list }
     ensures with_behind { (before other : ℕ) (list : List ℕ) → first_of (with_behind before other list) ≡ first_of list }

@@ -49,7 +49,7 @@ pub(crate) fn publish_in_record<O: Sequential>(
     requires idle { (is_some seat.old.me.0.own.pending ≡ false) × (seat.old.me.0.own.retired ≡ false) }
     requires carried { seat.old.me.1 ≡ (at, SlotValue.Empty) ∷ rest seat.old.me.1 }
     ensures ours { seat.new.table_id ≡ seat.old.table_id }
-    ensures step { seat.new.me ≡ (posting seat.old.me.0 call result, rest seat.old.me.1) }
+    ensures step { seat.new.me ≡ (posting seat.old.me.0 seat.new.me.0.own.log call result, rest seat.old.me.1) }
 {
     let SlotValue::Empty = shared.exchange(seat, at, SlotValue::PostedCall(call)) else {
         unreachable!()
@@ -430,7 +430,7 @@ pub(crate) fn enter_call<O: Sequential, E: DirectEntry<O::Call, O::Reply>>(
     requires short { length seat.old.me.0.front + 1 < 2 ^ 64 }
     requires legal { O.is_legal (seat.old.me.0.front ++ entry seat.old.me.0.number _call _reply ∷ []) }
     ensures ours { seat.new.table_id ≡ seat.old.table_id }
-    ensures step { seat.new.me ≡ (entering seat.old.me.0 _call _reply, seat.old.me.1) }
+    ensures step { seat.new.me ≡ (entering seat.old.me.0 seat.new.me.0.own.log _call _reply, seat.old.me.1) }
     ensures calls { calls_of seat.old.me.0.number seat.new.me.0.front ≡ seat.new.me.0.own.collected }
 {
     shared.load::<Enter<E>>(seat, 0);
@@ -528,6 +528,7 @@ pub(crate) fn gather_seat<O: Sequential>(
     requires ours { (seat.old.table_id ≡ shared.now.table_id) × (other.table_id ≡ shared.now.table_id) }
     requires board { IsBoard shared.now.table_id }
     requires at { IsAt shared.now.table_id at }
+    requires closing { seat.old.me.0.number ≡ 0 }
     requires theirs { other.me.0.number ≡ at }
     requires settled { (is_some other.me.0.own.pending ≡ false) × (other.me.0.combiner.has_object ≡ false) }
     requires carried { other.me.1 ≡ (at, SlotValue.Empty) ∷ [] }

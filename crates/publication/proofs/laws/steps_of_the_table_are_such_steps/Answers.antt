@@ -2,7 +2,7 @@ use Rattle.std.proofs.Common.{refl}
 use Rattle.publication.proofs.laws.steps_of_the_table_are_such_steps.Goals as goal
 
 pub returns : goal.returns
-returns g c name id at first second m put s w a me out asks valid told = record {
+returns g c name id at first second m put s w a me asks valid told = record {
   id = id;
   at = at;
   first = first;
@@ -12,7 +12,6 @@ returns g c name id at first second m put s w a me out asks valid told = record 
   after = (w, _);
   act = a;
   seated = me;
-  out = out;
   asked = asks;
   valid = valid;
   carried = refl;

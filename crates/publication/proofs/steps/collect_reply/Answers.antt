@@ -31,6 +31,6 @@ exchange-requires g c =
     let mine : m.0.number ≡ c.args.at = ap (λ (x : Seated _ _ _). x.0.number) c.is_served.ensures.same ∙ c.requires.mine in
     let t = c.compare_exchange-found.ensures.2.0.0 (search rules) in
     let held : SlotValue _ _ _ = ServedReply t.0 t.1 in
-    let found : after.1 ≡ (m.0.number, held) ∷ m.1 = ap (λ (x : Seated _ _ _). x.1) {y = (taking m.0 t.2.2 t.2.0 t.0 t.1, (m.0.number, held) ∷ m.1)} t.2.4 in
+    let found : after.1 ≡ (m.0.number, held) ∷ m.1 = ap (λ (x : Seated _ _ _). x.1) {y = (taking m.0 after.0.own.log t.2.2 t.2.0 t.0 t.1, (m.0.number, held) ∷ m.1)} t.2.4 in
     let out : after.1 ≡ (c.args.at, held) ∷ m.1 = found ∙ ap (λ (k : ℕ). (k, held) ∷ m.1) mine in
     (search rules, (held, out ∙ ap (λ (l : List (ℕ × SlotValue _ _ _)). (c.args.at, held) ∷ rest l) (sym out)))

@@ -19,7 +19,7 @@ invariant_of-ticket-2 g c =
     let place = c.in_ok-place.place in let reply = c.in_ok-place.reply in
     let was_pending : a.is_pending ≡ true = sym t.pending ∙ ap is_some e.3 in
     let carried : m.1 ≡ object_slot b [] = t.carried ∙ ap (λ (p : Bool). object_slot b (own_slot p n)) was_pending in
-    let w = taking m.0 e.2 e.0 place reply in
+    let w = taking m.0 c.collect_reply.new.seat.me.0.own.log e.2 e.0 place reply in
     let after : c.turn_if.new.seat.me ≡ (w, object_slot b ((n, Empty) ∷ [])) =
     c.turn_if.ensures.1 ∙ (ap (λ (x : Seated _ _ _). (x.0, cond b (turned x.1) x.1)) e.4 ∙ (ap (λ (l : List (ℕ × SlotValue _ _ _)). (w, cond b (turned ((m.0.number, Empty) ∷ l)) ((m.0.number, Empty) ∷ l))) carried
     ∙ (ap (λ (k : ℕ). (w, cond b (turned ((k, Empty) ∷ object_slot b [])) ((k, Empty) ∷ object_slot b []))) t.number_is ∙ ap (λ (l : List (ℕ × SlotValue _ _ _)). (w, l)) (swapped b n)))) in
