@@ -9,5 +9,6 @@ pub mod Files
 pub mod Traces
 pub mod Histories
 pub mod ReadHistories
+pub mod HistoryReaders
 -- What only private contracts speak of.
 pub mod inner

@@ -1,9 +1,9 @@
 //! Traces and histories as text: reads traces, and reads and writes histories.
 //!
-//! To read: `reading.rt` takes a whole file as records of the `csv` crate, `record.rt` is what both formats have in
-//! common, `trace_row.rt` reads a row of a trace and `entries.rt` one of a history, field by field (`fields.rt`;
-//! `fast_path.rt` for numbers and resources without a fault), `faults.rt` has the faults. To write: `writing.rt`, with
-//! one line at a time in a fixed buffer (`line.rt`) out of ready-made words (`tokens.rt`, `words.rt`).
+//! To read: `reading.rt` takes a whole file as records of the `csv` crate, and `history_reader.rt` a history row by row;
+//! `record.rt` is what both formats have in common, `trace_row.rt` reads a row of a trace and `entries.rt` one of a history,
+//! field by field (`fields.rt`; `fast_path.rt` for numbers and resources without a fault), `faults.rt` has the faults. To
+//! write: `writing.rt`, with one line at a time in a fixed buffer (`line.rt`) out of ready-made words (`tokens.rt`, `words.rt`).
 //!
 //! A record is tested field by field. The first test that fails is the fault, and nothing of the file is returned.
 //!
@@ -16,6 +16,7 @@ mod entries;
 mod fast_path;
 mod faults;
 mod fields;
+mod history_reader;
 pub mod laws;
 mod line;
 mod reading;
@@ -26,6 +27,7 @@ mod words;
 mod writing;
 
 pub use faults::{TraceFault, TraceKind};
+pub use history_reader::HistoryReader;
 pub use reading::{read_history, read_trace};
 pub use std::alloc::AllocError as NoMemory;
 pub use trace_row::TraceRow;

@@ -28,7 +28,7 @@ const RECORD_BYTES: usize = 256;
 const RECORD_FIELDS: usize = 8;
 
 /// A csv reader without a header row that takes records of any number of fields.
-fn record_reader<R: Read>(alloc: Global, input: R) -> Reader<R>
+pub(crate) fn record_reader<R: Read>(alloc: Global, input: R) -> Reader<R>
     ensures reading { IsRecordReader result }
     ensures start { result.state ≡ st.StartRecord }
     ensures source { source_of R.remaining result ≡ option_map strip_bom (R.remaining input) }
@@ -41,7 +41,7 @@ fn record_reader<R: Read>(alloc: Global, input: R) -> Reader<R>
 
 /// A record with room for a row of common length. The csv reader takes in at once as many bytes of a row as the record
 /// has room for, so a record that starts small is filled in several pieces.
-fn sized_record(alloc: Global) -> Result<ByteRecord, AllocError>
+pub(crate) fn sized_record(alloc: Global) -> Result<ByteRecord, AllocError>
     ensures { IfOk result (λ row. fields_of row ≡ []) }
 {
     ByteRecord::with_capacity(alloc, RECORD_BYTES, RECORD_FIELDS)
@@ -78,7 +78,7 @@ fn next_record<R: Read>(reader: &mut Reader<R>, row: &mut ByteRecord) -> Result<
 
 /// Reads the next row, or `None` at the end of the input. Fails with `Device`, `NoMemory`, or the first test that
 /// the row fails.
-fn next_row<R: Read, T: Row>(
+pub(crate) fn next_row<R: Read, T: Row>(
     reader: &mut Reader<R>,
     row: &mut ByteRecord,
     sessions: u16,
