@@ -1,5 +1,6 @@
 -- What public contracts speak of.
 pub mod Roots
+pub mod Since
 pub mod Waits
 -- What only private contracts speak of.
 pub mod inner

@@ -9,7 +9,6 @@ use Rattle.lock_rules.specs.Entries.{Entry}
 use Rattle.lock_rules.specs.State.{Claim, Table, State, holders, request_of}
 use Rattle.lock_rules.specs.Queue.{queue}
 use Rattle.lock_rules.specs.Waits.{waits_for}
-use Rattle.lock_report.specs.declared.snapshot.Wait.{Wait}
 use Rattle.lock_report.specs.declared.snapshot.ToldWait.{ToldWait}
 
 -- the call asks for a lock that it may wait for
