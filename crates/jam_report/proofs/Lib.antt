@@ -1,6 +1,7 @@
 pub mod Aborted
 pub mod BlockerTold
 pub mod Counted
+pub mod DoomedBy
 pub mod FirstWhere
 pub mod Promotions
 pub mod QueueLines

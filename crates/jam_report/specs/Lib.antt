@@ -1,4 +1,5 @@
 -- What public contracts speak of.
+pub mod Dooms
 pub mod Roots
 pub mod Since
 pub mod Waits

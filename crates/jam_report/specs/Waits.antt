@@ -67,6 +67,10 @@ waits_behind n t s since None = []
 waits_behind n t s since (Some first) =
     record { wait = record { session = s; other = first }; since = Some since } ∷ [] ++ flat_map (other_wait t s first) (range_with_len 1 n)
 
+-- the waits of session s for others, of the sessions 1 to n, in this lock table, to which the history has led
+abbrev pub waits_of : ℕ → Table → List Entry → ℕ → List ToldWait
+waits_of n t history s = waits_behind n t s (waits_since s history) (first_blocker t s)
+
 -- the waits of the sessions 1 to n in this state of the lock table, to which the history has led, by session number
 abbrev pub waits_told : ℕ → State → List Entry → List ToldWait
 waits_told n st history = flat_map (λ s. waits_behind n st.table s (waits_since s history) (first_blocker st.table s)) (range_with_len 1 n)
