@@ -1,5 +1,5 @@
 -- The sessions of the first of some valid entries are those of the lock table.
-use Rattle.std.proofs.Common.{◌≡◌, ℕ, ◌<◌, List, take, arith}
+use Rattle.std.proofs.Common.{ℕ, List, take, arith}
 use Rattle.std.specs.List.{All}
 use Rattle.std.proofs.lemmas.List.Elements.{All-take}
 use Rattle.sequential.specs.Histories.{IsEntryWithin}

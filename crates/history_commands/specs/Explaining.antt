@@ -1,7 +1,10 @@
 -- What `explain` writes: what the calls of a history did, and why.
-use Rattle.std.specs.Prelude.{◌≡◌, ℕ, ◌<◌, ◌≤◌, Bool, true, false, List, [], ◌∷◌, ◌++◌, length, take, slice_get, All, Option, Some, None, Result, Ok, Err}
+use Rattle.std.specs.Prelude.{◌≡◌, ℕ, ◌<◌, ◌≤◌, Bool, true, false, if◌then◌else◌, List, [], ◌∷◌, ◌++◌, length, take, slice_get, All, Option, Some, None, Result, Ok, Err}
 use Rattle.std.specs.Io.KnownBytes.{Appends}
+use Rattle.lock_rules.specs.declared.calls.Call.{Call}
+use Rattle.lock_rules.specs.declared.calls.Call.TheVariants.{Poll}
 use Rattle.lock_rules.specs.Entries.{Entry}
+use Rattle.lock_rules.specs.State.{is_doomed}
 use Rattle.lock_rules.specs.Step.{step}
 use Rattle.lock_rules.specs.Ended.{ended_waits}
 use Rattle.lock_rules.specs.Legal.{state_of}
@@ -13,6 +16,10 @@ use Rattle.lock_explain.specs.Explanations.{IsExplanation, is_eventful}
 use Rattle.explain_report.specs.ExplanationText.{text_of_explanation}
 use Rattle.explain_report.specs.ExplanationRows.{rows_of_explanation}
 use Rattle.explain_report.specs.ExplanationDot.{dot_of_explanation}
+use Rattle.lock_report.specs.declared.snapshot.Doom.{Doom}
+use Rattle.lock_report.specs.Answers.{rows_of_answer, text_of_answer}
+use Rattle.jam_report.specs.Dooms.{doomed_by}
+use Rattle.jam_report.specs.Waits.{waits_of}
 use Rattle.command_line.specs.declared.args.Form.{Form}
 use Rattle.command_line.specs.declared.args.Form.TheVariants as form
 use Rattle.history_commands.specs.declared.checking.Verdict.{Verdict}
@@ -28,10 +35,30 @@ account_in form.Lines place e x = text_of_piece place (e ∷ []) ++ text_of_expl
 account_in form.Rows place e x = rows_of_explanation place e.session x
 account_in form.Graph place e x = dot_of_explanation place x
 
+-- the call is a poll
+abbrev pub is_poll : Call → Bool
+is_poll Poll = true
+is_poll _ = false
+
+-- behind these entries, the call that made the transaction of the session a victim, None if it is no victim
+abbrev pub doom_answered : List Entry → ℕ → Option Doom
+doom_answered front s = if is_doomed (state_of front) s then doomed_by s front else None
+
+-- with sessions 1 to n, behind these entries, what the answer to a poll of session s tells, in this form: for whom the session waits,
+-- since when, and which call made its transaction a victim; a graph doesn't tell it
+abbrev pub answer_in : Form → ℕ → List Entry → ℕ → List ℕ
+answer_in form.Lines n front s = text_of_answer (waits_of n (state_of front).table front s) (doom_answered front s)
+answer_in form.Rows n front s = rows_of_answer (length front) (waits_of n (state_of front).table front s) (doom_answered front s)
+answer_in form.Graph n front s = []
+
+-- what the answer to this call tells, nothing if it is no poll
+abbrev pub answer_told : Form → ℕ → List Entry → Entry → List ℕ
+answer_told form n front e = if is_poll e.call then answer_in form n front e.session else []
+
 -- with sessions 1 to n, the text is the account of this entry behind these entries
 abbrev pub IsAccount : Form → ℕ → List Entry → Entry → List ℕ → Type 0
 IsAccount form n front e text =
-    (x : Explanation) × IsExplanation n (state_of front) e.session e.call x × (text ≡ account_in form (length front) e x)
+    (x : Explanation) × IsExplanation n (state_of front) e.session e.call x × (text ≡ account_in form (length front) e x ++ answer_told form n front e)
 
 -- with sessions 1 to n, the entry behind these entries was refused, its request waited, or it ended the wait of another session
 abbrev pub is_entry_eventful : ℕ → List Entry → Entry → Bool

@@ -101,7 +101,7 @@ fn lines_text(alloc: Global, book: &Book, front: &[Entry], place: u64) -> Result
     let opens = open_transactions(alloc, book)?;
     let mut claims = Vec::new(alloc);
     book.locks(alloc, &mut claims)?;
-    let roots = roots_of(alloc, book, front)?;
+    let roots = roots_of(alloc, book)?;
     let waits = waits_told(alloc, book, front)?;
     let waiting = count_waiting(book);
     state_text(alloc, place, waiting, &roots, &opens, &claims, &waits)

@@ -1,5 +1,5 @@
 -- The first blocker of a session whose waiting request is told as a line of a listing.
-use Rattle.std.proofs.Common.{◌≡◌, ◌∙◌, ◌&&◌, ℕ, List, Option, Some, None, map, filter, ap, sym}
+use Rattle.std.proofs.Common.{◌≡◌, ◌∙◌, ◌&&◌, ℕ, List, Some, None, map, filter, ap, sym}
 use Rattle.lock_modes.specs.declared.Mode.{Mode}
 use Rattle.lock_tree.specs.Paths.{same_path}
 use Rattle.lock_rules.specs.declared.listing.Claim.{Claim as ListedClaim}

@@ -1,7 +1,10 @@
+pub mod Aborted
 pub mod BlockerTold
 pub mod Counted
+pub mod DoomedBy
 pub mod FirstWhere
+pub mod Promotions
 pub mod QueueLines
 pub mod Reached
-pub mod ServedAgain
+pub mod RequestsSince
 pub mod WaitsSince

@@ -40,10 +40,10 @@ all-fresh : (st : State) (qs : List Claim) → filter is_request (map (listed_as
 all-fresh st [] = refl
 all-fresh st (q ∷ qs) = ap (λ (l : List ListedClaim). listed_as st Fresh q ∷ l) (all-fresh st qs)
 
--- the sessions of such lines are those of the requests
-sessions-listed : (st : State) (kind : ClaimKind) (qs : List Claim) → map (λ (l : ListedClaim). l.session) (map (listed_as st kind) qs) ≡ map (λ (q : Claim). q.session) qs
-sessions-listed st kind [] = refl
-sessions-listed st kind (q ∷ qs) = ap (λ (l : List ℕ). q.session ∷ l) (sessions-listed st kind qs)
+-- what such lines tell is what the requests tell
+told-listed : {X : Type 0} (f : ListedClaim → X) (g : Claim → X) (st : State) → ((k : ClaimKind) (q : Claim) → f (listed_as st k q) ≡ g q) → (kind : ClaimKind) (qs : List Claim) → map f (map (listed_as st kind) qs) ≡ map g qs
+told-listed f g st same kind [] = refl
+told-listed f g st same kind (q ∷ qs) = let rest = told-listed f g st same kind qs in λ i. same kind q i ∷ rest i
 
 -- the requests among the lines of a resource
 requests-on : (st : State) (r : List ℕ) → filter is_request (listed_on st r) ≡ map (listed_as st Conversion) (conversions st.table r) ++ map (listed_as st Fresh) (fresh_requests st.table r)
@@ -55,16 +55,27 @@ requests-on st r =
     ∙ (ap₂ (λ (l k : List ListedClaim). l ++ k) (filter-append is_request held converting ∙ ap₂ (λ (l k : List ListedClaim). l ++ k) (none-held st r (holders r st.table.held)) (all-converting st (conversions st.table r)))
     (all-fresh st (fresh_requests st.table r)))
 
--- of a listing, the sessions of the requests for a resource are those of its queue
-pub queue-listed : (es : List Entry) (r : List ℕ) → map (λ (l : ListedClaim). l.session) (filter (λ (l : ListedClaim). same_path l.resource r) (filter is_request (listing_of (state_of es)))) ≡ map (λ (q : Claim). q.session) (queue (state_of es).table r)
-queue-listed es r =
+-- of a listing, what the requests for a resource tell is what its queue tells
+queue-told : {X : Type 0} (f : ListedClaim → X) (g : Claim → X) (es : List Entry) (r : List ℕ) → ((k : ClaimKind) (q : Claim) → f (listed_as (state_of es) k q) ≡ g q)
+    → map f (filter (λ (l : ListedClaim). same_path l.resource r) (filter is_request (listing_of (state_of es)))) ≡ map g (queue (state_of es).table r)
+queue-told f g es r same =
     let st = state_of es in
     let converting = conversions st.table r in
     let fresh = fresh_requests st.table r in
-    ap (map (λ (l : ListedClaim). l.session)) (both (λ (l : ListedClaim). same_path l.resource r) is_request (listing_of st) ∙ (ap (filter is_request) ((listing-shows es).lines r) ∙ requests-on st r))
-    ∙ (map-append (λ (l : ListedClaim). l.session) (map (listed_as st Conversion) converting) (map (listed_as st Fresh) fresh)
-    ∙ (ap₂ (λ (l k : List ℕ). l ++ k) (sessions-listed st Conversion converting) (sessions-listed st Fresh fresh)
-    ∙ sym (map-append (λ (q : Claim). q.session) converting fresh)))
+    let one = told-listed f g st same Conversion converting in
+    let two = told-listed f g st same Fresh fresh in
+    ap (map f) (both (λ (l : ListedClaim). same_path l.resource r) is_request (listing_of st) ∙ (ap (filter is_request) ((listing-shows es).lines r) ∙ requests-on st r))
+    ∙ (map-append f (map (listed_as st Conversion) converting) (map (listed_as st Fresh) fresh)
+    ∙ ((λ i. one i ++ two i)
+    ∙ sym (map-append g converting fresh)))
+
+-- of a listing, the sessions of the requests for a resource are those of its queue
+pub queue-listed : (es : List Entry) (r : List ℕ) → map (λ (l : ListedClaim). l.session) (filter (λ (l : ListedClaim). same_path l.resource r) (filter is_request (listing_of (state_of es)))) ≡ map (λ (q : Claim). q.session) (queue (state_of es).table r)
+queue-listed es r = queue-told (λ (l : ListedClaim). l.session) (λ (q : Claim). q.session) es r (λ k q. refl)
+
+-- and their targets are those of its queue
+pub queue-targets : (es : List Entry) (r : List ℕ) → map {B = ℕ × Mode} (λ (l : ListedClaim). (l.session, l.mode)) (filter (λ (l : ListedClaim). same_path l.resource r) (filter is_request (listing_of (state_of es)))) ≡ map {B = ℕ × Mode} (λ (q : Claim). (q.session, q.mode)) (queue (state_of es).table r)
+queue-targets es r = queue-told {X = ℕ × Mode} (λ (l : ListedClaim). (l.session, l.mode)) (λ (q : Claim). (q.session, q.mode)) es r (λ k q. refl)
 
 -- the line of a request is of its resource
 pub line-of : (st : State) (q : Option Claim) (l : ListedClaim) → listed_request st q ≡ Some l → (p : Claim) × (q ≡ Some p) × (p.resource ≡ l.resource)

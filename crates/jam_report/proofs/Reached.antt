@@ -1,5 +1,5 @@
 -- Walks by positions and by session numbers.
-use Rattle.std.proofs.Common.{◌≡◌, ℕ, ◌+◌, ◌≤◌, Bool, true, leb, ◌&&◌, List, sym, subst, leb-true}
+use Rattle.std.proofs.Common.{◌≡◌, ℕ, ◌+◌, ◌≤◌, Bool, true, leb, List, sym, subst, leb-true}
 use Rattle.std.specs.Prelude.{IsTrue, ◌↔◌, All}
 use Rattle.std.proofs.lemmas.Bool.{and_parts}
 use Rattle.waits_for.specs.Pairs.{Pairs, pairs_of}

@@ -1,11 +1,11 @@
 -- Since when a session waits, found from the last entry back.
-use Rattle.std.proofs.Common.{◌≡◌, ℕ, ◌+◌, ◌<◌, Bool, true, false, cond, List, [], ◌∷◌, ◌++◌, take, get_or, length, length-take, sym, ap, refl, ◌∙◌, arith}
+use Rattle.std.proofs.Common.{◌≡◌, ℕ, ◌+◌, ◌<◌, Bool, true, false, cond, List, [], ◌∷◌, ◌++◌, take, get_or, length, length-take, sym, ap, ◌∙◌, arith}
 use Rattle.lock_rules.specs.Entries.{Entry}
 use Rattle.lock_report.proofs.Pieces.{with_next}
 use Rattle.jam_report.specs.Waits.{begins_wait, since_from, waits_since}
 
 -- the last of some entries tells, if a wait began with it
-since-push : (s last place : ℕ) (es : List Entry) (e : Entry) → since_from s last place (es ++ e ∷ []) ≡ cond (begins_wait s e) (place + length es) (since_from s last place es)
+pub since-push : (s last place : ℕ) (es : List Entry) (e : Entry) → since_from s last place (es ++ e ∷ []) ≡ cond (begins_wait s e) (place + length es) (since_from s last place es)
 since-push s last place [] e = let none : place + 0 ≡ place = omega arith in ap (λ (k : ℕ). cond (begins_wait s e) k last) (sym none)
 since-push s last place (x ∷ es) e =
     let rest = since_from s (cond (begins_wait s x) place last) (place + 1) es in

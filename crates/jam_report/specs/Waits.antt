@@ -9,7 +9,6 @@ use Rattle.lock_rules.specs.Entries.{Entry}
 use Rattle.lock_rules.specs.State.{Claim, Table, State, holders, request_of}
 use Rattle.lock_rules.specs.Queue.{queue}
 use Rattle.lock_rules.specs.Waits.{waits_for}
-use Rattle.lock_report.specs.declared.snapshot.Wait.{Wait}
 use Rattle.lock_report.specs.declared.snapshot.ToldWait.{ToldWait}
 
 -- the call asks for a lock that it may wait for
@@ -67,6 +66,10 @@ abbrev pub waits_behind : ℕ → Table → ℕ → ℕ → Option ℕ → List 
 waits_behind n t s since None = []
 waits_behind n t s since (Some first) =
     record { wait = record { session = s; other = first }; since = Some since } ∷ [] ++ flat_map (other_wait t s first) (range_with_len 1 n)
+
+-- the waits of session s for others, of the sessions 1 to n, in this lock table, to which the history has led
+abbrev pub waits_of : ℕ → Table → List Entry → ℕ → List ToldWait
+waits_of n t history s = waits_behind n t s (waits_since s history) (first_blocker t s)
 
 -- the waits of the sessions 1 to n in this state of the lock table, to which the history has led, by session number
 abbrev pub waits_told : ℕ → State → List Entry → List ToldWait

@@ -1,64 +1,171 @@
-//! How many requests the abort of a session would grant: the abort is made on a lock table that has served the same calls.
+//! How many requests the abort of a session would grant: on each resource that it holds and others wait for, what a promotion
+//! grants once its lock is gone. Promotions of different resources don't meet, so each is made on copies of one resource's holders
+//! and queue.
 
-ghost use Rattle.std.specs.Prelude.{◌≡◌, ◌≤◌, [], length, All, IfOk};
-ghost use Rattle.sequential.specs.Histories.{IsEntryWithin};
-ghost use Rattle.lock_rules.specs.Ended.{ended_waits, has_ended};
+ghost use Rattle.std.specs.Prelude.{◌≡◌, ◌≤◌, ◌+◌, ℕ, ◌||◌, ◌&&◌, nat_lt, true, false, length, filter, map, IfOk, IfSome, OnOk};
+ghost use Rattle.std.specs.List.{list_any, range_with_len};
+ghost use Rattle.lock_tree.specs.Paths.{same_path};
+ghost use Rattle.lock_rules.specs.State.{holders, is_open, is_waiting};
+ghost use Rattle.lock_rules.specs.Queue.{queue};
 ghost use Rattle.lock_rules.specs.Legal.{state_of};
+ghost use Rattle.lock_rules.specs.Listing.{listing_of};
+ghost use Rattle.lock_report.specs.StateText.{is_last};
 ghost use Rattle.jam_report.specs.Roots.{granted_by_abort};
+ghost use Rattle.jam_report.specs.inner.Lines.{is_request};
+ghost use Rattle.jam_report.specs.inner.Promotion.{is_granted_on, is_marked, others};
 
-use crate::counting::{is_waiting, one_if};
-use lock_desk::{Book, Call, Entry};
+use crate::counting::one_if;
+use crate::promotion::{is_marked, mark_granted, none_marked, others};
+use lock_desk::Book;
+use lock_modes::Mode;
+use lock_rules::Claim;
+use lock_tree::{Resource, same_path_is_equality};
 use std::alloc::{AllocError as NoMemory, Global};
 
-/// Whether the wait of `other` ended between the two books by a call of `session`.
-fn has_ended(before: &Book, session: u16, after: &Book, other: u16) -> bool
-    ensures { result ≡ has_ended session (state_of before.now.history) (state_of after.now.history) other }
+/// The holders of the resource but `session`. Fails if memory is refused.
+fn other_holders(
+    alloc: Global,
+    book: &Book,
+    session: u16,
+    resource: Resource,
+) -> Result<Vec<(u16, Mode)>, NoMemory>
+    ensures { IfOk result (λ rest. rest.items ≡ others session (holders resource (state_of book.now.history).table.held)) }
 {
-    other != session && is_waiting(before, other) && !is_waiting(after, other)
+    let mut holders = Vec::new(alloc);
+    book.holders(resource, &mut holders)?;
+    others(alloc, &holders, session)
 }
 
-/// How many waits ended between the two books by a call of `session`.
-fn count_ended(before: &Book, session: u16, after: &Book) -> u64
-    ensures { result ≡ length (ended_waits before.now.sessions session (state_of before.now.history) (state_of after.now.history)) }
+/// The sessions of the requests for the resource, each with its target, in the order of the requests. Fails if memory is refused.
+fn queue_of(
+    alloc: Global,
+    requests: &[Claim],
+    resource: Resource,
+) -> Result<Vec<(u16, Mode)>, NoMemory>
+    ensures { IfOk result (λ queue. queue.items ≡ map (λ c. (c.session, c.mode)) (filter (λ c. same_path c.resource resource) requests.now)) }
 {
-    let mut count = 0u64;
-    let sessions = before.sessions();
-    for below in 0..sessions {
-        count += one_if(has_ended(before, session, after, below + 1));
+    same_path_is_equality();
+    let mut queue = Vec::new(alloc);
+    for request in requests {
+        if request.resource == resource {
+            queue.push((request.session, request.mode))?;
+        }
     }
-    count
+    Ok(queue)
 }
 
-/// Serves the calls of the entries, whatever the replies, on a book that has served none. Fails if memory is refused.
-fn serve_all(book: &mut Book, entries: &[Entry]) -> Result<(), NoMemory>
-    requires within { All (IsEntryWithin book.old.sessions) entries.now }
-    requires empty { book.old.history ≡ [] }
-    ensures sessions { IfOk result (λ _. book.new.sessions ≡ book.old.sessions) }
-    ensures state { IfOk result (λ _. state_of book.new.history ≡ state_of entries.now) }
+/// Marks the sessions whose requests for the resource an abort of `session` would grant. `requests` are those of the book, in the
+/// order of its listing. Fails if memory is refused.
+fn mark_granted_on(
+    alloc: Global,
+    book: &Book,
+    requests: &[Claim],
+    session: u16,
+    resource: Resource,
+    marks: &mut Vec<bool>,
+) -> Result<(), NoMemory>
+    requires { requests.now ≡ filter is_request (listing_of (state_of book.now.history)) }
+    ensures len { length marks.new.items ≡ length marks.old.items }
+    ensures marks { OnOk result ((u : ℕ) → is_marked marks.new.items u ≡ (is_marked marks.old.items u || (nat_lt u (length marks.old.items) && is_granted_on (state_of book.now.history).table session resource u))) }
 {
-    for entry in entries {
-        book.serve(entry.session, entry.call)?;
+    let Some(_held) = book.held(session, resource) else {
+        return Ok(());
+    };
+    let mut holders = other_holders(alloc, book, session, resource)?;
+    let queue = queue_of(alloc, requests, resource)?;
+    mark_granted(&mut holders, &queue, marks)?;
+    Ok(())
+}
+
+/// Whether this is the resource that was looked at last.
+fn is_last(last: Option<Resource>, resource: Resource) -> bool
+    ensures { result ≡ is_last last resource }
+{
+    same_path_is_equality();
+    match last {
+        None => false,
+        Some(last) => resource == last,
+    }
+}
+
+/// Like `mark_granted_on`, but does nothing if the resource is the one that was looked at last.
+fn mark_granted_next(
+    alloc: Global,
+    book: &Book,
+    requests: &[Claim],
+    session: u16,
+    last: Option<Resource>,
+    resource: Resource,
+    marks: &mut Vec<bool>,
+) -> Result<(), NoMemory>
+    requires requests { requests.now ≡ filter is_request (listing_of (state_of book.now.history)) }
+    requires last { IfSome last (λ r. (u : ℕ) → (nat_lt u (length marks.old.items) && is_granted_on (state_of book.now.history).table session r u) ≡ true → is_marked marks.old.items u ≡ true) }
+    ensures len { length marks.new.items ≡ length marks.old.items }
+    ensures marks { OnOk result ((u : ℕ) → is_marked marks.new.items u ≡ (is_marked marks.old.items u || (nat_lt u (length marks.old.items) && is_granted_on (state_of book.now.history).table session resource u))) }
+{
+    if is_last(last, resource) {
+        return Ok(());
+    }
+    mark_granted_on(alloc, book, requests, session, resource, marks)?;
+    Ok(())
+}
+
+/// Marks the sessions whose requests an abort of `session` would grant. `requests` are those of the book, in the order of its
+/// listing, in which those for one resource follow one another. Fails if memory is refused.
+fn mark_all_granted(
+    alloc: Global,
+    book: &Book,
+    requests: &[Claim],
+    session: u16,
+    marks: &mut Vec<bool>,
+) -> Result<(), NoMemory>
+    requires requests { requests.now ≡ filter is_request (listing_of (state_of book.now.history)) }
+    requires none { (u : ℕ) → is_marked marks.old.items u ≡ false }
+    ensures len { length marks.new.items ≡ length marks.old.items }
+    ensures marks { OnOk result ((u : ℕ) → is_marked marks.new.items u ≡ (nat_lt u (length marks.old.items) && list_any (λ c. is_granted_on (state_of book.now.history).table session c.resource u) requests.now)) }
+{
+    let mut last = None;
+    for request in requests {
+        mark_granted_next(
+            alloc,
+            book,
+            requests,
+            session,
+            last,
+            request.resource,
+            marks,
+        )?;
+        last = Some(request.resource);
     }
     Ok(())
 }
 
-/// How many waiting requests an abort of `session` would grant in the state of the book, to which the calls of the entries lead.
-/// Serves these calls once more, on a lock table that keeps no history in memory. Fails if memory is refused.
+/// How many of the sessions 1 to `sessions` are marked.
+fn count_marked(marks: &[bool], sessions: u16) -> u64
+    ensures { result ≡ length (filter (is_marked marks.now) (range_with_len 1 sessions)) }
+{
+    let mut count = 0u64;
+    for below in 0..sessions {
+        count += one_if(is_marked(marks, below + 1));
+    }
+    count
+}
+
+/// How many waiting requests an abort of `session` would grant, which has a transaction and doesn't wait. `requests` are those of
+/// the book, in the order of its listing. Fails if memory is refused.
 pub(crate) fn count_grants(
     alloc: Global,
     book: &Book,
-    entries: &[Entry],
+    requests: &[Claim],
     session: u16,
 ) -> Result<u64, NoMemory>
-    requires within { All (IsEntryWithin book.now.sessions) entries.now }
-    requires state { state_of book.now.history ≡ state_of entries.now }
-    requires some { 1 ≤ session }
-    requires known { session ≤ book.now.sessions }
+    requires requests { requests.now ≡ filter is_request (listing_of (state_of book.now.history)) }
+    requires begun { is_open (state_of book.now.history) session ≡ true }
+    requires idle { is_waiting (state_of book.now.history) session ≡ false }
     ensures { IfOk result (λ count. count ≡ length (granted_by_abort book.now.sessions (state_of book.now.history) session)) }
 {
-    let mut after = Book::new(alloc, book.sessions())?;
-    after.keep_at_most(0);
-    serve_all(&mut after, entries)?;
-    after.serve(session, Call::Abort)?;
-    Ok(count_ended(book, session, &after))
+    let sessions = book.sessions();
+    let mut marks = none_marked(alloc, sessions)?;
+    mark_all_granted(alloc, book, requests, session, &mut marks)?;
+    Ok(count_marked(&marks, sessions))
 }

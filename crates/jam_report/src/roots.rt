@@ -1,16 +1,19 @@
 //! The roots of a jam, with how many sessions each blocks and how many requests its abort would grant.
 
-ghost use Rattle.std.specs.Prelude.{◌≡◌, ◌≤◌, ◌++◌, length, All, IfOk, OnOk};
-ghost use Rattle.sequential.specs.Histories.{IsEntryWithin};
+ghost use Rattle.std.specs.Prelude.{◌≡◌, ◌≤◌, ◌++◌, length, filter, IfOk, OnOk};
 ghost use Rattle.lock_rules.specs.Legal.{state_of};
+ghost use Rattle.lock_rules.specs.Listing.{listing_of};
 ghost use Rattle.lock_explain.specs.inner.Graph.{AreWaitsOf};
 ghost use Rattle.jam_report.specs.Roots.{blocked_by, is_root, root_of, roots_of, waiters_of, waiting_in};
+ghost use Rattle.jam_report.specs.inner.Lines.{is_request};
 
 use crate::aborting::count_grants;
 use crate::counting::{is_waiting, one_if};
+use crate::first_blocker::requests_of;
 use crate::graph::{graph_of, leads_to};
-use lock_desk::{Book, Entry};
+use lock_desk::Book;
 use lock_report::{OpenTransaction, Root};
+use lock_rules::Claim;
 use std::alloc::{AllocError as NoMemory, Global};
 use waits_for::Rows;
 
@@ -62,17 +65,16 @@ fn is_root(book: &Book, session: u16) -> bool
     !is_waiting(book, session) && count_waiters(book, session) > 0
 }
 
-/// Adds the session to the list if it is a root. Fails if memory is refused.
+/// Adds the session to the list if it is a root. `requests` are those of the book, in the order of its listing. Fails if memory is refused.
 fn add_root(
     alloc: Global,
     book: &Book,
-    entries: &[Entry],
+    requests: &[Claim],
     rows: &mut Rows,
     session: u16,
     roots: &mut Vec<Root>,
 ) -> Result<(), NoMemory>
-    requires within { All (IsEntryWithin book.now.sessions) entries.now }
-    requires state { state_of book.now.history ≡ state_of entries.now }
+    requires requests { requests.now ≡ filter is_request (listing_of (state_of book.now.history)) }
     requires sessions { rows.old.sessions ≡ book.now.sessions }
     requires waits { AreWaitsOf rows.old (state_of book.now.history) }
     requires some { 1 ≤ session }
@@ -87,7 +89,7 @@ fn add_root(
         return Ok(());
     }
     let blocks = count_blocked(book, rows, session);
-    let grants = count_grants(alloc, book, entries, session)?;
+    let grants = count_grants(alloc, book, requests, session)?;
     let begun = OpenTransaction {
         session,
         transaction,
@@ -100,18 +102,16 @@ fn add_root(
     Ok(())
 }
 
-/// The sessions that block others and don't wait themselves, by session number, in the state of the book, to which the calls of
-/// the entries lead. For each of them the calls are served once more. Fails if memory is refused.
-pub fn roots_of(alloc: Global, book: &Book, entries: &[Entry]) -> Result<Vec<Root>, NoMemory>
-    requires within { All (IsEntryWithin book.now.sessions) entries.now }
-    requires state { state_of book.now.history ≡ state_of entries.now }
+/// The sessions that block others and don't wait themselves, by session number. Fails if memory is refused.
+pub fn roots_of(alloc: Global, book: &Book) -> Result<Vec<Root>, NoMemory>
     ensures { IfOk result (λ roots. roots.items ≡ roots_of book.now.sessions (state_of book.now.history)) }
 {
+    let requests = requests_of(alloc, book)?;
     let mut rows = graph_of(alloc, book)?;
     let mut roots = Vec::new(alloc);
     let sessions = book.sessions();
     for below in 0..sessions {
-        add_root(alloc, book, entries, &mut rows, below + 1, &mut roots)?;
+        add_root(alloc, book, &requests, &mut rows, below + 1, &mut roots)?;
     }
     Ok(roots)
 }

@@ -4,7 +4,7 @@ ghost use Rattle.std.specs.Prelude.{◌≡◌, ◌++◌, filter, IfOk, OnOk};
 ghost use Rattle.std.specs.List.{flat_map, range_with_len};
 ghost use Rattle.lock_rules.specs.Legal.{state_of};
 ghost use Rattle.lock_rules.specs.Listing.{listing_of};
-ghost use Rattle.jam_report.specs.Waits.{first_blocker, other_wait, waits_behind, waits_since, waits_told};
+ghost use Rattle.jam_report.specs.Waits.{first_blocker, other_wait, waits_behind, waits_of, waits_since, waits_told};
 ghost use Rattle.jam_report.specs.inner.Lines.{is_request};
 
 use crate::first_blocker::{first_blocker, requests_of};
@@ -74,6 +74,22 @@ fn add_waits(
         since: Some(since),
     })?;
     add_others(book, session, first, waits)
+}
+
+/// The waits of `session` in the state of the book, to which these entries have led: that for its first blocker first, with the place
+/// since when it waits. Fails if memory is refused.
+pub fn waits_of(
+    alloc: Global,
+    book: &Book,
+    entries: &[Entry],
+    session: u16,
+) -> Result<Vec<ToldWait>, NoMemory>
+    ensures { IfOk result (λ waits. waits.items ≡ waits_of book.now.sessions (state_of book.now.history).table entries.now session) }
+{
+    let requests = requests_of(alloc, book)?;
+    let mut waits = Vec::new(alloc);
+    add_waits(alloc, book, entries, &requests, session, &mut waits)?;
+    Ok(waits)
 }
 
 /// The waits in the state of the book, to which these entries have led: by session number, of each session that for its first

@@ -1,4 +1,5 @@
 -- What public contracts speak of.
+pub mod Answers
 pub mod JamText
 pub mod StateText
 pub mod StateRows

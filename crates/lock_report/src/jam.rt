@@ -135,7 +135,7 @@ fn put_since(out: &mut String, since: Option<u64>) -> Result<(), NoMemory>
 }
 
 /// Writes the line of a wait.
-fn put_line_of_wait(out: &mut String, told: &ToldWait) -> Result<(), NoMemory>
+pub(crate) fn put_line_of_wait(out: &mut String, told: &ToldWait) -> Result<(), NoMemory>
     ensures { OnOk result (string_bytes out.new ≡ string_bytes out.old ++ line_of_wait told.now) }
 {
     let session = told.wait.session;

@@ -1,7 +1,7 @@
 //! The state of a lock table as text: for people, as CSV rows, and the waits-for graph for Graphviz.
 //!
 //! `text.rt` writes the text for people, `rows.rt` the rows, `dot.rt` the graph. `jam.rt` the parts of
-//! the text that tell who blocks whom. `snapshot.rt` has the open transactions, the waits and the roots that a report
+//! the text that tell who blocks whom, `answer.rt` what the answer to a poll tells. `snapshot.rt` has the open transactions, the waits and the roots that a report
 //! shows beside the claims of a listing, `by_session.rt` sorts the claims by session.
 //!
 //! A report is written from lists that the caller took from a lock table, one line or row for each item, in the order
@@ -12,6 +12,7 @@
 //! refused. The formats are this project's own choice.
 #![tactic(auto)]
 
+mod answer;
 mod by_session;
 mod dot;
 mod jam;
@@ -19,8 +20,9 @@ mod rows;
 mod snapshot;
 mod text;
 
+pub use answer::{answer_rows, answer_text};
 pub use dot::waits_dot;
 pub use rows::state_rows;
-pub use snapshot::{OpenTransaction, Root, ToldWait, Wait};
+pub use snapshot::{Doom, OpenTransaction, Root, ToldWait, Wait};
 pub use std::alloc::AllocError as NoMemory;
 pub use text::state_text;

@@ -39,3 +39,12 @@ pub struct ToldWait {
     /// If the other session is the first blocker of the one that waits, the place of the call since which it waits.
     pub since: Option<u64>,
 }
+
+/// The call that made the transaction of a session a deadlock victim.
+#[derive(Clone, Copy, Debug, PartialEq, Eq, Hash)]
+pub struct Doom {
+    /// The place of the call in the history.
+    pub place: u64,
+    /// The session that made the call.
+    pub session: u16,
+}

@@ -5,6 +5,7 @@ use Rattle.lock_rules.specs.Legal.{state_of}
 use Rattle.lock_rules.specs.Step.{step}
 use Rattle.history_commands.proofs.ExplainedParts.{ended_alike, reply_alike, served_more, told_more}
 use Rattle.history_commands.proofs.IsVerdict.{first_wrong, right, within_at}
+use Rattle.history_commands.proofs.WithinFront.{within_front}
 use Rattle.history_commands.proofs.explaining.add_next_account.Goals as goal
 
 pub serve_alike-requires : goal.serve_alike-requires
@@ -32,6 +33,8 @@ add_account_if_eventful-requires c =
     let e = c.index-entries-place.result in
     let alike = c.requires.ahead ∙ sym c.requires.behind in
     record {
+      within = within_front c.args.before.now.sessions c.args.place c.args.entries.now c.requires.within;
+      front = c.requires.behind;
       sessions = c.in_ok-alike.ensures.sessions ∙ c.requires.sessions;
       served = c.in_ok-alike.ensures.served c.if-not-alike.false ∙ ap (λ (es : List Entry). es ++ e ∷ []) alike;
       ended = c.in_ok-alike.ensures.ended

@@ -4,9 +4,11 @@ use Rattle.std.specs.List.{All}
 use Rattle.std.specs.Option.{IfNone}
 use Rattle.lock_rules.specs.Entries.{Entry}
 use Rattle.lock_rules.specs.Legal.{IsLegal}
+use Rattle.sequential.specs.Histories.{IsEntryWithin}
 use Rattle.lock_trace.specs.Entries.{IsEntry}
 use Rattle.history_commands.specs.Explaining.{IsAccount}
 use Rattle.history_commands.proofs.ExplainedParts.{served_more}
+use Rattle.history_commands.proofs.WithinFront.{within_front}
 use Rattle.history_commands.proofs.explaining.report_on_call.Goals as goal
 
 -- what is known if nothing was found
@@ -28,6 +30,8 @@ account-requires c =
     let behind : ended ≡ take place es = of_none c.in_ok-early.early _ c.in_default.is c.in_ok-early.ensures.served in
     let ahead : c.first_wrong-2.new.book.history ≡ take (place + 1) es = of_none c.in_ok-here.here _ c.in_default-here.is c.in_ok-here.ensures.served in
     record {
+      within = subst (λ (n : ℕ). All (IsEntryWithin n) (take place es)) (sym c.in_ok-early.ensures.sessions) (within_front c.args.before.now.sessions place es c.requires.within);
+      front = behind;
       sessions = c.in_ok-here.ensures.sessions ∙ c.requires.sessions ∙ sym c.in_ok-early.ensures.sessions;
       served = ahead ∙ sym (served_more es place e ended (ended ++ e ∷ []) c.requires.place c.index-entries-place.is behind refl);
       place = omega (arith, ap length behind, length-take place es, c.requires.place);

@@ -1,4 +1,4 @@
-use Rattle.std.proofs.Common.{◌≡◌, ◌&&◌, None, take}
+use Rattle.std.proofs.Common.{◌≡◌, None, take}
 use Rattle.lock_rules.specs.Legal.{state_of}
 use Rattle.lock_rules.specs.Waits.{waits_for}
 use Rattle.jam_report.specs.inner.Lines.{first_where}

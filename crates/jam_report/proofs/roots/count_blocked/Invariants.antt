@@ -1,4 +1,4 @@
-use Rattle.std.proofs.Common.{◌≡◌, ◌≤◌, ℕ, filter, length}
+use Rattle.std.proofs.Common.{◌≡◌, ◌≤◌, filter, length}
 use Rattle.std.specs.List.{range_with_len}
 use Rattle.lock_rules.specs.Legal.{state_of}
 use Rattle.lock_rules.specs.Waits.{reaches}

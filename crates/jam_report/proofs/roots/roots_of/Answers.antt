@@ -1,6 +1,5 @@
-use Rattle.std.proofs.Common.{◌≡◌, ◌∙◌, ◌++◌, ◌+◌, ℕ, List, ap, sym, subst, arith}
+use Rattle.std.proofs.Common.{◌≡◌, ◌∙◌, ℕ, ap, sym, subst, arith}
 use Rattle.waits_for.specs.Pairs.{Pairs}
-use Rattle.lock_report.specs.declared.snapshot.Root.{Root}
 use Rattle.lock_rules.specs.Legal.{state_of}
 use Rattle.lock_explain.specs.Waiting.{for_sessions}
 use Rattle.lock_explain.specs.inner.Graph.{AreWaitsOf}
