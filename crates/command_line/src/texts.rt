@@ -116,10 +116,16 @@ pub(crate) const STATUSES: &str = "Exit status:
   6  a gate stayed shut, or tries ran out";
 
 /// The message for a number that the parser takes but that has a sign or a leading zero, or that is the greatest number of
-/// sessions for a run whose history is written in pieces; and for `show` or `explain` with two forms.
+/// sessions for a run whose history is written in pieces.
 pub const NOT_A_NUMERAL: &str =
     "error: a number is written with digits alone, with no sign and no zero before it, and 'run --stream' has at most 1023
-sessions; 'show' and 'explain' take one of --csv and --dot
+sessions
+
+For more information, try '--help'.
+";
+
+/// The message for `show` or `explain` with two forms.
+pub const TWO_FORMS: &str = "error: 'show' and 'explain' write one form: take either --csv or --dot
 
 For more information, try '--help'.
 ";
