@@ -1,18 +1,21 @@
 //! The command line of `glm`: what its words ask for, and the texts of its help.
 //!
 //! `args.rt` has the parser's commands and options, and `requests.rt` makes a request of the words; `texts.rt` has the help texts
-//! and the version; `laws.rt` what command lines ask for, as laws.
+//! and the version; `laws.rt` what command lines ask for, as laws; `misuse.rt` says what is wrong with words
+//! that make no request.
 //!
 //! Proved: which request a list of words makes, for every list, by the definitions of `clap`'s grammar.
 #![tactic(auto)]
 
 mod args;
 pub mod laws;
+mod misuse;
 mod requests;
 mod texts;
 
 pub use args::{
     CommandRequest, Delivery, Form, MAX_PLACE, MAX_STREAMED_SESSIONS, MAX_TURNS, Request,
 };
+pub use misuse::usage_text;
 pub use requests::request_of;
-pub use texts::{NOT_A_NUMERAL, VERSION, VERSION_TEXT};
+pub use texts::{NOT_A_NUMERAL, TWO_FORMS, VERSION, VERSION_TEXT};

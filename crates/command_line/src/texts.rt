@@ -91,7 +91,8 @@ With --csv the same is written as rows row,session,transaction,victim,resource,m
 pub(crate) const ABOUT_EXPLAIN: &str =
     "Reads a history, from a file or standard input, checks it as 'check' does, and writes what the call in the row with the
 place P did and why: which test refused it, and what failed it; for whom its request waits, and through what;
-the cycles of waits that it closed; which transactions became deadlock victims; whose requests it granted.
+the cycles of waits that it closed; which transactions became deadlock victims; whose requests it granted; and of a
+poll, since when and for whom its session waits, or whose call made it a victim.
 Without --at it writes this of each call that was refused, whose request waited, or that ended the wait of
 another session. A history that isn't legal gives the line of 'check', and status 3.
 
@@ -103,7 +104,8 @@ another session. A history that isn't legal gives the line of 'check', and statu
     closes a cycle of waits, or several, through
 
 With --csv the same is written as rows place,row,session,transaction,resource,mode,other. With --dot the
-cycles that requests closed are written as graphs, which 'dot -Tsvg' draws.";
+cycles that requests closed are written as graphs, one behind another, which 'dot -Tsvg' draws; of several in a file
+'dot -Tsvg -O FILE' draws each into a file of its own.";
 
 /// The list of exit statuses at the end of the help texts.
 pub(crate) const STATUSES: &str = "Exit status:
@@ -116,10 +118,16 @@ pub(crate) const STATUSES: &str = "Exit status:
   6  a gate stayed shut, or tries ran out";
 
 /// The message for a number that the parser takes but that has a sign or a leading zero, or that is the greatest number of
-/// sessions for a run whose history is written in pieces; and for `show` or `explain` with two forms.
+/// sessions for a run whose history is written in pieces.
 pub const NOT_A_NUMERAL: &str =
     "error: a number is written with digits alone, with no sign and no zero before it, and 'run --stream' has at most 1023
-sessions; 'show' and 'explain' take one of --csv and --dot
+sessions
+
+For more information, try '--help'.
+";
+
+/// The message for `show` or `explain` with two forms.
+pub const TWO_FORMS: &str = "error: 'show' and 'explain' write one form: take either --csv or --dot
 
 For more information, try '--help'.
 ";

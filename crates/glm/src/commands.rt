@@ -20,7 +20,7 @@ ghost use Rattle.glm.specs.Statuses.{IsStatus};
 use crate::outcomes::{Outcome, file_failed};
 use clap::Error;
 use clap::error::ErrorKind;
-use command_line::{CommandRequest, Delivery, NOT_A_NUMERAL, Request, VERSION_TEXT, request_of};
+use command_line::{CommandRequest, Delivery, Request, VERSION_TEXT, request_of, usage_text};
 use file_streams::{NewFile, open_source};
 use history_commands::{Verdict, check, explain, show, verdict_line};
 use replay_commands::{ToolFault, replay, replay_in_pieces, write_text};
@@ -188,7 +188,7 @@ fn outcome_of<'a, T: Threads + Wait + Files, R: Read + Drop, W: Write, E: Write,
     match request_of(alloc, words) {
         Ok(Some(request)) => run_request(rt, alloc, gate, request, input, output, errors),
         Ok(None) => {
-            let _reported = errors.write_all(NOT_A_NUMERAL.as_bytes());
+            let _reported = errors.write_all(usage_text(words).as_bytes());
             Outcome::Misused
         }
         Err(error) => outcome_of_error(&error, output, errors),
