@@ -17,6 +17,8 @@ these statuses and whole rows of a legal history behind it, in which each sessio
 rounds of runs all later allocations are refused too: a run that goes on after its refusal fails. Threads allocate in any order, so
 a run's last rounds are the first three in a row without a refusal.
 
+A replay with hints of a row that is refused ends with status 1 and that row's line also if memory is refused for the hint.
+
 A test has to pass: it makes a call that found no memory once more, and wants the answer that ample memory gives. Tests that print
 what became of a refusal have to print each case in some round.
 
@@ -181,6 +183,11 @@ def ends(status, output, errors=b""):
     return is_right
 
 
+def ends_with_hint(line, hint):
+    """Whether the program ended for want of memory, or with status 1 and the line of the row, with the hint or without it."""
+    return lambda ended: ended in (REFUSED, (1, b"", line), (1, b"", line + hint))
+
+
 def ends_in_pieces(history):
     """Like `ends` with status 0, but whole pieces of the history may have been written before memory was refused."""
     rows = history.splitlines(keepends=True)
@@ -242,7 +249,9 @@ def trials_of_the_program(folder):
     for name, rows in TRACES.items():
         trace, history = trace_of(rows), history_of(rows)
         yield Trial(f"replay of {name}", [PROGRAM, "replay"], ends(0, history), trace)
-        yield Trial(f"check of {name}", [PROGRAM, "check"], ends(0, b"legal %d\n" % len(rows)), history)
+        for form in ([], ["--stream"]):
+            words = ["check", *form]
+            yield Trial(f"{' '.join(words)} of {name}", [PROGRAM, *words], ends(0, b"legal %d\n" % len(rows)), history)
         # each reader behind the writer has a line for each request ahead of its own
         commands = ("show",) if rows is CROWD else ("show", "explain")
         for words in ([command, *form] for command in commands for form in ([], ["--csv"], ["--dot"])):
@@ -276,6 +285,11 @@ def trials_of_the_program(folder):
     yield Trial("check of a history that isn't legal", [PROGRAM, "check"], ends(3, b"illegal 2\n"), illegal)
     faulty = b"1,begin,,\n1,lock,01,S\n"
     yield Trial("replay of a faulty row", [PROGRAM, "replay"], ends(1, b"", b"glm: row 2: Path LeadingZero\n"), faulty)
+
+
+    line = b"glm: row 2: Path LeadingZero\n"
+    hint = b"  line 2: 1,lock,01,S\n                 ^~\n  numbers have no leading zeros\n"
+    yield Trial("replay --hints of a faulty row", [PROGRAM, "replay", "--hints"], ends_with_hint(line, hint), faulty)
 
 
 def trials_of_tests():

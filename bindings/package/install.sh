@@ -1,10 +1,13 @@
 # Installs the library below a prefix, and takes it away again. Read by ./embed, which defines `top`, `work` and `tell`,
-# and calls `place` and then `can_install` and `install_all`, or `uninstall_all`.
+# and calls `place` and then `can_install` and `install_all`, or `uninstall_all`; and by ./glm, which installs the program and has
+# its own `listed`, `folders` and `stage`.
 #
 # What is installed is listed in share/pelgaisti/installed: a line for each file, and before them a line that ends in / for each
 # folder that was made for it, by its path from the prefix (./ is the prefix itself, ../ the folder above it). All files are
 # copied beside their places first and then renamed, so that a failure leaves what was there.
 listed=share/pelgaisti/installed
+# the folders below the prefix to which files go
+folders="include lib share"
 
 # Fills `$work/stage` with the files as they will be below the prefix.
 stage() {
@@ -94,13 +97,15 @@ refuse() {
 
 # Copies the staged files beside their places.
 copy_all() {
-    local file place
+    local file place mode
     while IFS= read -r file; do
         place="$target/$file"
+        mode=644
+        [[ "$file" != bin/* ]] || mode=755
         make_folder "$(dirname "$place")" || refuse "the folder $(dirname "$place") can't be made"
         [ ! -d "$place" ] || { echo "x: it is a folder" > "$work/why" && refuse "$place can't be written"; }
         copied+=("$place.new-$$")
-        { cp "$work/stage/$file" "$place.new-$$" && chmod 644 "$place.new-$$"; } 2> "$work/why" || refuse "$place can't be written"
+        { cp "$work/stage/$file" "$place.new-$$" && chmod "$mode" "$place.new-$$"; } 2> "$work/why" || refuse "$place can't be written"
     done < "$work/files"
 }
 
@@ -116,7 +121,7 @@ place() {
 can_install() {
     local folder probe
     trap 'take_back; rm -rf "$work"' EXIT
-    for folder in include lib share; do
+    for folder in $folders; do
         make_folder "$target/$folder" || refuse "the folder $target/$folder can't be made"
         probe="$target/$folder/pelgaisti.new-$$"
         copied+=("$probe")

@@ -9,6 +9,8 @@ mod examples;
 #[cfg(test)]
 mod harness;
 #[cfg(test)]
+mod hints;
+#[cfg(test)]
 mod pieces;
 #[cfg(test)]
 mod reader_faults;

@@ -55,7 +55,7 @@ pub no_sessions : (name : Text) (rows : List Row) → ((n : ℕ) → ¬ Gives (c
     → (asked : CommandRequest) → ¬ IsRequest (Some (name, rows)) asked
 no_sessions name rows none (request.Replay n d) is = none n is.1
 no_sessions name rows none (request.Run n t d) is = none n (as_sessions rows d n is.1)
-no_sessions name rows none (request.Check n) is = none n is.1
+no_sessions name rows none (request.Check n d) is = none n is.1
 no_sessions name rows none (request.Show n p f) is = none n is.1
 no_sessions name rows none (request.Explain n p f) is = none n is.1
 
@@ -64,7 +64,7 @@ pub no_turns : (name : Text) (rows : List Row) → name ≡ codes "run" → ((n 
     → (asked : CommandRequest) → ¬ IsRequest (Some (name, rows)) asked
 no_turns name rows run none (request.Replay n d) is = let bad : codes "run" ≡ codes "replay" = sym run ∙ is.0 in cc
 no_turns name rows run none (request.Run n t d) is = none t is.2
-no_turns name rows run none (request.Check n) is = let bad : codes "run" ≡ codes "check" = sym run ∙ is.0 in cc
+no_turns name rows run none (request.Check n d) is = let bad : codes "run" ≡ codes "check" = sym run ∙ is.0 in cc
 no_turns name rows run none (request.Show n p f) is = let bad : codes "run" ≡ codes "show" = sym run ∙ is.0 in cc
 no_turns name rows run none (request.Explain n p f) is = let bad : codes "run" ≡ codes "explain" = sym run ∙ is.0 in cc
 
@@ -76,7 +76,7 @@ no_streamed name rows n run given many flag (request.Run m t delivery.Whole) is 
 no_streamed name rows n run given many flag (request.Run m t delivery.InPieces) is =
     let same : m ≡ n = sessions-one rows m n (as_sessions rows delivery.InPieces m is.1) given in
     omega (arith, same, many, is.1.few)
-no_streamed name rows n run given many flag (request.Check m) is = let bad : codes "run" ≡ codes "check" = sym run ∙ is.0 in cc
+no_streamed name rows n run given many flag (request.Check m d) is = let bad : codes "run" ≡ codes "check" = sym run ∙ is.0 in cc
 no_streamed name rows n run given many flag (request.Show m p f) is = let bad : codes "run" ≡ codes "show" = sym run ∙ is.0 in cc
 no_streamed name rows n run given many flag (request.Explain m p f) is = let bad : codes "run" ≡ codes "explain" = sym run ∙ is.0 in cc
 
@@ -85,7 +85,7 @@ pub nothing_shown : (name : Text) (rows : List Row) → name ≡ codes "show" �
     → (asked : CommandRequest) → ¬ IsRequest (Some (name, rows)) asked
 nothing_shown name rows show none (request.Replay n d) is = let bad : codes "show" ≡ codes "replay" = sym show ∙ is.0 in cc
 nothing_shown name rows show none (request.Run n t d) is = let bad : codes "show" ≡ codes "run" = sym show ∙ is.0 in cc
-nothing_shown name rows show none (request.Check n) is = let bad : codes "show" ≡ codes "check" = sym show ∙ is.0 in cc
+nothing_shown name rows show none (request.Check n d) is = let bad : codes "show" ≡ codes "check" = sym show ∙ is.0 in cc
 nothing_shown name rows show none (request.Show n p f) is = none p f is.2 is.3
 nothing_shown name rows show none (request.Explain n p f) is = let bad : codes "show" ≡ codes "explain" = sym show ∙ is.0 in cc
 
@@ -94,7 +94,7 @@ pub nothing_explained : (name : Text) (rows : List Row) → name ≡ codes "expl
     → (asked : CommandRequest) → ¬ IsRequest (Some (name, rows)) asked
 nothing_explained name rows explain none (request.Replay n d) is = let bad : codes "explain" ≡ codes "replay" = sym explain ∙ is.0 in cc
 nothing_explained name rows explain none (request.Run n t d) is = let bad : codes "explain" ≡ codes "run" = sym explain ∙ is.0 in cc
-nothing_explained name rows explain none (request.Check n) is = let bad : codes "explain" ≡ codes "check" = sym explain ∙ is.0 in cc
+nothing_explained name rows explain none (request.Check n d) is = let bad : codes "explain" ≡ codes "check" = sym explain ∙ is.0 in cc
 nothing_explained name rows explain none (request.Show n p f) is = let bad : codes "explain" ≡ codes "show" = sym explain ∙ is.0 in cc
 nothing_explained name rows explain none (request.Explain n p f) is = none p f is.2 is.3
 
@@ -109,7 +109,7 @@ pub no_name : (name : Text) (rows : List Row) → name ≢ codes "replay" → na
     → name ≢ codes "explain" → (asked : CommandRequest) → ¬ IsRequest (Some (name, rows)) asked
 no_name name rows replay run check show explain (request.Replay n d) is = replay is.0
 no_name name rows replay run check show explain (request.Run n t d) is = run is.0
-no_name name rows replay run check show explain (request.Check n) is = check is.0
+no_name name rows replay run check show explain (request.Check n d) is = check is.0
 no_name name rows replay run check show explain (request.Show n p f) is = show is.0
 no_name name rows replay run check show explain (request.Explain n p f) is = explain is.0
 
@@ -130,23 +130,23 @@ one-in : (name : Text) (rows : List Row) (r q : CommandRequest) → IsRequestIn 
 one-in name rows (request.Replay m d) (request.Replay n e) a b =
     ap₂ (λ k l. request.Replay k l) (sessions-one rows m n a.1 b.1) (delivery-one rows d e a.2 b.2)
 one-in name rows (request.Replay m d) (request.Run n t e) a b = let bad : codes "replay" ≡ codes "run" = sym a.0 ∙ b.0 in cc
-one-in name rows (request.Replay m d) (request.Check n) a b = let bad : codes "replay" ≡ codes "check" = sym a.0 ∙ b.0 in cc
+one-in name rows (request.Replay m d) (request.Check n c) a b = let bad : codes "replay" ≡ codes "check" = sym a.0 ∙ b.0 in cc
 one-in name rows (request.Run m u d) (request.Replay n e) a b = let bad : codes "run" ≡ codes "replay" = sym a.0 ∙ b.0 in cc
 one-in name rows (request.Run m u d) (request.Run n t e) a b =
     let same : m ≡ n = sessions-one rows m n (as_sessions rows d m a.1) (as_sessions rows e n b.1) in
     let tries : u ≡ t = turns-one rows u t a.2 b.2 in
     let way : d ≡ e = delivery-one rows d e a.3 b.3 in
     cc
-one-in name rows (request.Run m u d) (request.Check n) a b = let bad : codes "run" ≡ codes "check" = sym a.0 ∙ b.0 in cc
-one-in name rows (request.Check m) (request.Replay n e) a b = let bad : codes "check" ≡ codes "replay" = sym a.0 ∙ b.0 in cc
-one-in name rows (request.Check m) (request.Run n t e) a b = let bad : codes "check" ≡ codes "run" = sym a.0 ∙ b.0 in cc
-one-in name rows (request.Check m) (request.Check n) a b = ap (λ k. request.Check k) (sessions-one rows m n a.1 b.1)
+one-in name rows (request.Run m u d) (request.Check n c) a b = let bad : codes "run" ≡ codes "check" = sym a.0 ∙ b.0 in cc
+one-in name rows (request.Check m d) (request.Replay n e) a b = let bad : codes "check" ≡ codes "replay" = sym a.0 ∙ b.0 in cc
+one-in name rows (request.Check m d) (request.Run n t e) a b = let bad : codes "check" ≡ codes "run" = sym a.0 ∙ b.0 in cc
+one-in name rows (request.Check m d) (request.Check n e) a b = ap₂ (λ k c. request.Check k c) (sessions-one rows m n a.1 b.1) (delivery-one rows d e a.2 b.2)
 one-in name rows (request.Replay m d) (request.Show n q g) a b = let bad : codes "replay" ≡ codes "show" = sym a.0 ∙ b.0 in cc
 one-in name rows (request.Run m u d) (request.Show n q g) a b = let bad : codes "run" ≡ codes "show" = sym a.0 ∙ b.0 in cc
-one-in name rows (request.Check m) (request.Show n q g) a b = let bad : codes "check" ≡ codes "show" = sym a.0 ∙ b.0 in cc
+one-in name rows (request.Check m d) (request.Show n q g) a b = let bad : codes "check" ≡ codes "show" = sym a.0 ∙ b.0 in cc
 one-in name rows (request.Show m p f) (request.Replay n e) a b = let bad : codes "show" ≡ codes "replay" = sym a.0 ∙ b.0 in cc
 one-in name rows (request.Show m p f) (request.Run n t e) a b = let bad : codes "show" ≡ codes "run" = sym a.0 ∙ b.0 in cc
-one-in name rows (request.Show m p f) (request.Check n) a b = let bad : codes "show" ≡ codes "check" = sym a.0 ∙ b.0 in cc
+one-in name rows (request.Show m p f) (request.Check n c) a b = let bad : codes "show" ≡ codes "check" = sym a.0 ∙ b.0 in cc
 one-in name rows (request.Show m p f) (request.Show n q g) a b =
     let same : m ≡ n = sessions-one rows m n a.1 b.1 in
     let there : p ≡ q = place-one rows p q a.2 b.2 in
@@ -154,11 +154,11 @@ one-in name rows (request.Show m p f) (request.Show n q g) a b =
     cc
 one-in name rows (request.Replay m d) (request.Explain n q g) a b = let bad : codes "replay" ≡ codes "explain" = sym a.0 ∙ b.0 in cc
 one-in name rows (request.Run m u d) (request.Explain n q g) a b = let bad : codes "run" ≡ codes "explain" = sym a.0 ∙ b.0 in cc
-one-in name rows (request.Check m) (request.Explain n q g) a b = let bad : codes "check" ≡ codes "explain" = sym a.0 ∙ b.0 in cc
+one-in name rows (request.Check m d) (request.Explain n q g) a b = let bad : codes "check" ≡ codes "explain" = sym a.0 ∙ b.0 in cc
 one-in name rows (request.Show m p f) (request.Explain n q g) a b = let bad : codes "show" ≡ codes "explain" = sym a.0 ∙ b.0 in cc
 one-in name rows (request.Explain m p f) (request.Replay n e) a b = let bad : codes "explain" ≡ codes "replay" = sym a.0 ∙ b.0 in cc
 one-in name rows (request.Explain m p f) (request.Run n t e) a b = let bad : codes "explain" ≡ codes "run" = sym a.0 ∙ b.0 in cc
-one-in name rows (request.Explain m p f) (request.Check n) a b = let bad : codes "explain" ≡ codes "check" = sym a.0 ∙ b.0 in cc
+one-in name rows (request.Explain m p f) (request.Check n c) a b = let bad : codes "explain" ≡ codes "check" = sym a.0 ∙ b.0 in cc
 one-in name rows (request.Explain m p f) (request.Show n q g) a b = let bad : codes "explain" ≡ codes "show" = sym a.0 ∙ b.0 in cc
 one-in name rows (request.Explain m p f) (request.Explain n q g) a b =
     let same : m ≡ n = sessions-one rows m n a.1 b.1 in

@@ -1,4 +1,4 @@
--- What a request has beside its command: its files, whether comments are skipped, and numbers within their bounds.
+-- What a request has beside its command: its files, whether comments are skipped and hints asked for, and numbers within their bounds.
 use Rattle.std.proofs.Common.{rules, sym, subst, refl, ◌≡◌, List, Option, Some, None}
 use Rattle.std.specs.Prelude.{IfSome}
 use Rattle.clap.specs.Walk.{Row, Text}
@@ -14,7 +14,7 @@ pub streams_moved : (found : Option (Text × List Row)) (name : Text) (rows : Li
     → IfSome r (HasStreams rows) → IfSome r (HasStreamsOf found)
 streams_moved found name rows None is h = search rules
 streams_moved found name rows (Some q) is h =
-    subst (λ (f : Option (Text × List Row)). HasStreamsOf f q) (sym is) (record { input = h.input; output = h.output; comments = h.comments })
+    subst (λ (f : Option (Text × List Row)). HasStreamsOf f q) (sym is) (record { input = h.input; output = h.output; comments = h.comments; hints = h.hints })
 
 -- the streams of the command that was found are those of the words
 pub streams_of_words : (found there : Option (Text × List Row)) (r : Option Request) → found ≡ there → IfSome r (HasStreamsOf found) → IfSome r (HasStreamsOf there)
@@ -25,7 +25,7 @@ numbers_in : (found : Option (Text × List Row)) (asked : CommandRequest) → Is
 numbers_in None asked is = absurd is
 numbers_in (Some found) (request.Replay n d) is = (is.1.some, is.1.few)
 numbers_in (Some found) (request.Run n t d) is = (is.1.some, is.1.few, is.2.some, is.2.few)
-numbers_in (Some found) (request.Check n) is = (is.1.some, is.1.few)
+numbers_in (Some found) (request.Check n d) is = (is.1.some, is.1.few)
 numbers_in (Some found) (request.Show n p f) is = (is.1.some, is.1.few)
 numbers_in (Some found) (request.Explain n p f) is = (is.1.some, is.1.few)
 

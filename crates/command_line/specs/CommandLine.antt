@@ -70,11 +70,19 @@ output_option = record (new_rule (codes "output")) {
 abbrev pub comments_flag : Rule
 comments_flag = flag_named (codes "comments")
 
--- a command with the argument and the options `[FILE] [--sessions N] [-o FILE] [--comments]` added
-abbrev pub with_streams : App → App
-with_streams command = with_rule (with_rule (with_rule (with_rule command file_argument) sessions_option) output_option) comments_flag
+-- the flag `--hints`
+abbrev pub hints_flag : Rule
+hints_flag = flag_named (codes "hints")
 
--- the command `name [FILE] [--sessions N] [-o FILE] [--comments]`
+-- a command with the flags `[--comments] [--hints]` added
+abbrev pub with_flags : App → App
+with_flags command = with_rule (with_rule command comments_flag) hints_flag
+
+-- a command with the argument and the options `[FILE] [--sessions N] [-o FILE] [--comments] [--hints]` added
+abbrev pub with_streams : App → App
+with_streams command = with_flags (with_rule (with_rule (with_rule command file_argument) sessions_option) output_option)
+
+-- the command `name [FILE] [--sessions N] [-o FILE] [--comments] [--hints]`
 abbrev pub command_for_sessions : Text → App
 command_for_sessions name = with_streams (new_app name)
 
@@ -82,13 +90,13 @@ command_for_sessions name = with_streams (new_app name)
 abbrev pub with_forms : App → App
 with_forms command = with_rule (with_rule (with_rule command at_option) (flag_named (codes "csv"))) (flag_named (codes "dot"))
 
--- the command `name [FILE] [--sessions N] [-o FILE] [--comments] [--at P] [--csv] [--dot]`
+-- the command `name [FILE] [--sessions N] [-o FILE] [--comments] [--hints] [--at P] [--csv] [--dot]`
 abbrev pub app_with_forms : Text → App
 app_with_forms name = with_forms (command_for_sessions name)
 
 -- the program `glm`, which has a version and requires one of the commands `replay [--stream]`, `run [--turns T] [--stream]`,
--- `check`, `show [--at P] [--csv] [--dot]` and `explain [--at P] [--csv] [--dot]`, each with `[FILE] [--sessions N] [-o FILE]
--- [--comments]`
+-- `check [--stream]`, `show [--at P] [--csv] [--dot]` and `explain [--at P] [--csv] [--dot]`, each with `[FILE] [--sessions N] [-o FILE]
+-- [--comments] [--hints]`
 abbrev pub glm_command : App
 glm_command =
     with_subcommand
@@ -99,7 +107,7 @@ glm_command =
     (on_top (λ s. record s { subcommand_required = true; has_version = true }) (new_app (codes "glm")))
     (with_rule (command_for_sessions (codes "replay")) stream_flag).top)
     (with_rule (with_rule (command_for_sessions (codes "run")) turns_option) stream_flag).top)
-    (command_for_sessions (codes "check")).top)
+    (with_rule (command_for_sessions (codes "check")) stream_flag).top)
     (app_with_forms (codes "show")).top)
     (app_with_forms (codes "explain")).top
 
@@ -117,7 +125,7 @@ pub record Gives (option : Text) (greatest : ℕ) (rows : List Row) (number : �
 abbrev pub HasFlag : Text → List Row → Type 0
 HasFlag flag rows = first_of flag rows ≡ Some (codes "true")
 
--- the parsed options want the history delivered in this way: in pieces exactly if they have the flag `--stream`
+-- the parsed options want so much of the history kept in memory: a piece exactly if they have the flag `--stream`
 abbrev pub Wants : List Row → Delivery → Type 0
 Wants rows delivery.Whole = ¬ HasFlag (codes "stream") rows
 Wants rows delivery.InPieces = HasFlag (codes "stream") rows
@@ -149,7 +157,8 @@ IsRequestIn name rows (request.Replay sessions asked) =
     (name ≡ codes "replay") × Gives (codes "sessions") MAX_SESSIONS rows sessions × Wants rows asked
 IsRequestIn name rows (request.Run sessions turns asked) =
     (name ≡ codes "run") × Gives (codes "sessions") (most_sessions asked) rows sessions × Gives (codes "turns") MAX_TURNS rows turns × Wants rows asked
-IsRequestIn name rows (request.Check sessions) = (name ≡ codes "check") × Gives (codes "sessions") MAX_SESSIONS rows sessions
+IsRequestIn name rows (request.Check sessions asked) =
+    (name ≡ codes "check") × Gives (codes "sessions") MAX_SESSIONS rows sessions × Wants rows asked
 IsRequestIn name rows (request.Show sessions place asked) =
     (name ≡ codes "show") × Gives (codes "sessions") MAX_SESSIONS rows sessions × GivesPlace rows place × WantsForm rows asked
 IsRequestIn name rows (request.Explain sessions place asked) =
@@ -159,7 +168,7 @@ IsRequestIn name rows (request.Explain sessions place asked) =
 abbrev pub HasNumbers : CommandRequest → Type 0
 HasNumbers (request.Replay sessions asked) = (0 < sessions) × (sessions ≤ MAX_SESSIONS)
 HasNumbers (request.Run sessions turns asked) = (0 < sessions) × (sessions ≤ most_sessions asked) × (0 < turns) × (turns ≤ MAX_TURNS)
-HasNumbers (request.Check sessions) = (0 < sessions) × (sessions ≤ MAX_SESSIONS)
+HasNumbers (request.Check sessions asked) = (0 < sessions) × (sessions ≤ MAX_SESSIONS)
 HasNumbers (request.Show sessions place asked) = (0 < sessions) × (sessions ≤ MAX_SESSIONS)
 HasNumbers (request.Explain sessions place asked) = (0 < sessions) × (sessions ≤ MAX_SESSIONS)
 
@@ -191,9 +200,9 @@ AskRun words sessions turns = Ask words (request.Run sessions turns delivery.Who
 abbrev pub AskRunInPieces : List Text → ℕ → ℕ → Type 0
 AskRunInPieces words sessions turns = Ask words (request.Run sessions turns delivery.InPieces)
 
--- the words ask to check a history with this number of sessions
-abbrev pub AskCheck : List Text → ℕ → Type 0
-AskCheck words sessions = Ask words (request.Check sessions)
+-- the words ask to check a history with this number of sessions, in either way
+abbrev pub AskCheck : List Text → ℕ → Delivery → Type 0
+AskCheck words sessions asked = Ask words (request.Check sessions asked)
 
 -- the words ask to show the state at this place of a history, at its end if it is None, with this number of sessions, in this form
 abbrev pub AskShow : List Text → ℕ → Option ℕ → Form → Type 0

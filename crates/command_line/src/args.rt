@@ -4,7 +4,7 @@ ghost use Rattle.std.specs.Prelude.{◌≡◌, true, false, codes, IfOk};
 ghost use Rattle.clap.specs.Simple.{app_of, with_rule};
 ghost use Rattle.clap.specs.Walk.{rule_of};
 ghost use Rattle.clap.specs.declared.builder.command.Command.TheViews.{out-Command as fields_of};
-ghost use Rattle.command_line.specs.CommandLine.{app_with_forms, at_option, command_for_sessions, comments_flag, file_argument, flag_named, glm_command, output_option, sessions_option, stream_flag, turns_option, with_forms, with_streams};
+ghost use Rattle.command_line.specs.CommandLine.{app_with_forms, at_option, command_for_sessions, comments_flag, file_argument, flag_named, glm_command, hints_flag, output_option, sessions_option, stream_flag, turns_option, with_flags, with_forms, with_streams};
 
 use crate::texts::{
     ABOUT_CHECK, ABOUT_EXPLAIN, ABOUT_REPLAY, ABOUT_RUN, ABOUT_SHOW, STATUSES, VERSION,
@@ -22,12 +22,14 @@ pub const MAX_STREAMED_SESSIONS: u16 = MAX_SESSIONS - 1;
 /// The greatest value of `--at`: a place of a history.
 pub const MAX_PLACE: u32 = u32::MAX;
 
-/// How a command writes its history.
+/// How much of a history a command keeps in memory.
 #[derive(Clone, Copy, Debug, Drop, PartialEq, Eq)]
 pub enum Delivery {
-    /// The whole text is made before its first byte is written.
+    /// All of it: a replay or a run makes the whole text before it writes the first byte, and a check reads all rows before it
+    /// compares the first reply.
     Whole,
-    /// The text of a piece of the history is made and written each time the piece is served, by the flag `--stream`.
+    /// A piece, by the flag `--stream`: a replay or a run makes and writes the text of a piece each time it is served, and a
+    /// check compares each reply as its row is read.
     InPieces,
 }
 
@@ -50,8 +52,8 @@ pub enum CommandRequest {
     /// Run a trace on threads; holds the number of sessions, the greatest number of tries for each answer, and how the history
     /// is written.
     Run(u16, u32, Delivery),
-    /// Check a history; holds the number of sessions.
-    Check(u16),
+    /// Check a history; holds the number of sessions, and how the history is read.
+    Check(u16, Delivery),
     /// Show the state of the lock table at a place of a history; holds the number of sessions, the place, `None` for the end, and
     /// the form.
     Show(u16, Option<u32>, Form),
@@ -71,6 +73,8 @@ pub struct Request<'a> {
     pub output: Option<&'a str>,
     /// Whether comments in the input are skipped, by the flag `--comments`.
     pub skips_comments: bool,
+    /// Whether hints are asked for, by the flag `--hints`.
+    pub wants_hints: bool,
 }
 
 /// Defines the argument `[FILE]`, which every command has.
@@ -164,17 +168,38 @@ fn comments_arg<'a>(alloc: Global) -> Arg<'a>
     flag_arg(alloc, "comments", "Skips lines that begin with '#'")
 }
 
+/// Defines the flag `--hints`, which every command has.
+fn hints_arg<'a>(alloc: Global) -> Arg<'a>
+    ensures rule { rule_of result ≡ hints_flag }
+    ensures own { result.global ≡ false }
+{
+    flag_arg(
+        alloc,
+        "hints",
+        "Shows a row that is refused, or a wrong reply, and what would help, as on a terminal",
+    )
+}
+
+/// Adds the flags that every command has. Fails if memory is refused.
+fn with_flags<'a>(alloc: Global, command: Command<'a>) -> Result<Command<'a>, AllocError>
+    requires own { (fields_of command).has_globals ≡ false }
+    ensures app { IfOk result (λ made. app_of made ≡ with_flags (app_of command.entry)) }
+    ensures own { IfOk result (λ made. (fields_of made).has_globals ≡ false) }
+{
+    command.arg(comments_arg(alloc))?.arg(hints_arg(alloc))
+}
+
 /// Adds the argument and the options that every command has. Fails if memory is refused.
 fn with_streams<'a>(alloc: Global, command: Command<'a>) -> Result<Command<'a>, AllocError>
     requires own { (fields_of command).has_globals ≡ false }
     ensures app { IfOk result (λ made. app_of made ≡ with_streams (app_of command.entry)) }
     ensures own { IfOk result (λ made. (fields_of made).has_globals ≡ false) }
 {
-    command
+    let command = command
         .arg(file_arg(alloc))?
         .arg(sessions_arg(alloc))?
-        .arg(output_arg(alloc))?
-        .arg(comments_arg(alloc))
+        .arg(output_arg(alloc))?;
+    with_flags(alloc, command)
 }
 
 /// Defines a command with the argument and the options that every command has. `about` is its line in the list of commands, and `long_about` the
@@ -221,6 +246,24 @@ fn run_command<'a>(alloc: Global) -> Result<Command<'a>, AllocError>
         ABOUT_RUN,
     )?;
     run.arg(turns_arg(alloc))?.arg(stream_arg(alloc))
+}
+
+/// Defines the command `check`. Fails if memory is refused.
+fn check_command<'a>(alloc: Global) -> Result<Command<'a>, AllocError>
+    ensures app { IfOk result (λ command. app_of command ≡ with_rule (command_for_sessions (codes "check")) stream_flag) }
+    ensures own { IfOk result (λ command. (fields_of command).has_globals ≡ false) }
+{
+    let check = command_of(
+        alloc,
+        "check",
+        "Says whether a history is legal",
+        ABOUT_CHECK,
+    )?;
+    check.arg(flag_arg(
+        alloc,
+        "stream",
+        "Compares each reply as its row is read, and keeps no rows in memory",
+    ))
 }
 
 /// Adds the option `--at` and the flags `--csv` and `--dot` to a command. `at_help` and `dot_help` are the help of `--at` and of
@@ -285,12 +328,7 @@ pub(crate) fn commands<'a>(alloc: Global) -> Result<Command<'a>, AllocError>
 {
     let replay = replay_command(alloc)?;
     let run = run_command(alloc)?;
-    let check = command_of(
-        alloc,
-        "check",
-        "Says whether a history is legal",
-        ABOUT_CHECK,
-    )?;
+    let check = check_command(alloc)?;
     let show = show_command(alloc)?;
     let explain = explain_command(alloc)?;
     Command::new(alloc, "glm")

@@ -5,9 +5,10 @@ ghost use Rattle.clap.specs.Walk.{Text};
 ghost use Rattle.lock_rules.specs.declared.calls.TheConstants.{MAX_SESSIONS};
 ghost use Rattle.command_line.specs.declared.args.CommandRequest.{CommandRequest as RequestValue};
 ghost use Rattle.command_line.specs.declared.args.TheConstants.{MAX_STREAMED_SESSIONS, MAX_TURNS};
+ghost use Rattle.command_line.specs.declared.args.Delivery.TheVariants as Delivery;
 ghost use Rattle.command_line.specs.declared.args.Form.TheVariants as Form;
 ghost use Rattle.command_line.specs.CommandLine.{Ask, AskCheck, AskExplain, AskHelp, AskNothing, AskReplay, AskReplayInPieces, AskRun, AskRunInPieces, AskShow, AskVersion};
-ghost use Rattle.command_line.specs.Streams.{SkipComments, input_file, output_file};
+ghost use Rattle.command_line.specs.Streams.{SkipComments, WantHints, input_file, output_file};
 
 /// A command line asks for at most one command with its numbers. A command line that asks for a command asks neither for
 /// help nor for the version.
@@ -30,7 +31,8 @@ pub fn words_ask_as_documented()
     ensures attached { AskReplay (codes "glm" ∷ codes "replay" ∷ codes "--sessions=1024" ∷ []) MAX_SESSIONS }
     ensures stream { AskReplayInPieces (codes "glm" ∷ codes "replay" ∷ codes "--stream" ∷ []) 256 }
     ensures stream_sessions { AskReplayInPieces (codes "glm" ∷ codes "replay" ∷ codes "--sessions=7" ∷ codes "--stream" ∷ []) 7 }
-    ensures check_stream { AskNothing (codes "glm" ∷ codes "check" ∷ codes "--stream" ∷ []) }
+    ensures check_stream { AskCheck (codes "glm" ∷ codes "check" ∷ codes "--stream" ∷ []) 256 Delivery.InPieces }
+    ensures show_stream { AskNothing (codes "glm" ∷ codes "show" ∷ codes "--stream" ∷ []) }
     ensures plus { AskNothing (codes "glm" ∷ codes "replay" ∷ codes "--sessions=+7" ∷ []) }
     ensures zeros { AskNothing (codes "glm" ∷ codes "replay" ∷ codes "--sessions=007" ∷ []) }
     ensures none { AskNothing (codes "glm" ∷ codes "replay" ∷ codes "--sessions" ∷ codes "0" ∷ []) }
@@ -50,8 +52,8 @@ pub fn words_ask_as_documented()
     ensures no_turns { AskNothing (codes "glm" ∷ codes "run" ∷ codes "--turns=0" ∷ []) }
     ensures too_many_turns { AskNothing (codes "glm" ∷ codes "run" ∷ codes "--turns=1000000001" ∷ []) }
     ensures replay_turns { AskNothing (codes "glm" ∷ codes "replay" ∷ codes "--turns=9" ∷ []) }
-    ensures check { AskCheck (codes "glm" ∷ codes "check" ∷ []) 256 }
-    ensures check_sessions { AskCheck (codes "glm" ∷ codes "check" ∷ codes "--sessions" ∷ codes "8" ∷ []) 8 }
+    ensures check { AskCheck (codes "glm" ∷ codes "check" ∷ []) 256 Delivery.Whole }
+    ensures check_sessions { AskCheck (codes "glm" ∷ codes "check" ∷ codes "--sessions" ∷ codes "8" ∷ []) 8 Delivery.Whole }
     ensures show { AskShow (codes "glm" ∷ codes "show" ∷ []) 256 None Form.Lines }
     ensures show_at { AskShow (codes "glm" ∷ codes "show" ∷ codes "--at" ∷ codes "0" ∷ []) 256 (Some 0) Form.Lines }
     ensures show_rows { AskShow (codes "glm" ∷ codes "show" ∷ codes "--csv" ∷ codes "--at=7" ∷ codes "--sessions=3" ∷ []) 3 (Some 7) Form.Rows }
@@ -67,17 +69,19 @@ pub fn words_ask_as_documented()
 {}
 
 /// Command lines with the files that they name: `-` is a standard stream, and so is a file that is left out. No command takes two
-/// files to read.
+/// files to read. Each command has the flags `--comments` and `--hints`.
 pub fn words_name_files()
     ensures none { (input_file (codes "glm" ∷ codes "replay" ∷ []) ≡ None) × (output_file (codes "glm" ∷ codes "replay" ∷ []) ≡ None) }
     ensures read { AskReplay (codes "glm" ∷ codes "replay" ∷ codes "a.csv" ∷ []) 256 × (input_file (codes "glm" ∷ codes "replay" ∷ codes "a.csv" ∷ []) ≡ Some (codes "a.csv")) }
-    ensures dash { AskCheck (codes "glm" ∷ codes "check" ∷ codes "-" ∷ []) 256 × (input_file (codes "glm" ∷ codes "check" ∷ codes "-" ∷ []) ≡ None) }
+    ensures dash { AskCheck (codes "glm" ∷ codes "check" ∷ codes "-" ∷ []) 256 Delivery.Whole × (input_file (codes "glm" ∷ codes "check" ∷ codes "-" ∷ []) ≡ None) }
     ensures between { input_file (codes "glm" ∷ codes "run" ∷ codes "--stream" ∷ codes "a.csv" ∷ codes "--turns=9" ∷ []) ≡ Some (codes "a.csv") }
-    ensures write { AskCheck (codes "glm" ∷ codes "check" ∷ codes "-o" ∷ codes "b.txt" ∷ []) 256 × (output_file (codes "glm" ∷ codes "check" ∷ codes "-o" ∷ codes "b.txt" ∷ []) ≡ Some (codes "b.txt")) }
+    ensures write { AskCheck (codes "glm" ∷ codes "check" ∷ codes "-o" ∷ codes "b.txt" ∷ []) 256 Delivery.Whole × (output_file (codes "glm" ∷ codes "check" ∷ codes "-o" ∷ codes "b.txt" ∷ []) ≡ Some (codes "b.txt")) }
     ensures write_long { output_file (codes "glm" ∷ codes "show" ∷ codes "--output=b.txt" ∷ []) ≡ Some (codes "b.txt") }
     ensures write_dash { output_file (codes "glm" ∷ codes "explain" ∷ codes "-o" ∷ codes "-" ∷ []) ≡ None }
     ensures two { AskNothing (codes "glm" ∷ codes "replay" ∷ codes "a.csv" ∷ codes "b.csv" ∷ []) }
     ensures no_target { AskNothing (codes "glm" ∷ codes "replay" ∷ codes "-o" ∷ []) }
     ensures comments { SkipComments (codes "glm" ∷ codes "replay" ∷ codes "--comments" ∷ []) }
     ensures no_comments { ¬ SkipComments (codes "glm" ∷ codes "replay" ∷ []) }
+    ensures hints { WantHints (codes "glm" ∷ codes "check" ∷ codes "--hints" ∷ []) }
+    ensures no_hints { ¬ WantHints (codes "glm" ∷ codes "check" ∷ []) }
 {}

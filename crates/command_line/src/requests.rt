@@ -78,7 +78,7 @@ fn has_flag(given: &ArgMatches, flag: &str) -> bool
     }
 }
 
-/// Returns how a command writes its history: in pieces if the options have the flag `--stream`.
+/// Returns how much of a history a command keeps in memory: a piece if the options have the flag `--stream`.
 fn delivery_of(given: &ArgMatches) -> Delivery
     ensures { Wants (rows_of (found_of given.now)) result }
 {
@@ -182,7 +182,7 @@ fn request_named(name: &str, given: &ArgMatches) -> Option<CommandRequest>
         };
     }
     if name == "check" {
-        return Some(CommandRequest::Check(sessions));
+        return Some(CommandRequest::Check(sessions, delivery_of(given)));
     }
     if name == "show" {
         return show_request(sessions, given);
@@ -217,6 +217,7 @@ fn request_with_files<'a>(name: &str, given: &ArgMatches<'a>) -> Option<Request<
         input: option_file(given, "file"),
         output: option_file(given, "output"),
         skips_comments: has_flag(given, "comments"),
+        wants_hints: has_flag(given, "hints"),
     })
 }
 

@@ -69,6 +69,11 @@ A row of a history is place,session,op,resource,mode,reply,value, one for each c
   5,1,lock,1,S,refused,NoTransaction       the name of the refusal
   6,3,withdraw,,,withdrawn,
 
+With --stream each reply is compared as its row is read, and no rows are kept in memory. What is written is the same: all
+rows are read in any case, and a row that is refused is named, also behind a wrong reply.
+
+With --hints, or on a terminal, standard error also shows the first wrong reply beside the lock table's.
+
 An example: glm check examples/queue.history.csv";
 
 /// The beginning of the help of `show`.

@@ -3,6 +3,7 @@ use Rattle.std.specs.Prelude.{◌≡◌, ◌≢◌, ℕ, List, Option, Some, Res
 use Rattle.std.specs.Io.KnownBytes.{Keeps, Appends}
 use Rattle.clap.specs.Walk.{Text}
 use Rattle.lock_trace.specs.declared.faults.TraceFault.{TraceFault}
+use Rattle.command_line.specs.declared.args.Delivery.{Delivery}
 use Rattle.command_line.specs.declared.args.Form.{Form}
 use Rattle.history_commands.specs.declared.checking.Verdict.{Verdict}
 use Rattle.history_commands.specs.declared.checking.Verdict.TheVariants as verdict
@@ -107,10 +108,11 @@ pub record HasPrintedPart (n : ℕ) (input old new : Option (List ℕ)) : Type 0
   pub is_right : (bytes : List ℕ) → input ≡ Some bytes → Checks n bytes (Ok verdict)
   pub written : AppendsPart old new (text_of_verdict verdict)
 
--- the words ask for a check, and `answer` is its verdict, which was printed, or its fault
+-- the words ask for a check, in either way, and `answer` is its verdict, which was printed, or its fault
 pub record HasAnsweredCheck (words : List Text) (input old new : Option (List ℕ)) (answer : Result Verdict ToolFault) : Type 0 where
   pub sessions : ℕ
-  pub asked : AskCheck words sessions
+  pub delivery : Delivery
+  pub asked : AskCheck words sessions delivery
   pub kept : IfErr answer (λ fault. fault ≢ tool.Device → Keeps old new)
   pub part : IfErr answer (λ fault. fault ≡ tool.Device → HasPrintedPart sessions input old new)
   pub written : IfOk answer (λ found. Appends old new (text_of_verdict found))

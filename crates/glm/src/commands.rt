@@ -8,23 +8,28 @@ ghost use Rattle.clap.specs.Walk.{Text, texts};
 ghost use Rattle.lock_rules.specs.declared.calls.TheConstants.{MAX_SESSIONS};
 ghost use Rattle.glm.specs.declared.outcomes.Outcome.{Outcome};
 ghost use Rattle.glm.specs.declared.outcomes.TheConstants.{DONE, ILLEGAL, NO_MEMORY, DEVICE, STOPPED};
+ghost use Rattle.glm.specs.Programs.{HasRun};
 ghost use Rattle.command_line.specs.CommandLine.{Ask, AskReplayInPieces, AskRunInPieces, HasNumbers, glm_command};
 ghost use Rattle.command_line.specs.Streams.{HasStreamsOf, SkipComments as AskNoComments, input_file, output_file};
 ghost use Rattle.glm.specs.Outcomes.{HasDone, HasPrintedPart, PrintsVerdict, status_of_outcome};
-ghost use Rattle.history_commands.specs.Verdicts.{text_of_verdict};
+ghost use Rattle.history_commands.specs.Verdicts.{Checks, Finds, IsFaultOfCheck, text_of_verdict};
 ghost use Rattle.glm.specs.Streams.{HasDoneInFile, HasOutcome};
 ghost use Rattle.glm.specs.ParserErrors.{IsOutcomeOfError};
 ghost use Rattle.replay_commands.specs.Replays.{IsFaultOfOneThread};
 ghost use Rattle.glm.specs.Statuses.{IsStatus};
 
+use crate::hints::{Hints, write_hints};
 use crate::outcomes::{Outcome, file_failed};
 use clap::Error;
 use clap::error::ErrorKind;
 use command_line::{CommandRequest, Delivery, Request, VERSION_TEXT, request_of, usage_text};
 use file_streams::{NewFile, open_source};
-use history_commands::{Verdict, check, explain, show, verdict_line};
+use history_commands::{
+    Finding, Verdict, WrongReply, check_by_row, check_whole, explain, show, verdict_line,
+};
 use replay_commands::{ToolFault, replay, replay_in_pieces, write_text};
 use row_comments::SkipComments;
+use row_hints::{Kept, KeptRows};
 use run_commands::{Gate, run, run_in_pieces};
 use std::alloc::Global;
 use std::fs::Files;
@@ -53,7 +58,45 @@ fn outcome_of_error<W: Write, E: Write>(error: &Error, output: &mut W, errors: &
     }
 }
 
-/// Checks a history and writes the verdict to `output`. The fault is that of the check, or `NoMemory` if there is no memory
+/// Checks a history, whose rows are kept or not, and returns what is found.
+fn finding_of<R: Read + Drop>(
+    alloc: Global,
+    input: R,
+    sessions: u16,
+    delivery: Delivery,
+) -> Result<Finding, ToolFault>
+    requires some { 0 < sessions }
+    requires few { sessions ≤ MAX_SESSIONS }
+    ensures faults { IfErr result (λ fault. IsFaultOfCheck fault) }
+    ensures finds { (bytes : List ℕ) → R.remaining input ≡ Some bytes → Finds sessions bytes result }
+{
+    match delivery {
+        Delivery::Whole => check_whole(alloc, input, sessions),
+        Delivery::InPieces => check_by_row(alloc, input, sessions),
+    }
+}
+
+/// Checks a history, and puts its first wrong reply, if it has one, into `wrong`.
+fn checked<R: Read + Drop>(
+    alloc: Global,
+    input: R,
+    sessions: u16,
+    delivery: Delivery,
+    wrong: &mut Option<WrongReply>,
+) -> Result<Verdict, ToolFault>
+    requires some { 0 < sessions }
+    requires few { sessions ≤ MAX_SESSIONS }
+    ensures faults { IfErr result (λ fault. IsFaultOfCheck fault) }
+    ensures checks { (bytes : List ℕ) → R.remaining input ≡ Some bytes → Checks sessions bytes result }
+{
+    let finding = finding_of(alloc, input, sessions, delivery)?;
+    if let Finding::Wrong(reply) = finding {
+        *wrong = Some(reply);
+    }
+    Ok(finding.verdict())
+}
+
+/// Checks a history and writes the verdict to `output`. Puts the first wrong reply, if there is one, into `wrong`. The fault is that of the check, or `NoMemory` if there is no memory
 /// for the line, or `Device` if the writer fails.
 #[tactic(auto, using(crate::proofs::PartsWritten::check_part))]
 fn write_verdict<R: Read + Drop, W: Write>(
@@ -61,6 +104,8 @@ fn write_verdict<R: Read + Drop, W: Write>(
     input: R,
     output: &mut W,
     sessions: u16,
+    delivery: Delivery,
+    wrong: &mut Option<WrongReply>,
 ) -> Result<Verdict, ToolFault>
     requires some { 0 < sessions }
     requires few { sessions ≤ MAX_SESSIONS }
@@ -70,7 +115,7 @@ fn write_verdict<R: Read + Drop, W: Write>(
     ensures written { IfOk result (λ verdict. Appends (W.contents output.old) (W.contents output.new) (text_of_verdict verdict)) }
     ensures checks { (bytes : List ℕ) → R.remaining input ≡ Some bytes → PrintsVerdict sessions bytes result }
 {
-    let verdict = check(alloc, input, sessions)?;
+    let verdict = checked(alloc, input, sessions, delivery, wrong)?;
     let Ok(line) = verdict_line(alloc, verdict) else {
         return Err(ToolFault::NoMemory);
     };
@@ -80,7 +125,7 @@ fn write_verdict<R: Read + Drop, W: Write>(
     Ok(verdict)
 }
 
-/// Runs a command: reads `input`, and writes to `output`.
+/// Runs a command: reads `input`, and writes to `output`. A check puts the first wrong reply into `wrong`.
 fn perform<T: Threads + Wait, R: Read + Drop, W: Write, G: Gate>(
     rt: &T,
     alloc: Global,
@@ -88,6 +133,7 @@ fn perform<T: Threads + Wait, R: Read + Drop, W: Write, G: Gate>(
     command: CommandRequest,
     input: R,
     output: &mut W,
+    wrong: &mut Option<WrongReply>,
 ) -> Outcome
     requires numbers { HasNumbers command }
     ensures { (words : List Text) → Ask words command → HasDone words (R.remaining input) (W.contents output.old) (W.contents output.new) result }
@@ -107,8 +153,8 @@ fn perform<T: Threads + Wait, R: Read + Drop, W: Write, G: Gate>(
             let turns = u64::from(turns);
             Outcome::RunInPieces(run_in_pieces(rt, alloc, input, output, sessions, turns, gate))
         }
-        CommandRequest::Check(sessions) => {
-            Outcome::Check(write_verdict(alloc, input, output, sessions))
+        CommandRequest::Check(sessions, delivery) => {
+            Outcome::Check(write_verdict(alloc, input, output, sessions, delivery, wrong))
         }
         CommandRequest::Show(sessions, place, form) => {
             Outcome::Show(show(alloc, input, output, sessions, place, form))
@@ -128,6 +174,7 @@ fn perform_to_file<T: Threads + Wait + Files, R: Read + Drop, E: Write, G: Gate>
     input: R,
     path: &str,
     errors: &mut E,
+    wrong: &mut Option<WrongReply>,
 ) -> Outcome
     requires numbers { HasNumbers command }
     ensures { (words : List Text) → Ask words command → HasDoneInFile words (R.remaining input) result }
@@ -136,7 +183,7 @@ fn perform_to_file<T: Threads + Wait + Files, R: Read + Drop, E: Write, G: Gate>
         Ok(file) => file,
         Err(error) => return file_failed("write", path, &error, errors),
     };
-    let outcome = perform(rt, alloc, gate, command, input, &mut file.output);
+    let outcome = perform(rt, alloc, gate, command, input, &mut file.output, wrong);
     if !outcome.is_done() {
         file.remove(rt);
         return outcome;
@@ -147,7 +194,28 @@ fn perform_to_file<T: Threads + Wait + Files, R: Read + Drop, E: Write, G: Gate>
     }
 }
 
-/// Runs the command of a request on the files that it names. `input` and `output` are the standard streams.
+/// Reports the outcome of a request on `errors`, with hints if they are wanted.
+fn report_request<E: Write>(
+    alloc: Global,
+    outcome: &Outcome,
+    request: Request<'_>,
+    hints: Hints,
+    rows: &KeptRows,
+    wrong: Option<WrongReply>,
+    errors: &mut E,
+) {
+    outcome.report(errors);
+    if wants_hints(request, hints) {
+        write_hints(alloc, outcome, request.command, rows, wrong, errors);
+    }
+}
+
+/// Whether a request gets hints.
+fn wants_hints(request: Request<'_>, hints: Hints) -> bool {
+    request.wants_hints || hints == Hints::Always
+}
+
+/// Runs the command of a request on the files that it names, and reports its outcome. `input` and `output` are the standard streams.
 fn run_request<'a, T: Threads + Wait + Files, R: Read + Drop, W: Write, E: Write, G: Gate>(
     rt: &T,
     alloc: Global,
@@ -156,6 +224,7 @@ fn run_request<'a, T: Threads + Wait + Files, R: Read + Drop, W: Write, E: Write
     input: R,
     output: &mut W,
     errors: &mut E,
+    hints: Hints,
 ) -> Outcome
     requires numbers { HasNumbers request.command }
     ensures { (words : List Text) → Ask words request.entry.command → HasStreamsOf (subcommand_of glm_command words) request.entry
@@ -167,13 +236,26 @@ fn run_request<'a, T: Threads + Wait + Files, R: Read + Drop, W: Write, E: Write
             return file_failed("read", request.input.unwrap_or("-"), &error, errors);
         }
     };
+    let command = request.command;
+    let mut kept = Kept::new(alloc, text, wants_hints(request, hints));
+    let mut wrong = None;
     match request.output {
-        None => perform(rt, alloc, gate, request.command, text, output),
-        Some(path) => perform_to_file(rt, alloc, gate, request.command, text, path, errors),
+        None => {
+            let outcome = perform(rt, alloc, gate, command, &mut kept, output, &mut wrong);
+            report_request(alloc, &outcome, request, hints, kept.rows(), wrong, errors);
+            outcome
+        }
+        Some(path) => {
+            let outcome = perform_to_file(
+                rt, alloc, gate, command, &mut kept, path, errors, &mut wrong,
+            );
+            report_request(alloc, &outcome, request, hints, kept.rows(), wrong, errors);
+            outcome
+        }
     }
 }
 
-/// Parses the words and runs the command that they ask for. Usage errors are written to `errors`.
+/// Parses the words and runs the command that they ask for. Usage errors and the outcome are reported on `errors`.
 fn outcome_of<'a, T: Threads + Wait + Files, R: Read + Drop, W: Write, E: Write, G: Gate>(
     words: &'a [&'a str],
     rt: &T,
@@ -182,17 +264,45 @@ fn outcome_of<'a, T: Threads + Wait + Files, R: Read + Drop, W: Write, E: Write,
     input: R,
     output: &mut W,
     errors: &mut E,
+    hints: Hints,
 ) -> Outcome
     ensures { HasOutcome (texts words.entry.now) (R.remaining input) (W.contents output.old) (W.contents output.new) result }
 {
     match request_of(alloc, words) {
-        Ok(Some(request)) => run_request(rt, alloc, gate, request, input, output, errors),
+        Ok(Some(request)) => run_request(rt, alloc, gate, request, input, output, errors, hints),
         Ok(None) => {
             let _reported = errors.write_all(usage_text(words).as_bytes());
             Outcome::Misused
         }
-        Err(error) => outcome_of_error(&error, output, errors),
+        Err(error) => {
+            let outcome = outcome_of_error(&error, output, errors);
+            outcome.report(errors);
+            outcome
+        }
     }
+}
+
+/// Runs the program as [`program`] does, and writes hints when `hints` says so.
+pub fn program_with_hints<
+    'a,
+    T: Threads + Wait + Files,
+    R: Read + Drop,
+    W: Write,
+    E: Write,
+    G: Gate,
+>(
+    rt: &T,
+    alloc: Global,
+    words: &'a [&'a str],
+    input: R,
+    output: &mut W,
+    errors: &mut E,
+    gate: &G,
+    hints: Hints,
+) -> u8
+    ensures { HasRun (texts words.entry.now) (R.remaining input) (W.contents output.old) (W.contents output.new) result }
+{
+    outcome_of(words, rt, alloc, gate, input, output, errors, hints).status()
 }
 
 /// Runs the whole program except its streams. `words` are the command line with the program's own name first, and `gate`
@@ -207,7 +317,8 @@ fn outcome_of<'a, T: Threads + Wait + Files, R: Read + Drop, W: Write, E: Write,
 /// - 6: a gate stayed shut, or a call ran out of tries
 ///
 /// A fault is reported in one line on `errors`, and a usage error in several lines; behind the line of a file that can't be opened
-/// or written stands one that names it. A failure of `errors` changes no status.
+/// or written stands one that names it, and with `--hints` behind that of a row what would help, and what the lock table gives in
+/// place of a wrong reply. A failure of `errors` changes no status.
 ///
 /// Words that name a file to read or to write have it read or written in place of `input` or `output`. A file is written only
 /// with status 0 or 3, whole; what follows is of `output` then. `output` is written only with status 0, with status 3 (the verdict), with status 5 if the writer failed on the
@@ -237,7 +348,6 @@ pub fn program<'a, T: Threads + Wait + Files, R: Read + Drop, W: Write, E: Write
     ensures silent_always { result ≢ DONE → result ≢ ILLEGAL → result ≢ DEVICE → result ≢ NO_MEMORY → result ≢ STOPPED
         → Keeps (W.contents output.old) (W.contents output.new) }
 {
-    let outcome = outcome_of(words, rt, alloc, gate, input, output, errors);
-    outcome.report(errors);
-    outcome.status()
+    let hints = Hints::AsAsked;
+    program_with_hints(rt, alloc, words, input, output, errors, gate, hints)
 }

@@ -3,7 +3,8 @@
 //!
 //! `commands.rt` is the whole program except its streams, and `outcomes.rt` has statuses and messages. The command line is
 //! `command_line`'s, `replay` is of `replay_commands`, `run` of `run_commands`, `check`, `show` and `explain` are of
-//! `history_commands`. `row_comments` skips comments, and `file_streams` opens and writes files.
+//! `history_commands`. `row_comments` skips comments, and `file_streams` opens and writes files. `hints.rt` writes the hints of
+//! `row_hints`.
 //!
 //! Proved: what each command wrote, with its result and exit status, for every input, also after a fault; and that the
 //! standard streams are read and written, or kept, as the words that name files say. Only tested: what files have, that
@@ -12,11 +13,15 @@
 #![tactic(auto)]
 
 mod commands;
+mod hints;
 mod outcomes;
 
 pub use command_line::{Form, MAX_PLACE, MAX_STREAMED_SESSIONS, MAX_TURNS, VERSION, VERSION_TEXT};
-pub use commands::program;
-pub use history_commands::{ShowFault, Verdict, check, explain, show};
+pub use commands::{program, program_with_hints};
+pub use hints::Hints;
+pub use history_commands::{
+    Finding, ShowFault, Verdict, WrongReply, check, check_by_row, check_whole, explain, show,
+};
 pub use outcomes::{DEVICE, DONE, ILLEGAL, NO_MEMORY, REFUSED, STOPPED, USAGE};
 pub use replay_commands::{PIECE_ENTRIES, ToolFault, replay, replay_in_pieces};
 pub use run_commands::{Gate, OpenGate, run, run_in_pieces};

@@ -3,7 +3,7 @@
 ghost use Rattle.std.specs.Prelude.{◌≡◌};
 ghost use Rattle.glm.specs.Outcomes.{status_of_outcome};
 ghost use Rattle.glm.specs.Streams.{IsFileFault};
-ghost use Rattle.glm.specs.Statuses.{status_for, status_for_show, status_of_kind};
+ghost use Rattle.glm.specs.Statuses.{IsStatus, status_for, status_for_show, status_of_kind};
 
 use history_commands::{ShowFault, Verdict};
 use lock_trace::{TraceFault, TraceKind};
@@ -70,7 +70,8 @@ pub(crate) enum Outcome {
 
 /// The exit status of a row's fault.
 fn status_of_row(fault: &TraceFault) -> u8
-    ensures { result ≡ status_of_kind fault.now.kind }
+    ensures kind { result ≡ status_of_kind fault.now.kind }
+    ensures status { IsStatus result }
 {
     match fault.kind {
         TraceKind::Device => DEVICE,
@@ -81,7 +82,8 @@ fn status_of_row(fault: &TraceFault) -> u8
 
 /// The exit status of a fault.
 fn status_of_fault(fault: &ToolFault) -> u8
-    ensures { result ≡ status_for fault.now }
+    ensures fault { result ≡ status_for fault.now }
+    ensures status { IsStatus result }
 {
     match fault {
         ToolFault::Trace(fault) => status_of_row(fault),
@@ -93,7 +95,8 @@ fn status_of_fault(fault: &ToolFault) -> u8
 
 /// The exit status of a fault of `show` or `explain`.
 fn status_of_show_fault(fault: &ShowFault) -> u8
-    ensures { result ≡ status_for_show fault.now }
+    ensures fault { result ≡ status_for_show fault.now }
+    ensures status { IsStatus result }
 {
     match fault {
         ShowFault::Trace(fault) => status_of_row(fault),
@@ -147,7 +150,8 @@ impl Outcome {
 
     /// The exit status of the outcome.
     pub(crate) fn status(&self) -> u8
-        ensures { result ≡ status_of_outcome self.now }
+        ensures outcome { result ≡ status_of_outcome self.now }
+        ensures status { IsStatus result }
     {
         match self {
             Outcome::Replay(Ok(_)) | Outcome::ReplayInPieces(Ok(_)) => DONE,

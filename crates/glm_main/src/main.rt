@@ -1,20 +1,20 @@
 //! The program `glm`: passes the command line and the standard streams to the library `glm`, and returns its exit
 //! status.
 //!
-//! `main.rt` reads the words and calls `glm::program` with a gate that is always open. `awaited.rt` is standard input
-//! that prints a hint if rows are awaited from a terminal.
+//! `main.rt` reads the words and calls `glm::program_with_hints` with a gate that is always open, and with hints if standard error is a
+//! terminal. `awaited.rt` is standard input that prints a hint if rows are awaited from a terminal.
 //!
 //! Nothing is decided here except the status for a command line that can't be read: `USAGE` if a word isn't UTF-8, else
 //! `NO_MEMORY`. The library has a crate of its own, since a library and a program can't share a name.
 //!
-//! Proved: that the program is safe. What it writes and returns for its words is proved of `glm::program`. Only tested:
+//! Proved: that the program is safe. What it writes and returns for its words is proved of `glm::program_with_hints`. Only tested:
 //! what is here, with built programs.
 #![tactic(auto)]
 
 mod awaited;
 
 use crate::awaited::Awaited;
-use glm::{NO_MEMORY, OpenGate, USAGE, program};
+use glm::{Hints, NO_MEMORY, OpenGate, USAGE, program_with_hints};
 use std::io::{ErrorKind, IsTerminal, Read, Write};
 use std::process::ExitCode;
 use std::rt::Runtime;
@@ -29,6 +29,7 @@ fn status<R: Runtime + AllocGlobal + Threads + Wait, I: Read + Drop, O: Write, E
     input: I,
     output: &mut O,
     errors: &mut E,
+    hints: Hints,
 ) -> io::Result<u8> {
     let alloc = rt.alloc();
     let given: Vec<String> = env::args(rt)?.collect(alloc)?;
@@ -36,7 +37,8 @@ fn status<R: Runtime + AllocGlobal + Threads + Wait, I: Read + Drop, O: Write, E
     for word in &given {
         words.push(word.as_str())?;
     }
-    Ok(program(rt, alloc, &words, input, output, errors, &OpenGate))
+    let status = program_with_hints(rt, alloc, &words, input, output, errors, &OpenGate, hints);
+    Ok(status)
 }
 
 /// Runs the program on the standard streams. A command line that can't be read ends with status `USAGE` or `NO_MEMORY`.
@@ -45,7 +47,12 @@ fn main(rt: HostRuntime) -> ExitCode {
     let mut errors = rt.stderr();
     let is_terminal = rt.stdin().is_terminal();
     let input = Awaited::new(rt.stdin(), rt.stderr(), is_terminal);
-    match status(&rt, input, &mut output, &mut errors) {
+    let hints = if errors.is_terminal() {
+        Hints::Always
+    } else {
+        Hints::AsAsked
+    };
+    match status(&rt, input, &mut output, &mut errors, hints) {
         Ok(status) => ExitCode::from(status),
         Err(error) if error.kind() == ErrorKind::InvalidData => {
             let _written = eprintln!(rt;

@@ -250,7 +250,7 @@ const HISTORIES: [(&str, &str); 15] = [
 
 /// The hint to the first fault of a trace, which a replay with 256 sessions reads. Empty if it has none.
 fn hint_of_trace(alloc: Global, text: &str) -> Result<Vec<u8>, AllocError> {
-    let mut kept = Kept::new(alloc, text.as_bytes());
+    let mut kept = Kept::new(alloc, text.as_bytes(), true);
     match read_trace(alloc, &mut kept, 256) {
         Ok(_rows) => Ok(Vec::new(alloc)),
         Err(fault) => hint_text(alloc, kept.rows(), &fault, Command::Replay, 256),
@@ -259,7 +259,7 @@ fn hint_of_trace(alloc: Global, text: &str) -> Result<Vec<u8>, AllocError> {
 
 /// The hint to the first fault of a history, which a check with 256 sessions reads. Empty if it has none.
 fn hint_of_history(alloc: Global, text: &str) -> Result<Vec<u8>, AllocError> {
-    let mut kept = Kept::new(alloc, text.as_bytes());
+    let mut kept = Kept::new(alloc, text.as_bytes(), true);
     match read_history(alloc, &mut kept, 256) {
         Ok(_entries) => Ok(Vec::new(alloc)),
         Err(fault) => hint_text(alloc, kept.rows(), &fault, Command::Check, 256),

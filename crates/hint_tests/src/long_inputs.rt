@@ -24,7 +24,7 @@ fn between(
 
 /// Whether the first fault of the trace has this hint.
 fn has_hint(alloc: Global, text: &[u8], want: &str) -> Result<bool, AllocError> {
-    let mut kept = Kept::new(alloc, text);
+    let mut kept = Kept::new(alloc, text, true);
     match read_trace(alloc, &mut kept, 256) {
         Ok(_rows) => Ok(false),
         Err(fault) => {

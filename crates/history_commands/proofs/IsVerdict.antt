@@ -18,11 +18,11 @@ fewer_from (e ∷ es) (suc i) zero st le legal = absurd (omega (arith, le))
 fewer_from (e ∷ es) (suc i) (suc j) st le legal = (legal.0, fewer_from es i j (step st e.session e.call).state (omega (arith, le)) legal.1)
 
 -- a prefix of a legal prefix is legal
-fewer : (es : List Entry) (i j : ℕ) → i ≤ j → IsLegal (take j es) → IsLegal (take i es)
+pub fewer : (es : List Entry) (i j : ℕ) → i ≤ j → IsLegal (take j es) → IsLegal (take i es)
 fewer es i j le legal = fewer_from es i j empty le legal
 
 -- the prefix of one more entry is the prefix and this entry
-grown : (es : List Entry) (i : ℕ) (e : Entry) → i < length es → e ≡ get_or es i e → take (i + 1) es ≡ take i es ++ (e ∷ [])
+pub grown : (es : List Entry) (i : ℕ) (e : Entry) → i < length es → e ≡ get_or es i e → take (i + 1) es ≡ take i es ++ (e ∷ [])
 grown es i e lt is = ap (λ (k : ℕ). take k es) (add-one i) ∙ take-suc es i e lt ∙ ap (λ (x : Entry). take i es ++ (x ∷ [])) (sym is)
 
 -- an entry of valid entries is valid

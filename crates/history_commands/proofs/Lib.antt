@@ -4,3 +4,4 @@ pub mod LinesTold
 pub mod PartsWritten
 pub mod WithinFront
 pub mod WithoutRequest
+pub mod WrongReplies

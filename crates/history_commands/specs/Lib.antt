@@ -1,3 +1,4 @@
 pub mod Explaining
+pub mod RowsJudged
 pub mod Showing
 pub mod Verdicts

@@ -1,11 +1,12 @@
 //! The command `check`: compares each reply of a history with the reply of a fresh lock table.
 
-ghost use Rattle.std.specs.Prelude.{◌≡◌, ℕ, ◌+◌, ◌<◌, ◌≤◌, ◌↔◌, true, List, [], Some, length, take, All, IfOk, IfErr, IfSome, IfNone, string_bytes};
+ghost use Rattle.std.specs.Prelude.{◌≡◌, ℕ, ◌+◌, ◌<◌, ◌≤◌, ◌↔◌, true, List, [], ◌∷◌, ◌++◌, Some, length, take, All, IfOk, IfErr, IfSome, IfNone, string_bytes};
 ghost use Rattle.lock_rules.specs.declared.calls.TheConstants.{MAX_SESSIONS};
 ghost use Rattle.lock_rules.specs.Legal.{IsLegal};
 ghost use Rattle.lock_trace.specs.Entries.{IsEntry};
-ghost use Rattle.history_commands.specs.Verdicts.{Checks, IsFaultOfCheck, IsFirstWrong, IsVerdict, served_for, text_of_verdict};
+ghost use Rattle.history_commands.specs.Verdicts.{Checks, Finds, IsFaultOfCheck, IsFinding, IsFirstWrong, IsWrongReply, text_of_verdict};
 
+use crate::finding::{Finding, WrongReply};
 use lock_desk::{Book, Entry, NoMemory, Reply};
 use lock_trace::read_history;
 use replay_commands::ToolFault;
@@ -28,6 +29,58 @@ pub(crate) fn is_same(served: Reply, recorded: Reply) -> bool
     served == recorded
 }
 
+/// Serves the call of an entry. Returns the entry with the book's reply if the two replies differ. Fails if the book finds no
+/// memory.
+pub(crate) fn judge_entry(book: &mut Book, entry: &Entry) -> Result<Option<WrongReply>, NoMemory>
+    requires some { 0 < entry.now.session }
+    requires within { entry.now.session ≤ book.old.sessions }
+    requires legal { IsLegal book.old.history }
+    ensures sessions { IfOk result (λ _. book.new.sessions ≡ book.old.sessions) }
+    ensures wrong { IfOk result (λ found. IfSome found (IsWrongReply (book.old.history ++ entry.now ∷ []))) }
+    ensures served_wrong { IfOk result (λ found. IfSome found (λ wrong. length book.new.history ≡ wrong.place + 1)) }
+    ensures legal { IfOk result (λ found. IfNone found (IsLegal (book.old.history ++ entry.now ∷ []))) }
+    ensures served { IfOk result (λ found. IfNone found (book.new.history ≡ book.old.history ++ entry.now ∷ [])) }
+{
+    let place = book.served();
+    let given = book.serve(entry.session, entry.call)?;
+    if is_same(given, entry.reply) {
+        return Ok(None);
+    }
+    Ok(Some(WrongReply {
+        place,
+        told: *entry,
+        given,
+    }))
+}
+
+/// Serves the calls of `entries[from..upto]` in order, on a book that has served those before, and stops at the first entry whose
+/// recorded reply differs from the book's, which it returns. Fails if the book finds no memory for a call.
+fn first_wrong_reply(
+    book: &mut Book,
+    entries: &[Entry],
+    from: usize,
+    upto: usize,
+) -> Result<Option<WrongReply>, NoMemory>
+    requires within { All (IsEntry book.old.sessions) entries.now }
+    requires order { from ≤ upto }
+    requires few { upto ≤ length entries.now }
+    requires served { book.old.history ≡ take from entries.now }
+    requires legal { IsLegal (take from entries.now) }
+    ensures sessions { IfOk result (λ _. book.new.sessions ≡ book.old.sessions) }
+    ensures wrong { IfOk result (λ found. IfSome found (IsWrongReply entries.now)) }
+    ensures served_wrong { IfOk result (λ found. IfSome found (λ wrong. length book.new.history ≡ wrong.place + 1)) }
+    ensures legal { IfOk result (λ found. IfNone found (IsLegal (take upto entries.now))) }
+    ensures served { IfOk result (λ found. IfNone found (book.new.history ≡ take upto entries.now)) }
+{
+    for place in from..upto {
+        let entry = &entries[place];
+        if let Some(wrong) = judge_entry(book, entry)? {
+            return Ok(Some(wrong));
+        }
+    }
+    Ok(None)
+}
+
 /// Serves the calls of `entries[from..upto]` in order, on a book that has served those before, and stops at the first entry whose
 /// recorded reply differs from the book's, whose place it returns. Fails if the book finds no memory for a call.
 pub(crate) fn first_wrong(
@@ -47,14 +100,10 @@ pub(crate) fn first_wrong(
     ensures legal { IfOk result (λ found. IfNone found (IsLegal (take upto entries.now))) }
     ensures served { IfOk result (λ found. IfNone found (book.new.history ≡ take upto entries.now)) }
 {
-    for place in from..upto {
-        let entry = &entries[place];
-        let reply = book.serve(entry.session, entry.call)?;
-        if !is_same(reply, entry.reply) {
-            return Ok(Some(place as u64));
-        }
+    match first_wrong_reply(book, entries, from, upto)? {
+        Some(wrong) => Ok(Some(wrong.place)),
+        None => Ok(None),
     }
-    Ok(None)
 }
 
 /// A fresh lock table that keeps no history in memory. Fails if memory is refused.
@@ -69,29 +118,43 @@ pub(crate) fn fresh_book(alloc: Global, sessions: u16) -> Result<Book, NoMemory>
     Ok(book)
 }
 
-/// Serves the calls of the entries in order and stops at the first entry whose recorded reply differs from the book's.
-/// Fails if the book finds no memory for a call.
-fn judge(book: &mut Book, entries: &[Entry]) -> Result<Verdict, NoMemory>
-    requires empty { book.old.history ≡ [] }
-    requires within { All (IsEntry book.old.sessions) entries.now }
-    ensures verdict { IfOk result (λ verdict. IsVerdict entries.now verdict) }
-    ensures served { IfOk result (λ verdict. length book.new.history ≡ served_for verdict) }
-{
-    match first_wrong(book, entries, 0, entries.len())? {
-        Some(place) => Ok(Verdict::Illegal(place)),
-        None => Ok(Verdict::Legal(entries.len() as u64)),
-    }
-}
-
-/// Returns the verdict of a fresh lock table on the entries. Fails if the lock table finds no memory.
-fn verdict_on(alloc: Global, entries: &[Entry], sessions: u16) -> Result<Verdict, NoMemory>
+/// Serves the calls of the entries in order on a fresh lock table, and returns what is found. Fails if the lock table finds no
+/// memory.
+fn finding_on(alloc: Global, entries: &[Entry], sessions: u16) -> Result<Finding, NoMemory>
     requires some { 0 < sessions }
     requires few { sessions ≤ MAX_SESSIONS }
     requires within { All (IsEntry sessions) entries.now }
-    ensures { IfOk result (λ verdict. IsVerdict entries.now verdict) }
+    ensures { IfOk result (λ finding. IsFinding entries.now finding) }
 {
-    let mut book = Book::new(alloc, sessions)?;
-    judge(&mut book, entries)
+    let mut book = fresh_book(alloc, sessions)?;
+    match first_wrong_reply(&mut book, entries, 0, entries.len())? {
+        Some(wrong) => Ok(Finding::Wrong(wrong)),
+        None => Ok(Finding::Legal(entries.len() as u64)),
+    }
+}
+
+/// Checks a history as [`check`] does, and returns what is found: the first reply that differs, beside the lock table's.
+pub fn check_whole<R: Read + Drop>(
+    alloc: Global,
+    input: R,
+    sessions: u16,
+) -> Result<Finding, ToolFault>
+    requires some { 0 < sessions }
+    requires few { sessions ≤ MAX_SESSIONS }
+    // holds for every reader
+    ensures faults { IfErr result (λ fault. IsFaultOfCheck fault) }
+
+    // holds for a reader whose bytes are known
+    ensures finds { (bytes : List ℕ) → R.remaining input ≡ Some bytes → Finds sessions bytes result }
+{
+    let entries = match read_history(alloc, input, sessions) {
+        Ok(entries) => entries,
+        Err(fault) => return Err(ToolFault::Trace(fault)),
+    };
+    match finding_on(alloc, &entries, sessions) {
+        Ok(finding) => Ok(finding),
+        Err(_) => Err(ToolFault::NoMemory),
+    }
 }
 
 /// Reads the whole text of a history of sessions 1 to `sessions`, at most `MAX_SESSIONS`, and serves its calls in order
@@ -109,14 +172,8 @@ pub fn check<R: Read + Drop>(alloc: Global, input: R, sessions: u16) -> Result<V
     // holds for a reader whose bytes are known
     ensures checks { (bytes : List ℕ) → R.remaining input ≡ Some bytes → Checks sessions bytes result }
 {
-    let entries = match read_history(alloc, input, sessions) {
-        Ok(entries) => entries,
-        Err(fault) => return Err(ToolFault::Trace(fault)),
-    };
-    match verdict_on(alloc, &entries, sessions) {
-        Ok(verdict) => Ok(verdict),
-        Err(_) => Err(ToolFault::NoMemory),
-    }
+    let finding = check_whole(alloc, input, sessions)?;
+    Ok(finding.verdict())
 }
 
 /// Returns the line that the program prints for a verdict. Fails if memory is refused.

@@ -104,6 +104,9 @@ impl KeptRows {
 
     /// Keeps bytes that were read next, and lets go of rows for which there is no room.
     pub fn keep(&mut self, bytes: &[u8]) {
+        if !self.is_open {
+            return;
+        }
         for piece in bytes.chunks(PIECE_BYTES) {
             if self.is_open {
                 self.keep_piece(piece);
@@ -123,14 +126,13 @@ pub struct Kept<R> {
 }
 
 impl<R> Kept<R> {
-    /// Wraps a reader of which nothing was read.
-    pub fn new(alloc: Global, input: R) -> Kept<R>
+    /// Wraps a reader of which nothing was read. Rows are kept only if `keeps`; otherwise no memory is taken.
+    pub fn new(alloc: Global, input: R, keeps: bool) -> Kept<R>
         ensures source { reader_of result ≡ input }
     {
-        Kept {
-            input,
-            rows: KeptRows::new(alloc),
-        }
+        let mut rows = KeptRows::new(alloc);
+        rows.is_open = keeps;
+        Kept { input, rows }
     }
 
     /// The last rows that were read.

@@ -18,7 +18,7 @@ up_to_run = with_subcommand up_to_replay (with_rule (with_rule (command_for_sess
 
 -- the program with the commands up to `check`
 abbrev up_to_check : App
-up_to_check = with_subcommand up_to_run (command_for_sessions (codes "check")).top
+up_to_check = with_subcommand up_to_run (with_rule (command_for_sessions (codes "check")) stream_flag).top
 
 -- the program with the commands up to `show`
 abbrev up_to_show : App

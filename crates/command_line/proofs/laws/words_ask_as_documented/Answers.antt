@@ -81,7 +81,11 @@ returns-clause-stream_sessions c = record { whole = refl; request_is = (refl, nu
 
 pub returns-clause-check_stream : goal.returns-clause-check_stream
 unfolding clap_on_literals
-returns-clause-check_stream c = faulty _ UnknownArgument [] refl (search rules) (search rules)
+returns-clause-check_stream c = record { whole = refl; request_is = (refl, numeral_given (codes "sessions") (codes "256") MAX_SESSIONS 256 _ (omega arith) refl refl (search rules), refl) }
+
+pub returns-clause-show_stream : goal.returns-clause-show_stream
+unfolding clap_on_literals
+returns-clause-show_stream c = faulty _ UnknownArgument [] refl (search rules) (search rules)
 
 pub returns-clause-plus : goal.returns-clause-plus
 unfolding clap_on_literals
@@ -154,11 +158,11 @@ returns-clause-replay_turns c = faulty _ UnknownArgument [] refl (search rules) 
 
 pub returns-clause-check : goal.returns-clause-check
 unfolding clap_on_literals
-returns-clause-check c = record { whole = refl; request_is = (refl, numeral_given (codes "sessions") (codes "256") MAX_SESSIONS 256 _ (omega arith) refl refl (search rules)) }
+returns-clause-check c = record { whole = refl; request_is = (refl, numeral_given (codes "sessions") (codes "256") MAX_SESSIONS 256 _ (omega arith) refl refl (search rules), λ flag. let no : Some (codes "false") ≡ Some (codes "true") = flag in cc) }
 
 pub returns-clause-check_sessions : goal.returns-clause-check_sessions
 unfolding clap_on_literals
-returns-clause-check_sessions c = record { whole = refl; request_is = (refl, numeral_given (codes "sessions") (codes "8") MAX_SESSIONS 8 _ (omega arith) refl refl (search rules)) }
+returns-clause-check_sessions c = record { whole = refl; request_is = (refl, numeral_given (codes "sessions") (codes "8") MAX_SESSIONS 8 _ (omega arith) refl refl (search rules), λ flag. let no : Some (codes "false") ≡ Some (codes "true") = flag in cc) }
 
 pub returns-clause-version : goal.returns-clause-version
 unfolding clap_on_literals

@@ -20,7 +20,7 @@ returns-clause-read c = (record { whole = refl; request_is = (refl, numeral_give
 
 pub returns-clause-dash : goal.returns-clause-dash
 unfolding clap_on_literals
-returns-clause-dash c = (record { whole = refl; request_is = (refl, numeral_given (codes "sessions") (codes "256") MAX_SESSIONS 256 _ (omega arith) refl refl (search rules)) }, refl)
+returns-clause-dash c = (record { whole = refl; request_is = (refl, numeral_given (codes "sessions") (codes "256") MAX_SESSIONS 256 _ (omega arith) refl refl (search rules), λ flag. let no : Some (codes "false") ≡ Some (codes "true") = flag in cc) }, refl)
 
 pub returns-clause-between : goal.returns-clause-between
 unfolding clap_on_literals
@@ -28,7 +28,7 @@ returns-clause-between c = refl
 
 pub returns-clause-write : goal.returns-clause-write
 unfolding clap_on_literals
-returns-clause-write c = (record { whole = refl; request_is = (refl, numeral_given (codes "sessions") (codes "256") MAX_SESSIONS 256 _ (omega arith) refl refl (search rules)) }, refl)
+returns-clause-write c = (record { whole = refl; request_is = (refl, numeral_given (codes "sessions") (codes "256") MAX_SESSIONS 256 _ (omega arith) refl refl (search rules), λ flag. let no : Some (codes "false") ≡ Some (codes "true") = flag in cc) }, refl)
 
 pub returns-clause-write_long : goal.returns-clause-write_long
 unfolding clap_on_literals
@@ -53,3 +53,11 @@ returns-clause-comments c = refl
 pub returns-clause-no_comments : goal.returns-clause-no_comments
 unfolding clap_on_literals
 returns-clause-no_comments c = λ flag. let no : Some (codes "false") ≡ Some (codes "true") = flag in cc
+
+pub returns-clause-hints : goal.returns-clause-hints
+unfolding clap_on_literals
+returns-clause-hints c = refl
+
+pub returns-clause-no_hints : goal.returns-clause-no_hints
+unfolding clap_on_literals
+returns-clause-no_hints c = λ flag. let no : Some (codes "false") ≡ Some (codes "true") = flag in cc

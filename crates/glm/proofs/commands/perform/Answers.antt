@@ -65,7 +65,8 @@ returns-in-Check c c' =
     let done = c'.write_verdict.ensures in
     λ words asked. record {
       sessions = c'.in-Check.sessions;
-      asked = (let is : c'.args.command ≡ request.Check c'.in-Check.sessions = search rules in subst (λ (r : CommandRequest). Ask words r) is asked);
+      delivery = c'.in-Check.delivery;
+      asked = (let is : c'.args.command ≡ request.Check c'.in-Check.sessions c'.in-Check.delivery = search rules in subst (λ (r : CommandRequest). Ask words r) is asked);
       kept = done.kept;
       part = done.part;
       written = done.written;

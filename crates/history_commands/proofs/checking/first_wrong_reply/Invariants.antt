@@ -1,6 +1,6 @@
 use Rattle.std.proofs.Common.{◌≡◌, take}
 use Rattle.lock_rules.specs.Legal.{IsLegal}
-use Rattle.history_commands.proofs.checking.first_wrong.Given as goal
+use Rattle.history_commands.proofs.checking.first_wrong_reply.Given as goal
 
 -- the entries so far are legal and are the book's history
 abbrev pub invariant-loop-place : goal.invariant-loop-place
