@@ -76,7 +76,15 @@ fn finding_of<R: Read + Drop>(
     }
 }
 
-/// Checks a history, and puts its first wrong reply, if it has one, into `wrong`.
+/// The wrong reply that a check found, if it found one.
+fn wrong_of(finding: &Finding) -> Option<WrongReply> {
+    match finding {
+        Finding::Wrong(reply) => Some(*reply),
+        Finding::Legal(_) => None,
+    }
+}
+
+/// Checks a history, and puts its first wrong reply, or that there is none, into `wrong`.
 fn checked<R: Read + Drop>(
     alloc: Global,
     input: R,
@@ -90,14 +98,12 @@ fn checked<R: Read + Drop>(
     ensures checks { (bytes : List ℕ) → R.remaining input ≡ Some bytes → Checks sessions bytes result }
 {
     let finding = finding_of(alloc, input, sessions, delivery)?;
-    if let Finding::Wrong(reply) = finding {
-        *wrong = Some(reply);
-    }
+    *wrong = wrong_of(&finding);
     Ok(finding.verdict())
 }
 
-/// Checks a history and writes the verdict to `output`. Puts the first wrong reply, if there is one, into `wrong`. The fault is that of the check, or `NoMemory` if there is no memory
-/// for the line, or `Device` if the writer fails.
+/// Checks a history and writes the verdict to `output`. Puts the first wrong reply, if there is one, into `wrong`. The fault is that of
+/// the check, or `NoMemory` if there is no memory for the line, or `Device` if the writer fails.
 #[tactic(auto, using(crate::proofs::PartsWritten::check_part))]
 fn write_verdict<R: Read + Drop, W: Write>(
     alloc: Global,

@@ -13,16 +13,16 @@ returns-in-None g c = λ words asked streams.
     let same : Ok c.in-Ok.source ≡ Ok (Left c.args.input) = sym c.in-Ok.is ∙ c.open_source.ensures none in
     let is : c.in-Ok.source ≡ Left c.args.input = cc in
     ap (either g.R.Read.remaining g.T.File.Read.remaining) is)
-    (ap (remaining_of (either g.R.Read.remaining g.T.File.Read.remaining)) c.new-kept.ensures ∙ c.new-text.ensures)
+    (ap (remaining_of (either g.R.Read.remaining g.T.File.Read.remaining)) c.new-kept.ensures.source ∙ c.new-text.ensures)
     (λ _. (refl, refl)) (λ some. absurd (some c.in-None.is)) (c.perform-outcome.ensures words asked)
 
-pub returns-in-Some : goal.returns-in-Some
-returns-in-Some g c = λ words asked streams.
+pub returns : goal.returns
+returns g c = λ words asked streams.
     let (before, after, done) = c.perform_to_file-outcome.ensures words asked in
     of_request words c.args.request _ _ _ _ _ before after c.perform_to_file-outcome.result asked streams
     (λ none.
     let same : Ok c.in-Ok.source ≡ Ok (Left c.args.input) = sym c.in-Ok.is ∙ c.open_source.ensures none in
     let is : c.in-Ok.source ≡ Left c.args.input = cc in
     ap (either g.R.Read.remaining g.T.File.Read.remaining) is)
-    (ap (remaining_of (either g.R.Read.remaining g.T.File.Read.remaining)) c.new-kept.ensures ∙ c.new-text.ensures)
+    (ap (remaining_of (either g.R.Read.remaining g.T.File.Read.remaining)) c.new-kept.ensures.source ∙ c.new-text.ensures)
     (λ none. let bad : Some c.in-Some.path ≡ None = sym c.in-Some.is ∙ none in cc) (λ some. Keeps-refl _) done
