@@ -3,7 +3,7 @@
 
 use lock_modes::Mode;
 use lock_report::{
-    NoMemory, OpenTransaction, Root, ToldWait, Wait, state_rows, state_text, waits_dot,
+    NoMemory, OpenTransaction, Root, ToldWait, Wait, locks_dot, state_rows, state_text, waits_dot,
 };
 use lock_rules::{Claim, ClaimKind, Transaction};
 use lock_tree::Resource;
@@ -96,6 +96,14 @@ const ROWS: &str = "transaction,12,1,,,,\nheld,12,1,,1,IS,\nwaits,12,,,,,1\n";
 const GRAPH: &str =
     "digraph waits {\n  12 [label=\"session 12\\ntransaction 1\"];\n  12 -> 1;\n}\n";
 
+/// A resource with a holder and a queue of two as a box, and the wait for a first blocker.
+const BOXES: &str = "digraph locks {
+  12 [label=\"session 12\\ntransaction 1\"];
+  \"resource 1\" [shape=box, label=\"1\\lsession 12 holds it in IS\\l1. session 12 waits to convert it to S\\l2. session 13 waits for it in X\\l\"];
+  12 -> 1;
+}
+";
+
 /// Whether what was written is this text.
 fn is_written(written: Result<String, NoMemory>, wanted: &str) -> bool {
     match written {
@@ -115,6 +123,29 @@ fn a_lock_table_in_three_forms(rt: HostRuntime) -> Result<(), Fail> {
     right &= is_written(state_rows(rt.alloc(), &[OPEN], &claims, &[WAIT]), ROWS);
     right &= is_written(waits_dot(rt.alloc(), &[OPEN], &[WAIT]), GRAPH);
     assert!(rt; right);
+    Ok(())
+}
+
+/// Contended resources as boxes. A resource that nobody waits for has none, and a wait for another than the first blocker has no
+/// edge.
+#[test]
+fn contended_resources_are_boxes(rt: HostRuntime) -> Result<(), Fail> {
+    let held = lock(Resource::parse("1")?);
+    let conversion = Claim {
+        mode: Mode::S,
+        kind: ClaimKind::Conversion,
+        ..held
+    };
+    let fresh = Claim {
+        session: 13,
+        transaction: VICTIM.transaction,
+        mode: Mode::X,
+        kind: ClaimKind::Fresh,
+        ..held
+    };
+    let claims = [held, conversion, fresh, lock(Resource::parse("2")?)];
+    let graph = locks_dot(rt.alloc(), &[OPEN], &claims, &[FIRST, OTHER]);
+    assert!(rt; is_written(graph, BOXES));
     Ok(())
 }
 

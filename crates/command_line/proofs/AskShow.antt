@@ -25,12 +25,19 @@ pub form-one : (rows : List Row) (a b : Form) → WantsForm rows a → WantsForm
 form-one rows form.Lines form.Lines a b = refl
 form-one rows form.Lines form.Rows a b = absurd (a.0 b.0)
 form-one rows form.Lines form.Graph a b = absurd (a.1 b.1)
+form-one rows form.Lines form.Waits a b = absurd (a.2 b.2)
 form-one rows form.Rows form.Lines a b = absurd (b.0 a.0)
 form-one rows form.Rows form.Rows a b = refl
 form-one rows form.Rows form.Graph a b = absurd (b.0 a.0)
+form-one rows form.Rows form.Waits a b = absurd (b.0 a.0)
 form-one rows form.Graph form.Lines a b = absurd (b.1 a.1)
 form-one rows form.Graph form.Rows a b = absurd (a.0 b.0)
 form-one rows form.Graph form.Graph a b = refl
+form-one rows form.Graph form.Waits a b = absurd (b.1 a.1)
+form-one rows form.Waits form.Lines a b = absurd (b.2 a.2)
+form-one rows form.Waits form.Rows a b = absurd (a.0 b.0)
+form-one rows form.Waits form.Graph a b = absurd (a.1 b.1)
+form-one rows form.Waits form.Waits a b = refl
 
 -- an option `--at` whose text reads as a number gives this place
 pub place_given : (text : Text) (n : ℕ) (rows : List Row) → first_of (codes "at") rows ≡ Some text → reading_of_numeral MAX_PLACE text ≡ Ok n
@@ -53,3 +60,18 @@ pub two_forms : (rows : List Row) → HasFlag (codes "csv") rows → HasFlag (co
 two_forms rows csv dot form.Lines wants = wants.0 csv
 two_forms rows csv dot form.Rows wants = wants.1 dot
 two_forms rows csv dot form.Graph wants = wants.0 csv
+two_forms rows csv dot form.Waits wants = wants.0 csv
+
+-- options with the flags of both graphs want no form
+pub two_graphs : (rows : List Row) → HasFlag (codes "dot") rows → HasFlag (codes "waits") rows → (asked : Form) → ¬ WantsForm rows asked
+two_graphs rows dot waits form.Lines wants = wants.1 dot
+two_graphs rows dot waits form.Rows wants = wants.1 dot
+two_graphs rows dot waits form.Graph wants = wants.2 waits
+two_graphs rows dot waits form.Waits wants = wants.1 dot
+
+-- options with the flags of rows and of waits want no form
+pub rows_and_waits : (rows : List Row) → HasFlag (codes "csv") rows → HasFlag (codes "waits") rows → (asked : Form) → ¬ WantsForm rows asked
+rows_and_waits rows csv waits form.Lines wants = wants.0 csv
+rows_and_waits rows csv waits form.Rows wants = wants.2 waits
+rows_and_waits rows csv waits form.Graph wants = wants.0 csv
+rows_and_waits rows csv waits form.Waits wants = wants.0 csv

@@ -1,5 +1,5 @@
 -- The command line: its grammar for the parser of `clap`, and the request that a list of words makes.
-use Rattle.std.specs.Prelude.{◌≡◌, ℕ, ◌<◌, ◌≤◌, List, [], ◌∷◌, Option, Some, None, codes, decimal, pos, true}
+use Rattle.std.specs.Prelude.{◌≡◌, ℕ, ◌<◌, ◌≤◌, List, [], ◌∷◌, Option, Some, None, codes, decimal, pos, true, Bool, ◌&&◌, ◌||◌}
 use Rattle.clap.specs.Walk.{Row, Rule, Text, first_of}
 use Rattle.clap.specs.Simple.{App, new_app, new_rule, on_top, subcommand_of, with_rule, with_subcommand}
 use Rattle.clap.specs.Kinds.{IsAmong, Kinds}
@@ -94,9 +94,13 @@ with_forms command = with_rule (with_rule (with_rule command at_option) (flag_na
 abbrev pub app_with_forms : Text → App
 app_with_forms name = with_forms (command_for_sessions name)
 
+-- the command `show [FILE] [--sessions N] [-o FILE] [--comments] [--hints] [--at P] [--csv] [--dot] [--waits]`
+abbrev pub show_app : App
+show_app = with_rule (app_with_forms (codes "show")) (flag_named (codes "waits"))
+
 -- the program `glm`, which has a version and requires one of the commands `replay [--stream]`, `run [--turns T] [--stream]`,
--- `check [--stream]`, `show [--at P] [--csv] [--dot]` and `explain [--at P] [--csv] [--dot]`, each with `[FILE] [--sessions N] [-o FILE]
--- [--comments] [--hints]`
+-- `check [--stream]`, `show [--at P] [--csv] [--dot] [--waits]` and `explain [--at P] [--csv] [--dot]`, each with `[FILE]
+-- [--sessions N] [-o FILE] [--comments] [--hints]`
 abbrev pub glm_command : App
 glm_command =
     with_subcommand
@@ -108,7 +112,7 @@ glm_command =
     (with_rule (command_for_sessions (codes "replay")) stream_flag).top)
     (with_rule (with_rule (command_for_sessions (codes "run")) turns_option) stream_flag).top)
     (with_rule (command_for_sessions (codes "check")) stream_flag).top)
-    (app_with_forms (codes "show")).top)
+    show_app.top)
     (app_with_forms (codes "explain")).top
 
 -- the parser's errors for the words; help and the version count as errors; empty if the words are a valid command
@@ -145,11 +149,16 @@ abbrev pub GivesPlace : List Row → Option ℕ → Type 0
 GivesPlace rows None = first_of (codes "at") rows ≡ None
 GivesPlace rows (Some place) = GivesNumberedPlace rows place
 
--- the parsed options want this form: lines unless they have one of the flags `--csv` and `--dot`
+-- more than one of the flags for a form is given
+abbrev pub wants_two_forms : Bool → Bool → Bool → Bool
+wants_two_forms csv dot waits = (csv && dot) || ((csv || dot) && waits)
+
+-- the parsed options want this form: lines unless they have one of the flags `--csv`, `--dot` and `--waits`
 abbrev pub WantsForm : List Row → Form → Type 0
-WantsForm rows form.Lines = (¬ HasFlag (codes "csv") rows) × (¬ HasFlag (codes "dot") rows)
-WantsForm rows form.Rows = HasFlag (codes "csv") rows × (¬ HasFlag (codes "dot") rows)
-WantsForm rows form.Graph = (¬ HasFlag (codes "csv") rows) × HasFlag (codes "dot") rows
+WantsForm rows form.Lines = (¬ HasFlag (codes "csv") rows) × (¬ HasFlag (codes "dot") rows) × (¬ HasFlag (codes "waits") rows)
+WantsForm rows form.Rows = HasFlag (codes "csv") rows × (¬ HasFlag (codes "dot") rows) × (¬ HasFlag (codes "waits") rows)
+WantsForm rows form.Graph = (¬ HasFlag (codes "csv") rows) × HasFlag (codes "dot") rows × (¬ HasFlag (codes "waits") rows)
+WantsForm rows form.Waits = (¬ HasFlag (codes "csv") rows) × (¬ HasFlag (codes "dot") rows) × HasFlag (codes "waits") rows
 
 -- the parsed command, by its name and its options, is this request
 abbrev pub IsRequestIn : Text → List Row → CommandRequest → Type 0

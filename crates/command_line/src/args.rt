@@ -4,7 +4,7 @@ ghost use Rattle.std.specs.Prelude.{◌≡◌, true, false, codes, IfOk};
 ghost use Rattle.clap.specs.Simple.{app_of, with_rule};
 ghost use Rattle.clap.specs.Walk.{rule_of};
 ghost use Rattle.clap.specs.declared.builder.command.Command.TheViews.{out-Command as fields_of};
-ghost use Rattle.command_line.specs.CommandLine.{app_with_forms, at_option, command_for_sessions, comments_flag, file_argument, flag_named, glm_command, hints_flag, output_option, sessions_option, stream_flag, turns_option, with_flags, with_forms, with_streams};
+ghost use Rattle.command_line.specs.CommandLine.{app_with_forms, at_option, command_for_sessions, comments_flag, file_argument, flag_named, glm_command, hints_flag, output_option, sessions_option, show_app, stream_flag, turns_option, with_flags, with_forms, with_streams};
 
 use crate::texts::{
     ABOUT_CHECK, ABOUT_EXPLAIN, ABOUT_REPLAY, ABOUT_RUN, ABOUT_SHOW, STATUSES, VERSION,
@@ -40,8 +40,12 @@ pub enum Form {
     Lines,
     /// Rows of seven fields, by the flag `--csv`.
     Rows,
-    /// Who waits for whom as a graph in the language of Graphviz, by the flag `--dot`.
+    /// A graph in the language of Graphviz, by the flag `--dot`: of `show` the resources that are waited for, and for whom each
+    /// session waits first; of `explain` the cycles that requests closed.
     Graph,
+    /// Who waits for whom, and nothing else, as a graph in the language of Graphviz, by the flag `--waits` of `show`. `explain`
+    /// has no such flag, and writes for this form what it writes for `Graph`.
+    Waits,
 }
 
 /// A command that the words ask for, with its numbers.
@@ -202,8 +206,8 @@ fn with_streams<'a>(alloc: Global, command: Command<'a>) -> Result<Command<'a>, 
     with_flags(alloc, command)
 }
 
-/// Defines a command with the argument and the options that every command has. `about` is its line in the list of commands, and `long_about` the
-/// beginning of its own help. Fails if memory is refused.
+/// Defines a command with the argument and the options that every command has. `about` is its line in the list of commands, and
+/// `long_about` the beginning of its own help. Fails if memory is refused.
 fn command_of<'a>(
     alloc: Global,
     name: &'a str,
@@ -286,7 +290,7 @@ fn with_forms<'a>(
 
 /// Defines the command `show`. Fails if memory is refused.
 fn show_command<'a>(alloc: Global) -> Result<Command<'a>, AllocError>
-    ensures app { IfOk result (λ command. app_of command ≡ app_with_forms (codes "show")) }
+    ensures app { IfOk result (λ command. app_of command ≡ show_app) }
     ensures own { IfOk result (λ command. (fields_of command).has_globals ≡ false) }
 {
     let show = command_of(
@@ -295,12 +299,17 @@ fn show_command<'a>(alloc: Global) -> Result<Command<'a>, AllocError>
         "Shows who holds what and who waits for whom at a place of a history",
         ABOUT_SHOW,
     )?;
-    with_forms(
+    let made = with_forms(
         alloc,
         show,
         "The place of the history in front of which the state is shown, by default its end",
+        "Writes the resources waited for, and each session's first blocker, as a graph for Graphviz",
+    )?;
+    made.arg(flag_arg(
+        alloc,
+        "waits",
         "Writes who waits for whom as a graph for Graphviz",
-    )
+    ))
 }
 
 /// Defines the command `explain`. Fails if memory is refused.

@@ -59,11 +59,15 @@ pub fn words_ask_as_documented()
     ensures show_rows { AskShow (codes "glm" ∷ codes "show" ∷ codes "--csv" ∷ codes "--at=7" ∷ codes "--sessions=3" ∷ []) 3 (Some 7) Form.Rows }
     ensures show_graph { AskShow (codes "glm" ∷ codes "show" ∷ codes "--dot" ∷ []) 256 None Form.Graph }
     ensures show_two_forms { AskNothing (codes "glm" ∷ codes "show" ∷ codes "--csv" ∷ codes "--dot" ∷ []) }
+    ensures show_waits { AskShow (codes "glm" ∷ codes "show" ∷ codes "--waits" ∷ []) 256 None Form.Waits }
+    ensures show_two_graphs { AskNothing (codes "glm" ∷ codes "show" ∷ codes "--dot" ∷ codes "--waits" ∷ []) }
+    ensures show_rows_and_waits { AskNothing (codes "glm" ∷ codes "show" ∷ codes "--csv" ∷ codes "--waits" ∷ []) }
     ensures show_zeros { AskNothing (codes "glm" ∷ codes "show" ∷ codes "--at=07" ∷ []) }
     ensures explain { AskExplain (codes "glm" ∷ codes "explain" ∷ []) 256 None Form.Lines }
     ensures explain_at { AskExplain (codes "glm" ∷ codes "explain" ∷ codes "--at" ∷ codes "7" ∷ []) 256 (Some 7) Form.Lines }
     ensures explain_rows { AskExplain (codes "glm" ∷ codes "explain" ∷ codes "--csv" ∷ codes "--at=7" ∷ codes "--sessions=3" ∷ []) 3 (Some 7) Form.Rows }
     ensures explain_graph { AskExplain (codes "glm" ∷ codes "explain" ∷ codes "--dot" ∷ []) 256 None Form.Graph }
+    ensures explain_waits { AskNothing (codes "glm" ∷ codes "explain" ∷ codes "--waits" ∷ []) }
     ensures explain_two_forms { AskNothing (codes "glm" ∷ codes "explain" ∷ codes "--csv" ∷ codes "--dot" ∷ []) }
     ensures explain_zeros { AskNothing (codes "glm" ∷ codes "explain" ∷ codes "--at=07" ∷ []) }
 {}

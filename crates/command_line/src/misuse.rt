@@ -1,8 +1,9 @@
 //! What is wrong with words that the parser takes but that make no request.
 
-ghost use Rattle.std.specs.Prelude.{◌≡◌, ◌&&◌, if◌then◌else◌, codes};
+ghost use Rattle.std.specs.Prelude.{◌≡◌, if◌then◌else◌, codes};
 ghost use Rattle.std.specs.List.{list_any};
 ghost use Rattle.std.specs.Str.{bytes_eq};
+ghost use Rattle.command_line.specs.CommandLine.{wants_two_forms};
 
 use crate::texts::{NOT_A_NUMERAL, TWO_FORMS};
 
@@ -13,12 +14,22 @@ fn has_word(words: &[&str], word: &str) -> bool
     words.iter().any(|given| *given == word)
 }
 
-/// The message for words that the parser takes but that make no request: [`TWO_FORMS`] if `--csv` and `--dot` are among them, and
-/// else [`NOT_A_NUMERAL`].
-pub fn usage_text(words: &[&str]) -> &'static str
-    ensures { result.now ≡ (if list_any (λ given. bytes_eq given.now (codes "--csv")) words.now && list_any (λ given. bytes_eq given.now (codes "--dot")) words.now then TWO_FORMS.now else NOT_A_NUMERAL.now) }
+/// Whether more than one of the flags for a form is given.
+fn wants_two_forms(csv: bool, dot: bool, waits: bool) -> bool
+    ensures { result ≡ wants_two_forms csv dot waits }
 {
-    if has_word(words, "--csv") && has_word(words, "--dot") {
+    (csv && dot) || ((csv || dot) && waits)
+}
+
+/// The message for words that the parser takes but that make no request: [`TWO_FORMS`] if more than one of `--csv`, `--dot` and
+/// `--waits` are among them, and else [`NOT_A_NUMERAL`].
+pub fn usage_text(words: &[&str]) -> &'static str
+    ensures { result.now ≡ (if wants_two_forms (list_any (λ given. bytes_eq given.now (codes "--csv")) words.now) (list_any (λ given. bytes_eq given.now (codes "--dot")) words.now) (list_any (λ given. bytes_eq given.now (codes "--waits")) words.now) then TWO_FORMS.now else NOT_A_NUMERAL.now) }
+{
+    let csv = has_word(words, "--csv");
+    let dot = has_word(words, "--dot");
+    let waits = has_word(words, "--waits");
+    if wants_two_forms(csv, dot, waits) {
         TWO_FORMS
     } else {
         NOT_A_NUMERAL

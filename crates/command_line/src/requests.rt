@@ -105,16 +105,18 @@ fn option_place(given: &ArgMatches) -> Result<Option<u32>, ()>
     }
 }
 
-/// Returns the form in which `show` or `explain` writes, or `None` if the options have both `--csv` and `--dot`.
+/// Returns the form in which `show` or `explain` writes, or `None` if the options have more than one of `--csv`, `--dot` and `--waits`.
 fn form_of(given: &ArgMatches) -> Option<Form>
     ensures some { IfSome result (WantsForm (rows_of (found_of given.now))) }
     ensures none { IfNone result ((form : FormValue) → ¬ (WantsForm (rows_of (found_of given.now)) form)) }
 {
+    let waits = has_flag(given, "waits");
     match (has_flag(given, "csv"), has_flag(given, "dot")) {
+        (false, false) if waits => Some(Form::Waits),
         (false, false) => Some(Form::Lines),
-        (true, false) => Some(Form::Rows),
-        (false, true) => Some(Form::Graph),
-        (true, true) => None,
+        (true, false) if !waits => Some(Form::Rows),
+        (false, true) if !waits => Some(Form::Graph),
+        _ => None,
     }
 }
 

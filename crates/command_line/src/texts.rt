@@ -90,7 +90,9 @@ and status 3.
     waits for 2 in S
 
 With --csv the same is written as rows row,session,transaction,victim,resource,mode,other, where the row is 'transaction',
-'held', 'conversion', 'fresh' or 'waits'. With --dot who waits for whom is written as a graph, which 'dot -Tsvg' draws.";
+'held', 'conversion', 'fresh' or 'waits'. With --dot each resource that is waited for is a box of a graph, with its holders
+and its queue, and an edge leads from each session that waits to the first that it waits for. With --waits who waits for
+whom is written as a graph, and nothing else. 'dot -Tsvg' draws either.";
 
 /// The beginning of the help of `explain`.
 pub(crate) const ABOUT_EXPLAIN: &str =
@@ -132,7 +134,8 @@ For more information, try '--help'.
 ";
 
 /// The message for `show` or `explain` with two forms.
-pub const TWO_FORMS: &str = "error: 'show' and 'explain' write one form: take either --csv or --dot
+pub const TWO_FORMS: &str =
+    "error: 'show' and 'explain' write one form: take one of --csv, --dot and, of 'show', --waits
 
 For more information, try '--help'.
 ";

@@ -1,3 +1,4 @@
+pub mod BoxesTold
 pub mod ExplainedParts
 pub mod IsVerdict
 pub mod LinesTold

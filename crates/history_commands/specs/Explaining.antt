@@ -34,6 +34,7 @@ abbrev pub account_in : Form → ℕ → Entry → Explanation → List ℕ
 account_in form.Lines place e x = text_of_piece place (e ∷ []) ++ text_of_explanation x
 account_in form.Rows place e x = rows_of_explanation place e.session x
 account_in form.Graph place e x = dot_of_explanation place x
+account_in form.Waits place e x = dot_of_explanation place x
 
 -- the call is a poll
 abbrev pub is_poll : Call → Bool
@@ -50,6 +51,7 @@ abbrev pub answer_in : Form → ℕ → List Entry → ℕ → List ℕ
 answer_in form.Lines n front s = text_of_answer (waits_of n (state_of front).table front s) (doom_answered front s)
 answer_in form.Rows n front s = rows_of_answer (length front) (waits_of n (state_of front).table front s) (doom_answered front s)
 answer_in form.Graph n front s = []
+answer_in form.Waits n front s = []
 
 -- what the answer to this call tells, nothing if it is no poll
 abbrev pub answer_told : Form → ℕ → List Entry → Entry → List ℕ

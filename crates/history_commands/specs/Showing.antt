@@ -15,6 +15,7 @@ use Rattle.lock_report.specs.declared.snapshot.Wait.{Wait}
 use Rattle.lock_report.specs.StateText.{text_of_state}
 use Rattle.lock_report.specs.StateRows.{rows_of_state}
 use Rattle.lock_report.specs.Dot.{dot_of_waits}
+use Rattle.lock_report.specs.LocksDot.{dot_of_locks}
 use Rattle.jam_report.specs.Roots.{roots_of, waiting_in}
 use Rattle.jam_report.specs.Waits.{waits_told}
 use Rattle.command_line.specs.declared.args.Form.{Form}
@@ -54,11 +55,18 @@ lines_in n place front =
     let st = state_of front in
     text_of_state place (length (waiting_in n st)) (roots_of n st) (opens_of n st) (listing_of st) (waits_told n st front)
 
+-- the contended resources as boxes in that state, and for whom each session waits first, as a graph
+abbrev pub boxes_in : ℕ → List Entry → List ℕ
+boxes_in n front =
+    let st = state_of front in
+    dot_of_locks (opens_of n st) (listing_of st) (waits_told n st front)
+
 -- the text of the state in front of a place, to which these entries have led
 abbrev pub text_in : Form → ℕ → ℕ → List Entry → List ℕ
 text_in form.Lines n place front = lines_in n place front
 text_in form.Rows n place front = rows_of_state (opens_of n (state_of front)) (listing_of (state_of front)) (waits_of n (state_of front))
-text_in form.Graph n place front = dot_of_waits (opens_of n (state_of front)) (waits_of n (state_of front))
+text_in form.Graph n place front = boxes_in n front
+text_in form.Waits n place front = dot_of_waits (opens_of n (state_of front)) (waits_of n (state_of front))
 
 -- the place that is shown: the one that was asked for, or the end of the history
 abbrev pub place_shown : Option ℕ → List Entry → ℕ

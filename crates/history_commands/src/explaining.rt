@@ -43,7 +43,7 @@ fn account_text(
 ) -> Result<Vec<u8>, NoMemory>
     ensures { IfOk result (λ text. text.items ≡ account_in form place entry.now explanation.now) }
 {
-    if form == Form::Graph {
+    if form == Form::Graph || form == Form::Waits {
         let graph = explanation_dot(alloc, place, explanation)?;
         return Ok(graph.into_bytes());
     }
@@ -92,7 +92,7 @@ fn answer_of(
     requires place { place ≡ length before.now.history }
     ensures { IfOk result (λ text. string_bytes text ≡ answer_in form before.now.sessions before.now.history session) }
 {
-    if form == Form::Graph {
+    if form == Form::Graph || form == Form::Waits {
         return Ok(String::new(alloc));
     }
     let waits = waits_of(alloc, before, front, session)?;

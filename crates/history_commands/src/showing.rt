@@ -6,7 +6,7 @@ ghost use Rattle.lock_rules.specs.declared.calls.TheConstants.{MAX_SESSIONS};
 ghost use Rattle.lock_rules.specs.Legal.{state_of};
 ghost use Rattle.sequential.specs.Histories.{IsEntryWithin};
 ghost use Rattle.lock_trace.specs.Entries.{IsEntry};
-ghost use Rattle.history_commands.specs.Showing.{HasShown, HasShownPart, Shows, open_of, opens_of, place_shown, lines_in, text_in, text_shown, wait_of, waits_by, waits_of};
+ghost use Rattle.history_commands.specs.Showing.{HasShown, HasShownPart, Shows, open_of, opens_of, place_shown, lines_in, boxes_in, text_in, text_shown, wait_of, waits_by, waits_of};
 ghost use Rattle.history_commands.specs.Verdicts.{IsVerdict, text_of_verdict};
 
 use crate::checking::{Verdict, first_wrong, fresh_book, verdict_line};
@@ -14,7 +14,7 @@ use crate::show_fault::ShowFault;
 use command_line::Form;
 use jam_report::{count_waiting, roots_of, waits_told};
 use lock_desk::{Book, Entry, NoMemory};
-use lock_report::{OpenTransaction, Wait, state_rows, state_text, waits_dot};
+use lock_report::{OpenTransaction, Wait, locks_dot, state_rows, state_text, waits_dot};
 use lock_trace::read_history;
 use replay_commands::write_text;
 use std::alloc::Global;
@@ -107,6 +107,19 @@ fn lines_text(alloc: Global, book: &Book, front: &[Entry], place: u64) -> Result
     state_text(alloc, place, waiting, &roots, &opens, &claims, &waits)
 }
 
+/// The contended resources of the book's state as boxes, and for whom each session waits first. Fails if memory is refused.
+fn boxes_text(alloc: Global, book: &Book, front: &[Entry]) -> Result<String, NoMemory>
+    requires within { All (IsEntryWithin book.now.sessions) front.now }
+    requires served { book.now.history ≡ front.now }
+    ensures { IfOk result (λ text. string_bytes text ≡ boxes_in book.now.sessions front.now) }
+{
+    let opens = open_transactions(alloc, book)?;
+    let mut claims = Vec::new(alloc);
+    book.locks(alloc, &mut claims)?;
+    let waits = waits_told(alloc, book, front)?;
+    locks_dot(alloc, &opens, &claims, &waits)
+}
+
 /// The text of the book's state, in front of the place, to which the entries have led. Fails if memory is refused.
 fn book_text(
     alloc: Global,
@@ -122,9 +135,12 @@ fn book_text(
     if form == Form::Lines {
         return lines_text(alloc, book, front, place);
     }
+    if form == Form::Graph {
+        return boxes_text(alloc, book, front);
+    }
     let opens = open_transactions(alloc, book)?;
     let waits = all_waits(alloc, book)?;
-    if form == Form::Graph {
+    if form == Form::Waits {
         return waits_dot(alloc, &opens, &waits);
     }
     let mut claims = Vec::new(alloc);

@@ -1,3 +1,4 @@
 pub mod Pieces
 pub mod Sessions
 pub mod ResourceLines
+pub mod QueueLines

@@ -4,5 +4,6 @@ pub mod JamText
 pub mod StateText
 pub mod StateRows
 pub mod Dot
+pub mod LocksDot
 -- What only private contracts speak of.
 pub mod inner

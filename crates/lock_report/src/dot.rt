@@ -34,14 +34,14 @@ fn put_node(out: &mut String, begun: &OpenTransaction) -> Result<(), NoMemory>
 }
 
 /// Writes the edge of a wait.
-fn put_edge(out: &mut String, wait: &Wait) -> Result<(), NoMemory>
+pub(crate) fn put_edge(out: &mut String, wait: &Wait) -> Result<(), NoMemory>
     ensures { OnOk result (string_bytes out.new ≡ string_bytes out.old ++ edge_of wait.now) }
 {
     writeln!(out, "  {} -> {};", wait.session, wait.other)
 }
 
 /// Writes the nodes.
-fn put_nodes(out: &mut String, opens: &[OpenTransaction]) -> Result<(), NoMemory>
+pub(crate) fn put_nodes(out: &mut String, opens: &[OpenTransaction]) -> Result<(), NoMemory>
     ensures { OnOk result (string_bytes out.new ≡ string_bytes out.old ++ flat_map node_of opens.now) }
 {
     for begun in opens {

@@ -1,7 +1,8 @@
-//! The state of a lock table as text: for people, as CSV rows, and the waits-for graph for Graphviz.
+//! The state of a lock table as text: for people, as CSV rows, and as graphs for Graphviz.
 //!
-//! `text.rt` writes the text for people, `rows.rt` the rows, `dot.rt` the graph. `jam.rt` the parts of
-//! the text that tell who blocks whom, `answer.rt` what the answer to a poll tells. `snapshot.rt` has the open transactions, the waits and the roots that a report
+//! `text.rt` writes the text for people, `rows.rt` the rows, `dot.rt` the waits-for graph, `boxes.rt` the contended resources
+//! and the waits for first blockers. `jam.rt` has the parts of the text that tell who blocks whom, `answer.rt` what the answer to a
+//! poll tells. `snapshot.rt` has the open transactions, the waits and the roots that a report
 //! shows beside the claims of a listing, `by_session.rt` sorts the claims by session.
 //!
 //! A report is written from lists that the caller took from a lock table, one line or row for each item, in the order
@@ -13,6 +14,7 @@
 #![tactic(auto)]
 
 mod answer;
+mod boxes;
 mod by_session;
 mod dot;
 mod jam;
@@ -21,6 +23,7 @@ mod snapshot;
 mod text;
 
 pub use answer::{answer_rows, answer_text};
+pub use boxes::locks_dot;
 pub use dot::waits_dot;
 pub use rows::state_rows;
 pub use snapshot::{Doom, OpenTransaction, Root, ToldWait, Wait};

@@ -28,7 +28,7 @@ fn session_verb(kind: ClaimKind) -> &'static str
 }
 
 /// What a session does with a resource, below the resource.
-fn resource_verb(kind: ClaimKind) -> &'static str
+pub(crate) fn resource_verb(kind: ClaimKind) -> &'static str
     ensures { result.now ≡ resource_verb kind }
 {
     match kind {
@@ -39,7 +39,7 @@ fn resource_verb(kind: ClaimKind) -> &'static str
 }
 
 /// The word before the mode.
-fn mode_word(kind: ClaimKind) -> &'static str
+pub(crate) fn mode_word(kind: ClaimKind) -> &'static str
     ensures { result.now ≡ mode_word kind }
 {
     match kind {

@@ -1,7 +1,7 @@
 use Rattle.std.proofs.Common.{ap, ap₂, ◌≡◌, ◌∙◌, codes, true}
 use Rattle.std.proofs.lemmas.Result.{IfOk-weaker}
 use Rattle.clap.specs.Simple.{App, Shape, app_of, app_of_fields, new_app, on_top, with_rule, with_subcommand}
-use Rattle.command_line.specs.CommandLine.{app_with_forms, command_for_sessions, stream_flag, turns_option}
+use Rattle.command_line.specs.CommandLine.{show_app, command_for_sessions, stream_flag, turns_option}
 use Rattle.command_line.proofs.args.commands.Goals as goal
 
 -- sets that a command is required and that there is a version
@@ -22,7 +22,7 @@ up_to_check = with_subcommand up_to_run (with_rule (command_for_sessions (codes 
 
 -- the program with the commands up to `show`
 abbrev up_to_show : App
-up_to_show = with_subcommand up_to_check (app_with_forms (codes "show")).top
+up_to_show = with_subcommand up_to_check show_app.top
 
 -- the shape of a command itself, without its subcommands
 abbrev top_of : App → Shape

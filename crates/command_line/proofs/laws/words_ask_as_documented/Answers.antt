@@ -1,4 +1,4 @@
-use Rattle.std.proofs.Common.{rules, arith, refl, subst, sym, inl, inr, codes, ◌≡◌, ◌≢◌, ◌⊎◌, ◌∙◌, List, [], ◌∷◌, Option, Some}
+use Rattle.std.proofs.Common.{rules, arith, refl, subst, sym, inl, inr, codes, ◌≡◌, ◌≢◌, ◌⊎◌, ◌∙◌, List, [], ◌∷◌, Option, Some, None}
 use Rattle.std.specs.Prelude.{Err, Ok}
 use Rattle.clap.specs.Kinds.{Kinds}
 use Rattle.clap.specs.Simple.{subcommand_of}
@@ -10,11 +10,12 @@ use Rattle.lock_tree.specs.Numerals.{reading_of_numeral}
 use Rattle.lock_tree.specs.declared.numeral.NumeralFault.{NumeralFault}
 use Rattle.lock_tree.specs.declared.numeral.NumeralFault.TheVariants.{LeadingZero, NotANumber}
 use Rattle.lock_rules.specs.declared.calls.TheConstants.{MAX_SESSIONS}
-use Rattle.command_line.specs.CommandLine.{AskNothing, Gives, HasFlag, IsRequest, faults_of, glm_command}
+use Rattle.command_line.specs.CommandLine.{AskNothing, Gives, HasFlag, IsRequest, WantsForm, faults_of, glm_command}
+use Rattle.command_line.specs.declared.args.Form.{Form}
 use Rattle.command_line.specs.declared.args.TheConstants.{MAX_PLACE, MAX_TURNS}
 use Rattle.command_line.specs.declared.args.TheConstants.{MAX_STREAMED_SESSIONS}
 use Rattle.command_line.proofs.Ask.{faulty, nothing_told, no_streamed, no_such_sessions, sessions_text}
-use Rattle.command_line.proofs.AskShow.{place_given, place_not_given, two_forms}
+use Rattle.command_line.proofs.AskShow.{place_given, place_not_given, rows_and_waits, two_forms, two_graphs}
 use Rattle.command_line.proofs.Gives.{numeral_given}
 use Rattle.command_line.proofs.laws.words_ask_as_documented.Goals as goal
 
@@ -39,6 +40,26 @@ in_two_forms words name rows whole is named csv dot = record {
   no_help = λ help. let bad : [] ≡ DisplayHelp ∷ [] = sym whole ∙ help in cc;
   no_version = λ version. let bad : [] ≡ DisplayVersion ∷ [] = sym whole ∙ version in cc;
 }
+
+-- words without an error ask for nothing if they name `show` or `explain`, and their options want no form
+in_no_form : (words : List Text) (name : Text) (rows : List Row) → faults_of words ≡ [] → subcommand_of glm_command words ≡ Some (name, rows)
+    → (name ≡ codes "show") ⊎ (name ≡ codes "explain") → ((f : Form) → ¬ WantsForm rows f) → AskNothing words
+in_no_form words name rows whole is named none = record {
+  no_request = λ asked ask. nothing_told name rows named (λ p f there way. none f way) asked
+      (subst (λ (f : Option (Text × List Row)). IsRequest f asked) is ask.request_is);
+  no_help = λ help. let bad : [] ≡ DisplayHelp ∷ [] = sym whole ∙ help in cc;
+  no_version = λ version. let bad : [] ≡ DisplayVersion ∷ [] = sym whole ∙ version in cc;
+}
+
+-- words without an error ask for nothing if they name `show` or `explain` and the flags of both graphs
+in_two_graphs : (words : List Text) (name : Text) (rows : List Row) → faults_of words ≡ [] → subcommand_of glm_command words ≡ Some (name, rows)
+    → (name ≡ codes "show") ⊎ (name ≡ codes "explain") → HasFlag (codes "dot") rows → HasFlag (codes "waits") rows → AskNothing words
+in_two_graphs words name rows whole is named dot waits = in_no_form words name rows whole is named (two_graphs rows dot waits)
+
+-- words without an error ask for nothing if they name `show` or `explain` and the flags of rows and of waits
+in_rows_and_waits : (words : List Text) (name : Text) (rows : List Row) → faults_of words ≡ [] → subcommand_of glm_command words ≡ Some (name, rows)
+    → (name ≡ codes "show") ⊎ (name ≡ codes "explain") → HasFlag (codes "csv") rows → HasFlag (codes "waits") rows → AskNothing words
+in_rows_and_waits words name rows whole is named csv waits = in_no_form words name rows whole is named (rows_and_waits rows csv waits)
 
 -- words without an error whose `--sessions` isn't read as a number ask for nothing
 unnumbered : (words : List Text) (found : Option (Text × List Row)) (text : Text) (fault : NumeralFault) → faults_of words ≡ []
@@ -174,19 +195,31 @@ returns-clause-version_short c = inl refl
 
 pub returns-clause-show : goal.returns-clause-show
 unfolding clap_on_literals
-returns-clause-show c = record { whole = refl; request_is = (refl, numeral_given (codes "sessions") (codes "256") MAX_SESSIONS 256 _ (omega arith) refl refl (search rules), refl, (λ flag. let no : Some (codes "false") ≡ Some (codes "true") = flag in cc, λ flag. let no : Some (codes "false") ≡ Some (codes "true") = flag in cc)) }
+returns-clause-show c = record { whole = refl; request_is = (refl, numeral_given (codes "sessions") (codes "256") MAX_SESSIONS 256 _ (omega arith) refl refl (search rules), refl, (λ flag. let no : Some (codes "false") ≡ Some (codes "true") = flag in cc, λ flag. let no : Some (codes "false") ≡ Some (codes "true") = flag in cc, λ flag. let no : Some (codes "false") ≡ Some (codes "true") = flag in cc)) }
 
 pub returns-clause-show_at : goal.returns-clause-show_at
 unfolding clap_on_literals
-returns-clause-show_at c = record { whole = refl; request_is = (refl, numeral_given (codes "sessions") (codes "256") MAX_SESSIONS 256 _ (omega arith) refl refl (search rules), place_given (codes "0") 0 _ refl refl, (λ flag. let no : Some (codes "false") ≡ Some (codes "true") = flag in cc, λ flag. let no : Some (codes "false") ≡ Some (codes "true") = flag in cc)) }
+returns-clause-show_at c = record { whole = refl; request_is = (refl, numeral_given (codes "sessions") (codes "256") MAX_SESSIONS 256 _ (omega arith) refl refl (search rules), place_given (codes "0") 0 _ refl refl, (λ flag. let no : Some (codes "false") ≡ Some (codes "true") = flag in cc, λ flag. let no : Some (codes "false") ≡ Some (codes "true") = flag in cc, λ flag. let no : Some (codes "false") ≡ Some (codes "true") = flag in cc)) }
 
 pub returns-clause-show_rows : goal.returns-clause-show_rows
 unfolding clap_on_literals
-returns-clause-show_rows c = record { whole = refl; request_is = (refl, numeral_given (codes "sessions") (codes "3") MAX_SESSIONS 3 _ (omega arith) refl refl (search rules), place_given (codes "7") 7 _ refl refl, (refl, λ flag. let no : Some (codes "false") ≡ Some (codes "true") = flag in cc)) }
+returns-clause-show_rows c = record { whole = refl; request_is = (refl, numeral_given (codes "sessions") (codes "3") MAX_SESSIONS 3 _ (omega arith) refl refl (search rules), place_given (codes "7") 7 _ refl refl, (refl, λ flag. let no : Some (codes "false") ≡ Some (codes "true") = flag in cc, λ flag. let no : Some (codes "false") ≡ Some (codes "true") = flag in cc)) }
 
 pub returns-clause-show_graph : goal.returns-clause-show_graph
 unfolding clap_on_literals
-returns-clause-show_graph c = record { whole = refl; request_is = (refl, numeral_given (codes "sessions") (codes "256") MAX_SESSIONS 256 _ (omega arith) refl refl (search rules), refl, (λ flag. let no : Some (codes "false") ≡ Some (codes "true") = flag in cc, refl)) }
+returns-clause-show_graph c = record { whole = refl; request_is = (refl, numeral_given (codes "sessions") (codes "256") MAX_SESSIONS 256 _ (omega arith) refl refl (search rules), refl, (λ flag. let no : Some (codes "false") ≡ Some (codes "true") = flag in cc, refl, λ flag. let no : Some (codes "false") ≡ Some (codes "true") = flag in cc)) }
+
+pub returns-clause-show_waits : goal.returns-clause-show_waits
+unfolding clap_on_literals
+returns-clause-show_waits c = record { whole = refl; request_is = (refl, numeral_given (codes "sessions") (codes "256") MAX_SESSIONS 256 _ (omega arith) refl refl (search rules), refl, (λ flag. let no : Some (codes "false") ≡ Some (codes "true") = flag in cc, λ flag. let no : Some (codes "false") ≡ Some (codes "true") = flag in cc, refl)) }
+
+pub returns-clause-show_two_graphs : goal.returns-clause-show_two_graphs
+unfolding clap_on_literals
+returns-clause-show_two_graphs c = in_two_graphs _ _ _ refl refl (inl refl) refl refl
+
+pub returns-clause-show_rows_and_waits : goal.returns-clause-show_rows_and_waits
+unfolding clap_on_literals
+returns-clause-show_rows_and_waits c = in_rows_and_waits _ _ _ refl refl (inl refl) refl refl
 
 pub returns-clause-show_two_forms : goal.returns-clause-show_two_forms
 unfolding clap_on_literals
@@ -198,19 +231,23 @@ returns-clause-show_zeros c = unplaced _ _ _ (codes "07") LeadingZero refl refl 
 
 pub returns-clause-explain : goal.returns-clause-explain
 unfolding clap_on_literals
-returns-clause-explain c = record { whole = refl; request_is = (refl, numeral_given (codes "sessions") (codes "256") MAX_SESSIONS 256 _ (omega arith) refl refl (search rules), refl, (λ flag. let no : Some (codes "false") ≡ Some (codes "true") = flag in cc, λ flag. let no : Some (codes "false") ≡ Some (codes "true") = flag in cc)) }
+returns-clause-explain c = record { whole = refl; request_is = (refl, numeral_given (codes "sessions") (codes "256") MAX_SESSIONS 256 _ (omega arith) refl refl (search rules), refl, (λ flag. let no : Some (codes "false") ≡ Some (codes "true") = flag in cc, λ flag. let no : Some (codes "false") ≡ Some (codes "true") = flag in cc, λ flag. let no : None ≡ Some (codes "true") = flag in cc)) }
 
 pub returns-clause-explain_at : goal.returns-clause-explain_at
 unfolding clap_on_literals
-returns-clause-explain_at c = record { whole = refl; request_is = (refl, numeral_given (codes "sessions") (codes "256") MAX_SESSIONS 256 _ (omega arith) refl refl (search rules), place_given (codes "7") 7 _ refl refl, (λ flag. let no : Some (codes "false") ≡ Some (codes "true") = flag in cc, λ flag. let no : Some (codes "false") ≡ Some (codes "true") = flag in cc)) }
+returns-clause-explain_at c = record { whole = refl; request_is = (refl, numeral_given (codes "sessions") (codes "256") MAX_SESSIONS 256 _ (omega arith) refl refl (search rules), place_given (codes "7") 7 _ refl refl, (λ flag. let no : Some (codes "false") ≡ Some (codes "true") = flag in cc, λ flag. let no : Some (codes "false") ≡ Some (codes "true") = flag in cc, λ flag. let no : None ≡ Some (codes "true") = flag in cc)) }
 
 pub returns-clause-explain_rows : goal.returns-clause-explain_rows
 unfolding clap_on_literals
-returns-clause-explain_rows c = record { whole = refl; request_is = (refl, numeral_given (codes "sessions") (codes "3") MAX_SESSIONS 3 _ (omega arith) refl refl (search rules), place_given (codes "7") 7 _ refl refl, (refl, λ flag. let no : Some (codes "false") ≡ Some (codes "true") = flag in cc)) }
+returns-clause-explain_rows c = record { whole = refl; request_is = (refl, numeral_given (codes "sessions") (codes "3") MAX_SESSIONS 3 _ (omega arith) refl refl (search rules), place_given (codes "7") 7 _ refl refl, (refl, λ flag. let no : Some (codes "false") ≡ Some (codes "true") = flag in cc, λ flag. let no : None ≡ Some (codes "true") = flag in cc)) }
 
 pub returns-clause-explain_graph : goal.returns-clause-explain_graph
 unfolding clap_on_literals
-returns-clause-explain_graph c = record { whole = refl; request_is = (refl, numeral_given (codes "sessions") (codes "256") MAX_SESSIONS 256 _ (omega arith) refl refl (search rules), refl, (λ flag. let no : Some (codes "false") ≡ Some (codes "true") = flag in cc, refl)) }
+returns-clause-explain_graph c = record { whole = refl; request_is = (refl, numeral_given (codes "sessions") (codes "256") MAX_SESSIONS 256 _ (omega arith) refl refl (search rules), refl, (λ flag. let no : Some (codes "false") ≡ Some (codes "true") = flag in cc, refl, λ flag. let no : None ≡ Some (codes "true") = flag in cc)) }
+
+pub returns-clause-explain_waits : goal.returns-clause-explain_waits
+unfolding clap_on_literals
+returns-clause-explain_waits c = faulty _ UnknownArgument [] refl (search rules) (search rules)
 
 pub returns-clause-explain_two_forms : goal.returns-clause-explain_two_forms
 unfolding clap_on_literals
