@@ -107,7 +107,7 @@ fn a_failing_writer_of_hints_changes_nothing(rt: HostRuntime) {
             &OpenGate,
         );
         assert!(rt;
-            status == 3 && output.as_slice() == b"illegal 2\n",
+            status == 3 && output.as_slice() == b"illegal 2\n".as_slice(),
             "{calls}"
         );
     }
