@@ -1,9 +1,9 @@
 //! The calls of a program, one after another.
 
-ghost use Rattle.std.specs.Prelude.{◌≡◌, ◌≤◌, ℕ, false, List, [], length, IfOk, OnErr};
+ghost use Rattle.std.specs.Prelude.{◌≡◌, ◌<◌, ◌≤◌, ℕ, false, List, [], length, IfOk, OnErr};
 ghost use Rattle.sequential.specs.declared.entry.Entry.{Entry as EntryValue};
 ghost use Rattle.programs.specs.Runs.{HasRun};
-ghost use Rattle.programs.specs.inner.Running.{HasBegun};
+ghost use Rattle.programs.specs.inner.Running.{HasBegun, IsRunning};
 
 use crate::form::Programmed;
 use std::alloc::AllocError as NoMemory;
@@ -72,7 +72,9 @@ fn new_answer<O: Programmed>(object: &O, program: &O::Program) -> O::Answer
     O::none_served(program, first)
 }
 
-/// Completes the answer to a program whose first call was served with this reply: serves the other calls, and goes on telling.
+/// Completes the answer to a program whose first call was served with this reply: serves the other calls, and goes on telling. A
+/// program of one call has none, and gets its answer without a loop.
+#[inline(always)]
 fn serve_others<O: Programmed>(
     object: &mut O,
     session: u16,
@@ -97,13 +99,40 @@ fn serve_others<O: Programmed>(
     if !O::goes_on(&reply) {
         return answer;
     }
-    let length = O::length(program);
-    for at in 1..length {
+    if O::length(program) == 1 {
+        return answer;
+    }
+    serve_from_second(object, session, program, answer)
+}
+
+/// Completes the answer to a program that goes on behind its first call: serves the others, and goes on telling.
+fn serve_from_second<O: Programmed>(
+    object: &mut O,
+    session: u16,
+    program: &O::Program,
+    mut answer: O::Answer,
+) -> O::Answer
+    requires some { 1 ≤ session }
+    requires within { session ≤ O.sessions object.old }
+    requires running { (before : List (EntryValue O.Call O.Reply)) × IsRunning O.form session program.now before (O.history object.old) answer 1 }
+    requires more { 1 < length ((O.form).calls program.now) }
+    requires legal { O.is_legal (O.history object.old) }
+    ensures done { (before : List (EntryValue O.Call O.Reply)) → IsRunning O.form session program.now before (O.history object.old) answer 1
+        → HasRun O.form session program.now before (O.history object.new) result }
+    ensures tells { (from : ℕ) → from ≤ length (O.history object.old) → O.tells_from object.old from → O.tells_from object.new from }
+    ensures legal { O.is_legal (O.history object.new) }
+    ensures sessions { O.sessions object.new ≡ O.sessions object.old }
+    ensures cut { O.cut object.new ≡ O.cut object.old }
+    ensures bound { O.bound object.new ≡ O.bound object.old }
+{
+    let calls = O::length(program);
+    for at in 1..calls {
         let call = O::call(program, at);
         let Ok(next) = object.serve_on(session, call) else {
             O::refuse(&mut answer);
             return answer;
         };
+        // the history is legal, so the reply fits its call
         let _served = object.served();
         O::append(&mut answer, program, next);
         if !O::goes_on(&next) {
