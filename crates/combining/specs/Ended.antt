@@ -43,8 +43,8 @@ module _ {C R : Type 0} (ends : List (Entry C R) → Entry C R → ℕ → Type 
     pub within : (p : ℕ) → Contains places p → p < length history
 
 module _ {C R : Type 0} (notes : List (Entry C R) → Type 0) where
-  -- What was noted is true of a front of the known history, which is the whole, or ends ahead of the entries that became known by the
-  -- answer at the end of the first `known` ones.
+  -- What was noted is true of a front of the history. This front is the whole, or the history ends with its first `known` entries: an
+  -- answer has told of those since.
   pub record IsNotedUpTo (history : List (Entry C R)) (known : ℕ) : Type 0 where
     pub front : List (Entry C R)
     pub noted : notes front
