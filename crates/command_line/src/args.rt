@@ -4,10 +4,11 @@ ghost use Rattle.std.specs.Prelude.{◌≡◌, true, false, codes, IfOk};
 ghost use Rattle.clap.specs.Simple.{app_of, with_rule};
 ghost use Rattle.clap.specs.Walk.{rule_of};
 ghost use Rattle.clap.specs.declared.builder.command.Command.TheViews.{out-Command as fields_of};
-ghost use Rattle.command_line.specs.CommandLine.{app_with_forms, at_option, command_for_sessions, comments_flag, file_argument, flag_named, glm_command, hints_flag, output_option, sessions_option, show_app, stream_flag, turns_option, with_flags, with_forms, with_streams};
+ghost use Rattle.command_line.specs.CommandLine.{app_with_forms, command_for_sessions, comments_flag, file_argument, flag_named, glm_command, hints_flag, output_option, place_option, sessions_option, show_app, stream_flag, timeline_app, turns_option, with_flags, with_forms, with_streams};
 
 use crate::texts::{
-    ABOUT_CHECK, ABOUT_EXPLAIN, ABOUT_REPLAY, ABOUT_RUN, ABOUT_SHOW, STATUSES, VERSION,
+    ABOUT_CHECK, ABOUT_EXPLAIN, ABOUT_REPLAY, ABOUT_RUN, ABOUT_SHOW, ABOUT_TIMELINE, STATUSES,
+    VERSION,
 };
 use clap::{Arg, ArgAction, Command, value_parser};
 use lock_rules::MAX_SESSIONS;
@@ -19,7 +20,7 @@ pub const MAX_TURNS: u32 = 1_000_000_000;
 /// The greatest number of sessions of a run that writes its history in pieces: one session of the office takes the history.
 pub const MAX_STREAMED_SESSIONS: u16 = MAX_SESSIONS - 1;
 
-/// The greatest value of `--at`: a place of a history.
+/// The greatest value of `--at`, `--from` and `--to`: a place of a history.
 pub const MAX_PLACE: u32 = u32::MAX;
 
 /// How much of a history a command keeps in memory.
@@ -64,6 +65,9 @@ pub enum CommandRequest {
     /// Explain what calls of a history did; holds the number of sessions, the place of the call, `None` for every eventful
     /// one, and the form.
     Explain(u16, Option<u32>, Form),
+    /// Draw a history as a timeline; holds the number of sessions, the first place that is drawn, `None` for the beginning, and
+    /// the last, `None` for the end.
+    Timeline(u16, Option<u32>, Option<u32>),
 }
 
 /// A command that the words ask for, with the files that it reads and writes.
@@ -152,14 +156,15 @@ fn stream_arg<'a>(alloc: Global) -> Arg<'a>
     )
 }
 
-/// Defines the option `--at P`, which `show` and `explain` have.
-fn at_arg<'a>(alloc: Global, help: &'a str) -> Arg<'a>
-    ensures rule { rule_of result ≡ at_option }
+/// Defines an option whose value is a place of a history: `--at P` of `show` and `explain`, `--from P` and `--to Q` of `timeline`.
+/// `value` is the letter that stands for the place in the help.
+fn place_arg<'a>(alloc: Global, name: &'a str, value: &'a str, help: &'a str) -> Arg<'a>
+    ensures rule { rule_of result ≡ place_option name.now }
     ensures own { result.global ≡ false }
 {
-    Arg::new(alloc, "at")
-        .long("at")
-        .value_name("P")
+    Arg::new(alloc, name)
+        .long(name)
+        .value_name(value)
         .help(help)
         .value_parser(value_parser!(u32).range(0..=i64::from(MAX_PLACE)))
 }
@@ -283,7 +288,7 @@ fn with_forms<'a>(
     ensures own { IfOk result (λ made. (fields_of made).has_globals ≡ false) }
 {
     command
-        .arg(at_arg(alloc, at_help))?
+        .arg(place_arg(alloc, "at", "P", at_help))?
         .arg(flag_arg(alloc, "csv", "Writes the same as rows"))?
         .arg(flag_arg(alloc, "dot", dot_help))
 }
@@ -331,6 +336,32 @@ fn explain_command<'a>(alloc: Global) -> Result<Command<'a>, AllocError>
     )
 }
 
+/// Defines the command `timeline`. Fails if memory is refused.
+fn timeline_command<'a>(alloc: Global) -> Result<Command<'a>, AllocError>
+    ensures app { IfOk result (λ command. app_of command ≡ timeline_app) }
+    ensures own { IfOk result (λ command. (fields_of command).has_globals ≡ false) }
+{
+    let timeline = command_of(
+        alloc,
+        "timeline",
+        "Draws a history as a timeline: when each session held, and when it waited",
+        ABOUT_TIMELINE,
+    )?;
+    timeline
+        .arg(place_arg(
+            alloc,
+            "from",
+            "P",
+            "The first place of the history that is drawn, by default its beginning",
+        ))?
+        .arg(place_arg(
+            alloc,
+            "to",
+            "Q",
+            "The last place of the history that is drawn, by default its end",
+        ))
+}
+
 /// Defines the program's commands and their options. Fails if memory is refused.
 pub(crate) fn commands<'a>(alloc: Global) -> Result<Command<'a>, AllocError>
     ensures { IfOk result (λ command. app_of command ≡ glm_command) }
@@ -340,6 +371,7 @@ pub(crate) fn commands<'a>(alloc: Global) -> Result<Command<'a>, AllocError>
     let check = check_command(alloc)?;
     let show = show_command(alloc)?;
     let explain = explain_command(alloc)?;
+    let timeline = timeline_command(alloc)?;
     Command::new(alloc, "glm")
         .about("Granular locks for databases")
         .version(VERSION)
@@ -349,5 +381,6 @@ pub(crate) fn commands<'a>(alloc: Global) -> Result<Command<'a>, AllocError>
         .subcommand(run)?
         .subcommand(check)?
         .subcommand(show)?
-        .subcommand(explain)
+        .subcommand(explain)?
+        .subcommand(timeline)
 }

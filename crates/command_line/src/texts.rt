@@ -114,11 +114,20 @@ With --csv the same is written as rows place,row,session,transaction,resource,mo
 cycles that requests closed are written as graphs, one behind another, which 'dot -Tsvg' draws; of several in a file
 'dot -Tsvg -O FILE' draws each into a file of its own.";
 
+/// The beginning of the help of `timeline`.
+pub(crate) const ABOUT_TIMELINE: &str =
+    "Reads a history, from a file or standard input, checks it as 'check' does, and draws it as a picture in SVG, which a browser
+shows: the calls from left to right, and for each session what it held and how long it waited.
+With --from and --to the rows from the place P up to the place Q are drawn, both with them. A history that isn't legal
+gives the line of 'check', and status 3.
+
+An example: glm timeline examples/deadlock.history.csv -o deadlock.svg";
+
 /// The list of exit statuses at the end of the help texts.
 pub(crate) const STATUSES: &str = "Exit status:
   0  done, or help or the version asked for
   1  a row was refused, which standard error names
-  2  the words of the command line are off, or --at is no place of the history
+  2  the words of the command line are off, or a place isn't one of the history
   3  the history isn't legal
   4  memory was refused
   5  reading or writing failed, a file couldn't be opened, or a thread couldn't be started
