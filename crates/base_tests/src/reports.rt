@@ -98,9 +98,29 @@ const GRAPH: &str =
 
 /// A resource with a holder and a queue of two as a box, and the wait for a first blocker.
 const BOXES: &str = "digraph locks {
+  graph [rankdir=LR, pack=true, nodesep=0.1];
+  node [margin=\"0.05,0.02\"];
   12 [label=\"session 12\\ntransaction 1\"];
   \"resource 1\" [shape=box, label=\"1\\lsession 12 holds it in IS\\l1. session 12 waits to convert it to S\\l2. session 13 waits for it in X\\l\"];
   12 -> 1;
+}
+";
+
+/// Six resources, each with a waiting request: the boxes are in rows of four, and each row is below the one before it.
+const ROWS_OF_BOXES: &str = "digraph locks {
+  graph [rankdir=LR, pack=true, nodesep=0.1];
+  node [margin=\"0.05,0.02\"];
+  \"resource 1\" [shape=box, label=\"1\\l1. session 12 waits for it in IS\\l\"];
+  \"resource 2\" [shape=box, label=\"2\\l1. session 12 waits for it in IS\\l\"];
+  \"resource 3\" [shape=box, label=\"3\\l1. session 12 waits for it in IS\\l\"];
+  \"resource 4\" [shape=box, label=\"4\\l1. session 12 waits for it in IS\\l\"];
+  \"resource 5\" [shape=box, label=\"5\\l1. session 12 waits for it in IS\\l\"];
+  \"resource 6\" [shape=box, label=\"6\\l1. session 12 waits for it in IS\\l\"];
+  \"resource 1\" -> \"resource 2\" [style=invis];
+  \"resource 2\" -> \"resource 3\" [style=invis];
+  \"resource 3\" -> \"resource 4\" [style=invis];
+  {rank=same; \"resource 1\" -> \"resource 5\" [style=invis];}
+  \"resource 5\" -> \"resource 6\" [style=invis];
 }
 ";
 
@@ -146,6 +166,30 @@ fn contended_resources_are_boxes(rt: HostRuntime) -> Result<(), Fail> {
     let claims = [held, conversion, fresh, lock(Resource::parse("2")?)];
     let graph = locks_dot(rt.alloc(), &[OPEN], &claims, &[FIRST, OTHER]);
     assert!(rt; is_written(graph, BOXES));
+    Ok(())
+}
+
+/// A waiting request for the resource.
+fn request(resource: Resource) -> Claim {
+    Claim {
+        kind: ClaimKind::Fresh,
+        ..lock(resource)
+    }
+}
+
+/// Boxes in rows of four.
+#[test]
+fn boxes_are_in_rows(rt: HostRuntime) -> Result<(), Fail> {
+    let claims = [
+        request(Resource::parse("1")?),
+        request(Resource::parse("2")?),
+        request(Resource::parse("3")?),
+        request(Resource::parse("4")?),
+        request(Resource::parse("5")?),
+        request(Resource::parse("6")?),
+    ];
+    let graph = locks_dot(rt.alloc(), &[], &claims, &[]);
+    assert!(rt; is_written(graph, ROWS_OF_BOXES));
     Ok(())
 }
 

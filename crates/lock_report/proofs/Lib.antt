@@ -1,4 +1,5 @@
 pub mod Pieces
 pub mod Sessions
 pub mod ResourceLines
+pub mod Suffixes
 pub mod QueueLines

@@ -1,16 +1,22 @@
 //! The contended resources and who waits for whom first, for Graphviz.
 
-ghost use Rattle.std.specs.Prelude.{◌≡◌, ◌++◌, IfOk, OnOk, find, option_map, string_bytes};
+ghost use Rattle.std.specs.Prelude.{◌≡◌, ◌++◌, None, IfOk, OnOk, string_bytes};
 ghost use Rattle.std.specs.List.{flat_map};
-ghost use Rattle.lock_report.specs.LocksDot.{box_if_first, box_of, dot_of_locks, edge_from, edge_if_first, holds_on, is_first_in_queue, is_lock_kind, is_of, is_request_kind, line_if_holder, name_of_box, numbered_line, queue_lines, start_of_label, waits_on, words_of_claim};
+ghost use Rattle.lock_report.specs.LocksDot.{box_at, box_of, boxes_behind, dot_of_locks, edge_from, edge_if_first, is_lock_kind, line_if_lock, numbered_line, queue_lines, start_of_label, words_of_claim};
 
 use crate::dot::{put_edge, put_nodes};
+use crate::queues::{begins_queue, claims_on, is_request_kind, waited};
+use crate::rows_of_boxes::{put_name, put_places};
 use crate::snapshot::{OpenTransaction, ToldWait};
 use crate::text::{mode_word, resource_verb};
 use lock_rules::{Claim, ClaimKind};
-use lock_tree::{Resource, same_path_is_equality};
+use lock_tree::Resource;
 use std::alloc::{AllocError as NoMemory, Global};
 use std::fmt::Write;
+
+/// The first lines of the graph.
+const START: &str =
+    "digraph locks {\n  graph [rankdir=LR, pack=true, nodesep=0.1];\n  node [margin=\"0.05,0.02\"];\n";
 
 /// Whether a claim of this kind is a lock.
 fn is_lock_kind(kind: ClaimKind) -> bool
@@ -20,32 +26,6 @@ fn is_lock_kind(kind: ClaimKind) -> bool
         ClaimKind::Held => true,
         ClaimKind::Conversion | ClaimKind::Fresh => false,
     }
-}
-
-/// Whether a claim of this kind is a waiting request.
-fn is_request_kind(kind: ClaimKind) -> bool
-    ensures { result ≡ is_request_kind kind }
-{
-    match kind {
-        ClaimKind::Held => false,
-        ClaimKind::Conversion | ClaimKind::Fresh => true,
-    }
-}
-
-/// Whether the claim is a lock on the resource.
-fn holds_on(resource: Resource, claim: &Claim) -> bool
-    ensures { result ≡ holds_on resource claim.now }
-{
-    same_path_is_equality();
-    is_lock_kind(claim.kind) && claim.resource == resource
-}
-
-/// Whether the claim is a waiting request for the resource.
-fn waits_on(resource: Resource, claim: &Claim) -> bool
-    ensures { result ≡ waits_on resource claim.now }
-{
-    same_path_is_equality();
-    is_request_kind(claim.kind) && claim.resource == resource
 }
 
 /// Writes the claim in words, and the end of its line in a label.
@@ -59,22 +39,22 @@ fn put_words(out: &mut String, claim: &Claim) -> Result<(), NoMemory>
     write!(out, "session {session} {verb} {word} {mode}\\l")
 }
 
-/// Writes the line of a holder of the resource.
-fn put_if_holder(out: &mut String, resource: Resource, claim: &Claim) -> Result<(), NoMemory>
-    ensures { OnOk result (string_bytes out.new ≡ string_bytes out.old ++ line_if_holder resource claim.now) }
+/// Writes the line of a lock.
+fn put_if_lock(out: &mut String, claim: &Claim) -> Result<(), NoMemory>
+    ensures { OnOk result (string_bytes out.new ≡ string_bytes out.old ++ line_if_lock claim.now) }
 {
-    if holds_on(resource, claim) {
+    if is_lock_kind(claim.kind) {
         put_words(out, claim)?;
     }
     Ok(())
 }
 
-/// Writes the lines of the holders of the resource.
-fn put_holders(out: &mut String, resource: Resource, claims: &[Claim]) -> Result<(), NoMemory>
-    ensures { OnOk result (string_bytes out.new ≡ string_bytes out.old ++ flat_map (line_if_holder resource) claims.now) }
+/// Writes the lines of the locks.
+fn put_locks(out: &mut String, claims: &[Claim]) -> Result<(), NoMemory>
+    ensures { OnOk result (string_bytes out.new ≡ string_bytes out.old ++ flat_map line_if_lock claims.now) }
 {
     for claim in claims {
-        put_if_holder(out, resource, claim)?;
+        put_if_lock(out, claim)?;
     }
     Ok(())
 }
@@ -87,25 +67,18 @@ fn put_numbered(out: &mut String, number: usize, claim: &Claim) -> Result<(), No
     put_words(out, claim)
 }
 
-/// Writes the lines of the queue of the resource.
-fn put_queue(out: &mut String, resource: Resource, claims: &[Claim]) -> Result<(), NoMemory>
-    ensures { OnOk result (string_bytes out.new ≡ string_bytes out.old ++ queue_lines resource 1 claims.now) }
+/// Writes the lines of the requests.
+fn put_queue(out: &mut String, claims: &[Claim]) -> Result<(), NoMemory>
+    ensures { OnOk result (string_bytes out.new ≡ string_bytes out.old ++ queue_lines 1 claims.now) }
 {
     let mut ahead = 0;
     for claim in claims {
-        if waits_on(resource, claim) {
+        if is_request_kind(claim.kind) {
             ahead += 1;
             put_numbered(out, ahead, claim)?;
         }
     }
     Ok(())
-}
-
-/// Writes the name of the node of a resource.
-fn put_name(out: &mut String, resource: Resource) -> Result<(), NoMemory>
-    ensures { OnOk result (string_bytes out.new ≡ string_bytes out.old ++ name_of_box resource) }
-{
-    write!(out, "  \"resource {resource}\"")
 }
 
 /// Writes the attributes of the node of a resource, up to the end of its label's first line.
@@ -115,57 +88,42 @@ fn put_start_of_label(out: &mut String, resource: Resource) -> Result<(), NoMemo
     write!(out, " [shape=box, label=\"{resource}\\l")
 }
 
-/// Writes the node of a resource.
-fn put_box(out: &mut String, claims: &[Claim], resource: Resource) -> Result<(), NoMemory>
-    ensures { OnOk result (string_bytes out.new ≡ string_bytes out.old ++ box_of claims.now resource) }
+/// Writes the node of a resource with these claims.
+fn put_box(out: &mut String, resource: Resource, claims: &[Claim]) -> Result<(), NoMemory>
+    ensures { OnOk result (string_bytes out.new ≡ string_bytes out.old ++ box_of resource claims.now) }
 {
+    out.push_str("  ")?;
     put_name(out, resource)?;
     put_start_of_label(out, resource)?;
-    put_holders(out, resource, claims)?;
-    put_queue(out, resource, claims)?;
+    put_locks(out, claims)?;
+    put_queue(out, claims)?;
     out.push_str("\"];\n")
 }
 
-/// The first request in the queue of the resource.
-fn first_request<'a>(claims: &'a [Claim], resource: Resource) -> Option<&'a Claim>
-    ensures { option_map (λ c. c.now) result ≡ find (waits_on resource) claims.now }
+/// Writes the box of the resource if the claims begin with its queue.
+fn put_box_at(
+    out: &mut String,
+    last: Option<Resource>,
+    resource: Resource,
+    claims: &[Claim],
+) -> Result<(), NoMemory>
+    ensures { OnOk result (string_bytes out.new ≡ string_bytes out.old ++ box_at last resource claims.now) }
 {
-    claims.iter().find(|claim| waits_on(resource, claim))
-}
-
-/// Whether the claim is of the session.
-fn is_of(session: u16, claim: Option<&Claim>) -> bool
-    ensures { result ≡ is_of session (option_map (λ c. c.now) claim.entry) }
-{
-    match claim {
-        Some(claim) => claim.session == session,
-        None => false,
-    }
-}
-
-/// Whether the claim is the first request in the queue of its resource.
-fn is_first_in_queue(claims: &[Claim], claim: &Claim) -> bool
-    ensures { result ≡ is_first_in_queue claims.now claim.now }
-{
-    is_request_kind(claim.kind) && is_of(claim.session, first_request(claims, claim.resource))
-}
-
-/// Writes the box of the claim's resource if the claim is the first request in its queue.
-fn put_box_if_first(out: &mut String, claims: &[Claim], claim: &Claim) -> Result<(), NoMemory>
-    ensures { OnOk result (string_bytes out.new ≡ string_bytes out.old ++ box_if_first claims.now claim.now) }
-{
-    if is_first_in_queue(claims, claim) {
-        put_box(out, claims, claim.resource)?;
+    if begins_queue(last, resource, claims) {
+        put_box(out, resource, claims_on(claims, resource))?;
     }
     Ok(())
 }
 
-/// Writes the boxes.
+/// Writes the boxes of a listing.
 fn put_boxes(out: &mut String, claims: &[Claim]) -> Result<(), NoMemory>
-    ensures { OnOk result (string_bytes out.new ≡ string_bytes out.old ++ flat_map (box_if_first claims.now) claims.now) }
+    ensures { OnOk result (string_bytes out.new ≡ string_bytes out.old ++ boxes_behind None claims.now) }
 {
-    for claim in claims {
-        put_box_if_first(out, claims, claim)?;
+    let mut last = None;
+    for index in 0..claims.len() {
+        let resource = claims[index].resource;
+        put_box_at(out, last, resource, &claims[index..])?;
+        last = Some(resource);
     }
     Ok(())
 }
@@ -191,9 +149,9 @@ fn put_first_edges(out: &mut String, waits: &[ToldWait]) -> Result<(), NoMemory>
 }
 
 /// The contended resources and the waits for first blockers as a directed graph of Graphviz: a node for each open transaction,
-/// filled if it is a victim; a box for each resource with a waiting request, with its holders and its queue; and an edge for
-/// each wait that has `since`. `claims` has the order of a listing: resource by resource. Goes through all claims for each
-/// waiting request. Fails only with `NoMemory`.
+/// filled if it is a victim; a box for each resource with a waiting request, with its holders and its queue, in rows; and an edge for
+/// each wait that has `since`. `claims` has the order of a listing: resource by resource. Its cost grows with the number of claims.
+/// Fails only with `NoMemory`.
 pub fn locks_dot(
     alloc: Global,
     opens: &[OpenTransaction],
@@ -202,10 +160,12 @@ pub fn locks_dot(
 ) -> Result<String, NoMemory>
     ensures { IfOk result (λ text. string_bytes text ≡ dot_of_locks opens.now claims.now waits.now) }
 {
+    let boxed = waited(alloc, claims)?;
     let mut out = String::new(alloc);
-    out.push_str("digraph locks {\n")?;
+    out.push_str(START)?;
     put_nodes(&mut out, opens)?;
     put_boxes(&mut out, claims)?;
+    put_places(&mut out, &boxed)?;
     put_first_edges(&mut out, waits)?;
     out.push_str("}\n")?;
     Ok(out)

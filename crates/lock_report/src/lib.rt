@@ -1,9 +1,10 @@
 //! The state of a lock table as text: for people, as CSV rows, and as graphs for Graphviz.
 //!
 //! `text.rt` writes the text for people, `rows.rt` the rows, `dot.rt` the waits-for graph, `boxes.rt` the contended resources
-//! and the waits for first blockers. `jam.rt` has the parts of the text that tell who blocks whom, `answer.rt` what the answer to a
-//! poll tells. `snapshot.rt` has the open transactions, the waits and the roots that a report
-//! shows beside the claims of a listing, `by_session.rt` sorts the claims by session.
+//! and the waits for first blockers; `queues.rt` finds those resources, `rows_of_boxes.rt` places their boxes. `jam.rt` has the
+//! parts of the text that tell who blocks whom, `answer.rt` what the answer to a poll tells. `snapshot.rt` has the open
+//! transactions, the waits and the roots that a report shows beside the claims of a listing, `by_session.rt` sorts the claims by
+//! session.
 //!
 //! A report is written from lists that the caller took from a lock table, one line or row for each item, in the order
 //! given. The text for people also has the claims of each transaction, found in the sorted copy.
@@ -18,7 +19,9 @@ mod boxes;
 mod by_session;
 mod dot;
 mod jam;
+mod queues;
 mod rows;
+mod rows_of_boxes;
 mod snapshot;
 mod text;
 

@@ -81,7 +81,7 @@ fn put_line_of_resource(out: &mut String, claim: &Claim) -> Result<(), NoMemory>
 }
 
 /// Whether this is the resource that was shown last.
-fn is_last(last: Option<Resource>, resource: Resource) -> bool
+pub(crate) fn is_last(last: Option<Resource>, resource: Resource) -> bool
     ensures { result ≡ is_last last resource }
 {
     same_path_is_equality();

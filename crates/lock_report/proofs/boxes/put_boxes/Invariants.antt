@@ -1,8 +1,7 @@
-use Rattle.std.proofs.Common.{◌≡◌, ◌++◌, take, string_bytes}
-use Rattle.std.specs.List.{flat_map}
-use Rattle.lock_report.specs.LocksDot.{box_if_first}
+use Rattle.std.proofs.Common.{◌≡◌, ◌++◌, None, drop, string_bytes}
+use Rattle.lock_report.specs.LocksDot.{boxes_behind}
 use Rattle.lock_report.proofs.boxes.put_boxes.Given as goal
 
--- The boxes of the claims before this one are written.
-abbrev pub invariant-loop-claim : goal.invariant-loop-claim
-invariant-loop-claim l = string_bytes l.out ≡ string_bytes l.fn.out ++ flat_map (box_if_first l.claims) (take l.claim-index l.claims)
+-- With the boxes of the claims from this one on, the text will have all boxes.
+abbrev pub invariant-loop-index : goal.invariant-loop-index
+invariant-loop-index l = string_bytes l.out ++ boxes_behind l.last (drop l.index l.claims) ≡ string_bytes l.fn.out ++ boxes_behind None l.claims
