@@ -1,5 +1,6 @@
 pub mod BoxesTold
 pub mod ExplainedParts
+pub mod FindingBehind
 pub mod IsVerdict
 pub mod LinesTold
 pub mod PartsWritten

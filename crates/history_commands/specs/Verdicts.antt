@@ -34,6 +34,11 @@ abbrev pub verdict_of : Finding → Verdict
 verdict_of (finding.Legal count) = verdict.Legal count
 verdict_of (finding.Wrong wrong) = verdict.Illegal wrong.place
 
+-- the result with the verdict of its finding
+abbrev pub verdict_in : {F : Type 0} → Result Finding F → Result Verdict F
+verdict_in (Ok found) = Ok (verdict_of found)
+verdict_in (Err fault) = Err fault
+
 -- the finding is right: the history is legal and has `count` entries, or this is its first wrong reply
 abbrev pub IsFinding : List Entry → Finding → Type 0
 IsFinding history (finding.Legal count) = (count ≡ length history) × IsLegal history

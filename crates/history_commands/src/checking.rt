@@ -4,7 +4,7 @@ ghost use Rattle.std.specs.Prelude.{◌≡◌, ℕ, ◌+◌, ◌<◌, ◌≤◌,
 ghost use Rattle.lock_rules.specs.declared.calls.TheConstants.{MAX_SESSIONS};
 ghost use Rattle.lock_rules.specs.Legal.{IsLegal};
 ghost use Rattle.lock_trace.specs.Entries.{IsEntry};
-ghost use Rattle.history_commands.specs.Verdicts.{Checks, Finds, IsFaultOfCheck, IsFinding, IsFirstWrong, IsWrongReply, text_of_verdict};
+ghost use Rattle.history_commands.specs.Verdicts.{Checks, Finds, IsFaultOfCheck, IsFinding, IsFirstWrong, IsVerdict, IsWrongReply, text_of_verdict, verdict_of};
 
 use crate::finding::{Finding, WrongReply};
 use lock_desk::{Book, Entry, NoMemory, Reply};
@@ -130,6 +130,27 @@ fn finding_on(alloc: Global, entries: &[Entry], sessions: u16) -> Result<Finding
     match first_wrong_reply(&mut book, entries, 0, entries.len())? {
         Some(wrong) => Ok(Finding::Wrong(wrong)),
         None => Ok(Finding::Legal(entries.len() as u64)),
+    }
+}
+
+/// The finding of a history with this verdict. If a reply is wrong, the calls are served once more on a fresh lock table, for the reply
+/// that it gives in its place. Fails if that lock table finds no memory.
+pub(crate) fn finding_behind(
+    alloc: Global,
+    entries: &[Entry],
+    sessions: u16,
+    verdict: Verdict,
+) -> Result<Finding, NoMemory>
+    requires some { 0 < sessions }
+    requires few { sessions ≤ MAX_SESSIONS }
+    requires within { All (IsEntry sessions) entries.now }
+    requires verdict { IsVerdict entries.now verdict }
+    ensures finding { IfOk result (λ finding. IsFinding entries.now finding) }
+    ensures verdict { IfOk result (λ finding. verdict_of finding ≡ verdict) }
+{
+    match verdict {
+        Verdict::Legal(count) => Ok(Finding::Legal(count)),
+        Verdict::Illegal(_) => finding_on(alloc, entries, sessions),
     }
 }
 

@@ -1,6 +1,6 @@
 //! The command `explain`: what the calls of a history did and why, as text.
 
-ghost use Rattle.std.specs.Prelude.{◌≡◌, ◌≢◌, ℕ, ◌+◌, ◌<◌, ◌≤◌, ◌↔◌, ◌++◌, true, false, List, [], ◌∷◌, None, Some, length, take, All, IfOk, IfErr, IfSome, IfNone, OnOk, string_bytes};
+ghost use Rattle.std.specs.Prelude.{◌≡◌, ◌≢◌, ℕ, ◌+◌, ◌<◌, ◌≤◌, ◌↔◌, ◌++◌, true, false, List, [], ◌∷◌, None, Some, length, take, All, Ok, IfOk, IfErr, IfSome, IfNone, OnOk, string_bytes};
 ghost use Rattle.std.specs.Io.KnownBytes.{Keeps};
 ghost use Rattle.lock_rules.specs.declared.calls.TheConstants.{MAX_SESSIONS};
 ghost use Rattle.lock_rules.specs.Ended.{ended_waits};
@@ -9,9 +9,10 @@ ghost use Rattle.lock_rules.specs.Step.{step};
 ghost use Rattle.sequential.specs.Histories.{IsEntryWithin};
 ghost use Rattle.lock_trace.specs.Entries.{IsEntry};
 ghost use Rattle.history_commands.specs.Explaining.{AreAccounts, Explains, HasExplained, HasExplainedPart, HasPlace, IsAccount, IsAccountIfEventful, IsTextExplained, account_in, answer_in, answer_told, doom_answered, is_entry_eventful, is_poll};
-ghost use Rattle.history_commands.specs.Verdicts.{IsFirstWrong, IsVerdict, text_of_verdict};
+ghost use Rattle.history_commands.specs.Verdicts.{Finds, IsFirstWrong, IsVerdict, text_of_verdict, verdict_in, verdict_of};
 
-use crate::checking::{Verdict, first_wrong, fresh_book, is_same, verdict_line};
+use crate::checking::{Verdict, finding_behind, first_wrong, fresh_book, is_same, verdict_line};
+use crate::finding::Finding;
 use crate::show_fault::ShowFault;
 use command_line::Form;
 use explain_report::{explanation_dot, explanation_rows, explanation_text};
@@ -406,6 +407,50 @@ fn place_missed(place: Option<u32>, entries: &[Entry]) -> Option<u64>
     }
 }
 
+/// Explains calls of a history as [`explain`] does, and returns what is found in the history: its first wrong reply beside the lock
+/// table's, if there is one. An illegal history is served twice.
+#[tactic(auto, using(crate::proofs::ExplainedParts::explain_part, crate::proofs::ExplainedParts::explain_part_known))]
+pub fn explain_found<R: Read + Drop, W: Write>(
+    alloc: Global,
+    input: R,
+    output: &mut W,
+    sessions: u16,
+    place: Option<u32>,
+    form: Form,
+) -> Result<Finding, ShowFault>
+    requires some { 0 < sessions }
+    requires few { sessions ≤ MAX_SESSIONS }
+    // hold for every reader
+    ensures kept { IfErr result (λ fault. fault ≢ ShowFault.Device → Keeps (W.contents output.old) (W.contents output.new)) }
+    ensures part { IfErr result (λ fault. fault ≡ ShowFault.Device → HasExplainedPart form sessions place (W.contents output.old) (W.contents output.new)) }
+    ensures explained { IfOk result (λ finding. HasExplained form sessions place (verdict_of finding) (W.contents output.old) (W.contents output.new)) }
+
+    // hold for a reader whose bytes are known
+    ensures finds { (bytes : List ℕ) → R.remaining input ≡ Some bytes → IfOk result (λ finding. Finds sessions bytes (Ok finding)) }
+    ensures explains { (bytes : List ℕ) → R.remaining input ≡ Some bytes → Explains form sessions place bytes (W.contents output.old) (W.contents output.new) (verdict_in result) }
+{
+    let entries = match read_history(alloc, input, sessions) {
+        Ok(entries) => entries,
+        Err(fault) => return Err(ShowFault::Trace(fault)),
+    };
+    if let Some(missed) = place_missed(place, &entries) {
+        return Err(ShowFault::NoPlace {
+            place: missed,
+            entries: entries.len() as u64,
+        });
+    }
+    let Ok(report) = report_of(alloc, &entries, sessions, place, form) else {
+        return Err(ShowFault::NoMemory);
+    };
+    let Ok(finding) = finding_behind(alloc, &entries, sessions, report.verdict) else {
+        return Err(ShowFault::NoMemory);
+    };
+    if write_text(output, &report.text).is_err() {
+        return Err(ShowFault::Device);
+    }
+    Ok(finding)
+}
+
 /// Reads the whole text of a history of sessions 1 to `sessions`, at most `MAX_SESSIONS`, checks it as [`check`] does, and writes
 /// what the call at index `place` did and why: why it was refused, for whom its request waits and through what, the cycles that
 /// it closed, who became a victim, and whose requests it granted; of a poll also for whom the session waits, since when, and which
@@ -417,7 +462,6 @@ fn place_missed(place: Option<u32>, entries: &[Entry]) -> Option<u64>
 /// `Device` the beginning of the text may have been written, and nothing else. The fault `Trace` names the first faulty row and
 /// the first test that the row fails; `NoPlace` means that the history has no entry at `place`. The formats are this project's
 /// own; see docs/FORMATS.md.
-#[tactic(auto, using(crate::proofs::ExplainedParts::explain_part, crate::proofs::ExplainedParts::explain_part_known))]
 pub fn explain<R: Read + Drop, W: Write>(
     alloc: Global,
     input: R,
@@ -436,21 +480,6 @@ pub fn explain<R: Read + Drop, W: Write>(
     // holds for a reader whose bytes are known
     ensures explains { (bytes : List ℕ) → R.remaining input ≡ Some bytes → Explains form sessions place bytes (W.contents output.old) (W.contents output.new) result }
 {
-    let entries = match read_history(alloc, input, sessions) {
-        Ok(entries) => entries,
-        Err(fault) => return Err(ShowFault::Trace(fault)),
-    };
-    if let Some(missed) = place_missed(place, &entries) {
-        return Err(ShowFault::NoPlace {
-            place: missed,
-            entries: entries.len() as u64,
-        });
-    }
-    let Ok(report) = report_of(alloc, &entries, sessions, place, form) else {
-        return Err(ShowFault::NoMemory);
-    };
-    if write_text(output, &report.text).is_err() {
-        return Err(ShowFault::Device);
-    }
-    Ok(report.verdict)
+    let finding = explain_found(alloc, input, output, sessions, place, form)?;
+    Ok(finding.verdict())
 }

@@ -16,7 +16,7 @@ mod showing;
 
 pub use checking::{Verdict, check, check_whole, verdict_line};
 pub use checking_by_row::check_by_row;
-pub use explaining::explain;
+pub use explaining::{explain, explain_found};
 pub use finding::{Finding, WrongReply};
 pub use show_fault::ShowFault;
-pub use showing::show;
+pub use showing::{show, show_found};

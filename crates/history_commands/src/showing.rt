@@ -1,15 +1,16 @@
 //! The command `show`: the state of the lock table at a place of a history, as text.
 
-ghost use Rattle.std.specs.Prelude.{◌≡◌, ◌≢◌, ℕ, ◌<◌, ◌≤◌, ◌++◌, List, [], Some, length, All, IfOk, IfErr, OnOk, string_bytes};
+ghost use Rattle.std.specs.Prelude.{◌≡◌, ◌≢◌, ℕ, ◌<◌, ◌≤◌, ◌++◌, List, [], Some, length, All, Ok, IfOk, IfErr, OnOk, string_bytes};
 ghost use Rattle.std.specs.Io.KnownBytes.{Keeps};
 ghost use Rattle.lock_rules.specs.declared.calls.TheConstants.{MAX_SESSIONS};
 ghost use Rattle.lock_rules.specs.Legal.{state_of};
 ghost use Rattle.sequential.specs.Histories.{IsEntryWithin};
 ghost use Rattle.lock_trace.specs.Entries.{IsEntry};
 ghost use Rattle.history_commands.specs.Showing.{HasShown, HasShownPart, Shows, open_of, opens_of, place_shown, lines_in, boxes_in, text_in, text_shown, wait_of, waits_by, waits_of};
-ghost use Rattle.history_commands.specs.Verdicts.{IsVerdict, text_of_verdict};
+ghost use Rattle.history_commands.specs.Verdicts.{Finds, IsVerdict, text_of_verdict, verdict_in, verdict_of};
 
-use crate::checking::{Verdict, first_wrong, fresh_book, verdict_line};
+use crate::checking::{Verdict, finding_behind, first_wrong, fresh_book, verdict_line};
+use crate::finding::Finding;
 use crate::show_fault::ShowFault;
 use command_line::Form;
 use jam_report::{count_waiting, roots_of, waits_told};
@@ -214,6 +215,51 @@ fn place_asked(place: Option<u32>, entries: &[Entry]) -> usize
     }
 }
 
+/// Shows a state of a history as [`show`] does, and returns what is found in the history: its first wrong reply beside the lock table's, if
+/// there is one. An illegal history is served twice.
+#[tactic(auto, using(crate::proofs::PartsWritten::show_part, crate::proofs::PartsWritten::show_part_known))]
+pub fn show_found<R: Read + Drop, W: Write>(
+    alloc: Global,
+    input: R,
+    output: &mut W,
+    sessions: u16,
+    place: Option<u32>,
+    form: Form,
+) -> Result<Finding, ShowFault>
+    requires some { 0 < sessions }
+    requires few { sessions ≤ MAX_SESSIONS }
+    // hold for every reader
+    ensures kept { IfErr result (λ fault. fault ≢ ShowFault.Device → Keeps (W.contents output.old) (W.contents output.new)) }
+    ensures part { IfErr result (λ fault. fault ≡ ShowFault.Device → HasShownPart form sessions place (W.contents output.old) (W.contents output.new)) }
+    ensures shown { IfOk result (λ finding. HasShown form sessions place (verdict_of finding) (W.contents output.old) (W.contents output.new)) }
+
+    // hold for a reader whose bytes are known
+    ensures finds { (bytes : List ℕ) → R.remaining input ≡ Some bytes → IfOk result (λ finding. Finds sessions bytes (Ok finding)) }
+    ensures shows { (bytes : List ℕ) → R.remaining input ≡ Some bytes → Shows form sessions place bytes (W.contents output.old) (W.contents output.new) (verdict_in result) }
+{
+    let entries = match read_history(alloc, input, sessions) {
+        Ok(entries) => entries,
+        Err(fault) => return Err(ShowFault::Trace(fault)),
+    };
+    let shown_at = place_asked(place, &entries);
+    if shown_at > entries.len() {
+        return Err(ShowFault::NoPlace {
+            place: shown_at as u64,
+            entries: entries.len() as u64,
+        });
+    }
+    let Ok(shown) = shown_text(alloc, &entries, sessions, shown_at, form) else {
+        return Err(ShowFault::NoMemory);
+    };
+    let Ok(finding) = finding_behind(alloc, &entries, sessions, shown.verdict) else {
+        return Err(ShowFault::NoMemory);
+    };
+    if write_text(output, shown.text.as_bytes()).is_err() {
+        return Err(ShowFault::Device);
+    }
+    Ok(finding)
+}
+
 /// Reads the whole text of a history of sessions 1 to `sessions`, at most `MAX_SESSIONS`, checks it as [`check`] does, and writes
 /// the state of the lock table in front of the entry at index `place`, `None` for the end of the history: who blocks others, which
 /// transactions are open, who holds what, who waits for what, and who waits for whom, since when. If the history isn't legal, the line of its verdict is
@@ -223,7 +269,6 @@ fn place_asked(place: Option<u32>, entries: &[Entry]) -> usize
 /// `Device` the beginning of the text may have been written, and nothing else. The fault `Trace` names the first faulty row and
 /// the first test that the row fails; `NoPlace` means that the history has fewer than `place` entries. The formats are this
 /// project's own; see docs/FORMATS.md.
-#[tactic(auto, using(crate::proofs::PartsWritten::show_part, crate::proofs::PartsWritten::show_part_known))]
 pub fn show<R: Read + Drop, W: Write>(
     alloc: Global,
     input: R,
@@ -242,22 +287,6 @@ pub fn show<R: Read + Drop, W: Write>(
     // holds for a reader whose bytes are known
     ensures shows { (bytes : List ℕ) → R.remaining input ≡ Some bytes → Shows form sessions place bytes (W.contents output.old) (W.contents output.new) result }
 {
-    let entries = match read_history(alloc, input, sessions) {
-        Ok(entries) => entries,
-        Err(fault) => return Err(ShowFault::Trace(fault)),
-    };
-    let shown_at = place_asked(place, &entries);
-    if shown_at > entries.len() {
-        return Err(ShowFault::NoPlace {
-            place: shown_at as u64,
-            entries: entries.len() as u64,
-        });
-    }
-    let Ok(shown) = shown_text(alloc, &entries, sessions, shown_at, form) else {
-        return Err(ShowFault::NoMemory);
-    };
-    if write_text(output, shown.text.as_bytes()).is_err() {
-        return Err(ShowFault::Device);
-    }
-    Ok(shown.verdict)
+    let finding = show_found(alloc, input, output, sessions, place, form)?;
+    Ok(finding.verdict())
 }

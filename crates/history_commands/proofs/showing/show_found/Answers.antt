@@ -1,5 +1,5 @@
 use Rattle.std.proofs.Common.{rules}
-use Rattle.history_commands.proofs.showing.show.Goals as goal
+use Rattle.history_commands.proofs.showing.show_found.Goals as goal
 
 pub returns-then-is_err-clause-part : goal.returns-then-is_err-clause-part
 returns-then-is_err-clause-part g c = λ is. (
