@@ -1,4 +1,5 @@
 pub mod BoxesTold
+pub mod DrawnParts
 pub mod ExplainedParts
 pub mod FindingBehind
 pub mod IsVerdict

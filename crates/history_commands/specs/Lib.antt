@@ -1,3 +1,4 @@
+pub mod Drawing
 pub mod Explaining
 pub mod RowsJudged
 pub mod Showing

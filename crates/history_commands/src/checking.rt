@@ -120,7 +120,11 @@ pub(crate) fn fresh_book(alloc: Global, sessions: u16) -> Result<Book, NoMemory>
 
 /// Serves the calls of the entries in order on a fresh lock table, and returns what is found. Fails if the lock table finds no
 /// memory.
-fn finding_on(alloc: Global, entries: &[Entry], sessions: u16) -> Result<Finding, NoMemory>
+pub(crate) fn finding_on(
+    alloc: Global,
+    entries: &[Entry],
+    sessions: u16,
+) -> Result<Finding, NoMemory>
     requires some { 0 < sessions }
     requires few { sessions ≤ MAX_SESSIONS }
     requires within { All (IsEntry sessions) entries.now }

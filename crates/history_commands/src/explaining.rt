@@ -396,7 +396,7 @@ fn report_of(
 }
 
 /// The place that is asked for, if the history has no entry there, and else `None`.
-fn place_missed(place: Option<u32>, entries: &[Entry]) -> Option<u64>
+pub(crate) fn place_missed(place: Option<u32>, entries: &[Entry]) -> Option<u64>
     ensures asked { IfSome result (λ missed. place ≡ Some missed) }
     ensures behind { IfSome result (λ missed. length entries.now ≤ missed) }
     ensures there { IfNone result (HasPlace place entries.now) }

@@ -1,14 +1,16 @@
-//! The commands of `glm` that read a history: `check`, `show` and `explain`.
+//! The commands of `glm` that read a history: `check`, `show`, `explain` and `timeline`.
 //!
 //! `checking.rt` compares each reply with a fresh lock table's, and `checking_by_row.rt` does so as rows are read; `finding.rt` has
 //! what they find. `showing.rt` shows the state of the lock table at a place of the
-//! history, `explaining.rt` what calls did and why. `show_fault.rt` has the faults of the last two.
+//! history, `explaining.rt` what calls did and why, `drawing.rt` draws the history. `show_fault.rt` has the faults of these three.
 //!
-//! Proved: the verdict, and what is written, for every input, also after a fault.
+//! Proved: the verdict, and what is written, for every input, also after a fault; but of a picture only that it is written of a legal
+//! history, and else the verdict.
 #![tactic(auto)]
 
 mod checking;
 mod checking_by_row;
+mod drawing;
 mod explaining;
 mod finding;
 mod show_fault;
@@ -16,6 +18,7 @@ mod showing;
 
 pub use checking::{Verdict, check, check_whole, verdict_line};
 pub use checking_by_row::check_by_row;
+pub use drawing::timeline;
 pub use explaining::{explain, explain_found};
 pub use finding::{Finding, WrongReply};
 pub use show_fault::ShowFault;

@@ -1,9 +1,9 @@
-//! Why a state of the lock table wasn't shown, or calls of a history weren't explained.
+//! Why a state of the lock table wasn't shown, calls of a history weren't explained, or a history wasn't drawn.
 
 use lock_trace::TraceFault;
 use thiserror::Error;
 
-/// Why `show` or `explain` failed. The program prints its text on standard error after `glm: `, except that a row that failed for the
+/// Why `show`, `explain` or `timeline` failed. The program prints its text on standard error after `glm: `, except that a row that failed for the
 /// device or for memory is printed like `Device` or `NoMemory`, without its number.
 #[derive(Clone, Copy, Debug, Drop, PartialEq, Eq, Error)]
 pub enum ShowFault {

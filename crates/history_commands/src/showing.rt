@@ -21,13 +21,13 @@ use replay_commands::write_text;
 use std::alloc::Global;
 use std::io::{Read, Write};
 
-/// The text that `show` writes of a history, and the verdict on the history.
+/// The text that `show` or `timeline` writes of a history, and the verdict on the history.
 #[derive(Drop)]
-struct Shown {
+pub(crate) struct Shown {
     /// Whether the history is legal.
-    verdict: Verdict,
-    /// The state, or the line of the verdict.
-    text: String,
+    pub(crate) verdict: Verdict,
+    /// The state or the picture, or the line of the verdict.
+    pub(crate) text: String,
 }
 
 /// Adds the open transaction of `session` to the list, if it has one. Fails if memory is refused.
@@ -148,7 +148,7 @@ fn book_text(
 }
 
 /// The text of a history that isn't legal: the line of its verdict. Fails if memory is refused.
-fn illegal_text(alloc: Global, first: u64) -> Result<Shown, NoMemory>
+pub(crate) fn illegal_text(alloc: Global, first: u64) -> Result<Shown, NoMemory>
     ensures verdict { IfOk result (λ shown. shown.verdict ≡ Verdict.Illegal first) }
     ensures text { IfOk result (λ shown. string_bytes shown.text ≡ text_of_verdict (Verdict.Illegal first)) }
 {
