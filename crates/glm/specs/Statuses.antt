@@ -34,7 +34,7 @@ status_for tool.Device = DEVICE
 status_for tool.GateShut = STOPPED
 status_for tool.TurnLimit = STOPPED
 
--- the exit status of a fault of `show` or `explain`
+-- the exit status of a fault of `show`, `explain` or `timeline`
 abbrev pub status_for_show : ShowFault → ℕ
 status_for_show (show.Trace fault) = status_of_kind fault.kind
 status_for_show (show.NoPlace place entries) = USAGE

@@ -25,7 +25,7 @@ use clap::error::ErrorKind;
 use command_line::{CommandRequest, Delivery, Request, VERSION_TEXT, request_of, usage_text};
 use file_streams::{NewFile, open_source};
 use history_commands::{
-    Finding, Verdict, WrongReply, check_by_row, check_whole, explain, show, verdict_line,
+    Finding, Verdict, WrongReply, check_by_row, check_whole, explain, show, timeline, verdict_line,
 };
 use replay_commands::{ToolFault, replay, replay_in_pieces, write_text};
 use row_comments::SkipComments;
@@ -168,6 +168,10 @@ fn perform<T: Threads + Wait, R: Read + Drop, W: Write, G: Gate>(
         CommandRequest::Explain(sessions, place, form) => {
             Outcome::Explain(explain(alloc, input, output, sessions, place, form))
         }
+        CommandRequest::Timeline(sessions, from, to) => {
+            Outcome::Timeline(timeline(alloc, input, output, sessions, from, to))
+        }
+        CommandRequest::Shell(_) => Outcome::OutOfMemory,
     }
 }
 

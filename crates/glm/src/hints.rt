@@ -26,6 +26,8 @@ fn command_for(request: CommandRequest) -> (Command, u16) {
         CommandRequest::Check(sessions, _) => (Command::Check, sessions),
         CommandRequest::Show(sessions, _, _) => (Command::Show, sessions),
         CommandRequest::Explain(sessions, _, _) => (Command::Explain, sessions),
+        CommandRequest::Timeline(sessions, _, _) => (Command::Timeline, sessions),
+        CommandRequest::Shell(sessions) => (Command::Replay, sessions),
     }
 }
 
@@ -38,7 +40,8 @@ fn row_fault(outcome: &Outcome) -> Option<TraceFault> {
         | Outcome::RunInPieces(Err(ToolFault::Trace(fault))) => Some(*fault),
         Outcome::Check(Err(ToolFault::Trace(fault))) => Some(*fault),
         Outcome::Show(Err(ShowFault::Trace(fault)))
-        | Outcome::Explain(Err(ShowFault::Trace(fault))) => Some(*fault),
+        | Outcome::Explain(Err(ShowFault::Trace(fault)))
+        | Outcome::Timeline(Err(ShowFault::Trace(fault))) => Some(*fault),
         _ => None,
     }
 }

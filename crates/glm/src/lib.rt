@@ -21,6 +21,7 @@ pub use commands::{program, program_with_hints};
 pub use hints::Hints;
 pub use history_commands::{
     Finding, ShowFault, Verdict, WrongReply, check, check_by_row, check_whole, explain, show,
+    timeline,
 };
 pub use outcomes::{DEVICE, DONE, ILLEGAL, NO_MEMORY, REFUSED, STOPPED, USAGE};
 pub use replay_commands::{PIECE_ENTRIES, ToolFault, replay, replay_in_pieces};

@@ -52,6 +52,9 @@ pub(crate) enum Outcome {
     /// The verdict on the history of which an explanation was asked for, and written: the explanation if the history is legal,
     /// else the verdict.
     Explain(Result<Verdict, ShowFault>),
+    /// The verdict on the history of which a picture was asked for, and written: the picture if the history is legal, else the
+    /// verdict.
+    Timeline(Result<Verdict, ShowFault>),
     /// Help was asked for, and written.
     HelpShown,
     /// Help was asked for, and the writer failed.
@@ -93,7 +96,7 @@ fn status_of_fault(fault: &ToolFault) -> u8
     }
 }
 
-/// The exit status of a fault of `show` or `explain`.
+/// The exit status of a fault of `show`, `explain` or `timeline`.
 fn status_of_show_fault(fault: &ShowFault) -> u8
     ensures fault { result ≡ status_for_show fault.now }
     ensures status { IsStatus result }
@@ -120,7 +123,7 @@ fn report_fault<E: Write>(fault: &ToolFault, errors: &mut E) {
     report_line(status_of_fault(fault), fault, errors);
 }
 
-/// Writes the line of a fault of `show` or `explain`.
+/// Writes the line of a fault of `show`, `explain` or `timeline`.
 fn report_show_fault<E: Write>(fault: &ShowFault, errors: &mut E) {
     report_line(status_of_show_fault(fault), fault, errors);
 }
@@ -162,12 +165,15 @@ impl Outcome {
             Outcome::Check(Ok(Verdict::Illegal(_))) => ILLEGAL,
             Outcome::Show(Ok(Verdict::Illegal(_))) => ILLEGAL,
             Outcome::Explain(Ok(Verdict::Illegal(_))) => ILLEGAL,
+            Outcome::Timeline(Ok(Verdict::Legal(_))) => DONE,
+            Outcome::Timeline(Ok(Verdict::Illegal(_))) => ILLEGAL,
             Outcome::Replay(Err(fault)) | Outcome::ReplayInPieces(Err(fault)) => {
                 status_of_fault(fault)
             }
             Outcome::Run(Err(fault)) | Outcome::RunInPieces(Err(fault)) => status_of_fault(fault),
             Outcome::Check(Err(fault)) => status_of_fault(fault),
             Outcome::Show(Err(fault)) | Outcome::Explain(Err(fault)) => status_of_show_fault(fault),
+            Outcome::Timeline(Err(fault)) => status_of_show_fault(fault),
             Outcome::HelpFailed | Outcome::VersionFailed | Outcome::FileFailed => DEVICE,
             Outcome::Misused => USAGE,
             Outcome::OutOfMemory => NO_MEMORY,
@@ -187,6 +193,7 @@ impl Outcome {
             Outcome::Show(Err(fault)) | Outcome::Explain(Err(fault)) => {
                 report_show_fault(fault, errors)
             }
+            Outcome::Timeline(Err(fault)) => report_show_fault(fault, errors),
             Outcome::HelpFailed | Outcome::VersionFailed => report_fault(
                 &ToolFault::Device,
                 errors,
@@ -195,6 +202,7 @@ impl Outcome {
             Outcome::Replay(Ok(_)) | Outcome::ReplayInPieces(Ok(_)) => {}
             Outcome::Run(Ok(_)) | Outcome::RunInPieces(Ok(_)) => {}
             Outcome::Check(Ok(_)) | Outcome::Show(Ok(_)) | Outcome::Explain(Ok(_)) => {}
+            Outcome::Timeline(Ok(_)) => {}
             Outcome::HelpShown | Outcome::VersionShown => {}
             Outcome::Misused | Outcome::FileFailed => {}
         }

@@ -28,6 +28,8 @@ pub enum Command {
     Show,
     /// `explain`, which reads a history.
     Explain,
+    /// `timeline`, which reads a history.
+    Timeline,
 }
 
 impl Command {
@@ -39,6 +41,7 @@ impl Command {
             Command::Check => "check",
             Command::Show => "show",
             Command::Explain => "explain",
+            Command::Timeline => "timeline",
         }
     }
 
@@ -46,7 +49,7 @@ impl Command {
     pub(crate) fn reads_history(self) -> bool {
         match self {
             Command::Replay | Command::Run => false,
-            Command::Check | Command::Show | Command::Explain => true,
+            Command::Check | Command::Show | Command::Explain | Command::Timeline => true,
         }
     }
 }

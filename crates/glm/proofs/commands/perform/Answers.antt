@@ -101,3 +101,17 @@ returns-in-Explain c c' =
       explained = done.explained;
       explains = done.explains;
     }
+
+pub returns-in-Timeline : goal.returns-in-Timeline
+returns-in-Timeline c c' =
+    let done = c'.timeline.ensures in
+    λ words asked. record {
+      sessions = c'.in-Timeline.sessions;
+      from = c'.in-Timeline.from;
+      to = c'.in-Timeline.to;
+      asked = (let is : c'.args.command ≡ request.Timeline c'.in-Timeline.sessions c'.in-Timeline.from c'.in-Timeline.to = search rules in subst (λ (r : CommandRequest). Ask words r) is asked);
+      kept = done.kept;
+      part = done.part;
+      drawn = done.drawn;
+      draws = done.draws;
+    }
