@@ -2,8 +2,8 @@
 
 use crate::harness::limited;
 use glm::{
-    Finding, Hints, OpenGate, ToolFault, WrongReply, check_by_row, check_whole, program,
-    program_with_hints,
+    Finding, Form, Hints, OpenGate, ToolFault, WrongReply, check_by_row, check_whole,
+    explain_found, program, program_with_hints, show_found,
 };
 use lock_modes::Mode;
 use lock_rules::{Call, Entry, Reply};
@@ -88,6 +88,52 @@ fn a_check_shows_the_wrong_reply(rt: HostRuntime) {
         tells(&rt, &asked, ILLEGAL, Hints::AsAsked, 3, TOLD),
         "asked"
     );
+}
+
+/// A state that is shown and calls that are explained have it too, behind the place or in front of it.
+#[test]
+fn show_and_explain_show_the_wrong_reply(rt: HostRuntime) {
+    let (before, behind) = (["glm", "show", "--at=1"], ["glm", "show", "--hints"]);
+    assert!(rt;
+        tells(&rt, &before, ILLEGAL, Hints::AsAsked, 3, ""),
+        "not asked"
+    );
+    assert!(rt;
+        tells(&rt, &before, ILLEGAL, Hints::Always, 3, TOLD),
+        "a state in front of it"
+    );
+    assert!(rt;
+        tells(&rt, &behind, ILLEGAL, Hints::AsAsked, 3, TOLD),
+        "a state behind it"
+    );
+    let (call, all) = (
+        ["glm", "explain", "--hints", "--at=0"],
+        ["glm", "explain", "--hints"],
+    );
+    assert!(rt;
+        tells(&rt, &call, ILLEGAL, Hints::AsAsked, 3, TOLD),
+        "a call"
+    );
+    assert!(rt;
+        tells(&rt, &all, ILLEGAL, Hints::AsAsked, 3, TOLD),
+        "all calls"
+    );
+}
+
+/// What is found in a history whose state is shown, and whose calls are explained, is what a check finds.
+#[test]
+fn show_and_explain_find_what_a_check_finds(rt: HostRuntime) {
+    let alloc = rt.alloc();
+    let legal = "0,1,begin,,,began,1\n";
+    for text in [ILLEGAL, legal] {
+        let wanted = check_whole(alloc, text.as_bytes(), 2).ok();
+        let mut shown = Vec::new(alloc);
+        let found = show_found(alloc, text.as_bytes(), &mut shown, 2, Some(1), Form::Rows);
+        assert!(rt; found.ok() == wanted, "shown");
+        let mut told = Vec::new(alloc);
+        let found = explain_found(alloc, text.as_bytes(), &mut told, 2, None, Form::Rows);
+        assert!(rt; found.ok() == wanted, "explained");
+    }
 }
 
 /// Standard error that fails changes neither the status nor the verdict, with hints or without.

@@ -20,12 +20,13 @@ ghost use Rattle.glm.specs.Statuses.{IsStatus};
 
 use crate::hints::{Hints, write_hints};
 use crate::outcomes::{Outcome, file_failed};
+use crate::wrong_replies::{explained, shown, wrong_of};
 use clap::Error;
 use clap::error::ErrorKind;
 use command_line::{CommandRequest, Delivery, Request, VERSION_TEXT, request_of, usage_text};
 use file_streams::{NewFile, open_source};
 use history_commands::{
-    Finding, Verdict, WrongReply, check_by_row, check_whole, explain, show, timeline, verdict_line,
+    Finding, Verdict, WrongReply, check_by_row, check_whole, timeline, verdict_line,
 };
 use replay_commands::{ToolFault, replay, replay_in_pieces, write_text};
 use row_comments::SkipComments;
@@ -76,14 +77,6 @@ fn finding_of<R: Read + Drop>(
     }
 }
 
-/// The wrong reply that a check found, if it found one.
-fn wrong_of(finding: &Finding) -> Option<WrongReply> {
-    match finding {
-        Finding::Wrong(reply) => Some(*reply),
-        Finding::Legal(_) => None,
-    }
-}
-
 /// Checks a history, and puts its first wrong reply, or that there is none, into `wrong`.
 fn checked<R: Read + Drop>(
     alloc: Global,
@@ -131,7 +124,7 @@ fn write_verdict<R: Read + Drop, W: Write>(
     Ok(verdict)
 }
 
-/// Runs a command: reads `input`, and writes to `output`. A check puts the first wrong reply into `wrong`.
+/// Runs a command: reads `input`, and writes to `output`. A command that reads a history puts its first wrong reply into `wrong`.
 fn perform<T: Threads + Wait, R: Read + Drop, W: Write, G: Gate>(
     rt: &T,
     alloc: Global,
@@ -163,15 +156,14 @@ fn perform<T: Threads + Wait, R: Read + Drop, W: Write, G: Gate>(
             Outcome::Check(write_verdict(alloc, input, output, sessions, delivery, wrong))
         }
         CommandRequest::Show(sessions, place, form) => {
-            Outcome::Show(show(alloc, input, output, sessions, place, form))
+            Outcome::Show(shown(alloc, input, output, sessions, place, form, wrong))
         }
         CommandRequest::Explain(sessions, place, form) => {
-            Outcome::Explain(explain(alloc, input, output, sessions, place, form))
+            Outcome::Explain(explained(alloc, input, output, sessions, place, form, wrong))
         }
         CommandRequest::Timeline(sessions, from, to) => {
             Outcome::Timeline(timeline(alloc, input, output, sessions, from, to))
         }
-        CommandRequest::Shell(_) => Outcome::OutOfMemory,
     }
 }
 

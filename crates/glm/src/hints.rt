@@ -27,7 +27,6 @@ fn command_for(request: CommandRequest) -> (Command, u16) {
         CommandRequest::Show(sessions, _, _) => (Command::Show, sessions),
         CommandRequest::Explain(sessions, _, _) => (Command::Explain, sessions),
         CommandRequest::Timeline(sessions, _, _) => (Command::Timeline, sessions),
-        CommandRequest::Shell(sessions) => (Command::Replay, sessions),
     }
 }
 
@@ -46,7 +45,16 @@ fn row_fault(outcome: &Outcome) -> Option<TraceFault> {
     }
 }
 
-/// Writes what helps with an outcome: for a row that was refused the row and what would help, for a check that found a wrong
+/// Whether the outcome is that a history isn't legal.
+fn is_illegal(outcome: &Outcome) -> bool {
+    match outcome {
+        Outcome::Check(Ok(Verdict::Illegal(_))) => true,
+        Outcome::Show(Ok(Verdict::Illegal(_))) | Outcome::Explain(Ok(Verdict::Illegal(_))) => true,
+        _ => false,
+    }
+}
+
+/// Writes what helps with an outcome: for a row that was refused the row and what would help, for a history with a wrong
 /// reply that reply beside the lock table's; else nothing. Nothing too if memory is refused; a failure of `errors` is ignored.
 pub(crate) fn write_hints<E: Write>(
     alloc: Global,
@@ -60,7 +68,10 @@ pub(crate) fn write_hints<E: Write>(
         let (command, sessions) = command_for(request);
         write_hint(alloc, rows, &fault, command, sessions, errors);
     }
-    if let (Outcome::Check(Ok(Verdict::Illegal(_))), Some(wrong)) = (*outcome, wrong) {
+    if !is_illegal(outcome) {
+        return;
+    }
+    if let Some(wrong) = wrong {
         write_expected(alloc, wrong.place, &wrong.told, &wrong.given, errors);
     }
 }
