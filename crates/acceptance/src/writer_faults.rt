@@ -114,16 +114,29 @@ fn a_failed_writer_leaves_the_beginning_of_the_text(rt: HostRuntime) {
     }
 }
 
+/// Whether outputs that fail leave the beginnings (`has_fronts`) of what the program writes to one that doesn't fail.
+fn has_own_fronts(
+    rt: &(impl AllocGlobal + Files + Threads + Wait),
+    words: &[&str],
+    input: &[u8],
+    piece: usize,
+) -> bool {
+    let mut whole = Vec::new(rt.alloc());
+    let mut errors = Vec::new(rt.alloc());
+    let status = status_of(rt, words, input, &mut whole, &mut errors, &OpenGate);
+    status == 0 && errors.is_empty() && has_fronts(rt, words, input, &whole, piece)
+}
+
 /// Wherever the writer fails, what was written is the beginning of the help that a writer gets which doesn't fail.
 #[test]
 fn a_failed_writer_leaves_the_beginning_of_the_help(rt: HostRuntime) {
-    let nothing = b"".as_slice();
-    let words = ["glm", "--help"];
-    let mut whole = Vec::new(rt.alloc());
-    let mut errors = Vec::new(rt.alloc());
-    let status = status_of(&rt, &words, nothing, &mut whole, &mut errors, &OpenGate);
-    let is_helped = status == 0 && errors.is_empty();
-    assert!(rt; is_helped && has_fronts(&rt, &words, nothing, &whole, usize::MAX));
+    assert!(rt; has_own_fronts(&rt, &["glm", "--help"], b"".as_slice(), usize::MAX));
+}
+
+/// Wherever the writer fails, what was written is the beginning of the picture that a writer gets which doesn't fail.
+#[test]
+fn a_failed_writer_leaves_the_beginning_of_a_picture(rt: HostRuntime) {
+    assert!(rt; has_own_fronts(&rt, &["glm", "timeline"], DEADLOCK.as_bytes(), 500));
 }
 
 /// A write that is interrupted is repeated.
