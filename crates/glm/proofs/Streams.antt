@@ -1,19 +1,19 @@
 -- What the outcome of a command on files says of the standard streams.
-use Rattle.std.proofs.Common.{ap, inl, inr, refl, sym, subst, subst₂, ◌≡◌, ◌≢◌, ◌∙◌, ℕ, Bool, true, false, List, Option, Some, None, Ok, Err, option_map, if◌then◌else◌, ◌↔◌, true≢false}
+use Rattle.std.proofs.Common.{ap, inl, inr, refl, sym, subst, subst₂, ◌≡◌, ◌≢◌, ◌∙◌, ℕ, Bool, true, false, List, Option, Some, None, option_map}
 use Rattle.std.specs.Io.KnownBytes.{Keeps}
 use Rattle.std.proofs.KnownBytes.{Keeps-refl}
-use Rattle.clap.specs.Walk.{Row, Text}
+use Rattle.clap.specs.Walk.{Text}
 use Rattle.clap.specs.Kinds.{IsAmong, Kinds}
 use Rattle.clap.specs.Simple.{subcommand_of}
 use Rattle.clap.specs.declared.error.kind.ErrorKind.TheVariants.{DisplayVersion}
 use Rattle.command_line.specs.declared.args.CommandRequest.{CommandRequest}
 use Rattle.command_line.specs.declared.args.Request.{Request}
-use Rattle.command_line.specs.CommandLine.{Ask, AskHelp, AskVersion, glm_command}
+use Rattle.command_line.specs.CommandLine.{Ask, AskVersion, glm_command}
 use Rattle.command_line.specs.Streams.{HasStreamsOf, SkipComments, input_file, output_file}
 use Rattle.row_comments.specs.Comments.{text_read, without_comments}
 use Rattle.glm.specs.declared.outcomes.Outcome.{Outcome}
 use Rattle.glm.specs.declared.outcomes.Outcome.TheVariants as outcome
-use Rattle.glm.specs.Outcomes.{HasDone, status_of_outcome}
+use Rattle.glm.specs.Outcomes.{HasDone}
 use Rattle.glm.specs.Streams.{HasDoneInFile, HasDoneOnStreams, HasOutcome, IsFileFault}
 
 -- standard output stays as it was if what was written did

@@ -76,7 +76,7 @@ returns-in-Check c c' =
 
 pub returns-in-Show : goal.returns-in-Show
 returns-in-Show c c' =
-    let done = c'.show.ensures in
+    let done = c'.shown.ensures in
     λ words asked. record {
       sessions = c'.in-Show.sessions;
       place = c'.in-Show.place;
@@ -90,7 +90,7 @@ returns-in-Show c c' =
 
 pub returns-in-Explain : goal.returns-in-Explain
 returns-in-Explain c c' =
-    let done = c'.explain.ensures in
+    let done = c'.explained.ensures in
     λ words asked. record {
       sessions = c'.in-Explain.sessions;
       place = c'.in-Explain.place;
