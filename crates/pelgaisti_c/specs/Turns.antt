@@ -2,9 +2,9 @@
 use Rattle.std.specs.Prelude.{◌≡◌, ◌≢◌, ℕ, ◌%◌, ◌<◌, ◌≤◌, None}
 use Rattle.lock_rules.specs.declared.calls.Call.{Call}
 use Rattle.lock_rules.specs.declared.calls.Reply.{Reply}
-use Rattle.lock_board.specs.LockBoards.{book_object}
-use Rattle.lock_office.specs.Sessions.{IsIdle}
-use Rattle.combining.specs.Calls.{IsCalled, IsCalling, IsAnswered, IsWaitingOn}
+use Rattle.program_office.specs.Sessions.{IsIdle}
+use Rattle.program_office.specs.SingleCalls.{IsCalled, IsCalling, IsAnswered}
+use Rattle.combining.specs.Calls.{IsWaitingOn}
 use Rattle.combining.specs.Waits.{IsWaitAfterTry, IsWaitAfterLook}
 use Rattle.combining.specs.declared.backoff.TheConstants.{TRIES_AT_ONCE, LOOKS_PER_TRY}
 use Rattle.combining.specs.declared.backoff.Wait.{Wait}
@@ -25,8 +25,8 @@ number_of_wait Wait.Yield = YIELD
 pub record IsCallAnswered (before after : SessionShare) (call : Call) (answer : AnswerNumbers) : Type 0 where
   pub reply : Reply
   pub reply_is : answer.reply ≡ numbers_of_reply reply
-  pub called : before.session.pending ≡ None → IsCalled book_object before.session after.session call answer.place reply
-  pub answered : before.session.pending ≢ None → IsAnswered book_object before.session after.session answer.place reply
+  pub called : before.session.pending ≡ None → IsCalled before.session after.session call answer.place reply
+  pub answered : before.session.pending ≢ None → IsAnswered before.session after.session answer.place reply
   pub idle : IsIdle after.session
   pub office : IsSameOffice before after
 
@@ -65,7 +65,7 @@ IsTurnMade before after asked made turns number = (call : Call) × IsCall asked 
 pub record IsLookAnswered (before after : SessionShare) (answer : AnswerNumbers) : Type 0 where
   pub reply : Reply
   pub reply_is : answer.reply ≡ numbers_of_reply reply
-  pub answered : IsAnswered book_object before.session after.session answer.place reply
+  pub answered : IsAnswered before.session after.session answer.place reply
   pub idle : IsIdle after.session
   pub office : IsSameOffice before after
 

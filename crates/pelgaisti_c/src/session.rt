@@ -2,7 +2,8 @@
 
 ghost use Rattle.std.specs.Prelude.{◌≡◌, ◌≢◌, ℕ, ◌+◌, ◌<◌, ◌≤◌, ◌↔◌, ◌⊎◌, true, Some, None, length, drop};
 ghost use denote.RawPtr.{null_ptr};
-ghost use Rattle.lock_office.specs.Sessions.{IsPendingServed};
+ghost use Rattle.program_office.specs.Sessions.{IsPendingServed};
+ghost use Rattle.program_office.specs.Seen.{number_of_calls};
 ghost use Rattle.lock_rules.specs.declared.calls.Call.{Call};
 ghost use Rattle.pelgaisti_c.specs.Behind.{IsNullList};
 ghost use Rattle.pelgaisti_c.specs.Numbers.{IsCall, IsCallFault};
@@ -333,7 +334,7 @@ pub extern "C" fn pelgaisti_raw_session_seen(
     seen: &mut U64Pointer,
 ) -> u32
     ensures null { result ≡ NULL_POINTER ↔ ((session.old.at ≡ null_ptr) ⊎ (seen.old.at ≡ null_ptr)) }
-    ensures ok { result ≡ OK → (share : SessionShare) × (session.old.behind.held.share ≡ Some share) × (seen.new.behind ≡ length share.session.front) }
+    ensures ok { result ≡ OK → (share : SessionShare) × (session.old.behind.held.share ≡ Some share) × (seen.new.behind ≡ number_of_calls share.session.front) }
     ensures failed { result ≢ OK → seen.new.behind ≡ seen.old.behind }
     ensures same { (session.new.behind.is_open ≡ session.old.behind.is_open) × (session.new.behind.held.share ≡ session.old.behind.held.share) }
     ensures closed { result ≢ NULL_POINTER → (result ≡ CLOSED ↔ (session.old.behind.is_open ≢ 1)) }
@@ -418,7 +419,7 @@ pub extern "C" fn pelgaisti_raw_session_told(
 ) -> u32
     ensures null { result ≡ NULL_POINTER ↔ (session.old.at ≡ null_ptr) }
     ensures ok { result ≡ OK → (share : SessionShare) × (session.old.behind.held.share ≡ Some share)
-        × (list.new ≡ are_written (λ u. u) (drop first share.told.list) list.old) × (count.new ≡ length share.told.list) }
+        × (list.new ≡ are_written (λ u. u) (drop first share.told.told.list) list.old) × (count.new ≡ length share.told.told.list) }
     ensures failed { result ≢ OK → (list.new ≡ list.old) × (count.new ≡ count.old) }
     ensures same { (session.new.behind.is_open ≡ session.old.behind.is_open) × (session.new.behind.held.share ≡ session.old.behind.held.share) }
     ensures closed { result ≢ NULL_POINTER → (result ≡ CLOSED ↔ (session.old.behind.is_open ≢ 1)) }
