@@ -29,10 +29,11 @@ pub record IsSameOffice (before after : SessionShare) : Type 0 where
   pub mark : after.mark ≡ before.mark
   pub waker : after.waker ≡ before.waker
 
--- the call that the numbers encode is published, as a program of this one call, and pending. 1: the call is listed, after one try or none, and the session counts all
--- its calls as heard of. 2: the call is not listed after one try, which happens only in an office with other sessions
+-- the call that the numbers encode is published, as a program of this one call, and pending. 1: the call is listed, after one try or none, and
+-- the session counts all its calls as heard of. 2: the call is not listed after one try, which happens only in an office with other sessions
 abbrev pub IsPublished : SessionShare → SessionShare → CallNumbers → ℕ → Type 0
-IsPublished before after asked posted = (call : Call) × IsCall asked call × (program : Program) × MakesOneCall program call × (before.session.pending ≡ None) × (before.session.retired ≡ false)
+IsPublished before after asked posted = (call : Call) × IsCall asked call × (program : Program) × MakesOneCall program call
+    × (before.session.pending ≡ None) × (before.session.retired ≡ false)
     × (posted ≡ 1 → (after.session ≡ enlisted (publishing before.session program)) ⊎ (after.session ≡ tried (enlisted (publishing before.session program))))
     × (posted ≡ 2 → (after.session ≡ tried (publishing before.session program)) × (2 ≤ before.sessions))
     × IsSameOffice before after
