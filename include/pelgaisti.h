@@ -24,8 +24,8 @@
  * A lock table comes in two forms. A BOOK is a lock table for one thread, or for an engine that guards it by a mutex of its own:
  * each call is answered at once. An OFFICE is a lock table that threads share. Each thread has a session. Where the lock table is
  * free, it performs a call at once. Else it publishes the call, then serves and collects in turn until it has the answer.
- * pelgaisti_session_perform and pelgaisti_session_lock_path do so, as often as they are told, and pause between their turns. No other
- * call waits for another thread.
+ * pelgaisti_session_perform and pelgaisti_session_lock_path do so, as often as they are told, and pause between their turns;
+ * pelgaisti_session_run tries until the lock table is free, as often as it is told. No other call waits for another thread.
  *
  * RULES FOR THE CALLER. The library is proved, but no proof covers the C code that calls it. Some calls have further rules, in
  * their comments after "Requires".
@@ -544,8 +544,8 @@ pelgaisti_status pelgaisti_office_open_keeping(pelgaisti_session *sessions, size
 /* Opens an office as pelgaisti_office_open_keeping does, whose threads sleep while they wait for a lock. From then on each call on one
    of its sessions that makes a pass calls `wake` of the waker for each session whose wait the pass has ended, once, in no
    particular order: whose waiting request a call of another session in this pass granted, or whose transaction it made a deadlock's
-   victim. Passes are made by pelgaisti_session_serve, .._serve_telling, .._perform_at_once, .._perform_telling, .._perform and
-   .._lock_path. They wake after the pass, before they return, whatever status they return.
+   victim. Passes are made by pelgaisti_session_serve, .._serve_telling, .._perform_at_once, .._perform_telling, .._perform,
+   .._lock_path and .._run. They wake after the pass, before they return, whatever status they return.
    The office takes the memory for whom a pass tells when it is opened, so that none of these calls lacks it later [proved: statuses of
    the export of .._serve, and memory of that of .._perform_at_once, by which NO_MEMORY comes of the call alone, behind a pass], but
    for the lists of .._serve_telling and .._perform_telling.
@@ -737,6 +737,22 @@ pelgaisti_status pelgaisti_session_perform(pelgaisti_session *session, const pel
    NULL, NO_SUCH_LEVEL, and the statuses of pelgaisti_session_perform with a call. */
 pelgaisti_status pelgaisti_session_lock_path(pelgaisti_session *session, const pelgaisti_resource *resource, uint32_t mode,
                                              uint32_t *level, uint64_t turns, pelgaisti_answer *answer);
+
+/* Runs a program of the session, as pelgaisti_book_run does of a book: no other session's call comes between its calls in the history.
+   Tries to take the lock table at most `tries` times, once if `tries` is 0, and pauses or yields the processor between two tries. When
+   it succeeds it makes the program's calls in a pass, which serves the calls on the publication list too. The program is performed
+   ahead of the published calls if its first call is a release, a commit, an abort or a withdrawal, and otherwise behind them.
+   The program is never published. ELSEWHERE: at each try another session had the lock table, and nothing has changed. So sessions that
+   come later can be served before it, which a published call needn't fear: an engine that can't wait longer makes the program's calls
+   by pelgaisti_session_perform.
+   The session has no pending call, before and after. NO_MEMORY: memory was refused to the first call, and no call of the program was
+   made. A pass was made, and other calls may have been served in it; the waker is called for those whose wait it has ended. If memory
+   is refused to a later call, OK is returned, `starved` of the answer is 1, and the caller makes the rest when there is memory.
+   [proved of each try; tested: that they follow one another, and what is done between them]
+   NULL, CLOSED, NO_SUCH_START, NO_SUCH_OP, NO_SUCH_LEVEL, NO_SUCH_MODE (the last call's), NOT_ON_PATH, NO_SUCH_ABOVE, RETIRED, PENDING,
+   NO_MEMORY or ELSEWHERE. */
+pelgaisti_status pelgaisti_session_run(pelgaisti_session *session, const pelgaisti_program *program, uint64_t tries,
+                                       pelgaisti_program_answer *answer);
 
 #undef PELGAISTI_NOEXCEPT_TYPE_
 

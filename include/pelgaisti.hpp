@@ -242,6 +242,13 @@ public:
         const auto how = static_cast<uint32_t>(in);
         return told([&](auto *it) { return pelgaisti_session_lock_path(&handle_, &on, how, &level, turns, it); });
     }
+    // Runs a program at once, in at most `tries` tries: no other session's call comes between its calls. Nothing: another session had the
+    // lock table at each try, and nothing has changed.
+    [[nodiscard]] std::optional<program_answer> run(const program &calls, uint64_t tries = UINT64_MAX) {
+        pelgaisti_program_answer made{};
+        if (elsewhere(pelgaisti_session_run(&handle_, &calls, tries, &made))) return std::nullopt;
+        return program_answer(made);
+    }
     // Takes up to `room` of the oldest entries that are kept, from the place `first` on; nothing if another session has the table.
     [[nodiscard]] std::optional<std::vector<entry>> take_history(size_t room, uint64_t &first) {
         if (room > 256) {  // no more room than for what is kept: takes nothing, which tells where it begins and ends

@@ -344,6 +344,22 @@ pelgaisti_status pelgaisti_session_lock_path(pelgaisti_session *session, const p
     }
 }
 
+pelgaisti_status pelgaisti_session_run(pelgaisti_session *session, const pelgaisti_program *program, uint64_t tries,
+                                       pelgaisti_program_answer *answer) {
+    pelgaisti_status status;
+    uint64_t made = 0;
+    uint32_t wait = 0;
+    size_t told;
+    for (;;) {
+        told = 0;
+        status = ORDERING_CALL(session, RELEASES | ACQUIRES,
+                               pelgaisti_raw_session_run(&session, &program, made, &answer, &wait, &told));
+        if (told > 0) wake_told(session, told);
+        if (status != PELGAISTI_ELSEWHERE || ++made >= tries) return WRITING(answer, status);
+        wait_before_turn(wait);
+    }
+}
+
 pelgaisti_status pelgaisti_session_take_history(pelgaisti_session *session, uint64_t *first, pelgaisti_entry *entries,
                                                 size_t room, size_t *count) {
     return WRITING(first, LISTING(entries, room, count,

@@ -72,6 +72,10 @@ uint32_t pelgaisti_raw_session_look(pelgaisti_session **session, uint64_t looked
 uint32_t pelgaisti_raw_session_path_turn(pelgaisti_session **session, const pelgaisti_resource **resource, uint32_t mode,
                                          uint32_t **level, uint64_t *made, uint64_t turns, pelgaisti_answer **answer,
                                          uint32_t *wait, size_t *told);
+/* One try to run a program at once, behind `made` tries. `told` is written with OK, NO_MEMORY and ELSEWHERE. With ELSEWHERE nothing has
+   changed, and `wait` is written, as by pelgaisti_raw_session_turn: what to do before the next try. */
+uint32_t pelgaisti_raw_session_run(pelgaisti_session **session, const pelgaisti_program **program, uint64_t made,
+                                   pelgaisti_program_answer **answer, uint32_t *wait, size_t *told);
 uint32_t pelgaisti_raw_session_collect(pelgaisti_session **session, pelgaisti_answer **answer);
 uint32_t pelgaisti_raw_session_take_history(pelgaisti_session **session, uint64_t **first, pelgaisti_raw_list *entries,
                                             size_t **count);

@@ -246,6 +246,12 @@ extern "C" {
         turns: u64,
         answer: *mut RawAnswer,
     ) -> u32;
+    pub(crate) fn pelgaisti_session_run(
+        session: *mut RawHandle,
+        program: *const RawProgram,
+        tries: u64,
+        answer: *mut RawProgramAnswer,
+    ) -> u32;
     pub(crate) fn pelgaisti_session_take_history(
         session: *mut RawHandle,
         first: *mut u64,

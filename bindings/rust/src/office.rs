@@ -3,9 +3,10 @@
 use crate::book::{entries_by, Book, Entry};
 use crate::calls::{Call, Mode, Reply, Resource};
 use crate::error::{done, same_version, Error};
-use crate::ffi::{self, RawAnswer, RawHandle, RawPass};
+use crate::ffi::{self, RawAnswer, RawHandle, RawPass, RawProgramAnswer};
 use crate::handles::Handles;
 use crate::lists::{blank, list_for};
+use crate::programs::{Program, ProgramAnswer};
 use crate::waker::{AnyWaker, Waker};
 use std::marker::PhantomData;
 use std::ptr;
@@ -339,6 +340,27 @@ impl Session {
         *level = reached as usize;
         done(status)?;
         Ok(Some(Answer::of(&answer)))
+    }
+
+    /// Like [`Book::run`], for a session of an office: no other session's call comes between the program's calls in the history. Tries to
+    /// take the lock table at most `tries` times, once if `tries` is 0, and pauses between two tries.
+    ///
+    /// The program is never published. [`Error::Elsewhere`]: another session had the lock table at each try, and nothing has changed.
+    /// [`Error::NoMemory`]: memory was refused to the first call, and no call of the program was made. If memory is refused to a later
+    /// one, the answer says so.
+    ///
+    ///     # use pelgaisti::{Mode, Office, Program, Reply, Resource, Start};
+    ///     let mut sessions = Office::open(2)?;
+    ///     let page = Resource::new(&[7, 2]).unwrap();
+    ///     let program = Program::locks(Start::Begins, page, Mode::X, 0).unwrap();
+    ///     let answer = sessions[0].run(&program, u64::MAX)?;
+    ///     assert!(answer.replies().eq([Reply::Began(1), Reply::Granted(Mode::IX), Reply::Granted(Mode::X)]));
+    ///     # Ok::<(), pelgaisti::Error>(())
+    pub fn run(&mut self, program: &Program, tries: u64) -> Result<ProgramAnswer, Error> {
+        let mut answer = RawProgramAnswer::default();
+        // SAFETY: the handle is this session's, used by `&mut`; the answer is a local of its type
+        done(unsafe { ffi::pelgaisti_session_run(self.raw(), program.raw(), tries, &mut answer) })?;
+        Ok(ProgramAnswer::of(answer))
     }
 
     /// Takes up to `room` of the oldest entries of the history that are kept, which leave the lock table's memory. Returns the place

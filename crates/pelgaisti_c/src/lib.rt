@@ -2,9 +2,9 @@
 //! memory.
 //!
 //! Exports: `book.rt`, `listing_exports.rt`, `path_exports.rt`, `path_step_exports.rt`, `program_exports.rt`, `office.rt`, `session.rt`,
-//! `turn_exports.rt`, `path_turn_exports.rt`, `query_exports.rt`, `close_exports.rt`, `version.rt`. What they do, on what a handle holds:
+//! `turn_exports.rt`, `path_turn_exports.rt`, `session_program_exports.rt`, `query_exports.rt`, `close_exports.rt`, `version.rt`. What they do, on what a handle holds:
 //! `book_calls.rt`, `batch.rt`, `listing.rt`, `path_calls.rt`, `program_calls.rt`, `session_calls.rt`, `turn_calls.rt`,
-//! `path_turn_calls.rt`, `queries.rt`, `hand_in.rt`. Numbers of C's structs: `numbers.rt`, `program_numbers.rt`, `claims.rt`, `status.rt`.
+//! `path_turn_calls.rt`, `session_programs.rt`, `queries.rt`, `hand_in.rt`. Numbers of C's structs: `numbers.rt`, `program_numbers.rt`, `claims.rt`, `status.rt`.
 //! Handles: `book_handle.rt`, `session_handle.rt`, and what is in them.
 //!
 //! An export tests the caller's pointers for null, which C gives by their addresses (`pointers/`), takes the value out of the handle, makes
@@ -46,6 +46,8 @@ mod raw_box;
 mod session;
 mod session_calls;
 mod session_handle;
+mod session_program_exports;
+mod session_programs;
 mod session_share;
 mod status;
 mod turn_calls;

@@ -1,0 +1,11 @@
+use Rattle.std.proofs.Common.{rules, ◌≡◌, ℕ, subst}
+use Rattle.combining.specs.Ended.{entered_since}
+use Rattle.program_office.specs.Ended.{AreToldBy}
+use Rattle.pelgaisti_c.proofs.session_programs.make_program.Goals as goal
+
+pub returns-clause-told : goal.returns-clause-told
+returns-clause-told c = λ _.
+    let made = c.perform_program-2.new in
+    let places = entered_since c.args.share.now.session made.self in
+    let many : c.deref-2.result.now.sessions ≡ c.args.share.now.sessions = search rules in
+    subst (λ (n : ℕ). AreToldBy n made.self.front places made.told.told.list) many c.perform_program-2.ensures.told
