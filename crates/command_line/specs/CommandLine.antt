@@ -35,10 +35,10 @@ turns_option = record (new_rule (codes "turns")) {
   defaults = codes "1000000000" ∷ [];
 }
 
--- the option `--at P`: a place, with no default
-abbrev pub at_option : Rule
-at_option = record (new_rule (codes "at")) {
-  long = Some (codes "at");
+-- the option `--name P`: a place, with no default
+abbrev pub place_option : Text → Rule
+place_option name = record (new_rule name) {
+  long = Some name;
   value_names = 1;
   parser = Some (parser.Signed (pos 0) (pos MAX_PLACE));
 }
@@ -88,7 +88,7 @@ command_for_sessions name = with_streams (new_app name)
 
 -- a command with the options `[--at P] [--csv] [--dot]` added
 abbrev pub with_forms : App → App
-with_forms command = with_rule (with_rule (with_rule command at_option) (flag_named (codes "csv"))) (flag_named (codes "dot"))
+with_forms command = with_rule (with_rule (with_rule command (place_option (codes "at"))) (flag_named (codes "csv"))) (flag_named (codes "dot"))
 
 -- the command `name [FILE] [--sessions N] [-o FILE] [--comments] [--hints] [--at P] [--csv] [--dot]`
 abbrev pub app_with_forms : Text → App
@@ -98,12 +98,22 @@ app_with_forms name = with_forms (command_for_sessions name)
 abbrev pub show_app : App
 show_app = with_rule (app_with_forms (codes "show")) (flag_named (codes "waits"))
 
+-- the command `timeline [FILE] [--sessions N] [-o FILE] [--comments] [--hints] [--from P] [--to Q]`
+abbrev pub timeline_app : App
+timeline_app = with_rule (with_rule (command_for_sessions (codes "timeline")) (place_option (codes "from"))) (place_option (codes "to"))
+
+-- the command `shell [--sessions N]`
+abbrev pub shell_app : App
+shell_app = with_rule (new_app (codes "shell")) sessions_option
+
 -- the program `glm`, which has a version and requires one of the commands `replay [--stream]`, `run [--turns T] [--stream]`,
--- `check [--stream]`, `show [--at P] [--csv] [--dot] [--waits]` and `explain [--at P] [--csv] [--dot]`, each with `[FILE]
--- [--sessions N] [-o FILE] [--comments] [--hints]`
+-- `check [--stream]`, `show [--at P] [--csv] [--dot] [--waits]`, `explain [--at P] [--csv] [--dot]` and `timeline [--from P]
+-- [--to Q]`, each with `[FILE] [--sessions N] [-o FILE] [--comments] [--hints]`, or of the command `shell [--sessions N]`
 abbrev pub glm_command : App
 glm_command =
     with_subcommand
+    (with_subcommand
+    (with_subcommand
     (with_subcommand
     (with_subcommand
     (with_subcommand
@@ -113,7 +123,9 @@ glm_command =
     (with_rule (with_rule (command_for_sessions (codes "run")) turns_option) stream_flag).top)
     (with_rule (command_for_sessions (codes "check")) stream_flag).top)
     show_app.top)
-    (app_with_forms (codes "explain")).top
+    (app_with_forms (codes "explain")).top)
+    timeline_app.top)
+    shell_app.top
 
 -- the parser's errors for the words; help and the version count as errors; empty if the words are a valid command
 abbrev pub faults_of : List Text → Kinds
@@ -139,15 +151,15 @@ abbrev pub most_sessions : Delivery → ℕ
 most_sessions delivery.Whole = MAX_SESSIONS
 most_sessions delivery.InPieces = MAX_STREAMED_SESSIONS
 
--- the parsed options give this number for `--at`, in decimal without a sign or a leading zero
-pub record GivesNumberedPlace (rows : List Row) (place : ℕ) : Type 0 where
-  pub given : first_of (codes "at") rows ≡ Some (decimal place)
+-- the parsed options give this number for `option`, in decimal without a sign or a leading zero
+pub record GivesNumberedPlace (option : Text) (rows : List Row) (place : ℕ) : Type 0 where
+  pub given : first_of option rows ≡ Some (decimal place)
   pub few : place ≤ MAX_PLACE
 
--- the parsed options give this place: none, or a number
-abbrev pub GivesPlace : List Row → Option ℕ → Type 0
-GivesPlace rows None = first_of (codes "at") rows ≡ None
-GivesPlace rows (Some place) = GivesNumberedPlace rows place
+-- the parsed options give `option` this place: none, or a number
+abbrev pub GivesPlace : Text → List Row → Option ℕ → Type 0
+GivesPlace option rows None = first_of option rows ≡ None
+GivesPlace option rows (Some place) = GivesNumberedPlace option rows place
 
 -- more than one of the flags for a form is given
 abbrev pub wants_two_forms : Bool → Bool → Bool → Bool
@@ -169,9 +181,12 @@ IsRequestIn name rows (request.Run sessions turns asked) =
 IsRequestIn name rows (request.Check sessions asked) =
     (name ≡ codes "check") × Gives (codes "sessions") MAX_SESSIONS rows sessions × Wants rows asked
 IsRequestIn name rows (request.Show sessions place asked) =
-    (name ≡ codes "show") × Gives (codes "sessions") MAX_SESSIONS rows sessions × GivesPlace rows place × WantsForm rows asked
+    (name ≡ codes "show") × Gives (codes "sessions") MAX_SESSIONS rows sessions × GivesPlace (codes "at") rows place × WantsForm rows asked
 IsRequestIn name rows (request.Explain sessions place asked) =
-    (name ≡ codes "explain") × Gives (codes "sessions") MAX_SESSIONS rows sessions × GivesPlace rows place × WantsForm rows asked
+    (name ≡ codes "explain") × Gives (codes "sessions") MAX_SESSIONS rows sessions × GivesPlace (codes "at") rows place × WantsForm rows asked
+IsRequestIn name rows (request.Timeline sessions from to) =
+    (name ≡ codes "timeline") × Gives (codes "sessions") MAX_SESSIONS rows sessions × GivesPlace (codes "from") rows from × GivesPlace (codes "to") rows to
+IsRequestIn name rows (request.Shell sessions) = (name ≡ codes "shell") × Gives (codes "sessions") MAX_SESSIONS rows sessions
 
 -- the numbers of a request are within their bounds
 abbrev pub HasNumbers : CommandRequest → Type 0
@@ -180,6 +195,8 @@ HasNumbers (request.Run sessions turns asked) = (0 < sessions) × (sessions ≤ 
 HasNumbers (request.Check sessions asked) = (0 < sessions) × (sessions ≤ MAX_SESSIONS)
 HasNumbers (request.Show sessions place asked) = (0 < sessions) × (sessions ≤ MAX_SESSIONS)
 HasNumbers (request.Explain sessions place asked) = (0 < sessions) × (sessions ≤ MAX_SESSIONS)
+HasNumbers (request.Timeline sessions from to) = (0 < sessions) × (sessions ≤ MAX_SESSIONS)
+HasNumbers (request.Shell sessions) = (0 < sessions) × (sessions ≤ MAX_SESSIONS)
 
 -- the parser found a command, and the command is this request
 abbrev pub IsRequest : Option (Text × List Row) → CommandRequest → Type 0
@@ -221,6 +238,15 @@ AskShow words sessions place form = Ask words (request.Show sessions place form)
 -- sessions, in this form
 abbrev pub AskExplain : List Text → ℕ → Option ℕ → Form → Type 0
 AskExplain words sessions place form = Ask words (request.Explain sessions place form)
+
+-- the words ask to draw a history from one place, its beginning if it is None, up to another, its end if it is None, with this
+-- number of sessions
+abbrev pub AskTimeline : List Text → ℕ → Option ℕ → Option ℕ → Type 0
+AskTimeline words sessions from to = Ask words (request.Timeline sessions from to)
+
+-- the words ask for the shell, with this number of sessions
+abbrev pub AskShell : List Text → ℕ → Type 0
+AskShell words sessions = Ask words (request.Shell sessions)
 
 -- the words ask for help, perhaps beside another error
 abbrev pub AskHelp : List Text → Type 0

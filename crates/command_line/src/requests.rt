@@ -89,13 +89,13 @@ fn delivery_of(given: &ArgMatches) -> Delivery
     }
 }
 
-/// Returns the place of the option `--at`, `None` if the option isn't given. Fails if its text isn't written in digits without a
+/// Returns the place that an option gives, `None` if the option isn't given. Fails if its text isn't written in digits without a
 /// leading zero.
-fn option_place(given: &ArgMatches) -> Result<Option<u32>, ()>
-    ensures ok { IfOk result (GivesPlace (rows_of (found_of given.now))) }
-    ensures err { IfErr result (λ _. (place : Option ℕ) → ¬ (GivesPlace (rows_of (found_of given.now)) place)) }
+fn option_place(given: &ArgMatches, option: &str) -> Result<Option<u32>, ()>
+    ensures ok { IfOk result (GivesPlace option.now (rows_of (found_of given.now))) }
+    ensures err { IfErr result (λ _. (place : Option ℕ) → ¬ (GivesPlace option.now (rows_of (found_of given.now)) place)) }
 {
-    let Some(text) = option_text(given, "at") else {
+    let Some(text) = option_text(given, option) else {
         return Ok(None);
     };
     match parse_numeral(text.as_bytes(), u64::from(MAX_PLACE)) {
@@ -123,10 +123,10 @@ fn form_of(given: &ArgMatches) -> Option<Form>
 /// Returns the place and the form that the options of `show` or `explain` give, or `None` if the place isn't a valid number or
 /// they want two forms.
 fn place_and_form(given: &ArgMatches) -> Option<(Option<u32>, Form)>
-    ensures some { IfSome result (λ asked. GivesPlace (rows_of (found_of given.now)) asked.0 × WantsForm (rows_of (found_of given.now)) asked.1) }
-    ensures none { IfNone result ((place : Option ℕ) (form : FormValue) → GivesPlace (rows_of (found_of given.now)) place → ¬ (WantsForm (rows_of (found_of given.now)) form)) }
+    ensures some { IfSome result (λ asked. GivesPlace (codes "at") (rows_of (found_of given.now)) asked.0 × WantsForm (rows_of (found_of given.now)) asked.1) }
+    ensures none { IfNone result ((place : Option ℕ) (form : FormValue) → GivesPlace (codes "at") (rows_of (found_of given.now)) place → ¬ (WantsForm (rows_of (found_of given.now)) form)) }
 {
-    let Ok(place) = option_place(given) else {
+    let Ok(place) = option_place(given, "at") else {
         return None;
     };
     let Some(form) = form_of(given) else {
@@ -161,6 +161,22 @@ fn explain_request(sessions: u16, given: &ArgMatches) -> Option<CommandRequest>
     Some(CommandRequest::Explain(sessions, place, form))
 }
 
+/// Returns the request of `timeline`, or `None` if one of its places isn't a valid number.
+#[tactic(auto, using(crate::proofs::Ask::no_first_place, crate::proofs::Ask::no_last_place))]
+fn timeline_request(sessions: u16, given: &ArgMatches) -> Option<CommandRequest>
+    requires given { Gives (codes "sessions") MAX_SESSIONS (rows_of (found_of given.now)) sessions }
+    ensures some { IfSome result (IsRequest (Some (codes "timeline", rows_of (found_of given.now)))) }
+    ensures none { IfNone result ((asked : RequestValue) → ¬ (IsRequest (Some (codes "timeline", rows_of (found_of given.now))) asked)) }
+{
+    let Ok(from) = option_place(given, "from") else {
+        return None;
+    };
+    let Ok(to) = option_place(given, "to") else {
+        return None;
+    };
+    Some(CommandRequest::Timeline(sessions, from, to))
+}
+
 /// Returns the request of the command `name` with the options `given`, or `None` if there is no such command or a number
 /// isn't valid, as the greatest number of sessions isn't for a run whose history is written in pieces.
 #[tactic(auto, using(crate::proofs::Ask::no_sessions, crate::proofs::Ask::no_turns, crate::proofs::Ask::no_streamed, crate::proofs::Ask::no_name))]
@@ -191,6 +207,12 @@ fn request_named(name: &str, given: &ArgMatches) -> Option<CommandRequest>
     }
     if name == "explain" {
         return explain_request(sessions, given);
+    }
+    if name == "timeline" {
+        return timeline_request(sessions, given);
+    }
+    if name == "shell" {
+        return Some(CommandRequest::Shell(sessions));
     }
     None
 }

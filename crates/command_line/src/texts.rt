@@ -114,11 +114,38 @@ With --csv the same is written as rows place,row,session,transaction,resource,mo
 cycles that requests closed are written as graphs, one behind another, which 'dot -Tsvg' draws; of several in a file
 'dot -Tsvg -O FILE' draws each into a file of its own.";
 
+/// The beginning of the help of `timeline`.
+pub(crate) const ABOUT_TIMELINE: &str =
+    "Reads a history, from a file or standard input, checks it as 'check' does, and draws it as a picture in SVG, which a browser
+shows: the calls from left to right, and for each session what it held and how long it waited.
+With --from and --to the rows from the place P up to the place Q are drawn, both with them. A history that isn't legal
+gives the line of 'check', and status 3.
+
+An example: glm timeline examples/deadlock.history.csv -o deadlock.svg";
+
+/// The beginning of the help of `shell`.
+pub(crate) const ABOUT_SHELL: &str =
+    "Reads calls from standard input, a line each, and answers each at once on standard output. A line is the session, what
+it calls, and as 'lock' has them a resource and a mode, in any case, with blanks or commas between them.
+
+  1 begin              opens a transaction of session 1
+  1 lock 1/2 S         asks for file 2 of database 1
+  1 path 1/2/3 X       asks for page 3 of it, and first for what its ancestors need
+  1 commit             gives all back; so does abort
+  show                 shows who holds what and who waits for whom
+  why 2                says what the last call of session 2 did, and why
+  undo                 takes the last line back
+  save FILE            writes the calls so far as a trace, which 'replay' reads
+  load FILE            begins anew with the calls of a trace
+  help                 lists these words; quit ends
+
+A line that can't be read changes nothing.";
+
 /// The list of exit statuses at the end of the help texts.
 pub(crate) const STATUSES: &str = "Exit status:
   0  done, or help or the version asked for
   1  a row was refused, which standard error names
-  2  the words of the command line are off, or --at is no place of the history
+  2  the words of the command line are off, or a place isn't one of the history
   3  the history isn't legal
   4  memory was refused
   5  reading or writing failed, a file couldn't be opened, or a thread couldn't be started

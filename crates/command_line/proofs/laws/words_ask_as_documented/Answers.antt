@@ -14,7 +14,7 @@ use Rattle.command_line.specs.CommandLine.{AskNothing, Gives, HasFlag, IsRequest
 use Rattle.command_line.specs.declared.args.Form.{Form}
 use Rattle.command_line.specs.declared.args.TheConstants.{MAX_PLACE, MAX_TURNS}
 use Rattle.command_line.specs.declared.args.TheConstants.{MAX_STREAMED_SESSIONS}
-use Rattle.command_line.proofs.Ask.{faulty, nothing_told, no_streamed, no_such_sessions, sessions_text}
+use Rattle.command_line.proofs.Ask.{faulty, no_first_place, no_last_place, nothing_told, no_streamed, no_such_sessions, sessions_text}
 use Rattle.command_line.proofs.AskShow.{place_given, place_not_given, rows_and_waits, two_forms, two_graphs}
 use Rattle.command_line.proofs.Gives.{numeral_given}
 use Rattle.command_line.proofs.laws.words_ask_as_documented.Goals as goal
@@ -25,7 +25,31 @@ unplaced : (words : List Text) (name : Text) (rows : List Row) (text : Text) (fa
     → reading_of_numeral MAX_PLACE text ≡ Err fault → AskNothing words
 unplaced words name rows text fault whole is named given wrong = record {
   no_request = λ asked ask. nothing_told name rows named
-      (λ p f there way. place_not_given text rows given (λ m read. let bad : Ok m ≡ Err fault = sym read ∙ wrong in cc) p there) asked
+      (λ p f there way. place_not_given _ text rows given (λ m read. let bad : Ok m ≡ Err fault = sym read ∙ wrong in cc) p there) asked
+      (subst (λ (f : Option (Text × List Row)). IsRequest f asked) is ask.request_is);
+  no_help = λ help. let bad : [] ≡ DisplayHelp ∷ [] = sym whole ∙ help in cc;
+  no_version = λ version. let bad : [] ≡ DisplayVersion ∷ [] = sym whole ∙ version in cc;
+}
+
+-- words without an error ask for nothing if they name `timeline` and a first place that isn't read as a number
+from_nowhere : (words : List Text) (name : Text) (rows : List Row) (text : Text) (fault : NumeralFault) → faults_of words ≡ []
+    → subcommand_of glm_command words ≡ Some (name, rows) → name ≡ codes "timeline" → first_of (codes "from") rows ≡ Some text
+    → reading_of_numeral MAX_PLACE text ≡ Err fault → AskNothing words
+from_nowhere words name rows text fault whole is named given wrong = record {
+  no_request = λ asked ask. no_first_place name rows named
+      (place_not_given _ text rows given (λ m read. let bad : Ok m ≡ Err fault = sym read ∙ wrong in cc)) asked
+      (subst (λ (f : Option (Text × List Row)). IsRequest f asked) is ask.request_is);
+  no_help = λ help. let bad : [] ≡ DisplayHelp ∷ [] = sym whole ∙ help in cc;
+  no_version = λ version. let bad : [] ≡ DisplayVersion ∷ [] = sym whole ∙ version in cc;
+}
+
+-- words without an error ask for nothing if they name `timeline` and a last place that isn't read as a number
+to_nowhere : (words : List Text) (name : Text) (rows : List Row) (text : Text) (fault : NumeralFault) → faults_of words ≡ []
+    → subcommand_of glm_command words ≡ Some (name, rows) → name ≡ codes "timeline" → first_of (codes "to") rows ≡ Some text
+    → reading_of_numeral MAX_PLACE text ≡ Err fault → AskNothing words
+to_nowhere words name rows text fault whole is named given wrong = record {
+  no_request = λ asked ask. no_last_place name rows named
+      (place_not_given _ text rows given (λ m read. let bad : Ok m ≡ Err fault = sym read ∙ wrong in cc)) asked
       (subst (λ (f : Option (Text × List Row)). IsRequest f asked) is ask.request_is);
   no_help = λ help. let bad : [] ≡ DisplayHelp ∷ [] = sym whole ∙ help in cc;
   no_version = λ version. let bad : [] ≡ DisplayVersion ∷ [] = sym whole ∙ version in cc;
@@ -199,11 +223,11 @@ returns-clause-show c = record { whole = refl; request_is = (refl, numeral_given
 
 pub returns-clause-show_at : goal.returns-clause-show_at
 unfolding clap_on_literals
-returns-clause-show_at c = record { whole = refl; request_is = (refl, numeral_given (codes "sessions") (codes "256") MAX_SESSIONS 256 _ (omega arith) refl refl (search rules), place_given (codes "0") 0 _ refl refl, (λ flag. let no : Some (codes "false") ≡ Some (codes "true") = flag in cc, λ flag. let no : Some (codes "false") ≡ Some (codes "true") = flag in cc, λ flag. let no : Some (codes "false") ≡ Some (codes "true") = flag in cc)) }
+returns-clause-show_at c = record { whole = refl; request_is = (refl, numeral_given (codes "sessions") (codes "256") MAX_SESSIONS 256 _ (omega arith) refl refl (search rules), place_given _ (codes "0") 0 _ refl refl, (λ flag. let no : Some (codes "false") ≡ Some (codes "true") = flag in cc, λ flag. let no : Some (codes "false") ≡ Some (codes "true") = flag in cc, λ flag. let no : Some (codes "false") ≡ Some (codes "true") = flag in cc)) }
 
 pub returns-clause-show_rows : goal.returns-clause-show_rows
 unfolding clap_on_literals
-returns-clause-show_rows c = record { whole = refl; request_is = (refl, numeral_given (codes "sessions") (codes "3") MAX_SESSIONS 3 _ (omega arith) refl refl (search rules), place_given (codes "7") 7 _ refl refl, (refl, λ flag. let no : Some (codes "false") ≡ Some (codes "true") = flag in cc, λ flag. let no : Some (codes "false") ≡ Some (codes "true") = flag in cc)) }
+returns-clause-show_rows c = record { whole = refl; request_is = (refl, numeral_given (codes "sessions") (codes "3") MAX_SESSIONS 3 _ (omega arith) refl refl (search rules), place_given _ (codes "7") 7 _ refl refl, (refl, λ flag. let no : Some (codes "false") ≡ Some (codes "true") = flag in cc, λ flag. let no : Some (codes "false") ≡ Some (codes "true") = flag in cc)) }
 
 pub returns-clause-show_graph : goal.returns-clause-show_graph
 unfolding clap_on_literals
@@ -235,11 +259,11 @@ returns-clause-explain c = record { whole = refl; request_is = (refl, numeral_gi
 
 pub returns-clause-explain_at : goal.returns-clause-explain_at
 unfolding clap_on_literals
-returns-clause-explain_at c = record { whole = refl; request_is = (refl, numeral_given (codes "sessions") (codes "256") MAX_SESSIONS 256 _ (omega arith) refl refl (search rules), place_given (codes "7") 7 _ refl refl, (λ flag. let no : Some (codes "false") ≡ Some (codes "true") = flag in cc, λ flag. let no : Some (codes "false") ≡ Some (codes "true") = flag in cc, λ flag. let no : None ≡ Some (codes "true") = flag in cc)) }
+returns-clause-explain_at c = record { whole = refl; request_is = (refl, numeral_given (codes "sessions") (codes "256") MAX_SESSIONS 256 _ (omega arith) refl refl (search rules), place_given _ (codes "7") 7 _ refl refl, (λ flag. let no : Some (codes "false") ≡ Some (codes "true") = flag in cc, λ flag. let no : Some (codes "false") ≡ Some (codes "true") = flag in cc, λ flag. let no : None ≡ Some (codes "true") = flag in cc)) }
 
 pub returns-clause-explain_rows : goal.returns-clause-explain_rows
 unfolding clap_on_literals
-returns-clause-explain_rows c = record { whole = refl; request_is = (refl, numeral_given (codes "sessions") (codes "3") MAX_SESSIONS 3 _ (omega arith) refl refl (search rules), place_given (codes "7") 7 _ refl refl, (refl, λ flag. let no : Some (codes "false") ≡ Some (codes "true") = flag in cc, λ flag. let no : None ≡ Some (codes "true") = flag in cc)) }
+returns-clause-explain_rows c = record { whole = refl; request_is = (refl, numeral_given (codes "sessions") (codes "3") MAX_SESSIONS 3 _ (omega arith) refl refl (search rules), place_given _ (codes "7") 7 _ refl refl, (refl, λ flag. let no : Some (codes "false") ≡ Some (codes "true") = flag in cc, λ flag. let no : None ≡ Some (codes "true") = flag in cc)) }
 
 pub returns-clause-explain_graph : goal.returns-clause-explain_graph
 unfolding clap_on_literals
@@ -256,3 +280,35 @@ returns-clause-explain_two_forms c = in_two_forms _ _ _ refl refl (inr refl) ref
 pub returns-clause-explain_zeros : goal.returns-clause-explain_zeros
 unfolding clap_on_literals
 returns-clause-explain_zeros c = unplaced _ _ _ (codes "07") LeadingZero refl refl (inr refl) refl refl
+
+pub returns-clause-timeline : goal.returns-clause-timeline
+unfolding clap_on_literals
+returns-clause-timeline c = record { whole = refl; request_is = (refl, numeral_given (codes "sessions") (codes "256") MAX_SESSIONS 256 _ (omega arith) refl refl (search rules), refl, refl) }
+
+pub returns-clause-timeline_places : goal.returns-clause-timeline_places
+unfolding clap_on_literals
+returns-clause-timeline_places c = record { whole = refl; request_is = (refl, numeral_given (codes "sessions") (codes "3") MAX_SESSIONS 3 _ (omega arith) refl refl (search rules), place_given _ (codes "2") 2 _ refl refl, place_given _ (codes "7") 7 _ refl refl) }
+
+pub returns-clause-timeline_zeros : goal.returns-clause-timeline_zeros
+unfolding clap_on_literals
+returns-clause-timeline_zeros c = from_nowhere _ _ _ (codes "02") LeadingZero refl refl refl refl refl
+
+pub returns-clause-timeline_last_zeros : goal.returns-clause-timeline_last_zeros
+unfolding clap_on_literals
+returns-clause-timeline_last_zeros c = to_nowhere _ _ _ (codes "07") LeadingZero refl refl refl refl refl
+
+pub returns-clause-timeline_at : goal.returns-clause-timeline_at
+unfolding clap_on_literals
+returns-clause-timeline_at c = faulty _ UnknownArgument [] refl (search rules) (search rules)
+
+pub returns-clause-shell : goal.returns-clause-shell
+unfolding clap_on_literals
+returns-clause-shell c = record { whole = refl; request_is = (refl, numeral_given (codes "sessions") (codes "256") MAX_SESSIONS 256 _ (omega arith) refl refl (search rules)) }
+
+pub returns-clause-shell_sessions : goal.returns-clause-shell_sessions
+unfolding clap_on_literals
+returns-clause-shell_sessions c = record { whole = refl; request_is = (refl, numeral_given (codes "sessions") (codes "2") MAX_SESSIONS 2 _ (omega arith) refl refl (search rules)) }
+
+pub returns-clause-shell_zeros : goal.returns-clause-shell_zeros
+unfolding clap_on_literals
+returns-clause-shell_zeros c = unnumbered _ _ (codes "02") LeadingZero refl refl refl refl

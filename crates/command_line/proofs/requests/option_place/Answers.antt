@@ -11,9 +11,9 @@ use Rattle.command_line.proofs.requests.option_place.Goals as goal
 pub returns-in-Ok-clause-ok : goal.returns-in-Ok-clause-ok
 returns-in-Ok-clause-ok c =
     let read : reading_of_numeral MAX_PLACE c.in-Some.text.now ≡ Ok c.in-Ok.place = reading_is c.parse_numeral.ensures c.from.ensures c.as_bytes.ensures.value ∙ c.in-Ok.is in
-    place_given _ _ _ (text_found _ _ _ _ c.option_text.ensures c.in-Some.is) read
+    place_given _ _ _ _ (text_found _ _ _ _ c.option_text.ensures c.in-Some.is) read
 
 pub returns-in-Err-clause-err : goal.returns-in-Err-clause-err
 returns-in-Err-clause-err c =
     let read : reading_of_numeral MAX_PLACE c.in-Some.text.now ≡ Err c.in-Err.field-0 = reading_is c.parse_numeral.ensures c.from.ensures c.as_bytes.ensures.value ∙ c.in-Err.is in
-    place_not_given _ (rows_of (found_of c.args.given.now)) (text_found _ _ _ _ c.option_text.ensures c.in-Some.is) (λ m again. let bad : Ok m ≡ Err c.in-Err.field-0 = sym again ∙ read in cc)
+    place_not_given _ _ (rows_of (found_of c.args.given.now)) (text_found _ _ _ _ c.option_text.ensures c.in-Some.is) (λ m again. let bad : Ok m ≡ Err c.in-Err.field-0 = sym again ∙ read in cc)
