@@ -14,7 +14,7 @@ use Rattle.replay_commands.specs.declared.tool_fault.ToolFault.TheVariants as to
 use Rattle.glm.specs.declared.outcomes.Outcome.{Outcome}
 use Rattle.glm.specs.declared.outcomes.Outcome.TheVariants as outcome
 use Rattle.glm.specs.declared.outcomes.TheConstants.{DONE, USAGE, ILLEGAL, NO_MEMORY, DEVICE}
-use Rattle.command_line.specs.CommandLine.{AskReplay, AskReplayInPieces, AskRun, AskRunInPieces, AskCheck, AskShow, AskExplain, AskHelp, AskVersion, AskNothing}
+use Rattle.command_line.specs.CommandLine.{AskReplay, AskReplayInPieces, AskRun, AskRunInPieces, AskCheck, AskShow, AskExplain, AskShell, AskHelp, AskVersion, AskNothing}
 use Rattle.replay_commands.specs.Replays.{HasServed, HasServedFront, HasServedPart, IsFaultOfOneThread, Replays, ReplaysInPieces}
 use Rattle.run_commands.specs.Runs.{HasPerformed, HasPerformedPart, HasWrittenFront, HasWrittenPart, Runs, RunsInPieces}
 use Rattle.glm.specs.Statuses.{status_for, status_for_show}
@@ -22,6 +22,7 @@ use Rattle.history_commands.specs.Showing.{HasShown, HasShownPart, Shows}
 use Rattle.history_commands.specs.Explaining.{HasExplained, HasExplainedPart, Explains}
 use Rattle.history_commands.specs.Verdicts.{Checks, IsHistory, text_of_verdict}
 use Rattle.replay_commands.specs.Written.{AppendsPart}
+use Rattle.lock_shell.specs.Turns.{HasTalked, HasTalkedPart, IsFaultOfShell}
 
 -- the exit status of an outcome
 abbrev pub status_of_outcome : Outcome → ℕ
@@ -42,6 +43,8 @@ status_of_outcome (outcome.Show (Err fault)) = status_for_show fault
 status_of_outcome (outcome.Explain (Ok (verdict.Legal count))) = DONE
 status_of_outcome (outcome.Explain (Ok (verdict.Illegal place))) = ILLEGAL
 status_of_outcome (outcome.Explain (Err fault)) = status_for_show fault
+status_of_outcome (outcome.Shell (Ok count)) = DONE
+status_of_outcome (outcome.Shell (Err fault)) = status_for fault
 status_of_outcome outcome.HelpShown = DONE
 status_of_outcome outcome.HelpFailed = DEVICE
 status_of_outcome outcome.VersionShown = DONE
@@ -143,6 +146,15 @@ pub record HasAnsweredExplain (words : List Text) (input old new : Option (List 
   pub explained : IfOk answer (λ verdict. HasExplained form sessions place verdict old new)
   pub explains : (bytes : List ℕ) → input ≡ Some bytes → Explains form sessions place bytes old new answer
 
+-- the words ask for the shell, and `answer` is the number of lines that were answered, or the fault; the output holds `old` before and
+-- `new` after
+pub record HasAnsweredShell (words : List Text) (old new : Option (List ℕ)) (answer : Result ℕ ToolFault) : Type 0 where
+  pub sessions : ℕ
+  pub asked : AskShell words sessions
+  pub talked : IfOk answer (λ count. HasTalked sessions count old new)
+  pub part : IfErr answer (λ fault. HasTalkedPart sessions old new)
+  pub faults : IfErr answer (λ fault. IsFaultOfShell fault)
+
 -- the text of `--version`: the project's version, and the kit and the logic that it was proved with
 abbrev pub text_of_version : List ℕ
 text_of_version = codes "glm 0.8.0\nproved with rattle-kit-13f, logic dac8208d650f15bf\n"
@@ -156,6 +168,7 @@ HasDone words input old new (outcome.RunInPieces answer) = HasAnsweredRunInPiece
 HasDone words input old new (outcome.Check answer) = HasAnsweredCheck words input old new answer
 HasDone words input old new (outcome.Show answer) = HasAnsweredShow words input old new answer
 HasDone words input old new (outcome.Explain answer) = HasAnsweredExplain words input old new answer
+HasDone words input old new (outcome.Shell answer) = HasAnsweredShell words old new answer
 HasDone words input old new outcome.HelpShown = AskHelp words
 HasDone words input old new outcome.HelpFailed = AskHelp words
 HasDone words input old new outcome.VersionShown = AskVersion words × Appends old new text_of_version

@@ -17,6 +17,7 @@ IsOutcomeOfError kind old new (outcome.Run answer) = ⊥
 IsOutcomeOfError kind old new (outcome.Check answer) = ⊥
 IsOutcomeOfError kind old new (outcome.Show answer) = ⊥
 IsOutcomeOfError kind old new (outcome.Explain answer) = ⊥
+IsOutcomeOfError kind old new (outcome.Shell answer) = ⊥
 IsOutcomeOfError kind old new outcome.HelpShown = kind ≡ error.DisplayHelp
 IsOutcomeOfError kind old new outcome.HelpFailed = kind ≡ error.DisplayHelp
 IsOutcomeOfError kind old new outcome.VersionShown = (kind ≡ error.DisplayVersion) × Appends old new text_of_version

@@ -16,7 +16,7 @@ mod showing;
 
 pub use checking::{Verdict, check, check_whole, verdict_line};
 pub use checking_by_row::check_by_row;
-pub use explaining::explain;
+pub use explaining::{account, answer_of, doom_of, explain};
 pub use finding::{Finding, WrongReply};
 pub use show_fault::ShowFault;
-pub use showing::show;
+pub use showing::{lines_text, show};

@@ -1,0 +1,5 @@
+pub mod Asked
+pub mod Replies
+pub mod Texts
+pub mod Traces
+pub mod Turns
