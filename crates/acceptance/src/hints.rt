@@ -120,20 +120,37 @@ fn show_and_explain_show_the_wrong_reply(rt: HostRuntime) {
     );
 }
 
-/// What is found in a history whose state is shown, and whose calls are explained, is what a check finds.
+/// A state that is shown, and calls that are explained, come with the history's first wrong reply, or the number of its entries.
 #[test]
-fn show_and_explain_find_what_a_check_finds(rt: HostRuntime) {
-    let alloc = rt.alloc();
-    let legal = "0,1,begin,,,began,1\n";
-    for text in [ILLEGAL, legal] {
-        let wanted = check_whole(alloc, text.as_bytes(), 2).ok();
-        let mut shown = Vec::new(alloc);
-        let found = show_found(alloc, text.as_bytes(), &mut shown, 2, Some(1), Form::Rows);
-        assert!(rt; found.ok() == wanted, "shown");
-        let mut told = Vec::new(alloc);
-        let found = explain_found(alloc, text.as_bytes(), &mut told, 2, None, Form::Rows);
-        assert!(rt; found.ok() == wanted, "explained");
-    }
+fn show_and_explain_find_the_first_wrong_reply(rt: HostRuntime) -> Result<(), Fail> {
+    let told = Entry {
+        session: 1,
+        call: Call::Lock(Resource::parse("1")?, Mode::S),
+        reply: Reply::Waiting,
+    };
+    let given = Reply::Granted(Mode::S);
+    let place = 2;
+    let wrong = Ok(Finding::Wrong(WrongReply { place, told, given }));
+    let mut output = Vec::new(rt.alloc());
+    let text = ILLEGAL.as_bytes();
+    assert!(rt;
+        show_found(rt.alloc(), text, &mut output, 2, Some(1), Form::Rows) == wrong,
+        "shown"
+    );
+    assert!(rt;
+        explain_found(rt.alloc(), text, &mut output, 2, None, Form::Rows) == wrong,
+        "explained"
+    );
+    let legal = b"0,1,begin,,,began,1\n".as_slice();
+    assert!(rt;
+        show_found(rt.alloc(), legal, &mut output, 1, None, Form::Rows) == Ok(Finding::Legal(1)),
+        "a legal history is shown"
+    );
+    assert!(rt;
+        explain_found(rt.alloc(), legal, &mut output, 1, None, Form::Rows) == Ok(Finding::Legal(1)),
+        "a legal history is explained"
+    );
+    Ok(())
 }
 
 /// Standard error that fails changes neither the status nor the verdict, with hints or without.
