@@ -3,7 +3,7 @@
 #
 # The archive has the layout of an install, in one folder: bin, include, lib and share, with the documents and examples in share/doc.
 # Its files for pkg-config and CMake find the folder from where they lie. BUILT says from what it was made, and SHA256SUMS has a
-# checksum of each other file. The same sources, kit, C compiler and binutils give the same bytes, wherever the checkout lies.
+# checksum of each other file. The same files are packed into the same bytes.
 
 # The checksum of all sources of the library and the program, by their names in the checkout.
 sum_of_sources() {
@@ -23,8 +23,7 @@ linked with: $(ld --version | head -n 1)
 packed with: $(tar --version | head -n 1); $(gzip --version | head -n 1)
 sources (sha256 over the sha256 of each): $(sum_of_sources)
 
-The same sources, kit, C compiler, binutils, tar and gzip make the same bytes, in whatever folder the checkout lies.
-Compare the checksums of the archives:
+To make it again take the same sources, kit, C compiler, binutils, tar and gzip, and compare the checksums of the archives:
     ./embed --dist FOLDER && sha256sum FOLDER/$name.tar.gz
 What is proved and what is not: share/doc/pelgaisti/README.md and share/doc/pelgaisti/docs/PROMISES.md.
 
