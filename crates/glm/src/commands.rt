@@ -124,7 +124,7 @@ fn write_verdict<R: Read + Drop, W: Write>(
     Ok(verdict)
 }
 
-/// Runs a command: reads `input`, and writes to `output`. A command that reads a history puts its first wrong reply into `wrong`.
+/// Runs a command: reads `input`, and writes to `output`. `check`, `show` and `explain` put the first wrong reply into `wrong`.
 fn perform<T: Threads + Wait, R: Read + Drop, W: Write, G: Gate>(
     rt: &T,
     alloc: Global,

@@ -2,8 +2,8 @@
 //! line.
 //!
 //! `commands.rt` is the whole program except its streams, and `outcomes.rt` has statuses and messages. The command line is
-//! `command_line`'s, `replay` is of `replay_commands`, `run` of `run_commands`, `check`, `show` and `explain` are of
-//! `history_commands`. `row_comments` skips comments, and `file_streams` opens and writes files. `hints.rt` writes the hints of
+//! `command_line`'s, `replay` is of `replay_commands`, `run` of `run_commands`, `check`, `show`, `explain` and `timeline`
+//! are of `history_commands`. `row_comments` skips comments, and `file_streams` opens and writes files. `hints.rt` writes the hints of
 //! `row_hints`, and `wrong_replies.rt` finds the wrong reply that they tell of.
 //!
 //! Proved: what each command wrote, with its result and exit status, for every input, also after a fault; and that the
