@@ -9,7 +9,7 @@ round is the first one in which nothing was refused.
 
 A replay, a check, a state and an explanation have to end with status 4, their line on standard error and nothing on standard
 output, in every round but one: room for all words of the command line is only a hint, and if it is refused they end as with ample
-memory. A replay in pieces may have written whole pieces of its history, and some round has to see one piece written, and some
+memory. A shell may have answered its first lines. A replay in pieces may have written whole pieces of its history, and some round has to see one piece written, and some
 round two. A run may also end with status 5, if the refusal kept a thread from starting, or with status 0, if it met the refusal by
 serving calls one after another: what it writes has to be a legal history in which each session's rows stand in their order. A run
 of one session has one try for each call: a pass that found no memory for the call ends the run. A run in pieces may also end with
@@ -235,6 +235,22 @@ def runs_in_pieces(rows):
     return is_right
 
 
+def ends_in_shell(given):
+    """Like `ends` with status 0, but the answers to the first lines may have been written before memory was refused."""
+    lines = given.splitlines(keepends=True)
+    answers = [
+        subprocess.run([PROGRAM, "shell"], input=b"".join(lines[:count]), capture_output=True, check=True, timeout=60).stdout
+        for count in range(len(lines) + 1)
+    ]
+    is_whole = ends(0, answers[-1])
+
+    def is_right(ended):
+        status, output, errors = ended
+        return (status, errors) == (4, REFUSED[2]) and output in (b"", *answers[:-1]) or is_whole(ended)
+
+    return is_right
+
+
 def ends_in_file(target, history):
     """Like `ends` with status 0, but the history is in a file, of which nothing else is ever seen."""
     is_ended = ends(0, b"")
@@ -283,6 +299,10 @@ def trials_of_the_program(folder):
             (folder / "linked.csv").write_bytes(history)
         words = [PROGRAM, "replay", trace, "-o", target]
         yield Trial(f"replay to {name}", words, ends_in_file(target, history))
+    calls = b"1 begin\n2 begin\n1 path 1/1 X\n2 path 1/2 X\n1 lock 1/2 S\n2 lock 1/1 S\nwhy 2\nshow\n2 abort\nundo\n3 lock\n"
+    saved = str(folder / "saved.csv").encode()
+    given = calls + b"save %s\nload %s\nhelp\nquit\n" % (saved, saved)
+    yield Trial("shell", [PROGRAM, "shell"], ends_in_shell(given), given)
     illegal = (TOP / "examples/illegal.csv").read_bytes()
     yield Trial("check of a history that isn't legal", [PROGRAM, "check"], ends(3, b"illegal 2\n"), illegal)
     faulty = b"1,begin,,\n1,lock,01,S\n"

@@ -5,7 +5,7 @@ _glm() {
     [ "$before" != "=" ] || before="${COMP_WORDS[COMP_CWORD - 2]}"
     [ "$word" != "=" ] || word=""
     if [ "$COMP_CWORD" -eq 1 ]; then
-        words="replay run check show explain timeline help -h --help -V --version"
+        words="replay run check show explain timeline shell help -h --help -V --version"
     else
         case "${COMP_WORDS[1]} $before" in
             "replay --sessions") :; return ;;
@@ -25,18 +25,20 @@ _glm() {
             "timeline -o" | "timeline --output") compopt -o default 2> /dev/null; return ;;
             "timeline --from") :; return ;;
             "timeline --to") :; return ;;
+            "shell --sessions") :; return ;;
         esac
         case "${COMP_WORDS[1]}" in
-            help) words="replay run check show explain timeline help" ;;
+            help) words="replay run check show explain timeline shell help" ;;
             replay) words="--sessions -o --output --comments --hints --stream -h --help" ;;
             run) words="--sessions -o --output --comments --hints --turns --stream -h --help" ;;
             check) words="--sessions -o --output --comments --hints --stream -h --help" ;;
             show) words="--sessions -o --output --comments --hints --at --csv --dot --waits -h --help" ;;
             explain) words="--sessions -o --output --comments --hints --at --csv --dot -h --help" ;;
             timeline) words="--sessions -o --output --comments --hints --from --to -h --help" ;;
+            shell) words="--sessions -h --help" ;;
             *) return ;;
         esac
-        if [[ "$word" != -* && "${COMP_WORDS[1]}" != help ]]; then
+        if [[ "$word" != -* && "${COMP_WORDS[1]}" != @(help|shell) ]]; then
             compopt -o default 2> /dev/null
             return
         fi

@@ -2,7 +2,7 @@
 
 use crate::call_gates::Counting;
 use crate::examples::{DEADLOCK, EXAMPLES};
-use crate::harness::{fails_with, has_result};
+use crate::harness::{fails_with, has_result, status_of};
 use glm::{OpenGate, ToolFault, check, replay, run};
 use lock_trace::{TraceFault, TraceKind};
 use lock_tree::PathFault;
@@ -175,6 +175,54 @@ fn a_failed_reader_shows_explains_and_draws_nothing(rt: HostRuntime) {
             let input = Cut { left, piece: 16 };
             right = right && fails_with(&rt, &words, input, &OpenGate, 5, "glm: device\n");
         }
+    }
+    assert!(rt; right);
+}
+
+/// Lines for a shell.
+const TYPED: &str = "1 begin\n1 path 1/2 X\n2 begin\n\nwhy 1\n1 commit\n";
+
+/// What a shell answers to the whole lines of a text, and to the text if its reader fails behind it. Whether both are the same, with
+/// the fault `Device` of the latter.
+fn answers_whole_lines(
+    rt: &(impl AllocGlobal + Files + Threads + Wait),
+    text: &[u8],
+    whole: usize,
+) -> bool {
+    let words = ["glm", "shell"];
+    let mut wanted = Vec::new(rt.alloc());
+    let mut output = Vec::new(rt.alloc());
+    let mut errors = Vec::new(rt.alloc());
+    let ended = status_of(
+        rt,
+        &words,
+        &text[..whole],
+        &mut wanted,
+        &mut errors,
+        &OpenGate,
+    );
+    let is_silent = errors.is_empty();
+    let input = Cut {
+        left: text,
+        piece: 16,
+    };
+    let failed = status_of(rt, &words, input, &mut output, &mut errors, &OpenGate);
+    let is_told = failed == 5 && errors.as_slice() == b"glm: device\n".as_slice();
+    ended == 0 && is_silent && is_told && output.as_slice() == wanted.as_slice()
+}
+
+/// Wherever the reader of a shell fails, the whole lines before are answered, and nothing else.
+#[test]
+fn a_failed_reader_ends_a_shell_behind_its_whole_lines(rt: HostRuntime) {
+    let text = TYPED.as_bytes();
+    let mut whole = 0;
+    let mut right = true;
+    for length in 0..=text.len() {
+        let left = &text[..length];
+        if left.ends_with(b"\n".as_slice()) {
+            whole = length;
+        }
+        right = right && answers_whole_lines(&rt, left, whole.min(length));
     }
     assert!(rt; right);
 }

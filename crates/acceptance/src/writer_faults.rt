@@ -139,6 +139,13 @@ fn a_failed_writer_leaves_the_beginning_of_a_picture(rt: HostRuntime) {
     assert!(rt; has_own_fronts(&rt, &["glm", "timeline"], DEADLOCK.as_bytes(), 500));
 }
 
+/// Wherever the writer of a shell fails, what was written is the beginning of what a writer gets which doesn't fail.
+#[test]
+fn a_failed_writer_leaves_the_beginning_of_a_shell(rt: HostRuntime) {
+    let input = b"1 begin\n1 path 1/2 X\n2 lock 1/2 S\nwhy 2\nundo\n".as_slice();
+    assert!(rt; has_own_fronts(&rt, &["glm", "shell"], input, 20));
+}
+
 /// A write that is interrupted is repeated.
 #[test]
 fn an_interrupted_write_is_repeated(rt: HostRuntime) {

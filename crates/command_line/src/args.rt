@@ -4,11 +4,11 @@ ghost use Rattle.std.specs.Prelude.{◌≡◌, true, false, codes, IfOk};
 ghost use Rattle.clap.specs.Simple.{app_of, with_rule};
 ghost use Rattle.clap.specs.Walk.{rule_of};
 ghost use Rattle.clap.specs.declared.builder.command.Command.TheViews.{out-Command as fields_of};
-ghost use Rattle.command_line.specs.CommandLine.{app_with_forms, command_for_sessions, comments_flag, file_argument, flag_named, glm_command, hints_flag, output_option, place_option, sessions_option, show_app, stream_flag, timeline_app, turns_option, with_flags, with_forms, with_streams};
+ghost use Rattle.command_line.specs.CommandLine.{app_with_forms, command_for_sessions, comments_flag, file_argument, flag_named, glm_command, hints_flag, output_option, place_option, sessions_option, shell_app, show_app, stream_flag, timeline_app, turns_option, with_flags, with_forms, with_streams};
 
 use crate::texts::{
-    ABOUT_CHECK, ABOUT_EXPLAIN, ABOUT_REPLAY, ABOUT_RUN, ABOUT_SHOW, ABOUT_TIMELINE, STATUSES,
-    VERSION,
+    ABOUT_CHECK, ABOUT_EXPLAIN, ABOUT_REPLAY, ABOUT_RUN, ABOUT_SHELL, ABOUT_SHOW, ABOUT_TIMELINE,
+    STATUSES, VERSION,
 };
 use clap::{Arg, ArgAction, Command, value_parser};
 use lock_rules::MAX_SESSIONS;
@@ -68,6 +68,8 @@ pub enum CommandRequest {
     /// Draw a history as a timeline; holds the number of sessions, the first place that is drawn, `None` for the beginning, and
     /// the last, `None` for the end.
     Timeline(u16, Option<u32>, Option<u32>),
+    /// Answer calls as a person types them; holds the number of sessions.
+    Shell(u16),
 }
 
 /// A command that the words ask for, with the files that it reads and writes.
@@ -85,7 +87,7 @@ pub struct Request<'a> {
     pub wants_hints: bool,
 }
 
-/// Defines the argument `[FILE]`, which every command has.
+/// Defines the argument `[FILE]`, which every command but `shell` has.
 fn file_arg<'a>(alloc: Global) -> Arg<'a>
     ensures rule { rule_of result ≡ file_argument }
     ensures own { result.global ≡ false }
@@ -95,7 +97,7 @@ fn file_arg<'a>(alloc: Global) -> Arg<'a>
         .help("The file to read, by default or for '-' standard input")
 }
 
-/// Defines the option `-o FILE`, which every command has.
+/// Defines the option `-o FILE`, which every command but `shell` has.
 fn output_arg<'a>(alloc: Global) -> Arg<'a>
     ensures rule { rule_of result ≡ output_option }
     ensures own { result.global ≡ false }
@@ -169,7 +171,7 @@ fn place_arg<'a>(alloc: Global, name: &'a str, value: &'a str, help: &'a str) ->
         .value_parser(value_parser!(u32).range(0..=i64::from(MAX_PLACE)))
 }
 
-/// Defines the flag `--comments`, which every command has.
+/// Defines the flag `--comments`, which every command but `shell` has.
 fn comments_arg<'a>(alloc: Global) -> Arg<'a>
     ensures rule { rule_of result ≡ comments_flag }
     ensures own { result.global ≡ false }
@@ -177,7 +179,7 @@ fn comments_arg<'a>(alloc: Global) -> Arg<'a>
     flag_arg(alloc, "comments", "Skips lines that begin with '#'")
 }
 
-/// Defines the flag `--hints`, which every command has.
+/// Defines the flag `--hints`, which every command but `shell` has.
 fn hints_arg<'a>(alloc: Global) -> Arg<'a>
     ensures rule { rule_of result ≡ hints_flag }
     ensures own { result.global ≡ false }
@@ -189,7 +191,7 @@ fn hints_arg<'a>(alloc: Global) -> Arg<'a>
     )
 }
 
-/// Adds the flags that every command has. Fails if memory is refused.
+/// Adds the flags that every command but `shell` has. Fails if memory is refused.
 fn with_flags<'a>(alloc: Global, command: Command<'a>) -> Result<Command<'a>, AllocError>
     requires own { (fields_of command).has_globals ≡ false }
     ensures app { IfOk result (λ made. app_of made ≡ with_flags (app_of command.entry)) }
@@ -198,7 +200,7 @@ fn with_flags<'a>(alloc: Global, command: Command<'a>) -> Result<Command<'a>, Al
     command.arg(comments_arg(alloc))?.arg(hints_arg(alloc))
 }
 
-/// Adds the argument and the options that every command has. Fails if memory is refused.
+/// Adds the argument and the options that every command but `shell` has. Fails if memory is refused.
 fn with_streams<'a>(alloc: Global, command: Command<'a>) -> Result<Command<'a>, AllocError>
     requires own { (fields_of command).has_globals ≡ false }
     ensures app { IfOk result (λ made. app_of made ≡ with_streams (app_of command.entry)) }
@@ -211,7 +213,7 @@ fn with_streams<'a>(alloc: Global, command: Command<'a>) -> Result<Command<'a>, 
     with_flags(alloc, command)
 }
 
-/// Defines a command with the argument and the options that every command has. `about` is its line in the list of commands, and
+/// Defines a command with the argument and the options that every command but `shell` has. `about` is its line in the list of commands, and
 /// `long_about` the beginning of its own help. Fails if memory is refused.
 fn command_of<'a>(
     alloc: Global,
@@ -362,6 +364,18 @@ fn timeline_command<'a>(alloc: Global) -> Result<Command<'a>, AllocError>
         ))
 }
 
+/// Defines the command `shell`. Fails if memory is refused.
+fn shell_command<'a>(alloc: Global) -> Result<Command<'a>, AllocError>
+    ensures app { IfOk result (λ command. app_of command ≡ shell_app) }
+    ensures own { IfOk result (λ command. (fields_of command).has_globals ≡ false) }
+{
+    Command::new(alloc, "shell")
+        .about("Answers calls as they are typed, and says why")
+        .long_about(ABOUT_SHELL)
+        .after_help(STATUSES)
+        .arg(sessions_arg(alloc))
+}
+
 /// Defines the program's commands and their options. Fails if memory is refused.
 pub(crate) fn commands<'a>(alloc: Global) -> Result<Command<'a>, AllocError>
     ensures { IfOk result (λ command. app_of command ≡ glm_command) }
@@ -372,6 +386,7 @@ pub(crate) fn commands<'a>(alloc: Global) -> Result<Command<'a>, AllocError>
     let show = show_command(alloc)?;
     let explain = explain_command(alloc)?;
     let timeline = timeline_command(alloc)?;
+    let shell = shell_command(alloc)?;
     Command::new(alloc, "glm")
         .about("Granular locks for databases")
         .version(VERSION)
@@ -382,5 +397,6 @@ pub(crate) fn commands<'a>(alloc: Global) -> Result<Command<'a>, AllocError>
         .subcommand(check)?
         .subcommand(show)?
         .subcommand(explain)?
-        .subcommand(timeline)
+        .subcommand(timeline)?
+        .subcommand(shell)
 }

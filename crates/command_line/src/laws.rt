@@ -7,7 +7,7 @@ ghost use Rattle.command_line.specs.declared.args.CommandRequest.{CommandRequest
 ghost use Rattle.command_line.specs.declared.args.TheConstants.{MAX_STREAMED_SESSIONS, MAX_TURNS};
 ghost use Rattle.command_line.specs.declared.args.Delivery.TheVariants as Delivery;
 ghost use Rattle.command_line.specs.declared.args.Form.TheVariants as Form;
-ghost use Rattle.command_line.specs.CommandLine.{Ask, AskCheck, AskExplain, AskHelp, AskNothing, AskReplay, AskReplayInPieces, AskRun, AskRunInPieces, AskShow, AskTimeline, AskVersion};
+ghost use Rattle.command_line.specs.CommandLine.{Ask, AskCheck, AskExplain, AskHelp, AskNothing, AskReplay, AskReplayInPieces, AskRun, AskRunInPieces, AskShell, AskShow, AskTimeline, AskVersion};
 ghost use Rattle.command_line.specs.Streams.{SkipComments, WantHints, input_file, output_file};
 
 /// A command line asks for at most one command with its numbers. A command line that asks for a command asks neither for
@@ -75,10 +75,13 @@ pub fn words_ask_as_documented()
     ensures timeline_zeros { AskNothing (codes "glm" ∷ codes "timeline" ∷ codes "--from=02" ∷ []) }
     ensures timeline_last_zeros { AskNothing (codes "glm" ∷ codes "timeline" ∷ codes "--to=07" ∷ []) }
     ensures timeline_at { AskNothing (codes "glm" ∷ codes "timeline" ∷ codes "--at=7" ∷ []) }
+    ensures shell { AskShell (codes "glm" ∷ codes "shell" ∷ []) 256 }
+    ensures shell_sessions { AskShell (codes "glm" ∷ codes "shell" ∷ codes "--sessions" ∷ codes "2" ∷ []) 2 }
+    ensures shell_zeros { AskNothing (codes "glm" ∷ codes "shell" ∷ codes "--sessions=02" ∷ []) }
 {}
 
 /// Command lines with the files that they name: `-` is a standard stream, and so is a file that is left out. No command takes two
-/// files to read. Each command has the flags `--comments` and `--hints`.
+/// files to read, and `shell` takes none. Each other command has the flags `--comments` and `--hints`.
 pub fn words_name_files()
     ensures none { (input_file (codes "glm" ∷ codes "replay" ∷ []) ≡ None) × (output_file (codes "glm" ∷ codes "replay" ∷ []) ≡ None) }
     ensures read { AskReplay (codes "glm" ∷ codes "replay" ∷ codes "a.csv" ∷ []) 256 × (input_file (codes "glm" ∷ codes "replay" ∷ codes "a.csv" ∷ []) ≡ Some (codes "a.csv")) }
@@ -88,6 +91,7 @@ pub fn words_name_files()
     ensures write_long { output_file (codes "glm" ∷ codes "show" ∷ codes "--output=b.txt" ∷ []) ≡ Some (codes "b.txt") }
     ensures write_dash { output_file (codes "glm" ∷ codes "explain" ∷ codes "-o" ∷ codes "-" ∷ []) ≡ None }
     ensures two { AskNothing (codes "glm" ∷ codes "replay" ∷ codes "a.csv" ∷ codes "b.csv" ∷ []) }
+    ensures shell_file { AskNothing (codes "glm" ∷ codes "shell" ∷ codes "a.csv" ∷ []) }
     ensures no_target { AskNothing (codes "glm" ∷ codes "replay" ∷ codes "-o" ∷ []) }
     ensures comments { SkipComments (codes "glm" ∷ codes "replay" ∷ codes "--comments" ∷ []) }
     ensures no_comments { ¬ SkipComments (codes "glm" ∷ codes "replay" ∷ []) }

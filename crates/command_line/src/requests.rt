@@ -211,6 +211,9 @@ fn request_named(name: &str, given: &ArgMatches) -> Option<CommandRequest>
     if name == "timeline" {
         return timeline_request(sessions, given);
     }
+    if name == "shell" {
+        return Some(CommandRequest::Shell(sessions));
+    }
     None
 }
 

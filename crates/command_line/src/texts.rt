@@ -123,6 +123,24 @@ gives the line of 'check', and status 3.
 
 An example: glm timeline examples/deadlock.history.csv -o deadlock.svg";
 
+/// The beginning of the help of `shell`.
+pub(crate) const ABOUT_SHELL: &str =
+    "Reads calls from standard input, a line each, and answers each at once on standard output. A line is a session, its
+call, and what the call names: a resource, and a mode; in any case, with blanks or commas between them.
+
+  1 begin              opens a transaction of session 1
+  1 lock 1/2 S         asks for file 2 of database 1
+  1 path 1/2/3 X       asks for page 3 of it, and first for what its ancestors need
+  1 commit             gives all back; so does abort
+  show                 shows who holds what and who waits for whom
+  why 2                says why session 2 waits, was refused or is a deadlock victim
+  undo                 takes the calls of the last line back
+  save FILE            writes the calls so far as a trace, which 'replay' reads
+  load FILE            serves the calls of a trace after those so far
+  help                 lists these words; quit ends
+
+A line that can't be read changes nothing.";
+
 /// The list of exit statuses at the end of the help texts.
 pub(crate) const STATUSES: &str = "Exit status:
   0  done, or help or the version asked for

@@ -18,6 +18,7 @@ mod text;
 mod words;
 
 pub use dot::explanation_dot;
+pub use request_text::{put_ahead, put_request};
 pub use rows::explanation_rows;
 pub use std::alloc::AllocError as NoMemory;
-pub use text::explanation_text;
+pub use text::{explanation_text, words_of_why};

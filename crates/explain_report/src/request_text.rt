@@ -51,8 +51,8 @@ fn target_word(kind: ClaimKind) -> &'static str
     }
 }
 
-/// Writes what a request asks for.
-pub(crate) fn put_request(out: &mut String, request: &Claim) -> Result<(), NoMemory>
+/// Writes what a request asks for: the resource and the mode. Fails if memory is refused.
+pub fn put_request(out: &mut String, request: &Claim) -> Result<(), NoMemory>
     ensures { OnOk result (string_bytes out.new ≡ string_bytes out.old ++ words_of_request request.now) }
 {
     let verb = request_word(request.kind);
@@ -95,8 +95,9 @@ fn link_word(held: Option<Mode>) -> &'static str
     }
 }
 
-/// Writes the request ahead of a blocker, nothing if none is ahead.
-fn put_ahead(out: &mut String, held: Option<Mode>, ahead: Option<Mode>) -> Result<(), NoMemory>
+/// Writes the mode of a blocker's request ahead, nothing if none is ahead. `held` is the mode in which the blocker holds the resource in
+/// conflict. Fails if memory is refused.
+pub fn put_ahead(out: &mut String, held: Option<Mode>, ahead: Option<Mode>) -> Result<(), NoMemory>
     ensures { OnOk result (string_bytes out.new ≡ string_bytes out.old ++ words_of_ahead held ahead) }
 {
     match ahead {

@@ -26,7 +26,7 @@ pub(crate) fn has_nothing_to_tell(explanation: &Explanation) -> bool
 }
 
 /// The reason of a refusal in words. The number of locks is `MAX_LOCKS`: the contract fails if the limit becomes another.
-fn words_of_why(why: Why) -> &'static str
+pub fn words_of_why(why: Why) -> &'static str
     ensures { result.now ≡ words_of_why why }
 {
     match why {

@@ -1,5 +1,5 @@
 -- The outcome of one execution of the program, and its exit status.
-use Rattle.std.specs.Prelude.{◌≡◌, ◌≢◌, ℕ, List, Option, Some, Result, Ok, Err, IfOk, IfErr, codes}
+use Rattle.std.specs.Prelude.{◌≡◌, ◌≢◌, ℕ, List, Option, Some, Result, Ok, Err, IfOk, IfErr, OnErr, codes}
 use Rattle.std.specs.Io.KnownBytes.{Keeps, Appends}
 use Rattle.clap.specs.Walk.{Text}
 use Rattle.lock_trace.specs.declared.faults.TraceFault.{TraceFault}
@@ -14,7 +14,7 @@ use Rattle.replay_commands.specs.declared.tool_fault.ToolFault.TheVariants as to
 use Rattle.glm.specs.declared.outcomes.Outcome.{Outcome}
 use Rattle.glm.specs.declared.outcomes.Outcome.TheVariants as outcome
 use Rattle.glm.specs.declared.outcomes.TheConstants.{DONE, USAGE, ILLEGAL, NO_MEMORY, DEVICE}
-use Rattle.command_line.specs.CommandLine.{AskReplay, AskReplayInPieces, AskRun, AskRunInPieces, AskCheck, AskShow, AskExplain, AskTimeline, AskHelp, AskVersion, AskNothing}
+use Rattle.command_line.specs.CommandLine.{AskReplay, AskReplayInPieces, AskRun, AskRunInPieces, AskCheck, AskShow, AskExplain, AskTimeline, AskShell, AskHelp, AskVersion, AskNothing}
 use Rattle.replay_commands.specs.Replays.{HasServed, HasServedFront, HasServedPart, IsFaultOfOneThread, Replays, ReplaysInPieces}
 use Rattle.run_commands.specs.Runs.{HasPerformed, HasPerformedPart, HasWrittenFront, HasWrittenPart, Runs, RunsInPieces}
 use Rattle.glm.specs.Statuses.{status_for, status_for_show}
@@ -23,6 +23,7 @@ use Rattle.history_commands.specs.Explaining.{HasExplained, HasExplainedPart, Ex
 use Rattle.history_commands.specs.Drawing.{Draws, HasDrawn, HasDrawnPart}
 use Rattle.history_commands.specs.Verdicts.{Checks, IsHistory, text_of_verdict}
 use Rattle.replay_commands.specs.Written.{AppendsPart}
+use Rattle.lock_shell.specs.Turns.{HasTalked, HasTalkedPart, IsFaultOfShell}
 
 -- the exit status of an outcome
 abbrev pub status_of_outcome : Outcome → ℕ
@@ -46,6 +47,8 @@ status_of_outcome (outcome.Explain (Err fault)) = status_for_show fault
 status_of_outcome (outcome.Timeline (Ok (verdict.Legal count))) = DONE
 status_of_outcome (outcome.Timeline (Ok (verdict.Illegal place))) = ILLEGAL
 status_of_outcome (outcome.Timeline (Err fault)) = status_for_show fault
+status_of_outcome (outcome.Shell (Ok count)) = DONE
+status_of_outcome (outcome.Shell (Err fault)) = status_for fault
 status_of_outcome outcome.HelpShown = DONE
 status_of_outcome outcome.HelpFailed = DEVICE
 status_of_outcome outcome.VersionShown = DONE
@@ -159,6 +162,15 @@ pub record HasAnsweredTimeline (words : List Text) (input old new : Option (List
   pub drawn : IfOk answer (λ verdict. HasDrawn sessions from to verdict old new)
   pub draws : (bytes : List ℕ) → input ≡ Some bytes → Draws sessions from to bytes old new answer
 
+-- the words ask for the shell, and `answer` is the number of lines that were answered, or the fault; the output holds `old` before and
+-- `new` after
+pub record HasAnsweredShell (words : List Text) (old new : Option (List ℕ)) (answer : Result ℕ ToolFault) : Type 0 where
+  pub sessions : ℕ
+  pub asked : AskShell words sessions
+  pub talked : IfOk answer (λ count. HasTalked sessions count old new)
+  pub part : OnErr answer (HasTalkedPart sessions old new)
+  pub faults : IfErr answer (λ fault. IsFaultOfShell fault)
+
 -- the text of `--version`: the project's version, and the kit and the logic that it was proved with
 abbrev pub text_of_version : List ℕ
 text_of_version = codes "glm 0.8.0\nproved with rattle-kit-13f, logic dac8208d650f15bf\n"
@@ -173,6 +185,7 @@ HasDone words input old new (outcome.Check answer) = HasAnsweredCheck words inpu
 HasDone words input old new (outcome.Show answer) = HasAnsweredShow words input old new answer
 HasDone words input old new (outcome.Explain answer) = HasAnsweredExplain words input old new answer
 HasDone words input old new (outcome.Timeline answer) = HasAnsweredTimeline words input old new answer
+HasDone words input old new (outcome.Shell answer) = HasAnsweredShell words old new answer
 HasDone words input old new outcome.HelpShown = AskHelp words
 HasDone words input old new outcome.HelpFailed = AskHelp words
 HasDone words input old new outcome.VersionShown = AskVersion words × Appends old new text_of_version

@@ -2,7 +2,7 @@
 use Rattle.std.specs.Prelude.{◌≡◌, ◌≢◌, ℕ, List, Option, None}
 use Rattle.std.specs.Io.KnownBytes.{Keeps}
 use Rattle.clap.specs.Walk.{Text}
-use Rattle.command_line.specs.CommandLine.{AskReplayInPieces, AskRunInPieces}
+use Rattle.command_line.specs.CommandLine.{AskReplayInPieces, AskRunInPieces, AskShell}
 use Rattle.command_line.specs.Streams.{SkipComments, input_file, output_file}
 use Rattle.glm.specs.declared.outcomes.Outcome.{Outcome}
 use Rattle.glm.specs.declared.outcomes.TheConstants.{DONE, ILLEGAL, NO_MEMORY, DEVICE, STOPPED}
@@ -19,7 +19,7 @@ pub record HasRun (words : List Text) (input old new : Option (List ℕ)) (statu
   pub standard : input_file words ≡ None → output_file words ≡ None → ¬ SkipComments words
       → (outcome : Outcome) × (status ≡ status_of_outcome outcome) × HasDone words input old new outcome
   pub status_is : IsStatus status
-  pub silent : ((n : ℕ) → ¬ (AskReplayInPieces words n)) → ((n turns : ℕ) → ¬ (AskRunInPieces words n turns))
+  pub silent : ((n : ℕ) → ¬ (AskReplayInPieces words n)) → ((n turns : ℕ) → ¬ (AskRunInPieces words n turns)) → ((n : ℕ) → ¬ (AskShell words n))
       → status ≢ DONE → status ≢ ILLEGAL → status ≢ DEVICE → Keeps old new
   pub silent_in_pieces : ((n turns : ℕ) → ¬ (AskRunInPieces words n turns))
       → status ≢ DONE → status ≢ ILLEGAL → status ≢ DEVICE → status ≢ NO_MEMORY → Keeps old new

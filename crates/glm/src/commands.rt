@@ -9,7 +9,7 @@ ghost use Rattle.lock_rules.specs.declared.calls.TheConstants.{MAX_SESSIONS};
 ghost use Rattle.glm.specs.declared.outcomes.Outcome.{Outcome};
 ghost use Rattle.glm.specs.declared.outcomes.TheConstants.{DONE, ILLEGAL, NO_MEMORY, DEVICE, STOPPED};
 ghost use Rattle.glm.specs.Programs.{HasRun};
-ghost use Rattle.command_line.specs.CommandLine.{Ask, AskReplayInPieces, AskRunInPieces, HasNumbers, glm_command};
+ghost use Rattle.command_line.specs.CommandLine.{Ask, AskReplayInPieces, AskRunInPieces, AskShell, HasNumbers, glm_command};
 ghost use Rattle.command_line.specs.Streams.{HasStreamsOf, SkipComments as AskNoComments, input_file, output_file};
 ghost use Rattle.glm.specs.Outcomes.{HasDone, HasPrintedPart, PrintsVerdict, status_of_outcome};
 ghost use Rattle.history_commands.specs.Verdicts.{Checks, Finds, IsFaultOfCheck, text_of_verdict};
@@ -28,6 +28,7 @@ use file_streams::{NewFile, open_source};
 use history_commands::{
     Finding, Verdict, WrongReply, check_by_row, check_whole, timeline, verdict_line,
 };
+use lock_shell::shell;
 use replay_commands::{ToolFault, replay, replay_in_pieces, write_text};
 use row_comments::SkipComments;
 use row_hints::{Kept, KeptRows};
@@ -125,7 +126,7 @@ fn write_verdict<R: Read + Drop, W: Write>(
 }
 
 /// Runs a command: reads `input`, and writes to `output`. `check`, `show` and `explain` put the first wrong reply into `wrong`.
-fn perform<T: Threads + Wait, R: Read + Drop, W: Write, G: Gate>(
+fn perform<T: Threads + Wait + Files, R: Read + Drop, W: Write, G: Gate>(
     rt: &T,
     alloc: Global,
     gate: &G,
@@ -163,6 +164,9 @@ fn perform<T: Threads + Wait, R: Read + Drop, W: Write, G: Gate>(
         }
         CommandRequest::Timeline(sessions, from, to) => {
             Outcome::Timeline(timeline(alloc, input, output, sessions, from, to))
+        }
+        CommandRequest::Shell(sessions) => {
+            Outcome::Shell(shell(rt, alloc, input, output, sessions))
         }
     }
 }
@@ -324,7 +328,7 @@ pub fn program_with_hints<
 ///
 /// Words that name a file to read or to write have it read or written in place of `input` or `output`. A file is written only
 /// with status 0 or 3, whole; what follows is of `output` then. `output` is written only with status 0, with status 3 (the verdict), with status 5 if the writer failed on the
-/// way, with status 4 if memory was refused on the way of a replay or a run that writes its history in pieces, or with status
+/// way, with status 4 if memory was refused on the way of a shell, or of a replay or a run that writes its history in pieces, or with status
 /// 6 if such a run was stopped on its way.
 pub fn program<'a, T: Threads + Wait + Files, R: Read + Drop, W: Write, E: Write, G: Gate>(
     rt: &T,
@@ -344,6 +348,7 @@ pub fn program<'a, T: Threads + Wait + Files, R: Read + Drop, W: Write, E: Write
         × HasDone (texts words.entry.now) (R.remaining input) (W.contents output.old) (W.contents output.new) outcome }
     ensures status { IsStatus result }
     ensures silent { ((n : ℕ) → ¬ (AskReplayInPieces (texts words.entry.now) n)) → ((n turns : ℕ) → ¬ (AskRunInPieces (texts words.entry.now) n turns))
+        → ((n : ℕ) → ¬ (AskShell (texts words.entry.now) n))
         → result ≢ DONE → result ≢ ILLEGAL → result ≢ DEVICE → Keeps (W.contents output.old) (W.contents output.new) }
     ensures silent_in_pieces { ((n turns : ℕ) → ¬ (AskRunInPieces (texts words.entry.now) n turns))
         → result ≢ DONE → result ≢ ILLEGAL → result ≢ DEVICE → result ≢ NO_MEMORY → Keeps (W.contents output.old) (W.contents output.new) }

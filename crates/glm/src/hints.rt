@@ -21,7 +21,9 @@ pub enum Hints {
 /// The command of a request as hints name it, and its number of sessions.
 fn command_for(request: CommandRequest) -> (Command, u16) {
     match request {
-        CommandRequest::Replay(sessions, _) => (Command::Replay, sessions),
+        CommandRequest::Replay(sessions, _) | CommandRequest::Shell(sessions) => {
+            (Command::Replay, sessions)
+        }
         CommandRequest::Run(sessions, _, _) => (Command::Run, sessions),
         CommandRequest::Check(sessions, _) => (Command::Check, sessions),
         CommandRequest::Show(sessions, _, _) => (Command::Show, sessions),

@@ -55,6 +55,8 @@ pub(crate) enum Outcome {
     /// The verdict on the history of which a picture was asked for, and written: the picture if the history is legal, else the
     /// verdict.
     Timeline(Result<Verdict, ShowFault>),
+    /// The result of the shell that was asked for. Its answers were also written to the output.
+    Shell(Result<u64, ToolFault>),
     /// Help was asked for, and written.
     HelpShown,
     /// Help was asked for, and the writer failed.
@@ -158,7 +160,7 @@ impl Outcome {
     {
         match self {
             Outcome::Replay(Ok(_)) | Outcome::ReplayInPieces(Ok(_)) => DONE,
-            Outcome::Run(Ok(_)) | Outcome::RunInPieces(Ok(_)) => DONE,
+            Outcome::Run(Ok(_)) | Outcome::RunInPieces(Ok(_)) | Outcome::Shell(Ok(_)) => DONE,
             Outcome::HelpShown | Outcome::VersionShown => DONE,
             Outcome::Check(Ok(Verdict::Legal(_))) => DONE,
             Outcome::Show(Ok(Verdict::Legal(_))) | Outcome::Explain(Ok(Verdict::Legal(_))) => DONE,
@@ -171,7 +173,7 @@ impl Outcome {
                 status_of_fault(fault)
             }
             Outcome::Run(Err(fault)) | Outcome::RunInPieces(Err(fault)) => status_of_fault(fault),
-            Outcome::Check(Err(fault)) => status_of_fault(fault),
+            Outcome::Check(Err(fault)) | Outcome::Shell(Err(fault)) => status_of_fault(fault),
             Outcome::Show(Err(fault)) | Outcome::Explain(Err(fault)) => status_of_show_fault(fault),
             Outcome::Timeline(Err(fault)) => status_of_show_fault(fault),
             Outcome::HelpFailed | Outcome::VersionFailed | Outcome::FileFailed => DEVICE,
@@ -189,7 +191,7 @@ impl Outcome {
             Outcome::Run(Err(fault)) | Outcome::RunInPieces(Err(fault)) => {
                 report_fault(fault, errors)
             }
-            Outcome::Check(Err(fault)) => report_fault(fault, errors),
+            Outcome::Check(Err(fault)) | Outcome::Shell(Err(fault)) => report_fault(fault, errors),
             Outcome::Show(Err(fault)) | Outcome::Explain(Err(fault)) => {
                 report_show_fault(fault, errors)
             }
@@ -200,7 +202,7 @@ impl Outcome {
             ),
             Outcome::OutOfMemory => report_fault(&ToolFault::NoMemory, errors),
             Outcome::Replay(Ok(_)) | Outcome::ReplayInPieces(Ok(_)) => {}
-            Outcome::Run(Ok(_)) | Outcome::RunInPieces(Ok(_)) => {}
+            Outcome::Run(Ok(_)) | Outcome::RunInPieces(Ok(_)) | Outcome::Shell(Ok(_)) => {}
             Outcome::Check(Ok(_)) | Outcome::Show(Ok(_)) | Outcome::Explain(Ok(_)) => {}
             Outcome::Timeline(Ok(_)) => {}
             Outcome::HelpShown | Outcome::VersionShown => {}

@@ -2,7 +2,7 @@
 //! status.
 //!
 //! `main.rt` reads the words and calls `glm::program_with_hints` with a gate that is always open, and with hints if standard error is a
-//! terminal. `awaited.rt` is standard input that prints a hint if rows are awaited from a terminal.
+//! terminal. `awaited.rt` is standard input that prints a hint if rows are awaited from a terminal, and a prompt for each line of a shell.
 //!
 //! Nothing is decided here except the status for a command line that can't be read: `USAGE` if a word isn't UTF-8, else
 //! `NO_MEMORY`. The library has a crate of its own, since a library and a program can't share a name.
@@ -13,7 +13,7 @@
 
 mod awaited;
 
-use crate::awaited::Awaited;
+use crate::awaited::{Awaited, Shown};
 use glm::{Hints, NO_MEMORY, OpenGate, USAGE, program_with_hints};
 use std::io::{ErrorKind, IsTerminal, Read, Write};
 use std::process::ExitCode;
@@ -22,11 +22,30 @@ use std::sync::Wait;
 use std::thread::Threads;
 use std::{env, io};
 
-/// Runs the program and returns its exit status. Fails if the command line can't be read: memory is refused, or a word isn't
+/// What a user is shown, if standard input comes from a terminal: a prompt before each line of a shell, or a hint that rows are awaited.
+fn shown_for(words: &[&str], is_terminal: bool) -> Shown {
+    if !is_terminal {
+        return Shown::Nothing;
+    }
+    match words {
+        [_, command, ..] if *command == "shell" => Shown::Prompt,
+        _ => Shown::Hint,
+    }
+}
+
+/// Runs the program and returns its exit status. `prompts` is what a hint or a prompt is written to. Fails if the command line can't be read: memory is refused, or a word isn't
 /// UTF-8.
-fn status<R: Runtime + AllocGlobal + Threads + Wait, I: Read + Drop, O: Write, E: Write>(
+fn status<
+    R: Runtime + AllocGlobal + Threads + Wait,
+    I: Read + Drop,
+    P: Write + Drop,
+    O: Write,
+    E: Write,
+>(
     rt: &R,
     input: I,
+    is_terminal: bool,
+    prompts: P,
     output: &mut O,
     errors: &mut E,
     hints: Hints,
@@ -37,6 +56,7 @@ fn status<R: Runtime + AllocGlobal + Threads + Wait, I: Read + Drop, O: Write, E
     for word in &given {
         words.push(word.as_str())?;
     }
+    let input = Awaited::new(input, prompts, shown_for(&words, is_terminal));
     let status = program_with_hints(rt, alloc, &words, input, output, errors, &OpenGate, hints);
     Ok(status)
 }
@@ -46,13 +66,20 @@ fn main(rt: HostRuntime) -> ExitCode {
     let mut output = rt.stdout();
     let mut errors = rt.stderr();
     let is_terminal = rt.stdin().is_terminal();
-    let input = Awaited::new(rt.stdin(), rt.stderr(), is_terminal);
     let hints = if errors.is_terminal() {
         Hints::Always
     } else {
         Hints::AsAsked
     };
-    match status(&rt, input, &mut output, &mut errors, hints) {
+    match status(
+        &rt,
+        rt.stdin(),
+        is_terminal,
+        rt.stderr(),
+        &mut output,
+        &mut errors,
+        hints,
+    ) {
         Ok(status) => ExitCode::from(status),
         Err(error) if error.kind() == ErrorKind::InvalidData => {
             let _written = eprintln!(rt;

@@ -60,7 +60,7 @@ fn account_text(
 
 /// Which call made the transaction of the session a victim, `None` if it is no victim. The entries are those that `before` has
 /// served. Fails if memory is refused.
-fn doom_of(
+pub fn doom_of(
     alloc: Global,
     before: &Book,
     front: &[Entry],
@@ -80,7 +80,7 @@ fn doom_of(
 }
 
 /// What the answer to a poll of the session tells. The entries are those that `before` has served. Fails if memory is refused.
-fn answer_of(
+pub fn answer_of(
     alloc: Global,
     before: &Book,
     front: &[Entry],
@@ -137,7 +137,7 @@ fn add_answer(
 
 /// The account of the entry that `after` has served and `before` hasn't, which is at this place, with what its answer tells if it
 /// is a poll. The entries are those that `before` has served. Fails if memory is refused.
-fn account(
+pub fn account(
     alloc: Global,
     before: &Book,
     front: &[Entry],

@@ -94,7 +94,12 @@ fn all_waits(alloc: Global, book: &Book) -> Result<Vec<Wait>, NoMemory>
 }
 
 /// The text for people of the book's state, in front of the place, to which the entries have led. Fails if memory is refused.
-fn lines_text(alloc: Global, book: &Book, front: &[Entry], place: u64) -> Result<String, NoMemory>
+pub fn lines_text(
+    alloc: Global,
+    book: &Book,
+    front: &[Entry],
+    place: u64,
+) -> Result<String, NoMemory>
     requires served { book.now.history ≡ front.now }
     ensures { IfOk result (λ text. string_bytes text ≡ lines_in book.now.sessions place front.now) }
 {

@@ -300,3 +300,15 @@ returns-clause-timeline_last_zeros c = to_nowhere _ _ _ (codes "07") LeadingZero
 pub returns-clause-timeline_at : goal.returns-clause-timeline_at
 unfolding clap_on_literals
 returns-clause-timeline_at c = faulty _ UnknownArgument [] refl (search rules) (search rules)
+
+pub returns-clause-shell : goal.returns-clause-shell
+unfolding clap_on_literals
+returns-clause-shell c = record { whole = refl; request_is = (refl, numeral_given (codes "sessions") (codes "256") MAX_SESSIONS 256 _ (omega arith) refl refl (search rules)) }
+
+pub returns-clause-shell_sessions : goal.returns-clause-shell_sessions
+unfolding clap_on_literals
+returns-clause-shell_sessions c = record { whole = refl; request_is = (refl, numeral_given (codes "sessions") (codes "2") MAX_SESSIONS 2 _ (omega arith) refl refl (search rules)) }
+
+pub returns-clause-shell_zeros : goal.returns-clause-shell_zeros
+unfolding clap_on_literals
+returns-clause-shell_zeros c = unnumbered _ _ (codes "02") LeadingZero refl refl refl refl

@@ -61,3 +61,7 @@ returns-clause-hints c = refl
 pub returns-clause-no_hints : goal.returns-clause-no_hints
 unfolding clap_on_literals
 returns-clause-no_hints c = λ flag. let no : Some (codes "false") ≡ Some (codes "true") = flag in cc
+
+pub returns-clause-shell_file : goal.returns-clause-shell_file
+unfolding clap_on_literals
+returns-clause-shell_file c = faulty _ UnknownArgument [] refl (search rules) (search rules)

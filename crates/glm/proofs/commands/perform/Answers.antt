@@ -115,3 +115,14 @@ returns-in-Timeline c c' =
       drawn = done.drawn;
       draws = done.draws;
     }
+
+pub returns-in-Shell : goal.returns-in-Shell
+returns-in-Shell c c' =
+    let done = c'.shell.ensures in
+    λ words asked. record {
+      sessions = c'.in-Shell.sessions;
+      asked = (let is : c'.args.command ≡ request.Shell c'.in-Shell.sessions = search rules in subst (λ (r : CommandRequest). Ask words r) is asked);
+      talked = done.talked;
+      part = done.part;
+      faults = done.faults;
+    }

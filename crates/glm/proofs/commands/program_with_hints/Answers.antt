@@ -7,9 +7,9 @@ returns c c' = record {
   outcome = (c'.outcome_of.result, c'.status.ensures.outcome, c'.outcome_of.ensures);
   standard = λ reads writes whole. (c'.outcome_of.result, c'.status.ensures.outcome, standard _ _ _ _ c'.outcome_of.result reads writes whole c'.outcome_of.ensures);
   status_is = c'.status.ensures.status;
-  silent = λ whole run done illegal device.
+  silent = λ whole run shell done illegal device.
       kept_by_outcome _ _ _ _ c'.outcome_of.result c'.outcome_of.ensures
-      (λ read before after did. silent _ read before after c'.outcome_of.result c'.status.result c'.status.ensures.outcome did whole run done illegal device);
+      (λ read before after did. silent _ read before after c'.outcome_of.result c'.status.result c'.status.ensures.outcome did whole run shell done illegal device);
   silent_in_pieces = λ run done illegal device memory.
       kept_by_outcome _ _ _ _ c'.outcome_of.result c'.outcome_of.ensures
       (λ read before after did. silent_in_pieces _ read before after c'.outcome_of.result c'.status.result c'.status.ensures.outcome did run done illegal device memory);

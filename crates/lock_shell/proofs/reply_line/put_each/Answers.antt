@@ -1,0 +1,7 @@
+use Rattle.lock_shell.specs.Replies.{words_of_blocker}
+use Rattle.explain_report.proofs.Pieces.{next_piece}
+use Rattle.lock_shell.proofs.reply_line.put_each.Goals as goal
+
+pub loop-blocker-preserved : goal.loop-blocker-preserved
+loop-blocker-preserved c =
+    next_piece (words_of_blocker c.args.start.now) c.args.blockers.now c.loop-blocker.blocker-index _ _ _ _ c.loop-blocker-test.true c.loop-blocker.invariant c.in_ok-put_blocker.ensures

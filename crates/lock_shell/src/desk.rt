@@ -1,0 +1,171 @@
+//! The lock table of a shell: serves calls and says what each did, and takes calls back.
+
+ghost use Rattle.std.specs.Prelude.{◌≡◌, ◌≤◌, ◌++◌, [], ◌∷◌, length, take, All, IfOk, OnOk};
+ghost use Rattle.sequential.specs.Histories.{IsEntryWithin};
+ghost use Rattle.lock_rules.specs.declared.calls.TheConstants.{MAX_SESSIONS};
+ghost use Rattle.lock_rules.specs.Legal.{IsLegal, state_of};
+ghost use Rattle.lock_rules.specs.Step.{step};
+ghost use Rattle.lock_trace.specs.Rows.{IsRow};
+ghost use Rattle.lock_shell.specs.Turns.{HasServed, HasServedPath, HasServedRows};
+ghost use Rattle.lock_shell.specs.inner.Desks.{AreAlike};
+
+use crate::reply_line::put_reply_text;
+use lock_desk::{
+    Book, Call, Entry, Mode, NO_BOUND, NoMemory, Reply, Resource, grants, lock_of_level,
+};
+use lock_trace::TraceRow;
+use std::alloc::Global;
+
+/// A lock table that has served some calls, as two books that have served the same: between the two, one serves a call before the
+/// other, so that the call can be explained.
+#[derive(Drop)]
+pub(crate) struct Desk {
+    /// Serves a call behind the other.
+    pub(crate) before: Book,
+    /// Serves a call first, and keeps the history in memory.
+    pub(crate) after: Book,
+}
+
+/// A lock table that has served no call. Fails if memory is refused.
+pub(crate) fn fresh_desk(alloc: Global, sessions: u16) -> Result<Desk, NoMemory>
+    requires some { 1 ≤ sessions }
+    requires few { sessions ≤ MAX_SESSIONS }
+    ensures alike { IfOk result (λ desk. AreAlike sessions desk.before desk.after) }
+    ensures empty { IfOk result (λ desk. desk.after.history ≡ []) }
+{
+    let before = Book::new(alloc, sessions)?;
+    let after = Book::new(alloc, sessions)?;
+    Ok(Desk { before, after })
+}
+
+/// Appends the line of the row's call with this reply, which `after` has served and `before` hasn't. Fails if memory is refused.
+#[tactic(auto, using(crate::proofs::Served::one_served))]
+fn tell(
+    alloc: Global,
+    before: &Book,
+    after: &Book,
+    row: &TraceRow,
+    reply: &Reply,
+    text: &mut Vec<u8>,
+) -> Result<(), NoMemory>
+    requires sessions { after.now.sessions ≡ before.now.sessions }
+    requires served { after.now.history ≡ before.now.history ++ record { session = row.now.session; call = row.now.call; reply = reply.now } ∷ [] }
+    requires given { reply.now ≡ (step (state_of before.now.history) row.now.session row.now.call).reply }
+    ensures { OnOk result (HasServed before.now.sessions before.now.history after.now.history (record { session = row.now.session; call = row.now.call; reply = reply.now } ∷ []) text.old.items text.new.items) }
+{
+    let place = before.served();
+    let entry = Entry {
+        session: row.session,
+        call: row.call,
+        reply: *reply,
+    };
+    let explanation = lock_explain::explain(alloc, before, &entry, after)?;
+    let mut line = String::new(alloc);
+    put_reply_text(&mut line, place, &entry, &explanation)?;
+    text.extend_from_slice(line.as_bytes())
+}
+
+/// Serves the call of a row on both books, and appends its line to the text. Returns the reply. Fails if memory is refused; the books
+/// may differ then.
+pub(crate) fn serve_told(
+    alloc: Global,
+    before: &mut Book,
+    after: &mut Book,
+    row: &TraceRow,
+    text: &mut Vec<u8>,
+) -> Result<Reply, NoMemory>
+    requires some { 1 ≤ row.now.session }
+    requires within { row.now.session ≤ after.old.sessions }
+    requires alike { AreAlike after.old.sessions before.old after.old }
+    ensures alike { OnOk result (AreAlike after.old.sessions before.new after.new) }
+    ensures served { IfOk result (λ reply. HasServed after.old.sessions after.old.history after.new.history (record { session = row.now.session; call = row.now.call; reply = reply } ∷ []) text.old.items text.new.items) }
+{
+    let reply = after.serve(row.session, row.call)?;
+    tell(alloc, before, after, row, &reply, text)?;
+    before.serve(row.session, row.call)?;
+    Ok(reply)
+}
+
+/// Locks a path for a session, from the database down, as `Book::lock_path` does, and appends the lines of the calls to the text.
+/// Stops at the first call that isn't granted. Fails if memory is refused; the books may differ then.
+pub(crate) fn serve_path(
+    alloc: Global,
+    before: &mut Book,
+    after: &mut Book,
+    session: u16,
+    resource: Resource,
+    mode: Mode,
+    text: &mut Vec<u8>,
+) -> Result<(), NoMemory>
+    requires some { 1 ≤ session }
+    requires within { session ≤ after.old.sessions }
+    requires alike { AreAlike after.old.sessions before.old after.old }
+    ensures alike { OnOk result (AreAlike after.old.sessions before.new after.new) }
+    ensures served { OnOk result (HasServedPath after.old.sessions session resource mode after.old.history after.new.history text.old.items text.new.items) }
+{
+    for level in 0..resource.level() {
+        let row = TraceRow {
+            session,
+            call: lock_of_level(&resource, mode, level + 1),
+        };
+        let reply = serve_told(alloc, before, after, &row, text)?;
+        if !grants(&reply) {
+            return Ok(());
+        }
+    }
+    Ok(())
+}
+
+/// Serves the calls of the rows, and appends their lines to the text. Fails if memory is refused; the books may differ then.
+pub(crate) fn serve_rows(
+    alloc: Global,
+    before: &mut Book,
+    after: &mut Book,
+    rows: &[TraceRow],
+    text: &mut Vec<u8>,
+) -> Result<(), NoMemory>
+    requires within { All (IsRow after.old.sessions) rows.now }
+    requires alike { AreAlike after.old.sessions before.old after.old }
+    ensures alike { OnOk result (AreAlike after.old.sessions before.new after.new) }
+    ensures served { OnOk result (HasServedRows after.old.sessions rows.now after.old.history after.new.history text.old.items text.new.items) }
+{
+    for row in rows {
+        serve_told(alloc, before, after, row, text)?;
+    }
+    Ok(())
+}
+
+/// Serves the calls of the first `upto` entries, which are of a legal history, on a book that has served none. Fails if memory is
+/// refused.
+pub(crate) fn serve_again(book: &mut Book, entries: &[Entry], upto: usize) -> Result<(), NoMemory>
+    requires within { All (IsEntryWithin book.old.sessions) entries.now }
+    requires legal { IsLegal entries.now }
+    requires empty { book.old.history ≡ [] }
+    requires few { upto ≤ length entries.now }
+    ensures sessions { OnOk result (book.new.sessions ≡ book.old.sessions) }
+    ensures cut { OnOk result (book.new.cut ≡ book.old.cut) }
+    ensures bound { OnOk result (book.new.bound ≡ book.old.bound) }
+    ensures served { OnOk result (book.new.history ≡ take upto entries.now) }
+{
+    for place in 0..upto {
+        let entry = &entries[place];
+        book.serve(entry.session, entry.call)?;
+    }
+    Ok(())
+}
+
+/// A lock table that has served the first `kept` entries of the book's history, all of which the book keeps in memory. Costs what
+/// it costs to serve them. Fails if memory is refused.
+pub(crate) fn desk_again(alloc: Global, after: &Book, kept: usize) -> Result<Desk, NoMemory>
+    requires all { after.now.cut ≡ 0 }
+    requires unbounded { after.now.bound ≡ NO_BOUND }
+    requires few { kept ≤ length after.now.history }
+    ensures alike { IfOk result (λ desk. AreAlike after.now.sessions desk.before desk.after) }
+    ensures served { IfOk result (λ desk. desk.after.history ≡ take kept after.now.history) }
+{
+    let mut desk = fresh_desk(alloc, after.sessions())?;
+    let entries = after.history();
+    serve_again(&mut desk.before, entries, kept)?;
+    serve_again(&mut desk.after, entries, kept)?;
+    Ok(desk)
+}

@@ -1,0 +1,208 @@
+//! What a line asks for.
+
+ghost use Rattle.std.specs.Prelude.{ℕ, IfOk};
+ghost use Rattle.lock_shell.specs.inner.Asked.{IsAsked, IsSession};
+
+use crate::words::{is_word, words_of};
+use lock_modes::Mode;
+use lock_rules::Call;
+use lock_trace::{TraceKind, TraceRow, read_trace};
+use lock_tree::Resource;
+use std::alloc::{AllocError as NoMemory, Global};
+
+/// Why a line can't be read.
+#[derive(Clone, Copy, Debug, Drop, PartialEq, Eq)]
+pub enum Unread {
+    /// The line has more words than any call.
+    Long,
+    /// The first word is neither a session nor a word of the shell.
+    Word,
+    /// The call is none of a trace: the first test of a row that it fails.
+    Call(TraceKind),
+    /// The word behind `why` is no session.
+    Session,
+    /// The line has no name of a file, or the name isn't UTF-8.
+    Name,
+}
+
+/// What a line asks for.
+#[derive(Clone, Copy, Debug, Drop, PartialEq, Eq)]
+pub enum Asked<'a> {
+    /// Nothing: the line is empty, or a comment.
+    Nothing,
+    /// One call of a session.
+    Call(TraceRow),
+    /// The locks of a path, for this session: the ancestors of the resource, and the resource in the mode.
+    Path(u16, Resource, Mode),
+    /// The state of the lock table.
+    Show,
+    /// Why this session waits, was refused or is a deadlock victim.
+    Why(u16),
+    /// To take the calls of the last line back.
+    Undo,
+    /// To write the calls into this file, as a trace.
+    Save(&'a str),
+    /// To serve the calls of the trace in this file.
+    Load(&'a str),
+    /// The words of the shell.
+    Help,
+    /// To end.
+    Quit,
+    /// The line can't be read.
+    Unreadable(Unread),
+}
+
+/// The row of a trace with these fields, an op in any case and a mode in any case. Fails if memory is refused.
+fn row_text(
+    alloc: Global,
+    session: &[u8],
+    op: &[u8],
+    resource: &[u8],
+    mode: &[u8],
+) -> Result<Vec<u8>, NoMemory> {
+    let mut text = Vec::new(alloc);
+    text.extend_from_slice(session)?;
+    text.push(b',')?;
+    let op = op.to_ascii_lowercase(alloc)?;
+    text.extend_from_slice(&op)?;
+    text.push(b',')?;
+    text.extend_from_slice(resource)?;
+    text.push(b',')?;
+    let mode = mode.to_ascii_uppercase(alloc)?;
+    text.extend_from_slice(&mode)?;
+    text.push(b'\n')?;
+    Ok(text)
+}
+
+/// Reads a row of a trace, whose sessions are 1 to `sessions`. The inner error is the first test that the row fails. Fails if
+/// memory is refused.
+fn row_read(
+    alloc: Global,
+    text: &[u8],
+    sessions: u16,
+) -> Result<Result<TraceRow, TraceKind>, NoMemory>
+    ensures { IfOk result (λ read. IfOk read (λ row. IsSession sessions row.session)) }
+{
+    match read_trace(alloc, text, sessions) {
+        Ok(rows) => match rows.as_slice() {
+            [row, ..] => Ok(Ok(*row)),
+            [] => Ok(Err(TraceKind::Shape)),
+        },
+        Err(fault) => match fault.kind {
+            TraceKind::NoMemory => Err(NoMemory),
+            kind => Ok(Err(kind)),
+        },
+    }
+}
+
+/// Reads a call. Fails if memory is refused.
+fn call_asked<'a>(
+    alloc: Global,
+    session: &[u8],
+    op: &[u8],
+    resource: &[u8],
+    mode: &[u8],
+    sessions: u16,
+) -> Result<Asked<'a>, NoMemory>
+    ensures { IfOk result (IsAsked sessions) }
+{
+    let is_path = is_word(op, "path");
+    let op = if is_path { b"lock".as_slice() } else { op };
+    let text = row_text(alloc, session, op, resource, mode)?;
+    match row_read(alloc, &text, sessions)? {
+        Ok(row) => match &row.call {
+            Call::Lock(resource, mode) if is_path => {
+                Ok(Asked::Path(row.session, *resource, *mode))
+            }
+            _ => Ok(Asked::Call(row)),
+        },
+        Err(kind) => Ok(Asked::Unreadable(Unread::Call(kind))),
+    }
+}
+
+/// Reads the session of a `why`. Fails if memory is refused.
+fn why_asked<'a>(alloc: Global, session: &[u8], sessions: u16) -> Result<Asked<'a>, NoMemory>
+    ensures { IfOk result (IsAsked sessions) }
+{
+    let text = row_text(alloc, session, b"poll", b"", b"")?;
+    match row_read(alloc, &text, sessions)? {
+        Ok(row) => Ok(Asked::Why(row.session)),
+        Err(_) => Ok(Asked::Unreadable(Unread::Session)),
+    }
+}
+
+/// Reads a word of the shell that stands alone.
+fn word_asked<'a>(word: &[u8]) -> Asked<'a>
+    ensures { (sessions : ℕ) → IsAsked sessions result }
+{
+    if is_word(word, "show") {
+        return Asked::Show;
+    }
+    if is_word(word, "undo") {
+        return Asked::Undo;
+    }
+    if is_word(word, "help") {
+        return Asked::Help;
+    }
+    if is_word(word, "quit") || is_word(word, "exit") {
+        return Asked::Quit;
+    }
+    if is_word(word, "why") {
+        return Asked::Unreadable(Unread::Session);
+    }
+    if is_word(word, "save") || is_word(word, "load") {
+        return Asked::Unreadable(Unread::Name);
+    }
+    Asked::Unreadable(Unread::Word)
+}
+
+/// Reads the name of a file, to which or from which calls are written or read.
+fn file_asked<'a>(saves: bool, name: &'a [u8]) -> Asked<'a>
+    ensures { (sessions : ℕ) → IsAsked sessions result }
+{
+    match std::str::from_utf8(name) {
+        Ok(path) if saves => Asked::Save(path),
+        Ok(path) => Asked::Load(path),
+        Err(_) => Asked::Unreadable(Unread::Name),
+    }
+}
+
+/// Reads two words. Fails if memory is refused.
+fn two_asked<'a>(
+    alloc: Global,
+    first: &'a [u8],
+    second: &'a [u8],
+    sessions: u16,
+) -> Result<Asked<'a>, NoMemory>
+    ensures { IfOk result (IsAsked sessions) }
+{
+    if is_word(first, "why") {
+        return why_asked(alloc, second, sessions);
+    }
+    if is_word(first, "save") || is_word(first, "load") {
+        return Ok(file_asked(is_word(first, "save"), second));
+    }
+    call_asked(alloc, first, second, b"", b"", sessions)
+}
+
+/// Reads a line for a shell of sessions 1 to `sessions`. Fails if memory is refused.
+pub(crate) fn asked_by<'a>(
+    alloc: Global,
+    line: &'a [u8],
+    sessions: u16,
+) -> Result<Asked<'a>, NoMemory>
+    ensures { IfOk result (IsAsked sessions) }
+{
+    let words = words_of(alloc, line)?;
+    match words.as_slice() {
+        [] => Ok(Asked::Nothing),
+        [first, ..] if first.starts_with(b"#") => Ok(Asked::Nothing),
+        [word] => Ok(word_asked(word)),
+        [first, second] => two_asked(alloc, first, second, sessions),
+        [session, op, resource] => call_asked(alloc, session, op, resource, b"", sessions),
+        [session, op, resource, mode] => {
+            call_asked(alloc, session, op, resource, mode, sessions)
+        }
+        _ => Ok(Asked::Unreadable(Unread::Long)),
+    }
+}

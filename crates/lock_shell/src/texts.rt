@@ -1,0 +1,64 @@
+//! Texts that never change.
+
+ghost use Rattle.std.specs.Prelude.{◌≡◌};
+ghost use Rattle.lock_shell.specs.Texts.{text_of_unread};
+
+use crate::line::Unread;
+use lock_trace::TraceKind;
+
+/// The first line of a shell.
+pub(crate) const GREETING: &str =
+    "glm shell: a call a line, as '1 lock 1/2 S'; 'help' lists the words, 'quit' ends\n";
+
+/// The answer to `help`.
+pub(crate) const HELP: &str =
+    "a line is a call of a session, or one of the words below; blanks or commas between, any case
+  1 begin              opens a transaction of session 1
+  1 lock 1/2 S         asks for file 2 of database 1
+  1 path 1/2/3 X       asks for page 3 of it, and first for what its ancestors need
+  1 convert 1/2 X      asks for more of what is held
+  1 try 1/3 S          asks as lock does, and is refused if it would wait
+  1 poll               asks how a request that waits stands
+  1 withdraw           takes a request that waits back
+  1 release 1/2        gives one lock back
+  1 commit             gives all back; so does abort
+resources are 1 to 5 numbers joined by '/'; modes are IS, IX, S, SIX, U and X
+  show                 who holds what, and who waits for whom
+  why 2                why session 2 waits, was refused or is a deadlock victim
+  undo                 takes the calls of the last line back
+  save FILE            writes the calls so far as a trace
+  load FILE            serves the calls of a trace after those so far, as one line
+  help                 these words
+  quit                 ends, as the end of the input does
+";
+
+/// The answer to a line that can't be read: what is wrong, and what would help.
+pub(crate) fn text_of_unread(unread: Unread) -> &'static str
+    ensures { result.now ≡ text_of_unread unread }
+{
+    match unread {
+        Unread::Long => "can't read this: more words than a call has, as in '1 lock 1/2 S'\n",
+        Unread::Word =>
+            "can't read this: a line begins with a session, as in '1 begin'; 'help' lists the words\n",
+        Unread::Session => "can't read this: 'why' takes one of the sessions, as in 'why 1'\n",
+        Unread::Name => "can't read this: a file is named by one word, as in 'save calls.csv'\n",
+        Unread::Call(kind) => match kind {
+            TraceKind::Session =>
+                "can't read this: a line begins with one of the sessions, as in '1 begin'; 'help' lists the words\n",
+            TraceKind::Op =>
+                "can't read this: calls are begin, lock, path, convert, try, release, poll, withdraw, commit and abort\n",
+            TraceKind::Path(_) =>
+                "can't read this: a resource is 1 to 5 numbers joined by '/', as in 1/2/3\n",
+            TraceKind::Mode =>
+                "can't read this: a mode is IS, IX, S, SIX, U or X, as in '1 lock 1/2 S'\n",
+            TraceKind::Extra => "can't read this: this call takes fewer words; 'help' shows each\n",
+            _ => "can't read this: 'help' shows what can be typed\n",
+        },
+    }
+}
+
+/// The answer to `why` for a session without a call.
+pub(crate) const NO_CALL: &str = "this session has made no call\n";
+
+/// The answer to `load` for a trace without rows.
+pub(crate) const NO_CALLS: &str = "this trace has no calls\n";

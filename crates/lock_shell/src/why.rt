@@ -1,0 +1,100 @@
+//! Why a session waits, was refused or is a deadlock victim.
+
+ghost use Rattle.std.specs.Prelude.{◌≡◌, ◌<◌, length, All, IfOk, IfSome};
+ghost use Rattle.sequential.specs.Histories.{IsEntryWithin};
+ghost use Rattle.lock_shell.specs.Turns.{IsToldOf, IsWhy};
+
+use crate::desk::desk_again;
+use crate::texts::NO_CALL;
+use command_line::Form;
+use history_commands::{account, answer_of, doom_of};
+use lock_desk::{Book, Call, Entry, NO_BOUND, NoMemory};
+use std::alloc::Global;
+
+/// Whether an entry is of the session, and no poll.
+fn is_told(entry: &Entry, session: u16) -> bool {
+    entry.session == session && entry.call != Call::Poll
+}
+
+/// The place of the last call of the session among the entries, polls left out, `None` if there is none.
+fn last_call(entries: &[Entry], session: u16) -> Option<usize>
+    ensures { IfSome result (λ place. place < length entries.now) }
+{
+    for back in 0..entries.len() {
+        let place = entries.len() - 1 - back;
+        if is_told(&entries[place], session) {
+            return Some(place);
+        }
+    }
+    None
+}
+
+/// The place of the call that is told: the one that made the session's transaction a victim, if it is one, and else the session's
+/// last call. `None` if there is none. Fails if memory is refused.
+fn place_told(
+    alloc: Global,
+    after: &Book,
+    entries: &[Entry],
+    session: u16,
+) -> Result<Option<usize>, NoMemory>
+    requires within { All (IsEntryWithin after.now.sessions) entries.now }
+    requires served { after.now.history ≡ entries.now }
+    ensures { IfOk result (λ found. IfSome found (λ place. place < length entries.now)) }
+{
+    if let Some(doom) = doom_of(alloc, after, entries, session)? {
+        let place = doom.place as usize;
+        if place < entries.len() {
+            return Ok(Some(place));
+        }
+    }
+    Ok(last_call(entries, session))
+}
+
+/// What the entry at `place` of the book's history did and why; the book keeps all of it in memory. Fails if memory is refused.
+fn account_at(alloc: Global, after: &Book, place: usize) -> Result<Vec<u8>, NoMemory>
+    requires all { after.now.cut ≡ 0 }
+    requires unbounded { after.now.bound ≡ NO_BOUND }
+    requires there { place < length after.now.history }
+    ensures { IfOk result (λ text. IsToldOf after.now.sessions after.now.history text.items) }
+{
+    let front = desk_again(alloc, after, place)?;
+    let back = desk_again(alloc, after, place + 1)?;
+    let entries = after.history();
+    account(
+        alloc,
+        &front.after,
+        &entries[..place],
+        &entries[place],
+        &back.after,
+        place as u64,
+        Form::Lines,
+    )
+}
+
+/// What the call that is told did and why, or that there is none. Fails if memory is refused.
+fn told_of(alloc: Global, after: &Book, session: u16) -> Result<Vec<u8>, NoMemory>
+    requires all { after.now.cut ≡ 0 }
+    requires unbounded { after.now.bound ≡ NO_BOUND }
+    ensures { IfOk result (λ text. IsToldOf after.now.sessions after.now.history text.items) }
+{
+    match place_told(alloc, after, after.history(), session)? {
+        Some(place) => account_at(alloc, after, place),
+        None => Vec::from_slice(alloc, NO_CALL.as_bytes()),
+    }
+}
+
+/// For whom the session waits, since when, or which call made it a victim; and what that call, or the session's last one, did and why.
+/// The book keeps all of its history in memory. Costs what it costs to serve the calls so far a few times. Fails if memory is refused.
+pub(crate) fn why_text(alloc: Global, after: &Book, session: u16) -> Result<Vec<u8>, NoMemory>
+    requires all { after.now.cut ≡ 0 }
+    requires unbounded { after.now.bound ≡ NO_BOUND }
+    ensures { IfOk result (λ text. IsWhy after.now.sessions after.now.history session text.items) }
+{
+    let entries = after.history();
+    let place = after.served();
+    let now = answer_of(alloc, after, entries, session, place, Form::Lines)?;
+    let told = told_of(alloc, after, session)?;
+    let mut text = now.into_bytes();
+    text.extend_from_slice(&told)?;
+    Ok(text)
+}
