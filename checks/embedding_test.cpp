@@ -3,15 +3,22 @@
 #include "pelgaisti.hpp"
 
 #include <array>
+#include <atomic>
+#include <condition_variable>
 #include <cstdio>
 #include <cstdlib>
 #include <future>
 #include <memory>
+#include <mutex>
 #include <new>
 #include <stdexcept>
 #include <string>
+#include <thread>
 #include <type_traits>
 #include <utility>
+#if __cplusplus >= 202002L
+#include <span>
+#endif
 
 using pelgaisti::kind;
 using pelgaisti::mode;
@@ -48,6 +55,11 @@ template <class Call> static bool throws(pelgaisti_status status, Call call) {
 
 // Only what has numbers of 32 bits one behind another is a path: no conversion of each number goes on unseen.
 static_assert(std::is_convertible_v<std::vector<std::uint32_t>, pelgaisti::resource>);
+#if __cplusplus >= 202002L
+static_assert(std::is_convertible_v<std::span<const std::uint32_t>, pelgaisti::resource>);
+static_assert(std::is_convertible_v<std::span<std::uint32_t, 3>, pelgaisti::resource>);
+static_assert(!std::is_convertible_v<std::span<const std::uint64_t>, pelgaisti::resource>);
+#endif
 static_assert(!std::is_convertible_v<std::vector<std::uint64_t>, pelgaisti::resource>);
 static_assert(!std::is_convertible_v<std::uint32_t, pelgaisti::resource> && !std::is_convertible_v<std::string, pelgaisti::resource>);
 
@@ -276,6 +288,199 @@ static void a_task_throws() {
     CHECK(office[1].perform({op::begin})->reply.value == 3 && office.close()->length() == 8);
 }
 
+static std::vector<std::uint32_t> numbers(const pelgaisti::office &office, const std::vector<pelgaisti::owned_session> &list) {
+    std::vector<std::uint32_t> found;
+    for (const auto &it : list) found.push_back(office.number(*it));
+    return found;
+}
+
+static kind reply(pelgaisti::session &session, const pelgaisti::call &call) { return session.perform(call)->reply.kind; }
+
+// A session has one owner, and goes back to its office with its owner's end: at the end of a scope, by an exception, in another thread.
+// It is handed out once then, with what it had.
+static void sessions_have_owners() {
+    pelgaisti::office office{4};
+    auto one = office.take(0), two = office.take(1);
+    CHECK(one && two && office.number(*two) == 2 && !office.take(0) && office.orphans().empty());
+    CHECK(throws(PELGAISTI_NO_SUCH_SESSION, [&] { static_cast<void>(office.take(4)); }));
+    CHECK(throws(PELGAISTI_MISSING, [&] { office.close(); }) && reply(*one, {op::begin}) == kind::began);
+    std::string what;
+    auto task = std::async(std::launch::async, [third = office.take(2)] {
+        CHECK(reply(*third, {op::begin}) == kind::began && reply(*third, {op::lock, mode::X, {7}}) == kind::granted);
+        throw std::runtime_error("lost");
+    });
+    try {
+        task.get();
+    } catch (const std::runtime_error &error) {
+        what = error.what();
+    }
+    task = {};  // with what the task has
+    CHECK(what == "lost" && reply(*one, {op::lock, mode::S, {7}}) == kind::waiting);
+    std::thread([fourth = office.take(3)] {
+        CHECK(reply(*fourth, {op::begin}) == kind::began);
+        fourth->publish({op::commit});
+    }).join();
+    auto orphans = office.orphans();
+    CHECK(numbers(office, orphans) == (std::vector<std::uint32_t>{3, 4}) && office.orphans().empty() && !office.take(2));
+    CHECK(throws(PELGAISTI_NOTHING_PENDING, [&] { static_cast<void>(orphans[0]->resume()); }));
+    CHECK(orphans[0]->perform({op::abort})->reply.value == 1 && reply(*one, {op::poll}) == kind::clear);
+    CHECK(throws(PELGAISTI_PENDING, [&] { static_cast<void>(orphans[1]->perform({op::abort})); }));
+    CHECK(orphans[1]->resume()->reply.kind == kind::committed && reply(*orphans[1], {op::abort}) == kind::refused);
+
+    // given back, it is handed out again, by its index too, and its number is used again
+    orphans.clear();
+    auto again = office.take(3);
+    CHECK(numbers(office, office.orphans()) == std::vector<std::uint32_t>{3});
+    CHECK(numbers(office, office.orphans()) == std::vector<std::uint32_t>{3});
+    CHECK(again && again->perform({op::begin})->reply.value == 4 && reply(*again, {op::commit}) == kind::committed);
+    pelgaisti::owned_session moved = std::move(again);
+    CHECK(!again && throws(PELGAISTI_MISSING, [&] { office.close(); }));
+    again.reset(), moved.reset(), one.reset(), two.reset();
+    // what nobody owns is closed with the office, with the locks that it has
+    CHECK(office.close()->held(1, {7}) == mode::S && throws(PELGAISTI_CLOSED, [&] { office.close(); }));
+}
+
+// Sessions that go back while they wait: one is granted meanwhile, one becomes a victim, of one the request goes with the abort. One that
+// has retired keeps its locks until the office is closed.
+static void orphans_wait() {
+    pelgaisti::office office{4};
+    auto one = office.take(0);
+    CHECK(reply(*one, {op::begin}) == kind::began && reply(*one, {op::lock, mode::X, {7}}) == kind::granted);
+    {
+        auto two = office.take(1), three = office.take(2), four = office.take(3);
+        CHECK(reply(*two, {op::begin}) == kind::began && reply(*two, {op::lock, mode::X, {7}}) == kind::waiting);
+        CHECK(reply(*three, {op::begin}) == kind::began && reply(*three, {op::lock, mode::X, {8}}) == kind::granted);
+        three->publish({op::lock, mode::S, {7}});
+        CHECK(reply(*four, {op::begin}) == kind::began && reply(*four, {op::lock, mode::X, {9}}) == kind::granted);
+        four->retire();
+    }
+    // the third waits behind the second, and is the youngest on a cycle through the first
+    CHECK(reply(*one, {op::lock, mode::S, {8}}) == kind::waiting);
+    auto orphans = office.orphans();
+    CHECK(orphans.size() == 3 && orphans[1]->resume()->reply.kind == kind::waiting && reply(*orphans[1], {op::poll}) == kind::deadlock);
+    CHECK(orphans[1]->perform({op::abort})->reply.value == 1 && reply(*one, {op::poll}) == kind::clear);
+    CHECK(throws(PELGAISTI_RETIRED, [&] { static_cast<void>(orphans[2]->perform({op::abort})); }));
+    CHECK(one->request(2)->found.kind == PELGAISTI_FRESH);
+    orphans.clear();
+    CHECK(reply(*one, {op::commit}) == kind::committed && one->held(2, {7})->found == mode::X);
+    orphans = office.orphans();
+    CHECK(orphans[0]->perform({op::abort})->reply.value == 1);
+    CHECK(reply(*one, {op::begin}) == kind::began && reply(*one, {op::lock, mode::X, {7}}) == kind::granted);
+    CHECK(reply(*orphans[0], {op::begin}) == kind::began && reply(*orphans[0], {op::lock, mode::S, {7}}) == kind::waiting);
+    orphans.clear();
+    auto two = office.take(1);
+    const auto ended = two->perform({op::abort});
+    CHECK(ended->reply.kind == kind::aborted && ended->reply.value == 0 && one->request(2)->found.kind == 0);
+    two.reset(), one.reset();
+    const auto book = office.close();
+    CHECK(book->held(1, {7}) == mode::X && book->held(4, {9}) == mode::X);
+}
+
+// Threads that ask for orphans at the same time get each of them once between them, whether these are there or come back meanwhile.
+static void threads_share_the_orphans() {
+    constexpr std::size_t threads = 4, lost = 256;
+    for (int round = 0; round < 200; ++round) {
+        pelgaisti::office office{lost};
+        std::vector<pelgaisti::owned_session> all, found[threads];
+        for (std::size_t k = 0; k < lost; ++k) all.push_back(office.take(k));
+        std::atomic<bool> is_begun{false};
+        std::vector<std::thread> running;
+        for (auto &own : found)
+            running.emplace_back([&office, &is_begun, &own] {
+                while (!is_begun) continue;
+                for (int k = 0; k < 8; ++k)
+                    for (auto &it : office.orphans()) own.push_back(std::move(it));
+            });
+        if (round % 2 == 0) all.clear();
+        is_begun = true;
+        all.clear();
+        for (auto &it : running) it.join();
+        unsigned times[lost + 1] = {}, wrong = 0;
+        for (const auto &own : found)
+            for (const auto number : numbers(office, own)) ++times[number];
+        const auto left = office.orphans();
+        for (const auto number : numbers(office, left)) ++times[number];
+        for (std::size_t number = 1; number <= lost; ++number) wrong += times[number] != 1;
+        CHECK(wrong == 0);
+    }
+}
+
+// The mark is that of one transaction of one session, and the waker is called for that session. It ends nothing.
+static void marks_are_of_transactions() {
+    std::vector<std::uint32_t> woken;
+    const auto note = [](void *engine, std::uint32_t session) noexcept {
+        static_cast<std::vector<std::uint32_t> *>(engine)->push_back(session);
+    };
+    pelgaisti::office office{2, pelgaisti::waker{note, &woken}}, plain{1};
+    const auto first = office[0].perform({op::begin})->reply.value, second = office[1].perform({op::begin})->reply.value;
+    CHECK(!office.is_asked_to_end(1, first) && !office.is_asked_to_end(1, 0));
+    office.ask_to_end(1, first);
+    CHECK(woken == std::vector<std::uint32_t>{1} && office.is_asked_to_end(1, first));
+    CHECK(!office.is_asked_to_end(1, second) && !office.is_asked_to_end(2, second) && !office.is_asked_to_end(2, first));
+    CHECK(office[1].transaction(1)->found.number == first && reply(office[0], {op::abort}) == kind::aborted);
+    const auto third = office[0].perform({op::begin})->reply.value;
+    CHECK(!office.is_asked_to_end(1, third));
+    office.ask_to_end(1, third);
+    office.ask_to_end(1, first);  // late
+    CHECK(office.is_asked_to_end(1, third) && !office.is_asked_to_end(1, first));
+    office.ask_to_end(2, second);
+    CHECK(woken == (std::vector<std::uint32_t>{1, 1, 1, 2}) && office.is_asked_to_end(2, second));
+    plain.ask_to_end(1, 5);
+    CHECK(plain.is_asked_to_end(1, 5));
+    for (const std::uint32_t number : {0u, 3u, UINT32_MAX}) {
+        CHECK(throws(PELGAISTI_NO_SUCH_SESSION, [&] { office.ask_to_end(number, first); }));
+        CHECK(throws(PELGAISTI_NO_SUCH_SESSION, [&] { static_cast<void>(office.is_asked_to_end(number, first)); }));
+    }
+}
+
+// Where sessions sleep: how often each was woken and hasn't slept since.
+struct beds {
+    std::mutex guard;
+    std::condition_variable changed;
+    unsigned woken[4] = {};
+
+    static void wake(void *engine, std::uint32_t session) noexcept {
+        auto &it = *static_cast<beds *>(engine);
+        const std::lock_guard<std::mutex> lock(it.guard);
+        ++it.woken[session];
+        it.changed.notify_all();
+    }
+    void sleep(std::uint32_t session) {
+        std::unique_lock<std::mutex> lock(guard);
+        changed.wait(lock, [&] { return woken[session] > 0; });
+        --woken[session];
+    }
+};
+
+// Session 1 holds a database and thinks, 2 and 3 wait for it. 1 and 2 are asked to end, in either order and with no time between. 3 has
+// the database in the end.
+static void asked_sessions_obey() {
+    beds all;
+    pelgaisti::office office{3, pelgaisti::waker{beds::wake, &all}, 1024};
+    std::atomic<unsigned> wrong{0};
+    const auto work = [&](std::uint32_t number, std::uint64_t transaction) {
+        auto &session = office[number - 1];
+        auto told = reply(session, {op::lock, mode::X, {1}});
+        const auto is_asked = [&] { return office.is_asked_to_end(number, transaction); };
+        for (; (told == kind::waiting || number == 1) && !is_asked(); told = reply(session, {op::poll})) all.sleep(number);
+        const bool ends = is_asked();
+        wrong += reply(session, {ends ? op::abort : op::commit}) != (ends ? kind::aborted : kind::committed);
+        wrong += (ends && number == 3) || (!ends && number == 1);
+    };
+    for (int round = 0; round < 200; ++round) {
+        std::uint64_t transactions[3];
+        for (std::size_t k = 0; k < 3; ++k) transactions[k] = office[k].perform({op::begin})->reply.value;
+        CHECK(reply(office[0], {op::lock, mode::X, {1}}) == kind::granted);
+        std::vector<std::thread> running;
+        for (std::uint32_t k = 0; k < 3; ++k) running.emplace_back(work, k + 1, transactions[k]);
+        const std::uint32_t first = 1 + static_cast<std::uint32_t>(round) % 2;
+        office.ask_to_end(first, transactions[first - 1]);
+        office.ask_to_end(3 - first, transactions[2 - first]);
+        for (auto &it : running) it.join();
+    }
+    CHECK(wrong == 0 && office.close()->locks().empty());
+}
+
 // Offices that aren't closed: with a pending call, with one that is served and not collected, after a close that failed, and one that an
 // exception leaves; ASan finds what they leak.
 static void offices_are_left() {
@@ -330,7 +535,8 @@ static void names() {
 }
 
 int main() {
-    for (const auto test : {books, paths_tell, programs, tries, offices, wakers, a_task_throws, offices_are_left, sizes, names}) {
+    for (const auto test : {books, paths_tell, programs, tries, offices, wakers, a_task_throws, sessions_have_owners, orphans_wait,
+                            threads_share_the_orphans, marks_are_of_transactions, asked_sessions_obey, offices_are_left, sizes, names}) {
         try {
             test();
         } catch (const pelgaisti::error &error) {

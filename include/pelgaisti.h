@@ -696,7 +696,7 @@ pelgaisti_status pelgaisti_session_mark(pelgaisti_session *session, uint64_t *ma
    NULL, SAME, CLOSED (one of the handles), OTHER_OFFICE. */
 pelgaisti_status pelgaisti_session_hear(pelgaisti_session *session, pelgaisti_session *other);
 
-/* Retires the session: it publishes no more calls. Its transaction and its locks stay as they are.
+/* Retires the session: it publishes no more calls. Its transaction and its locks stay as they are, until the office is closed.
    NULL, CLOSED, RETIRED, PENDING. */
 pelgaisti_status pelgaisti_session_retire(pelgaisti_session *session);
 

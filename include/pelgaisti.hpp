@@ -15,12 +15,15 @@
 #ifndef PELGAISTI_HPP
 #define PELGAISTI_HPP
 #include "pelgaisti.h"
+#include <algorithm>
+#include <atomic>
 #include <cstdint>
 #include <cstdlib>
 #include <exception>
 #include <initializer_list>
 #include <iterator>
 #include <memory>
+#include <mutex>
 #include <optional>
 #include <type_traits>
 #include <utility>
@@ -310,20 +313,36 @@ private:
 };
 static_assert(sizeof(session) == sizeof(pelgaisti_session), "an array of sessions is an array of handles");
 
+// Gives a session back to its office.
+class goes_back {
+    friend class office;
+    class office *to_ = nullptr;
+public:
+    void operator()(session *one) const noexcept;
+};
+// A session with one owner, by office::take or office::orphans. When this is destroyed, also by an exception, the session goes back to its
+// office with its transaction, its locks, its waiting request and its pending call as they are. It is destroyed before its office.
+using owned_session = std::unique_ptr<session, goes_back>;
+
 // An office with all its sessions, which no thread uses any more when it is destroyed. Without a close its lock table is freed then,
 // pending calls or not, by passes that still wake: so an exception that leaves the office's scope frees it too, if the threads that use
-// its sessions are joined before.
+// its sessions are joined before. All its calls but close() may be made by several threads at once.
 class office : pinned {
+    enum class place : unsigned char { fresh, owned, back };
     const pelgaisti::waker waker_{nullptr, nullptr};
     std::unique_ptr<session[]> sessions_;
     size_t count_, handed_in_ = 0;
+    // of each session where it is, which the mutex guards, and the newest transaction that somebody has asked to end, or 0
+    std::mutex guard_;
+    std::unique_ptr<place[]> places_{new place[count_]()};
+    std::unique_ptr<std::atomic<uint64_t>[]> asked_{new std::atomic<uint64_t>[count_]()};
 public:
     // Of the history at most the newest `bound` entries are kept in memory.
     explicit office(size_t sessions, uint64_t bound = UINT64_MAX) : sessions_(closed(sessions)), count_(sessions) {
         check(pelgaisti_office_open_keeping(&sessions_[0].handle_, sessions, bound));
     }
     // An office whose threads sleep while they wait for a lock: each call of its sessions that makes a pass calls the waker, of which
-    // the office keeps a copy, for each session whose wait the pass has ended.
+    // the office keeps a copy, for each session whose wait the pass has ended. ask_to_end calls it, too.
     office(size_t sessions, const pelgaisti::waker &wakes, uint64_t bound = UINT64_MAX)
         : waker_(wakes), sessions_(closed(sessions)), count_(sessions) {
         check(pelgaisti_office_open_waking(&sessions_[0].handle_, sessions, bound, &waker_));
@@ -342,11 +361,50 @@ public:
     }
     session &operator[](size_t index) { return sessions_[index]; }
     size_t size() const { return count_; }
-    // Closes the office, and gives the lock table with the one history. PENDING: one of its sessions has a call pending, and nothing
-    // has changed. NO_MEMORY: some sessions may be closed already, and another close goes on.
+    // The number of one of its sessions, from 1 on.
+    uint32_t number(const session &one) const { return static_cast<uint32_t>(&one - &sessions_[0]) + 1; }
+    // The session at the index, for one owner; empty if another owner has it. An engine that takes sessions uses none by its index.
+    [[nodiscard]] owned_session take(size_t index) {
+        if (index >= count_) fail(error(PELGAISTI_NO_SUCH_SESSION));
+        const std::lock_guard<std::mutex> lock(guard_);
+        return places_[index] == place::owned ? owned_session() : own(index);
+    }
+    // The sessions that went back to the office and weren't handed out since, by number: each is handed out once, also if several threads
+    // ask. An orphan is as it went back:
+    // - It may have a pending call, which other sessions' passes serve meanwhile, whatever it asks. resume() tells the answer; until then
+    //   it publishes no other call (PENDING).
+    // - It may have a transaction. An abort ends it, also if its request waits or it is a victim; it is refused if there is none.
+    // - A request that waits stays in its queue meanwhile. When the wait ends, the office's waker is called for the session, with nobody
+    //   there to wake. So the next owner may find a wake-up that isn't its own, and polls.
+    // - If it has retired, it publishes no more calls, so its transaction ends only with the office.
+    [[nodiscard]] std::vector<owned_session> orphans() {
+        std::vector<owned_session> found;
+        const std::lock_guard<std::mutex> lock(guard_);
+        found.reserve(how_many(place::back));
+        for (size_t k = 0; k < count_; ++k)
+            if (places_[k] == place::back) found.push_back(own(k));
+        return found;
+    }
+    // Asks that this transaction of session `whose` end: leaves a mark, and calls the waker, if there is one, for the session, on this
+    // thread, whether the session waits or not. It ends nothing: only a session's own calls give its locks back. Whoever has the session
+    // looks for the mark before each call and when it is woken, undoes its work and aborts, also while its request waits. The mark is the
+    // transaction's: who asks too late asks nothing of the session's next one.
+    void ask_to_end(uint32_t whose, uint64_t transaction) {
+        auto &asked = asked_of(whose);
+        uint64_t before = asked.load();
+        while (before < transaction && !asked.compare_exchange_weak(before, transaction)) {}  // they have rising numbers
+        if (waker_.wake != nullptr) waker_.wake(waker_.engine, whose);
+    }
+    // Whether somebody has asked that this transaction of session `whose` end. It reads an atomic, and nothing of the lock table.
+    [[nodiscard]] bool is_asked_to_end(uint32_t whose, uint64_t transaction) const {
+        return transaction != 0 && asked_of(whose).load() == transaction;
+    }
+    // Closes the office, and gives the lock table with the one history. MISSING: an owner has one of its sessions. PENDING: one of them
+    // has a call pending. With both nothing has changed. NO_MEMORY: some sessions may be closed already, and another close goes on.
     std::unique_ptr<book> close() {
         std::unique_ptr<book> made(new book);
         pelgaisti_answer unread;
+        if (std::lock_guard<std::mutex> lock(guard_); how_many(place::owned) > 0) fail(error(PELGAISTI_MISSING));
         for (size_t k = 0; k < count_; ++k)  // a look without turns changes nothing
             if (pelgaisti_session_perform(&sessions_[k].handle_, nullptr, 0, &unread) == PELGAISTI_NOT_SERVED)
                 fail(error(PELGAISTI_PENDING));
@@ -361,6 +419,22 @@ private:
         if (count < 1 || count > PELGAISTI_MAX_SESSIONS) fail(error(PELGAISTI_NO_SUCH_COUNT));
         return new session[count];
     }
+    friend class goes_back;
+    owned_session own(size_t index) {
+        goes_back by;
+        by.to_ = this;
+        places_[index] = place::owned;
+        return owned_session(&sessions_[index], by);
+    }
+    size_t how_many(place are) const { return static_cast<size_t>(std::count(&places_[0], &places_[0] + count_, are)); }
+    std::atomic<uint64_t> &asked_of(uint32_t whose) const {
+        if (whose < 1 || whose > count_) fail(error(PELGAISTI_NO_SUCH_SESSION));
+        return asked_[whose - 1];
+    }
 };
+inline void goes_back::operator()(session *one) const noexcept {
+    const std::lock_guard<std::mutex> lock(to_->guard_);
+    to_->places_[to_->number(*one) - 1] = office::place::back;
+}
 }  // namespace pelgaisti
 #endif

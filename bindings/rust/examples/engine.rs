@@ -61,6 +61,11 @@ fn ask(session: &mut Session, call: &Call) -> Reply {
     session.perform(call, u64::MAX).expect("memory for a call").reply
 }
 
+/// Begins or ends a transaction, which is refused nowhere here.
+fn make(session: &mut Session, call: &Call) {
+    assert!(!matches!(ask(session, call), Reply::Refused(_)));
+}
+
 /// Sleeps until the wait of the session's request has ended, and asks how it has ended. After the limit it takes the request
 /// back.
 fn end_wait(session: &mut Session, beds: &Beds, limit: Duration) -> Reply {
@@ -100,8 +105,8 @@ fn do_without(sessions: &mut [Session], beds: &Beds) {
     let [holder, other, ..] = sessions else {
         panic!("two sessions")
     };
-    ask(holder, &Call::Begin);
-    ask(other, &Call::Begin);
+    make(holder, &Call::Begin);
+    make(other, &Call::Begin);
     assert_eq!(ask(holder, &table), Reply::Granted(Mode::X));
     assert_eq!(ask(other, &table), Reply::Refused(Refusal::WouldWait));
     assert!(!lock(other, beds, Mode::S, &[0], Duration::from_millis(20)));
@@ -111,10 +116,10 @@ fn do_without(sessions: &mut [Session], beds: &Beds) {
 
 /// One transfer. Whether it was committed.
 fn transfer(session: &mut Session, beds: &Beds, accounts: &Tables, from: (u32, u32), to: (u32, u32)) -> bool {
-    ask(session, &Call::Begin);
+    make(session, &Call::Begin);
     for (table, account) in [from, to] {
         if !lock(session, beds, Mode::X, &[table, account], Duration::from_secs(60)) {
-            ask(session, &Call::Abort);
+            make(session, &Call::Abort);
             return false;
         }
     }
@@ -123,7 +128,7 @@ fn transfer(session: &mut Session, beds: &Beds, accounts: &Tables, from: (u32, u
         let it = &accounts[table as usize][account as usize];
         it.store(it.load(Ordering::Relaxed) + sum, Ordering::Relaxed);
     }
-    ask(session, &Call::Commit);
+    make(session, &Call::Commit);
     true
 }
 

@@ -100,7 +100,7 @@ impl Book {
     ///
     ///     # use pelgaisti::{Book, Call, Mode, Reply, Resource};
     ///     let mut book = Book::open(1)?;
-    ///     book.serve(1, &Call::Begin)?;
+    ///     let _ = book.serve(1, &Call::Begin)?;
     ///     let (mut level, mut ended) = (0, Vec::new());
     ///     let page = Resource::new(&[7, 2, 40]).unwrap();
     ///     assert_eq!(book.lock_path(1, page, Mode::X, &mut level, &mut ended)?, Some(Reply::Granted(Mode::X)));
@@ -199,11 +199,11 @@ impl Book {
     ///     let mut book = Book::open(2)?;
     ///     let database = Resource::new(&[7]).unwrap();
     ///     for session in 1..=2 {
-    ///         book.serve(session, &Call::Begin)?;
-    ///         book.serve(session, &Call::Lock(database, Mode::X))?;
+    ///         let _ = book.serve(session, &Call::Begin)?;
+    ///         let _ = book.serve(session, &Call::Lock(database, Mode::X))?;
     ///     }
     ///     assert_eq!(book.ended(), []);
-    ///     book.serve(1, &Call::Commit)?;
+    ///     let _ = book.serve(1, &Call::Commit)?;
     ///     assert_eq!(book.ended(), [2]);
     ///     # Ok::<(), pelgaisti::Error>(())
     pub fn ended(&self) -> Vec<u32> {
@@ -246,7 +246,7 @@ impl Book {
     ///     # use pelgaisti::{Book, Call};
     ///     let mut book = Book::open(1)?;
     ///     assert_eq!(book.transaction(1)?, None);
-    ///     book.serve(1, &Call::Begin)?;
+    ///     let _ = book.serve(1, &Call::Begin)?;
     ///     assert_eq!(book.transaction(1)?.unwrap().number, 1);
     ///     # Ok::<(), pelgaisti::Error>(())
     pub fn transaction(&self, session: u32) -> Result<Option<Transaction>, Error> {
@@ -273,8 +273,8 @@ impl Book {
     ///     # use pelgaisti::{Book, Call, ClaimKind, Mode, Resource};
     ///     let mut book = Book::open(2)?;
     ///     for session in 1..=2 {
-    ///         book.serve(session, &Call::Begin)?;
-    ///         book.serve(session, &Call::Lock(Resource::new(&[7]).unwrap(), Mode::X))?;
+    ///         let _ = book.serve(session, &Call::Begin)?;
+    ///         let _ = book.serve(session, &Call::Lock(Resource::new(&[7]).unwrap(), Mode::X))?;
     ///     }
     ///     let locks = book.locks()?;
     ///     assert_eq!((locks[0].session, locks[0].kind), (1, ClaimKind::Held));
@@ -334,7 +334,7 @@ impl Book {
     ///
     ///     # use pelgaisti::{Book, Call, Reply};
     ///     let mut book = Book::open(1)?;
-    ///     book.serve(1, &Call::Begin)?;
+    ///     let _ = book.serve(1, &Call::Begin)?;
     ///     assert_eq!(book.history(0, 10)?[0].reply, Reply::Began(1));
     ///     # Ok::<(), pelgaisti::Error>(())
     pub fn history(&self, first: u64, room: usize) -> Result<Vec<Entry>, Error> {

@@ -204,6 +204,7 @@ impl Call {
 }
 
 /// The reply to a call.
+#[must_use = "the reply may be Waiting, or a refusal"]
 #[derive(Clone, Copy, Debug, PartialEq, Eq, Hash)]
 pub enum Reply {
     /// The transaction's number; the first is 1.

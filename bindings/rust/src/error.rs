@@ -10,7 +10,7 @@ use std::fmt;
 pub enum Error {
     /// Memory was refused. The same call may be made again.
     NoMemory,
-    /// The book has no session with this number.
+    /// The book, or the office, has no session with this number.
     NoSuchSession,
     /// The number of sessions isn't from 1 to 1024.
     NoSuchCount,

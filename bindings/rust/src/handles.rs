@@ -6,6 +6,7 @@ use crate::lists::list_for;
 use crate::waker::AnyWaker;
 use std::cell::UnsafeCell;
 use std::mem;
+use std::sync::atomic::{AtomicU64, Ordering};
 use std::sync::{Arc, Mutex, MutexGuard, PoisonError};
 
 /// So many handles that aren't open yet.
@@ -20,6 +21,8 @@ pub(crate) struct Handles {
     all: Box<[UnsafeCell<RawHandle>]>,
     // the indices of the sessions that were dropped, with room for all, so that a drop asks for no memory
     dropped: Mutex<Vec<usize>>,
+    // of each session the newest transaction that somebody has asked to end, 0 if there is none
+    asked: Vec<AtomicU64>,
     // behind the handles: what the library has of it is read by calls on them
     waker: Option<Arc<AnyWaker>>,
 }
@@ -36,9 +39,12 @@ impl Handles {
         if sessions == 0 || sessions > MAX_SESSIONS {
             return Err(Error::NoSuchCount);
         }
+        let mut asked = list_for(sessions)?;
+        asked.resize_with(sessions, AtomicU64::default);
         let handles = Arc::new(Handles {
             all: closed(sessions)?,
             dropped: Mutex::new(list_for(sessions)?),
+            asked,
             waker,
         });
         // of the whole slice, not of its first handle
@@ -59,6 +65,21 @@ impl Handles {
     /// The indices of the dropped sessions. What panicked beside them has left them whole.
     pub(crate) fn dropped(&self) -> MutexGuard<'_, Vec<usize>> {
         self.dropped.lock().unwrap_or_else(PoisonError::into_inner)
+    }
+
+    /// Marks a transaction of the session with this index, and wakes the session. Whether there is such a session.
+    pub(crate) fn ask_to_end(&self, index: usize, transaction: u64) -> bool {
+        // a session's transactions have rising numbers: who asks late, of an earlier one, doesn't take the mark of a later one away
+        let before = self.asked.get(index).map(|it| it.fetch_max(transaction, Ordering::SeqCst));
+        if let (Some(_), Some(waker)) = (before, &self.waker) {
+            waker.wake(index + 1);
+        }
+        before.is_some()
+    }
+
+    /// The transaction of the session that was asked to end last, 0 if none was.
+    pub(crate) fn asked(&self, index: usize) -> u64 {
+        self.asked[index].load(Ordering::SeqCst)
     }
 
     /// Closes the office, unless it is closed, and frees its lock table. Whether nothing of it is left.

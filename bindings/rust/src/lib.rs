@@ -11,8 +11,8 @@
 //!
 //!     let mut book = Book::open(2)?;
 //!     let database = Resource::new(&[7]).unwrap();
-//!     book.serve(1, &Call::Begin)?;
-//!     book.serve(2, &Call::Begin)?;
+//!     assert_eq!(book.serve(1, &Call::Begin)?, Reply::Began(1));
+//!     assert_eq!(book.serve(2, &Call::Begin)?, Reply::Began(2));
 //!     assert_eq!(book.serve(1, &Call::Lock(database, Mode::X))?, Reply::Granted(Mode::X));
 //!     assert_eq!(book.serve(2, &Call::Lock(database, Mode::S))?, Reply::Waiting);
 //!     assert_eq!(book.serve(1, &Call::Commit)?, Reply::Committed(1));
@@ -34,6 +34,8 @@ mod handles;
 mod lists;
 mod looks;
 mod office;
+mod operator;
+mod orphans;
 mod programs;
 mod waker;
 
@@ -43,4 +45,40 @@ pub use claims::{Claim, ClaimKind, Holder, Transaction};
 pub use error::Error;
 pub use looks::Seen;
 pub use office::{Answer, NotClosed, Office, Pass, Posted, Session};
+pub use operator::Operator;
 pub use programs::{Program, ProgramAnswer, Start};
+
+/// A compiler warns of a reply or an answer that is ignored, and of orphans; not of one that is ignored by `let _`.
+///
+/// ```compile_fail
+/// #![deny(unused_must_use)]
+/// pelgaisti::Book::open(1).unwrap().serve(1, &pelgaisti::Call::Begin).unwrap();
+/// ```
+///
+/// ```compile_fail
+/// #![deny(unused_must_use)]
+/// pelgaisti::Office::open(1).unwrap()[0].perform(&pelgaisti::Call::Begin, 1).unwrap();
+/// ```
+///
+/// ```compile_fail
+/// #![deny(unused_must_use)]
+/// let begin = pelgaisti::Program::start(pelgaisti::Start::Begins);
+/// pelgaisti::Book::open(1).unwrap().run(1, &begin, &mut vec![]).unwrap();
+/// ```
+///
+/// ```compile_fail
+/// #![deny(unused_must_use)]
+/// pelgaisti::Office::orphans(&pelgaisti::Office::open(1).unwrap()[0]);
+/// ```
+///
+/// ```
+/// #![deny(unused_must_use)]
+/// use pelgaisti::{Book, Call, Office, Program, Start};
+/// let (mut book, mut sessions) = (Book::open(1).unwrap(), Office::open(1).unwrap());
+/// let _ = book.serve(1, &Call::Begin).unwrap();
+/// let _ = book.run(1, &Program::start(Start::Commits), &mut vec![]).unwrap();
+/// let _ = sessions[0].perform(&Call::Begin, 1).unwrap();
+/// let _ = Office::orphans(&sessions[0]);
+/// ```
+#[cfg(doctest)]
+struct IgnoredReplies;

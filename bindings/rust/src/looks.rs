@@ -24,8 +24,8 @@ impl Session {
     ///     # use pelgaisti::{Call, Mode, Office, Resource};
     ///     let mut sessions = Office::open(2)?;
     ///     let database = Resource::new(&[7]).unwrap();
-    ///     sessions[0].perform(&Call::Begin, u64::MAX)?;
-    ///     sessions[0].perform(&Call::Lock(database, Mode::X), u64::MAX)?;
+    ///     let _ = sessions[0].perform(&Call::Begin, u64::MAX)?;
+    ///     let _ = sessions[0].perform(&Call::Lock(database, Mode::X), u64::MAX)?;
     ///     let seen = sessions[1].held(1, database)?;
     ///     assert_eq!((seen.found, seen.length), (Mode::X, 2));
     ///     # Ok::<(), pelgaisti::Error>(())
@@ -41,7 +41,7 @@ impl Session {
     ///
     ///     # use pelgaisti::{Call, Office};
     ///     let mut sessions = Office::open(2)?;
-    ///     sessions[0].perform(&Call::Begin, u64::MAX)?;
+    ///     let _ = sessions[0].perform(&Call::Begin, u64::MAX)?;
     ///     assert_eq!(sessions[1].transaction(1)?.found.unwrap().number, 1);
     ///     assert_eq!(sessions[1].transaction(2)?.found, None);
     ///     # Ok::<(), pelgaisti::Error>(())
@@ -98,8 +98,8 @@ impl Session {
     ///     # use pelgaisti::{Call, Mode, Office, Resource};
     ///     let mut sessions = Office::open(2)?;
     ///     for session in &mut sessions {
-    ///         session.perform(&Call::Begin, u64::MAX)?;
-    ///         session.perform(&Call::Lock(Resource::new(&[7]).unwrap(), Mode::X), u64::MAX)?;
+    ///         let _ = session.perform(&Call::Begin, u64::MAX)?;
+    ///         let _ = session.perform(&Call::Lock(Resource::new(&[7]).unwrap(), Mode::X), u64::MAX)?;
     ///     }
     ///     assert_eq!(sessions[0].blockers(2)?.found, [1]);
     ///     assert_eq!(sessions[0].locks()?.found.len(), 2);

@@ -16,8 +16,9 @@ pub enum Office {}
 
 /// One session of an office. It may go to another thread, and is used by one at a time.
 ///
-/// A session that is dropped goes back to its office with its transaction, its locks and its pending call as they are, also by a
-/// panic. [`Office::orphans`] hands it out again. If all sessions of an office are dropped, its lock table is dropped with the last.
+/// A session that is dropped goes back to its office with its transaction, its locks, its waiting request and its pending call as they
+/// are, also by a panic. [`Office::orphans`] hands it out again. If all sessions of an office are dropped, its lock table is dropped
+/// with the last.
 pub struct Session {
     handles: Arc<Handles>,
     index: usize,
@@ -46,6 +47,7 @@ pub struct Pass {
 }
 
 /// The answer to a published call.
+#[must_use = "the reply may be Waiting, or a refusal"]
 #[derive(Clone, Copy, Debug, PartialEq, Eq, Hash)]
 pub struct Answer {
     /// The place of the call in the history.
@@ -80,7 +82,7 @@ impl Office {
     ///     # use pelgaisti::{Call, Office};
     ///     let mut sessions = Office::open_keeping(1, 2)?;
     ///     for call in [Call::Begin, Call::Poll, Call::Commit] {
-    ///         sessions[0].perform(&call, u64::MAX)?;
+    ///         let _ = sessions[0].perform(&call, u64::MAX)?;
     ///     }
     ///     let book = Office::close(sessions).ok().unwrap();
     ///     assert_eq!((book.length(), book.first_kept()), (3, 1));
@@ -95,7 +97,7 @@ impl Office {
     /// Each call of one of the sessions that makes a pass ([`Session::serve`], [`Session::perform`], [`Session::resume`],
     /// [`Session::lock_path`]) calls `wake` with the number of each session whose wait the pass has ended, once: a waiting request
     /// of the session was granted, or its transaction became a deadlock's victim. It does so after the pass, before it returns,
-    /// whatever it returns. No call lacks memory for whom to wake: this one takes it.
+    /// whatever it returns. No call lacks memory for whom to wake: this one takes it. [`crate::Operator::ask_to_end`] calls `wake`, too.
     ///
     /// `wake` runs on the thread that made the pass, and on several threads at a time if several make passes. It may be called for
     /// a session that is awake, also for the one whose call made the pass, and more than once: what a thread sleeps on has to keep
@@ -113,10 +115,10 @@ impl Office {
     ///     let (woken, told) = mpsc::channel();
     ///     let mut sessions = Office::open_waking(2, u64::MAX, move |session| woken.send(session).unwrap())?;
     ///     for session in &mut sessions {
-    ///         session.perform(&Call::Begin, u64::MAX)?;
-    ///         session.perform(&Call::Lock(Resource::new(&[7]).unwrap(), Mode::X), u64::MAX)?;
+    ///         let _ = session.perform(&Call::Begin, u64::MAX)?;
+    ///         let _ = session.perform(&Call::Lock(Resource::new(&[7]).unwrap(), Mode::X), u64::MAX)?;
     ///     }
-    ///     sessions[0].perform(&Call::Commit, u64::MAX)?;
+    ///     let _ = sessions[0].perform(&Call::Commit, u64::MAX)?;
     ///     assert_eq!(told.try_recv(), Ok(2));
     ///     # Ok::<(), pelgaisti::Error>(())
     pub fn open_waking(
@@ -133,28 +135,6 @@ impl Office {
         let mut opened = list_for(sessions)?;
         opened.extend((0..sessions).map(|index| Session::of(&handles, index)));
         Ok(opened)
-    }
-
-    /// The sessions of this session's office that were dropped and not handed out since, by number. Each still has its transaction,
-    /// its locks and its pending call, if there are such: [`Session::resume`] finishes the call, and [`Call::Abort`] ends the
-    /// transaction.
-    ///
-    ///     # use pelgaisti::{Call, Mode, Office, Reply, Resource};
-    ///     let mut sessions = Office::open(2)?;
-    ///     let mut lost = sessions.pop().unwrap();
-    ///     lost.perform(&Call::Begin, u64::MAX)?;
-    ///     lost.perform(&Call::Lock(Resource::new(&[7]).unwrap(), Mode::X), u64::MAX)?;
-    ///     drop(lost);
-    ///     let mut orphans = Office::orphans(&sessions[0]);
-    ///     assert_eq!(orphans[0].number(), 2);
-    ///     assert_eq!(orphans[0].perform(&Call::Abort, u64::MAX)?.reply, Reply::Aborted(1));
-    ///     sessions.append(&mut orphans);
-    ///     assert!(Office::close(sessions).is_ok());
-    ///     # Ok::<(), pelgaisti::Error>(())
-    pub fn orphans(session: &Session) -> Vec<Session> {
-        let mut dropped = session.handles.dropped();
-        dropped.sort_unstable();
-        dropped.drain(..).map(|index| Session::of(&session.handles, index)).collect()
     }
 
     /// Closes the office of these sessions, each once, in any order, with no call pending, and returns the lock table with the
@@ -211,13 +191,17 @@ impl Drop for Session {
 }
 
 impl Session {
-    fn of(handles: &Arc<Handles>, index: usize) -> Session {
+    pub(crate) fn of(handles: &Arc<Handles>, index: usize) -> Session {
         Session {
             handles: handles.clone(),
             index,
             is_handed_in: false,
             alone: PhantomData,
         }
+    }
+
+    pub(crate) fn handles(&self) -> &Arc<Handles> {
+        &self.handles
     }
 
     /// The handle, at its place as long as the session lives. A session that has it by `&mut` uses it alone.
@@ -322,7 +306,7 @@ impl Session {
     ///
     ///     # use pelgaisti::{Call, Mode, Office, Reply, Resource};
     ///     let mut sessions = Office::open(2)?;
-    ///     sessions[0].perform(&Call::Begin, u64::MAX)?;
+    ///     let _ = sessions[0].perform(&Call::Begin, u64::MAX)?;
     ///     let mut level = 0;
     ///     let page = Resource::new(&[7, 2, 40]).unwrap();
     ///     let answer = sessions[0].lock_path(page, Mode::S, &mut level, u64::MAX)?.unwrap();
@@ -348,7 +332,7 @@ impl Session {
     ///
     ///     # use pelgaisti::{Call, Office};
     ///     let mut sessions = Office::open(1)?;
-    ///     sessions[0].perform(&Call::Begin, u64::MAX)?;
+    ///     let _ = sessions[0].perform(&Call::Begin, u64::MAX)?;
     ///     let (first, entries) = sessions[0].take_history(64)?;
     ///     assert_eq!((first, entries.len(), entries[0].call), (0, 1, Call::Begin));
     ///     assert_eq!(sessions[0].take_history(64)?.0, 1);
@@ -394,7 +378,7 @@ impl Session {
         done(unsafe { ffi::pelgaisti_session_hear(self.raw(), other.raw()) })
     }
 
-    /// Retires the session: it publishes no more calls. Its transaction and its locks stay as they are.
+    /// Retires the session: it publishes no more calls. Its transaction and its locks stay as they are, until the office is closed.
     ///
     ///     # use pelgaisti::{Call, Error, Office};
     ///     let mut sessions = Office::open(1)?;

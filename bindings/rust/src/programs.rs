@@ -117,6 +117,7 @@ impl Program {
 }
 
 /// The answer to a program.
+#[must_use = "the program may have stopped at a reply, or lacked memory"]
 #[derive(Clone, Copy)]
 pub struct ProgramAnswer {
     raw: RawProgramAnswer,

@@ -41,22 +41,27 @@ impl AnyWaker {
     }
 }
 
-/// Calls the closure for a session. If it panics, the panic ends here, so that the others are woken and the call that made the pass
-/// returns its answer.
+impl<F: Fn(usize) + Send + Sync + ?Sized> Waker<F> {
+    /// Calls the closure for a session, unless [`AnyWaker::end`] was called. If the closure panics, the panic ends here.
+    pub(crate) fn wake(&self, session: usize) {
+        if self.is_over.load(Ordering::Relaxed) {
+            return;
+        }
+        if let Err(panic) = panic::catch_unwind(AssertUnwindSafe(|| (self.wake)(session))) {
+            // what it was raised with may panic itself when it is dropped
+            if let Err(another) = panic::catch_unwind(AssertUnwindSafe(|| drop(panic))) {
+                mem::forget(another);
+            }
+        }
+    }
+}
+
+/// Calls the closure for a session. No panic leaves it, so that the others are woken and the call that made the pass returns its answer.
 ///
 /// # Safety
 ///
 /// `engine` is the place of a `Waker<F>` that lives.
 unsafe extern "C" fn wake_one<F: Fn(usize) + Send + Sync>(engine: *mut c_void, session: u32) {
     // SAFETY: the caller says so, and nobody has the waker by `&mut`
-    let waker = unsafe { &*engine.cast::<Waker<F>>() };
-    if waker.is_over.load(Ordering::Relaxed) {
-        return;
-    }
-    if let Err(panic) = panic::catch_unwind(AssertUnwindSafe(|| (waker.wake)(session as usize))) {
-        // what it was raised with may panic itself when it is dropped
-        if let Err(another) = panic::catch_unwind(AssertUnwindSafe(|| drop(panic))) {
-            mem::forget(another);
-        }
-    }
+    unsafe { &*engine.cast::<Waker<F>>() }.wake(session as usize);
 }

@@ -87,7 +87,7 @@ fn books_write_the_stored_histories() {
     for (trace, history) in examples() {
         let mut book = Book::open(256).unwrap();
         for (session, call) in calls(&trace) {
-            book.serve(session, &call).unwrap();
+            let _ = book.serve(session, &call).unwrap();
         }
         assert_eq!(text(&book.history(0, usize::MAX).unwrap()), history);
     }
@@ -101,7 +101,7 @@ fn offices_write_the_stored_histories() {
             let session = &mut sessions[number as usize - 1];
             session.publish(&call).unwrap();
             assert!(!session.serve().unwrap().starved);
-            session.collect().unwrap();
+            let _ = session.collect().unwrap();
         }
         let book = Office::close(sessions).ok().unwrap();
         assert_eq!(text(&book.history(0, usize::MAX).unwrap()), history);

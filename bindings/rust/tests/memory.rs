@@ -52,9 +52,9 @@ fn reply(session: &mut Session, call: Call) -> Reply {
 fn book_of_readers() -> Book {
     let mut book = Book::open(300).unwrap();
     for session in 1..=300 {
-        book.serve(session, &Call::Begin).unwrap();
+        let _ = book.serve(session, &Call::Begin).unwrap();
         let mode = if session == 300 { Mode::X } else { Mode::S };
-        book.serve(session, &Call::Lock(database(), mode)).unwrap();
+        let _ = book.serve(session, &Call::Lock(database(), mode)).unwrap();
     }
     book
 }
@@ -76,12 +76,12 @@ fn a_room_takes_no_more_than_there_is() {
     for length in [0, 1, 256, 257, 1000] {
         let mut sessions = Office::open(2).unwrap();
         for _ in 0..length {
-            reply(&mut sessions[0], Call::Poll);
+            let _ = reply(&mut sessions[0], Call::Poll);
         }
         let (first, entries) = sessions[1].take_history(usize::MAX).unwrap();
         assert_eq!((first, entries.len()), (0, length));
         assert_eq!(sessions[0].take_history(usize::MAX), Ok((length as u64, vec![])));
-        reply(&mut sessions[0], Call::Poll);
+        let _ = reply(&mut sessions[0], Call::Poll);
         assert_eq!(sessions[1].take_history(257).unwrap().1.len(), 1);
     }
 }
@@ -119,8 +119,8 @@ fn an_office_goes_on_where_memory_is_refused() {
 
     let mut sessions = Office::open(300).unwrap();
     for (index, session) in sessions.iter_mut().enumerate() {
-        reply(session, Call::Begin);
-        reply(session, Call::Lock(database(), if index == 299 { Mode::X } else { Mode::S }));
+        let _ = reply(session, Call::Begin);
+        let _ = reply(session, Call::Lock(database(), if index == 299 { Mode::X } else { Mode::S }));
     }
     let session = &mut sessions[0];
     assert_eq!(refused(|| session.holders(database())), Err(Error::NoMemory));

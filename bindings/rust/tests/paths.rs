@@ -17,7 +17,7 @@ fn held(other: &mut Session, numbers: &[u32]) -> Mode {
 fn a_path_takes_no_pending_call() {
     let mut sessions = Office::open(2).unwrap();
     let [one, other] = &mut sessions[..] else { panic!() };
-    one.perform(&Call::Begin, 9).unwrap();
+    let _ = one.perform(&Call::Begin, 9).unwrap();
     assert_eq!(one.perform(&Call::Lock(resource(&[1]), Mode::X), 0), Err(Error::NotServed));
     let mut level = 0;
     for is_served in [false, true] {
@@ -47,13 +47,13 @@ fn a_path_without_turns_goes_on() {
     assert_eq!(one.resume(9).unwrap().reply, refused);
     assert_eq!((one.lock_path(page, Mode::X, &mut level, 9).unwrap().unwrap().reply, level), (refused, 0));
 
-    one.perform(&Call::Begin, 9).unwrap();
-    other.perform(&Call::Begin, 9).unwrap();
-    other.perform(&Call::Lock(resource(&[7]), Mode::S), 9).unwrap();
+    let _ = one.perform(&Call::Begin, 9).unwrap();
+    let _ = other.perform(&Call::Begin, 9).unwrap();
+    let _ = other.perform(&Call::Lock(resource(&[7]), Mode::S), 9).unwrap();
     assert_eq!(one.lock_path(page, Mode::X, &mut level, 0), Err(Error::NotServed));
     assert_eq!(one.lock_path(page, Mode::X, &mut level, 9), Err(Error::Pending));
     assert_eq!(one.resume(9).unwrap().reply, Reply::Waiting);
-    other.perform(&Call::Commit, 9).unwrap();
+    let _ = other.perform(&Call::Commit, 9).unwrap();
     assert_eq!(one.perform(&Call::Poll, 9).unwrap().reply, Reply::Clear);
     // the first level once more, and of the second one the call is left
     assert_eq!(one.lock_path(resource(&[7]), Mode::IX, &mut level, 9).unwrap().unwrap().reply, Reply::Granted(Mode::IX));
@@ -72,7 +72,7 @@ fn a_path_tells_whose_wait_it_ended() {
     for (record, reply, expected) in [(2, Reply::Granted(Mode::S), vec![9, 3]), (1, Reply::Waiting, vec![9, 3, 2])] {
         let mut book = Book::open(3).unwrap();
         for session in 1..=3 {
-            book.serve(session, &Call::Begin).unwrap();
+            let _ = book.serve(session, &Call::Begin).unwrap();
         }
         assert_eq!(book.serve(1, &lock(&[8], Mode::X)), Ok(Reply::Granted(Mode::X)));
         assert_eq!(book.serve(2, &lock(&[7], Mode::IX)), Ok(Reply::Granted(Mode::IX)));

@@ -68,8 +68,8 @@ fn each_is_woken_once() {
     for readers in [1, 15, 16, 17, 32, 33, 100] {
         let (mut sessions, woken) = office(readers + 1);
         for (index, session) in sessions.iter_mut().enumerate() {
-            reply(session, Call::Begin);
-            reply(session, lock(1, if index == 0 { Mode::X } else { Mode::S }));
+            let _ = reply(session, Call::Begin);
+            let _ = reply(session, lock(1, if index == 0 { Mode::X } else { Mode::S }));
         }
         assert_eq!(reply(&mut sessions[0], Call::Commit), Reply::Committed(1));
         let mut told = woken();
@@ -92,8 +92,8 @@ fn a_panic_loses_no_answer_and_no_other_wake_up() {
         })
         .unwrap();
         for (index, session) in sessions.iter_mut().enumerate() {
-            reply(session, Call::Begin);
-            reply(session, lock(1, if index == 0 { Mode::X } else { Mode::S }));
+            let _ = reply(session, Call::Begin);
+            let _ = reply(session, lock(1, if index == 0 { Mode::X } else { Mode::S }));
         }
         let hook = panic::take_hook();
         panic::set_hook(Box::new(|_| ()));
@@ -129,8 +129,8 @@ fn a_panic_in_a_panic_is_kept_from_the_call() {
     }
     let mut sessions = Office::open_waking(2, u64::MAX, |_| panic::resume_unwind(Box::new(Bomb))).unwrap();
     for session in &mut sessions {
-        reply(session, Call::Begin);
-        reply(session, lock(1, Mode::X));
+        let _ = reply(session, Call::Begin);
+        let _ = reply(session, lock(1, Mode::X));
     }
     assert_eq!(reply(&mut sessions[0], Call::Commit), Reply::Committed(1));
     assert_eq!(reply(&mut sessions[1], Call::Poll), Reply::Clear);
@@ -147,8 +147,8 @@ fn the_waker_goes_with_the_office() {
         })
         .unwrap();
         for session in &mut sessions {
-            reply(session, Call::Begin);
-            reply(session, lock(1, Mode::X));
+            let _ = reply(session, Call::Begin);
+            let _ = reply(session, lock(1, Mode::X));
         }
         sessions[0].publish(&Call::Commit).unwrap();
         assert_eq!(Arc::strong_count(&woken), 2);
@@ -213,7 +213,7 @@ fn sessions_that_are_too_many_are_refused() {
     assert_eq!(Office::open_waking(1025, 1, |_| ()).err(), Some(Error::NoSuchCount));
     let mut sessions = Office::open_waking(1, 2, |_| ()).unwrap();
     for call in [Call::Begin, Call::Poll, Call::Commit] {
-        sessions[0].perform(&call, u64::MAX).unwrap();
+        let _ = sessions[0].perform(&call, u64::MAX).unwrap();
     }
     assert_eq!(Office::close(sessions).ok().unwrap().first_kept(), 1);
 }

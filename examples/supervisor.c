@@ -1,0 +1,232 @@
+/*
+ * What an engine does about a thread that is lost in its transaction, and about an operator who wants a transaction to end. Three threads
+ * have a session each. The first one holds account 1 and waits for a client that doesn't come. The second one writes to account 0, asks
+ * for account 1 and ends, with its transaction open and its call pending. The third one needs both accounts. The main thread takes over
+ * the session of the second and ends its transaction. With a session of its own it then looks for whom the third one waits, and asks
+ * that the transaction of the first end.
+ *
+ *     ./embed && cc examples/supervisor.c -Iout -Lout -lpelgaisti -lpthread -o supervisor && ./supervisor
+ */
+#define _XOPEN_SOURCE 600
+#include "pelgaisti.h"
+#include <pthread.h>
+#include <sched.h>
+#include <semaphore.h>
+#include <stdio.h>
+#include <stdlib.h>
+
+enum { IDLE = 1, LOST, BUSY, OPERATOR, SESSIONS = OPERATOR, ACCOUNTS = 2, KEPT = 1024 };
+
+static long accounts[ACCOUNTS] = {100, 100};
+
+/* What the engine keeps for each session, by number. It is no thread's own, so that it is there when the thread is gone. */
+typedef struct client {
+    uint32_t number;
+    uint64_t transaction;   /* the open one */
+    long before[ACCOUNTS];  /* what it has to write back if it aborts */
+    int wrote[ACCOUNTS];
+    sem_t woken;            /* on which its thread sleeps */
+    uint64_t asked;         /* the newest transaction that somebody has asked to end */
+} client;
+static client clients[SESSIONS + 1];
+static pelgaisti_session sessions[SESSIONS];
+static sem_t is_ready;
+
+/* The sessions whose threads have ended. The mutex hands their handles, and what is kept for them, to whoever takes them over. */
+static pthread_mutex_t guard = PTHREAD_MUTEX_INITIALIZER;
+static pthread_cond_t came_back = PTHREAD_COND_INITIALIZER;
+static uint32_t orphans[SESSIONS], orphan_count;
+
+/* Unless all is well, prints what failed and ends the program. */
+static void must(int is_well, const char *what, const char *name) {
+    if (!is_well) fprintf(stderr, "supervisor: %s: %s\n", what, name), exit(1);
+}
+
+static void sleep_on(sem_t *it) {
+    while (sem_wait(it) != 0) continue; /* a signal may end the sleep early */
+}
+
+/* The office's waker. */
+static void wake(void *engine, uint32_t session) { sem_post(&((client *)engine)[session].woken); }
+static const pelgaisti_waker waker = {wake, clients};
+
+/* Asks that a transaction of a session end: leaves a mark for it, and wakes the session's thread. It ends nothing. A session's transactions
+   have rising numbers, so whoever asks too late doesn't take the mark of a later one away, nor asks anything of it. */
+static void ask_to_end(uint32_t session, uint64_t transaction) {
+    uint64_t *asked = &clients[session].asked, before = __atomic_load_n(asked, __ATOMIC_SEQ_CST);
+    while (before < transaction &&
+           !__atomic_compare_exchange_n(asked, &before, transaction, 0, __ATOMIC_SEQ_CST, __ATOMIC_SEQ_CST)) continue;
+    wake(clients, session);
+}
+
+/* Whether somebody has asked that the client's transaction end. */
+static int is_asked(const client *it) { return __atomic_load_n(&it->asked, __ATOMIC_SEQ_CST) == it->transaction; }
+
+/* Performs a call without a resource and a mode. Returns its reply. */
+static pelgaisti_reply ask(const client *it, uint32_t op) {
+    const pelgaisti_call call = {op, 0, {0, {0}}};
+    pelgaisti_answer answer;
+    pelgaisti_status status = pelgaisti_session_perform(&sessions[it->number - 1], &call, UINT64_MAX, &answer);
+    must(status == PELGAISTI_OK, pelgaisti_op_name(op), pelgaisti_status_name(status));
+    return answer.reply;
+}
+
+static void begin(client *it) {
+    pelgaisti_reply reply = ask(it, PELGAISTI_BEGIN);
+    must(reply.kind == PELGAISTI_BEGAN, "begin", "an earlier transaction is open");
+    it->transaction = reply.value;
+}
+
+/* Locks an account exclusively, under an intention lock on database 1. Returns 0 if the transaction has to end: it became a victim, or
+   somebody has asked for it. Then its request may wait still. */
+static int lock_account(const client *it, uint32_t account) {
+    const pelgaisti_resource resource = {2, {1, account}};
+    for (uint32_t level = 0; level < resource.level;) {
+        pelgaisti_answer answer;
+        if (is_asked(it)) return 0;
+        pelgaisti_status status =
+            pelgaisti_session_lock_path(&sessions[it->number - 1], &resource, PELGAISTI_X, &level, UINT64_MAX, &answer);
+        must(status == PELGAISTI_OK, "lock", pelgaisti_status_name(status));
+        while (answer.reply.kind == PELGAISTI_WAITING) {
+            sleep_on(&clients[it->number].woken);
+            if (is_asked(it)) return 0;
+            answer.reply = ask(it, PELGAISTI_POLL);
+        }
+        if (answer.reply.kind == PELGAISTI_DEADLOCK) return 0;
+        must(answer.reply.kind != PELGAISTI_REFUSED, "lock", pelgaisti_refusal_name(answer.reply.value));
+    }
+    return 1;
+}
+
+/* Adds to an account that the client has locked. */
+static void add(client *it, uint32_t account, long sum) {
+    if (!it->wrote[account]) it->wrote[account] = 1, it->before[account] = accounts[account];
+    accounts[account] += sum;
+}
+
+static void keep_writes(client *it) {
+    for (int k = 0; k < ACCOUNTS; k++) it->wrote[k] = 0;
+}
+
+/* Writes back what was there, under the locks, and aborts, which also takes a waiting request back. Whether there was a transaction. */
+static int undo_and_abort(client *it) {
+    for (int k = 0; k < ACCOUNTS; k++)
+        if (it->wrote[k]) accounts[k] = it->before[k];
+    keep_writes(it);
+    return ask(it, PELGAISTI_ABORT).kind == PELGAISTI_ABORTED;
+}
+
+/* Takes over a session whose thread has ended: finishes its pending call and ends its transaction, so that its number can be used again.
+   Returns whether there was a transaction to end. */
+static int take_over(client *it) {
+    pelgaisti_answer answer;
+    pelgaisti_status status = pelgaisti_session_perform(&sessions[it->number - 1], NULL, UINT64_MAX, &answer);
+    must(status == PELGAISTI_OK || status == PELGAISTI_NOTHING_PENDING, "resume", pelgaisti_status_name(status));
+    if (status == PELGAISTI_OK && answer.reply.kind == PELGAISTI_COMMITTED) keep_writes(it); /* then the transaction is over */
+    int is_ended = undo_and_abort(it);
+    while (sem_trywait(&it->woken) == 0) continue; /* wake-ups that its thread didn't take */
+    return is_ended;
+}
+
+/* Waits until a thread has ended, and gives its session. */
+static client *next_orphan(void) {
+    pthread_mutex_lock(&guard);
+    while (orphan_count == 0) pthread_cond_wait(&came_back, &guard);
+    client *it = &clients[orphans[--orphan_count]];
+    pthread_mutex_unlock(&guard);
+    return it;
+}
+
+/* Whatever ends a thread, its session comes back. */
+static void come_back(void *argument) {
+    pthread_mutex_lock(&guard);
+    orphans[orphan_count++] = ((client *)argument)->number;
+    pthread_cond_signal(&came_back);
+    pthread_mutex_unlock(&guard);
+}
+
+/* Is lost with what it has written, its locks, and a call that it has published. */
+static void get_lost(client *it) {
+    const pelgaisti_call call = {PELGAISTI_LOCK, PELGAISTI_X, {2, {1, 1}}};
+    must(lock_account(it, 0), "lock", "nobody has it yet");
+    add(it, 0, -30);
+    must(pelgaisti_session_publish(&sessions[it->number - 1], &call, NULL) == PELGAISTI_OK, "publish", "a call");
+    sem_post(&is_ready);
+    pthread_exit(NULL);
+}
+
+/* Sleeps until it is asked to end. */
+static void stay_idle(client *it) {
+    must(lock_account(it, 1), "lock", "nobody has it yet");
+    add(it, 1, 5);
+    sem_post(&is_ready);
+    while (!is_asked(it)) sleep_on(&it->woken);
+    must(undo_and_abort(it), "abort", "there was no transaction");
+}
+
+static void move(client *it) {
+    if (lock_account(it, 0) && lock_account(it, 1)) {
+        add(it, 0, -10);
+        add(it, 1, 10);
+        must(ask(it, PELGAISTI_COMMIT).kind == PELGAISTI_COMMITTED, "commit", "it was refused");
+        keep_writes(it);
+    }
+}
+
+static void *run(void *argument) {
+    client *it = (client *)argument;
+    pthread_cleanup_push(come_back, it);
+    begin(it);
+    if (it->number == LOST) get_lost(it);
+    if (it->number == IDLE) stay_idle(it);
+    if (it->number == BUSY) move(it);
+    pthread_cleanup_pop(1);
+    return NULL;
+}
+
+/* Waits until a session waits for another one alone, and asks that the transaction of that one end. */
+static void end_blocker(uint32_t waiting, uint32_t blocker) {
+    pelgaisti_session *own = &sessions[OPERATOR - 1];
+    pelgaisti_transaction open = {0, 0};
+    uint32_t list[SESSIONS] = {0};
+    uint64_t seen;
+    size_t count = 0;
+    for (; count != 1 || list[0] != blocker; sched_yield()) {
+        pelgaisti_status status = pelgaisti_session_blockers(own, waiting, list, SESSIONS, &count, &seen);
+        must(status == PELGAISTI_OK || status == PELGAISTI_ELSEWHERE, "blockers", pelgaisti_status_name(status));
+    }
+    while (pelgaisti_session_transaction(own, blocker, &open, &seen) == PELGAISTI_ELSEWHERE) sched_yield();
+    ask_to_end(blocker, open.number);
+}
+
+int main(void) {
+    pthread_t threads[SESSIONS];
+    pelgaisti_book book = PELGAISTI_EMPTY;
+    int ended = 0, is_ended;
+
+    pelgaisti_status status = pelgaisti_office_open_waking(sessions, SESSIONS, KEPT, &waker);
+    must(status == PELGAISTI_OK, "open", pelgaisti_status_name(status));
+    must(sem_init(&is_ready, 0, 0) == 0, "start", "there is no semaphore");
+    for (uint32_t s = 1; s <= SESSIONS; s++) {
+        clients[s].number = s;
+        must(sem_init(&clients[s].woken, 0, 0) == 0, "start", "there is no semaphore");
+    }
+    for (uint32_t s = IDLE; s <= BUSY; s++) {
+        must(pthread_create(&threads[s - 1], NULL, run, &clients[s]) == 0, "start", "there is no thread");
+        if (s != BUSY) sleep_on(&is_ready);
+    }
+    client *lost = next_orphan();
+    is_ended = take_over(lost);
+    end_blocker(BUSY, IDLE);
+    for (int k = 0; k < 2; k++) ended += take_over(next_orphan()); /* these have ended their transactions themselves */
+    for (uint32_t s = IDLE; s <= BUSY; s++) pthread_join(threads[s - 1], NULL);
+    begin(lost); /* its number is used again */
+    must(ask(lost, PELGAISTI_COMMIT).kind == PELGAISTI_COMMITTED, "commit", "it was refused");
+
+    for (int s = 1; s < SESSIONS && status == PELGAISTI_OK; s++) status = pelgaisti_session_hand_in(&sessions[s], &sessions[0]);
+    if (status == PELGAISTI_OK) status = pelgaisti_office_close(&sessions[0], &book);
+    must(status == PELGAISTI_OK && pelgaisti_book_close(&book) == PELGAISTI_OK, "close", pelgaisti_status_name(status));
+    printf("the transaction of session %u was ended for its thread, that of session %d by its own; the accounts have %ld and %ld\n",
+           (unsigned)lost->number, IDLE, accounts[0], accounts[1]);
+    return !(lost->number == LOST && is_ended && ended == 0 && accounts[0] == 90 && accounts[1] == 110);
+}
