@@ -187,20 +187,13 @@ const TYPED: &str = "1 begin\n1 path 1/2 X\n2 begin\n\nwhy 1\n1 commit\n";
 fn answers_whole_lines(
     rt: &(impl AllocGlobal + Files + Threads + Wait),
     text: &[u8],
-    whole: usize,
+    whole: &[u8],
 ) -> bool {
     let words = ["glm", "shell"];
     let mut wanted = Vec::new(rt.alloc());
     let mut output = Vec::new(rt.alloc());
     let mut errors = Vec::new(rt.alloc());
-    let ended = status_of(
-        rt,
-        &words,
-        &text[..whole],
-        &mut wanted,
-        &mut errors,
-        &OpenGate,
-    );
+    let ended = status_of(rt, &words, whole, &mut wanted, &mut errors, &OpenGate);
     let is_silent = errors.is_empty();
     let input = Cut {
         left: text,
@@ -215,14 +208,14 @@ fn answers_whole_lines(
 #[test]
 fn a_failed_reader_ends_a_shell_behind_its_whole_lines(rt: HostRuntime) {
     let text = TYPED.as_bytes();
-    let mut whole = 0;
+    let mut whole = b"".as_slice();
     let mut right = true;
     for length in 0..=text.len() {
         let left = &text[..length];
         if left.ends_with(b"\n".as_slice()) {
-            whole = length;
+            whole = left;
         }
-        right = right && answers_whole_lines(&rt, left, whole.min(length));
+        right = right && answers_whole_lines(&rt, left, whole);
     }
     assert!(rt; right);
 }
