@@ -9,13 +9,13 @@ round is the first one in which nothing was refused.
 
 A replay, a check, a state and an explanation have to end with status 4, their line on standard error and nothing on standard
 output, in every round but one: room for all words of the command line is only a hint, and if it is refused they end as with ample
-memory. A shell may have answered its first lines. A replay in pieces may have written whole pieces of its history, and some round has to see one piece written, and some
-round two. A run may also end with status 5, if the refusal kept a thread from starting, or with status 0, if it met the refusal by
-serving calls one after another: what it writes has to be a legal history in which each session's rows stand in their order. A run
-of one session has one try for each call: a pass that found no memory for the call ends the run. A run in pieces may also end with
-these statuses and whole rows of a legal history behind it, in which each session's rows are the first ones of its own. In further
-rounds of runs all later allocations are refused too: a run that goes on after its refusal fails. Threads allocate in any order, so
-a run's last rounds are the first three in a row without a refusal.
+memory. A shell may have answered its first lines. A replay in pieces may have written whole pieces of its history, and some round
+has to see one piece written, and some round two. A run may also end with status 5, if the refusal kept a thread from starting, or
+with status 0, if it met the refusal by serving calls one after another: what it writes has to be a legal history in which each
+session's rows stand in their order. A run of one session has one try for each call: a pass that found no memory for the call ends
+the run. A run in pieces may also end with these statuses and whole rows of a legal history behind it, in which each session's rows
+are the first ones of its own. In further rounds of runs all later allocations are refused too: a run that goes on after its refusal
+fails. Threads allocate in any order, so a run's last rounds are the first three in a row without a refusal.
 
 A replay with hints of a row that is refused ends with status 1 and that row's line also if memory is refused for the hint.
 
@@ -300,8 +300,9 @@ def trials_of_the_program(folder):
         words = [PROGRAM, "replay", trace, "-o", target]
         yield Trial(f"replay to {name}", words, ends_in_file(target, history))
     calls = b"1 begin\n2 begin\n1 path 1/1 X\n2 path 1/2 X\n1 lock 1/2 S\n2 lock 1/1 S\nwhy 2\nshow\n2 abort\nundo\n3 lock\n"
-    saved = str(folder / "saved.csv").encode()
-    given = calls + b"save %s\nload %s\nhelp\nquit\n" % (saved, saved)
+    # rounds run side by side, so what is saved isn't what is loaded
+    (folder / "loaded.csv").write_text("3,begin,,\n3,lock,2,IX\n3,lock,2/1,X\n")
+    given = calls + f"save {folder}/saved.csv\nload {folder}/loaded.csv\nhelp\nquit\n".encode()
     yield Trial("shell", [PROGRAM, "shell"], ends_in_shell(given), given)
     illegal = (TOP / "examples/illegal.csv").read_bytes()
     yield Trial("check of a history that isn't legal", [PROGRAM, "check"], ends(3, b"illegal 2\n"), illegal)
