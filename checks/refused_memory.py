@@ -249,7 +249,7 @@ def ends_in_shell(given):
     def is_right(ended):
         status, output, errors = ended
         if ended == (0, answers[-1], b""):
-            # one for each line that has words; a few more where rounds save at once, and look for another temporary name
+            # one for each line that has words, and a few more were seen where rounds side by side save to one file
             hints.append(ended)
             return len(hints) <= 2 * len(lines)
         return (status, errors) == (4, REFUSED[2]) and output in (b"", *answers[:-1])
