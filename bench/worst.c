@@ -1,6 +1,6 @@
 /* Times dear calls of a book and of an office that no trace of bench/worst.py shows: worst CASE TIMES. CASE is
        growth       locks of a million databases, each of its own, by 256 sessions of a book: the dearest call
-       chosen       locks of 262,144 databases whose names were chosen to have hashes alike where the hash of resources has its usual
+       chosen       locks of 262,144 databases whose names were chosen to have hashes alike, since the hash of resources has a fixed
                     seed: the dearest call, and, once all are held, the mean of a lock of 1,000 further ones
        ordinary     the same with ordinary names
        page         a page of 8 of the `locks` of a book that holds 1,048,576; 131,072; 8,192
