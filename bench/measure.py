@@ -15,6 +15,7 @@ The sections, with the minutes that they take on 4 free processors:
     growth        a new book and a new office of 256 and of 1,024 sessions, by bench/memory.c                0
     sharing       a book behind a mutex and an office, by bench/sharing.c on the traces of bench/sharing.py  1 1/2
     lock_bench    the same traces by lock_bench mutex and lock_bench threads                                 1/2
+    programs      a mutex, an office and Berkeley DB, by single calls and by programs, by bench/programs.c   4
     objects       a queue and a map, by an office, a mutex, and queues without a lock, by object_bench       1 1/2
     waiting       three ways to wait for locks, by bench/waiting.c                                           1
     embedding     the boundary to C beside lock_bench seq and, if its library is there, Berkeley DB          1/2
@@ -94,6 +95,10 @@ class Figures:
     def add(self, key, told):
         for name, number in told.items():
             self.found.setdefault((key, name), []).append(number)
+
+    def middle(self, key, name):
+        """The median."""
+        return statistics.median(self.found[key, name])
 
     def text(self, key, name, digits=0, per=1):
         """The median, and in brackets the least and the greatest, if they differ as they are printed."""

@@ -319,6 +319,50 @@ def side_by_side(count):
         turn += 1
 
 
+class Programs(Section):
+    name, heading, needs = "programs", "Programs and single calls: `bench/programs.c`", (LIBRARY,)
+    how = (
+        "Thousands of transactions a second; the ratio of the medians to a book behind a mutex that is taken for each call; µs of processors"
+        " for a transaction; and the 99th of 100 times of one, in µs. The program says what each workload does, and each way to share."
+    )
+    TRANSACTIONS = 60_000
+    THREADS = (1, 2, 4, 8, 16)
+    WORKLOADS = ("bank", "audits", "own", "shared", "conflict", "scans", "zipf")
+    WAYS = {
+        "book": "mutex for each call",
+        "book-programs": "mutex for each program",
+        "office": "office, single calls",
+        "programs": "office, programs",
+        "berkeley": "Berkeley DB",
+    }
+
+    def cases(self):
+        try:
+            program = self.built("programs", "-DBERKELEY_DB", "-ldb")
+        except subprocess.CalledProcessError:
+            program, self.WAYS = self.built("programs"), {way: told for way, told in self.WAYS.items() if way != "berkeley"}
+        keys = [(workload, threads, way) for workload in self.WORKLOADS for threads in self.THREADS for way in self.WAYS]
+        return [(key, lambda k=key: self.told(program, *k)) for key in keys if key[::2] != ("conflict", "berkeley")]
+
+    def told(self, program, workload, threads, way):
+        line = output_of([program, way, workload, str(threads), str(max(threads, self.few(self.TRANSACTIONS)))])
+        return {name: float(number) for name, number in re.findall(r"(\w+)=([\d.]+)", line)}
+
+    def cell(self, found, key):
+        if (key, "second") not in found.found:
+            return ""
+        ratio = found.middle(key, "second") / found.middle((*key[:2], "book"), "second")
+        told = [found.text(key, "second", 0, 1000), f"{ratio:.2f}"]
+        return ", ".join([*told, *(f"{found.middle(key, name) / 1000:.1f}" for name in ("processor", "99th"))])
+
+    def tables(self, found):
+        lines = []
+        for workload in self.WORKLOADS:
+            rows = [[threads, *(self.cell(found, (workload, threads, way)) for way in self.WAYS)] for threads in self.THREADS]
+            lines += ["", *table([f"{workload}, threads", *self.WAYS.values()], rows)]
+        return lines[1:]
+
+
 class Embedding(Section):
     name, heading, needs = "embedding", "The boundary to C: `bench/embedding.c`", (LIBRARY, LOCK_BENCH)
     how = "Nanoseconds a call, one thread, 8 sessions, 100,000 rows in which nothing waits; in a round the least of 50 times."
@@ -384,5 +428,5 @@ class Instructions(Section):
         return table(["calls", "instructions", "at most"], [[told, f"{int(a):,}", f"{int(b):,}"] for told, a, b in self.lines])
 
 
-SECTIONS = [Replay, Worst, Memory, Growth, Sharing, LockBench, Objects, Waiting, Embedding, Instructions]
+SECTIONS = [Replay, Worst, Memory, Growth, Sharing, LockBench, Programs, Objects, Waiting, Embedding, Instructions]
 

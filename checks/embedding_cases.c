@@ -420,12 +420,12 @@ static text one;
 /* Whether the lines behind this one are performed. */
 static int is_when(const char *line) {
     const char *what = line + strlen("when ");
+    if (!strncmp(what, "ever ", 5)) what += 5;
     if (!strcmp(what, "starved")) return starved > 0;
     if (!strcmp(what, "starved since")) return starved > starved_then;
     if (!strcmp(what, "not starved")) return starved == 0;
     if (!strcmp(what, "all served")) return !some.starved;
     if (!strcmp(what, "not all served")) return some.starved;
-    if (!strncmp(what, "ever ", 5)) what += 5;
     if (!strncmp(what, "served ", 7)) return some.starved && some.served == number_of(what + 7);
     stop("not a condition", line);
     return 0;

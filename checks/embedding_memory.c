@@ -59,24 +59,21 @@ static void try_meanwhile(void) {
 /* The calls that may lack memory, and how often memory was refused to each. */
 enum { BOOK_OPEN, BOOK_SERVE, BOOK_SERVE_BATCH, BOOK_LOCK_PATH, BOOK_RUN, BOOK_HOLDERS, BOOK_LOCKS, OFFICE_OPEN, SESSION_SERVE, AT_ONCE, TELLING,
        SESSION_HOLDERS, SESSION_BLOCKERS, SESSION_LOCKS, HAND_IN, OFFICE_CLOSE, OPEN_WAKING, WAKING_SERVE, WAKING_SERVE_TELLING,
-       WAKING_AT_ONCE, WAKING_TELLING, WAKING_PERFORM, WAKING_PATH, LACKING };
+       WAKING_AT_ONCE, WAKING_TELLING, WAKING_PERFORM, WAKING_PATH, SESSION_RUN, LACKING };
 static const char *const lacking[LACKING] = {"book_open", "book_serve", "book_serve_batch", "book_lock_path", "book_run",
                                              "book_holders", "book_locks", "office_open", "session_serve", "session_perform_at_once",
                                              "session_perform_telling", "session_holders", "session_blockers", "session_locks",
                                              "session_hand_in", "office_close", "office_open_waking", "session_serve, which wakes",
                                              "session_serve_telling, which wakes", "session_perform_at_once, which wakes",
                                              "session_perform_telling, which wakes", "session_perform, which wakes",
-                                             "session_lock_path, which wakes"};
+                                             "session_lock_path, which wakes", "session_run"};
 static long lacked[LACKING];
 
 /* How many batches were refused memory behind the calls that they served. */
 static long cut_short;
 
-/* How many programs were refused memory behind the calls that they served. */
-static long run_short;
-
-/* How many passes were refused memory and served all calls nevertheless, one after another. */
-static long met;
+/* How many programs of a book and of a session were refused memory behind the calls that they served. */
+static long run_short, session_short;
 
 /* Whether the call was refused memory, and so is made again. */
 static int is_lacking(int call, uint32_t status) {
@@ -319,10 +316,8 @@ static void serve_five(pelgaisti_session *sessions, pelgaisti_call call, uint32_
     pelgaisti_pass pass;
     pelgaisti_answer answer;
     for (int k = 0; k < CLERKS; k++) CHECK(pelgaisti_session_publish(&sessions[k], &call, NULL) == PELGAISTI_OK);
-    long before = refusals;
     CHECK(pelgaisti_session_serve(&sessions[2], &pass) == PELGAISTI_OK);
     uint32_t served = pass.served;
-    met += refusals > before && !pass.starved;
     if (pass.starved) {
         lacked[SESSION_SERVE]++;
         CHECK(served < CLERKS);
@@ -575,6 +570,68 @@ static void wakers(void) {
     CHECK(pelgaisti_book_close(&book) == PELGAISTI_OK);
 }
 
+/* Runs a program of a session, and finishes it where memory is refused: then it is pending, and nothing was written. */
+static pelgaisti_program_answer run_whole(pelgaisti_session *session, const pelgaisti_program *program) {
+    pelgaisti_program_answer answer = {77, 77, 77, 77, {{77, 88}}};
+    pelgaisti_status status = pelgaisti_session_run(session, program, 9, &answer);
+    while (is_lacking(SESSION_RUN, status)) {
+        CHECK(answer.place == 77 && answer.served == 77 && answer.replies[0].kind == 77);
+        CHECK(pelgaisti_session_run(session, program, 9, &answer) == PELGAISTI_PENDING);
+        status = pelgaisti_session_run(session, NULL, 9, &answer);
+    }
+    CHECK(status == PELGAISTI_OK && answer.served > 0 && answer.stop == 0);
+    return answer;
+}
+
+/* Clerk 1 runs a program that commits what clerk 2 waits for, begins, and locks a new path; clerk 3 has published a lock. If memory is
+   refused to the commit, the program is pending and is finished; if to a later call, the answer says so, clerk 2 was woken all the same,
+   and another program makes the calls that are left. */
+static void session_programs(void) {
+    static const pelgaisti_waker waker = {note_wake, wakes};
+    pelgaisti_session sessions[CLERKS];
+    pelgaisti_book book = PELGAISTI_EMPTY;
+    pelgaisti_answer answer;
+    uint64_t length = 0;
+    memset(sessions, 0, sizeof sessions);
+    while (is_lacking(OPEN_WAKING, pelgaisti_office_open_waking(sessions, CLERKS, UINT64_MAX, &waker))) continue;
+    for (int k = 0; k < CLERKS; k++) perform_surely(&sessions[k], begin, PELGAISTI_BEGAN);
+    for (uint32_t round = 0; round < 24; round++) {
+        pelgaisti_program program = {PELGAISTI_COMMITS_AND_BEGINS, 1, PELGAISTI_IX, {PELGAISTI_LOCK, PELGAISTI_X, {5, {7, round, 1, 1, 1}}}};
+        pelgaisti_call lock = call_of(PELGAISTI_LOCK, PELGAISTI_IX, 300 + round);
+        uint32_t left = PELGAISTI_CALLS;
+        memset(wakes, 0, sizeof wakes);
+        perform_surely(&sessions[0], call_of(PELGAISTI_LOCK, PELGAISTI_X, 8), PELGAISTI_GRANTED);
+        perform_surely(&sessions[1], call_of(PELGAISTI_LOCK, PELGAISTI_X, 8), PELGAISTI_WAITING);
+        CHECK(pelgaisti_session_publish(&sessions[2], &lock, NULL) == PELGAISTI_OK);
+        while (left > 0) {
+            pelgaisti_program_answer made = run_whole(&sessions[0], &program);
+            CHECK(made.served <= left && made.starved == (made.served < left) && wakes[2] == 1);
+            session_short += made.starved;
+            left -= made.served;
+            program.start = left == 6 ? PELGAISTI_BEGINS : PELGAISTI_NOTHING;
+            program.from = left < 6 ? 6 - left : 1;
+        }
+        while (pelgaisti_session_perform(&sessions[2], NULL, 9, &answer) == PELGAISTI_NO_MEMORY) continue;
+        CHECK(answer.reply.kind == PELGAISTI_GRANTED && wakes[2] == 1);
+        /* a program of one call, to which memory may be refused: it is pending then */
+        program.start = PELGAISTI_NOTHING;
+        program.from = 1;
+        program.last = call_of(PELGAISTI_LOCK, PELGAISTI_IX, 500 + round);
+        CHECK(run_whole(&sessions[2], &program).replies[0].kind == PELGAISTI_GRANTED);
+        perform_surely(&sessions[1], call_of(PELGAISTI_POLL, 0, 0), PELGAISTI_CLEAR);
+        for (int k = 0; k < 2; k++) {
+            perform_surely(&sessions[k], call_of(PELGAISTI_COMMIT, 0, 0), PELGAISTI_COMMITTED);
+            perform_surely(&sessions[k], begin, PELGAISTI_BEGAN);
+        }
+        /* the seven calls of the first program, and nine others */
+        CHECK(pelgaisti_session_seen(&sessions[1], &length) == PELGAISTI_OK && length == CLERKS + 16 * (round + 1));
+    }
+    for (int k = CLERKS - 1; k > 0; k--)
+        while (is_lacking(HAND_IN, pelgaisti_session_hand_in(&sessions[k], &sessions[0]))) continue;
+    while (is_lacking(OFFICE_CLOSE, pelgaisti_office_close(&sessions[0], &book))) continue;
+    CHECK(pelgaisti_book_close(&book) == PELGAISTI_OK);
+}
+
 /* While one session makes a pass, which allocates, a serve of another session returns ELSEWHERE and writes nothing, and so do the
    calls that a third performs at once. The calls of both sessions are answered afterwards. */
 static void elsewhere(void) {
@@ -625,12 +682,13 @@ int main(void) {
     each_in_turn("offices", offices, 1);
     each_in_turn("wakers", wakers, 1);
     each_in_turn("wakers, two in a row", wakers, 2); /* a path tries once more before its call is left pending */
+    each_in_turn("programs of sessions", session_programs, 1);
     for (int call = 0; call < LACKING; call++)
         if (!lacked[call]) {
             failed++;
             printf("memory was never refused to %s\n", lacking[call]);
         }
-    CHECK(met > 0 && cut_short > 0 && run_short > 0 && told_before > 0);
+    CHECK(cut_short > 0 && run_short > 0 && session_short > 0 && told_before > 0);
     for (int call = WAKING_SERVE; call <= WAKING_PATH; call++)
         if (!woken_then[call]) {
             failed++;

@@ -16,6 +16,7 @@ static uint32_t list[PELGAISTI_MAX_SESSIONS];
 static pelgaisti_answer answer;
 static pelgaisti_reply reply;
 static const pelgaisti_program program = {PELGAISTI_ABORTS, 0, 0, {PELGAISTI_POLL, 0, {0, {0}}}};
+static const pelgaisti_program starts = {PELGAISTI_BEGINS, 0, 0, {PELGAISTI_POLL, 0, {0, {0}}}};
 static pelgaisti_program_answer made;
 static uint32_t level;
 static size_t count;
@@ -39,7 +40,7 @@ static void *work(void *unused) {
     int k, n;
     MUST(pelgaisti_office_open_keeping(sessions, SESSIONS, 1000) == PELGAISTI_OK);
     for (k = 0; k < SESSIONS; k++) {
-        perform(k, PELGAISTI_BEGIN, 0, 0);
+        MUST(pelgaisti_session_run(&sessions[k], &starts, UINT64_MAX, &made) == PELGAISTI_OK && made.served == 2);
         for (n = 0; n < LOCKS; n++) perform(k, PELGAISTI_LOCK, PELGAISTI_X, 10 + (uint32_t)(k * LOCKS + n));
         level = 0;
         path.numbers[4] = (uint32_t)k;

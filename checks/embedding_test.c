@@ -61,7 +61,7 @@ static const struct {
     {ANY(session_request), "pnpp"}, {ANY(session_waits_for), "pnnpp"}, {ANY(session_holders), "pplrpp"},
     {ANY(session_blockers), "pnlrpp"}, {ANY(session_locks), "pnlrpp"}, {ANY(session_seen), "pp"}, {ANY(session_mark), "pp"},
     {ANY(session_hear), "pp"}, {ANY(session_retire), "p"}, {ANY(session_hand_in), "pp"}, {ANY(office_close), "pp"},
-    {ANY(session_perform), "ponp"}, {ANY(session_lock_path), "ppnpnp"}};
+    {ANY(session_perform), "ponp"}, {ANY(session_run), "ponp"}, {ANY(session_lock_path), "ppnpnp"}};
 
 /* What the pointers point to: handles are closed, and else nothing is a number that a call takes. */
 static unsigned char pointed_to[9][64];

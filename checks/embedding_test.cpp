@@ -157,6 +157,29 @@ static void programs() {
     CHECK(ended.size() == 2);
 }
 
+// Programs of sessions: at once, published and served by another session, and pending; only a program's call finishes one of several.
+static void session_programs() {
+    using pelgaisti::program, pelgaisti::start;
+    pelgaisti::office office{3};
+    auto answer = office[0].run(program::locks(start::begins, {7, 2}, mode::X));
+    CHECK(answer && answer->place() == 0 && answer->size() == 3 && !answer->stopped() && (*answer)[2].value == PELGAISTI_X);
+    answer = office[1].run(program::locks(start::begins, {7, 2, 1}, mode::X));
+    CHECK(answer && answer->place() == 3 && answer->size() == 3 && answer->stopped() && (*answer)[2].kind == kind::waiting);
+    CHECK(!office[0].run(program::locks(start::commits_and_begins, {8}, mode::S), 0));
+    CHECK(throws(PELGAISTI_PENDING, [&] { static_cast<void>(office[0].resume()); }));
+    CHECK(throws(PELGAISTI_PENDING, [&] { static_cast<void>(office[0].collect()); }));
+    CHECK(throws(PELGAISTI_PENDING, [&] { static_cast<void>(office[0].run(program(start::commits))); }));
+    CHECK(!office[0].resume_program(0) && office[2].serve()->served == 1);
+    answer = office[0].resume_program();
+    CHECK(answer && answer->place() == 6 && answer->size() == 3 && (*answer)[0].value == 2 && (*answer)[2].value == PELGAISTI_S);
+    CHECK((*office[1].run(program(start::nothing, {op::poll})))[0].kind == kind::clear);
+    office[1].publish({op::poll});
+    CHECK(office[1].resume_program()->size() == 1 && throws(PELGAISTI_NOTHING_PENDING, [&] { static_cast<void>(office[1].resume_program()); }));
+    CHECK(throws(PELGAISTI_NO_SUCH_OP, [&] { static_cast<void>(office[1].run(program(start::nothing))); }));
+    CHECK(throws(PELGAISTI_NOT_ON_PATH, [&] { static_cast<void>(office[1].run(program::locks(start::begins, {8}, mode::X, 2))); }));
+    CHECK(office.close()->length() == 11);
+}
+
 static void tries() {
     const auto refused = [](const pelgaisti::reply &reply, pelgaisti::refusal why) {
         return reply.kind == kind::refused && reply.value == static_cast<std::uint64_t>(why);
@@ -481,13 +504,14 @@ static void asked_sessions_obey() {
     CHECK(wrong == 0 && office.close()->locks().empty());
 }
 
-// Offices that aren't closed: with a pending call, with one that is served and not collected, after a close that failed, and one that an
+// Offices that aren't closed: with a pending call and a pending program, with one that is served and not collected, after a close that failed, and one that an
 // exception leaves; ASan finds what they leak.
 static void offices_are_left() {
     pelgaisti::office pending{3}, served{3}, begun{3};
     pending[2].publish({op::begin});
     served[1].publish({op::begin});
     CHECK(served[0].serve()->served == 1);
+    CHECK(!pending[0].run({pelgaisti::start::begins, {op::poll}}, 0));
     begun[2].publish({op::begin});
     CHECK(throws(PELGAISTI_PENDING, [&] { begun.close(); }) && begun[1].perform({op::begin})->reply.value == 2);
     CHECK(throws(PELGAISTI_PENDING, [&] { begun.close(); }) && begun[0].perform({op::begin})->reply.value == 3);
@@ -535,7 +559,7 @@ static void names() {
 }
 
 int main() {
-    for (const auto test : {books, paths_tell, programs, tries, offices, wakers, a_task_throws, sessions_have_owners, orphans_wait,
+    for (const auto test : {books, paths_tell, programs, session_programs, tries, offices, wakers, a_task_throws, sessions_have_owners, orphans_wait,
                             threads_share_the_orphans, marks_are_of_transactions, asked_sessions_obey, offices_are_left, sizes, names}) {
         try {
             test();

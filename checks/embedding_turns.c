@@ -1,5 +1,5 @@
-/* While one session makes a pass, which allocates, another makes a whole call in so many turns, which are counted by the yields behind
-   them. The call is pending behind the last one, and its answer is there behind the pass. Link with
+/* While one session makes a pass, which allocates, another makes a whole call or a program in so many turns, which are counted by the yields
+   behind them. The call is pending behind the last one, and its answer is there behind the pass. Link with
    -Wl,--wrap=malloc,--wrap=sched_yield. */
 #include "pelgaisti.h"
 #include <stdio.h>
@@ -9,6 +9,8 @@ static long passed, failed, yields;
 static void (*meanwhile)(void);
 static pelgaisti_session sessions[3];
 static pelgaisti_answer answer;
+static pelgaisti_program_answer made;
+static const pelgaisti_program program = {PELGAISTI_BEGINS, 0, 0, {PELGAISTI_POLL, 0, {0, {0}}}};
 static const pelgaisti_call begin = {PELGAISTI_BEGIN, 0, {0, {0}}}, poll = {PELGAISTI_POLL, 0, {0, {0}}};
 
 #define CHECK(condition) \
@@ -58,20 +60,49 @@ static void look_in_turns(void) {
     CHECK(yields == wanted && answer.place == 99);
 }
 
-/* In a new office session 1 makes a pass, in which `work` runs. The call of session 2 is pending behind it. */
-static void in_a_pass(void (*work)(void), int is_published) {
-    pelgaisti_book book = PELGAISTI_EMPTY;
-    answer.place = 99;
-    CHECK(pelgaisti_office_open(sessions, 3) == PELGAISTI_OK);
-    if (is_published) CHECK(pelgaisti_session_perform(&sessions[1], &begin, 0, &answer) == PELGAISTI_NOT_SERVED);
-    CHECK(pelgaisti_session_publish(&sessions[0], &begin, NULL) == PELGAISTI_OK);
-    meanwhile = work;
-    CHECK(pelgaisti_session_serve(&sessions[0], NULL) == PELGAISTI_OK && !meanwhile);
+static void run_in_turns(void) {
+    yields = 0;
+    CHECK(pelgaisti_session_run(&sessions[1], &program, turns, &made) == PELGAISTI_NOT_SERVED);
+    CHECK(yields == wanted && made.place == 99);
+}
+
+static void look_for_program_in_turns(void) {
+    yields = 0;
+    CHECK(pelgaisti_session_run(&sessions[1], NULL, turns, &made) == PELGAISTI_NOT_SERVED);
+    CHECK(yields == wanted && made.place == 99);
+}
+
+/* The program of session 2, which is pending behind the pass, is answered. */
+static void finish_program(void) {
+    CHECK(pelgaisti_session_run(&sessions[1], &program, 9, &made) == PELGAISTI_PENDING);
+    CHECK(pelgaisti_session_run(&sessions[1], NULL, 0, &made) == PELGAISTI_NOT_SERVED && made.place == 99);
+    CHECK(pelgaisti_session_run(&sessions[1], NULL, 1, &made) == PELGAISTI_OK && made.place == 1 && made.served == 2 && made.stop == 0);
+    CHECK(made.replies[0].kind == PELGAISTI_BEGAN && made.replies[1].kind == PELGAISTI_CLEAR);
+    CHECK(pelgaisti_session_run(&sessions[1], NULL, 0, &made) == PELGAISTI_NOTHING_PENDING);
+}
+
+/* The call of session 2, which is pending behind the pass, is answered. */
+static void finish_call(void) {
     CHECK(pelgaisti_session_perform(&sessions[1], &poll, 9, &answer) == PELGAISTI_PENDING);
     CHECK(pelgaisti_session_perform(&sessions[1], NULL, 0, &answer) == PELGAISTI_NOT_SERVED && answer.place == 99);
     CHECK(pelgaisti_session_perform(&sessions[1], NULL, 1, &answer) == PELGAISTI_OK && answer.reply.kind == PELGAISTI_BEGAN);
     CHECK(pelgaisti_session_perform(&sessions[1], NULL, 0, &answer) == PELGAISTI_NOTHING_PENDING);
     CHECK(pelgaisti_session_perform(&sessions[1], &poll, 1, &answer) == PELGAISTI_OK && answer.place == 2);
+}
+
+/* In a new office session 1 makes a pass, in which `work` runs. The call or program of session 2 is pending behind it. */
+static void in_a_pass(void (*work)(void), int is_published, int is_program) {
+    pelgaisti_book book = PELGAISTI_EMPTY;
+    answer.place = 99;
+    made.place = 99;
+    CHECK(pelgaisti_office_open(sessions, 3) == PELGAISTI_OK);
+    if (is_published) CHECK((is_program ? pelgaisti_session_run(&sessions[1], &program, 0, &made)
+                                        : pelgaisti_session_perform(&sessions[1], &begin, 0, &answer)) == PELGAISTI_NOT_SERVED);
+    CHECK(pelgaisti_session_publish(&sessions[0], &begin, NULL) == PELGAISTI_OK);
+    meanwhile = work;
+    CHECK(pelgaisti_session_serve(&sessions[0], NULL) == PELGAISTI_OK && !meanwhile);
+    if (is_program) finish_program();
+    else finish_call();
     CHECK(pelgaisti_session_collect(&sessions[0], &answer) == PELGAISTI_OK);
     for (int k = 1; k < 3; k++) CHECK(pelgaisti_session_hand_in(&sessions[k], &sessions[0]) == PELGAISTI_OK);
     CHECK(pelgaisti_office_close(&sessions[0], &book) == PELGAISTI_OK && pelgaisti_book_close(&book) == PELGAISTI_OK);
@@ -81,12 +112,14 @@ int main(void) {
     for (size_t k = 0; k < sizeof calls / sizeof *calls; k++) {
         turns = calls[k].turns;
         wanted = calls[k].yields;
-        in_a_pass(call_in_turns, 0);
+        in_a_pass(call_in_turns, 0, 0);
+        in_a_pass(run_in_turns, 0, 1);
     }
     for (size_t k = 0; k < sizeof looks / sizeof *looks; k++) {
         turns = looks[k].turns;
         wanted = looks[k].yields;
-        in_a_pass(look_in_turns, 1);
+        in_a_pass(look_in_turns, 1, 0);
+        in_a_pass(look_for_program_in_turns, 1, 1);
     }
     printf("%ld passed, %ld failed\n", passed, failed);
     return failed != 0;

@@ -62,6 +62,8 @@ static void of_an_office(void) {
     pelgaisti_book book = PELGAISTI_EMPTY;
     pelgaisti_call begin = {PELGAISTI_BEGIN, 0, {0}}, lock = {PELGAISTI_LOCK, PELGAISTI_X, {1, {9}}};
     pelgaisti_answer performed, made, told_of, collected, locked;
+    pelgaisti_program program = {PELGAISTI_NOTHING, 0, 0, {PELGAISTI_POLL, 0, {0}}};
+    pelgaisti_program_answer run;
     pelgaisti_pass served, at_once, telling, serving;
     pelgaisti_entry taken[2];
     pelgaisti_holder holders[1];
@@ -79,6 +81,7 @@ static void of_an_office(void) {
     WRITES_1(collected, pelgaisti_session_collect(&sessions[1], &collected));
     WRITES_2(serving, count, pelgaisti_session_serve_telling(&sessions[0], &serving, told, 2, &count));
     WRITES_1(locked, pelgaisti_session_lock_path(&sessions[0], &page, PELGAISTI_S, &level, 1, &locked));
+    WRITES_1(run, pelgaisti_session_run(&sessions[0], &program, 1, &run));
     WRITES_2(mode, seen, pelgaisti_session_held(&sessions[0], 1, &lock.resource, &mode, &seen));
     WRITES_2(open, seen, pelgaisti_session_transaction(&sessions[0], 1, &open, &seen));
     WRITES_2(waiting, seen, pelgaisti_session_request(&sessions[0], 2, &waiting, &seen));

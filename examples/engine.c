@@ -1,9 +1,9 @@
 /*
  * A small engine: two tables of accounts, and four threads that move money between them. Each move locks the two records that it
  * changes, sleeps while it waits for a lock, and undoes its change if it is chosen as a deadlock's victim, or if it has waited for a
- * minute. Whoever ends a wait wakes the thread that waits. The lock table keeps the newest 1024 entries of its history, so that the
- * engine takes no more memory the longer it runs. Before the threads start, a record that is held is asked for without waiting, and
- * with a short limit.
+ * minute. Whoever ends a wait wakes the thread that waits. Between two moves a thread runs one program: it commits the one, begins the
+ * next, and locks the path to its first record. The lock table keeps the newest 1024 entries of its history, so that the engine takes no
+ * more memory the longer it runs. Before the threads start, a record that is held is asked for without waiting, and with a short limit.
  *
  *     ./embed && cc examples/engine.c -Iout -Lout -lpelgaisti -lpthread -o engine && ./engine
  *
@@ -29,10 +29,11 @@ static pthread_barrier_t both_hold_one;
 static sem_t woken[THREADS + 1];
 
 /* A worker: its session, its number, how many moves it has to make and made, how often it was a victim, how often it waited, polled
-   and took a request back, and how many calls it made. */
+   and took a request back, how its next move begins, which is a pelgaisti_start, and how many calls it made. */
 typedef struct worker {
     pelgaisti_session *session;
     unsigned number, moves, moved, victims, waits, polls, withdrawn;
+    uint32_t start;
     uint64_t calls;
 } worker;
 
@@ -109,23 +110,32 @@ static pelgaisti_reply end_wait(worker *w, unsigned limit) {
     return ask(w, PELGAISTI_POLL);
 }
 
-/* Locks a record exclusively, under intention locks on the database and the table. While a request on this path waits, sleeps until
-   it is granted, and then goes on. Returns 0 if the transaction became a victim, or if a request wasn't granted within the limit. */
-static int lock_record(worker *w, uint32_t table, uint32_t record, unsigned limit) {
-    pelgaisti_resource resource = record_of(table, record);
-    uint32_t level = 0;
-    while (level < resource.level) {
-        uint32_t before = level;
-        pelgaisti_answer answer;
-        pelgaisti_status status = pelgaisti_session_lock_path(w->session, &resource, PELGAISTI_X, &level, UINT64_MAX, &answer);
-        if (status != PELGAISTI_OK) stop("lock", pelgaisti_status_name(status));
-        pelgaisti_reply reply = answer.reply;
-        w->calls += level - before + (reply.kind != PELGAISTI_GRANTED); /* one call for each level that was locked */
+/* Runs a program, as perform makes a call. */
+static pelgaisti_program_answer run(worker *w, const pelgaisti_program *program) {
+    pelgaisti_program_answer answer;
+    pelgaisti_status status = pelgaisti_session_run(w->session, program, UINT64_MAX, &answer);
+    if (status != PELGAISTI_OK || answer.starved) stop("run", pelgaisti_status_name(status));
+    w->calls += answer.served;
+    return answer;
+}
+
+/* Does what `start` says, and locks a record exclusively, under intention locks on the database and the table, by one program. While a
+   request on this path waits, sleeps until it is granted, and then goes on with the rest of the path. Returns 0 if the transaction
+   became a victim, or if a request wasn't granted within the limit. */
+static int lock_record(worker *w, uint32_t start, uint32_t table, uint32_t record, unsigned limit) {
+    static const uint32_t calls_of_start[] = {0, 1, 1, 1, 2, 2};
+    pelgaisti_program program = {start, 1, PELGAISTI_IX, {PELGAISTI_LOCK, PELGAISTI_X, record_of(table, record)}};
+    while (program.from <= program.last.resource.level) {
+        pelgaisti_program_answer answer = run(w, &program);
+        pelgaisti_reply reply = answer.replies[answer.served - 1];
         w->waits += reply.kind == PELGAISTI_WAITING;
         while (reply.kind == PELGAISTI_WAITING) reply = end_wait(w, limit);
         w->victims += reply.kind == PELGAISTI_DEADLOCK;
         if (reply.kind == PELGAISTI_DEADLOCK || reply.kind == PELGAISTI_WITHDRAWN) return 0;
         if (reply.kind == PELGAISTI_REFUSED) stop("lock was refused", pelgaisti_refusal_name(reply.value));
+        /* the level at which it has waited is locked, too */
+        program.from += answer.served - calls_of_start[program.start];
+        program.start = PELGAISTI_NOTHING;
     }
     return 1;
 }
@@ -149,25 +159,25 @@ static int do_without(worker *holder, worker *other) {
     ask(holder, PELGAISTI_BEGIN);
     ask(other, PELGAISTI_BEGIN);
     int held = try_record(holder, 0, MEETING);
-    int refused = !try_record(other, 0, MEETING), withdrawn = !lock_record(other, 0, MEETING, SHORT);
+    int refused = !try_record(other, 0, MEETING), withdrawn = !lock_record(other, PELGAISTI_NOTHING, 0, MEETING, SHORT);
     int goes_on = try_record(other, 1, MEETING) && ask(other, PELGAISTI_COMMIT).kind == PELGAISTI_COMMITTED;
     ask(holder, PELGAISTI_COMMIT);
     return held && refused && withdrawn && goes_on;
 }
 
-/* Moves 1 from a record of one table to a record of the other. Returns 0 if the move was undone. */
+/* Moves 1 from a record of one table to a record of the other. Returns 0 if the move was undone. It is committed, or aborted, by the
+   program that begins the next one. */
 static int move(worker *w, uint32_t from, uint32_t record, uint32_t to, uint32_t other, int meet) {
-    ask(w, PELGAISTI_BEGIN);
-    int taken = lock_record(w, from, record, LONG);
+    int taken = lock_record(w, w->start, from, record, LONG);
     if (taken) accounts[from][record] -= 1;
     if (meet) pthread_barrier_wait(&both_hold_one); /* makes sure that the first moves of two workers deadlock */
-    if (taken && lock_record(w, to, other, LONG)) {
+    w->start = PELGAISTI_COMMITS_AND_BEGINS;
+    if (taken && lock_record(w, PELGAISTI_NOTHING, to, other, LONG)) {
         accounts[to][other] += 1;
-        if (ask(w, PELGAISTI_COMMIT).kind != PELGAISTI_COMMITTED) stop("commit", "was refused");
         return 1;
     }
     if (taken) accounts[from][record] += 1; /* a victim keeps its locks until it aborts */
-    if (ask(w, PELGAISTI_ABORT).kind != PELGAISTI_ABORTED) stop("abort", "was refused");
+    w->start = PELGAISTI_ABORTS_AND_BEGINS;
     return 0;
 }
 
@@ -184,6 +194,7 @@ static void *work(void *argument) {
         w->moved++;
         from = 1 - from;
     }
+    if (ask(w, PELGAISTI_COMMIT).kind != PELGAISTI_COMMITTED) stop("commit", "was refused");
     return NULL;
 }
 
@@ -202,7 +213,7 @@ int main(int argc, char **argv) {
     pelgaisti_status status = pelgaisti_office_open_waking(sessions, THREADS, KEPT, &waker);
     if (status != PELGAISTI_OK) stop("open", pelgaisti_status_name(status));
     for (unsigned t = 0; t < THREADS; t++) {
-        worker w = {&sessions[t], t, moves, 0, 0, 0, 0, 0, 0};
+        worker w = {&sessions[t], t, moves, 0, 0, 0, 0, 0, PELGAISTI_BEGINS, 0};
         workers[t] = w;
         sem_init(&woken[t + 1], 0, 0);
     }

@@ -78,13 +78,16 @@ struct worker {
         return ask({pelgaisti::op::poll}).kind == pelgaisti::kind::clear;
     }
 
-    // Locks an account and its table. While a request waits, sleeps, and then goes on. Whether both were granted within the limit.
-    bool lock(account it, std::chrono::milliseconds limit) {
-        for (std::uint32_t level = 0;;) {
-            const auto reply = session.lock_path({it.table, it.number}, pelgaisti::mode::X, level)->reply;
-            if (reply.kind != pelgaisti::kind::waiting) return reply.kind == pelgaisti::kind::granted;
-            if (!end_wait(limit)) return false;
+    // Begins, if `first` says so, and locks an account and its table, by one program. While a request waits, sleeps, and then goes on with
+    // the rest. Whether both were granted within the limit.
+    bool lock(pelgaisti::start first, account it, std::chrono::milliseconds limit) {
+        for (std::uint32_t level = 1; level <= 2; first = pelgaisti::start::nothing) {
+            const auto answer = *session.run(pelgaisti::program::locks(first, {it.table, it.number}, pelgaisti::mode::X, level));
+            const auto last = answer[answer.size() - 1];
+            if (last.kind == pelgaisti::kind::waiting ? !end_wait(limit) : answer.stopped()) return false;
+            level += static_cast<std::uint32_t>(answer.size()) - (first == pelgaisti::start::begins);
         }
+        return true;
     }
 
     // Locks an account and its table if that is possible without waiting. Whether it was.
@@ -100,19 +103,20 @@ struct worker {
 bool do_without(pelgaisti::session &one, pelgaisti::session &two) {
     worker holder{one, 1}, other{two, 2};
     for (auto *it : {&holder, &other}) it->make(pelgaisti::op::begin);
-    const bool held = holder.try_lock({0, 0}), refused = !other.try_lock({0, 0}), withdrawn = !other.lock({0, 0}, 20ms);
+    const bool held = holder.try_lock({0, 0}), refused = !other.try_lock({0, 0}), withdrawn = !other.lock(pelgaisti::start::nothing, {0, 0}, 20ms);
     for (auto *it : {&other, &holder}) it->make(pelgaisti::op::commit);
     return held && refused && withdrawn;
 }
 
 // One transfer. Whether it was committed.
 bool transfer(worker &worker, account from, account to) {
-    worker.make(pelgaisti::op::begin);
+    auto first = pelgaisti::start::begins;
     for (account it : {from, to}) {
-        if (!worker.lock(it, 60s)) {
+        if (!worker.lock(first, it, 60s)) {
             worker.make(pelgaisti::op::abort);
             return false;
         }
+        first = pelgaisti::start::nothing;
     }
     tables[from.table][from.number] -= 1;
     tables[to.table][to.number] += 1;

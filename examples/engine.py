@@ -1,7 +1,7 @@
 #!/usr/bin/env python3
 """A small engine in Python, by ctypes over the shared library: accounts, and four threads that move money between them. Each move locks
 the two accounts that it changes, sleeps while it waits for a lock, and starts again if it is chosen as a deadlock's victim. Whoever ends
-a wait wakes the thread that waits.
+a wait wakes the thread that waits. Between two moves a thread runs one program: it commits, begins, and locks the next account.
 
     ./embed && python3 examples/engine.py out
 
@@ -42,6 +42,16 @@ class Answer(Structure):
     _fields_ = [("place", c_uint64), ("reply", Reply)]
 
 
+class Program(Structure):
+    """What `start` says, then locks in the mode `above` from a level of the last call's resource on, and the last call."""
+
+    _fields_ = [("start", c_uint32), ("level", c_uint32), ("above", c_uint32), ("last", Call)]
+
+
+class ProgramAnswer(Structure):
+    _fields_ = [("place", c_uint64), ("served", c_uint32), ("starved", c_uint32), ("stop", c_uint32), ("replies", Reply * 7)]
+
+
 class Handle(Structure):
     """The handle of a session or of a book."""
 
@@ -72,11 +82,14 @@ class Waker(Structure):
 
 open_office = declared("pelgaisti_office_open_waking", POINTER(Handle), c_size_t, c_uint64, POINTER(Waker))
 perform = declared("pelgaisti_session_perform", POINTER(Handle), POINTER(Call), c_uint64, POINTER(Answer))
+run = declared("pelgaisti_session_run", POINTER(Handle), POINTER(Program), c_uint64, POINTER(ProgramAnswer))
 hand_in = declared("pelgaisti_session_hand_in", POINTER(Handle), POINTER(Handle))
 close_office = declared("pelgaisti_office_close", POINTER(Handle), POINTER(Handle))
 close_book = declared("pelgaisti_book_close", POINTER(Handle))
 # how many turns a call makes until it is answered
 NO_LIMIT = 2**64 - 1
+# how many calls a program begins with
+CALLS = {"NOTHING": 0, "BEGINS": 1, "COMMITS_AND_BEGINS": 2, "ABORTS_AND_BEGINS": 2}
 
 
 def expect(status, what):
@@ -90,6 +103,7 @@ class Worker:
     def __init__(self, handle, number):
         self.handle, self.number = handle, number
         self.waits = self.victims = 0
+        self.start = "BEGINS"
 
     def call(self, op, mode="NL", *path):
         """Makes a call. Returns the kind of the reply."""
@@ -97,37 +111,52 @@ class Worker:
         expect(perform(self.handle, byref(asked), NO_LIMIT, byref(answer)), op)
         return answer.reply.kind
 
-    def lock(self, mode, *path):
-        """Locks a resource, and sleeps while the lock waits. Returns whether it is held: if it isn't, the transaction is a victim."""
-        kind = self.call("LOCK", mode, *path)
+    def sleep(self):
+        """Sleeps while a request waits. Returns the kind of the reply that ends the wait."""
+        kind = N["WAITING"]
         while kind == N["WAITING"]:
             self.waits += 1
             if not WOKEN[self.number].acquire(timeout=60):
                 raise RuntimeError("a wake-up is lost")
             kind = self.call("POLL")
-        if kind not in (N["GRANTED"], N["CLEAR"], N["DEADLOCK"]):
-            raise RuntimeError(f"a lock was answered by kind {kind}")
-        return kind != N["DEADLOCK"]
+        return kind
+
+    def lock(self, start, account):
+        """Does what `start` says, and locks an account of database 1, by one program, and another for what is left behind a wait.
+        Returns whether it is held: if it isn't, the transaction is a victim."""
+        last = Call(N["LOCK"], N["X"], Resource(2, (c_uint32 * 5)(1, account)))
+        program = Program(N[start], 1, N["IX"], last)
+        while program.level <= last.resource.level:
+            answer = ProgramAnswer()
+            expect(run(self.handle, byref(program), NO_LIMIT, byref(answer)), "run")
+            kind = self.sleep() if answer.stop == N["WAITING"] else answer.stop
+            if kind == N["DEADLOCK"]:
+                return False
+            if kind not in (0, N["CLEAR"]):
+                raise RuntimeError(f"a program stopped at kind {kind}")
+            program.level += answer.served - CALLS[start]
+            start, program.start = "NOTHING", N["NOTHING"]
+        return True
 
     def move(self, source, target, amount):
-        """Moves an amount from one account to another, in as many transactions as it takes."""
+        """Moves an amount from one account to another, in as many transactions as it takes. The next program commits it."""
         while True:
-            self.call("BEGIN")
-            if self.lock("IX", 1) and self.lock("X", 1, source):
+            if self.lock(self.start, source):
                 ACCOUNT[source] -= amount
-                if self.lock("X", 1, target):
+                if self.lock("NOTHING", target):
                     ACCOUNT[target] += amount
-                    self.call("COMMIT")
+                    self.start = "COMMITS_AND_BEGINS"
                     return
                 ACCOUNT[source] += amount  # undone before the locks are given back
             self.victims += 1
-            self.call("ABORT")
+            self.start = "ABORTS_AND_BEGINS"
 
     def work(self):
         chosen = random.Random(self.number)
         for _ in range(MOVES):
             source, target = chosen.sample(range(ACCOUNTS), 2)
             self.move(source, target, chosen.randrange(10))
+        self.call("COMMIT")
 
 
 ACCOUNT = [BALANCE] * ACCOUNTS

@@ -16,6 +16,8 @@ use std::time::Duration;
 const OK: u32 = 0;
 const IX: u32 = 3;
 const X: u32 = 15;
+const NOTHING: u32 = 0;
+const BEGINS: u32 = 1;
 const BEGIN: u32 = 1;
 const LOCK: u32 = 2;
 const POLL: u32 = 4;
@@ -62,6 +64,26 @@ struct Answer {
     reply: Reply,
 }
 
+/// What `start` says, then locks in the mode `above` from a level of the last call's resource on, and the last call.
+#[repr(C)]
+struct Program {
+    start: u32,
+    from: u32,
+    above: u32,
+    last: Call,
+}
+
+/// The answer to a program: how many calls were served, and the kind of the reply at which it stopped.
+#[repr(C)]
+#[derive(Default)]
+struct ProgramAnswer {
+    place: u64,
+    served: u32,
+    starved: u32,
+    stop: u32,
+    replies: [Reply; 7],
+}
+
 /// The handle of a book or of a session.
 #[repr(C)]
 struct Handle {
@@ -92,6 +114,7 @@ unsafe extern "C" {
     // entries are kept.
     fn pelgaisti_office_open_waking(sessions: *mut Handle, count: usize, bound: u64, waker: *const Waker) -> u32;
     safe fn pelgaisti_session_perform(session: &mut Handle, call: &Call, turns: u64, answer: &mut Answer) -> u32;
+    safe fn pelgaisti_session_run(session: &mut Handle, program: &Program, turns: u64, answer: &mut ProgramAnswer) -> u32;
     safe fn pelgaisti_session_hand_in(session: &mut Handle, to: &mut Handle) -> u32;
     safe fn pelgaisti_office_close(session: &mut Handle, book: &mut Handle) -> u32;
 }
@@ -196,23 +219,31 @@ impl Worker<'_> {
         self.plain(POLL)
     }
 
-    /// Locks a resource, and sleeps while the request waits. Returns false if the transaction became a victim, or if the request
+    /// Begins, if `start` says so, and locks a record exclusively, under intention locks on the database and the table, by one program.
+    /// While a request waits, sleeps, and then goes on with the rest. Returns false if the transaction became a victim, or if a request
     /// wasn't granted within the limit.
-    fn lock(&mut self, mode: u32, numbers: &[u32], limit: Duration) -> bool {
-        let mut reply = self.request(LOCK, mode, numbers);
-        while reply.kind == WAITING {
-            reply = self.end_wait(limit);
+    fn lock_record(&mut self, start: u32, table: usize, record: usize, limit: Duration) -> bool {
+        let mut last = Call { op: LOCK, mode: X, ..Call::default() };
+        last.resource.level = 3;
+        last.resource.numbers[..3].copy_from_slice(&[1, table as u32, record as u32]);
+        let mut program = Program { start, from: 1, above: IX, last };
+        while program.from <= last.resource.level {
+            let mut answer = ProgramAnswer::default();
+            assert_eq!(pelgaisti_session_run(self.session, &program, u64::MAX, &mut answer), OK);
+            let mut kind = answer.stop;
+            while kind == WAITING {
+                kind = self.end_wait(limit).kind;
+            }
+            assert!([0, CLEAR, DEADLOCK, WITHDRAWN].contains(&kind));
+            self.victims += u32::from(kind == DEADLOCK);
+            if kind == DEADLOCK || kind == WITHDRAWN {
+                return false;
+            }
+            // the level at which it has waited is locked, too
+            program.from += answer.served - u32::from(program.start == BEGINS);
+            program.start = NOTHING;
         }
-        assert!([GRANTED, CLEAR, DEADLOCK, WITHDRAWN].contains(&reply.kind));
-        self.victims += u32::from(reply.kind == DEADLOCK);
-        [GRANTED, CLEAR].contains(&reply.kind)
-    }
-
-    /// Locks a record exclusively, under intention locks on the database and the table.
-    fn lock_record(&mut self, table: usize, record: usize, limit: Duration) -> bool {
-        self.lock(IX, &[1], limit)
-            && self.lock(IX, &[1, table as u32], limit)
-            && self.lock(X, &[1, table as u32, record as u32], limit)
+        true
     }
 
     /// Locks a resource if that is possible without waiting.
@@ -235,22 +266,21 @@ impl Worker<'_> {
         self.plain(BEGIN);
         other.plain(BEGIN);
         assert!(self.try_record(0, MEETING));
-        assert!(!other.try_record(0, MEETING) && !other.lock_record(0, MEETING, SHORT));
+        assert!(!other.try_record(0, MEETING) && !other.lock_record(NOTHING, 0, MEETING, SHORT));
         assert_eq!(other.plain(COMMIT).kind, COMMITTED);
         assert_eq!(self.plain(COMMIT).kind, COMMITTED);
     }
 
     /// Moves 1 from a record of one table to a record of the other. Returns false if the move was undone.
     fn make_move(&mut self, from: usize, record: usize, other: usize, meet: bool) -> bool {
-        self.plain(BEGIN);
-        let taken = self.lock_record(from, record, LONG);
+        let taken = self.lock_record(BEGINS, from, record, LONG);
         if taken {
             self.accounts[from][record].fetch_sub(1, Relaxed);
         }
         if meet {
             self.both_hold_one.wait();
         }
-        if taken && self.lock_record(1 - from, other, LONG) {
+        if taken && self.lock_record(NOTHING, 1 - from, other, LONG) {
             self.accounts[1 - from][other].fetch_add(1, Relaxed);
             assert_eq!(self.plain(COMMIT).kind, COMMITTED);
             return true;

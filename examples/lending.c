@@ -69,29 +69,33 @@ static uint32_t ask(unsigned lent, uint32_t op) {
     return answer.reply.kind;
 }
 
-/* Locks an account exclusively, under an intention lock on database 1. Sleeps while it waits. Returns 0 if it became a victim. */
-static int lock_account(unsigned lent, uint32_t account) {
-    const pelgaisti_resource resource = {2, {1, account}};
-    for (uint32_t level = 0; level < resource.level;) {
-        pelgaisti_answer answer;
-        pelgaisti_status status = pelgaisti_session_lock_path(&sessions[lent], &resource, PELGAISTI_X, &level, UINT64_MAX, &answer);
-        must(status == PELGAISTI_OK, "lock", pelgaisti_status_name(status));
-        while (answer.reply.kind == PELGAISTI_WAITING) {
+/* Does what `start` says, and locks an account exclusively, under an intention lock on database 1, by one program. Sleeps while it waits,
+   and then goes on with the rest. Returns 0 if it became a victim. */
+static int lock_account(unsigned lent, uint32_t start, uint32_t account) {
+    pelgaisti_program program = {start, 1, PELGAISTI_IX, {PELGAISTI_LOCK, PELGAISTI_X, {2, {1, account}}}};
+    while (program.from <= program.last.resource.level) {
+        pelgaisti_program_answer answer;
+        pelgaisti_status status = pelgaisti_session_run(&sessions[lent], &program, UINT64_MAX, &answer);
+        must(status == PELGAISTI_OK && !answer.starved, "run", pelgaisti_status_name(status));
+        must(answer.served > (program.start == PELGAISTI_BEGINS), "begin", "an earlier client's transaction is open");
+        pelgaisti_reply last = answer.replies[answer.served - 1];
+        while (last.kind == PELGAISTI_WAITING) {
             while (sem_wait(&woken[lent]) != 0) continue; /* a signal may end the sleep early */
-            answer.reply.kind = ask(lent, PELGAISTI_POLL);
+            last.kind = ask(lent, PELGAISTI_POLL);
         }
-        if (answer.reply.kind == PELGAISTI_DEADLOCK) return 0;
-        must(answer.reply.kind != PELGAISTI_REFUSED, "lock", pelgaisti_refusal_name(answer.reply.value));
+        if (last.kind == PELGAISTI_DEADLOCK) return 0;
+        must(last.kind != PELGAISTI_REFUSED, "lock", pelgaisti_refusal_name(last.value));
+        program.from += answer.served - (program.start == PELGAISTI_BEGINS); /* the level at which it has waited is locked, too */
+        program.start = PELGAISTI_NOTHING;
     }
     return 1;
 }
 
 /* One transaction on a borrowed session. Returns 0 if it became a victim. It writes once it has both locks, so it has nothing to undo. */
 static int transfer(unsigned lent, uint32_t from, uint32_t to, int meet) {
-    must(ask(lent, PELGAISTI_BEGIN) == PELGAISTI_BEGAN, "begin", "an earlier client's transaction is open");
-    int taken = lock_account(lent, from);
+    int taken = lock_account(lent, PELGAISTI_BEGINS, from);
     if (meet) pthread_barrier_wait(&both_hold_one); /* the two clients hold what the other one asks for next */
-    taken = taken && lock_account(lent, to);
+    taken = taken && lock_account(lent, PELGAISTI_NOTHING, to);
     if (taken) accounts[from] -= 1, accounts[to] += 1;
     must(ask(lent, taken ? PELGAISTI_COMMIT : PELGAISTI_ABORT) != PELGAISTI_REFUSED, "commit or abort", "it was refused");
     return taken;

@@ -24,8 +24,8 @@
  * A lock table comes in two forms. A BOOK is a lock table for one thread, or for an engine that guards it by a mutex of its own:
  * each call is answered at once. An OFFICE is a lock table that threads share. Each thread has a session. Where the lock table is
  * free, it performs a call at once. Else it publishes the call, then serves and collects in turn until it has the answer.
- * pelgaisti_session_perform and pelgaisti_session_lock_path do so, as often as they are told, and pause between their turns. No other
- * call waits for another thread.
+ * pelgaisti_session_perform, pelgaisti_session_run and pelgaisti_session_lock_path do so, as often as they are told, and pause between
+ * their turns. No other call waits for another thread.
  *
  * RULES FOR THE CALLER. The library is proved, but no proof covers the C code that calls it. Some calls have further rules, in
  * their comments after "Requires".
@@ -65,7 +65,8 @@
  * serve that returns ELSEWHERE may put the session's record on the publication list; COPIED closes the session's handle; where
  * memory was refused for a call that was to be performed at once, a pass was made that may have served other calls, and the waker was
  * called for whom it has told of; and where memory was refused for the answer to a question of a session, the session may know more
- * of the history. The calls that make several turns say for themselves what they leave (pelgaisti_session_perform, .._lock_path).
+ * of the history. The calls that make several turns say for themselves what they leave (pelgaisti_session_perform, .._run,
+ * .._lock_path).
  *
  * WHAT IS PROVED. Each call leads to an export of crates/pelgaisti_c, which states and proves its contract: what PELGAISTI_OK means,
  * which other statuses the call can return, and what each of these implies. What stands between is in bindings/c, some 400 lines of C,
@@ -102,13 +103,14 @@ typedef enum pelgaisti_status {
                                       was refused is tested] */
     PELGAISTI_CLOSED = 2,          /* the handle is closed [closed, exactly then] */
     PELGAISTI_NO_SUCH_SESSION = 3, /* the book, or the office, has no session with this number [session] */
-    PELGAISTI_NO_SUCH_OP = 4,      /* the op is not a pelgaisti_op [call] */
+    PELGAISTI_NO_SUCH_OP = 4,      /* the op is not a pelgaisti_op; a session's program makes no call [call] */
     PELGAISTI_NO_SUCH_LEVEL = 5,   /* the level is not in 1 to PELGAISTI_LEVELS [call, level] */
     PELGAISTI_NO_SUCH_MODE = 6,    /* the mode is not a pelgaisti_mode [call] */
     PELGAISTI_OPEN = 7,            /* the handle is already open [open, exactly then] */
     PELGAISTI_NO_SUCH_COUNT = 8,   /* the number of sessions is not in 1 to PELGAISTI_MAX_SESSIONS [count] */
-    PELGAISTI_PENDING = 9,         /* the session has a pending call [pending] */
-    PELGAISTI_NOTHING_PENDING = 10, /* the session has no pending call [nothing] */
+    PELGAISTI_PENDING = 9,         /* the session has a pending call or program [pending]; of pelgaisti_session_collect, and of
+                                      .._perform with NULL: a program of several calls [several] */
+    PELGAISTI_NOTHING_PENDING = 10, /* the session has no pending call or program [nothing] */
     PELGAISTI_NOT_SERVED = 11,     /* the session knows no answer to its pending call: serve, and collect again [late; that the call
                                       isn't served yet is tested] */
     PELGAISTI_RETIRED = 12,        /* the session has retired and publishes no more calls [retired] */
@@ -282,7 +284,7 @@ typedef struct pelgaisti_answer {
 
 /* The result of a pass. */
 typedef struct pelgaisti_pass {
-    uint32_t served;  /* the number of calls that the pass served */
+    uint32_t served;  /* the number of published calls that the pass served; a program counts as one */
     uint32_t starved; /* 1 if calls were put back, since memory was refused for one: they stay published. Otherwise 0 */
 } pelgaisti_pass;
 
@@ -544,8 +546,8 @@ pelgaisti_status pelgaisti_office_open_keeping(pelgaisti_session *sessions, size
 /* Opens an office as pelgaisti_office_open_keeping does, whose threads sleep while they wait for a lock. From then on each call on one
    of its sessions that makes a pass calls `wake` of the waker for each session whose wait the pass has ended, once, in no
    particular order: whose waiting request a call of another session in this pass granted, or whose transaction it made a deadlock's
-   victim. Passes are made by pelgaisti_session_serve, .._serve_telling, .._perform_at_once, .._perform_telling, .._perform and
-   .._lock_path. They wake after the pass, before they return, whatever status they return.
+   victim. Passes are made by pelgaisti_session_serve, .._serve_telling, .._perform_at_once, .._perform_telling, .._perform, .._run
+   and .._lock_path. They wake after the pass, before they return, whatever status they return.
    The office takes the memory for whom a pass tells when it is opened, so that none of these calls lacks it later [proved: statuses of
    the export of .._serve, and memory of that of .._perform_at_once, by which NO_MEMORY comes of the call alone, behind a pass], but
    for the lists of .._serve_telling and .._perform_telling.
@@ -575,13 +577,13 @@ pelgaisti_status pelgaisti_office_open_keeping(pelgaisti_session *sessions, size
 
    Why no wake-up is lost. (1) A session whose last answer is WAITING, collected or not, has a waiting request, or an entry of the
    history behind that answer has ended its wait, which exactly one session has entered in a pass [proved: not_forgotten of
-   lock_board::laws::nobody_who_waits_is_forgotten]. (2) The call that made this pass lists exactly the sessions whose waits its
+   program_office::laws::nobody_who_waits_is_forgotten]. (2) The call that made this pass lists exactly the sessions whose waits its
    entries have ended, also if the wait began in the same pass, and also if memory was refused [proved: none_lost of
-   lock_office::laws::no_wake_up_is_lost, and told of the exports]. (3) The call reads its list [proved: ok of
+   program_office::laws::no_wake_up_is_lost, and told of the exports]. (3) The call reads its list [proved: ok of
    pelgaisti_raw_session_told] and calls the waker for each [tested, and that nothing of this takes memory]. (4) A semaphore counts, so
    that a post before the thread sleeps wakes it as well [that is the system's]. (5) The next poll of a session that was told of, and
    has made no call since its wait ended, replies CLEAR or DEADLOCK, whatever others call before it [proved: none_idle of
-   lock_office::laws::no_wake_up_is_lost]. */
+   program_office::laws::no_wake_up_is_lost]. */
 pelgaisti_status pelgaisti_office_open_waking(pelgaisti_session *sessions, size_t count, uint64_t bound,
                                               const pelgaisti_waker *waker);
 
@@ -626,8 +628,9 @@ pelgaisti_status pelgaisti_session_perform_at_once(pelgaisti_session *session, c
 pelgaisti_status pelgaisti_session_perform_telling(pelgaisti_session *session, const pelgaisti_call *call, pelgaisti_pass *pass,
                                                    pelgaisti_answer *answer, uint32_t *list, size_t room, size_t *count);
 
-/* Takes the answer to the session's pending call, which is then no longer pending.
-   NULL, CLOSED, NOTHING_PENDING, NOT_SERVED. */
+/* Takes the answer to the session's pending call, which is then no longer pending. PENDING: what is pending is a program of several calls,
+   whose answer pelgaisti_session_run takes.
+   NULL, CLOSED, NOTHING_PENDING, PENDING, NOT_SERVED. */
 pelgaisti_status pelgaisti_session_collect(pelgaisti_session *session, pelgaisti_answer *answer);
 
 /* Tries once to take the lock table, without blocking, and if that succeeds, writes the oldest entries of the history that it keeps,
@@ -725,6 +728,24 @@ pelgaisti_status pelgaisti_office_close(pelgaisti_session *session, pelgaisti_bo
    for `call`; NO_MEMORY, NOT_SERVED. */
 pelgaisti_status pelgaisti_session_perform(pelgaisti_session *session, const pelgaisti_call *call, uint64_t turns,
                                            pelgaisti_answer *answer);
+
+/* Runs a whole program of the session, as pelgaisti_book_run does of a book: no other session's call comes between its calls in the
+   history. It makes at most `turns` turns, as pelgaisti_session_perform makes them of a call, with the same pauses: it tries to run the
+   program at once, then publishes it, as one, and from then on serves and looks for the answer. So the passes of other sessions run it
+   too. In a pass a program goes ahead of others if its first call is a release, a commit, an abort or a withdrawal. Behind the last turn
+   the program is published, if it isn't yet. With 0 turns it is published and nothing else. With NULL for `program` all turns look
+   for the answer to what is pending, be it a call, which is told as a program of this one call; with 0 turns none does.
+   A program of several calls that is pending is finished by this function alone: pelgaisti_session_collect, and .._perform with NULL,
+   return PENDING. One that makes one call is finished by any of them.
+   A program that makes no call, with NOTHING for `start` and 0 for the last call's op, is refused with NO_SUCH_OP.
+   NOT_SERVED: after so many turns there is no answer. NO_MEMORY: memory was refused, to the program's first call or in a pass of this
+   session, and there is no answer yet. With both the program is pending, and NULL for `program` goes on with it. If memory is refused to a
+   later call of the program, OK is returned, `starved` of the answer is 1, and the caller makes the rest when there is memory.
+   [proved of each turn; tested: that they follow one another, and what is done between them]
+   NULL (the session or the answer), CLOSED, NO_SUCH_START, NO_SUCH_OP, NO_SUCH_LEVEL, NO_SUCH_MODE (the last call's), NOT_ON_PATH,
+   NO_SUCH_ABOVE, RETIRED, PENDING; NOTHING_PENDING with NULL for `program`; NO_MEMORY, NOT_SERVED. */
+pelgaisti_status pelgaisti_session_run(pelgaisti_session *session, const pelgaisti_program *program, uint64_t turns,
+                                       pelgaisti_program_answer *answer);
 
 /* Like pelgaisti_book_lock_path, for a session of an office: makes turns as pelgaisti_session_perform does, at most `turns` for each time
    that a level is locked, and writes the last answer. A turn that takes the lock table performs all the calls that are left.

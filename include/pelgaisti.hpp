@@ -245,6 +245,10 @@ public:
         const auto how = static_cast<uint32_t>(in);
         return told([&](auto *it) { return pelgaisti_session_lock_path(&handle_, &on, how, &level, turns, it); });
     }
+    // Runs a program at once, or publishes, serves and collects, at most `turns` times: no other session's call comes between its calls.
+    // Nothing, or NO_MEMORY: resume_program() goes on. So it does with a pending call, which is a program of one.
+    [[nodiscard]] std::optional<program_answer> run(const program &calls, uint64_t turns = UINT64_MAX) { return run_by(&calls, turns); }
+    [[nodiscard]] std::optional<program_answer> resume_program(uint64_t turns = UINT64_MAX) { return run_by(nullptr, turns); }
     // Takes up to `room` of the oldest entries that are kept, from the place `first` on; nothing if another session has the table.
     [[nodiscard]] std::optional<std::vector<entry>> take_history(size_t room, uint64_t &first) {
         if (room > 256) {  // no more room than for what is kept: takes nothing, which tells where it begins and ends
@@ -309,6 +313,12 @@ private:
         if (status == PELGAISTI_NOT_SERVED) return std::nullopt;
         return check(status), answer{found.place, pelgaisti::reply(found.reply)};
     }
+    std::optional<program_answer> run_by(const pelgaisti_program *calls, uint64_t turns) {
+        pelgaisti_program_answer made{};
+        const pelgaisti_status status = pelgaisti_session_run(&handle_, calls, turns, &made);
+        if (status == PELGAISTI_NOT_SERVED) return std::nullopt;
+        return check(status), program_answer(made);
+    }
     pelgaisti_session handle_ = PELGAISTI_EMPTY;
 };
 static_assert(sizeof(session) == sizeof(pelgaisti_session), "an array of sessions is an array of handles");
@@ -351,10 +361,10 @@ public:
         pelgaisti_session *const first = &sessions_[0].handle_;
         pelgaisti_book made = PELGAISTI_EMPTY;
         pelgaisti_pass pass;
-        pelgaisti_answer found;
+        pelgaisti_program_answer found;
         for (size_t k = 0; k < count_; ++k) {  // a handle that is closed refuses each of these calls
             static_cast<void>(pelgaisti_session_serve(first + k, &pass));
-            static_cast<void>(pelgaisti_session_collect(first + k, &found));
+            static_cast<void>(pelgaisti_session_run(first + k, nullptr, 1, &found));
         }
         for (size_t k = 1; k < count_; ++k) static_cast<void>(pelgaisti_session_hand_in(first + k, first));
         if (pelgaisti_office_close(first, &made) == PELGAISTI_OK) static_cast<void>(pelgaisti_book_close(&made));
@@ -371,8 +381,8 @@ public:
     }
     // The sessions that went back to the office and weren't handed out since, by number: each is handed out once, also if several threads
     // ask. An orphan is as it went back:
-    // - It may have a pending call, which other sessions' passes serve meanwhile, whatever it asks. resume() tells the answer; until then
-    //   it publishes no other call (PENDING).
+    // - It may have a pending call or program, which other sessions' passes serve meanwhile, whatever it asks. resume_program() tells the
+    //   answer to either; until then it publishes nothing else (PENDING).
     // - It may have a transaction. An abort ends it, also if its request waits or it is a victim; it is refused if there is none.
     // - A request that waits stays in its queue meanwhile. When the wait ends, the office's waker is called for the session, with nobody
     //   there to wake. So the next owner may find a wake-up that isn't its own, and polls.

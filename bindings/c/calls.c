@@ -344,6 +344,30 @@ pelgaisti_status pelgaisti_session_lock_path(pelgaisti_session *session, const p
     }
 }
 
+/* Makes one turn of the program, or with NULL of what is pending, behind `made` turns. */
+static pelgaisti_status run_turn(pelgaisti_session *session, const pelgaisti_program *program, uint64_t made, uint64_t turns,
+                                 pelgaisti_program_answer *answer, uint32_t *wait, size_t *told) {
+    if (!program)
+        return ORDERING_CALL(session, ACQUIRES, pelgaisti_raw_session_run_look(&session, made, turns, &answer, wait, told));
+    return ORDERING_CALL(session, RELEASES | ACQUIRES,
+                         pelgaisti_raw_session_run_turn(&session, &program, made, turns, &answer, wait, told));
+}
+
+pelgaisti_status pelgaisti_session_run(pelgaisti_session *session, const pelgaisti_program *program, uint64_t turns,
+                                       pelgaisti_program_answer *answer) {
+    pelgaisti_status status;
+    uint64_t made;
+    uint32_t wait = 0;
+    size_t told;
+    for (made = 0;; made++) {
+        told = 0;
+        status = run_turn(session, program, made, turns, answer, &wait, &told);
+        if (told > 0) wake_told(session, told);
+        if (status != PELGAISTI_NOT_SERVED || wait == 0) return WRITING(answer, status);
+        wait_before_turn(wait);
+    }
+}
+
 pelgaisti_status pelgaisti_session_take_history(pelgaisti_session *session, uint64_t *first, pelgaisti_entry *entries,
                                                 size_t room, size_t *count) {
     return WRITING(first, LISTING(entries, room, count,

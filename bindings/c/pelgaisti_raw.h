@@ -72,6 +72,12 @@ uint32_t pelgaisti_raw_session_look(pelgaisti_session **session, uint64_t looked
 uint32_t pelgaisti_raw_session_path_turn(pelgaisti_session **session, const pelgaisti_resource **resource, uint32_t mode,
                                          uint32_t **level, uint64_t *made, uint64_t turns, pelgaisti_answer **answer,
                                          uint32_t *wait, size_t *told);
+/* One turn of a program, behind `made` turns, of at most `turns`. It writes as pelgaisti_raw_session_turn does. */
+uint32_t pelgaisti_raw_session_run_turn(pelgaisti_session **session, const pelgaisti_program **program, uint64_t made,
+                                        uint64_t turns, pelgaisti_program_answer **answer, uint32_t *wait, size_t *told);
+/* The same of what is pending, behind `looked` turns. */
+uint32_t pelgaisti_raw_session_run_look(pelgaisti_session **session, uint64_t looked, uint64_t turns,
+                                        pelgaisti_program_answer **answer, uint32_t *wait, size_t *told);
 uint32_t pelgaisti_raw_session_collect(pelgaisti_session **session, pelgaisti_answer **answer);
 uint32_t pelgaisti_raw_session_take_history(pelgaisti_session **session, uint64_t **first, pelgaisti_raw_list *entries,
                                             size_t **count);

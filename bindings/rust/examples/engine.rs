@@ -5,7 +5,7 @@
 //!
 //!     cargo run --release --example engine
 
-use pelgaisti::{Call, Mode, Office, Refusal, Reply, Resource, Session};
+use pelgaisti::{Call, Mode, Office, Program, Refusal, Reply, Resource, Session, Start};
 use std::sync::atomic::{AtomicI64, Ordering};
 use std::sync::{Arc, Condvar, Mutex};
 use std::thread;
@@ -79,21 +79,24 @@ fn end_wait(session: &mut Session, beds: &Beds, limit: Duration) -> Reply {
     ask(session, &Call::Poll)
 }
 
-/// Locks a path down to the resource. While a request on it waits, sleeps, and then goes on. Whether it was granted, each request
-/// within the limit.
-fn lock(session: &mut Session, beds: &Beds, mode: Mode, numbers: &[u32], limit: Duration) -> bool {
+/// Begins, if `first` says so, and locks a path down to the resource, by one program. While a request on it waits, sleeps, and then goes on
+/// with the rest. Whether it was granted, each request within the limit.
+fn lock(session: &mut Session, beds: &Beds, mut first: Start, mode: Mode, numbers: &[u32], limit: Duration) -> bool {
     let resource = Resource::new(numbers).expect("1 to 5 numbers");
-    let mut level = 0;
-    while let Some(answer) = session.lock_path(resource, mode, &mut level, u64::MAX).expect("memory for a call") {
-        let mut reply = answer.reply;
-        while reply == Reply::Waiting {
-            reply = end_wait(session, beds, limit);
+    let mut locked = 0;
+    while let Some(program) = Program::locks(first, resource, mode, locked) {
+        let answer = session.run(&program, u64::MAX).expect("memory for a program");
+        let mut last = answer.replies().last().expect("a call was made");
+        while last == Reply::Waiting {
+            last = end_wait(session, beds, limit);
         }
-        match reply {
+        match last {
             Reply::Deadlock | Reply::Withdrawn => return false,
             Reply::Refused(why) => panic!("a lock was refused: {why}"),
             _ => (),
         }
+        locked += answer.replies().len() - usize::from(first == Start::Begins);
+        first = Start::Nothing;
     }
     true
 }
@@ -109,16 +112,15 @@ fn do_without(sessions: &mut [Session], beds: &Beds) {
     make(other, &Call::Begin);
     assert_eq!(ask(holder, &table), Reply::Granted(Mode::X));
     assert_eq!(ask(other, &table), Reply::Refused(Refusal::WouldWait));
-    assert!(!lock(other, beds, Mode::S, &[0], Duration::from_millis(20)));
+    assert!(!lock(other, beds, Start::Nothing, Mode::S, &[0], Duration::from_millis(20)));
     assert_eq!(ask(other, &Call::Commit), Reply::Committed(0));
     assert_eq!(ask(holder, &Call::Commit), Reply::Committed(1));
 }
 
 /// One transfer. Whether it was committed.
 fn transfer(session: &mut Session, beds: &Beds, accounts: &Tables, from: (u32, u32), to: (u32, u32)) -> bool {
-    make(session, &Call::Begin);
-    for (table, account) in [from, to] {
-        if !lock(session, beds, Mode::X, &[table, account], Duration::from_secs(60)) {
+    for (first, (table, account)) in [(Start::Begins, from), (Start::Nothing, to)] {
+        if !lock(session, beds, first, Mode::X, &[table, account], Duration::from_secs(60)) {
             make(session, &Call::Abort);
             return false;
         }

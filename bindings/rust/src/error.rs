@@ -5,18 +5,20 @@ use std::fmt;
 
 /// Why a call made nothing. Nothing has changed then, but for [`Error::Elsewhere`], after which a pending call that wasn't listed
 /// may be; for [`Error::NoMemory`] of a session's question, after which the session may know more of the history; and for the calls
-/// that are made of several: `perform`, `resume` and `lock_path` say what they leave.
+/// that are made of several: `perform`, `resume`, `run`, `resume_program` and `lock_path` say what they leave.
 #[derive(Clone, Copy, Debug, PartialEq, Eq, Hash)]
 pub enum Error {
     /// Memory was refused. The same call may be made again.
     NoMemory,
     /// The book, or the office, has no session with this number.
     NoSuchSession,
+    /// The program makes no call, so that a session has nothing to publish.
+    NoCalls,
     /// The number of sessions isn't from 1 to 1024.
     NoSuchCount,
-    /// The session has a pending call.
+    /// The session has a pending call or program. Of what finishes a single call: a pending program of several calls.
     Pending,
-    /// The session has no pending call.
+    /// The session has no pending call or program.
     NothingPending,
     /// The session knows no answer to its pending call: serve, and collect again.
     NotServed,
@@ -39,6 +41,7 @@ impl fmt::Display for Error {
         f.write_str(match self {
             Error::NoMemory => "memory was refused",
             Error::NoSuchSession => "no session has this number",
+            Error::NoCalls => "the program makes no call",
             Error::NoSuchCount => "the number of sessions isn't from 1 to 1024",
             Error::Pending => "the session has a pending call",
             Error::NothingPending => "the session has no pending call",
@@ -61,6 +64,7 @@ pub(crate) fn done(status: u32) -> Result<(), Error> {
         ffi::OK => return Ok(()),
         ffi::NO_MEMORY => Error::NoMemory,
         ffi::NO_SUCH_SESSION => Error::NoSuchSession,
+        ffi::NO_SUCH_OP => Error::NoCalls,
         ffi::NO_SUCH_COUNT => Error::NoSuchCount,
         ffi::PENDING => Error::Pending,
         ffi::NOTHING_PENDING => Error::NothingPending,

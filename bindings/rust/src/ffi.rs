@@ -141,6 +141,7 @@ pub(crate) const OK: u32 = 0;
 pub(crate) const NO_MEMORY: u32 = 1;
 pub(crate) const CLOSED: u32 = 2;
 pub(crate) const NO_SUCH_SESSION: u32 = 3;
+pub(crate) const NO_SUCH_OP: u32 = 4;
 pub(crate) const NO_SUCH_COUNT: u32 = 8;
 pub(crate) const PENDING: u32 = 9;
 pub(crate) const NOTHING_PENDING: u32 = 10;
@@ -245,6 +246,12 @@ extern "C" {
         level: *mut u32,
         turns: u64,
         answer: *mut RawAnswer,
+    ) -> u32;
+    pub(crate) fn pelgaisti_session_run(
+        session: *mut RawHandle,
+        program: *const RawProgram,
+        turns: u64,
+        answer: *mut RawProgramAnswer,
     ) -> u32;
     pub(crate) fn pelgaisti_session_take_history(
         session: *mut RawHandle,

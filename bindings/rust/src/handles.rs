@@ -1,11 +1,12 @@
 //! Handles, each at one place from its opening to its end.
 
 use crate::error::{done, Error};
-use crate::ffi::{self, RawAnswer, RawHandle, RawPass, MAX_SESSIONS};
+use crate::ffi::{self, RawHandle, RawPass, RawProgramAnswer, MAX_SESSIONS};
 use crate::lists::list_for;
 use crate::waker::AnyWaker;
 use std::cell::UnsafeCell;
 use std::mem;
+use std::ptr;
 use std::sync::atomic::{AtomicU64, Ordering};
 use std::sync::{Arc, Mutex, MutexGuard, PoisonError};
 
@@ -84,13 +85,14 @@ impl Handles {
 
     /// Closes the office, unless it is closed, and frees its lock table. Whether nothing of it is left.
     fn close(&self) -> bool {
-        let (mut pass, mut answer) = (RawPass::default(), RawAnswer::default());
+        let (mut pass, mut answer) = (RawPass::default(), RawProgramAnswer::default());
         let mut first_open = None;
         for handle in self.all.iter().map(UnsafeCell::get) {
-            // SAFETY: no session is left to use a handle; the others are locals. A closed handle refuses each of these calls
+            // SAFETY: no session is left to use a handle; the program may be null, and the others are locals. A closed handle refuses each of
+            // these calls
             let status = unsafe {
                 ffi::pelgaisti_session_serve(handle, &mut pass);
-                ffi::pelgaisti_session_collect(handle, &mut answer)
+                ffi::pelgaisti_session_run(handle, ptr::null(), 1, &mut answer)
             };
             if status == ffi::CLOSED {
                 continue;

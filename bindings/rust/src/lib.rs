@@ -20,9 +20,9 @@
 //!     # Ok::<(), pelgaisti::Error>(())
 //!
 //! **Statuses that can't come.** A handle is open as long as its value lives, a call is one of [`Call`], and each value has
-//! handles of its own that never move: so the library's statuses CLOSED, OPEN, NO_SUCH_OP, NO_SUCH_LEVEL, NO_SUCH_MODE, NULL,
-//! SAME, COPIED, NO_ROOM, NO_SUCH_START, NOT_ON_PATH and NO_SUCH_ABOVE have no counterpart in [`Error`]. If the library gives one of
-//! them all the same, the call panics.
+//! handles of its own that never move: so the library's statuses CLOSED, OPEN, NO_SUCH_LEVEL, NO_SUCH_MODE, NULL, SAME, COPIED,
+//! NO_ROOM, NO_SUCH_START, NOT_ON_PATH and NO_SUCH_ABOVE have no counterpart in [`Error`], and NO_SUCH_OP comes of a program of no calls
+//! alone. If the library gives another one all the same, the call panics.
 #![deny(missing_docs, unsafe_op_in_unsafe_fn, clippy::undocumented_unsafe_blocks)]
 
 mod book;

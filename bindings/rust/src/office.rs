@@ -3,9 +3,10 @@
 use crate::book::{entries_by, Book, Entry};
 use crate::calls::{Call, Mode, Reply, Resource};
 use crate::error::{done, same_version, Error};
-use crate::ffi::{self, RawAnswer, RawHandle, RawPass};
+use crate::ffi::{self, RawAnswer, RawHandle, RawPass, RawProgramAnswer};
 use crate::handles::Handles;
 use crate::lists::{blank, list_for};
+use crate::programs::{Program, ProgramAnswer};
 use crate::waker::{AnyWaker, Waker};
 use std::marker::PhantomData;
 use std::ptr;
@@ -249,7 +250,8 @@ impl Session {
         })
     }
 
-    /// Takes the answer to the pending call. [`Error::NotServed`]: the session knows none yet.
+    /// Takes the answer to the pending call. [`Error::NotServed`]: the session knows none yet. [`Error::Pending`]: what is pending is a
+    /// program of several calls, which [`Session::resume_program`] finishes.
     ///
     ///     # use pelgaisti::{Call, Error, Office};
     ///     let mut sessions = Office::open(1)?;
@@ -282,6 +284,7 @@ impl Session {
     }
 
     /// Goes on with the pending call: all turns look for its answer, as those of [`Session::perform`] do that come last.
+    /// [`Error::Pending`]: what is pending is a program of several calls, which [`Session::resume_program`] finishes.
     ///
     ///     # use pelgaisti::{Call, Error, Office, Reply};
     ///     let mut sessions = Office::open(2)?;
@@ -293,6 +296,44 @@ impl Session {
         // SAFETY: the handle is this session's, used by `&mut`; the call may be null, and the answer is a local
         done(unsafe { ffi::pelgaisti_session_perform(self.raw(), ptr::null(), turns, &mut answer) })?;
         Ok(Answer::of(&answer))
+    }
+
+    /// Runs a whole program, in at most `turns` turns, as [`Session::perform`] makes them of a call: it is tried at once, then published as
+    /// one. No other session's call comes between its calls in the history.
+    ///
+    /// [`Error::NotServed`]: after so many turns there is no answer. [`Error::NoMemory`]: memory was refused, to the first call or in a pass
+    /// of this session, and there is no answer yet. After both the program is pending, and [`Session::resume_program`] goes on with it. If
+    /// memory is refused to a later call, the answer says so. [`Error::NoCalls`]: the program makes no call.
+    ///
+    ///     # use pelgaisti::{Mode, Office, Program, Reply, Resource, Start};
+    ///     let mut sessions = Office::open(2)?;
+    ///     let page = Resource::new(&[7, 2]).unwrap();
+    ///     let program = Program::locks(Start::Begins, page, Mode::X, 0).unwrap();
+    ///     let answer = sessions[0].run(&program, u64::MAX)?;
+    ///     assert!(answer.replies().eq([Reply::Began(1), Reply::Granted(Mode::IX), Reply::Granted(Mode::X)]));
+    ///     # Ok::<(), pelgaisti::Error>(())
+    pub fn run(&mut self, program: &Program, turns: u64) -> Result<ProgramAnswer, Error> {
+        let mut answer = RawProgramAnswer::default();
+        // SAFETY: the handle is this session's, used by `&mut`; the answer is a local of its type
+        done(unsafe { ffi::pelgaisti_session_run(self.raw(), program.raw(), turns, &mut answer) })?;
+        Ok(ProgramAnswer::of(answer))
+    }
+
+    /// Goes on with the pending program: all turns look for its answer. A pending call is a program of one call.
+    ///
+    ///     # use pelgaisti::{Error, Office, Program, Reply, Start};
+    ///     let mut sessions = Office::open(2)?;
+    ///     sessions[1].run(&Program::start(Start::Begins), u64::MAX)?;
+    ///     let next = Program::start(Start::CommitsAndBegins);
+    ///     assert_eq!(sessions[1].run(&next, 0).err(), Some(Error::NotServed));
+    ///     assert_eq!(sessions[1].resume(1), Err(Error::Pending));
+    ///     assert!(sessions[1].resume_program(1)?.replies().eq([Reply::Committed(0), Reply::Began(2)]));
+    ///     # Ok::<(), pelgaisti::Error>(())
+    pub fn resume_program(&mut self, turns: u64) -> Result<ProgramAnswer, Error> {
+        let mut answer = RawProgramAnswer::default();
+        // SAFETY: the handle is this session's, used by `&mut`; the program may be null, and the answer is a local
+        done(unsafe { ffi::pelgaisti_session_run(self.raw(), ptr::null(), turns, &mut answer) })?;
+        Ok(ProgramAnswer::of(answer))
     }
 
     /// Like [`Book::lock_path`], for a session of an office: performs the calls one after another, each in at most `turns` turns,

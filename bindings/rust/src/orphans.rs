@@ -6,8 +6,8 @@ impl Office {
     /// The sessions of this session's office that were dropped and not handed out since, by number: each is handed out once, also if
     /// several threads ask. An orphan is as it was dropped.
     ///
-    /// - It may have a pending call, which other sessions' passes serve meanwhile, whatever it asks: [`Session::resume`] tells the
-    ///   answer. Until then it publishes no other call ([`crate::Error::Pending`]).
+    /// - It may have a pending call or program, which other sessions' passes serve meanwhile, whatever it asks:
+    ///   [`Session::resume_program`] tells the answer to either. Until then it publishes nothing else ([`crate::Error::Pending`]).
     /// - It may have a transaction, with all its locks: [`crate::Call::Abort`] ends it, also if its request waits or it is a victim. The
     ///   reply is a refusal if it has none.
     /// - A request that waits stays in its queue meanwhile. When the wait ends, the office's waker is called for the session, with

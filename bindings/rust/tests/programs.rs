@@ -1,6 +1,6 @@
-//! Programs: of each start and of each last call, and where they stop.
+//! Programs: of each start and of each last call, and where they stop; of a book, and of the sessions of an office.
 
-use pelgaisti::{Book, Call, Error, Mode, Program, ProgramAnswer, Refusal, Reply, Resource, Start};
+use pelgaisti::{Book, Call, Error, Mode, Office, Program, ProgramAnswer, Refusal, Reply, Resource, Start};
 
 fn resource(numbers: &[u32]) -> Resource {
     Resource::new(numbers).unwrap()
@@ -65,4 +65,40 @@ fn a_path_stops_where_it_waits() {
     assert_eq!((answer.replies().len(), ended), (4, vec![9, 2]));
     assert_eq!(run(&mut book, 2, Program::one(&Call::Poll)).0, [Reply::Clear]);
     assert_eq!(book.run(3, &program, &mut Vec::new()).err(), Some(Error::NoSuchSession));
+}
+
+/// A program of a session is tried at once, or published and served by another session; what is pending is finished as a program.
+#[test]
+fn sessions_run_programs() {
+    let mut sessions = Office::open(3).unwrap();
+    let [one, two, three] = &mut sessions[..] else { panic!() };
+    let answer = one.run(&Program::locks(Start::Begins, resource(&[7, 2]), Mode::X, 0).unwrap(), 9).unwrap();
+    assert!(answer.replies().eq([Reply::Began(1), Reply::Granted(Mode::IX), Reply::Granted(Mode::X)]));
+    let answer = two.run(&Program::locks(Start::Begins, resource(&[7, 2, 1]), Mode::X, 0).unwrap(), 9).unwrap();
+    assert!(answer.replies().eq([Reply::Began(2), Reply::Granted(Mode::IX), Reply::Waiting]) && answer.stopped());
+    let next = Program::locks(Start::CommitsAndBegins, resource(&[8]), Mode::S, 0).unwrap();
+    assert_eq!(one.run(&next, 0).err(), Some(Error::NotServed));
+    assert_eq!((one.resume(9), one.collect(), one.perform(&Call::Poll, 9)), (Err(Error::Pending), Err(Error::Pending), Err(Error::Pending)));
+    assert_eq!(one.run(&next, 9).err(), Some(Error::Pending));
+    assert_eq!(three.serve().unwrap().served, 1);
+    let answer = one.resume_program(1).unwrap();
+    assert_eq!(answer.place(), 6);
+    assert!(answer.replies().eq([Reply::Committed(2), Reply::Began(3), Reply::Granted(Mode::S)]));
+    assert_eq!(one.resume_program(9).err(), Some(Error::NothingPending));
+    two.publish(&Call::Poll).unwrap();
+    assert!(two.resume_program(9).unwrap().replies().eq([Reply::Clear]));
+    assert_eq!(two.run(&Program::start(Start::Nothing), 9).err(), Some(Error::NoCalls));
+    assert_eq!(Office::close(sessions).ok().unwrap().length(), 10);
+}
+
+/// An office that is dropped with a pending program of several calls is closed all the same.
+#[test]
+fn a_pending_program_is_dropped() {
+    let mut sessions = Office::open(2).unwrap();
+    assert_eq!(sessions[0].run(&Program::one(&Call::Begin), 9).unwrap().replies().count(), 1);
+    assert_eq!(sessions[0].run(&Program::start(Start::CommitsAndBegins), 0).err(), Some(Error::NotServed));
+    drop(sessions.pop());
+    let mut orphans = Office::orphans(&sessions[0]);
+    assert_eq!(orphans[0].resume_program(1).err(), Some(Error::NothingPending));
+    drop((sessions, orphans));
 }

@@ -111,58 +111,71 @@ less-or i zero = inr (omega arith)
 less-or zero (suc n) = inl (omega arith)
 less-or (suc i) (suc n) = ⊎_elim (λ a. inl (omega (arith, a))) (λ b. inr (omega (arith, b))) (less-or i n)
 
--- A session that was told to wait is not forgotten.
+-- A session that was told to wait.
+module _ (h : List Entry) (legal : IsLegal h) (u : ℕ) (w : WasToldToWait h u) where
+  abbrev pub told_so : List Entry
+  told_so = w.front ++ entry u w.call Waiting ∷ []
+
+  whole : h ≡ told_so ++ w.rest
+  whole = w.history_is ∙ sym (append_assoc w.front (entry u w.call Waiting ∷ []) w.rest)
+
+  asked : HasRequest (state_of told_so) u
+  asked = subst (λ (st : State). HasRequest st u) (sym (state_of-push w.front (entry u w.call Waiting)))
+      (waits-after (state_of w.front) u w.call (sym (legal-steps h legal w.front w.rest (entry u w.call Waiting) w.history_is)))
+
+  -- it has a waiting request, or an entry behind that answer has ended its wait
+  pub waits-or-ended : HasRequest (state_of h) u ⊎ HasEndedIn ends_wait told_so w.rest u
+  waits-or-ended = by_request (request_of u (state_of h).table.requests) refl
+    where
+      by_request : (o : Option Claim) → request_of u (state_of h).table.requests ≡ o → HasRequest (state_of h) u ⊎ HasEndedIn ends_wait told_so w.rest u
+      by_request (Some q) is = inl (q, is)
+      by_request None is = inr (wait-ended told_so w.rest u asked w.quiet (ap (λ (l : List Entry). request_of u (state_of l).table.requests) (sym whole) ∙ is))
+
+  -- where that entry stands
+  pub ended-behind : HasEndedIn ends_wait told_so w.rest u → (place : ℕ) × (length w.front < place) × (place < length h) × (e : Entry) × (get_elem? h place ≡ opt.some e) × ends_wait (take place h) e u
+  ended-behind k =
+      let place : ℕ = length (told_so ++ k.earlier) in
+      let all : h ≡ (told_so ++ k.earlier) ++ k.entry ∷ k.later = whole ∙ (ap (λ (l : List Entry). told_so ++ l) k.entries_are ∙ sym (append_assoc told_so k.earlier (k.entry ∷ k.later))) in (
+        place,
+        omega (arith, length-append told_so k.earlier, length-append w.front (entry u w.call Waiting ∷ [])),
+        omega (arith, ap (λ (l : List Entry). length l) all, length-append (told_so ++ k.earlier) (k.entry ∷ k.later)),
+        k.entry,
+        ap (λ (l : List Entry). get_elem? l place) all ∙ elem-seam (told_so ++ k.earlier) k.entry k.later,
+        subst (λ (l : List Entry). ends_wait l k.entry u) (sym (ap (λ (l : List Entry). take place l) all ∙ take-append_seam (told_so ++ k.earlier) (k.entry ∷ k.later))) k.ended,
+      )
+
+-- It is not forgotten.
 module _ (s : BoardState) (once : AreEnteredOnce book_object s) (legal : IsLegal (history_of s)) (told : ℕ → ℕ) (u : ℕ) (w : WasToldToWait (history_of s) u) where
   abbrev h : List Entry
   h = history_of s
 
-  abbrev e : Entry
-  e = entry u w.call Waiting
-
-  abbrev known : List Entry
-  known = w.front ++ e ∷ []
-
-  whole : h ≡ known ++ w.rest
-  whole = w.history_is ∙ sym (append_assoc w.front (e ∷ []) w.rest)
-
-  asked : HasRequest (state_of known) u
-  asked = subst (λ (st : State). HasRequest st u) (sym (state_of-push w.front e)) (waits-after (state_of w.front) u w.call (sym (legal-steps h legal w.front w.rest e w.history_is)))
-
-  ends-here : HasEndedIn ends_wait known w.rest u → (k index : ℕ) × HasEndedWait s (length w.front) u k index
+  ends-here : HasEndedIn ends_wait (told_so h legal u w) w.rest u → (k index : ℕ) × HasEndedWait s (length w.front) u k index
   ends-here k =
-      let place : ℕ = length (known ++ k.earlier) in
-      let all : h ≡ (known ++ k.earlier) ++ k.entry ∷ k.later = whole ∙ (ap (λ (l : List Entry). known ++ l) k.entries_are ∙ sym (append_assoc known k.earlier (k.entry ∷ k.later))) in
-      let few : place < length h = omega (arith, ap (λ (l : List Entry). length l) all, length-append (known ++ k.earlier) (k.entry ∷ k.later)) in
-      let found = once.each place few in
+      let b = ended-behind h legal u w k in
+      let found = once.each b.0 b.2 in
       let places = found.1 in
       let among = found.3 in
-      let at : get_or places among.0 0 ≡ place = get_or_default places among.0 0 place among.1 ∙ among.2 in (
+      let at : get_or places among.0 0 ≡ b.0 = get_or_default places among.0 0 b.0 among.1 ∙ among.2 in (
         found.0,
         among.0,
         record {
           places = places;
           entered = found.2;
           small = among.1;
-          late = omega (arith, at, length-append known k.earlier, length-append w.front (e ∷ []));
-          entry = k.entry;
-          stands = ap (λ (i : ℕ). get_elem? h i) at ∙ (ap (λ (l : List Entry). get_elem? l place) all ∙ elem-seam (known ++ k.earlier) k.entry k.later);
-          ended = subst (λ (l : List Entry). ends_wait l k.entry u) (sym (ap (λ (i : ℕ). take i h) at ∙ (ap (λ (l : List Entry). take place l) all ∙ take-append_seam (known ++ k.earlier) (k.entry ∷ k.later)))) k.ended;
+          late = subst (λ (i : ℕ). length w.front < i) (sym at) b.1;
+          entry = b.3;
+          stands = ap (λ (i : ℕ). get_elem? h i) at ∙ b.4;
+          ended = subst (λ (i : ℕ). ends_wait (take i h) b.3 u) (sym at) b.5;
         },
       )
 
   pub not-forgotten : IsNotForgotten s told (length w.front) u
-  not-forgotten = by_request (request_of u (state_of h).table.requests) refl
+  not-forgotten = ⊎_elim (λ request. waits request) (λ ended. let t = ends-here ended in tells t.0 t.1 t.2) (waits-or-ended h legal u w)
     where
       tells : (k index : ℕ) → HasEndedWait s (length w.front) u k index → IsNotForgotten s told (length w.front) u
       tells k index ended = ⊎_elim (λ lt. was_told k index ended lt)
           (λ le. dite (ℕ_discrete (word s 0) k) (λ is. combiner_tells k index ended le is) (λ isnt. is_listed k index ended le isnt))
           (less-or index (told k))
-
-      by_request : (o : Option Claim) → request_of u (state_of h).table.requests ≡ o → IsNotForgotten s told (length w.front) u
-      by_request (Some q) is = waits (q, is)
-      by_request None is =
-          let gone : request_of u (state_of (known ++ w.rest)).table.requests ≡ None = ap (λ (l : List Entry). request_of u (state_of l).table.requests) (sym whole) ∙ is in
-          let t = ends-here (wait-ended known w.rest u asked w.quiet gone) in tells t.0 t.1 t.2
 
 -- A session that collected the answer Waiting last, and has no call pending.
 

@@ -1,9 +1,11 @@
 -- Lists of handles, shares and sessions.
-use Rattle.std.proofs.Common.{◌≡◌, ℕ, zero, suc, ◌+◌, ◌<◌, List, [], ◌∷◌, ◌++◌, length, map, drop, set, refl, sym, ap, ◌∙◌, arith}
+use Rattle.std.proofs.Common.{◌≡◌, ℕ, zero, suc, ◌+◌, ◌<◌, List, [], ◌∷◌, ◌++◌, length, map, drop, set, refl, sym, ap, subst, ◌∙◌, arith}
 use Rattle.std.proofs.lemmas.List.{length-append}
-use Rattle.std.specs.Prelude.{Bool, true, false, ◌||◌, ◌==◌}
+use Rattle.std.proofs.lemmas.List.Elements.{All-append, All-cons}
+use Rattle.std.specs.Prelude.{Bool, true, false, ◌||◌, ◌==◌, All}
 use Rattle.atomic_table.specs.Seated.{TableId}
-use Rattle.lock_board.specs.LockBoards.{new_ticket, new_tickets, TicketView}
+use Rattle.publication.specs.Boards.{new_ticket}
+use Rattle.program_office.specs.ProgramBoards.{new_tickets, TicketView}
 use Rattle.publication.proofs.Gathering.{has_number}
 
 -- the list of k new sessions has length k
@@ -32,3 +34,15 @@ next_opened f g [] w [] h few is = absurd (omega (arith, few))
 next_opened f g [] w (y ∷ ys) h few is = ap (λ c. c ∷ map g ys) (sym is)
 next_opened f g (x ∷ xs) w [] h few is = absurd (omega (arith, few))
 next_opened f g (x ∷ xs) w (y ∷ ys) h few is = ap (λ l. f x ∷ l) (next_opened f g xs w ys h (omega (arith, few)) is)
+
+-- new sessions know no entry of the history
+new_tickets_unknowing : (id : TableId) (sessions k : ℕ) → All (λ ticket. ticket.front ≡ []) (new_tickets id sessions k)
+new_tickets_unknowing id sessions zero = λ j d few. absurd (omega (arith, few))
+new_tickets_unknowing id sessions (suc k) =
+    let P : TicketView → Type 0 = λ ticket. ticket.front ≡ [] in
+    let none : All P [] = λ j d few. absurd (omega (arith, few)) in
+    let last : TicketView = new_ticket id sessions (suc k) in
+    All-append P (new_tickets id sessions k) (last ∷ []) (new_tickets_unknowing id sessions k) (All-cons P last [] refl none)
+
+pub are_unknowing : (id : TableId) (sessions k : ℕ) (tickets : List TicketView) → tickets ≡ new_tickets id sessions k → All (λ ticket. ticket.front ≡ []) tickets
+are_unknowing id sessions k tickets is = subst (λ (l : List TicketView). All (λ ticket. ticket.front ≡ []) l) (sym is) (new_tickets_unknowing id sessions k)

@@ -8,6 +8,7 @@ pub mod Programs
 pub mod Sessions
 pub mod Turns
 pub mod PathTurns
+pub mod ProgramTurns
 pub mod Queries
 pub mod EndedLists
 pub mod Offices

@@ -1,13 +1,13 @@
 -- The outcomes of one turn of a session on the way down a path, as the export states them.
-use Rattle.std.specs.Prelude.{◌≡◌, ◌≢◌, ℕ, ◌+◌, ◌<◌, ◌⊎◌, if◌then◌else◌, true, false, Some, None, List, length}
+use Rattle.std.specs.Prelude.{◌≡◌, ◌≢◌, ℕ, ◌+◌, ◌<◌, ◌⊎◌, if◌then◌else◌, true, false, None, List, length}
 use Rattle.lock_modes.specs.declared.Mode.{Mode}
 use Rattle.lock_modes.specs.Codes.{code_of}
 use Rattle.lock_rules.specs.declared.calls.Reply.{Reply}
-use Rattle.lock_board.specs.LockBoards.{TicketView, book_object}
+use Rattle.program_office.specs.ProgramBoards.{TicketView}
 use Rattle.lock_desk.specs.Paths.{lock_of_level, grants}
-use Rattle.combining.specs.Calls.{IsCalled, IsAnswered}
-use Rattle.lock_office.specs.Sessions.{IsIdle}
-use Rattle.lock_office.specs.Paths.{Row, IsPathPerformed, level_behind}
+use Rattle.program_office.specs.Sessions.{IsIdle}
+use Rattle.program_office.specs.SingleCalls.{IsCalled, IsAnswered}
+use Rattle.program_office.specs.PathTurns.{IsPathPerformed}
 use Rattle.pelgaisti_c.specs.declared.numbers.ResourceNumbers.{ResourceNumbers}
 use Rattle.pelgaisti_c.specs.declared.numbers.AnswerNumbers.{AnswerNumbers}
 use Rattle.pelgaisti_c.specs.declared.session_share.SessionShare.{SessionShare}
@@ -20,18 +20,16 @@ use Rattle.pelgaisti_c.specs.Turns.{IsCallStarved, IsCallLate}
 abbrev pub IsRestOf : ResourceNumbers → ℕ → List ℕ → Type 0
 IsRestOf path level r = IsPath path r × (level < length r)
 
--- the session, which had no call pending, performed calls that lock the rest of the path in one taking of the lock table, behind level
--- `locked`, and down to level `level`. The last of them has this place and this reply
+-- the session, which had no call pending, performed a program that locks the rest of the path in one taking of the lock table, behind level
+-- `locked`, and down to level `level`. Its last call has this place and this reply
 abbrev pub IsPathPerformedTo : List ℕ → Mode → ℕ → TicketView → TicketView → ℕ → ℕ → Reply → Type 0
-IsPathPerformedTo r m locked before after level place reply = (before.pending ≡ None)
-    × ((row : Row) × (served : ℕ) × IsPathPerformed r m locked before after row served
-    × (row.last ≡ Some (record { place = place; reply = reply })) × (level ≡ level_behind locked row))
+IsPathPerformedTo r m locked before after level place reply = (before.pending ≡ None) × IsPathPerformed r m locked before after level place reply
 
 -- one call was answered with this place and this reply: the one that the session had pending, or else the one that it published now, which
 -- locks the next level. If the lock is granted, one more level is locked
 abbrev pub IsLevelAnswered : List ℕ → Mode → ℕ → TicketView → TicketView → ℕ → ℕ → Reply → Type 0
-IsLevelAnswered r m locked before after level place reply = (before.pending ≡ None → IsCalled book_object before after (lock_of_level r m (locked + 1)) place reply)
-    × (before.pending ≢ None → IsAnswered book_object before after place reply) × (level ≡ (if grants reply then locked + 1 else locked))
+IsLevelAnswered r m locked before after level place reply = (before.pending ≡ None → IsCalled before after (lock_of_level r m (locked + 1)) place reply)
+    × (before.pending ≢ None → IsAnswered before after place reply) × (level ≡ (if grants reply then locked + 1 else locked))
 
 -- calls of the path were answered: `level` levels were locked before, and `levels` are now. The last answer has the index of its entry in the
 -- history, and this reply

@@ -7,7 +7,8 @@ use Rattle.lock_rules.specs.Waits.{waits_for}
 use Rattle.lock_rules.specs.Listing.{listing_of, waiting_line}
 use Rattle.publication.specs.Boards.{HasCallsOf}
 use Rattle.lock_desk.specs.Queries.{blockers_among}
-use Rattle.lock_office.specs.Queries.{HasLooked}
+use Rattle.program_office.specs.ProgramBoards.{flat_history}
+use Rattle.program_office.specs.Sessions.{HasLooked}
 use Rattle.pelgaisti_c.specs.declared.claims.ClaimNumbers.{ClaimNumbers}
 use Rattle.pelgaisti_c.specs.declared.claims.TransactionNumbers.{TransactionNumbers}
 use Rattle.pelgaisti_c.specs.declared.numbers.HolderNumbers.{HolderNumbers}
@@ -28,11 +29,11 @@ HasSeen before after = HasLooked before.session after.session × HasCallsOf afte
 
 -- the session has seen the lock table behind so many calls
 abbrev pub IsSeen : SessionShare → SessionShare → ℕ → Type 0
-IsSeen before after seen = HasSeen before after × (seen ≡ length after.session.front)
+IsSeen before after seen = HasSeen before after × (seen ≡ length (flat_history after.session.front))
 
 -- the state behind the calls that the session knows
 abbrev pub state_seen : SessionShare → State
-state_seen share = state_of share.session.front
+state_seen share = state_of (flat_history share.session.front)
 
 -- the code of the mode that this session held on the resource, or that of NL
 abbrev pub IsHeldSeen : SessionShare → SessionShare → ℕ → ResourceNumbers → ℕ → ℕ → Type 0

@@ -4,13 +4,17 @@ use mathlib.Core.List.{IsPrefix}
 use Rattle.lock_rules.specs.declared.calls.Call.{Call}
 use Rattle.lock_rules.specs.declared.calls.Reply.{Reply}
 use Rattle.lock_rules.specs.Entries.{Entry}
-use Rattle.lock_rules.specs.Legal.{IsLegal}
 use Rattle.sequential.specs.Histories.{calls_of}
 use Rattle.publication.specs.Boards.{HasCallsOf, heard_from, publishing, enlisted, tried}
 use Rattle.publication.specs.Kinds.{longer, maxes}
-use Rattle.lock_office.specs.Sessions.{HasTriedToList, HasNothingPending, IsIdle, IsPassed, IsPerformed, IsRefused, IsCollected, IsPendingServed, HasTakenPiece}
+use Rattle.combining.specs.Sessions.{HasTriedToList}
 use Rattle.combining.specs.Ended.{entered_since}
-use Rattle.lock_office.specs.Ended.{AreToldBy}
+use Rattle.lock_programs.specs.declared.program.Program.{Program}
+use Rattle.program_office.specs.ProgramBoards.{IsLegal, flat_history}
+use Rattle.program_office.specs.Sessions.{HasNothingPending, IsIdle, IsPassed, IsRefused, IsPendingServed, HasTakenPiece}
+use Rattle.program_office.specs.SingleCalls.{MakesOneCall, IsPerformed, IsCollected}
+use Rattle.program_office.specs.ProgramTurns.{IsPendingSingle}
+use Rattle.program_office.specs.Ended.{AreToldBy}
 use Rattle.pelgaisti_c.specs.declared.numbers.CallNumbers.{CallNumbers}
 use Rattle.pelgaisti_c.specs.declared.numbers.AnswerNumbers.{AnswerNumbers}
 use Rattle.pelgaisti_c.specs.declared.session_share.SessionShare.{SessionShare}
@@ -26,12 +30,13 @@ pub record IsSameOffice (before after : SessionShare) : Type 0 where
   pub mark : after.mark ≡ before.mark
   pub waker : after.waker ≡ before.waker
 
--- the call that the numbers encode is published and pending. 1: the call is listed, after one try or none, and the session counts all
--- its calls as heard of. 2: the call is not listed after one try, which happens only in an office with other sessions
+-- the call that the numbers encode is published, as a program of this one call, and pending. 1: the call is listed, after one try or none, and
+-- the session counts all its calls as heard of. 2: the call is not listed after one try, which happens only in an office with other sessions
 abbrev pub IsPublished : SessionShare → SessionShare → CallNumbers → ℕ → Type 0
-IsPublished before after asked posted = (call : Call) × IsCall asked call × (before.session.pending ≡ None) × (before.session.retired ≡ false)
-    × (posted ≡ 1 → (after.session ≡ enlisted (publishing before.session call)) ⊎ (after.session ≡ tried (enlisted (publishing before.session call))))
-    × (posted ≡ 2 → (after.session ≡ tried (publishing before.session call)) × (2 ≤ before.sessions))
+IsPublished before after asked posted = (call : Call) × IsCall asked call × (program : Program) × MakesOneCall program call
+    × (before.session.pending ≡ None) × (before.session.retired ≡ false)
+    × (posted ≡ 1 → (after.session ≡ enlisted (publishing before.session program)) ⊎ (after.session ≡ tried (enlisted (publishing before.session program))))
+    × (posted ≡ 2 → (after.session ≡ tried (publishing before.session program)) × (2 ≤ before.sessions))
     × IsSameOffice before after
 
 -- nothing has changed, except that a pending call that was not listed was tried once more to be listed, and may be listed now; the
@@ -64,8 +69,8 @@ IsToldTurn before after served starved places numbers count = IsTurn before afte
 -- so many sessions are to be woken, which the share lists: with a waker exactly those whose wait the entries have ended whose places the
 -- session has entered meanwhile, each once; without a waker none
 pub record AreToWake (before after : SessionShare) (count : ℕ) : Type 0 where
-  pub count_is : count ≡ length after.told.list
-  pub waking : after.waker ≢ 0 → AreToldBy after.sessions after.session.front (entered_since before.session after.session) after.told.list
+  pub count_is : count ≡ length after.told.told.list
+  pub waking : after.waker ≢ 0 → AreToldBy after.sessions after.session.front (entered_since before.session after.session) after.told.told.list
   pub silent : after.waker ≡ 0 → count ≡ 0
 
 -- the share is unchanged, except that it lists nobody to wake
@@ -73,7 +78,7 @@ pub record HasToldNone (before after : SessionShare) : Type 0 where
   pub session : after.session ≡ before.session
   pub handed : after.handed ≡ before.handed
   pub ended : after.ended ≡ before.ended
-  pub told : after.told ≡ record before.told { list = [] }
+  pub told : after.told.told ≡ record before.told.told { list = [] }
   pub office : IsSameOffice before after
 
 -- the numbers encode a call, and the session may make one
@@ -111,9 +116,9 @@ IsToldRefused before after asked places numbers count = IsRefusedAtOnce before a
 abbrev pub HasToldNobody : SessionShare → SessionShare → CallNumbers → List ℕ → List ℕ → ℕ → Type 0
 HasToldNobody before after asked places numbers count = MayCall before asked × (after ≡ before) × (numbers ≡ places) × (count ≡ 0)
 
--- the answer to the pending call is collected: the index of its entry in the history, and the reply there
+-- the answer to the pending call, a program of one call, is collected: the index of its entry in the history, and the reply there
 abbrev pub IsAnswered : SessionShare → SessionShare → AnswerNumbers → Type 0
-IsAnswered before after answer = (reply : Reply) × (answer.reply ≡ numbers_of_reply reply)
+IsAnswered before after answer = (reply : Reply) × (answer.reply ≡ numbers_of_reply reply) × IsPendingSingle before.session
     × IsCollected before.session after.session answer.place reply × IsSameOffice before after
 
 -- the session took the oldest entries of the history that were kept, as many as there is room for, and fewer only if no more were kept.
@@ -121,7 +126,7 @@ IsAnswered before after answer = (reply : Reply) × (answer.reply ≡ numbers_of
 abbrev pub IsPieceTaken : SessionShare → SessionShare → ℕ → ℕ → List EntryNumbers → List EntryNumbers → Type 0
 IsPieceTaken before after first count places written = (entries : List Entry) × HasTakenPiece before.session after.session first entries
     × (count ≡ length entries) × (written ≡ are_written numbers_of_entry entries places) × (count ≤ length places)
-    × (count < length places → first + count ≡ length after.session.front) × IsSameOffice before after
+    × (count < length places → first + count ≡ length (flat_history after.session.front)) × IsSameOffice before after
 
 -- the session knows what it knew before and what the other session knew: the longer of their fronts of the history, which is legal and
 -- continues both, and of each session the larger number of calls heard of. Of the calls of both sessions that front has those that they

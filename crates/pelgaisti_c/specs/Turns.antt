@@ -2,9 +2,10 @@
 use Rattle.std.specs.Prelude.{◌≡◌, ◌≢◌, ℕ, ◌%◌, ◌<◌, ◌≤◌, None}
 use Rattle.lock_rules.specs.declared.calls.Call.{Call}
 use Rattle.lock_rules.specs.declared.calls.Reply.{Reply}
-use Rattle.lock_board.specs.LockBoards.{book_object}
-use Rattle.lock_office.specs.Sessions.{IsIdle}
-use Rattle.combining.specs.Calls.{IsCalled, IsCalling, IsAnswered, IsWaitingOn}
+use Rattle.program_office.specs.Sessions.{IsIdle}
+use Rattle.program_office.specs.SingleCalls.{IsCalled, IsCalling, IsAnswered}
+use Rattle.program_office.specs.ProgramTurns.{IsPendingSingle}
+use Rattle.combining.specs.Calls.{IsWaitingOn}
 use Rattle.combining.specs.Waits.{IsWaitAfterTry, IsWaitAfterLook}
 use Rattle.combining.specs.declared.backoff.TheConstants.{TRIES_AT_ONCE, LOOKS_PER_TRY}
 use Rattle.combining.specs.declared.backoff.Wait.{Wait}
@@ -20,13 +21,13 @@ abbrev pub number_of_wait : Wait → ℕ
 number_of_wait (Wait.Pause pauses) = pauses
 number_of_wait Wait.Yield = YIELD
 
--- the session's call is answered: this one if it had none pending, and else the one that it had. The answer has the index of its entry in
--- the history, and the reply there
+-- the session's call is answered: this one if it had none pending, and else what it had, by the last reply. The answer has the index of the
+-- entry in the history, and the reply there
 pub record IsCallAnswered (before after : SessionShare) (call : Call) (answer : AnswerNumbers) : Type 0 where
   pub reply : Reply
   pub reply_is : answer.reply ≡ numbers_of_reply reply
-  pub called : before.session.pending ≡ None → IsCalled book_object before.session after.session call answer.place reply
-  pub answered : before.session.pending ≢ None → IsAnswered book_object before.session after.session answer.place reply
+  pub called : before.session.pending ≡ None → IsCalled before.session after.session call answer.place reply
+  pub answered : before.session.pending ≢ None → IsAnswered before.session after.session answer.place reply
   pub idle : IsIdle after.session
   pub office : IsSameOffice before after
 
@@ -61,11 +62,12 @@ IsTurnStarved before after asked = (call : Call) × IsCall asked call × IsCallS
 abbrev pub IsTurnMade : SessionShare → SessionShare → CallNumbers → ℕ → ℕ → ℕ → Type 0
 IsTurnMade before after asked made turns number = (call : Call) × IsCall asked call × IsCallLate before after call made turns number
 
--- the session's pending call is answered, by the index of its entry in the history and the reply there
+-- the session's pending call, a program of one call, is answered, by the index of its entry in the history and the reply there
 pub record IsLookAnswered (before after : SessionShare) (answer : AnswerNumbers) : Type 0 where
+  pub single : IsPendingSingle before.session
   pub reply : Reply
   pub reply_is : answer.reply ≡ numbers_of_reply reply
-  pub answered : IsAnswered book_object before.session after.session answer.place reply
+  pub answered : IsAnswered before.session after.session answer.place reply
   pub idle : IsIdle after.session
   pub office : IsSameOffice before after
 

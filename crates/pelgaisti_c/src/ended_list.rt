@@ -2,7 +2,7 @@
 
 ghost use Rattle.std.specs.Prelude.{◌≡◌, IfSome};
 
-use lock_office::Ended;
+use program_office::{Counted, Ended};
 use std::alloc::Global;
 use std::marker::Model;
 use std::mem;
@@ -14,7 +14,7 @@ pub struct EndedList {
     /// For how many sessions the list has room.
     room: u16,
     /// The list. `None` if it isn't made yet, or was taken out.
-    list: Option<Ended>,
+    list: Option<Counted<Ended>>,
 }
 
 impl Model for EndedList {
@@ -37,19 +37,22 @@ impl EndedList {
     }
 
     /// Takes the list out, or makes it. Returns `None` if memory is refused.
-    pub(crate) fn take(&mut self, alloc: Global) -> Option<Ended>
-        ensures room { IfSome result (λ ended. ended.room ≡ self.old.room) }
+    pub(crate) fn take(&mut self, alloc: Global) -> Option<Counted<Ended>>
+        ensures room { IfSome result (λ ended. ended.told.room ≡ self.old.room) }
         ensures same { self.new ≡ self.old }
     {
         match mem::replace(&mut self.list, None) {
             Some(ended) => Some(ended),
-            None => Ended::new(alloc, self.room).ok(),
+            None => match Ended::new(alloc, self.room) {
+                Ok(ended) => Some(Counted::new(ended)),
+                Err(_) => None,
+            },
         }
     }
 
     /// Puts the list back that was taken out.
-    pub(crate) fn put(&mut self, ended: Ended)
-        requires room { ended.room ≡ self.old.room }
+    pub(crate) fn put(&mut self, ended: Counted<Ended>)
+        requires room { ended.told.room ≡ self.old.room }
         ensures same { self.new ≡ self.old }
     {
         self.list = Some(ended);

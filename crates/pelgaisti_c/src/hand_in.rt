@@ -3,23 +3,22 @@
 ghost use Rattle.std.specs.Prelude.{◌≡◌, ◌≢◌, ◌<◌, ◌≤◌, ◌∷◌, ◌++◌, [], ◌↔◌, ◌⊎◌, true, false, None, IsTrue, IsSome, IfOk, IfErr, IfSome, vec_len, vec_capacity};
 ghost use Rattle.lock_rules.specs.declared.calls.TheConstants.{MAX_SESSIONS};
 ghost use Rattle.publication.specs.Boards.{IsEachOnce};
-ghost use Rattle.lock_office.specs.Sessions.{HasNothingPending};
-ghost use Rattle.lock_office.specs.Closed.{IsClosed};
-ghost use Rattle.pelgaisti_c.specs.Offices.{all_of};
+ghost use Rattle.program_office.specs.Sessions.{HasNothingPending};
+ghost use Rattle.pelgaisti_c.specs.Offices.{all_of, IsClosed};
 ghost use Rattle.pelgaisti_c.specs.Sessions.{IsSameShare, IsHandedIn};
 
 use crate::session_share::SessionShare;
 use crate::status::{COPIED, MISSING, NO_MEMORY, OTHER_OFFICE, PENDING};
 use lock_desk::Book;
-use lock_office::{CloseFault, Session};
 use lock_rules::MAX_SESSIONS;
+use program_office::{CallSession, CloseFault, Session};
 use publication::Roll;
 use std::alloc::Global;
 use std::sync::Arc;
 
 /// Whether `handed` and `last` together are all sessions of an office with `sessions` sessions. It looks at each of them and at
 /// each number once, and takes no memory.
-fn is_each_once(handed: &[Session], last: &Session, sessions: u16) -> bool
+fn is_each_once(handed: &[Session], last: &CallSession, sessions: u16) -> bool
     requires few { sessions ≤ MAX_SESSIONS }
     ensures { IsTrue result ↔ IsEachOnce sessions (handed.now ++ last.now ∷ []) }
 {
@@ -35,7 +34,7 @@ fn is_each_once(handed: &[Session], last: &Session, sessions: u16) -> bool
 }
 
 /// Whether the session has no pending call.
-fn is_settled(session: &Session) -> bool
+fn is_settled(session: &CallSession) -> bool
     requires live { session.now.pending ≢ None → session.now.retired ≡ false }
     ensures yes { result ≡ true → HasNothingPending session.now }
     ensures no { result ≡ false → session.now.pending ≢ None }
@@ -68,7 +67,7 @@ fn take_in(share: Box<SessionShare>, to: &mut SessionShare) -> Result<(), Box<Se
         waker: _,
         told: _,
     } = Box::into_inner(share);
-    to.handed.push_reserved(session);
+    to.handed.push_reserved(session.into_session());
     Ok(())
 }
 
@@ -132,14 +131,14 @@ fn finish(share: SessionShare, room: Box<Book>) -> Option<Box<Book>>
         told: _,
     } = share;
     let mut all = handed;
-    all.push_reserved(session);
+    all.push_reserved(session.into_session());
     let Ok(office) = Arc::try_unwrap(office) else {
         return None;
     };
     match office.close(all) {
-        Ok(book) => {
+        Ok(programs) => {
             let mut room = room;
-            *room = book;
+            *room = programs.into_object();
             Some(room)
         }
         Err((CloseFault::Missing, _, _)) => unreachable!(),

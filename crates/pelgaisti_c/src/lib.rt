@@ -2,13 +2,13 @@
 //! memory.
 //!
 //! Exports: `book.rt`, `listing_exports.rt`, `path_exports.rt`, `path_step_exports.rt`, `program_exports.rt`, `office.rt`, `session.rt`,
-//! `turn_exports.rt`, `path_turn_exports.rt`, `query_exports.rt`, `close_exports.rt`, `version.rt`. What they do, on what a handle holds:
-//! `book_calls.rt`, `batch.rt`, `listing.rt`, `path_calls.rt`, `program_calls.rt`, `session_calls.rt`, `turn_calls.rt`,
-//! `path_turn_calls.rt`, `queries.rt`, `hand_in.rt`. Numbers of C's structs: `numbers.rt`, `program_numbers.rt`, `claims.rt`, `status.rt`.
-//! Handles: `book_handle.rt`, `session_handle.rt`, and what is in them.
+//! `turn_exports.rt`, `path_turn_exports.rt`, `program_turn_exports.rt`, `query_exports.rt`, `close_exports.rt`, `version.rt`. What they do, on
+//! what a handle holds: `book_calls.rt`, `batch.rt`, `listing.rt`, `path_calls.rt`, `program_calls.rt`, `session_calls.rt`, `turn_calls.rt`,
+//! `path_turn_calls.rt`, `program_turn_calls.rt`, `queries.rt`, `hand_in.rt`. Numbers of C's structs: `numbers.rt`, `program_numbers.rt`,
+//! `claims.rt`, `status.rt`. Handles: `book_handle.rt`, `session_handle.rt`, and what is in them.
 //!
 //! An export tests the caller's pointers for null, which C gives by their addresses (`pointers/`), takes the value out of the handle, makes
-//! one call of `lock_desk`, `combining` or `lock_office`, writes the reply in numbers, puts the value back, and returns a status. Of what it
+//! one call of `lock_desk`, `combining` or `program_office`, writes the reply in numbers, puts the value back, and returns a status. Of what it
 //! is given by reference C says that it isn't null: numbers that C keeps for itself, and all of `path_step_exports.rt`. `bindings/c` makes
 //! a whole call of turns.
 //!
@@ -40,6 +40,8 @@ mod pointers;
 mod program_calls;
 mod program_exports;
 mod program_numbers;
+mod program_turn_calls;
+mod program_turn_exports;
 mod queries;
 mod query_exports;
 mod raw_box;

@@ -2,7 +2,7 @@
 
 ghost use Rattle.std.specs.Prelude.{◌≡◌, ◌≢◌, ◌≤◌, ◌⊎◌, ◌↔◌, [], true, false, Some, None, All, Any, IfOk, length, map};
 ghost use denote.RawPtr.{null_ptr};
-ghost use Rattle.lock_office.specs.Sessions.{IsSessionOf, IsIdle};
+ghost use Rattle.program_office.specs.Sessions.{IsSessionOf, IsIdle};
 ghost use Rattle.lock_rules.specs.declared.calls.TheConstants.{MAX_SESSIONS};
 ghost use Rattle.publication.specs.Views.{BoardView};
 ghost use Rattle.pelgaisti_c.specs.Offices.{IsOfOffice, AreSessionsOf};
@@ -12,8 +12,8 @@ use crate::pointers::HandleList;
 use crate::session_handle::SessionHandle;
 use crate::session_share::SessionShare;
 use crate::status::{NO_MEMORY, NO_SUCH_COUNT, NULL_POINTER, OK, OPEN};
-use lock_office::{Ended, Office, Session, open_keeping};
 use lock_rules::MAX_SESSIONS;
+use program_office::{CallSession, Counted, Ended, Office, Session, open_keeping};
 use std::alloc::{AllocError, Global};
 use std::sync::Arc;
 
@@ -31,6 +31,15 @@ fn has_open(handles: &mut [SessionHandle]) -> bool
     false
 }
 
+/// Makes single calls by a session of an office that was just opened, which knows no calls of the history.
+fn call_session_of(session: Session) -> CallSession
+    requires none { session.pending ≡ None }
+    requires unknowing { session.front ≡ [] }
+    ensures { result ≡ session }
+{
+    CallSession::new(session, 0)
+}
+
 /// Makes the share of one session. `count` is the number of sessions of the office. With a waker it has room for all sessions that
 /// a pass may tell, so that no pass lacks memory for them.
 fn share_of(
@@ -42,6 +51,7 @@ fn share_of(
     waker: u64,
 ) -> Result<Box<SessionShare>, AllocError>
     requires ours { IsSessionOf shared.now.value session × IsIdle session }
+    requires unknowing { session.front ≡ [] }
     requires count { count ≡ shared.now.value.sessions }
     requires few { count ≤ MAX_SESSIONS }
     ensures session { IfOk result (λ share. share.value.session ≡ session) }
@@ -51,13 +61,13 @@ fn share_of(
     let told = Ended::new(alloc, if waker == 0 { 0 } else { count })?;
     let share = SessionShare {
         office,
-        session,
+        session: call_session_of(session),
         handed: Vec::new(alloc),
         sessions: count,
         mark,
         ended: EndedList::new(count),
         waker,
-        told,
+        told: Counted::new(told),
     };
     let boxed = Box::new(alloc, share)?;
     Ok(boxed)
@@ -73,6 +83,7 @@ fn shares_of(
     waker: u64,
 ) -> Result<Vec<Box<SessionShare>>, AllocError>
     requires ours { All (λ session. IsSessionOf office session × IsIdle session) sessions.items }
+    requires unknowing { All (λ session. session.front ≡ []) sessions.items }
     requires count { count ≡ office.sessions }
     requires few { count ≤ MAX_SESSIONS }
     ensures sessions { IfOk result (λ shares. map (λ share. share.value.session) shares.items ≡ sessions.items) }

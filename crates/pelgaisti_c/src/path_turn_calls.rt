@@ -1,14 +1,14 @@
 //! One turn of a session on the way down a path, in numbers, on the share that a handle holds.
 
-ghost use Rattle.std.specs.Prelude.{◌≡◌, ◌≢◌, ◌+◌, ◌<◌, ◌≤◌, ◌⊎◌, ℕ, if◌then◌else◌, [], true, false, None, Some, length};
-ghost use Rattle.combining.specs.Calls.{IsCalled, IsCalling, IsAnswered, IsWaitingOn};
+ghost use Rattle.std.specs.Prelude.{◌≡◌, ◌≢◌, ◌+◌, ◌<◌, ◌≤◌, ◌⊎◌, if◌then◌else◌, true, false, None, length};
+ghost use Rattle.combining.specs.Calls.{IsWaitingOn};
 ghost use Rattle.combining.specs.Ended.{entered_since};
 ghost use Rattle.combining.specs.Waits.{IsWaitAfterTry, IsWaitAfterLook};
-ghost use Rattle.lock_office.specs.Sessions.{IsIdle};
-ghost use Rattle.lock_office.specs.Ended.{AreToldBy};
-ghost use Rattle.lock_board.specs.LockBoards.{book_object};
+ghost use Rattle.program_office.specs.Sessions.{IsIdle};
+ghost use Rattle.program_office.specs.SingleCalls.{IsCalled, IsCalling, IsAnswered};
+ghost use Rattle.program_office.specs.Ended.{AreToldBy};
 ghost use Rattle.lock_desk.specs.Paths.{lock_of_level, grants};
-ghost use Rattle.lock_office.specs.Paths.{IsPathPerformed, level_behind};
+ghost use Rattle.program_office.specs.PathTurns.{IsPathPerformed};
 ghost use Rattle.pelgaisti_c.specs.Numbers.{IsModeCode, numbers_of_reply};
 ghost use Rattle.pelgaisti_c.specs.Sessions.{IsSameOffice, AreToWake};
 ghost use Rattle.pelgaisti_c.specs.PathTurns.{IsPathEnded, HasPathLeft, IsPathLate, IsPathStarved};
@@ -17,14 +17,15 @@ use crate::numbers::{AnswerNumbers, read_mode, reply_numbers};
 use crate::session_share::SessionShare;
 use crate::status::{NO_MEMORY, NO_SUCH_MODE, NOT_SERVED, OK, PENDING, RETIRED};
 use crate::turn_calls::{NO_TURN, forget_told, publish_last, wait_number};
-use combining::{Nobody, TRIES_AT_ONCE};
+use combining::{Answer, Nobody, TRIES_AT_ONCE};
 use lock_desk::{Mode, Resource, grants, lock_of_level};
-use lock_office::{Answer, NextOfPath, Row, path_turn as turn_of_path};
+use lock_rules::Reply;
+use program_office::{Counted, NextOfPath};
 
 /// A level was locked, and the next turn is to be made at once.
 pub const AT_ONCE: u32 = 1;
 
-/// Makes one turn of a path, as `lock_office::path_turn` does. In an office with a waker it lists whom to wake in the share.
+/// Makes one turn of a path, as `CallSession::path_turn` does. In an office with a waker it lists whom to wake in the share.
 #[inline(always)]
 fn make_path_turn(
     share: &mut SessionShare,
@@ -35,15 +36,14 @@ fn make_path_turn(
 ) -> NextOfPath
     requires live { share.old.session.retired ≡ false }
     requires rest { locked < length resource }
-    requires none { share.old.told.list ≡ [] }
-    ensures performed { (level : _) (row : _) → result ≡ NextOfPath.Performed level row → (share.old.session.pending ≡ None) × (0 < row.performed)
-        × (level ≡ level_behind locked row) × ((served : ℕ) × IsPathPerformed resource mode locked share.old.session share.new.session row served) }
+    ensures performed { (level : _) (answer : _) → result ≡ NextOfPath.Performed level answer → (share.old.session.pending ≡ None)
+        × IsPathPerformed resource mode locked share.old.session share.new.session level answer.place answer.reply }
     ensures called { (level : _) (answer : _) → result ≡ NextOfPath.Answered level answer → share.old.session.pending ≡ None
-        → IsCalled book_object share.old.session share.new.session (lock_of_level resource mode (locked + 1)) answer.place answer.reply }
+        → IsCalled share.old.session share.new.session (lock_of_level resource mode (locked + 1)) answer.place answer.reply }
     ensures answered { (level : _) (answer : _) → result ≡ NextOfPath.Answered level answer → share.old.session.pending ≢ None
-        → IsAnswered book_object share.old.session share.new.session answer.place answer.reply }
+        → IsAnswered share.old.session share.new.session answer.place answer.reply }
     ensures level { (level : _) (answer : _) → result ≡ NextOfPath.Answered level answer → level ≡ (if grants answer.reply then locked + 1 else locked) }
-    ensures idle { (level : _) (row : _) → result ≡ NextOfPath.Performed level row → IsIdle share.new.session }
+    ensures idle { (level : _) (answer : _) → result ≡ NextOfPath.Performed level answer → IsIdle share.new.session }
     ensures idle_answered { (level : _) (answer : _) → result ≡ NextOfPath.Answered level answer → IsIdle share.new.session }
     ensures starved { result ≡ NextOfPath.Starved → share.old.session.pending ≡ None → IsCalling share.old.session share.new.session (lock_of_level resource mode (locked + 1)) }
     ensures starved_on { result ≡ NextOfPath.Starved → share.old.session.pending ≢ None
@@ -54,18 +54,18 @@ fn make_path_turn(
         → IsCalling share.old.session share.new.session (lock_of_level resource mode (locked + 1)) × (1 < share.old.sessions) × IsWaitAfterLook 0 w }
     ensures waits { (w : _) → result ≡ NextOfPath.Wait w → share.old.session.pending ≢ None
         → IsWaitingOn share.old.session share.new.session × IsWaitAfterLook made w }
-    ensures told { share.new.waker ≢ 0 → AreToldBy share.new.sessions share.new.session.front (entered_since share.old.session share.new.session) share.new.told.list }
+    ensures told { share.new.waker ≢ 0 → AreToldBy share.new.sessions share.new.session.front (entered_since share.old.session share.new.session) share.new.told.told.list }
     ensures same { IsSameOffice share.old share.new }
 {
     if share.waker == 0 {
-        let office = &share.office;
-        let session = &mut share.session;
-        return turn_of_path(office, session, resource, mode, locked, made, &mut Nobody);
+        let mut nobody = Counted::new(Nobody);
+        return share
+            .session
+            .path_turn(&share.office, &resource, mode, locked, made, &mut nobody);
     }
-    turn_of_path(
+    share.session.path_turn(
         &share.office,
-        &mut share.session,
-        resource,
+        &resource,
         mode,
         locked,
         made,
@@ -73,22 +73,11 @@ fn make_path_turn(
     )
 }
 
-/// The answer to the last call of a row, of which at least one was performed.
-fn last_of(row: Row) -> Answer
-    requires some { row.last ≢ None }
-    ensures { row.last ≡ Some result }
-{
-    match row.last {
-        Some(answer) => answer,
-        None => unreachable!(),
-    }
-}
-
 /// Writes how far the session has come on its way down a path whose last level is `end`, and the last answer. Returns whether it goes on:
 /// the last reply grants its lock, and levels are left.
 fn write_level(
     locked: u8,
-    found: Answer,
+    found: Answer<Reply>,
     end: u8,
     level: &mut u32,
     answer: &mut AnswerNumbers,
@@ -154,11 +143,12 @@ pub(crate) fn path_turn(
     }
     let end = resource.level();
     let next = make_path_turn(share, resource, wanted, locked, *made);
-    *told = share.told.sessions().len();
+    *told = share.told.told.sessions().len();
     let goes_on = match next {
-        NextOfPath::Performed { level: now, row } => {
-            write_level(now, last_of(row), end, level, answer)
-        }
+        NextOfPath::Performed {
+            level: now,
+            answer: found,
+        } => write_level(now, found, end, level, answer),
         NextOfPath::Answered {
             level: now,
             answer: found,

@@ -11,7 +11,6 @@ use crate::claims::{
 use crate::numbers::{HolderNumbers, ResourceNumbers, read_resource};
 use crate::session_share::SessionShare;
 use crate::status::{ELSEWHERE, NO_MEMORY, NO_SUCH_LEVEL, NO_SUCH_SESSION, OK};
-use lock_office::queries;
 use std::alloc::Global;
 
 /// The session number as the office takes it. Returns `None` if the office has no such session.
@@ -47,7 +46,7 @@ pub(crate) fn held(
     let Some(resource) = read_resource(path) else {
         return NO_SUCH_LEVEL;
     };
-    let Some(answer) = queries::held(&share.office, &mut share.session, number, resource) else {
+    let Some(answer) = share.session.held(&share.office, number, resource) else {
         return ELSEWHERE;
     };
     *mode = match answer.found {
@@ -78,7 +77,7 @@ pub(crate) fn waits_for(
     let Some(waited) = session_of(share, other) else {
         return NO_SUCH_SESSION;
     };
-    let Some(answer) = queries::waits_for(&share.office, &mut share.session, waiter, waited) else {
+    let Some(answer) = share.session.waits_for(&share.office, waiter, waited) else {
         return ELSEWHERE;
     };
     *edge = if answer.found { 1 } else { 0 };
@@ -108,7 +107,7 @@ pub(crate) fn holders(
         return NO_SUCH_LEVEL;
     };
     let mut found = Vec::new(alloc);
-    let Ok(asked) = queries::holders(&share.office, &mut share.session, resource, &mut found) else {
+    let Ok(asked) = share.session.holders(&share.office, resource, &mut found) else {
         return NO_MEMORY;
     };
     let Some(length) = asked else {
@@ -141,7 +140,7 @@ pub(crate) fn blockers(
         return NO_SUCH_SESSION;
     };
     let mut found = Vec::new(alloc);
-    let Ok(asked) = queries::blockers(&share.office, &mut share.session, number, &mut found) else {
+    let Ok(asked) = share.session.blockers(&share.office, number, &mut found) else {
         return NO_MEMORY;
     };
     let Some(length) = asked else {
@@ -169,7 +168,7 @@ pub(crate) fn transaction(
     let Some(number) = session_of(share, whose) else {
         return NO_SUCH_SESSION;
     };
-    let Some(answer) = queries::transaction(&share.office, &mut share.session, number) else {
+    let Some(answer) = share.session.transaction(&share.office, number) else {
         return ELSEWHERE;
     };
     *found = transaction_numbers(answer.found);
@@ -193,7 +192,7 @@ pub(crate) fn request(
     let Some(number) = session_of(share, whose) else {
         return NO_SUCH_SESSION;
     };
-    let Some(answer) = queries::request(&share.office, &mut share.session, number) else {
+    let Some(answer) = share.session.request(&share.office, number) else {
         return ELSEWHERE;
     };
     *found = request_numbers(answer.found);
@@ -219,7 +218,7 @@ pub(crate) fn locks(
     ensures statuses { (result ≡ OK) ⊎ ((result ≡ NO_MEMORY) ⊎ (result ≡ ELSEWHERE)) }
 {
     let mut lines = Vec::new(alloc);
-    let Ok(asked) = queries::locks(&share.office, alloc, &mut share.session, &mut lines) else {
+    let Ok(asked) = share.session.locks(&share.office, alloc, &mut lines) else {
         return NO_MEMORY;
     };
     let Some(length) = asked else {

@@ -2,7 +2,9 @@
 
 ghost use Rattle.std.specs.Prelude.{◌≡◌, ◌≢◌, ℕ, ◌+◌, ◌<◌, ◌≤◌, ◌↔◌, ◌⊎◌, true, Some, None, length, drop};
 ghost use denote.RawPtr.{null_ptr};
-ghost use Rattle.lock_office.specs.Sessions.{IsPendingServed};
+ghost use Rattle.program_office.specs.Sessions.{IsPendingServed};
+ghost use Rattle.program_office.specs.Seen.{number_of_calls};
+ghost use Rattle.program_office.specs.ProgramTurns.{HasSeveralPending};
 ghost use Rattle.lock_rules.specs.declared.calls.Call.{Call};
 ghost use Rattle.pelgaisti_c.specs.Behind.{IsNullList};
 ghost use Rattle.pelgaisti_c.specs.Numbers.{IsCall, IsCallFault};
@@ -254,7 +256,7 @@ pub extern "C" fn pelgaisti_raw_session_perform_telling(
     status
 }
 
-/// Takes the answer to the pending call, which is then no longer pending.
+/// Takes the answer to the pending call, which is then no longer pending. PENDING: what is pending is a program of several calls.
 #[unsafe(no_mangle)]
 pub extern "C" fn pelgaisti_raw_session_collect(
     alloc: Global,
@@ -269,7 +271,8 @@ pub extern "C" fn pelgaisti_raw_session_collect(
     ensures closed { result ≢ NULL_POINTER → (result ≡ CLOSED ↔ (session.old.behind.is_open ≢ 1)) }
     ensures nothing { result ≡ NOTHING_PENDING → (share : SessionShare) × (session.old.behind.held.share ≡ Some share) × (share.session.pending ≡ None) }
     ensures late { result ≡ NOT_SERVED → (share : SessionShare) × (session.old.behind.held.share ≡ Some share) × (share.session.pending ≢ None) × ¬ (IsPendingServed share.session) }
-    ensures statuses { (result ≡ NULL_POINTER) ⊎ ((result ≡ OK) ⊎ ((result ≡ CLOSED) ⊎ ((result ≡ NOTHING_PENDING) ⊎ (result ≡ NOT_SERVED)))) }
+    ensures several { result ≡ PENDING → (share : SessionShare) × (session.old.behind.held.share ≡ Some share) × HasSeveralPending share.session }
+    ensures statuses { (result ≡ NULL_POINTER) ⊎ ((result ≡ OK) ⊎ ((result ≡ CLOSED) ⊎ ((result ≡ NOTHING_PENDING) ⊎ ((result ≡ PENDING) ⊎ (result ≡ NOT_SERVED))))) }
 {
     let Some(session) = session.get() else {
         return NULL_POINTER;
@@ -333,7 +336,7 @@ pub extern "C" fn pelgaisti_raw_session_seen(
     seen: &mut U64Pointer,
 ) -> u32
     ensures null { result ≡ NULL_POINTER ↔ ((session.old.at ≡ null_ptr) ⊎ (seen.old.at ≡ null_ptr)) }
-    ensures ok { result ≡ OK → (share : SessionShare) × (session.old.behind.held.share ≡ Some share) × (seen.new.behind ≡ length share.session.front) }
+    ensures ok { result ≡ OK → (share : SessionShare) × (session.old.behind.held.share ≡ Some share) × (seen.new.behind ≡ number_of_calls share.session.front) }
     ensures failed { result ≢ OK → seen.new.behind ≡ seen.old.behind }
     ensures same { (session.new.behind.is_open ≡ session.old.behind.is_open) × (session.new.behind.held.share ≡ session.old.behind.held.share) }
     ensures closed { result ≢ NULL_POINTER → (result ≡ CLOSED ↔ (session.old.behind.is_open ≢ 1)) }
@@ -418,7 +421,7 @@ pub extern "C" fn pelgaisti_raw_session_told(
 ) -> u32
     ensures null { result ≡ NULL_POINTER ↔ (session.old.at ≡ null_ptr) }
     ensures ok { result ≡ OK → (share : SessionShare) × (session.old.behind.held.share ≡ Some share)
-        × (list.new ≡ are_written (λ u. u) (drop first share.told.list) list.old) × (count.new ≡ length share.told.list) }
+        × (list.new ≡ are_written (λ u. u) (drop first share.told.told.list) list.old) × (count.new ≡ length share.told.told.list) }
     ensures failed { result ≢ OK → (list.new ≡ list.old) × (count.new ≡ count.old) }
     ensures same { (session.new.behind.is_open ≡ session.old.behind.is_open) × (session.new.behind.held.share ≡ session.old.behind.held.share) }
     ensures closed { result ≢ NULL_POINTER → (result ≡ CLOSED ↔ (session.old.behind.is_open ≢ 1)) }

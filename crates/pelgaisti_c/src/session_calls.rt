@@ -1,12 +1,16 @@
 //! The calls of a session in numbers, on the share that a handle holds.
 
 ghost use Rattle.std.specs.Prelude.{◌≡◌, ◌≢◌, ℕ, ◌+◌, ◌<◌, ◌≤◌, ◌⊎◌, ◌↔◌, ◌==◌, true, false, [], None, IsTrue, IfOk, IfErr, length, drop};
-ghost use Rattle.lock_office.specs.Sessions.{Answer, IsIdle, IsPassed, IsPerformed, IsRefused, IsPendingServed};
 ghost use Rattle.combining.specs.Ended.{entered_since};
-ghost use Rattle.lock_office.specs.Ended.{AreToldBy};
+ghost use Rattle.combining.specs.declared.office.Answer.{Answer};
+ghost use Rattle.program_office.specs.Sessions.{IsIdle, IsPassed, IsRefused, IsPendingServed};
+ghost use Rattle.program_office.specs.SingleCalls.{IsPerformed};
+ghost use Rattle.program_office.specs.ProgramTurns.{HasSeveralPending};
+ghost use Rattle.program_office.specs.Ended.{AreToldBy};
 ghost use Rattle.sequential.specs.Histories.{calls_of};
 ghost use Rattle.publication.specs.Boards.{HasCallsOf, heard_from};
 ghost use Rattle.lock_rules.specs.declared.calls.Call.{Call as CallValue};
+ghost use Rattle.lock_rules.specs.declared.calls.Reply.{Reply as ReplyValue};
 ghost use Rattle.pelgaisti_c.specs.Calls.{are_written};
 ghost use Rattle.pelgaisti_c.specs.Numbers.{IsCall, IsCallFault, numbers_of_reply};
 ghost use Rattle.pelgaisti_c.specs.Sessions.{IsSameOffice, IsPublished, IsElsewhere, AreToWake, HasToldNone, IsToldTurn, IsPerformedAtOnce, IsRefusedAtOnce, IsToldPerformed, IsToldRefused, HasToldNobody, MayCall, IsAnswered, IsPieceTaken, IsHeard, IsRetired};
@@ -21,8 +25,8 @@ use crate::status::{
     OTHER_OFFICE, PENDING, RETIRED,
 };
 use combining::Performed;
-use lock_office::{Ended, Posted, Session, Turn};
 use lock_rules::{Call, Reply};
+use program_office::{CallSession, Counted, Ended, Posted, Turn};
 use std::alloc::Global;
 
 /// The session's record is on the publication list.
@@ -63,7 +67,7 @@ pub(crate) fn publish(share: &mut SessionShare, asked: &CallNumbers, posted: &mu
     if !share.session.is_idle() {
         return PENDING;
     }
-    *posted = posted_number(share.office.publish(&mut share.session, call));
+    *posted = posted_number(share.session.publish(&share.office, call));
     OK
 }
 
@@ -102,16 +106,14 @@ fn make_pass(share: &mut SessionShare) -> Turn
     ensures own { (served : _) → result ≡ Turn.Pass served false → share.old.session.pending ≢ None → IsPendingServed share.new.session }
     ensures heard { (served j : _) → result ≡ Turn.Pass served false → 0 < j → j ≤ share.old.sessions
         → heard_from share.old.session j ≤ length (calls_of j share.new.session.front) }
-    ensures told { share.new.waker ≢ 0 → AreToldBy share.new.sessions share.new.session.front (entered_since share.old.session share.new.session) share.new.told.list }
+    ensures told { share.new.waker ≢ 0 → AreToldBy share.new.sessions share.new.session.front (entered_since share.old.session share.new.session) share.new.told.told.list }
     ensures same { IsSameOffice share.old share.new }
-    ensures elsewhere { result ≡ Turn.Elsewhere → IsElsewhere share.old share.new × (share.new.told.list ≡ []) }
+    ensures elsewhere { result ≡ Turn.Elsewhere → IsElsewhere share.old share.new × (share.new.told.told.list ≡ []) }
 {
     if share.waker == 0 {
-        return share.office.serve(&mut share.session);
+        return share.session.serve(&share.office);
     }
-    share
-        .office
-        .serve_telling(&mut share.session, &mut share.told)
+    share.session.serve_telling(&share.office, &mut share.told)
 }
 
 /// Makes a pass as `make_pass` does. Writes how many sessions are to be woken to `told`.
@@ -132,29 +134,29 @@ pub(crate) fn serve(share: &mut SessionShare, pass: &mut PassNumbers, told: &mut
     ensures statuses { (result ≡ OK) ⊎ (result ≡ ELSEWHERE) }
 {
     let turn = make_pass(share);
-    *told = share.told.sessions().len();
+    *told = share.told.told.sessions().len();
     write_turn(turn, pass)
 }
 
 /// Writes the sessions that the share lists to be woken, from index `first` on, as many as `list` has room for, and the number of all
 /// of them to `count`.
 pub(crate) fn told(share: &SessionShare, first: usize, list: &mut [u32], count: &mut usize)
-    ensures list { list.new ≡ are_written (λ u. u) (drop first share.now.told.list) list.old }
-    ensures count { count.new ≡ length share.now.told.list }
+    ensures list { list.new ≡ are_written (λ u. u) (drop first share.now.told.told.list) list.old }
+    ensures count { count.new ≡ length share.now.told.told.list }
 {
-    let sessions = share.told.sessions();
+    let sessions = share.told.told.sessions();
     let start = usize::min(first, sessions.len());
     write_sessions(&sessions[start..], list);
     *count = sessions.len();
 }
 
 /// Writes the sessions whose wait a call has ended to `list`, which has room for them, and how many they are to `count`.
-fn write_ended(ended: &Ended, list: &mut [u32], count: &mut usize)
-    requires room { ended.now.room ≤ length list.old }
-    ensures list { list.new ≡ are_written (λ u. u) ended.now.list list.old }
-    ensures count { (count.new ≡ length ended.now.list) × (count.new ≤ length list.old) }
+fn write_ended(ended: &Counted<Ended>, list: &mut [u32], count: &mut usize)
+    requires room { ended.now.told.room ≤ length list.old }
+    ensures list { list.new ≡ are_written (λ u. u) ended.now.told.list list.old }
+    ensures count { (count.new ≡ length ended.now.told.list) × (count.new ≤ length list.old) }
 {
-    let sessions = ended.sessions();
+    let sessions = ended.told.sessions();
     write_sessions(sessions, list);
     *count = sessions.len();
 }
@@ -181,7 +183,7 @@ pub(crate) fn serve_telling(
     let Some(mut ended) = share.ended.take(alloc) else {
         return NO_MEMORY;
     };
-    let turn = share.office.serve_telling(&mut share.session, &mut ended);
+    let turn = share.session.serve_telling(&share.office, &mut ended);
     let status = write_turn(turn, pass);
     if status == OK {
         write_ended(&ended, list, count);
@@ -192,7 +194,7 @@ pub(crate) fn serve_telling(
 
 /// The call that the numbers encode, if the session may make it. Else the status of the first test that fails.
 #[inline(always)]
-fn call_of(session: &Session, asked: &CallNumbers) -> Result<Call, u32>
+fn call_of(session: &CallSession, asked: &CallNumbers) -> Result<Call, u32>
     ensures ok { IfOk result (λ call. IsCall asked.now call × IsIdle session.now) }
     ensures call { IfErr result (λ fault. NO_SUCH_OP ≤ fault → fault ≤ NO_SUCH_MODE → IsCallFault asked.now fault) }
     ensures retired { IfErr result (λ fault. fault ≡ RETIRED → (session.now.retired ≡ true) × ((call : CallValue) × IsCall asked.now call)) }
@@ -215,7 +217,7 @@ fn write_performed(
     pass: &mut PassNumbers,
     answer: &mut AnswerNumbers,
 ) -> u32
-    ensures ok { result ≡ OK → (found : Answer) × (performed ≡ Performed.Answered found pass.new.served (pass.new.starved == 1))
+    ensures ok { result ≡ OK → (found : Answer ReplyValue) × (performed ≡ Performed.Answered found pass.new.served (pass.new.starved == 1))
         × (answer.new.place ≡ found.place) × (answer.new.reply ≡ numbers_of_reply found.reply) }
     ensures starved { result ≡ OK → pass.new.starved ≤ 1 }
     ensures failed { result ≢ OK → (pass.new ≡ pass.old) × (answer.new ≡ answer.old) }
@@ -255,13 +257,13 @@ fn make_call(share: &mut SessionShare, call: Call) -> Performed<Reply>
         → heard_from share.old.session j ≤ length (calls_of j share.new.session.front) }
     ensures refused { result ≡ Performed.Starved → IsRefused share.old.session share.new.session }
     ensures calls { HasCallsOf share.new.session.front share.new.session }
-    ensures told { AreToldBy share.new.sessions share.new.session.front (entered_since share.old.session share.new.session) share.new.told.list }
+    ensures told { AreToldBy share.new.sessions share.new.session.front (entered_since share.old.session share.new.session) share.new.told.told.list }
     ensures same { IsSameOffice share.old share.new }
     ensures elsewhere { result ≡ Performed.Elsewhere → HasToldNone share.old share.new × (1 < share.old.sessions) }
 {
     share
-        .office
-        .perform_telling(&mut share.session, call, &mut share.told)
+        .session
+        .perform_telling(&share.office, call, &mut share.told)
 }
 
 /// Performs the call, which the numbers encode, at once, as `make_call` does. Writes how many sessions are to be woken to `told`, also if
@@ -288,7 +290,7 @@ fn perform_waking(
     ensures statuses { (result ≡ OK) ⊎ ((result ≡ NO_MEMORY) ⊎ (result ≡ ELSEWHERE)) }
 {
     let performed = make_call(share, call);
-    *told = share.told.sessions().len();
+    *told = share.told.told.sessions().len();
     write_performed(performed, pass, answer)
 }
 
@@ -322,7 +324,7 @@ pub(crate) fn perform_at_once(
     if share.waker != 0 {
         return perform_waking(share, asked, call, pass, answer, told);
     }
-    let performed = share.office.perform(&mut share.session, call);
+    let performed = share.session.perform(&share.office, call);
     *told = 0;
     write_performed(performed, pass, answer)
 }
@@ -362,8 +364,8 @@ pub(crate) fn perform_telling(
         return NO_MEMORY;
     };
     let performed = share
-        .office
-        .perform_telling(&mut share.session, call, &mut ended);
+        .session
+        .perform_telling(&share.office, call, &mut ended);
     let status = write_performed(performed, pass, answer);
     if status != ELSEWHERE {
         write_ended(&ended, list, count);
@@ -387,8 +389,8 @@ pub(crate) fn take_history(
     ensures statuses { (result ≡ OK) ⊎ ((result ≡ NO_MEMORY) ⊎ (result ≡ ELSEWHERE)) }
 {
     let Ok(taken) = share
-        .office
-        .take_oldest(alloc, &mut share.session, places.len())
+        .session
+        .take_oldest(&share.office, alloc, places.len())
     else {
         return NO_MEMORY;
     };
@@ -400,18 +402,22 @@ pub(crate) fn take_history(
     OK
 }
 
-/// Takes the answer to the pending call.
+/// Takes the answer to the pending call. A pending program of several calls is refused.
 pub(crate) fn collect(share: &mut SessionShare, answer: &mut AnswerNumbers) -> u32
     ensures ok { result ≡ OK → IsAnswered share.old share.new answer.new }
     ensures failed { result ≢ OK → (share.new ≡ share.old) × (answer.new ≡ answer.old) }
     ensures nothing { result ≡ NOTHING_PENDING → share.old.session.pending ≡ None }
     ensures late { result ≡ NOT_SERVED → (share.old.session.pending ≢ None) × ¬ (IsPendingServed share.old.session) }
-    ensures statuses { (result ≡ OK) ⊎ ((result ≡ NOTHING_PENDING) ⊎ (result ≡ NOT_SERVED)) }
+    ensures several { result ≡ PENDING → HasSeveralPending share.old.session }
+    ensures statuses { (result ≡ OK) ⊎ ((result ≡ NOTHING_PENDING) ⊎ ((result ≡ PENDING) ⊎ (result ≡ NOT_SERVED))) }
 {
     if share.session.is_idle() || share.session.is_retired() {
         return NOTHING_PENDING;
     }
-    match share.office.collect(&mut share.session) {
+    if !share.session.is_single() {
+        return PENDING;
+    }
+    match share.session.collect(&share.office) {
         Some(found) => {
             *answer = AnswerNumbers {
                 place: found.place,
@@ -437,7 +443,7 @@ pub(crate) fn retire(share: &mut SessionShare) -> u32
     if !share.session.is_idle() {
         return PENDING;
     }
-    share.office.retire(&mut share.session);
+    share.session.retire(&share.office);
     OK
 }
 
@@ -451,6 +457,6 @@ pub(crate) fn hear(share: &mut SessionShare, other: &mut SessionShare) -> u32
     if share.mark != other.mark {
         return OTHER_OFFICE;
     }
-    share.office.hear(&mut share.session, &mut other.session);
+    share.session.hear(&share.office, &mut other.session);
     OK
 }

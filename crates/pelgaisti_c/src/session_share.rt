@@ -2,10 +2,10 @@
 
 ghost use Rattle.std.specs.Prelude.{◌≡◌, ◌≢◌, ◌≤◌, [], All};
 ghost use Rattle.lock_rules.specs.declared.calls.TheConstants.{MAX_SESSIONS};
-ghost use Rattle.lock_office.specs.Sessions.{IsSessionOf, HasNothingPending};
+ghost use Rattle.program_office.specs.Sessions.{IsSessionOf, HasNothingPending};
 
 use crate::ended_list::EndedList;
-use lock_office::{Ended, Office, Session};
+use program_office::{CallSession, Counted, Ended, Office, Session};
 use std::sync::Arc;
 
 /// A session and its share of the office.
@@ -14,7 +14,7 @@ pub struct SessionShare {
     /// The office, which all shares of its sessions own together.
     pub(crate) office: Arc<Office>,
     /// The handle's session.
-    pub(crate) session: Session,
+    pub(crate) session: CallSession,
     /// The sessions that were handed in to this one.
     pub(crate) handed: Vec<Session>,
     /// The number of sessions of the office.
@@ -26,12 +26,12 @@ pub struct SessionShare {
     /// The address of the office's waker, or 0 if it has none.
     pub(crate) waker: u64,
     /// The sessions whose wait the session's last pass has ended. In an office without a waker it has no room and stays empty.
-    pub(crate) told: Ended,
+    pub(crate) told: Counted<Ended>,
     ghost ours: { IsSessionOf office.value session },
     ghost theirs: { All (λ one. IsSessionOf office.value one × HasNothingPending one) handed.items },
     ghost count: { sessions ≡ office.value.sessions },
     ghost few: { sessions ≤ MAX_SESSIONS },
     ghost room: { ended.room ≡ sessions },
-    ghost waking: { waker ≢ 0 → told.room ≡ sessions },
-    ghost silent: { waker ≡ 0 → told.list ≡ [] },
+    ghost waking: { waker ≢ 0 → told.told.room ≡ sessions },
+    ghost silent: { waker ≡ 0 → told.told.list ≡ [] },
 }

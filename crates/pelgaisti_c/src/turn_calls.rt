@@ -2,10 +2,13 @@
 
 ghost use Rattle.std.specs.Prelude.{◌≡◌, ◌≢◌, ◌<◌, ◌≤◌, ◌%◌, ◌⊎◌, ◌↔◌, [], true, false, None};
 ghost use Rattle.lock_rules.specs.declared.calls.Call.{Call as CallValue};
-ghost use Rattle.lock_board.specs.LockBoards.{book_object};
-ghost use Rattle.lock_office.specs.Sessions.{Answer, IsIdle};
-ghost use Rattle.lock_office.specs.Ended.{AreToldBy};
-ghost use Rattle.combining.specs.Calls.{IsCalled, IsCalling, IsAnswered, IsWaitingOn};
+ghost use Rattle.lock_rules.specs.declared.calls.Reply.{Reply as ReplyValue};
+ghost use Rattle.combining.specs.declared.office.Answer.{Answer};
+ghost use Rattle.program_office.specs.Sessions.{IsIdle};
+ghost use Rattle.program_office.specs.SingleCalls.{IsCalled, IsCalling, IsAnswered};
+ghost use Rattle.program_office.specs.ProgramTurns.{HasSeveralPending};
+ghost use Rattle.program_office.specs.Ended.{AreToldBy};
+ghost use Rattle.combining.specs.Calls.{IsWaitingOn};
 ghost use Rattle.combining.specs.Ended.{entered_since};
 ghost use Rattle.combining.specs.Waits.{IsWaitAfterTry, IsWaitAfterLook};
 ghost use Rattle.pelgaisti_c.specs.Numbers.{IsCall, IsCallFault, numbers_of_reply};
@@ -20,6 +23,8 @@ use crate::status::{
 use combining::{LOOKS_PER_TRY, Next, Nobody, TRIES_AT_ONCE, Told, Wait};
 use lock_desk::Book;
 use lock_rules::{Call, Reply};
+use program_office::Counted;
+use programs::Programs;
 
 /// No turn is left.
 pub const NO_TURN: u32 = 0;
@@ -40,7 +45,7 @@ pub(crate) fn wait_number(wait: Wait) -> u32
 /// Writes the answer, or how to wait, in numbers. Returns the status.
 #[inline(always)]
 fn write_next(next: Next<Reply>, answer: &mut AnswerNumbers, wait: &mut u32) -> u32
-    ensures ok { result ≡ OK → (found : Answer) × (next ≡ Next.Answered found)
+    ensures ok { result ≡ OK → (found : Answer ReplyValue) × (next ≡ Next.Answered found)
         × (answer.new.place ≡ found.place) × (answer.new.reply ≡ numbers_of_reply found.reply) }
     ensures memory { result ≡ NO_MEMORY → next ≡ Next.Starved }
     ensures waits { result ≡ NOT_SERVED → (w : _) × (next ≡ Next.Wait w) × (wait.new ≡ number_of_wait w) }
@@ -67,24 +72,24 @@ fn write_next(next: Next<Reply>, answer: &mut AnswerNumbers, wait: &mut u32) -> 
 /// Forgets whom the last pass told of.
 #[inline(always)]
 pub(crate) fn forget_told(share: &mut SessionShare)
-    ensures none { share.new.told.list ≡ [] }
+    ensures none { share.new.told.told.list ≡ [] }
     ensures session { share.new.session ≡ share.old.session }
     ensures same { IsSameOffice share.old share.new }
 {
     if share.waker != 0 {
-        Told::<Book>::clear(&mut share.told);
+        Told::<Programs<Book>>::clear(&mut share.told);
     }
 }
 
-/// Makes one turn of a call, as `combining::turn` does. In an office with a waker it lists whom to wake in the share.
+/// Makes one turn of a call, as `CallSession::turn` does. In an office with a waker it lists whom to wake in the share.
 #[inline(always)]
 fn make_turn(share: &mut SessionShare, call: &Call, made: u64) -> Next<Reply>
     requires live { share.old.session.retired ≡ false }
-    requires none { share.old.told.list ≡ [] }
+    requires none { share.old.told.told.list ≡ [] }
     ensures called { (answer : _) → result ≡ Next.Answered answer → share.old.session.pending ≡ None
-        → IsCalled book_object share.old.session share.new.session call.now answer.place answer.reply }
+        → IsCalled share.old.session share.new.session call.now answer.place answer.reply }
     ensures answered { (answer : _) → result ≡ Next.Answered answer → share.old.session.pending ≢ None
-        → IsAnswered book_object share.old.session share.new.session answer.place answer.reply }
+        → IsAnswered share.old.session share.new.session answer.place answer.reply }
     ensures idle { (answer : _) → result ≡ Next.Answered answer → IsIdle share.new.session }
     ensures starved { result ≡ Next.Starved → share.old.session.pending ≡ None → IsCalling share.old.session share.new.session call.now }
     ensures starved_on { result ≡ Next.Starved → share.old.session.pending ≢ None
@@ -95,41 +100,39 @@ fn make_turn(share: &mut SessionShare, call: &Call, made: u64) -> Next<Reply>
         → IsCalling share.old.session share.new.session call.now × (1 < share.old.sessions) × IsWaitAfterLook 0 w }
     ensures waits { (w : _) → result ≡ Next.Wait w → share.old.session.pending ≢ None
         → IsWaitingOn share.old.session share.new.session × IsWaitAfterLook made w }
-    ensures told { share.new.waker ≢ 0 → AreToldBy share.new.sessions share.new.session.front (entered_since share.old.session share.new.session) share.new.told.list }
+    ensures told { share.new.waker ≢ 0 → AreToldBy share.new.sessions share.new.session.front (entered_since share.old.session share.new.session) share.new.told.told.list }
     ensures same { IsSameOffice share.old share.new }
 {
     if share.waker == 0 {
-        return combining::turn(&share.office, &mut share.session, call, made, &mut Nobody);
+        let mut nobody = Counted::new(Nobody);
+        return share.session.turn(&share.office, call, made, &mut nobody);
     }
-    combining::turn(
-        &share.office,
-        &mut share.session,
-        call,
-        made,
-        &mut share.told,
-    )
+    share
+        .session
+        .turn(&share.office, call, made, &mut share.told)
 }
 
-/// Makes one turn of the pending call, as `combining::look` does. In an office with a waker it lists whom to wake in the share.
+/// Makes one turn of the pending call, as `CallSession::look` does. In an office with a waker it lists whom to wake in the share.
 #[inline(always)]
 fn make_look(share: &mut SessionShare, looked: u64) -> Next<Reply>
     requires pending { share.old.session.pending ≢ None }
-    requires none { share.old.told.list ≡ [] }
+    requires none { share.old.told.told.list ≡ [] }
     ensures answered { (answer : _) → result ≡ Next.Answered answer
-        → IsAnswered book_object share.old.session share.new.session answer.place answer.reply }
+        → IsAnswered share.old.session share.new.session answer.place answer.reply }
     ensures idle { (answer : _) → result ≡ Next.Answered answer → IsIdle share.new.session }
     ensures starved { result ≡ Next.Starved
         → IsWaitingOn share.old.session share.new.session × (share.old.session.put_backs < share.new.session.put_backs) }
     ensures waits { (w : _) → result ≡ Next.Wait w
         → IsWaitingOn share.old.session share.new.session × IsWaitAfterLook looked w }
     ensures others { (w : _) → result ≡ Next.Wait w → looked % LOOKS_PER_TRY ≡ 0 → 1 < share.old.sessions }
-    ensures told { share.new.waker ≢ 0 → AreToldBy share.new.sessions share.new.session.front (entered_since share.old.session share.new.session) share.new.told.list }
+    ensures told { share.new.waker ≢ 0 → AreToldBy share.new.sessions share.new.session.front (entered_since share.old.session share.new.session) share.new.told.told.list }
     ensures same { IsSameOffice share.old share.new }
 {
     if share.waker == 0 {
-        return combining::look(&share.office, &mut share.session, looked, &mut Nobody);
+        let mut nobody = Counted::new(Nobody);
+        return share.session.look(&share.office, looked, &mut nobody);
     }
-    combining::look(&share.office, &mut share.session, looked, &mut share.told)
+    share.session.look(&share.office, looked, &mut share.told)
 }
 
 /// Publishes the call of a session that has none pending, and may make one.
@@ -142,10 +145,10 @@ pub(crate) fn publish_last(share: &mut SessionShare, call: Call)
     ensures entered { share.new.session.entered ≡ share.old.session.entered }
     ensures office { IsSameOffice share.old share.new }
 {
-    combining::publish_if_idle(&share.office, &mut share.session, call);
+    share.session.publish_if_idle(&share.office, call);
 }
 
-/// Makes turn number `made` of a call, of which there are `turns` at most: as `combining::turn` makes it, or, if no turn is left, publishes
+/// Makes turn number `made` of a call, of which there are `turns` at most: as `CallSession::turn` makes it, or, if no turn is left, publishes
 /// the call unless it is pending. Writes the answer; or how to wait before the next turn, 0 if none is left; and how many sessions are to be
 /// woken to `told`.
 #[inline(always)]
@@ -175,7 +178,7 @@ fn turn_of(
         return NOT_SERVED;
     }
     let next = make_turn(share, call, made);
-    *told = share.told.sessions().len();
+    *told = share.told.told.sessions().len();
     write_next(next, answer, wait)
 }
 
@@ -242,7 +245,8 @@ pub(crate) fn turn(
     turn_of(share, &call, made, turns, answer, wait, told)
 }
 
-/// Makes turn number `looked` of the pending call, of which there are `turns` at most, as `combining::look` makes it. Writes as `turn` does.
+/// Makes turn number `looked` of the pending call, of which there are `turns` at most, as `CallSession::look` makes it. Writes as `turn` does.
+/// A pending program of several calls is refused.
 pub(crate) fn look(
     share: &mut SessionShare,
     looked: u64,
@@ -254,15 +258,19 @@ pub(crate) fn look(
     ensures ok { result ≡ OK → IsLookAnswered share.old share.new answer.new }
     ensures memory { result ≡ NO_MEMORY → IsLookStarved share.old share.new }
     ensures late { result ≡ NOT_SERVED → IsLookMade share.old share.new looked turns wait.new }
-    ensures told { result ≢ NOTHING_PENDING → AreToWake share.old share.new told.new }
+    ensures told { result ≢ NOTHING_PENDING → result ≢ PENDING → AreToWake share.old share.new told.new }
     ensures failed { result ≢ OK → answer.new ≡ answer.old }
     ensures unread { result ≢ NOT_SERVED → wait.new ≡ wait.old }
-    ensures same { result ≡ NOTHING_PENDING → (share.new ≡ share.old) × (told.new ≡ told.old) }
+    ensures same { (result ≡ NOTHING_PENDING) ⊎ (result ≡ PENDING) → (share.new ≡ share.old) × (told.new ≡ told.old) }
     ensures nothing { result ≡ NOTHING_PENDING ↔ (share.old.session.pending ≡ None) }
-    ensures statuses { (result ≡ OK) ⊎ ((result ≡ NOTHING_PENDING) ⊎ ((result ≡ NO_MEMORY) ⊎ (result ≡ NOT_SERVED))) }
+    ensures several { result ≡ PENDING → HasSeveralPending share.old.session }
+    ensures statuses { (result ≡ OK) ⊎ ((result ≡ NOTHING_PENDING) ⊎ ((result ≡ PENDING) ⊎ ((result ≡ NO_MEMORY) ⊎ (result ≡ NOT_SERVED)))) }
 {
     if share.session.is_idle() || share.session.is_retired() {
         return NOTHING_PENDING;
+    }
+    if !share.session.is_single() {
+        return PENDING;
     }
     forget_told(share);
     if looked >= turns {
@@ -271,6 +279,6 @@ pub(crate) fn look(
         return NOT_SERVED;
     }
     let next = make_look(share, looked);
-    *told = share.told.sessions().len();
+    *told = share.told.told.sessions().len();
     write_next(next, answer, wait)
 }

@@ -3,6 +3,7 @@
 ghost use Rattle.std.specs.Prelude.{◌≡◌, ◌≢◌, ◌≤◌, ◌⊎◌, ◌↔◌, true, Some, None};
 ghost use denote.RawPtr.{null_ptr};
 ghost use Rattle.lock_rules.specs.declared.calls.Call.{Call};
+ghost use Rattle.program_office.specs.ProgramTurns.{HasSeveralPending};
 ghost use Rattle.pelgaisti_c.specs.Numbers.{IsCall, IsCallFault};
 ghost use Rattle.pelgaisti_c.specs.Sessions.{AreToWake};
 ghost use Rattle.pelgaisti_c.specs.Turns.{IsTurnAnswered, IsTurnStarved, IsTurnMade, IsLookAnswered, IsLookStarved, IsLookMade};
@@ -71,7 +72,8 @@ pub extern "C" fn pelgaisti_raw_session_turn(
 }
 
 /// Makes turn number `looked` of the session's pending call, of which the caller makes `turns` at most, counted from 0: serves, at every
-/// eighth turn, and looks for the answer. It writes `wait` and `told` as `pelgaisti_raw_session_turn` does.
+/// eighth turn, and looks for the answer. It writes `wait` and `told` as `pelgaisti_raw_session_turn` does. PENDING: what is pending is a
+/// program of several calls, whose answer `pelgaisti_raw_session_run_look` tells.
 #[unsafe(no_mangle)]
 pub extern "C" fn pelgaisti_raw_session_look(
     alloc: Global,
@@ -93,11 +95,12 @@ pub extern "C" fn pelgaisti_raw_session_look(
         × AreToWake before after told.new }
     ensures failed { result ≢ OK → answer.new.behind ≡ answer.old.behind }
     ensures unread { result ≢ NOT_SERVED → wait.new ≡ wait.old }
-    ensures same { (result ≡ NULL_POINTER) ⊎ ((result ≡ CLOSED) ⊎ (result ≡ NOTHING_PENDING)) → (session.new.behind.held.share ≡ session.old.behind.held.share) × (told.new ≡ told.old) }
+    ensures same { (result ≡ NULL_POINTER) ⊎ ((result ≡ CLOSED) ⊎ ((result ≡ NOTHING_PENDING) ⊎ (result ≡ PENDING))) → (session.new.behind.held.share ≡ session.old.behind.held.share) × (told.new ≡ told.old) }
     ensures open { session.new.behind.is_open ≡ session.old.behind.is_open }
     ensures closed { result ≢ NULL_POINTER → (result ≡ CLOSED ↔ (session.old.behind.is_open ≢ 1)) }
     ensures nothing { result ≢ NULL_POINTER → (result ≡ NOTHING_PENDING ↔ ((share : SessionShare) × (session.old.behind.held.share ≡ Some share) × (share.session.pending ≡ None))) }
-    ensures statuses { (result ≡ NULL_POINTER) ⊎ ((result ≡ OK) ⊎ ((result ≡ CLOSED) ⊎ ((result ≡ NOTHING_PENDING) ⊎ ((result ≡ NO_MEMORY) ⊎ (result ≡ NOT_SERVED))))) }
+    ensures several { result ≡ PENDING → (share : SessionShare) × (session.old.behind.held.share ≡ Some share) × HasSeveralPending share.session }
+    ensures statuses { (result ≡ NULL_POINTER) ⊎ ((result ≡ OK) ⊎ ((result ≡ CLOSED) ⊎ ((result ≡ NOTHING_PENDING) ⊎ ((result ≡ PENDING) ⊎ ((result ≡ NO_MEMORY) ⊎ (result ≡ NOT_SERVED)))))) }
 {
     let Some(session) = session.get() else {
         return NULL_POINTER;

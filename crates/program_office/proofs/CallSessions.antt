@@ -1,5 +1,5 @@
 -- What sessions that make single calls know of their programs.
-use Rattle.std.proofs.Common.{◌≡◌, ◌≢◌, ◌∙◌, ◌⊎◌, inl, inr, ⊎_elim, ℕ, zero, suc, ◌+◌, ◌<◌, ◌≤◌, Bool, Option, Some, None, List, [], ◌∷◌, ◌++◌, append_assoc, length, map, take, ◌-◌, refl, sym, ap, subst, arith}
+use Rattle.std.proofs.Common.{◌≡◌, ◌≢◌, ◌∙◌, ◌⊎◌, inl, inr, ⊎_elim, ℕ, zero, suc, ◌+◌, ◌<◌, ◌≤◌, Bool, Option, Some, None, List, [], ◌∷◌, ◌++◌, append_assoc, length, map, take, ◌-◌, ◌^◌, min, refl, sym, ap, subst, arith, length-append}
 use mathlib.Core.Option as opt
 use lib.ListN.{get_elem?}
 use Rattle.std.specs.List.{range_with_len}
@@ -24,7 +24,6 @@ use Rattle.combining.specs.Calls as any
 use Rattle.combining.specs.declared.office.Turn.{Turn}
 use Rattle.combining.specs.declared.office.Turn.TheVariants.{Elsewhere, Pass}
 use Rattle.combining.specs.declared.office.perform.Performed.{Performed}
-use Rattle.combining.specs.declared.backoff.Wait.{Wait as Pause}
 use Rattle.combining.specs.declared.calling.Called.{Called}
 use Rattle.combining.specs.declared.calling.Next.{Next}
 use Rattle.combining.proofs.EndedWaits.{split-at}
@@ -32,10 +31,10 @@ use Rattle.lock_office.specs.Sessions.{Answer}
 use Rattle.lock_office.specs.Paths.{rest_of_path}
 use Rattle.program_office.specs.declared.call_session.CallSession.TheInside.{Inside}
 use Rattle.program_office.specs.declared.call_session.descending.NextOfPath.{NextOfPath}
-use Rattle.program_office.specs.inner.CallSessions.{IsReadable}
+use Rattle.program_office.specs.inner.CallSessions.{MakesACall, IsReadable}
 use Rattle.program_office.specs.ProgramBoards.{TicketView, Pending, ProgramEntry, program_object, IsLegal}
 use Rattle.program_office.specs.Sessions.{IsPassed, IsPerformed}
-use Rattle.program_office.specs.SingleCalls.{MakesOneCall, IsAnswered}
+use Rattle.program_office.specs.SingleCalls.{MakesOneCall, IsLastReply, IsAnswered}
 use Rattle.program_office.proofs.OneReplies.{some-replies, one-reply}
 
 -- an answer in a legal history is one that its program can have
@@ -61,22 +60,65 @@ OneReply p a = (reply : Reply) × (replies_of p a ≡ reply ∷ [])
 pub reply-at : (h : List ProgramEntry) (i s : ℕ) (p : Program) (a : ProgramAnswer) (c : Call) → MakesOneCall p c → IsLegal h → get_elem? h i ≡ opt.some (entry s p a) → OneReply p a
 reply-at h i s p a c one legal at = one-reply p a c one (answered-at h i s p a legal at)
 
+-- to a program that makes a call there is a reply
+pub replies-at : (h : List ProgramEntry) (i s : ℕ) (p : Program) (a : ProgramAnswer) → 0 < length (calls_of p) → IsLegal h → get_elem? h i ≡ opt.some (entry s p a) → 0 < length (replies_of p a)
+replies-at h i s p a some legal at = some-replies p a some (answered-at h i s p a legal at)
+
 pub performed-reply : (s t : TicketView) (p : Program) (at : ℕ) (a : ProgramAnswer) (n : ℕ) (c : Call) → MakesOneCall p c → IsPerformed s t p at a n → OneReply p a
 performed-reply s t p at a n c one h = one-reply p a c one (performed-answered s t p at a n h)
 
--- the pending call is answered
-pub single-answered : (s t : TicketView) (at : ℕ) (a : ProgramAnswer) (asked : Program) (place : ℕ) (reply : Reply) (d : any.IsAnswered program_object s t at a)
-    → (d.0 ≡ asked) × ((c : Call) × MakesOneCall d.0 c) → replies_of asked a ≡ reply ∷ [] → a.first ≡ place → IsAnswered s t place reply
-single-answered s t at a asked place reply d kept replies first = record {
-  program = d.0;
-  floor = d.1;
-  pending = d.2;
-  answer = a;
-  at = at;
-  call = kept.1.0;
-  one = record { calls = kept.1.1; replies = subst (λ (p : Program). replies_of p a ≡ reply ∷ []) (sym kept.0) replies; place_is = first };
-  answered = d.3;
+-- what an answer tells as its last reply, and its place
+abbrev pub IsLastTold : Program → ProgramAnswer → ℕ → Reply → Type 0
+IsLastTold p a place reply = (earlier : List Reply) × (replies_of p a ≡ earlier ++ reply ∷ []) × (place ≡ min (a.first + length earlier) (2 ^ 64 - 1))
+
+last-is : (xs : List Reply) (x y : Reply) → xs ++ x ∷ [] ≡ y ∷ [] → y ≡ x
+last-is [] x y e = let same : x ≡ y = cc e in sym same
+last-is (z ∷ zs) x y e = absurd (let n = ap (λ (l : List Reply). length l) e in omega (arith, n, length-append zs (x ∷ [])))
+
+pub last-reply : (p : Program) (a : ProgramAnswer) (place : ℕ) (reply : Reply) → IsAnswer program_form p a → IsLastTold p a place reply → (length (replies_of p a) ≡ 1 → a.first ≡ place) → IsLastReply p a place reply
+last-reply p a place reply fits told first = record {
+  earlier = told.0;
+  replies = told.1;
+  place_is = told.2;
+  one = λ call calls.
+      let r = one-reply p a call calls fits in
+      record {
+        calls = calls;
+        replies = r.1 ∙ ap (λ (q : Reply). q ∷ []) (last-is told.0 reply r.0 (sym told.1 ∙ r.1));
+        place_is = first (ap (λ (l : List Reply). length l) r.1);
+      };
 }
+
+-- a program of a call makes some
+pub some-first : (p : Program) → MakesACall p → 0 < length (calls_of p)
+some-first p m = subst (λ (l : List Call). 0 < length l) (sym m.2) (omega arith)
+
+first-of : (l : List Call) → 0 < length l → (first : Call) × (rest : List Call) × (l ≡ first ∷ rest)
+first-of [] some = absurd (omega (arith, some))
+first-of (c ∷ cs) some = (c, cs, refl)
+
+-- what is kept of the pending program
+pub kept-some : (p asked : Program) → (p ≡ asked) × MakesACall p → (p ≡ asked) × (0 < length (calls_of p))
+kept-some p asked kept = (kept.0, some-first p kept.1)
+
+-- the pending program is answered
+module _ (s t : TicketView) (at : ℕ) (a : ProgramAnswer) (asked : Program) (d : any.IsAnswered program_object s t at a) (kept : (d.0 ≡ asked) × (0 < length (calls_of d.0))) where
+  pub pending-stands : get_elem? t.front at ≡ opt.some (entry s.number asked a)
+  pending-stands = subst (λ (p : Program). get_elem? t.front at ≡ opt.some (entry s.number p a)) kept.0 d.3.stands
+
+  pub pending-replies : 0 < length (replies_of asked a)
+  pending-replies = subst (λ (p : Program). 0 < length (replies_of p a)) kept.0 (replies-at t.front at s.number d.0 a kept.1 d.3.legal d.3.stands)
+
+  pub pending-answered : (place : ℕ) (reply : Reply) → IsLastTold asked a place reply → (length (replies_of asked a) ≡ 1 → a.first ≡ place) → IsAnswered s t place reply
+  pending-answered place reply told first = record {
+    program = d.0;
+    floor = d.1;
+    pending = d.2;
+    answer = a;
+    at = at;
+    last = subst (λ (p : Program). IsLastReply p a place reply) (sym kept.0) (last-reply asked a place reply (answered-at t.front at s.number asked a d.3.legal pending-stands) told first);
+    answered = d.3;
+  }
 
 -- What is kept of a session, as it goes on.
 
@@ -86,9 +128,17 @@ readable-on n s t kept pending p floor is = kept p floor (sym pending ∙ is)
 pub readable-idle : (n : ℕ) (asked : Program) (t : TicketView) → t.pending ≡ None → IsReadable (record { session = t; asked = asked; seen = n })
 readable-idle n asked t none p floor is = absurd (let e = sym none ∙ is in cc)
 
+pub readable-running : (n : ℕ) (asked : Program) (t : TicketView) → 0 < length (calls_of asked)
+    → ((p : Program) (floor : ℕ) → t.pending ≡ Some (asks p floor) → p ≡ asked) → IsReadable (record { session = t; asked = asked; seen = n })
+readable-running n asked t some pending p floor is = let same = pending p floor is in (same, subst MakesACall (sym same) (first-of (calls_of asked) some))
+
+-- a single call is a call
+pub some-call : (p : Program) (c : Call) → MakesOneCall p c → 0 < length (calls_of p)
+some-call p c one = subst (λ (l : List Call). 0 < length l) (sym one) (omega arith)
+
 pub readable-asking : (n : ℕ) (asked : Program) (c : Call) (t : TicketView) → MakesOneCall asked c
     → ((p : Program) (floor : ℕ) → t.pending ≡ Some (asks p floor) → p ≡ asked) → IsReadable (record { session = t; asked = asked; seen = n })
-readable-asking n asked c t one pending p floor is = let same = pending p floor is in (same, (c, subst (λ (q : Program). MakesOneCall q c) (sym same) one))
+readable-asking n asked c t one pending = readable-running n asked t (some-call asked c one) pending
 
 abbrev asked-or : Program → Option Pending → Program
 asked-or p None = p
@@ -130,12 +180,6 @@ read-called P x y is h = let e : x ≡ y = cc in subst P e h
 pub read-path : (P : ℕ → Answer → Type 0) (n m : ℕ) (x y : Answer) → NextOfPath.Performed n x ≡ NextOfPath.Performed m y → P n x → P m y
 read-path P n m x y is h = let e : n ≡ m = cc in let f : x ≡ y = cc in subst (λ (k : ℕ). P k y) e (subst (λ (a : Answer). P n a) f h)
 
-abbrev WaitOf : Pause → Next Reply
-WaitOf x = Next.Wait x
-
-pub read-wait : (P : Pause → Type 0) (x y : Pause) → WaitOf x ≡ WaitOf y → P x → P y
-read-wait P x y is h = let e : x ≡ y = cc in subst P e h
-
 -- a call that was published is pending
 pub published : {Y : Type 0} (s t : TicketView) (p : Program) (posted : Posted) → (posted ≡ Posted.Listed → (t ≡ enlisted (publishing s p)) ⊎ (t ≡ tried (enlisted (publishing s p))))
     → (posted ≡ Posted.Unlisted → (t ≡ tried (publishing s p)) × Y) → t.pending ≡ (publishing s p).pending
@@ -148,45 +192,14 @@ pub published-front : {Y : Type 0} (s t : TicketView) (p : Program) (posted : Po
 published-front s t p Posted.Listed l u = ⊎_elim (λ e. ap (λ (x : TicketView). x.front) e) (λ e. ap (λ (x : TicketView). x.front) e) (l refl)
 published-front s t p Posted.Unlisted l u = ap (λ (x : TicketView). x.front) (u refl).0
 
-option-cases : {X : Type 0} (o : Option Pending) → (o ≡ None → X) → ((p : Program) (floor : ℕ) → o ≡ Some (asks p floor) → X) → X
+pub option-cases : {X : Type 0} (o : Option Pending) → (o ≡ None → X) → ((p : Program) (floor : ℕ) → o ≡ Some (asks p floor) → X) → X
 option-cases None f g = f refl
 option-cases (Some q) f g = g q.call q.floor refl
-
-some-pending : (o : Option Pending) (p : Program) (floor : ℕ) → o ≡ Some (asks p floor) → o ≢ None
-some-pending o p floor is none = let e = sym none ∙ is in cc
 
 pub compared : (a b : ℕ) → (a < b) ⊎ (b ≤ a)
 compared a zero = inr (omega arith)
 compared zero (suc b) = inl (omega arith)
 compared (suc a) (suc b) = ⊎_elim (λ h. inl (omega (arith, h))) (λ h. inr (omega (arith, h))) (compared a b)
-
--- One turn of a call.
-module _ (s t : TicketView) (asked : Program) (c : Call) (idle : s.pending ≡ None → MakesOneCall asked c) (pending : (p : Program) (floor : ℕ) → s.pending ≡ Some (asks p floor) → (p ≡ asked) × ((d : Call) × MakesOneCall p d)) where
-  pub turn-reply : (place : ℕ) (a : ProgramAnswer) → (s.pending ≡ None → any.IsCalled program_object s t asked place a) → (s.pending ≢ None → any.IsAnswered program_object s t place a) → OneReply asked a
-  turn-reply place a called answered = option-cases s.pending
-      (λ none. let d = called none in reply-at t.front place s.number asked a c (idle none) d.legal d.stands)
-      (λ p floor is.
-      let d = answered (some-pending s.pending p floor is) in
-      let k = pending d.0 d.1 d.2 in
-      subst (λ (q : Program). OneReply q a) k.0 (reply-at t.front place s.number d.0 a k.1.0 k.1.1 d.3.legal d.3.stands))
-
-  -- its entry is in the history
-  pub turn-stands : (place : ℕ) (a : ProgramAnswer) → (s.pending ≡ None → any.IsCalled program_object s t asked place a) → (s.pending ≢ None → any.IsAnswered program_object s t place a)
-      → IsLegal t.front × (get_elem? t.front place ≡ opt.some (entry s.number asked a))
-  turn-stands place a called answered = option-cases s.pending
-      (λ none. let d = called none in (d.legal, d.stands))
-      (λ p floor is.
-      let d = answered (some-pending s.pending p floor is) in
-      (d.3.legal, subst (λ (q : Program). get_elem? t.front place ≡ opt.some (entry s.number q a)) (pending d.0 d.1 d.2).0 d.3.stands))
-
-  pub readable-turn : (n : ℕ) → (s.pending ≡ None → (t.pending ≡ None) ⊎ ((floor : ℕ) × (t.pending ≡ Some (asks asked floor))))
-      → (s.pending ≢ None → t.pending ≡ s.pending) → IsReadable (record { session = t; asked = asked; seen = n })
-  readable-turn n new same q floor is = option-cases s.pending
-      (λ none. ⊎_elim
-      (λ gone. absurd (let e = sym gone ∙ is in cc))
-      (λ here. let e = asks-same asked q here.0 floor t.pending here.1 is in (e, (c, subst (λ (p : Program). MakesOneCall p c) (sym e) (idle none))))
-      (new none))
-      (λ p old was. pending q floor (sym (same (some-pending s.pending p old was)) ∙ is))
 
 -- a path has a call for each level that isn't locked
 rest-some : (r : List ℕ) (m : Mode) (from n : ℕ) → 0 < n → 0 < length (map (lock_of_level r m) (range_with_len from n))

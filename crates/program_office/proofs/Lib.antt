@@ -7,3 +7,4 @@ pub mod Together
 pub mod OneReplies
 pub mod CallSessions
 pub mod Seen
+pub mod WakeUps

@@ -42,7 +42,7 @@ module _ {A : Type 0} where
       ap (λ (n : ℕ). take n l) (sym long) ∙ (ap (λ (k : List A). take (length (take i l ++ e ∷ [])) k) whole ∙ take-append_seam (take i l ++ e ∷ []) s.0)
 
   -- there is none behind the end
-  take-past : (l : List A) (i : ℕ) → length l ≤ i → take i l ≡ l
+  pub take-past : (l : List A) (i : ℕ) → length l ≤ i → take i l ≡ l
   take-past [] zero few = refl
   take-past [] (suc i) few = refl
   take-past (x ∷ l) zero few = absurd (omega (arith, few))

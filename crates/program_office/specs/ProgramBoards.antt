@@ -16,11 +16,12 @@ use Rattle.lock_programs.specs.Answers.{program_form}
 use Rattle.lock_programs.specs.Nothing.{no_calls, no_replies}
 use Rattle.lock_desk.specs.BookView.{BookView}
 use Rattle.publication.specs.Views.{Pending as PendingOf, TicketView as TicketViewOf, KnowledgeView as KnowledgeViewOf}
-use Rattle.publication.specs.Rule.{BoardState as BoardStateOf}
+use Rattle.publication.specs.Rule.{BoardState as BoardStateOf, IsHome as IsHomeOf}
 use Rattle.publication.specs.List.{IsRuled as IsRuledOf}
 use Rattle.publication.specs.Runs.{IsRun as IsRunOf}
 use Rattle.publication.specs.Boards.{new_tickets as new_tickets_of}
 use Rattle.publication.specs.BoardHistory.{history_of as history_of_any}
+use Rattle.publication.specs.declared.slot.Load.{Load as LoadOf}
 
 -- A book whose calls are programs.
 abbrev pub ProgramsView : Type 0
@@ -69,8 +70,14 @@ TicketView = TicketViewOf Program Answer
 abbrev pub KnowledgeView : Type 0
 KnowledgeView = KnowledgeViewOf Program Answer
 
+abbrev pub Load : Type 0
+Load = LoadOf ProgramsView Program Answer
+
 abbrev pub BoardState : Type 0
 BoardState = BoardStateOf ProgramsView Program Answer
+
+abbrev pub IsHome : List ProgramEntry → ℕ → Load → Type 0
+IsHome = IsHomeOf program_object
 
 abbrev pub IsRuled : BoardState → Type 0
 IsRuled = IsRuledOf program_object

@@ -1,9 +1,12 @@
-//! A session that makes single calls at an office of programs: each call is a program of one call.
+//! A session that makes single calls and programs at an office of programs: each single call is a program of one call.
 //!
-//! Its calls are those of `combining`, in its files `performing.rt`, `turning.rt`, `calling.rt` and `looking.rt`, and are answered with the
-//! place of the call in the history of calls, and the reply. `descending.rt` goes down a path, by a program of several calls.
+//! Its single calls are those of `combining`, in its files `performing.rt`, `turning.rt`, `calling.rt` and `looking.rt`, and are answered with
+//! the place of the call in the history of calls, and the reply. `running.rt` makes a whole program, turn by turn. `descending.rt` goes down a
+//! path, by a program of several calls.
+//!
+//! What is pending may be a program of several calls. A call that takes its answer as that of a single call tells the last reply and its place.
 
-ghost use Rattle.std.specs.Prelude.{◌≡◌, ◌≢◌, ◌⊎◌, ◌+◌, ◌<◌, ◌≤◌, ◌↔◌, ◌∷◌, [], true, false, IsTrue, None, Some, Ok, IfOk, IfErr, IfSome, IfNone, length, slice_index, vec_len, max};
+ghost use Rattle.std.specs.Prelude.{◌≡◌, ◌≢◌, ◌⊎◌, ◌+◌, ◌-◌, ◌^◌, ◌<◌, ◌≤◌, ◌↔◌, ◌∷◌, ◌++◌, [], true, false, IsTrue, None, Some, Ok, IfOk, IfErr, IfSome, IfNone, List, length, slice_index, vec_len, min, max};
 ghost use mathlib.Core.List.{IsPrefix};
 ghost use Rattle.sequential.specs.Histories.{calls_of as calls_of_session};
 ghost use Rattle.publication.specs.Kinds.{longer, maxes};
@@ -24,6 +27,7 @@ mod descending;
 mod knowing;
 mod looking;
 mod performing;
+mod running;
 mod turning;
 
 use crate::{HistoryPiece, Office, Session};
@@ -39,12 +43,12 @@ use programs::Programs;
 use std::alloc::{AllocError as NoMemory, Global};
 use std::marker::Model;
 
-/// A session that makes single calls.
+/// A session that makes single calls and programs.
 #[derive(Drop)]
 pub struct CallSession {
     /// The session as the office made it.
     session: Session,
-    /// The program that is pending, by which its answer is read. If none is pending, nothing relies on it.
+    /// The program that is pending, by which its answer is read. It makes a call. If none is pending, nothing relies on it.
     asked: Program,
     /// How many calls of the history the session knows.
     seen: u64,
@@ -73,8 +77,22 @@ fn answer_of(asked: &Program, answer: &ProgramAnswer) -> Answer
     }
 }
 
+/// The last reply to a program of which a call was served, and its place in the history of calls.
+fn last_of(program: &Program, answer: &ProgramAnswer) -> Answer
+    requires served { 0 < length (replies_of program.now answer.now) }
+    ensures last { (earlier : List ReplyValue) × (replies_of program.now answer.now ≡ earlier ++ result.reply ∷ [])
+        × (result.place ≡ min (answer.now.first + length earlier) (2 ^ 64 - 1)) }
+    ensures first { length (replies_of program.now answer.now) ≡ 1 → answer.now.first ≡ result.place }
+{
+    let last = answer.served(program) - 1;
+    combining::Answer {
+        place: answer.first().saturating_add(last as u64),
+        reply: answer.reply(program, last),
+    }
+}
+
 impl CallSession {
-    /// Makes single calls by a session that has no program pending. `seen` is how many calls of the history it knows: none of a session
+    /// Makes calls by a session that has no program pending. `seen` is how many calls of the history it knows: none of a session
     /// as an office was opened with it; else what `seen` told before `into_session`.
     pub fn new(session: Session, seen: u64) -> CallSession
         requires none { session.pending ≡ None }
@@ -88,8 +106,8 @@ impl CallSession {
         }
     }
 
-    /// Gives up the session as the office made it, for programs of several calls that are published, and for `Office::close`. A pending
-    /// call stays pending, as a program of one call.
+    /// Gives up the session as the office made it, for `Office::close`. What is pending stays pending, a single call as a program of one
+    /// call.
     pub fn into_session(self) -> Session
         ensures { result ≡ self }
     {
@@ -187,7 +205,8 @@ impl CallSession {
         turn
     }
 
-    /// Takes the answer to the pending call, as `Office::collect` does.
+    /// Takes the answer to the pending call, as `Office::collect` does. Of a pending program of several calls it tells the last reply and its
+    /// place.
     pub fn collect(&mut self, office: &Office) -> Option<Answer>
         requires ours { IsSessionOf office.now self.old }
         ensures ours { IsSessionOf office.now self.new }
@@ -199,7 +218,7 @@ impl CallSession {
         let asked = self.asked;
         let found = office.collect(&mut self.session)?;
         self.seen = seen_behind(self.seen, &asked, &found.reply);
-        Some(answer_of(&asked, &found.reply))
+        Some(last_of(&asked, &found.reply))
     }
 
     /// Retires: the session makes no more calls.

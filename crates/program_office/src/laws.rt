@@ -3,26 +3,32 @@
 //! The history of calls is that of the office's programs laid end to end (`flat_history`). `IsRuled s` says that the rule of the board
 //! holds in state `s`, as `atomic_table` promises it of the running board between any two atomic steps.
 
-ghost use Rattle.std.specs.Prelude.{◌≡◌, ◌≢◌, ◌⊎◌, ◌↔◌, ℕ, ◌<◌, ◌≤◌, true, List, [], ◌∷◌, ◌++◌, Option, Some, None, slice_get};
+ghost use Rattle.std.specs.Prelude.{◌≡◌, ◌≢◌, ◌⊎◌, ◌↔◌, ℕ, ◌+◌, ◌<◌, ◌≤◌, true, List, [], ◌∷◌, ◌++◌, length, Option, Some, None, slice_get};
+ghost use Rattle.std.specs.Global.{Box};
 ghost use Rattle.lock_modes.specs.declared.Mode.{Mode};
 ghost use Rattle.lock_rules.specs.declared.calls.Call.{Call};
 ghost use Rattle.lock_rules.specs.declared.calls.Reply.{Reply};
+ghost use Rattle.lock_rules.specs.declared.calls.Reply.TheVariants.{Waiting};
+ghost use Rattle.lock_rules.specs.Entries.{Answered};
 ghost use Rattle.lock_rules.specs.Legal.{state_of};
 ghost use Rattle.lock_rules.specs.Laws.{HoldsAtLeast, GoTogether};
 ghost use Rattle.lock_programs.specs.declared.program.Program.{Program};
 ghost use Rattle.lock_programs.specs.Calls.{calls_of};
 ghost use Rattle.lock_programs.specs.Answers.{replies_of, program_form};
 ghost use Rattle.programs.specs.Laws.{IsBefore};
-ghost use Rattle.publication.specs.Views.{BoardView, asks, entry};
+ghost use Rattle.publication.specs.Views.{BoardView, answer, asks, entry};
+ghost use Rattle.publication.specs.BoardHistory.{new_board};
 ghost use Rattle.publication.specs.Boards.{HasCallsOf};
 ghost use Rattle.publication.specs.Collected.{HasCollected};
 ghost use Rattle.lock_board.specs.HoldsAsTold.{HoldsAsTold as HoldsAsToldByCalls};
+ghost use Rattle.lock_board.specs.WakeUps.{WasToldToWait};
 ghost use Rattle.lock_office.specs.Ended.{AreWakesTold};
 ghost use Rattle.lock_office.specs.Paths.{rest_of_path};
-ghost use Rattle.program_office.specs.ProgramBoards.{ProgramsView, ProgramEntry, AnsweredProgram, Pending, TicketView, BoardState, IsLegal, IsRuled, IsRun, history_of, flat_history, calls_answered};
+ghost use Rattle.program_office.specs.ProgramBoards.{ProgramsView, ProgramEntry, AnsweredProgram, Pending, TicketView, Load, BoardState, IsHome, IsLegal, IsRuled, IsRun, history_of, flat_history, calls_answered};
 ghost use Rattle.program_office.specs.Closed.{IsClosed, IsOneHistory};
 ghost use Rattle.program_office.specs.HoldsAsTold.{KeepsLock, KeptLock, HoldsAsTold, ReadsAsTold, WritesAsTold, ToldModesGoTogether, IsToldExclusive, IsToldAccessCompatible};
 ghost use Rattle.program_office.specs.Ended.{AreToldBy, places_of_calls};
+ghost use Rattle.program_office.specs.WakeUps.{IsNotForgotten};
 ghost use Rattle.program_office.specs.InTime.{DoProgramsRespectTime};
 ghost use Rattle.program_office.specs.Paths.{granted_among, IsGrantedFirst};
 
@@ -35,6 +41,7 @@ use programs::laws::{
     programs_stand_side_by_side, programs_stop_at_a_cause,
     sessions_make_the_calls_of_their_programs,
 };
+use publication::laws::{boards_open_with_an_empty_history, each_place_is_entered_once};
 use sequential::laws::calls_are_in_order;
 
 /// Whatever programs the threads made, and however their atomic steps interleaved, the history of a closed office is sequential, that
@@ -108,6 +115,22 @@ pub fn no_wake_up_is_lost()
         AreWakesTold sessions (flat_history history) (places_of_calls history places) list }
 {
     lock_office::laws::no_wake_up_is_lost();
+}
+
+/// No session that waits is forgotten, in any state that a run of a board from its opening reaches, whatever programs are published,
+/// opened or served at that moment. Take a session whose last call was answered Waiting, whether or not it has collected the answer
+/// (clause `told_to_wait` says when it has). Either it has a waiting request; or a call behind that answer has ended its wait, of a
+/// program that stands among the places that exactly one session has entered. That session's call tells it, as
+/// `lock_board::laws::nobody_who_waits_is_forgotten` says: it has told already; or the session is in the lock word and its pass goes on;
+/// or its call has it in the list that it hasn't handed out yet.
+pub fn nobody_who_waits_is_forgotten()
+    ensures not_forgotten { (n : ℕ) (load : Box Load) (s : BoardState) (told : ℕ → ℕ) (u : ℕ) → IsHome [] (n + 1) load.value → load.value.pieces.items ≡ [] →
+        IsRun (new_board n load) s → (wait : WasToldToWait (flat_history (history_of s)) u) → IsNotForgotten s told (length wait.front) u }
+    ensures told_to_wait { (s : BoardState) (u : ℕ) (answers : List AnsweredProgram) (place : ℕ) (before : List Answered) (call : Call) → IsRuled s →
+        HasCollected s u answers None → calls_answered answers ≡ before ++ answer place call Waiting ∷ [] → WasToldToWait (flat_history (history_of s)) u }
+{
+    boards_open_with_an_empty_history::<Programs<Book>>();
+    each_place_is_entered_once::<Programs<Book>>();
 }
 
 /// The order of the history of calls keeps real time, program by program. In a run, a program whose answer any session had collected in

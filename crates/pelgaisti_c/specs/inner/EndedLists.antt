@@ -9,4 +9,4 @@ ended_list_view_of a = record { room = a.room }
 
 -- a list that is made has the room that contracts see
 pub record HasItsRoom (a : Inside) : Type 0 where
-  pub room : IfSome a.list (λ ended. ended.room ≡ a.room)
+  pub room : IfSome a.list (λ ended. ended.told.room ≡ a.room)

@@ -9,7 +9,7 @@ ghost use Rattle.program_office.specs.SingleCalls.{IsCalled, IsAnswered, IsCalli
 
 use crate::Office;
 use crate::call_session::counting::{Counted, seen_called};
-use crate::call_session::{CallSession, answer_of};
+use crate::call_session::{CallSession, answer_of, last_of};
 use combining::{Called, Told};
 use lock_desk::{Book, Call, Reply};
 use lock_programs::Program;
@@ -49,7 +49,8 @@ impl CallSession {
         }
     }
 
-    /// Goes on with the pending call, in at most `turns` turns, as `combining::resume` does.
+    /// Goes on with the pending call, in at most `turns` turns, as `combining::resume` does. Of a pending program of several calls it tells the
+    /// last reply and its place.
     pub fn resume<T: Told<Programs<Book>>>(
         &mut self,
         office: &Office,
@@ -74,7 +75,7 @@ impl CallSession {
         let called = combining::resume(office, &mut self.session, turns, told);
         self.seen = seen_called(told.seen, &asked, &called);
         match called {
-            Called::Answered(found) => Called::Answered(answer_of(&asked, &found.reply)),
+            Called::Answered(found) => Called::Answered(last_of(&asked, &found.reply)),
             Called::NotYet => Called::NotYet,
             Called::Starved => Called::Starved,
         }

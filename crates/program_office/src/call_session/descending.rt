@@ -1,24 +1,21 @@
 //! One turn of a session on the way down a path.
 
-ghost use Rattle.std.specs.Prelude.{◌≡◌, ◌≢◌, ◌+◌, ◌^◌, ◌-◌, ◌<◌, ◌≤◌, ◌++◌, ◌∷◌, [], if◌then◌else◌, min, true, false, None, List, length};
+ghost use Rattle.std.specs.Prelude.{◌≡◌, ◌≢◌, ◌+◌, ◌<◌, ◌≤◌, if◌then◌else◌, false, None, length};
 ghost use Rattle.combining.specs.declared.backoff.TheConstants.{TRIES_AT_ONCE};
 ghost use Rattle.combining.specs.Calls.{IsWaitingOn, HasGoneOn};
 ghost use Rattle.combining.specs.Ended.{AreToldBy, HasRoom, entered_since};
 ghost use Rattle.combining.specs.Waits.{IsWaitAfterTry, IsWaitAfterLook};
 ghost use Rattle.lock_desk.specs.Paths.{lock_of_level, grants};
-ghost use Rattle.lock_programs.specs.Answers.{replies_of};
-ghost use Rattle.lock_rules.specs.declared.calls.Reply.{Reply as ReplyValue};
 ghost use Rattle.program_office.specs.Sessions.{IsSessionOf, IsIdle};
 ghost use Rattle.program_office.specs.SingleCalls.{IsCalled, IsAnswered, IsCalling, HasStarvedCalling};
 ghost use Rattle.program_office.specs.PathTurns.{IsPathPerformed};
 
-use crate::call_session::CallSession;
 use crate::call_session::counting::Counted;
+use crate::call_session::{CallSession, last_of};
 use crate::{Office, levels_granted, path_program};
 use combining::{Next, Performed, TRIES_AT_ONCE, Told, Wait, after_try};
 use lock_desk::{Book, Mode, Resource, grants, lock_of_level};
 use lock_office::Answer;
-use lock_programs::{Answer as ProgramAnswer, Program};
 use programs::Programs;
 
 /// The outcome of one turn on the way down a path.
@@ -42,19 +39,6 @@ pub enum NextOfPath {
     Starved,
     /// No answer yet. Another turn goes on, after this wait.
     Wait(Wait),
-}
-
-/// The last reply of a program of which a call was served, and its place in the history of calls.
-fn last_of(program: &Program, answer: &ProgramAnswer) -> Answer
-    requires served { 0 < length (replies_of program.now answer.now) }
-    ensures last { (earlier : List ReplyValue) × (replies_of program.now answer.now ≡ earlier ++ result.reply ∷ [])
-        × (result.place ≡ min (answer.now.first + length earlier) (2 ^ 64 - 1)) }
-{
-    let last = answer.served(program) - 1;
-    combining::Answer {
-        place: answer.first().saturating_add(last as u64),
-        reply: answer.reply(program, last),
-    }
 }
 
 impl CallSession {

@@ -1,38 +1,22 @@
 //! One turn of a session's call.
 
-ghost use Rattle.std.specs.Prelude.{◌≡◌, ◌≢◌, ◌+◌, ◌%◌, ◌<◌, ◌≤◌, ℕ, true, false, Some, None};
+ghost use Rattle.std.specs.Prelude.{◌≡◌, ◌≢◌, ◌+◌, ◌%◌, ◌<◌, ◌≤◌, false, None};
 ghost use Rattle.combining.specs.declared.backoff.TheConstants.{TRIES_AT_ONCE, LOOKS_PER_TRY};
 ghost use Rattle.combining.specs.Calls.{IsWaitingOn, HasGoneOn};
 ghost use Rattle.combining.specs.Ended.{HasAddedTold, HasRoom, entered_since};
 ghost use Rattle.combining.specs.Waits.{IsWaitAfterTry, IsWaitAfterLook};
 ghost use Rattle.program_office.specs.Sessions.{IsSessionOf, IsIdle};
-ghost use Rattle.program_office.specs.SingleCalls.{MakesOneCall, IsCalled, IsAnswered, IsCalling, HasStarvedCalling};
-ghost use Rattle.lock_programs.specs.declared.program.Program.{Program as ProgramValue};
-ghost use Rattle.lock_rules.specs.declared.calls.Call.{Call as CallValue};
-ghost use Rattle.publication.specs.Views.{asks};
+ghost use Rattle.program_office.specs.SingleCalls.{IsCalled, IsAnswered, IsCalling, HasStarvedCalling};
 
 use crate::Office;
-use crate::call_session::counting::{Counted, seen_next};
-use crate::call_session::{CallSession, answer_of};
+use crate::call_session::counting::Counted;
+use crate::call_session::{CallSession, answer_of, last_of};
 use combining::{Next, Told};
 use lock_desk::{Book, Call, Reply};
 use lock_programs::Program;
 use programs::Programs;
 
 impl CallSession {
-    /// The program that a turn of this call goes on with: the pending one, or else the program of this one call.
-    fn program_for(&self, call: &Call) -> Program
-        requires live { self.now.retired ≡ false }
-        ensures idle { self.now.pending ≡ None → MakesOneCall result call.now }
-        ensures pending { (program : ProgramValue) (floor : ℕ) → self.now.pending ≡ Some (asks program floor)
-            → (program ≡ result) × ((one : CallValue) × MakesOneCall program one) }
-    {
-        if self.session.is_idle() {
-            return Program::one(*call);
-        }
-        self.asked
-    }
-
     /// Makes one turn of a call, as `combining::turn` does.
     #[inline(always)]
     pub fn turn<T: Told<Programs<Book>>>(
@@ -67,19 +51,19 @@ impl CallSession {
         ensures told { HasAddedTold T.ends office.now.sessions self.new.front (entered_since self.old self.new) (T.list told.old.told) (T.list told.new.told) }
         ensures room { T.room told.new.told ≡ T.room told.old.told }
     {
-        let asked = self.program_for(call);
-        self.asked = asked;
-        told.seen = self.seen;
-        let next = combining::turn(office, &mut self.session, &asked, made, told);
-        self.seen = seen_next(told.seen, &asked, &next);
-        match next {
+        if !self.is_idle() {
+            return self.look(office, made, told);
+        }
+        let asked = Program::one(*call);
+        match self.start_turn(office, &asked, made, told) {
             Next::Answered(found) => Next::Answered(answer_of(&asked, &found.reply)),
             Next::Starved => Next::Starved,
             Next::Wait(wait) => Next::Wait(wait),
         }
     }
 
-    /// Makes one turn of the pending call, as `combining::look` does.
+    /// Makes one turn of the pending call, as `combining::look` does. Of a pending program of several calls it tells the last reply and its
+    /// place.
     pub fn look<T: Told<Programs<Book>>>(
         &mut self,
         office: &Office,
@@ -102,12 +86,9 @@ impl CallSession {
         ensures told { HasAddedTold T.ends office.now.sessions self.new.front (entered_since self.old self.new) (T.list told.old.told) (T.list told.new.told) }
         ensures room { T.room told.new.told ≡ T.room told.old.told }
     {
-        let asked = self.asked;
-        told.seen = self.seen;
-        let next = combining::look(office, &mut self.session, looked, told);
-        self.seen = seen_next(told.seen, &asked, &next);
-        match next {
-            Next::Answered(found) => Next::Answered(answer_of(&asked, &found.reply)),
+        let asked = self.pending_program();
+        match self.run_look(office, looked, told) {
+            Next::Answered(found) => Next::Answered(last_of(&asked, &found.reply)),
             Next::Starved => Next::Starved,
             Next::Wait(wait) => Next::Wait(wait),
         }

@@ -2,7 +2,7 @@ use Rattle.std.proofs.Common.{rules, ◌≡◌, List, length, sym, subst, ap, �
 use Rattle.std.specs.Prelude.{Any}
 use Rattle.std.proofs.lemmas.List.{length-map}
 use Rattle.pelgaisti_c.specs.declared.session_handle.SessionHandle.{SessionHandle}
-use Rattle.pelgaisti_c.proofs.Handles.{new_tickets_count}
+use Rattle.pelgaisti_c.proofs.Handles.{new_tickets_count, are_unknowing}
 use Rattle.pelgaisti_c.proofs.office.pelgaisti_raw_office_open.Goals as goal
 
 pub open_handles-requires : goal.open_handles-requires
@@ -16,3 +16,6 @@ pub returns-then-has_open-clause-open : goal.returns-then-has_open-clause-open
 returns-then-has_open-clause-open c = λ _.
     let at : c.items-sessions.result.now ≡ c.args.sessions.now.behind = search rules in
     subst (λ (handles : List SessionHandle). Any (λ handle. handle.is_open ≡ 1) handles) at (c.has_open.ensures.open (search rules))
+
+pub shares_of-requires-clause-unknowing : goal.shares_of-requires-clause-unknowing
+shares_of-requires-clause-unknowing c = search (are_unknowing, c.in-Ok.ensures.sessions)

@@ -1,14 +1,15 @@
 use Rattle.std.proofs.Common.{rules, ◌≡◌, [], List, sym, ap, ◌∙◌, subst, arith}
 use Rattle.std.specs.Prelude.{All}
 use Rattle.publication.specs.Views.{BoardView}
-use Rattle.lock_board.specs.LockBoards.{TicketView}
-use Rattle.lock_office.specs.Sessions.{IsSessionOf, HasNothingPending}
+use Rattle.program_office.specs.ProgramBoards.{TicketView}
+use Rattle.program_office.specs.Sessions.{IsSessionOf, HasNothingPending}
 use Rattle.pelgaisti_c.proofs.office.share_of.Goals as goal
 
 pub invariant_of-share-clause-ours : goal.invariant_of-share-clause-ours
 invariant_of-share-clause-ours c =
     let same : c.in_ok-office.office.value ≡ c.args.shared.now.value = search rules in
-    subst (λ (o : BoardView). IsSessionOf o c.args.session) (sym same) c.requires.ours.0
+    subst (λ (o : BoardView). IsSessionOf o c.call_session_of.result) (sym same)
+    (subst (λ (t : TicketView). IsSessionOf c.args.shared.now.value t) (sym c.call_session_of.ensures) c.requires.ours.0)
 
 pub invariant_of-share-clause-theirs : goal.invariant_of-share-clause-theirs
 invariant_of-share-clause-theirs c =

@@ -1,22 +1,13 @@
 use Rattle.std.proofs.Common.{◌∙◌, ◌+◌, inl, inr, ⊎_elim, ap, sym, refl, subst, arith}
-use Rattle.lock_board.specs.LockBoards.{TicketView}
-use Rattle.combining.specs.Calls.{IsCalling, IsWaitingOn}
+use Rattle.combining.specs.Calls.{IsWaitingOn}
 use Rattle.lock_desk.specs.Paths.{lock_of_level}
+use Rattle.program_office.specs.ProgramBoards.{TicketView}
+use Rattle.program_office.specs.SingleCalls.{IsCalling}
 use Rattle.pelgaisti_c.specs.declared.numbers.AnswerNumbers.{AnswerNumbers}
 use Rattle.pelgaisti_c.proofs.SameOffice.{same-trans}
-use Rattle.pelgaisti_c.proofs.PathTurns.{no-last, gone-performed, gone-answered}
+use Rattle.pelgaisti_c.proofs.PathTurns.{gone-performed, gone-answered}
 use Rattle.pelgaisti_c.proofs.path_turn_calls.path_turn.Goals.{in-Performed, in-Answered}
 use Rattle.pelgaisti_c.proofs.path_turn_calls.path_turn.Goals as goal
-
-pub last_of-requires : goal.last_of-requires
-last_of-requires c = record {
-  some = λ none. let p = c.make_path_turn-next.ensures.performed c.in-Performed.now c.in-Performed.row c.in-Performed.is in
-      let of = p.3.1.row_is.entries_are in
-      let count = of.count in
-      let some = p.1 in
-      let zero = no-last _ _ of.earlier p.3.1.own c.in-Performed.row.last of.last_is none in
-      omega (arith, count, some, zero);
-}
 
 pub returns-in-Wait-clause-late : goal.returns-in-Wait-clause-late
 returns-in-Wait-clause-late c = λ e.
@@ -55,14 +46,14 @@ returns-then-not-goes_on-clause-ok c = λ e.
     elim c.match-next.branch [
       | in-Performed w ↦
           let wrote = w.write_level-goes_on in
-          let p = made.ensures.performed w.in-Performed.now w.in-Performed.row w.in-Performed.is in (
+          let p = made.ensures.performed w.in-Performed.now w.in-Performed.found w.in-Performed.is in (
             c.in-Some.wanted,
-            w.last_of.result.reply,
+            w.in-Performed.found.reply,
             c.in-Some.ensures.some,
             gone-performed c.args.resource c.in-Some.wanted c.args.share.now forgot.new.share made.new.share c.args.level.now forgot.ensures.session forgot.ensures.same made.ensures.same
-                (made.ensures.idle w.in-Performed.now w.in-Performed.row w.in-Performed.is) c.match-next.level w.in-Performed.now c.match-next.answer w.last_of.result (w.level-is ∙ wrote.ensures.level)
+                (made.ensures.idle w.in-Performed.now w.in-Performed.found w.in-Performed.is) c.match-next.level w.in-Performed.now c.match-next.answer w.in-Performed.found (w.level-is ∙ wrote.ensures.level)
                 (ap (λ (a : AnswerNumbers). a.place) w.answer-is ∙ wrote.ensures.answer.0) (ap (λ (a : AnswerNumbers). a.reply) w.answer-is ∙ wrote.ensures.answer.1)
-                w.in-Performed.row p.0 p.2 p.3 w.last_of.ensures,
+                p.0 p.1,
             ⊎_elim (λ last. inl (let level = w.level-is ∙ wrote.ensures.level in omega (arith, level, last, end))) (λ stopped. inr stopped) (wrote.ensures.ended (sym w.goes_on-is ∙ c.if-not-goes_on.true)),
           )
       | in-Answered w ↦
@@ -88,15 +79,15 @@ returns-clause-late c = λ e.
     let end = c.level-end.ensures in inl (elim c.match-next.branch [
       | in-Performed w ↦
           let wrote = w.write_level-goes_on in
-          let p = made.ensures.performed w.in-Performed.now w.in-Performed.row w.in-Performed.is in
+          let p = made.ensures.performed w.in-Performed.now w.in-Performed.found w.in-Performed.is in
           let on = wrote.ensures.on (sym w.goes_on-is ∙ c.if-not-goes_on.false) in (
             c.in-Some.wanted,
-            w.last_of.result.reply,
+            w.in-Performed.found.reply,
             c.in-Some.ensures.some,
             gone-performed c.args.resource c.in-Some.wanted c.args.share.now forgot.new.share made.new.share c.args.level.now forgot.ensures.session forgot.ensures.same made.ensures.same
-                (made.ensures.idle w.in-Performed.now w.in-Performed.row w.in-Performed.is) c.match-next.level w.in-Performed.now c.match-next.answer w.last_of.result (w.level-is ∙ wrote.ensures.level)
+                (made.ensures.idle w.in-Performed.now w.in-Performed.found w.in-Performed.is) c.match-next.level w.in-Performed.now c.match-next.answer w.in-Performed.found (w.level-is ∙ wrote.ensures.level)
                 (ap (λ (a : AnswerNumbers). a.place) w.answer-is ∙ wrote.ensures.answer.0) (ap (λ (a : AnswerNumbers). a.reply) w.answer-is ∙ wrote.ensures.answer.1)
-                w.in-Performed.row p.0 p.2 p.3 w.last_of.ensures,
+                p.0 p.1,
             (λ last. on.0 (let level = w.level-is ∙ wrote.ensures.level in omega (arith, level, last, end))),
             on.1,
             refl,

@@ -12,3 +12,6 @@ returns-clause-late c = λ e.
     let was : c.args.session.now.behind.held.share ≡ Some c.deref_mut.result.now = search rules in
     let late = c.collect-status.ensures.late e in
     (c.deref_mut.result.now, was, late.0, late.1)
+
+pub returns-clause-several : goal.returns-clause-several
+returns-clause-several c = λ e. let was : c.args.session.now.behind.held.share ≡ Some c.deref_mut.result.now = search rules in (c.deref_mut.result.now, was, c.collect-status.ensures.several e)

@@ -1,5 +1,5 @@
 use Rattle.std.proofs.Common.{rules, ◌≡◌, ℕ, refl, sym, subst, arith}
-use Rattle.lock_office.specs.Sessions.{IsPerformed}
+use Rattle.program_office.specs.SingleCalls.{IsPerformed}
 use Rattle.combining.specs.declared.office.perform.Performed.TheVariants.{Answered}
 use Rattle.pelgaisti_c.proofs.Starved.{is_one, falls}
 use Rattle.pelgaisti_c.proofs.session_calls.perform_at_once.Goals as goal
@@ -14,7 +14,7 @@ returns-clause-ok c = λ e.
     let may = c.in-Ok.ensures.ok in
     let reply = found.0.reply in
     let whole = falls (λ b. Answered found.0 pass.served b) c.perform-performed.result pass.starved found.1 in
-    let performed = subst (λ (p : ℕ). IsPerformed c.args.share.now.session c.perform-performed.new.session c.in-Ok.call p reply pass.served) (sym found.2) (done.answered _ _ _ found.1) in (
+    let performed = subst (λ (p : ℕ). IsPerformed c.args.share.now.session c.perform-performed.new.self c.in-Ok.call p reply pass.served) (sym found.2) (done.answered _ _ _ found.1) in (
       c.in-Ok.call,
       reply,
       may.0,

@@ -1,7 +1,7 @@
 use Rattle.std.proofs.Common.{rules, ◌≡◌, ℕ, refl, sym, subst, arith, ◌∙◌}
-use Rattle.lock_office.specs.Sessions.{IsPerformed}
+use Rattle.program_office.specs.SingleCalls.{IsPerformed}
 use Rattle.combining.specs.Ended.{entered_since}
-use Rattle.lock_office.specs.Ended.{AreToldBy}
+use Rattle.program_office.specs.Ended.{AreToldBy}
 use Rattle.combining.specs.declared.office.perform.Performed.TheVariants.{Answered}
 use Rattle.pelgaisti_c.proofs.Starved.{is_one, falls}
 use Rattle.pelgaisti_c.proofs.session_calls.perform_telling.Goals.{then-status-ne-ELSEWHERE, else-status-ne-ELSEWHERE}
@@ -11,14 +11,14 @@ pub returns-clause-ok : goal.returns-clause-ok
 returns-clause-ok c = λ e.
     let done = c.perform_telling-performed.ensures in
     let many : c.deref.result.now.sessions ≡ c.args.share.now.sessions = search rules in
-    let told = c.perform_telling-performed.new.told.list in
+    let told = c.perform_telling-performed.new.told.told.list in
     let written = c.write_performed-status.ensures in
     let pass = c.write_performed-status.new.pass in
     let found = written.ok e in
     let may = c.in-Ok.ensures.ok in
     let reply = found.0.reply in
     let whole = falls (λ b. Answered found.0 pass.served b) c.perform_telling-performed.result pass.starved found.1 in
-    let performed = subst (λ (p : ℕ). IsPerformed c.args.share.now.session c.perform_telling-performed.new.session c.in-Ok.call p reply pass.served) (sym found.2) (done.answered _ _ _ found.1) in (
+    let performed = subst (λ (p : ℕ). IsPerformed c.args.share.now.session c.perform_telling-performed.new.self c.in-Ok.call p reply pass.served) (sym found.2) (done.answered _ _ _ found.1) in (
       (
         c.in-Ok.call,
         reply,
@@ -33,7 +33,7 @@ returns-clause-ok c = λ e.
         record { office = refl; handed = refl; sessions = refl; mark = refl; waker = refl },
       ),
       elim c.if-status-ne-ELSEWHERE.branch [
-        | then-status-ne-ELSEWHERE w ↦ (told, subst (λ (n : ℕ). AreToldBy n c.perform_telling-performed.new.session.front (entered_since c.args.share.now.session c.perform_telling-performed.new.session) told) many done.told, w.list-is ∙ w.write_ended.ensures.list, w.count-is ∙ w.write_ended.ensures.count.0, (let few = w.write_ended.ensures.count.1 in omega (arith, w.count-is, few)))
+        | then-status-ne-ELSEWHERE w ↦ (told, subst (λ (n : ℕ). AreToldBy n c.perform_telling-performed.new.self.front (entered_since c.args.share.now.session c.perform_telling-performed.new.self) told) many done.told, w.list-is ∙ w.write_ended.ensures.list, w.count-is ∙ w.write_ended.ensures.count.0, (let few = w.write_ended.ensures.count.1 in omega (arith, w.count-is, few)))
         | else-status-ne-ELSEWHERE w ↦ absurd (let no : 0 ≡ 13 = sym e ∙ w.if-status-ne-ELSEWHERE.false in omega (arith, no))
       ],
     )

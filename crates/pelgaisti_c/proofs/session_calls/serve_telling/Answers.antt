@@ -1,6 +1,6 @@
 use Rattle.std.proofs.Common.{rules, ◌≡◌, ℕ, arith, refl, ◌∙◌, subst}
 use Rattle.combining.specs.Ended.{entered_since}
-use Rattle.lock_office.specs.Ended.{AreToldBy}
+use Rattle.program_office.specs.Ended.{AreToldBy}
 use Rattle.combining.specs.declared.office.Turn.TheVariants.{Pass}
 use Rattle.pelgaisti_c.proofs.Starved.{is_one, falls}
 use Rattle.pelgaisti_c.proofs.session_calls.serve_telling.Goals.{then-status-eq-OK, else-status-eq-OK}
@@ -10,7 +10,7 @@ pub returns-clause-ok : goal.returns-clause-ok
 returns-clause-ok c = λ e.
     let turn = c.serve_telling-turn.ensures in
     let many : c.deref.result.now.sessions ≡ c.args.share.now.sessions = search rules in
-    let told = c.serve_telling-turn.new.told.list in
+    let told = c.serve_telling-turn.new.told.told.list in
     let written = c.write_turn-status.ensures in
     let pass = c.write_turn-status.new.pass in
     let is = written.ok e in
@@ -26,7 +26,7 @@ returns-clause-ok c = λ e.
         record { office = refl; handed = refl; sessions = refl; mark = refl; waker = refl },
       ),
       elim c.if-status-eq-OK.branch [
-        | then-status-eq-OK w ↦ (told, subst (λ (n : ℕ). AreToldBy n c.serve_telling-turn.new.session.front (entered_since c.args.share.now.session c.serve_telling-turn.new.session) told) many turn.told, w.list-is ∙ w.write_ended.ensures.list, w.count-is ∙ w.write_ended.ensures.count.0, (let few = w.write_ended.ensures.count.1 in omega (arith, w.count-is, few)))
+        | then-status-eq-OK w ↦ (told, subst (λ (n : ℕ). AreToldBy n c.serve_telling-turn.new.self.front (entered_since c.args.share.now.session c.serve_telling-turn.new.self) told) many turn.told, w.list-is ∙ w.write_ended.ensures.list, w.count-is ∙ w.write_ended.ensures.count.0, (let few = w.write_ended.ensures.count.1 in omega (arith, w.count-is, few)))
         | else-status-eq-OK w ↦ absurd (w.if-status-eq-OK.false e)
       ],
     )

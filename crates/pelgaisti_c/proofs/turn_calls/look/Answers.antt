@@ -1,5 +1,5 @@
 use Rattle.std.proofs.Common.{arith, subst}
-use Rattle.lock_board.specs.LockBoards.{TicketView}
+use Rattle.program_office.specs.ProgramBoards.{TicketView}
 use Rattle.combining.specs.Calls.{IsWaitingOn}
 use Rattle.pelgaisti_c.proofs.SameOffice.{same-trans}
 use Rattle.pelgaisti_c.proofs.turn_calls.look.Goals as goal

@@ -1,24 +1,17 @@
-use Rattle.std.proofs.Common.{◌≡◌, ◌∙◌, [], ◌∷◌, ap, sym, subst}
-use Rattle.lock_programs.specs.declared.program.Program.{Program}
-use Rattle.lock_programs.specs.Answers.{replies_of}
+use Rattle.std.proofs.Common.{◌∙◌, ap, sym, subst}
 use Rattle.lock_office.specs.Sessions.{Answer}
 use Rattle.program_office.specs.ProgramBoards.{TicketView}
 use Rattle.program_office.specs.SingleCalls.{IsAnswered}
 use Rattle.program_office.proofs.Seen.{counted-behind}
-use mathlib.Core.Option as opt
-use lib.ListN.{get_elem?}
-use Rattle.programs.specs.Flat.{entry}
-use Rattle.program_office.proofs.CallSessions.{reply-at, single-answered, read-called, readable-on, readable-idle}
+use Rattle.program_office.proofs.CallSessions.{kept-some, pending-stands, pending-replies, pending-answered, read-called, readable-on, readable-idle}
 use Rattle.program_office.proofs.call_session.CallSession.resume.Goals.{in-Answered, in-NotYet, in-Starved}
 use Rattle.program_office.proofs.call_session.CallSession.resume.Goals as goal
 
-pub answer_of-requires : goal.answer_of-requires
-answer_of-requires g c =
+pub last_of-requires : goal.last_of-requires
+last_of-requires g c =
     let found = c.in-Answered.found in
     let d = c.resume-called.ensures.answered found c.in-Answered.is in
-    let k = c.self.invariant.readable d.0 d.1 d.2 in
-    let s = reply-at c.resume-called.new.session.front found.place c.self.inside.session.number d.0 found.reply k.1.0 k.1.1 d.3.legal d.3.stands in
-    record { served = (s.0, subst (λ (p : Program). replies_of p found.reply ≡ s.0 ∷ []) k.0 s.1) }
+    record { served = pending-replies c.self.inside.session c.resume-called.new.session found.place found.reply c.self.inside.asked d (kept-some d.0 c.self.inside.asked (c.self.invariant.readable d.0 d.1 d.2)) }
 
 pub invariant_of-self : goal.invariant_of-self
 invariant_of-self g c =
@@ -28,8 +21,8 @@ invariant_of-self g c =
           let found = w.in-Answered.found in
           let asked = c.self.inside.asked in
           let d = c.resume-called.ensures.answered found w.in-Answered.is in
-          let k = c.self.invariant.readable d.0 d.1 d.2 in
-          let stands = subst (λ (p : Program). get_elem? t.front found.place ≡ opt.some (entry c.self.inside.session.number p found.reply)) k.0 d.3.stands in
+          let k = kept-some d.0 c.self.inside.asked (c.self.invariant.readable d.0 d.1 d.2) in
+          let stands = pending-stands c.self.inside.session t found.place found.reply asked d k in
           record {
             readable = readable-idle c.seen_called-self-inside.result asked t (c.resume-called.ensures.idle found w.in-Answered.is).0;
             counted = counted-behind t.front found.place c.self.inside.session.number asked found.reply _ _ d.3.legal stands (c.resume-called.ensures.noted found w.in-Answered.is c.self.invariant.counted) (c.seen_called-self-inside.ensures.answered found w.in-Answered.is);
@@ -52,10 +45,10 @@ returns-clause-answered g c = λ answer is.
       | in-Answered w ↦
           let found = w.in-Answered.found in
           let d = c.resume-called.ensures.answered found w.in-Answered.is in
-          let k = c.self.invariant.readable d.0 d.1 d.2 in
-          let read = w.answer_of.result in
-          let told = w.answer_of.ensures in
-          let done : IsAnswered c.self.inside.session c.resume-called.new.session read.place read.reply = single-answered c.self.inside.session c.resume-called.new.session found.place found.reply c.self.inside.asked read.place read.reply d k told.replies told.place in
+          let k = kept-some d.0 c.self.inside.asked (c.self.invariant.readable d.0 d.1 d.2) in
+          let read = w.last_of.result in
+          let told = w.last_of.ensures in
+          let done : IsAnswered c.self.inside.session c.resume-called.new.session read.place read.reply = pending-answered c.self.inside.session c.resume-called.new.session found.place found.reply c.self.inside.asked d k read.place read.reply told.last told.first in
           read-called (λ (a : Answer). IsAnswered c.args.self.now c.resume-called.new.session a.place a.reply) read answer (sym w.result-is ∙ is)
           (subst (λ (t : TicketView). IsAnswered t c.resume-called.new.session read.place read.reply) c.self.view_is done)
       | in-NotYet w ↦ absurd (let e = sym w.result-is ∙ is in cc)

@@ -1,8 +1,8 @@
-use Rattle.std.proofs.Common.{rules, ◌≡◌, ℕ, zero, suc, ◌+◌, ◌-◌, ◌^◌, List, [], ◌∷◌, ◌++◌, length, Some, slice_get, refl, ap, arith}
+use Rattle.std.proofs.Common.{rules, ◌≡◌, ℕ, zero, suc, ◌+◌, ◌-◌, ◌^◌, ◌<◌, List, [], ◌∷◌, ◌++◌, length, Some, slice_get, refl, ap, arith}
 use Rattle.std.specs.Prelude.{min}
 use Rattle.lock_rules.specs.declared.calls.Reply.{Reply}
 use Rattle.lock_programs.specs.Answers.{replies_of}
-use Rattle.program_office.proofs.call_session.descending.last_of.Goals as goal
+use Rattle.program_office.proofs.call_session.last_of.Goals as goal
 
 -- a list ends with its last item
 ends-with : (rs : List Reply) (k : ℕ) (r : Reply) → k + 1 ≡ length rs → slice_get rs k ≡ Some r → (earlier : List Reply) × (rs ≡ earlier ++ r ∷ []) × (length earlier ≡ k)
@@ -18,4 +18,5 @@ returns c =
     let k : ℕ = c.served-last.result - 1 in
     let i = ends-with (replies_of c.args.program.now c.args.answer.now) k c.reply.result (omega (arith, some, count)) c.reply.ensures in
     let sum : c.saturating_add.result ≡ min (c.args.answer.now.first + length i.0) (2 ^ 64 - 1) = (let long = i.2 in let first = c.first.ensures in search rules) in
-    record { last = (i.0, i.1, sum) }
+    let range : c.first.result < 2 ^ 64 = search rules in
+    record { last = (i.0, i.1, sum); first = λ one. let long = i.2 in let first = c.first.ensures in omega (arith, one, count, sum, long, first, range) }
