@@ -8,7 +8,7 @@ use Rattle.std.proofs.lemmas.List.Kept.{IsStrictlyIncreasing-filter}
 use Rattle.std.specs.List.Sorted.{IsStrictlyIncreasing}
 use Rattle.lock_modes.specs.declared.Mode.{Mode}
 use Rattle.lock_rules.specs.declared.calls.Call.{Call}
-use Rattle.lock_rules.specs.declared.calls.Call.TheVariants.{Begin, Lock, Convert, Poll, Release, Commit, Abort, Try, Withdraw}
+use Rattle.lock_rules.specs.declared.calls.Call.TheVariants.{Begin, Lock, Convert, Poll, Release, Commit, Abort, Try, Withdraw, Restart}
 use Rattle.lock_rules.specs.declared.calls.Reply.TheVariants.{Deadlock, Clear}
 use Rattle.lock_rules.specs.declared.calls.Transaction.{Transaction}
 use Rattle.lock_rules.specs.declared.calls.Why.{Why}
@@ -16,7 +16,7 @@ use Rattle.lock_rules.specs.Entries.{Entry}
 use Rattle.lock_rules.specs.State.{Claim, State, held_mode, request_of, is_waiting, with_begun, with_table}
 use Rattle.lock_rules.specs.Queue.{after_grant, with_request, is_granted_at_once}
 use Rattle.lock_rules.specs.Waits.{doom, resource_of_request, after_cancel}
-use Rattle.lock_rules.specs.Step.{target_of, tests, first_failing, is_held, after_wait, after_asking, after_release, after_end, act, outcome_of, step}
+use Rattle.lock_rules.specs.Step.{target_of, tests, first_failing, is_held, after_wait, after_asking, after_release, after_end, restarted, act, outcome_of, step}
 use Rattle.lock_rules.specs.Legal.{state_of}
 use Rattle.lock_rules.specs.Effects.{IsPromotionOf, IsDoomOf}
 use Rattle.lock_rules.specs.Ended.{has_ended, ended_waits, HasEnded, AreEndedListed, DoesNothingEndNone, AreEndedToldByPoll, AreOthersToldAsBefore}
@@ -29,7 +29,7 @@ use Rattle.lock_rules.proofs.Cuts.{IsQuiescent}
 use Rattle.lock_rules.proofs.Begins.{new, back, once-push}
 use Rattle.lock_rules.proofs.Steps.{all-pass, is-none, state-lawful, try-locks}
 use Rattle.lock_rules.proofs.Owners.{state-numbered}
-use Rattle.lock_rules.proofs.Taken.{IsUnchangedOrPromoted, same-promotion, none, released-takes, ended-takes, granted-other}
+use Rattle.lock_rules.proofs.Taken.{IsUnchangedOrPromoted, same-promotion, none, released-takes, claims-taken, granted-other}
 use Rattle.lock_rules.proofs.Victims.{settled-victims}
 use Rattle.lock_rules.proofs.Doomed.{victims-keep, among-or-not, cancelled-others}
 use Rattle.lock_rules.proofs.Sessions.{told_of, poll-told}
@@ -78,10 +78,10 @@ module _ (st : State) (i : IsQuiescent st.table) (u s : ℕ) (d : eqb u s ≡ fa
   apart : u ≢ s
   apart e = true≢false ((Decides-eqb u s).1 e) d
 
-  -- the end of the transaction of s
-  ended-fares : Fares u st (with_begun s None (with_table (after_end s st.table) st))
-  ended-fares =
-      let taken = ended-takes s st i.sound in
+  -- the end or restart of the transaction of s
+  ended-fares : (o : Option Transaction) → Fares u st (with_begun s o (with_table (after_end s st.table) st))
+  ended-fares o =
+      let taken = claims-taken s o st i.sound in
       elim (taken.others u apart) [
         | inl a ↦ inl (taken.others_open u apart, inl a.request)
         | inr p ↦ inl (taken.others_open u apart, inr (p.0, p.1))
@@ -97,10 +97,11 @@ module _ (st : State) (i : IsQuiescent st.table) (u s : ℕ) (d : eqb u s ≡ fa
       let p = all-pass (tests st s (Release r)) h in
       let taken = released-takes s r st i.sound (is-none (request_of s st.table.requests) p.1.0) p.1.1.1.1.0 in
       fares u (λ x. x ≡ r) st (with_table (after_release s r st.table) st) refl (taken.others u apart)
-  act-fares Commit h = ended-fares
-  act-fares Abort h = ended-fares
+  act-fares Commit h = ended-fares None
+  act-fares Abort h = ended-fares None
   act-fares (Try r m) h = let p = all-pass (tests st s (Lock r m)) (try-locks st s r m h) in asked-fares r (target_of (held_mode st.table s r) m) (is-none (request_of s st.table.requests) p.1.0)
   act-fares Withdraw h = fares u (λ x. among (resource_of_request (request_of s st.table.requests)) x ≡ true) st (with_table (after_cancel s st.table) st) refl (cancelled-others s st.table i.sound.once u d)
+  act-fares Restart h = ended-fares (restarted (st.begun s))
 
   -- any call of s
   step-fares : (c : Call) → Fares u st (step st s c).state

@@ -8,7 +8,7 @@ use Rattle.lock_modes.specs.declared.Mode.{Mode}
 use Rattle.lock_modes.specs.Order.{at_or_below}
 use Rattle.lock_modes.proofs.Order.{order-from, at_or_below-refl, at_or_below-trans}
 use Rattle.lock_rules.specs.declared.calls.Call.{Call}
-use Rattle.lock_rules.specs.declared.calls.Call.TheVariants.{Begin, Lock, Convert, Poll, Release, Commit, Abort, Try, Withdraw}
+use Rattle.lock_rules.specs.declared.calls.Call.TheVariants.{Begin, Lock, Convert, Poll, Release, Commit, Abort, Try, Withdraw, Restart}
 use Rattle.lock_rules.specs.declared.calls.Why.{Why}
 use Rattle.lock_rules.specs.Entries.{Entry}
 use Rattle.lock_rules.specs.State.{Table, State, held_mode, mode_or_nothing, request_of}
@@ -29,7 +29,7 @@ IsHeldOn s r t t' = at_or_below (mode_or_nothing (held_mode t s r)) (mode_or_not
 
 -- the call doesn't give up the lock on r
 abbrev Keeps : List ℕ → Call → Type 0
-Keeps r c = (c ≢ Commit) × (c ≢ Abort) × (c ≢ Release r)
+Keeps r c = (c ≢ Commit) × (c ≢ Abort) × (c ≢ Restart) × (c ≢ Release r)
 
 -- a call that passes its tests lowers a lock only if its session gives it up
 act-stands : (st : State) (u : ℕ) (c : Call) → IsQuiescent st.table → first_failing (tests st u c) ≡ None → (s : ℕ) (r : List ℕ) → (u ≡ s → Keeps r c) → IsHeldOn s r st.table (act st u c).state.table
@@ -43,7 +43,7 @@ act-stands st u (Release x) i h s r k =
       | inr n ↦ inl (eqb-swap u s n)
       | inl e ↦ elim (same_path_tells x r) [
         | inr n ↦ inr n
-        | inl q ↦ absurd ((k ((Decides-eqb u s).0 e)).2 (ap Release q.1))
+        | inl q ↦ absurd ((k ((Decides-eqb u s).0 e)).3 (ap Release q.1))
       ]
     ])
 act-stands st u Commit i h s r k = elim (cases_Bool (eqb u s)) [
@@ -56,6 +56,10 @@ act-stands st u Abort i h s r k = elim (cases_Bool (eqb u s)) [
 ]
 act-stands st u (Try x m) i h s r k = (lock-kept st u x m i (try-locks st u x m h)).rises s r
 act-stands st u Withdraw i h s r k = (cancelled-follows u st.table i.sound).rises s r
+act-stands st u Restart i h s r k = elim (cases_Bool (eqb u s)) [
+  | inr n ↦ ended-rises u st.table i.sound s r (eqb-swap u s n)
+  | inl e ↦ absurd ((k ((Decides-eqb u s).0 e)).2 refl)
+]
 
 -- a call lowers a lock only if its session gives it up
 step-stands : (st : State) (u : ℕ) (c : Call) → IsQuiescent st.table → (s : ℕ) (r : List ℕ) → (u ≡ s → Keeps r c) → IsHeldOn s r st.table (step st u c).state.table

@@ -4,13 +4,14 @@ use Rattle.std.proofs.lemmas.Bool.Decides.{Decides-eqb}
 use Rattle.std.proofs.lemmas.Bool.{cases_Bool}
 use Rattle.lock_modes.specs.declared.Mode.{Mode}
 use Rattle.lock_rules.specs.declared.calls.Call.{Call}
-use Rattle.lock_rules.specs.declared.calls.Call.TheVariants.{Begin, Lock, Convert, Poll, Release, Commit, Abort, Try, Withdraw}
+use Rattle.lock_rules.specs.declared.calls.Call.TheVariants.{Begin, Lock, Convert, Poll, Release, Commit, Abort, Try, Withdraw, Restart}
+use Rattle.lock_rules.specs.declared.calls.Transaction.{Transaction}
 use Rattle.lock_rules.specs.declared.calls.Why.{Why}
 use Rattle.lock_rules.specs.Entries.{Entry}
 use Rattle.lock_rules.specs.State.{Claim, Table, State, empty, held_mode, request_of, claims_of, claims_but, is_doomed, doomed_in, with_begun, with_table}
 use Rattle.lock_rules.specs.Queue.{queue, fits, after_grant, granted_while_fitting, after_promotion, after_promotions, with_request, is_granted_at_once}
 use Rattle.lock_rules.specs.Waits.{resource_of_request, without_request, doom, reaches, victim_of, after_victim, after_victims}
-use Rattle.lock_rules.specs.Step.{target_of, tests, first_failing, is_held, after_wait, after_asking, without_claims, after_end, act, outcome_of, step}
+use Rattle.lock_rules.specs.Step.{target_of, tests, first_failing, is_held, after_wait, after_asking, without_claims, after_end, restarted, act, outcome_of, step}
 use Rattle.lock_rules.specs.Legal.{state_after, state_of}
 use Rattle.lock_rules.specs.Laws.{DoDoomedWaitForNothing}
 use Rattle.lock_rules.proofs.Lists.{request_of-claims_but, request_of-claims_but_other}
@@ -86,15 +87,20 @@ begin-idle st s i u d = go (eqb u s) d
     go true k = absurd (cc)
     go false k = i u k
 
--- the end of a transaction keeps the law
-ended-idle : (st : State) (s : ℕ) → DoDoomedWaitForNothing st → DoDoomedWaitForNothing (with_begun s None (with_table (after_end s st.table) st))
-ended-idle st s i u d =
+-- the end or restart of a transaction keeps the law: none is doomed afterwards
+ended-idle : (st : State) (s : ℕ) (o : Option Transaction) → doomed_in o ≡ false → DoDoomedWaitForNothing st → DoDoomedWaitForNothing (with_begun s o (with_table (after_end s st.table) st))
+ended-idle st s o n i u d =
     all-none u (resource_of_request (request_of s st.table.requests) ++ map (λ (c : Claim). c.resource) (claims_of s st.table.held)) (without_claims s st.table)
     (none-but u s st.table.requests (go (eqb u s) d))
   where
-    go : (b : Bool) → doomed_in (cond b None (st.begun u)) ≡ true → request_of u st.table.requests ≡ None
-    go true k = absurd (cc)
+    go : (b : Bool) → doomed_in (cond b o (st.begun u)) ≡ true → request_of u st.table.requests ≡ None
+    go true k = absurd (true≢false k n)
     go false k = i u k
+
+-- a restarted transaction isn't doomed
+pub restarted-lives : (o : Option Transaction) → doomed_in (restarted o) ≡ false
+restarted-lives None = refl
+restarted-lives (Some x) = refl
 
 -- every call that passes its tests keeps the law
 act-idle : (st : State) (s : ℕ) (c : Call) → DoDoomedWaitForNothing st → first_failing (tests st s c) ≡ None → DoDoomedWaitForNothing (act st s c).state
@@ -103,10 +109,11 @@ act-idle st s (Lock r m) i h = let p = all-pass (tests st s (Lock r m)) h in ask
 act-idle st s (Convert r m) i h = let p = all-pass (tests st s (Convert r m)) h in asked-idle st s r (target_of (held_mode st.table s r) m) i (is-none (request_of s st.table.requests) p.1.0) p.1.1.0
 act-idle st s Poll i h = i
 act-idle st s (Release r) i h = λ u d. front-none u (queue (one_less s r st.table) r) (one_less s r st.table) (i u d)
-act-idle st s Commit i h = ended-idle st s i
-act-idle st s Abort i h = ended-idle st s i
+act-idle st s Commit i h = ended-idle st s None refl i
+act-idle st s Abort i h = ended-idle st s None refl i
 act-idle st s (Try r m) i h = let p = all-pass (tests st s (Lock r m)) (try-locks st s r m h) in asked-idle st s r (target_of (held_mode st.table s r) m) i (is-none (request_of s st.table.requests) p.1.0) p.1.1.0
 act-idle st s Withdraw i h = λ u d. all-none u (resource_of_request (request_of s st.table.requests)) (without_request s st.table) (none-but u s st.table.requests (i u d))
+act-idle st s Restart i h = ended-idle st s (restarted (st.begun s)) (restarted-lives (st.begun s)) i
 
 -- every call keeps the law, refused or not
 step-idle : (st : State) (s : ℕ) (c : Call) → DoDoomedWaitForNothing st → DoDoomedWaitForNothing (step st s c).state

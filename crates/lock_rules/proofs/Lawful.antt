@@ -17,10 +17,10 @@ use Rattle.lock_rules.proofs.States.{fit-tells, holders-compatible}
 use Rattle.lock_rules.proofs.Victims.{determined}
 use Rattle.lock_rules.proofs.Doomed.{keep-theirs, doom-promotes, withdraw-one}
 use Rattle.lock_rules.proofs.Requests.{lock-asks, convert-asks, lock-converts, lock-holds, convert-holds, try-asks, try-leaves}
-use Rattle.lock_rules.proofs.Refusals.{refused-first, refused-keeps, refusals-meant, others-accepted, abort-needs, commit-accepted}
+use Rattle.lock_rules.proofs.Refusals.{refused-first, refused-keeps, refusals-meant, others-accepted, abort-needs, restart-needs, commit-accepted}
 use Rattle.lock_rules.proofs.RefusalOrder.{tests-give, refusals-lowest, conversions-unbounded}
 use Rattle.lock_rules.proofs.Sessions.{begin-opens, poll-tells}
-use Rattle.lock_rules.proofs.Taken.{release-one, commit-all, abort-all}
+use Rattle.lock_rules.proofs.Taken.{release-one, commit-all, abort-all, restart-all}
 
 -- every state that a history leads to is lawful
 pub lawful : (es : List Entry) → IsLawfulState (state_of es)
@@ -54,6 +54,7 @@ lawful es = let i = state-lawful es in record {
   refusals_lowest = refusals-lowest (state_of es) (locks-bounded es);
   conversions_unbounded = conversions-unbounded (state_of es) (locks-bounded es);
   abort_needs_transaction = abort-needs (state_of es) (locks-bounded es);
+  restart_needs_transaction = restart-needs (state_of es) (locks-bounded es);
   clear_commit_accepted = commit-accepted (state_of es) (locks-bounded es);
   begin_opens = begin-opens (state_of es);
   poll_reports = poll-tells (state_of es) (state-numbered es);
@@ -68,4 +69,5 @@ lawful es = let i = state-lawful es in record {
   release_takes_one_lock = release-one (state_of es) i;
   commit_takes_all_locks = commit-all (state_of es) i;
   abort_takes_all_locks = abort-all (state_of es) i;
+  restart_takes_all_locks = restart-all (state_of es) i;
 }

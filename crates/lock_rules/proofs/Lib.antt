@@ -32,6 +32,7 @@ pub mod Lawful
 pub mod WrongReplies
 pub mod Worked
 pub mod Updates
+pub mod Restarts
 pub mod RefusalNames
 pub mod OpNumbers
 pub mod Ended

@@ -6,7 +6,7 @@ use Rattle.std.proofs.lemmas.Bool.{cases_Bool}
 use Rattle.lock_modes.specs.declared.Mode.{Mode}
 use Rattle.lock_tree.specs.Paths.{same_path}
 use Rattle.lock_rules.specs.declared.calls.Call.{Call}
-use Rattle.lock_rules.specs.declared.calls.Call.TheVariants.{Begin, Lock, Convert, Poll, Release, Commit, Abort, Try, Withdraw}
+use Rattle.lock_rules.specs.declared.calls.Call.TheVariants.{Begin, Lock, Convert, Poll, Release, Commit, Abort, Try, Withdraw, Restart}
 use Rattle.lock_rules.specs.declared.calls.Why.{Why}
 use Rattle.lock_rules.specs.Entries.{Entry}
 use Rattle.lock_rules.specs.declared.calls.TheConstants.{MAX_LOCKS}
@@ -209,6 +209,7 @@ act-bounded st s (Try r m) i h =
     let p = all-pass (tests st s (Lock r m)) (try-locks st s r m h) in
     asked-bounded MAX_LOCKS st s r (target_of (held_mode st.table s r) m) i (is-none (request_of s st.table.requests) p.1.0) (fresh-room MAX_LOCKS _ (count s st.table.held) (held_mode st.table s r) (omega arith) (bounded-count MAX_LOCKS st.table i s) p.1.1.1.1.1.0)
 act-bounded st s Withdraw i h = cancelled-bounded MAX_LOCKS s st.table i
+act-bounded st s Restart i h = ended-bounded MAX_LOCKS s st.table i
 
 -- every call keeps the bound, refused or not
 step-bounded : (st : State) (s : ℕ) (c : Call) → IsBounded MAX_LOCKS st.table → IsBounded MAX_LOCKS (step st s c).state.table

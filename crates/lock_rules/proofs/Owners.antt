@@ -5,14 +5,14 @@ use Rattle.std.specs.Prelude.{is_some}
 use Rattle.std.proofs.lemmas.Bool.Decides.{Decides-eqb}
 use Rattle.lock_modes.specs.declared.Mode.{Mode}
 use Rattle.lock_rules.specs.declared.calls.Call.{Call}
-use Rattle.lock_rules.specs.declared.calls.Call.TheVariants.{Begin, Lock, Convert, Poll, Release, Commit, Abort, Try, Withdraw}
+use Rattle.lock_rules.specs.declared.calls.Call.TheVariants.{Begin, Lock, Convert, Poll, Release, Commit, Abort, Try, Withdraw, Restart}
 use Rattle.lock_rules.specs.declared.calls.Why.{Why}
 use Rattle.lock_rules.specs.Entries.{Entry}
 use Rattle.lock_rules.specs.declared.calls.Transaction.{Transaction}
 use Rattle.lock_rules.specs.State.{Claim, Table, State, empty, held_mode, request_of, claims_of, is_open, number_in, number_of, with_begun, with_table}
 use Rattle.lock_rules.specs.Queue.{queue, fits, after_grant, granted_while_fitting, after_promotion, after_promotions, with_request, is_granted_at_once}
 use Rattle.lock_rules.specs.Waits.{without_request, after_cancel, resource_of_request, doom, reaches, victim_of, after_victim, after_victims}
-use Rattle.lock_rules.specs.Step.{target_of, tests, first_failing, is_held, after_wait, after_asking, after_release, without_claims, after_end, act, outcome_of, step}
+use Rattle.lock_rules.specs.Step.{target_of, tests, first_failing, is_held, after_wait, after_asking, after_release, without_claims, after_end, restarted, act, outcome_of, step}
 use Rattle.lock_rules.specs.Legal.{state_after, state_of}
 use Rattle.lock_rules.specs.Laws.{AreOwnersOpen}
 use Rattle.lock_rules.specs.Sound.{AllOpen, IsNumbered}
@@ -98,7 +98,7 @@ doomed-open true None o' h = (ap is_some (sym (h refl)), ap number_in (sym (h re
 doomed-open true (Some t) o' h = (ap is_some (sym (h refl)), ap number_in (sym (h refl)))
 
 -- a victim leaves the transactions and their numbers
-victim-numbers : (v : ℕ) (st : State) → SameNumbers st (after_victim v st)
+pub victim-numbers : (v : ℕ) (st : State) → SameNumbers st (after_victim v st)
 victim-numbers v st = record {
   count = refl;
   opened = λ s. (doomed-open (eqb s v) (st.begun v) (st.begun s) (λ e. ap st.begun ((Decides-eqb s v).0 e))).0;
@@ -175,6 +175,27 @@ ended-numbered st s i =
         go true h = absurd (cc)
         go false h = (refl, h)
 
+-- a restart closes no transaction and changes no number
+restarted-open : (b : Bool) (o o' : Option Transaction) → (b ≡ true → o' ≡ o) → (is_some (cond b (restarted o) o') ≡ is_some o') × (number_in (cond b (restarted o) o') ≡ number_in o')
+restarted-open false o o' h = (refl, refl)
+restarted-open true None o' h = (ap is_some (sym (h refl)), ap number_in (sym (h refl)))
+restarted-open true (Some t) o' h = (ap is_some (sym (h refl)), ap number_in (sym (h refl)))
+
+-- a restart leaves the transactions and their numbers
+pub restarted-numbers : (s : ℕ) (t : Table) (st : State) → SameNumbers st (with_begun s (restarted (st.begun s)) (with_table t st))
+restarted-numbers s t st = record {
+  count = refl;
+  opened = λ u. (restarted-open (eqb u s) (st.begun s) (st.begun u) (λ e. ap st.begun ((Decides-eqb u s).0 e))).0;
+  number = λ u. (restarted-open (eqb u s) (st.begun s) (st.begun u) (λ e. ap st.begun ((Decides-eqb u s).0 e))).1;
+}
+
+-- a restart keeps IsNumbered
+restarted-numbered : (st : State) (s : ℕ) → IsNumbered st → IsNumbered (with_begun s (restarted (st.begun s)) (with_table (after_end s st.table) st))
+restarted-numbered st s i =
+    numbered-same st (with_begun s (restarted (st.begun s)) (with_table (after_end s st.table) st)) (restarted-numbers s (after_end s st.table) st) i
+    (all-open (is_open st) (resource_of_request (request_of s st.table.requests) ++ map (λ (c : Claim). c.resource) (claims_of s st.table.held)) (without_claims s st.table)
+    (altered-open (is_open st) s st.table (without_claims s st.table) (left-alters s st.table) i.owners (λ r m e. absurd (left-none s st.table r m e))))
+
 -- a begin keeps IsNumbered, since the new transaction has the greatest number
 begin-numbered : (st : State) (s : ℕ) → IsNumbered st → is_open st s ≡ false → IsNumbered (act st s Begin).state
 begin-numbered st s i closed = record {
@@ -219,6 +240,7 @@ act-numbered st s Commit i h = ended-numbered st s i
 act-numbered st s Abort i h = ended-numbered st s i
 act-numbered st s (Try r m) i h = let p = all-pass (tests st s (Lock r m)) (try-locks st s r m h) in asked-numbered st s r (target_of (held_mode st.table s r) m) i (not-false _ p.0)
 act-numbered st s Withdraw i h = retabled st (after_cancel s st.table) i (cancelled-open (is_open st) s st.table i.owners)
+act-numbered st s Restart i h = restarted-numbered st s i
 
 -- every call keeps IsNumbered, refused or not
 pub step-numbered : (st : State) (s : ℕ) (c : Call) → IsNumbered st → IsNumbered (step st s c).state

@@ -4,7 +4,7 @@ use Rattle.std.specs.List.{All}
 use Rattle.std.proofs.lemmas.List.Elements.{All-head, All-tail, All-nil, All-cons}
 use Rattle.lock_modes.specs.declared.Mode.{Mode}
 use Rattle.lock_rules.specs.declared.calls.Call.{Call}
-use Rattle.lock_rules.specs.declared.calls.Call.TheVariants.{Begin, Lock, Convert, Poll, Release, Commit, Abort, Try, Withdraw}
+use Rattle.lock_rules.specs.declared.calls.Call.TheVariants.{Begin, Lock, Convert, Poll, Release, Commit, Abort, Try, Withdraw, Restart}
 use Rattle.lock_rules.specs.declared.calls.Why.{Why}
 use Rattle.lock_rules.specs.declared.calls.Why.TheVariants.{TooManyLocks}
 use Rattle.lock_rules.specs.State.{State, held_mode}
@@ -25,6 +25,7 @@ refusals-rise Commit = (omega arith, (omega arith, tt))
 refusals-rise Abort = tt
 refusals-rise (Try r m) = (omega arith, (omega arith, (omega arith, (omega arith, (omega arith, (omega arith, tt))))))
 refusals-rise Withdraw = (omega arith, (omega arith, tt))
+refusals-rise Restart = tt
 
 -- the tests of a call give the refusals that the call can get
 pub tests-give : (st : State) → DoTestsGiveRefusals st
@@ -37,6 +38,7 @@ tests-give st s Commit = refl
 tests-give st s Abort = refl
 tests-give st s (Try r m) = refl
 tests-give st s Withdraw = refl
+tests-give st s Restart = refl
 
 -- rising numbers
 

@@ -10,8 +10,8 @@ use Rattle.lock_modes.specs.Order.{at_or_below, need_of}
 use Rattle.lock_modes.proofs.Order.{order-tests, sup_only}
 use Rattle.lock_tree.specs.Paths.{same_path, is_ancestor, parent_of, has_parent}
 use Rattle.lock_rules.specs.declared.calls.Call.{Call}
-use Rattle.lock_rules.specs.declared.calls.Call.TheVariants.{Begin, Lock, Convert, Poll, Release, Commit, Abort, Try, Withdraw}
-use Rattle.lock_rules.specs.declared.calls.Reply.TheVariants.{Began, Granted, Waiting, Deadlock, Clear, Committed, Aborted, Refused}
+use Rattle.lock_rules.specs.declared.calls.Call.TheVariants.{Begin, Lock, Convert, Poll, Release, Commit, Abort, Try, Withdraw, Restart}
+use Rattle.lock_rules.specs.declared.calls.Reply.TheVariants.{Began, Granted, Waiting, Deadlock, Clear, Committed, Aborted, Refused, Restarted}
 use Rattle.lock_rules.specs.declared.calls.Why.{Why}
 use Rattle.lock_rules.specs.declared.calls.Why.TheVariants.{NoTransaction, IsWaiting, IsDoomed}
 use Rattle.lock_rules.specs.declared.calls.TheConstants.{MAX_LOCKS}
@@ -20,6 +20,7 @@ use Rattle.lock_rules.specs.Step.{is_nothing, target_of, lacks_parent, holds_chi
 use Rattle.lock_rules.specs.Laws.{HasTransaction, AreLocksBounded, DoesRefusalKeep}
 use Rattle.lock_rules.specs.Effects.{IsTarget, IsFree}
 use Rattle.lock_rules.specs.Refusals.{LacksParent, HoldsBelow, Fails, refusals_of, AreRefusalsMeant, AreOthersAccepted, DoesAbortNeedTransaction, IsClearCommitAccepted, WaitsIfAsked}
+use Rattle.lock_rules.specs.Restarts.{DoesRestartNeedTransaction}
 use Rattle.lock_rules.proofs.Lists.{same_path-refl}
 use Rattle.lock_rules.proofs.Alters.{true≢false}
 use Rattle.lock_rules.proofs.Marks.{sup-some, below-sup}
@@ -138,6 +139,7 @@ call-meant st s few Commit = (refl, Decides-not (is_open st s) (open-decides st 
 call-meant st s few Abort = (refl, Decides-not (is_open st s) (open-decides st s), λ a. tt)
 call-meant st s few (Try r m) = (refl, Decides-not (is_open st s) (open-decides st s), λ a. (refl, waiting-decides st s, λ b. (refl, doomed-decides st s, λ d. (refl, nothing-decides m, λ asked. (refl, parent-decides st.table s r m asked, λ e. (refl, full-decides MAX_LOCKS (length (claims_of s st.table.held)) (held_mode st.table s r) (few s), λ f. (refl, wait-decides st.table s r m, λ g. tt)))))))
 call-meant st s few Withdraw = (refl, Decides-not (is_open st s) (open-decides st s), λ a. (refl, doomed-decides st s, λ b. (refl, Decides-not (is_waiting st s) (waiting-decides st s), λ d. tt)))
+call-meant st s few Restart = (refl, Decides-not (is_open st s) (open-decides st s), λ a. tt)
 
 -- the first test that fails
 
@@ -212,9 +214,9 @@ poll-answers false false why e = cc
 begin-answers : (n : ℕ) (why : Why) → Began n ≡ Refused why → ⊥
 begin-answers n why e = cc
 
--- the replies to a commit and an abort aren't refusals
-end-answers : (n : ℕ) (why : Why) → (Committed n ≡ Refused why → ⊥) × (Aborted n ≡ Refused why → ⊥)
-end-answers n why = (λ e. cc, λ e. cc)
+-- the replies to a commit, an abort and a restart aren't refusals
+end-answers : (n : ℕ) (why : Why) → (Committed n ≡ Refused why → ⊥) × (Aborted n ≡ Refused why → ⊥) × (Restarted n ≡ Refused why → ⊥)
+end-answers n why = (λ e. cc, λ e. cc, λ e. cc)
 
 -- no call that acts replies with a refusal
 act-answers : (st : State) (s : ℕ) (c : Call) (why : Why) → (act st s c).reply ≡ Refused why → ⊥
@@ -233,6 +235,7 @@ act-answers st s (Try r m) why =
     let k = target_of (held_mode st.table s r) m in
     ask-answers (is_doomed (after_asking st s r k) s) (is_waiting (after_asking st s r k) s) k why
 act-answers st s Withdraw why = λ e. cc
+act-answers st s Restart why = (end-answers (length (claims_of s st.table.held)) why).2
 
 -- a refusal comes from the tests
 outcome-refused : (o : Option Why) (st : State) (s : ℕ) (c : Call) (why : Why) → (outcome_of o st s c).reply ≡ Refused why → o ≡ Some why
@@ -275,17 +278,29 @@ others-accepted st few s c = (
     unlike : (o : Option Why) (w : Why) → o ≡ None → o ≡ Some w → ⊥
     unlike o w e f = cc
 
+-- the first refusal of a list with one is that one
+alone : (F : Why → Type 0) (why : Why) → IsFirst F (NoTransaction ∷ []) why → (why ≡ NoTransaction) × F NoTransaction
+alone F why ([], after, e, f, n) = let same : why ≡ NoTransaction = cc in (same, subst F same f)
+alone F why (b ∷ [], after, e, f, n) = absurd (cc)
+alone F why (b ∷ d ∷ before, after, e, f, n) = absurd (cc)
+
+-- so is that one, if it is so
+alone-first : (F : Why → Type 0) (why : Why) → why ≡ NoTransaction → F NoTransaction → IsFirst F (NoTransaction ∷ []) why
+alone-first F why e f = ([], [], ap (λ (w : Why). w ∷ []) (sym e), subst F (sym e) f, All-nil (λ (w : Why). F w → ⊥))
+
 -- an abort is refused only without a transaction
 pub abort-needs : (st : State) → AreLocksBounded st → DoesAbortNeedTransaction st
 abort-needs st few s why = (
-  λ h. let r = (refusals-meant st few s Abort why).0 h in alone r.0 r.1 r.2 r.3,
-  λ h. (refusals-meant st few s Abort why).1 ([], [], ap (λ (w : Why). w ∷ []) (sym h.0), subst (λ (w : Why). Fails st s Abort w) (sym h.0) h.1, All-nil (λ (w : Why). Fails st s Abort w → ⊥)),
+  λ h. alone (Fails st s Abort) why ((refusals-meant st few s Abort why).0 h),
+  λ h. (refusals-meant st few s Abort why).1 (alone-first (Fails st s Abort) why h.0 h.1),
 )
-  where
-    alone : (before after : List Why) → NoTransaction ∷ [] ≡ before ++ why ∷ after → Fails st s Abort why → (why ≡ NoTransaction) × (HasTransaction st s → ⊥)
-    alone [] after e f = let same : why ≡ NoTransaction = cc in (same, subst (λ (w : Why). Fails st s Abort w) same f)
-    alone (b ∷ []) after e f = absurd (cc)
-    alone (b ∷ d ∷ before) after e f = absurd (cc)
+
+-- so is a restart
+pub restart-needs : (st : State) → AreLocksBounded st → DoesRestartNeedTransaction st
+restart-needs st few s why = (
+  λ h. alone (Fails st s Restart) why ((refusals-meant st few s Restart why).0 h),
+  λ h. (refusals-meant st few s Restart why).1 (alone-first (Fails st s Restart) why h.0 h.1),
+)
 
 -- a commit of a session that is open, doesn't wait and isn't doomed isn't refused
 pub commit-accepted : (st : State) → AreLocksBounded st → IsClearCommitAccepted st

@@ -1,19 +1,19 @@
--- A request stands until it is granted, its session becomes a victim or aborts.
+-- A request stands until it is granted, its session becomes a victim or cancels it.
 use Rattle.std.proofs.Common.{◌≡◌, ℕ, ◌+◌, ◌<◌, Bool, true, false, cond, eqb, ◌⊎◌, inl, inr, List, [], ◌∷◌, ◌++◌, length, Option, Some, None, is_some, refl, sym, ◌∙◌, ap, arith, length-append}
 use Rattle.std.proofs.lemmas.Bool.Decides.{Decides-eqb}
 use Rattle.std.proofs.lemmas.Bool.{cases_Bool}
 use Rattle.lock_modes.specs.declared.Mode.{Mode}
 use Rattle.lock_rules.specs.declared.calls.Call.{Call}
-use Rattle.lock_rules.specs.declared.calls.Call.TheVariants.{Begin, Lock, Convert, Poll, Release, Commit, Abort, Try, Withdraw}
+use Rattle.lock_rules.specs.declared.calls.Call.TheVariants.{Begin, Lock, Convert, Poll, Release, Commit, Abort, Try, Withdraw, Restart}
 use Rattle.lock_rules.specs.declared.calls.Why.{Why}
 use Rattle.lock_rules.specs.Entries.{Entry}
 use Rattle.lock_rules.specs.declared.calls.Transaction.{Transaction}
 use Rattle.lock_rules.specs.State.{Claim, Table, State, held_mode, request_of, is_waiting, with_begun, with_table}
 use Rattle.lock_rules.specs.Queue.{after_grant, with_request, is_granted_at_once}
 use Rattle.lock_rules.specs.Waits.{doom, resource_of_request, after_cancel}
-use Rattle.lock_rules.specs.Step.{target_of, tests, first_failing, is_held, after_wait, after_asking, after_release, after_end, act, outcome_of, step}
+use Rattle.lock_rules.specs.Step.{target_of, tests, first_failing, is_held, after_wait, after_asking, after_release, after_end, restarted, act, outcome_of, step}
 use Rattle.lock_rules.specs.Legal.{state_of}
-use Rattle.lock_rules.specs.Laws.{IsRequestOver, DoesWaitOn, DoesRequestStand}
+use Rattle.lock_rules.specs.Laws.{IsRequestOver, DoesCancelRequest, DoesWaitOn, DoesRequestStand}
 use Rattle.lock_rules.specs.Effects.{HasNoClaimOn, IsWantedBy}
 use Rattle.lock_rules.specs.Sound.{IsNumbered}
 use Rattle.lock_rules.proofs.Lists.{apart, request_of-claims_but_other}
@@ -22,7 +22,7 @@ use Rattle.lock_rules.proofs.Cuts.{IsQuiescent}
 use Rattle.lock_rules.proofs.Begins.{new, back, once-push}
 use Rattle.lock_rules.proofs.Steps.{all-pass, is-none, step-lawful, state-lawful, try-locks}
 use Rattle.lock_rules.proofs.Owners.{step-numbered, state-numbered}
-use Rattle.lock_rules.proofs.Taken.{IsUnchangedOrPromoted, released-takes, ended-takes}
+use Rattle.lock_rules.proofs.Taken.{IsUnchangedOrPromoted, released-takes, claims-taken}
 use Rattle.lock_rules.proofs.Victims.{settled-victims}
 use Rattle.lock_rules.proofs.Doomed.{victims-keep, among-or-not, cancelled-others}
 use Rattle.lock_rules.proofs.Promote.{among}
@@ -81,15 +81,15 @@ module _ (s : ℕ) (q : Claim) where
         go false true = inr (request_of-claims_but_other s u st.table.requests d ∙ w)
         go false false = wait-goes_on u r m d (is-none (request_of u st.table.requests) f)
 
-    -- the call is the session's abort or its withdrawal, or the request goes on
+    -- the call is the session's own and cancels its request, or the request goes on
     abbrev Stands : ℕ → Call → State → Type 0
-    Stands u c after = ((u ≡ s) × ((c ≡ Abort) ⊎ (c ≡ Withdraw))) ⊎ GoesOn after
+    Stands u c after = ((u ≡ s) × DoesCancelRequest c) ⊎ GoesOn after
 
-    -- the end of another session's transaction lets the request go on
-    ended-goes_on : (u : ℕ) → eqb s u ≡ false → GoesOn (with_begun u None (with_table (after_end u st.table) st))
-    ended-goes_on u d = served-goes_on (λ x. HasNoClaimOn st.table u x → ⊥) st.table (with_begun u None (with_table (after_end u st.table) st)) w ((ended-takes u st i.sound).others s (apart u s d))
+    -- another session that loses its claims, as its transaction ends or restarts, lets the request go on
+    ended-goes_on : (u : ℕ) (o : Option Transaction) → eqb s u ≡ false → GoesOn (with_begun u o (with_table (after_end u st.table) st))
+    ended-goes_on u o d = served-goes_on (λ x. HasNoClaimOn st.table u x → ⊥) st.table (with_begun u o (with_table (after_end u st.table) st)) w ((claims-taken u o st i.sound).others s (apart u s d))
 
-    -- a call that passes its tests is the session's abort or its withdrawal, or the request goes on
+    -- a call that passes its tests is the session's own and cancels its request, or the request goes on
     act-stands : (u : ℕ) (c : Call) → first_failing (tests st u c) ≡ None → Stands u c (act st u c).state
     act-stands u Begin h = inr (inr w)
     act-stands u (Lock r m) h = let p = all-pass (tests st u (Lock r m)) h in inr (asked-goes_on u r (target_of (held_mode st.table u r) m) p.1.0)
@@ -99,18 +99,22 @@ module _ (s : ℕ) (q : Claim) where
         let p = all-pass (tests st u (Release r)) h in
         let taken = released-takes u r st i.sound (is-none (request_of u st.table.requests) p.1.0) p.1.1.1.1.0 in
         inr (served-goes_on (λ x. x ≡ r) st.table (with_table (after_release u r st.table) st) w (taken.others s (apart u s (apart-from u p.1.0))))
-    act-stands u Commit h = let p = all-pass (tests st u Commit) h in inr (ended-goes_on u (apart-from u p.1.0))
+    act-stands u Commit h = let p = all-pass (tests st u Commit) h in inr (ended-goes_on u None (apart-from u p.1.0))
     act-stands u Abort h = elim (cases_Bool (eqb s u)) [
       | inl e ↦ inl (sym ((Decides-eqb s u).0 e), inl refl)
-      | inr d ↦ inr (ended-goes_on u d)
+      | inr d ↦ inr (ended-goes_on u None d)
     ]
     act-stands u (Try r m) h = let p = all-pass (tests st u (Lock r m)) (try-locks st u r m h) in inr (asked-goes_on u r (target_of (held_mode st.table u r) m) p.1.0)
     act-stands u Withdraw h = elim (cases_Bool (eqb s u)) [
-      | inl e ↦ inl (sym ((Decides-eqb s u).0 e), inr refl)
+      | inl e ↦ inl (sym ((Decides-eqb s u).0 e), inr (inl refl))
       | inr d ↦ inr (served-goes_on (λ x. among (resource_of_request (request_of u st.table.requests)) x ≡ true) st.table (with_table (after_cancel u st.table) st) w (cancelled-others u st.table i.sound.once s d))
     ]
+    act-stands u Restart h = elim (cases_Bool (eqb s u)) [
+      | inl e ↦ inl (sym ((Decides-eqb s u).0 e), inr (inr refl))
+      | inr d ↦ inr (ended-goes_on u (restarted (st.begun u)) d)
+    ]
 
-    -- every call is the session's abort or its withdrawal, or the request goes on
+    -- every call is the session's own and cancels its request, or the request goes on
     step-stands : (u : ℕ) (c : Call) → Stands u c (step st u c).state
     step-stands u c = go (first_failing (tests st u c)) refl
       where

@@ -5,7 +5,7 @@ use Rattle.std.proofs.lemmas.Bool.{and_parts}
 use Rattle.lock_modes.specs.declared.Mode.{Mode}
 use Rattle.lock_modes.proofs.Order.{at_or_below-refl}
 use Rattle.lock_rules.specs.declared.calls.Call.{Call}
-use Rattle.lock_rules.specs.declared.calls.Call.TheVariants.{Begin, Lock, Convert, Poll, Release, Commit, Abort, Try, Withdraw}
+use Rattle.lock_rules.specs.declared.calls.Call.TheVariants.{Begin, Lock, Convert, Poll, Release, Commit, Abort, Try, Withdraw, Restart}
 use Rattle.lock_rules.specs.declared.calls.Why.{Why}
 use Rattle.lock_rules.specs.declared.calls.Why.TheVariants.{WouldWait}
 use Rattle.lock_rules.specs.Entries.{Entry}
@@ -148,6 +148,7 @@ act-lawful st s (Try r m) i h = (lock-kept st s r m i (try-locks st s r m h)).la
 act-lawful st s Withdraw i h =
     let f = cancelled-follows s st.table i.sound in
     record { sound = f.sound; no_circle = f.circle i.no_circle; unfit = cancelled-unfit s st.table i.sound i.unfit }
+act-lawful st s Restart i h = ended-lawful s st.table i
 
 -- every call keeps it, refused or not
 pub step-lawful : (st : State) (s : ℕ) (c : Call) → IsQuiescent st.table → IsQuiescent (step st s c).state.table

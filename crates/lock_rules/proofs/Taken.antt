@@ -1,4 +1,4 @@
--- What a release and the end of a transaction take away, and what others get.
+-- What a release, the end of a transaction and a restart take away, and what others get.
 use Rattle.std.proofs.Common.{◌≡◌, ◌≢◌, ℕ, Bool, true, false, cond, eqb, ◌||◌, ◌⊎◌, inl, inr, List, [], ◌∷◌, ◌++◌, length, Option, Some, None, map, refl, sym, ◌∙◌, ap, arith, subst, is_some}
 use Rattle.std.proofs.lemmas.Bool.Decides.{nat_tests, Decides-eqb}
 use Rattle.std.proofs.lemmas.Bool.{or_left, or_right, cases_Bool}
@@ -7,15 +7,17 @@ use Rattle.lock_modes.specs.Order.{at_or_below}
 use Rattle.lock_modes.proofs.Order.{order-from}
 use Rattle.lock_tree.specs.Paths.{same_path}
 use Rattle.lock_rules.specs.declared.calls.Call.{Call}
-use Rattle.lock_rules.specs.declared.calls.Call.TheVariants.{Release, Commit, Abort}
-use Rattle.lock_rules.specs.declared.calls.Reply.TheVariants.{Released, Committed, Aborted}
+use Rattle.lock_rules.specs.declared.calls.Call.TheVariants.{Release, Commit, Abort, Restart}
+use Rattle.lock_rules.specs.declared.calls.Reply.TheVariants.{Released, Committed, Aborted, Restarted}
+use Rattle.lock_rules.specs.declared.calls.Transaction.{Transaction}
 use Rattle.lock_rules.specs.declared.calls.Why.{Why}
 use Rattle.lock_rules.specs.State.{Claim, Table, State, mode_in, held_mode, mode_or_nothing, request_of, claims_of, with_table, with_begun}
 use Rattle.lock_rules.specs.Queue.{queue, fits, after_grant, granted_while_fitting, after_promotion, after_promotions}
 use Rattle.lock_rules.specs.Waits.{resource_of_request}
-use Rattle.lock_rules.specs.Step.{Outcome, tests, first_failing, act, outcome_of, step, without_claims, after_end, after_release, holds_child}
+use Rattle.lock_rules.specs.Step.{Outcome, tests, first_failing, act, outcome_of, step, without_claims, after_end, after_release, holds_child, restarted}
 use Rattle.lock_rules.specs.Laws.{HoldsAtLeast}
-use Rattle.lock_rules.specs.Effects.{IsNotRefused, IsUnchanged, IsPromotionOf, IsReleaseOf, DoesReleaseTakeOneLock, HasNoClaimOn, resources_touched, IsEndOf, DoesCommitTakeAllLocks, DoesAbortTakeAllLocks}
+use Rattle.lock_rules.specs.Effects.{IsNotRefused, IsUnchanged, IsPromotionOf, IsReleaseOf, DoesReleaseTakeOneLock, HasNoClaimOn, resources_touched, AreClaimsTaken, IsEndOf, DoesCommitTakeAllLocks, DoesAbortTakeAllLocks}
+use Rattle.lock_rules.specs.Restarts.{IsRestartOf, DoesRestartTakeAllLocks, DoesRestartClearAsAbort}
 use Rattle.lock_rules.specs.Sound.{IsOnce, IsSound}
 use Rattle.lock_rules.proofs.Lists.{times-claims_but, eqb-refl, same_path-refl, same_path-true, other, differs, mode_in-with_lock, mode_in-with_lock_path, mode_in-with_lock_other, mode_in-locks_but, mode_in-locks_but_path, mode_in-locks_but_other, mode_in-claims_but, mode_in-claims_but_other, request_of-claims_but, request_of-claims_but_other}
 use Rattle.lock_rules.proofs.Alters.{true≢false}
@@ -187,10 +189,9 @@ unwanted (Some q) x h = ap (λ (b : Bool). b || false) (differs x q.resource (λ
 apart-untouched : (s : ℕ) (t : Table) (x : List ℕ) → HasNoClaimOn t s x → among (resources_touched s t) x ≡ false
 apart-untouched s t x h = among-both (resource_of_request (request_of s t.requests)) (map (λ (c : Claim). c.resource) (claims_of s t.held)) x (unwanted (request_of s t.requests) x h.1) (unheld s x t.held h.0)
 
--- the end of a transaction is as IsEndOf says
-pub ended-takes : (s : ℕ) (st : State) → IsSound st.table → IsEndOf s st (with_begun s None (with_table (after_end s st.table) st))
-ended-takes s st i = record {
-  closed = ap (λ (b : Bool). is_some (cond b None (st.begun s))) (eqb-refl s);
+-- a session's claims are taken, whatever its transaction is afterwards
+pub claims-taken : (s : ℕ) (o : Option Transaction) (st : State) → IsSound st.table → AreClaimsTaken s st (with_begun s o (with_table (after_end s st.table) st))
+claims-taken s o st i = record {
   holds_nothing = λ x. own.held x ∙ mode_in-claims_but s x st.table.held;
   waits_no_more = own.request ∙ request_of-claims_but s st.table.requests;
   others_hold = λ u x k m e. risen st.table (after_end s st.table) u x k i e (ended-rises s st.table i u x (other s u m));
@@ -199,7 +200,7 @@ ended-takes s st i = record {
     | inr p ↦ inr (p.0, p.1, λ h. true≢false p.2 (apart-untouched s st.table p.0.resource h))
   ];
   promotion = promotions-longest (resources_touched s st.table) (without_claims s st.table);
-  others_open = λ u m. ap (λ (b : Bool). cond b None (st.begun u)) (other s u m);
+  others_open = λ u m. ap (λ (b : Bool). cond b o (st.begun u)) (other s u m);
   count = refl;
 }
   where
@@ -211,6 +212,20 @@ ended-takes s st i = record {
 
     before : (u : ℕ) → eqb u s ≡ false → IsUnchanged u st.table (without_claims s st.table)
     before u n = record { held = λ x. mode_in-claims_but_other u s x st.table.held n; request = request_of-claims_but_other u s st.table.requests n }
+
+-- the end of a transaction is as IsEndOf says
+ended-takes : (s : ℕ) (st : State) → IsSound st.table → IsEndOf s st (with_begun s None (with_table (after_end s st.table) st))
+ended-takes s st i = record {
+  closed = ap (λ (b : Bool). is_some (cond b None (st.begun s))) (eqb-refl s);
+  taken = claims-taken s None st i;
+}
+
+-- a restart is as IsRestartOf says
+restarted-takes : (s : ℕ) (st : State) → IsSound st.table → IsRestartOf s st (with_begun s (restarted (st.begun s)) (with_table (after_end s st.table) st))
+restarted-takes s st i = record {
+  own = λ x e. ap (λ (b : Bool). cond b (restarted (st.begun s)) (st.begun s)) (eqb-refl s) ∙ ap restarted e;
+  taken = claims-taken s (restarted (st.begun s)) st i;
+}
 
 -- calls that are not refused
 
@@ -240,3 +255,15 @@ commit-all st i s h = subst (λ (o : Outcome). (o.reply ≡ Committed (length (c
 -- an abort that isn't refused takes all locks
 pub abort-all : (st : State) → IsQuiescent st.table → DoesAbortTakeAllLocks st
 abort-all st i s h = subst (λ (o : Outcome). (o.reply ≡ Aborted (length (claims_of s st.table.held))) × IsEndOf s st o.state) (sym (step-acts st s Abort h)) (refl, ended-takes s st i.sound)
+
+-- a restart that isn't refused takes all locks
+pub restart-all : (st : State) → IsQuiescent st.table → DoesRestartTakeAllLocks st
+restart-all st i s h = subst (λ (o : Outcome). (o.reply ≡ Restarted (length (claims_of s st.table.held))) × IsRestartOf s st o.state) (sym (step-acts st s Restart h)) (refl, restarted-takes s st i.sound)
+
+-- a restart clears the table as an abort does
+pub restart-clears : (st : State) → DoesRestartClearAsAbort st
+restart-clears st s = go (first_failing (tests st s Abort))
+  where
+    go : (o : Option Why) → (outcome_of o st s Restart).state.table ≡ (outcome_of o st s Abort).state.table
+    go None = refl
+    go (Some w) = refl

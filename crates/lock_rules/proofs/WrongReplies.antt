@@ -4,7 +4,7 @@ use Rattle.std.proofs.lemmas.Bool.Decides.{Decides-eqb}
 use Rattle.lock_modes.specs.declared.Mode.{Mode}
 use Rattle.lock_modes.specs.declared.Mode.TheVariants.{NL, IS, IX, S, SIX, U, X}
 use Rattle.lock_rules.specs.declared.calls.Reply.{Reply}
-use Rattle.lock_rules.specs.declared.calls.Reply.TheVariants.{Began, Granted, Waiting, Deadlock, Clear, Released, Committed, Aborted, Refused, Withdrawn}
+use Rattle.lock_rules.specs.declared.calls.Reply.TheVariants.{Began, Granted, Waiting, Deadlock, Clear, Released, Committed, Aborted, Refused, Withdrawn, Restarted}
 use Rattle.lock_rules.specs.declared.calls.Why.{Why}
 use Rattle.lock_rules.specs.declared.calls.Why.TheVariants.{AlreadyOpen, NoTransaction, IsWaiting, IsDoomed, NothingAsked, NotHeld, ParentNotHeld, ChildHeld, TooManyLocks, WouldWait, NotWaiting}
 use Rattle.lock_rules.specs.Entries.{Entry}
@@ -63,6 +63,7 @@ reply_number (Committed n) = 200 + n
 reply_number (Aborted n) = 300 + n
 reply_number (Refused w) = 20 + why_number w
 reply_number Withdrawn = 5
+reply_number (Restarted n) = 400 + n
 
 -- a history with a reply of another number at one place isn't legal
 pub wrong : (p : ℕ) (r : Reply) (es : List Entry) → eqb (reply_number (reply_or p es r)) (reply_number r) ≡ false → IsLegal es → IsLegal (with_reply p r es) → ⊥

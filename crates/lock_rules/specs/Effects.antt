@@ -71,14 +71,13 @@ DoesReleaseTakeOneLock st = (s : ℕ) (r : List ℕ) → IsNotRefused st s (Rele
 abbrev pub HasNoClaimOn : Table → ℕ → List ℕ → Type 0
 HasNoClaimOn t s x = (held_mode t s x ≡ None) × ((q : Claim) → request_of s t.requests ≡ Some q → q.resource ≢ x)
 
--- the resources that the end of the session's transaction promotes: that of its request, and those of its locks
+-- the resources that the end of the session's transaction, or its restart, promotes: that of its request, and those of its locks
 abbrev pub resources_touched : ℕ → Table → List (List ℕ)
 resources_touched s t = resource_of_request (request_of s t.requests) ++ map (λ c. c.resource) (claims_of s t.held)
 
--- the session has no transaction, lock or request left, and what it held or waited for is promoted; each other session is
--- unchanged, or its request for one of these resources is granted
-pub record IsEndOf (s : ℕ) (st st' : State) : Type 0 where
-  pub closed : is_open st' s ≡ false
+-- the session has no lock or request left, and what it held or waited for is promoted; each other session is unchanged, or its
+-- request for one of these resources is granted
+pub record AreClaimsTaken (s : ℕ) (st st' : State) : Type 0 where
   pub holds_nothing : (x : List ℕ) → held_mode st'.table s x ≡ None
   pub waits_no_more : request_of s st'.table.requests ≡ None
   pub others_hold : (u : ℕ) (x : List ℕ) (k : Mode) → u ≢ s → held_mode st.table u x ≡ Some k → HoldsAtLeast st'.table u x k
@@ -86,6 +85,11 @@ pub record IsEndOf (s : ℕ) (st st' : State) : Type 0 where
   pub promotion : ArePromotionsLongest (resources_touched s st.table) (record { held = claims_but s st.table.held; requests = claims_but s st.table.requests }) st'.table
   pub others_open : (u : ℕ) → u ≢ s → st'.begun u ≡ st.begun u
   pub count : st'.count ≡ st.count
+
+-- the session has no transaction left, and its claims are taken
+pub record IsEndOf (s : ℕ) (st st' : State) : Type 0 where
+  pub closed : is_open st' s ≡ false
+  pub taken : AreClaimsTaken s st st'
 
 -- a commit that isn't refused ends the transaction, and replies with how many locks it held
 abbrev pub DoesCommitTakeAllLocks : State → Type 0

@@ -22,6 +22,7 @@ op_of_call call.Commit = op.Commit
 op_of_call call.Abort = op.Abort
 op_of_call (call.Try r m) = op.Try
 op_of_call call.Withdraw = op.Withdraw
+op_of_call call.Restart = op.Restart
 
 -- the operations that take a resource
 abbrev pub ops_with_resource : List Op
@@ -42,6 +43,7 @@ number_of_op op.Commit = 6
 number_of_op op.Abort = 7
 number_of_op op.Try = 8
 number_of_op op.Withdraw = 9
+number_of_op op.Restart = 10
 
 -- the kind of a reply
 abbrev pub kind_of_reply : Reply → ReplyKind
@@ -55,6 +57,7 @@ kind_of_reply (reply.Committed n) = kind.Committed
 kind_of_reply (reply.Aborted n) = kind.Aborted
 kind_of_reply (reply.Refused w) = kind.Refused
 kind_of_reply reply.Withdrawn = kind.Withdrawn
+kind_of_reply (reply.Restarted n) = kind.Restarted
 
 -- the number of a kind of replies
 abbrev pub number_of_kind : ReplyKind → ℕ
@@ -68,6 +71,7 @@ number_of_kind kind.Committed = 7
 number_of_kind kind.Aborted = 8
 number_of_kind kind.Refused = 9
 number_of_kind kind.Withdrawn = 10
+number_of_kind kind.Restarted = 11
 
 -- the number of a refusal, by which the tests of a call are ordered; number 10 is retired
 abbrev pub number_of_why : Why → ℕ

@@ -3,6 +3,7 @@ use Rattle.lock_rules.specs.State.{State}
 use Rattle.lock_rules.specs.Laws.{AreHoldersListed, AreLocksOnce, IsOneRequestEach, AreLocksBounded, IsFitExact, AreHoldersCompatible, DoesNobodyWaitNeedlessly, AreLocksUnderParents, AreRequestsUnderParents, AreChildrenHeld, IsAccessCompatible, IsRefusalExact, DoesRefusalKeep, DoesPromotionGrantLongest, AreWaitsExact, HasNoCircle, DoDoomedWaitForNothing, AreOwnersOpen, AreNumbersDistinct, AreNumbersCounted, AreVictimsDetermined}
 use Rattle.lock_rules.specs.Effects.{DoesBeginOpen, DoesPollReport, DoVictimsKeepTheirLocks, DoesDoomPromote, IsLockAnswered, IsConvertAnswered, IsLockOfHeldConvert, IsGrantedHeld, IsConversionHeld, IsTryAnswered, DoesTryLeaveWaits, DoesWithdrawTakeRequest, DoesReleaseTakeOneLock, DoesCommitTakeAllLocks, DoesAbortTakeAllLocks}
 use Rattle.lock_rules.specs.Refusals.{AreRefusalsMeant, AreOthersAccepted, DoTestsGiveRefusals, AreRefusalsLowest, AreConversionsUnbounded, DoesAbortNeedTransaction, IsClearCommitAccepted}
+use Rattle.lock_rules.specs.Restarts.{DoesRestartNeedTransaction, DoesRestartTakeAllLocks}
 
 -- all laws of a state hold
 pub record IsLawfulState (st : State) : Type 0 where
@@ -35,6 +36,7 @@ pub record IsLawfulState (st : State) : Type 0 where
   pub refusals_lowest : AreRefusalsLowest st
   pub conversions_unbounded : AreConversionsUnbounded st
   pub abort_needs_transaction : DoesAbortNeedTransaction st
+  pub restart_needs_transaction : DoesRestartNeedTransaction st
   pub clear_commit_accepted : IsClearCommitAccepted st
   pub begin_opens : DoesBeginOpen st
   pub poll_reports : DoesPollReport st
@@ -49,3 +51,4 @@ pub record IsLawfulState (st : State) : Type 0 where
   pub release_takes_one_lock : DoesReleaseTakeOneLock st
   pub commit_takes_all_locks : DoesCommitTakeAllLocks st
   pub abort_takes_all_locks : DoesAbortTakeAllLocks st
+  pub restart_takes_all_locks : DoesRestartTakeAllLocks st

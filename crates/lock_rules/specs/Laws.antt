@@ -6,7 +6,7 @@ use Rattle.lock_modes.specs.Order.{IsAtOrBelow, need_of}
 use Rattle.lock_modes.specs.Compatibility.{IsCompatible}
 use Rattle.lock_tree.specs.Paths.{is_ancestor, parent_of, has_parent}
 use Rattle.lock_rules.specs.declared.calls.Call.{Call}
-use Rattle.lock_rules.specs.declared.calls.Call.TheVariants.{Release, Commit, Abort, Withdraw}
+use Rattle.lock_rules.specs.declared.calls.Call.TheVariants.{Release, Commit, Abort, Withdraw, Restart}
 use Rattle.lock_rules.specs.declared.calls.Reply.TheVariants.{Refused}
 use Rattle.lock_rules.specs.declared.calls.Why.{Why}
 use Rattle.lock_rules.specs.Entries.{Entry, Answered}
@@ -227,9 +227,9 @@ AreVictimsDetermined st = (s : ℕ) (r : List ℕ) (k : Mode) (vs ws : List ℕ)
 
 -- grants stand
 
--- the entry is no commit or abort of the session, and no release of r by it
+-- the entry is no commit, abort or restart of the session, and no release of r by it
 abbrev pub DoesKeepLock : ℕ → List ℕ → Entry → Type 0
-DoesKeepLock s r e = e.session ≡ s → (e.call ≢ Commit) × (e.call ≢ Abort) × (e.call ≢ Release r)
+DoesKeepLock s r e = e.session ≡ s → (e.call ≢ Commit) × (e.call ≢ Abort) × (e.call ≢ Restart) × (e.call ≢ Release r)
 
 -- a lock held after the front is held after the rest, in the same mode or one above, if the session doesn't give it back
 abbrev pub DoesGrantStand : List Entry → List Entry → Type 0
@@ -237,24 +237,28 @@ DoesGrantStand front rest = (s : ℕ) (r : List ℕ) (k : Mode) → held_mode (s
 
 -- dooms and requests stand
 
--- the entry is no abort of the session
-abbrev pub IsNoAbort : ℕ → Entry → Type 0
-IsNoAbort s e = e.session ≡ s → e.call ≢ Abort
+-- the entry is no abort or restart of the session
+abbrev pub DoesKeepDoom : ℕ → Entry → Type 0
+DoesKeepDoom s e = e.session ≡ s → (e.call ≢ Abort) × (e.call ≢ Restart)
 
--- a transaction doomed after the front is open and doomed after the rest, if its session doesn't abort in the rest
+-- a transaction doomed after the front is open and doomed after the rest, if its session doesn't abort or restart in the rest
 abbrev pub DoesDoomStand : List Entry → List Entry → Type 0
-DoesDoomStand front rest = (s : ℕ) (x : Transaction) → (state_of front).begun s ≡ Some x → x.doomed ≡ true → All (IsNoAbort s) rest → (state_of (front ++ rest)).begun s ≡ Some x
+DoesDoomStand front rest = (s : ℕ) (x : Transaction) → (state_of front).begun s ≡ Some x → x.doomed ≡ true → All (DoesKeepDoom s) rest → (state_of (front ++ rest)).begun s ≡ Some x
 
 -- the session waits no more: it holds the request's resource in the target mode, or its transaction is doomed
 abbrev pub IsRequestOver : ℕ → Claim → State → Type 0
 IsRequestOver s q st = (request_of s st.table.requests ≡ None) × ((held_mode st.table s q.resource ≡ Some q.mode) ⊎ HasDoomedTransaction st s)
 
--- from st on the session waits with this request: through all entries, or up to its abort, its withdrawal or an entry that
--- ends the wait
+-- the call cancels its session's waiting request
+abbrev pub DoesCancelRequest : Call → Type 0
+DoesCancelRequest c = (c ≡ Abort) ⊎ ((c ≡ Withdraw) ⊎ (c ≡ Restart))
+
+-- from st on the session waits with this request: through all entries, or up to its abort, its withdrawal, its restart or an
+-- entry that ends the wait
 abbrev pub DoesWaitOn : ℕ → Claim → State → List Entry → Type 0
 DoesWaitOn s q st [] = request_of s st.table.requests ≡ Some q
 DoesWaitOn s q st (e ∷ es) = (request_of s st.table.requests ≡ Some q)
-    × (((e.session ≡ s) × ((e.call ≡ Abort) ⊎ (e.call ≡ Withdraw))) ⊎ (IsRequestOver s q (step st e.session e.call).state ⊎ DoesWaitOn s q (step st e.session e.call).state es))
+    × (((e.session ≡ s) × DoesCancelRequest e.call) ⊎ (IsRequestOver s q (step st e.session e.call).state ⊎ DoesWaitOn s q (step st e.session e.call).state es))
 
 -- a request that waits after the front waits on through the rest, as DoesWaitOn says
 abbrev pub DoesRequestStand : List Entry → List Entry → Type 0

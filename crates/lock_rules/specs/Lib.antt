@@ -8,6 +8,7 @@ pub mod Laws
 pub mod Sound
 pub mod Effects
 pub mod Refusals
+pub mod Restarts
 pub mod Lawful
 pub mod Examples
 pub mod Updates

@@ -5,7 +5,7 @@ use Rattle.lock_modes.specs.declared.Mode.TheVariants.{NL}
 use Rattle.lock_modes.specs.Order.{need_of}
 use Rattle.lock_tree.specs.Paths.{is_ancestor, parent_of, has_parent}
 use Rattle.lock_rules.specs.declared.calls.Call.{Call}
-use Rattle.lock_rules.specs.declared.calls.Call.TheVariants.{Begin, Lock, Convert, Poll, Release, Commit, Abort, Try, Withdraw}
+use Rattle.lock_rules.specs.declared.calls.Call.TheVariants.{Begin, Lock, Convert, Poll, Release, Commit, Abort, Try, Withdraw, Restart}
 use Rattle.lock_rules.specs.declared.calls.Reply.TheVariants.{Refused}
 use Rattle.lock_rules.specs.declared.calls.Why.{Why}
 use Rattle.lock_rules.specs.declared.calls.Why.TheVariants.{AlreadyOpen, NoTransaction, IsWaiting, IsDoomed, NothingAsked, NotHeld, ParentNotHeld, ChildHeld, TooManyLocks, WouldWait, NotWaiting}
@@ -64,6 +64,7 @@ refusals_of Commit = NoTransaction ∷ IsWaiting ∷ IsDoomed ∷ []
 refusals_of Abort = NoTransaction ∷ []
 refusals_of (Try r m) = NoTransaction ∷ IsWaiting ∷ IsDoomed ∷ NothingAsked ∷ ParentNotHeld ∷ TooManyLocks ∷ WouldWait ∷ []
 refusals_of Withdraw = NoTransaction ∷ IsDoomed ∷ NotWaiting ∷ []
+refusals_of Restart = NoTransaction ∷ []
 
 -- the refusal is one of the call's, its test fails, and no test before it does
 abbrev pub IsFirstToFail : State → ℕ → Call → Why → Type 0

@@ -79,7 +79,7 @@ abbrev pub doomed_in : Option Transaction → Bool
 doomed_in None = false
 doomed_in (Some x) = x.doomed
 
--- the session's transaction was chosen as a deadlock victim and has not aborted yet
+-- the session's transaction was chosen as a deadlock victim and has not aborted or restarted yet
 abbrev pub is_doomed : State → ℕ → Bool
 is_doomed st s = doomed_in (st.begun s)
 

@@ -6,11 +6,12 @@ use Rattle.lock_modes.specs.declared.Mode.TheVariants.{NL}
 use Rattle.lock_modes.specs.Order.{at_or_below, sup_of, need_of}
 use Rattle.lock_tree.specs.Paths.{is_ancestor, parent_of, has_parent}
 use Rattle.lock_rules.specs.declared.calls.Call.{Call}
-use Rattle.lock_rules.specs.declared.calls.Call.TheVariants.{Begin, Lock, Convert, Poll, Release, Commit, Abort, Try, Withdraw}
+use Rattle.lock_rules.specs.declared.calls.Call.TheVariants.{Begin, Lock, Convert, Poll, Release, Commit, Abort, Try, Withdraw, Restart}
 use Rattle.lock_rules.specs.declared.calls.Reply.{Reply}
-use Rattle.lock_rules.specs.declared.calls.Reply.TheVariants.{Began, Granted, Waiting, Deadlock, Clear, Released, Committed, Aborted, Refused, Withdrawn}
+use Rattle.lock_rules.specs.declared.calls.Reply.TheVariants.{Began, Granted, Waiting, Deadlock, Clear, Released, Committed, Aborted, Refused, Withdrawn, Restarted}
 use Rattle.lock_rules.specs.declared.calls.Why.{Why}
 use Rattle.lock_rules.specs.declared.calls.Why.TheVariants.{AlreadyOpen, NoTransaction, IsWaiting, IsDoomed, NothingAsked, NotHeld, ParentNotHeld, ChildHeld, TooManyLocks, WouldWait, NotWaiting}
+use Rattle.lock_rules.specs.declared.calls.Transaction.{Transaction}
 use Rattle.lock_rules.specs.declared.calls.TheConstants.{MAX_LOCKS}
 use Rattle.lock_rules.specs.State.{Table, State, held_mode, mode_or_nothing, request_of, claims_of, claims_but, is_open, is_waiting, is_doomed, with_begun, with_table}
 use Rattle.lock_rules.specs.Waits.{resource_of_request, after_cancel, after_victims}
@@ -82,6 +83,7 @@ tests st s Commit = (not (is_open st s), NoTransaction) ∷ (is_waiting st s, Is
 tests st s Abort = (not (is_open st s), NoTransaction) ∷ []
 tests st s (Try r m) = lock_tests st s r m ++ (would_wait st.table s r (target_of (held_mode st.table s r) m), WouldWait) ∷ []
 tests st s Withdraw = (not (is_open st s), NoTransaction) ∷ (is_doomed st s, IsDoomed) ∷ (not (is_waiting st s), NotWaiting) ∷ []
+tests st s Restart = (not (is_open st s), NoTransaction) ∷ []
 
 -- the refusal of the first test that fails, None if all pass
 abbrev pub first_failing : List (Bool × Why) → Option Why
@@ -117,6 +119,11 @@ without_claims s t = record { held = claims_but s t.held; requests = claims_but 
 abbrev pub after_end : ℕ → Table → Table
 after_end s t = after_promotions (resource_of_request (request_of s t.requests) ++ map (λ c. c.resource) (claims_of s t.held)) (without_claims s t)
 
+-- the transaction as a restart leaves it: with its number, not doomed
+abbrev pub restarted : Option Transaction → Option Transaction
+restarted None = None
+restarted (Some x) = Some (record { number = x.number; doomed = false })
+
 -- what a call does if all its tests pass, and its reply
 abbrev pub act : State → ℕ → Call → Outcome
 act st s Begin = record {
@@ -137,6 +144,10 @@ act st s Abort = record {
 }
 act st s (Try r m) = ask st s r (target_of (held_mode st.table s r) m)
 act st s Withdraw = record { state = with_table (after_cancel s st.table) st; reply = Withdrawn }
+act st s Restart = record {
+  state = with_begun s (restarted (st.begun s)) (with_table (after_end s st.table) st);
+  reply = Restarted (length (claims_of s st.table.held));
+}
 
 -- a refused call changes nothing; any other call acts
 abbrev pub outcome_of : Option Why → State → ℕ → Call → Outcome

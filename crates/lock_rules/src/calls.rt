@@ -35,6 +35,9 @@ pub enum Call {
     /// Takes the session's waiting request back. The transaction stays open and keeps its locks. Refused with
     /// `Why::NotWaiting` if no request of the session waits.
     Withdraw,
+    /// Releases all locks of the transaction as `Abort` does, even if it waits or is doomed, and begins it again at once with
+    /// its old number, not doomed. So a victim that restarts grows old beside the transactions that begin after it.
+    Restart,
 }
 
 /// The open transaction of a session.
@@ -43,7 +46,7 @@ pub struct Transaction {
     /// Its number. Transactions are numbered 1, 2, .. in the order in which they began; the youngest has the greatest
     /// number.
     pub number: u64,
-    /// Whether it was chosen as a deadlock victim. A doomed transaction can only abort.
+    /// Whether it was chosen as a deadlock victim. A doomed transaction can only abort or restart.
     pub doomed: bool,
 }
 
@@ -57,7 +60,7 @@ pub enum Why {
     NoTransaction = 2,
     /// The session has a waiting request.
     IsWaiting = 3,
-    /// The session's transaction was chosen as a deadlock victim and has not aborted yet.
+    /// The session's transaction was chosen as a deadlock victim and has not aborted or restarted yet.
     IsDoomed = 4,
     /// The requested mode is NL.
     NothingAsked = 5,
@@ -85,8 +88,8 @@ pub enum Reply {
     /// The session's request waits.
     Waiting,
     /// The transaction was chosen as a deadlock victim. Its request is cancelled, it keeps its locks, and it can only
-    /// abort. A session that waited when it was chosen learns this by a poll, or from a lock, conversion, release or
-    /// commit, which is refused with `Why::IsDoomed`.
+    /// abort or restart. A session that waited when it was chosen learns this by a poll, or from a lock, conversion,
+    /// release or commit, which is refused with `Why::IsDoomed`.
     Deadlock,
     /// The session has a transaction, no waiting request, and isn't doomed.
     Clear,
@@ -100,6 +103,8 @@ pub enum Reply {
     Refused(Why),
     /// The waiting request is taken back.
     Withdrawn,
+    /// The transaction is open again with its old number, not doomed, and this many locks were released.
+    Restarted(u32),
 }
 
 /// One call of one session, with its reply. A list of entries, oldest first, is a history.

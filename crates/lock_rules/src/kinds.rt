@@ -27,10 +27,12 @@ pub enum Op {
     Try = 8,
     /// `Call::Withdraw`.
     Withdraw = 9,
+    /// `Call::Restart`.
+    Restart = 10,
 }
 
 /// All operations, each once, in the order of their numbers.
-pub const OPS: [Op; 9] = [
+pub const OPS: [Op; 10] = [
     Op::Begin,
     Op::Lock,
     Op::Convert,
@@ -40,6 +42,7 @@ pub const OPS: [Op; 9] = [
     Op::Abort,
     Op::Try,
     Op::Withdraw,
+    Op::Restart,
 ];
 
 impl Op {
@@ -81,6 +84,7 @@ impl Call {
             Call::Abort => Op::Abort,
             Call::Try(_, _) => Op::Try,
             Call::Withdraw => Op::Withdraw,
+            Call::Restart => Op::Restart,
         }
     }
 }
@@ -108,10 +112,12 @@ pub enum ReplyKind {
     Refused = 9,
     /// `Reply::Withdrawn`.
     Withdrawn = 10,
+    /// `Reply::Restarted`.
+    Restarted = 11,
 }
 
 /// All kinds of replies, each once, in the order of their numbers.
-pub const REPLY_KINDS: [ReplyKind; 10] = [
+pub const REPLY_KINDS: [ReplyKind; 11] = [
     ReplyKind::Began,
     ReplyKind::Granted,
     ReplyKind::Waiting,
@@ -122,6 +128,7 @@ pub const REPLY_KINDS: [ReplyKind; 10] = [
     ReplyKind::Aborted,
     ReplyKind::Refused,
     ReplyKind::Withdrawn,
+    ReplyKind::Restarted,
 ];
 
 impl ReplyKind {
@@ -151,6 +158,7 @@ impl Reply {
             Reply::Aborted(_) => ReplyKind::Aborted,
             Reply::Refused(_) => ReplyKind::Refused,
             Reply::Withdrawn => ReplyKind::Withdrawn,
+            Reply::Restarted(_) => ReplyKind::Restarted,
         }
     }
 }

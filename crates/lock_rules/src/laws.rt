@@ -224,18 +224,18 @@ pub fn ends_take_all_locks()
 {}
 
 /// A grant stands: whatever others call, a session keeps its lock in the same mode or one above, until it commits,
-/// aborts or releases the resource.
+/// aborts, restarts or releases the resource.
 pub fn grants_stand()
     ensures { (front rest : List EntryValue) → DoesGrantStand front rest }
 {}
 
-/// A doom stands: whatever others call, a doomed transaction stays open and doomed until it aborts.
+/// A doom stands: whatever others call, a doomed transaction stays open and doomed until it aborts or restarts.
 pub fn dooms_stand()
     ensures { (front rest : List EntryValue) → DoesDoomStand front rest }
 {}
 
 /// A request stands: the session waits on with the same request until it holds the resource in the target, its
-/// transaction becomes a victim, or it aborts.
+/// transaction becomes a victim, or the session aborts, restarts or takes the request back.
 pub fn requests_stand()
     ensures { (front rest : List EntryValue) → DoesRequestStand front rest }
 {}
@@ -306,9 +306,9 @@ pub fn states_are_lawful()
 /// order of their numbers, which go from 1 on.
 pub fn kinds_are_listed_once()
     ensures ops { (op : OpValue) → Contains OPS op }
-    ensures op_numbers { map number_of_op OPS ≡ range_with_len 1 9 }
+    ensures op_numbers { map number_of_op OPS ≡ range_with_len 1 10 }
     ensures kinds { (kind : KindValue) → Contains REPLY_KINDS kind }
-    ensures kind_numbers { map number_of_kind REPLY_KINDS ≡ range_with_len 1 10 }
+    ensures kind_numbers { map number_of_kind REPLY_KINDS ≡ range_with_len 1 11 }
     ensures refusals { (why : WhyValue) → Contains REFUSALS why }
     ensures refusal_numbers { map number_of_why REFUSALS ≡ range_with_len 1 9 ++ 11 ∷ 12 ∷ [] }
 {}

@@ -2,8 +2,8 @@
 //!
 //! `calls.rt` has calls, replies, refusals and limits, `kinds.rt` their kinds with numbers, `names.rt` the names of
 //! refusals, `listing.rt` the lines of a listing. In `specs/`, `State.antt`, `Queue.antt` and `Waits.antt` have the
-//! state, the wait queues and the waits, `Step.antt` what each call does, `Legal.antt` the legal histories. `laws.rt`
-//! and `update_laws.rt` have the laws.
+//! state, the wait queues and the waits, `Step.antt` what each call does, `Legal.antt` the legal histories. `laws.rt`,
+//! `restart_laws.rt` and `update_laws.rt` have the laws.
 //!
 //! A step makes the tests of a call in order. The first that fails is the reason of the refusal, and the state stays;
 //! if none fails, the call acts on the state and is answered.
@@ -19,6 +19,7 @@ mod kinds;
 pub mod laws;
 mod listing;
 mod names;
+pub mod restart_laws;
 pub mod update_laws;
 
 pub use calls::{Call, Entry, MAX_LOCKS, MAX_SESSIONS, Reply, Transaction, Why};

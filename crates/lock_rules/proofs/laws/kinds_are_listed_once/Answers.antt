@@ -19,6 +19,7 @@ op_listed op.Commit = (5, omega arith, refl)
 op_listed op.Abort = (6, omega arith, refl)
 op_listed op.Try = (7, omega arith, refl)
 op_listed op.Withdraw = (8, omega arith, refl)
+op_listed op.Restart = (9, omega arith, refl)
 
 -- where each kind of replies is in the list
 kind_listed : (k : ReplyKind) → Contains REPLY_KINDS k
@@ -32,6 +33,7 @@ kind_listed kind.Committed = (6, omega arith, refl)
 kind_listed kind.Aborted = (7, omega arith, refl)
 kind_listed kind.Refused = (8, omega arith, refl)
 kind_listed kind.Withdrawn = (9, omega arith, refl)
+kind_listed kind.Restarted = (10, omega arith, refl)
 
 -- where each refusal is in the list
 refusal_listed : (w : Why) → Contains REFUSALS w
