@@ -5,14 +5,14 @@ use Rattle.std.proofs.lemmas.Bool.Decides.{Decides-eqb}
 use Rattle.std.proofs.lemmas.List.Elements.{All-head, All-tail, All-cons, All-nil}
 use Rattle.lock_modes.specs.declared.Mode.{Mode}
 use Rattle.lock_rules.specs.declared.calls.Call.{Call}
-use Rattle.lock_rules.specs.declared.calls.Call.TheVariants.{Begin, Lock, Convert, Poll, Release, Commit, Abort, Try, Withdraw}
+use Rattle.lock_rules.specs.declared.calls.Call.TheVariants.{Begin, Lock, Convert, Poll, Release, Commit, Abort, Try, Withdraw, Restart}
 use Rattle.lock_rules.specs.declared.calls.Transaction.{Transaction}
 use Rattle.lock_rules.specs.declared.calls.Why.{Why}
 use Rattle.lock_rules.specs.Entries.{Entry}
 use Rattle.lock_rules.specs.State.{State, empty, held_mode, is_open, with_table}
 use Rattle.lock_rules.specs.Queue.{after_grant, with_request, is_granted_at_once}
 use Rattle.lock_rules.specs.Waits.{doom, reaches, victim_of, after_victim, after_victims}
-use Rattle.lock_rules.specs.Step.{target_of, tests, first_failing, is_held, after_wait, after_asking, act, outcome_of, step}
+use Rattle.lock_rules.specs.Step.{target_of, tests, first_failing, is_held, after_wait, after_asking, restarted, act, outcome_of, step}
 use Rattle.lock_rules.specs.Legal.{state_after, state_of}
 use Rattle.lock_laws.specs.Ends.{AreOpenBelow}
 use Rattle.lock_laws.proofs.Orders.{ended-below}
@@ -39,6 +39,11 @@ settled-below n (suc m) s st h = go (reaches st.table s s) (settled-below n m s 
     go true k = k
     go false k = h
 
+-- a restart opens no transaction
+restarted-opens : (o : Option Transaction) → is_some (restarted o) ≡ true → is_some o ≡ true
+restarted-opens None h = absurd (cc)
+restarted-opens (Some x) h = refl
+
 -- a request opens no transaction
 asked-below : (n : ℕ) (st : State) (s : ℕ) (r : List ℕ) (m : Mode) → AreOpenBelow n st → AreOpenBelow n (after_asking st s r m)
 asked-below n st s r m h = go (is_held (held_mode st.table s r) m) (is_granted_at_once st.table s r m)
@@ -63,6 +68,11 @@ act-below n st s Commit l h = ended-below n s st h
 act-below n st s Abort l h = ended-below n s st h
 act-below n st s (Try r m) l h = asked-below n st s r (target_of (held_mode st.table s r) m) h
 act-below n st s Withdraw l h = h
+act-below n st s Restart l h = λ u o. go u (eqb u s) refl o
+  where
+    go : (u : ℕ) (b : Bool) → eqb u s ≡ b → is_some (cond b (restarted (st.begun s)) (st.begun u)) ≡ true → u < n
+    go u true e k = let same = (Decides-eqb u s).0 e in h u (ap (is_open st) same ∙ restarted-opens (st.begun s) k)
+    go u false e k = h u k
 
 -- a call, refused or not, opens no transaction but one of its session
 step-below : (n : ℕ) (st : State) (s : ℕ) (c : Call) → s < n → AreOpenBelow n st → AreOpenBelow n (step st s c).state

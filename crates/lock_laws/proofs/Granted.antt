@@ -12,7 +12,7 @@ use Rattle.lock_rules.proofs.Alters.{true≢false}
 use Rattle.lock_rules.proofs.Cuts.{IsQuiescent, ended-lawful}
 use Rattle.lock_rules.proofs.Owners.{state-numbered}
 use Rattle.lock_rules.proofs.Steps.{state-lawful}
-use Rattle.lock_rules.proofs.Taken.{ended-takes}
+use Rattle.lock_rules.proofs.Taken.{claims-taken}
 use Rattle.lock_laws.specs.Ends.{ended, CanEnd, AreEnds, HoldsAtItsEnd, AreRequestsGranted}
 use Rattle.lock_laws.proofs.Orders.{ended-other}
 use Rattle.lock_laws.proofs.WaitsEnd.{quiescent-ends}
@@ -23,7 +23,7 @@ WaitsOrHolds st s q = (request_of s st.table.requests ≡ Some q) ⊎ ((request_
 
 -- that stays so when another session ends
 still : (st : State) (u s : ℕ) (q : Claim) → IsQuiescent st.table → s ≢ u → WaitsOrHolds st s q → WaitsOrHolds (ended u st) s q
-still st u s q i n w = elim ((ended-takes u st i.sound).others s n) [
+still st u s q i n w = elim ((claims-taken u None st i.sound).others s n) [
   | inl same ↦ elim w [
     | inl e ↦ inl (same.request ∙ e)
     | inr h ↦ inr (same.request ∙ h.0, same.held q.resource ∙ h.1)

@@ -7,7 +7,7 @@ use Rattle.lock_modes.specs.Order.{at_or_below}
 use Rattle.lock_modes.specs.Compatibility.{are_compatible}
 use Rattle.lock_modes.proofs.Order.{at_or_below-antisym}
 use Rattle.lock_rules.specs.declared.calls.Call.{Call}
-use Rattle.lock_rules.specs.declared.calls.Call.TheVariants.{Begin, Lock, Convert, Poll, Release, Commit, Abort, Try, Withdraw}
+use Rattle.lock_rules.specs.declared.calls.Call.TheVariants.{Begin, Lock, Convert, Poll, Release, Commit, Abort, Try, Withdraw, Restart}
 use Rattle.lock_rules.specs.declared.calls.Why.{Why}
 use Rattle.lock_rules.specs.State.{Claim, Table, State, mode_in, held_mode, mode_or_nothing, request_of, claims_of, is_waiting, with_table}
 use Rattle.lock_rules.specs.Queue.{queue, fits, locks_but, after_grant, with_request, is_granted_at_once, granted_while_fitting, after_promotion, after_promotions}
@@ -22,7 +22,7 @@ use Rattle.lock_rules.proofs.Begins.{begins-sound}
 use Rattle.lock_rules.proofs.Marks.{below-sup, sup-some}
 use Rattle.lock_rules.proofs.Grants.{held-on}
 use Rattle.lock_rules.proofs.Steps.{all-pass, is-none, try-locks}
-use Rattle.lock_rules.proofs.Taken.{released-takes, ended-takes}
+use Rattle.lock_rules.proofs.Taken.{released-takes, claims-taken}
 
 -- if s holds r in one mode before and after, a mode that another session has afterwards is either one that it had before, or
 -- compatible with the mode of s
@@ -161,11 +161,11 @@ released-fits v x st i n c s u r k l d e f g = elim (cases_Bool (eqb s v)) [
     rest : held_mode (one_less v x st.table) s r ≡ Some k → (held_mode st.table u r ≡ Some l) ⊎ (are_compatible l k ≡ true)
     rest mid = elim ((front-orderly x (queue (one_less v x st.table) x) (one_less v x st.table) (less-sound v x st.table i n c) refl).fit s u r k l d mid f g) [ inl h ↦ inl (before h) | inr h ↦ inr h ]
 
--- the end of a transaction grants what fits
+-- the end or restart of a transaction grants what fits
 ended-fits : (v : ℕ) (st : State) → IsSound st.table → DoGrantsFit st.table (after_end v st.table)
 ended-fits v st i s u r k l d e f g = elim (cases_Bool (eqb s v)) [
   | inr o ↦ rest (mode_in-claims_but_other s v r st.table.held o ∙ e)
-  | inl o ↦ absurd (gone (sym ((ended-takes v st i).holds_nothing r) ∙ (ap (λ (j : ℕ). mode_in j r (after_end v st.table).held) (sym ((Decides-eqb s v).0 o)) ∙ f)))
+  | inl o ↦ absurd (gone (sym ((claims-taken v None st i).holds_nothing r) ∙ (ap (λ (j : ℕ). mode_in j r (after_end v st.table).held) (sym ((Decides-eqb s v).0 o)) ∙ f)))
 ]
   where
     gone : None ≡ Some k → ⊥
@@ -191,6 +191,7 @@ act-fits st v Commit i h = ended-fits v st i
 act-fits st v Abort i h = ended-fits v st i
 act-fits st v (Try x m) i h = lock-fits st v x m i (try-locks st v x m h)
 act-fits st v Withdraw i h = (cancelled-orderly v st.table i).fit
+act-fits st v Restart i h = ended-fits v st i
 
 -- so does every call, refused or not
 pub step-fits : (st : State) (v : ℕ) (c : Call) → IsSound st.table → DoGrantsFit st.table (step st v c).state.table

@@ -7,6 +7,7 @@ pub mod WaitsEnd
 pub mod Granted
 pub mod Victims
 pub mod OnCycles
+pub mod Oldest
 pub mod TryTests
 pub mod InOrder
 pub mod GrantOrder

@@ -5,14 +5,14 @@ use Rattle.std.proofs.lemmas.Bool.Decides.{Decides-eqb}
 use Rattle.lock_modes.specs.declared.Mode.{Mode}
 use Rattle.waits_for.specs.Walks.{IsWalk, Reaches}
 use Rattle.lock_rules.specs.declared.calls.Call.{Call}
-use Rattle.lock_rules.specs.declared.calls.Call.TheVariants.{Begin, Lock, Convert, Poll, Release, Commit, Abort, Try, Withdraw}
+use Rattle.lock_rules.specs.declared.calls.Call.TheVariants.{Begin, Lock, Convert, Poll, Release, Commit, Abort, Try, Withdraw, Restart}
 use Rattle.lock_rules.specs.declared.calls.Transaction.{Transaction}
 use Rattle.lock_rules.specs.declared.calls.Why.{Why}
 use Rattle.lock_rules.specs.Entries.{Entry}
 use Rattle.lock_rules.specs.State.{Table, State, held_mode, request_of, doomed_in, is_doomed, with_table}
 use Rattle.lock_rules.specs.Queue.{after_grant, is_granted_at_once}
 use Rattle.lock_rules.specs.Waits.{waits_for, doom, resource_of_request, without_request, after_cancel, after_victim}
-use Rattle.lock_rules.specs.Step.{target_of, would_wait, tests, first_failing, is_held, after_wait, after_asking, act, outcome_of, step}
+use Rattle.lock_rules.specs.Step.{target_of, would_wait, tests, first_failing, is_held, after_wait, after_asking, restarted, act, outcome_of, step}
 use Rattle.lock_rules.specs.Legal.{state_of}
 use Rattle.lock_rules.specs.Laws.{HasNoCircle, AreVictims}
 use Rattle.lock_rules.specs.Effects.{IsAmong}
@@ -21,6 +21,7 @@ use Rattle.lock_rules.proofs.Walks.{has}
 use Rattle.lock_rules.proofs.Alters.{Alters, NoCircle, true≢false, beside, no_circle-from, waits_for-alters}
 use Rattle.lock_rules.proofs.Sound.{no_more-alters}
 use Rattle.lock_rules.proofs.Doomed.{doom-dooms, victims-keep}
+use Rattle.lock_rules.proofs.Idle.{restarted-lives}
 use Rattle.lock_rules.proofs.KeptCycles.{victims-on}
 use Rattle.lock_rules.proofs.Requests.{try-leaves}
 use Rattle.lock_rules.proofs.Victims.{on_circle-open}
@@ -73,7 +74,7 @@ module _ (v : ℕ) (t t' : Table) (a : Alters v t t') where
 -- who is doomed
 
 -- whoever the choice of victims dooms is one of them
-doomed-among : (s : ℕ) (vs : List ℕ) (st last : State) → AreVictims s vs st last → (v : ℕ) → is_doomed st v ≡ false → is_doomed last v ≡ true → IsAmong v vs
+pub doomed-among : (s : ℕ) (vs : List ℕ) (st last : State) → AreVictims s vs st last → (v : ℕ) → is_doomed st v ≡ false → is_doomed last v ≡ true → IsAmong v vs
 doomed-among s [] st last a v n y = absurd (true≢false y (ap (λ (x : State). is_doomed x v) a.1 ∙ n))
 doomed-among s (w ∷ vs) st last a v n y = elim (cases_Bool (eqb v w)) [
   | inl e ↦ inl ((Decides-eqb v w).0 e)
@@ -90,7 +91,7 @@ module _ (st : State) (s v : ℕ) (n : is_doomed st v ≡ false) where
       go false true h = absurd (true≢false h n)
       go false false h = refl
 
-  -- the transaction of s is new, or ended
+  -- the transaction of s is new, ended or restarted
   replaced : (o : Option Transaction) → doomed_in o ≡ false → doomed_in (cond (eqb v s) o (st.begun v)) ≡ false
   replaced o h = go (eqb v s)
     where
@@ -109,9 +110,10 @@ module _ (st : State) (s v : ℕ) (n : is_doomed st v ≡ false) where
   acts-waits Abort e z y = absurd (true≢false y (replaced None refl))
   acts-waits (Try r m) e z y = absurd (true≢false z (ap (λ (b : ℕ → Option Transaction). doomed_in (b v)) (try-leaves st s r m).1 ∙ n))
   acts-waits Withdraw e z y = absurd (true≢false y n)
+  acts-waits Restart e z y = absurd (true≢false y (replaced (restarted (st.begun s)) (restarted-lives (st.begun s))))
 
   -- whoever a call dooms, the call begins to wait
-  dooms-waits : (c : Call) → is_doomed (step st s c).state v ≡ true → (r : List ℕ) × (k : Mode) × BeginsToWait st s c r k
+  pub dooms-waits : (c : Call) → is_doomed (step st s c).state v ≡ true → (r : List ℕ) × (k : Mode) × BeginsToWait st s c r k
   dooms-waits c y = go (first_failing (tests st s c)) refl
     where
       go : (o : Option Why) → first_failing (tests st s c) ≡ o → (r : List ℕ) × (k : Mode) × BeginsToWait st s c r k

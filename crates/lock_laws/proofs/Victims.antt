@@ -61,14 +61,14 @@ victims-needed n s (v ∷ vs) st last below i a = (victim-needed st n s v vs las
 -- a request that begins to wait, of a state that a history leads to
 
 -- what the tests of a Lock and of a Convert say of the request
-record IsAllowed (st : State) (s : ℕ) (r : List ℕ) (m : Mode) : Type 0 where
-  opened : is_open st s ≡ true
+pub record IsAllowed (st : State) (s : ℕ) (r : List ℕ) (m : Mode) : Type 0 where
+  pub opened : is_open st s ≡ true
   free : request_of s st.table.requests ≡ None
   some : is_nothing m ≡ false
   under : lacks_parent st.table s r (target_of (held_mode st.table s r) m) ≡ false
 
 -- a call that begins to wait is allowed
-allowed : (st : State) (s : ℕ) (c : Call) (r : List ℕ) (k : Mode) → (b : BeginsToWait st s c r k) → IsAllowed st s r b.asked
+pub allowed : (st : State) (s : ℕ) (c : Call) (r : List ℕ) (k : Mode) → (b : BeginsToWait st s c r k) → IsAllowed st s r b.asked
 allowed st s c r k b = elim b.call [ inl e ↦ lock (ap (λ (x : Call). first_failing (tests st s x)) (sym e) ∙ b.passes) | inr e ↦ convert (ap (λ (x : Call). first_failing (tests st s x)) (sym e) ∙ b.passes) ]
   where
     lock : first_failing (tests st s (Lock r b.asked)) ≡ None → IsAllowed st s r b.asked

@@ -1,8 +1,8 @@
 -- Histories worked by hand, each with a walk that leads from a waiting session to a holder that doesn't wait.
 use Rattle.std.specs.Prelude.{◌≡◌, ℕ, List, [], ◌∷◌}
 use Rattle.lock_modes.specs.declared.Mode.TheVariants.{IS, S, U, X}
-use Rattle.lock_rules.specs.declared.calls.Call.TheVariants.{Begin, Lock, Convert, Try}
-use Rattle.lock_rules.specs.declared.calls.Reply.TheVariants.{Began, Granted, Waiting, Refused}
+use Rattle.lock_rules.specs.declared.calls.Call.TheVariants.{Begin, Lock, Convert, Commit, Abort, Try, Restart}
+use Rattle.lock_rules.specs.declared.calls.Reply.TheVariants.{Began, Granted, Waiting, Deadlock, Committed, Aborted, Refused, Restarted}
 use Rattle.lock_rules.specs.declared.calls.Why.TheVariants.{WouldWait}
 use Rattle.lock_rules.specs.Entries.{Entry}
 use Rattle.lock_rules.specs.State.{Claim, State, no_locks}
@@ -82,3 +82,36 @@ tries_past_a_waiter =
 -- the session's request was the first to arrive of those that wait
 abbrev pub WaitsFirst : State → ℕ → Type 0
 WaitsFirst st s = (q : Claim) × (qs : List Claim) × (st.table.requests ≡ q ∷ qs) × (q.session ≡ s)
+
+-- Session 2 was a victim and restarted; session 1 committed and began again. Session 2 waits for a lock of session 1, which is
+-- about to ask for a lock of session 2.
+abbrev pub retried_by_restart : List Entry
+retried_by_restart =
+    entry 1 Begin (Began 1) ∷ entry 2 Begin (Began 2)
+    ∷ entry 1 (Lock (database 1) X) (Granted X)
+    ∷ entry 2 (Lock (database 2) X) (Granted X)
+    ∷ entry 1 (Lock (database 2) S) Waiting
+    ∷ entry 2 (Lock (database 1) S) Deadlock
+    ∷ entry 2 Restart (Restarted 1)
+    ∷ entry 1 Commit (Committed 2)
+    ∷ entry 1 Begin (Began 3)
+    ∷ entry 2 (Lock (database 2) X) (Granted X)
+    ∷ entry 1 (Lock (database 1) X) (Granted X)
+    ∷ entry 2 (Lock (database 1) S) Waiting
+    ∷ []
+
+-- The same, but session 2 aborted and began anew, so that its transaction is the youngest again.
+abbrev pub retried_by_begin : List Entry
+retried_by_begin =
+    entry 1 Begin (Began 1) ∷ entry 2 Begin (Began 2)
+    ∷ entry 1 (Lock (database 1) X) (Granted X)
+    ∷ entry 2 (Lock (database 2) X) (Granted X)
+    ∷ entry 1 (Lock (database 2) S) Waiting
+    ∷ entry 2 (Lock (database 1) S) Deadlock
+    ∷ entry 2 Abort (Aborted 1)
+    ∷ entry 1 Commit (Committed 2)
+    ∷ entry 1 Begin (Began 3) ∷ entry 2 Begin (Began 4)
+    ∷ entry 2 (Lock (database 2) X) (Granted X)
+    ∷ entry 1 (Lock (database 1) X) (Granted X)
+    ∷ entry 2 (Lock (database 1) S) Waiting
+    ∷ []

@@ -3,5 +3,6 @@ pub mod Ends
 pub mod Victims
 pub mod Cycles
 pub mod Tries
+pub mod Retries
 pub mod Grants
 pub mod Examples

@@ -11,10 +11,13 @@
 //!
 //! `grants.rt`: of two holders' modes, the one granted later is compatible with the one granted earlier (`Grants.antt`).
 //!
+//! `retries.rt`: a transaction that is retried by restarts alone grows old, and the oldest is nobody's victim (`Retries.antt`).
+//!
 //! `Examples.antt` has histories worked by hand. There is no code.
 #![tactic(auto)]
 
 pub mod cycles;
 pub mod ends;
 pub mod grants;
+pub mod retries;
 pub mod tries;
