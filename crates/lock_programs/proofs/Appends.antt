@@ -3,9 +3,9 @@ use Rattle.std.proofs.Common.{◌≡◌, ◌≢◌, ℕ, zero, suc, ◌+◌, ◌
 use Rattle.lock_modes.specs.declared.Mode.{Mode}
 use Rattle.lock_modes.specs.declared.Mode.TheVariants.{NL}
 use Rattle.lock_rules.specs.declared.calls.Call.{Call}
-use Rattle.lock_rules.specs.declared.calls.Call.TheVariants.{Begin, Lock, Convert, Poll, Release, Commit, Abort, Try, Withdraw}
+use Rattle.lock_rules.specs.declared.calls.Call.TheVariants.{Begin, Lock, Convert, Poll, Release, Commit, Abort, Try, Withdraw, Restart}
 use Rattle.lock_rules.specs.declared.calls.Reply.{Reply}
-use Rattle.lock_rules.specs.declared.calls.Reply.TheVariants.{Began, Granted, Waiting, Deadlock, Clear, Released, Committed, Aborted, Refused, Withdrawn}
+use Rattle.lock_rules.specs.declared.calls.Reply.TheVariants.{Began, Granted, Waiting, Deadlock, Clear, Released, Committed, Aborted, Refused, Withdrawn, Restarted}
 use Rattle.programs.specs.Form.{AllGoOn}
 use Rattle.lock_programs.specs.declared.stop.Stop.{Stop}
 use Rattle.lock_programs.specs.declared.stop.Stop.TheVariants.{GoesOn, Waits, IsVictim, IsRefused}
@@ -15,7 +15,7 @@ use Rattle.lock_programs.specs.Answers.{Told, done_with, done_reply, stop_reply,
 use Rattle.lock_programs.specs.Fits.{goes_on_behind, fits}
 use Rattle.lock_programs.specs.inner.Noting.{began_after, ended_after, granted_after, stop_after}
 use Rattle.lock_programs.proofs.Lasts.{last-with}
-use Rattle.lock_programs.proofs.Shapes.{begin-place, commit-place, abort-place}
+use Rattle.lock_programs.proofs.Shapes.{begin-place, commit-place, abort-place, restart-place}
 
 -- fewer replies than calls were served
 served-few : (a : Told) (cs : List Call) (k n : ℕ) → length (replies_from a cs k n) < length cs → n < length cs
@@ -89,6 +89,7 @@ only-begin Commit k h = absurd (cc)
 only-begin Abort k h = absurd (cc)
 only-begin (Try q m) k h = absurd (cc)
 only-begin Withdraw k h = absurd (cc)
+only-begin Restart k h = absurd (cc)
 
 only-commit : (c : Call) (k : ℕ) → fits c (Committed k) ≡ true → c ≡ Commit
 only-commit Begin k h = absurd (cc)
@@ -100,6 +101,7 @@ only-commit Commit k h = refl
 only-commit Abort k h = absurd (cc)
 only-commit (Try q m) k h = absurd (cc)
 only-commit Withdraw k h = absurd (cc)
+only-commit Restart k h = absurd (cc)
 
 only-abort : (c : Call) (k : ℕ) → fits c (Aborted k) ≡ true → c ≡ Abort
 only-abort Begin k h = absurd (cc)
@@ -111,6 +113,19 @@ only-abort Commit k h = absurd (cc)
 only-abort Abort k h = refl
 only-abort (Try q m) k h = absurd (cc)
 only-abort Withdraw k h = absurd (cc)
+only-abort Restart k h = absurd (cc)
+
+only-restart : (c : Call) (k : ℕ) → fits c (Restarted k) ≡ true → c ≡ Restart
+only-restart Begin k h = absurd (cc)
+only-restart (Lock q m) k h = absurd (cc)
+only-restart (Convert q m) k h = absurd (cc)
+only-restart Poll k h = absurd (cc)
+only-restart (Release q) k h = absurd (cc)
+only-restart Commit k h = absurd (cc)
+only-restart Abort k h = absurd (cc)
+only-restart (Try q m) k h = absurd (cc)
+only-restart Withdraw k h = absurd (cc)
+only-restart Restart k h = refl
 
 -- a mode that was granted before
 mode-kept : (old new : List Mode) (n j : ℕ) (m : Mode) → new ≡ set old n m → j < n → slice_index_or new (0 + j) NL ≡ slice_index_or old (0 + j) NL
@@ -130,6 +145,7 @@ began-kept p old Withdrawn n j l f m h = refl
 began-kept p old (Granted k) n j l f m h = refl
 began-kept p old (Committed k) n j l f m h = refl
 began-kept p old (Aborted k) n j l f m h = refl
+began-kept p old (Restarted k) n j l f m h = refl
 began-kept p old (Refused why) n j l f m h = refl
 began-kept p old (Began k) n j l f m h =
     let c = call-at (calls_of p) n m in
@@ -155,6 +171,10 @@ ended-kept p old (Aborted k) n j l f m =
     let c = call-at (calls_of p) n m in
     let b : c.0 ≡ Abort = only-abort c.0 k (f c.0 c.1) in
     absurd (omega (arith, l, abort-place p n (c.1 ∙ ap Some b)))
+ended-kept p old (Restarted k) n j l f m =
+    let c = call-at (calls_of p) n m in
+    let b : c.0 ≡ Restart = only-restart c.0 k (f c.0 c.1) in
+    absurd (omega (arith, l, restart-place p n (c.1 ∙ ap Some b)))
 
 -- what was told of an earlier call is told still
 kept : (p : Program) (old new : Told) (r : Reply) (n : ℕ) → ((c : Call) → slice_get (calls_of p) n ≡ Some c → fits c r ≡ true) → n < length (calls_of p)
@@ -163,6 +183,7 @@ kept : (p : Program) (old new : Told) (r : Reply) (n : ℕ) → ((c : Call) → 
 kept p old new r n f l b e m g j Begin i h = ap Began (b ∙ began-kept p old.began r n j i f l h)
 kept p old new r n f l b e m g j Commit i h = ap Committed (e ∙ ended-kept p old.ended r n j i f l)
 kept p old new r n f l b e m g j Abort i h = ap Aborted (e ∙ ended-kept p old.ended r n j i f l)
+kept p old new r n f l b e m g j Restart i h = ap Restarted (e ∙ ended-kept p old.ended r n j i f l)
 kept p old new r n f l b e m g j (Lock q k) i h = ap Granted (mode-kept old.granted new.granted n j m g i)
 kept p old new r n f l b e m g j (Convert q k) i h = ap Granted (mode-kept old.granted new.granted n j m g i)
 kept p old new r n f l b e m g j (Try q k) i h = ap Granted (mode-kept old.granted new.granted n j m g i)

@@ -2,9 +2,9 @@
 use Rattle.std.proofs.Common.{◌≡◌, ℕ, zero, suc, ◌+◌, ◌-◌, ◌≤◌, Bool, true, false, List, [], ◌∷◌, ◌++◌, length, length-append, Some, slice_get, take, refl, sym, ap, ◌∙◌, arith}
 use Rattle.lock_modes.specs.declared.Mode.{Mode}
 use Rattle.lock_rules.specs.declared.calls.Call.{Call}
-use Rattle.lock_rules.specs.declared.calls.Call.TheVariants.{Begin, Lock, Convert, Poll, Release, Commit, Abort, Try, Withdraw}
+use Rattle.lock_rules.specs.declared.calls.Call.TheVariants.{Begin, Lock, Convert, Poll, Release, Commit, Abort, Try, Withdraw, Restart}
 use Rattle.lock_programs.specs.declared.program.Start.{Start}
-use Rattle.lock_programs.specs.declared.program.Start.TheVariants.{Nothing, Begins, Commits, Aborts, CommitsAndBegins, AbortsAndBegins}
+use Rattle.lock_programs.specs.declared.program.Start.TheVariants.{Nothing, Begins, Commits, Aborts, CommitsAndBegins, AbortsAndBegins, Restarts}
 use Rattle.lock_programs.specs.declared.program.Last.{Last}
 use Rattle.lock_programs.specs.declared.program.Last.TheVariants.{Locks, Converts, Tries, Releases, Polls, Withdraws}
 use Rattle.lock_programs.specs.declared.program.Program.{Program}
@@ -24,6 +24,7 @@ start-few Commits = omega arith
 start-few Aborts = omega arith
 start-few CommitsAndBegins = omega arith
 start-few AbortsAndBegins = omega arith
+start-few Restarts = omega arith
 
 pub calls-few : (p : Program) → length (calls_of p) ≤ 7
 calls-few p =
@@ -44,13 +45,14 @@ path-at r above last from (suc n) (suc j) b e =
     let z : from + 1 + j ≡ from + suc j = omega arith in
     path-at r above last (from + 1) n j b (omega (arith, e)) ∙ ap (λ (k : ℕ). Some (call_before above last b (take k r))) z
 
--- the calls that end and begin transactions
+-- the calls that end, begin and restart transactions
 
--- the call ends a transaction or begins one
+-- the call ends a transaction, begins one or restarts it
 abbrev is_turn : Call → Bool
 is_turn Begin = true
 is_turn Commit = true
 is_turn Abort = true
+is_turn Restart = true
 is_turn (Lock r m) = false
 is_turn (Convert r m) = false
 is_turn Poll = false
@@ -87,6 +89,9 @@ no_commit c h e = let t : is_turn c ≡ true = ap is_turn e in cc
 no_abort : (c : Call) → is_turn c ≡ false → c ≡ Abort → ⊥
 no_abort c h e = let t : is_turn c ≡ true = ap is_turn e in cc
 
+no_restart : (c : Call) → is_turn c ≡ false → c ≡ Restart → ⊥
+no_restart c h e = let t : is_turn c ≡ true = ap is_turn e in cc
+
 -- the place of the begin
 abbrev pub begins_at : Start → ℕ
 begins_at Nothing = 0
@@ -95,6 +100,7 @@ begins_at Commits = 0
 begins_at Aborts = 0
 begins_at CommitsAndBegins = 1
 begins_at AbortsAndBegins = 1
+begins_at Restarts = 0
 
 begin-among : (s : Start) (ps : List Call) → ((i : ℕ) → slice_get ps i ≡ Some Begin → ⊥) → (i : ℕ) → slice_get (start_calls s ++ ps) i ≡ Some Begin → i ≡ begins_at s
 begin-among Nothing ps none_of i h = absurd (none_of i h)
@@ -110,6 +116,8 @@ begin-among CommitsAndBegins ps none_of (suc (suc i)) h = absurd (none_of i h)
 begin-among AbortsAndBegins ps none_of zero h = absurd (cc)
 begin-among AbortsAndBegins ps none_of (suc zero) h = refl
 begin-among AbortsAndBegins ps none_of (suc (suc i)) h = absurd (none_of i h)
+begin-among Restarts ps none_of zero h = refl
+begin-among Restarts ps none_of (suc i) h = absurd (none_of i h)
 
 -- what isn't on a path and isn't a begin is at the front
 front-among : (c : Call) → (c ≡ Begin → ⊥) → (s : Start) (ps : List Call) → ((i : ℕ) → slice_get ps i ≡ Some c → ⊥) → (i : ℕ) → slice_get (start_calls s ++ ps) i ≡ Some c → i ≡ 0
@@ -126,6 +134,8 @@ front-among c other CommitsAndBegins ps none_of (suc (suc i)) h = absurd (none_o
 front-among c other AbortsAndBegins ps none_of zero h = refl
 front-among c other AbortsAndBegins ps none_of (suc zero) h = absurd (other (cc))
 front-among c other AbortsAndBegins ps none_of (suc (suc i)) h = absurd (none_of i h)
+front-among c other Restarts ps none_of zero h = refl
+front-among c other Restarts ps none_of (suc i) h = absurd (none_of i h)
 
 off-path : (p : Program) (i : ℕ) (c : Call) → slice_get (path_of p) i ≡ Some c → is_turn c ≡ false
 off-path p i c h = path-no_turn p.resource p.above p.last p.from (length p.resource + 1 - p.from) i c h
@@ -138,3 +148,6 @@ commit-place p i h = front-among Commit (λ e. cc) p.start (path_of p) (λ j k. 
 
 pub abort-place : (p : Program) (i : ℕ) → slice_get (calls_of p) i ≡ Some Abort → i ≡ 0
 abort-place p i h = front-among Abort (λ e. cc) p.start (path_of p) (λ j k. no_abort Abort (off-path p j Abort k) refl) i h
+
+pub restart-place : (p : Program) (i : ℕ) → slice_get (calls_of p) i ≡ Some Restart → i ≡ 0
+restart-place p i h = front-among Restart (λ e. cc) p.start (path_of p) (λ j k. no_restart Restart (off-path p j Restart k) refl) i h

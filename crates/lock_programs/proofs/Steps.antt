@@ -2,7 +2,7 @@
 use Rattle.std.proofs.Common.{◌≡◌, ℕ, Bool, true, false, cond, List, [], ◌∷◌, ◌++◌, Option, Some, None, refl, ap, ◌∙◌}
 use Rattle.lock_modes.specs.declared.Mode.{Mode}
 use Rattle.lock_rules.specs.declared.calls.Call.{Call}
-use Rattle.lock_rules.specs.declared.calls.Call.TheVariants.{Begin, Lock, Convert, Poll, Release, Commit, Abort, Try, Withdraw}
+use Rattle.lock_rules.specs.declared.calls.Call.TheVariants.{Begin, Lock, Convert, Poll, Release, Commit, Abort, Try, Withdraw, Restart}
 use Rattle.lock_rules.specs.declared.calls.Reply.TheVariants.{Granted, Waiting, Deadlock, Clear}
 use Rattle.lock_rules.specs.declared.calls.Why.{Why}
 use Rattle.lock_rules.specs.Entries.{Entry}
@@ -48,6 +48,7 @@ act-fits st s (Try r m) =
     let k : Mode = target_of (held_mode st.table s r) m in
     let after : State = after_asking st s r k in try-fits r m k (is_doomed after s) (is_waiting after s)
 act-fits st s Withdraw = refl
+act-fits st s Restart = refl
 
 outcome-fits : (o : Option Why) (st : State) (s : ℕ) (c : Call) → fits c (outcome_of o st s c).reply ≡ true
 outcome-fits None st s c = act-fits st s c
@@ -60,6 +61,7 @@ outcome-fits (Some why) st s Commit = refl
 outcome-fits (Some why) st s Abort = refl
 outcome-fits (Some why) st s (Try r m) = refl
 outcome-fits (Some why) st s Withdraw = refl
+outcome-fits (Some why) st s Restart = refl
 
 pub last-fits : (st : State) (front : List Entry) (e : Entry) → IsLegalFrom st (front ++ e ∷ []) → fits e.call e.reply ≡ true
 last-fits st [] e h = ap (fits e.call) h.0 ∙ outcome-fits (first_failing (tests st e.session e.call)) st e.session e.call

@@ -4,9 +4,9 @@ use Rattle.programs.specs.Form.{Form}
 use Rattle.lock_modes.specs.declared.Mode.{Mode}
 use Rattle.lock_modes.specs.declared.Mode.TheVariants.{NL}
 use Rattle.lock_rules.specs.declared.calls.Call.{Call}
-use Rattle.lock_rules.specs.declared.calls.Call.TheVariants.{Begin, Lock, Convert, Poll, Release, Commit, Abort, Try, Withdraw}
+use Rattle.lock_rules.specs.declared.calls.Call.TheVariants.{Begin, Lock, Convert, Poll, Release, Commit, Abort, Try, Withdraw, Restart}
 use Rattle.lock_rules.specs.declared.calls.Reply.{Reply}
-use Rattle.lock_rules.specs.declared.calls.Reply.TheVariants.{Began, Granted, Waiting, Deadlock, Clear, Released, Committed, Aborted, Refused, Withdrawn}
+use Rattle.lock_rules.specs.declared.calls.Reply.TheVariants.{Began, Granted, Waiting, Deadlock, Clear, Released, Committed, Aborted, Refused, Withdrawn, Restarted}
 use Rattle.lock_programs.specs.declared.stop.Stop.{Stop}
 use Rattle.lock_programs.specs.declared.stop.Stop.TheVariants.{GoesOn, Waits, IsVictim, IsRefused}
 use Rattle.lock_programs.specs.declared.answer.Answer.{Answer}
@@ -15,7 +15,7 @@ use Rattle.lock_programs.specs.Calls.{calls_of}
 use Rattle.lock_programs.specs.Fits.{goes_on_behind}
 
 -- the reply to a call that was granted or done, by the number of the transaction that was begun, the number of locks that were
--- released as one ended, and the mode granted
+-- released as one ended or restarted, and the mode granted
 abbrev pub done_with : ℕ → ℕ → Mode → Call → Reply
 done_with began ended mode Begin = Began began
 done_with began ended mode (Lock r m) = Granted mode
@@ -26,9 +26,10 @@ done_with began ended mode Abort = Aborted ended
 done_with began ended mode Poll = Clear
 done_with began ended mode (Release r) = Released
 done_with began ended mode Withdraw = Withdrawn
+done_with began ended mode Restart = Restarted ended
 
--- what an answer tells of replies: the number of the transaction that was begun, how many locks were released as one ended, the
--- mode granted at each place, and why the program stopped at the last one
+-- what an answer tells of replies: the number of the transaction that was begun, how many locks were released as one ended or
+-- restarted, the mode granted at each place, and why the program stopped at the last one
 pub record Told : Type 0 where
   pub began : ℕ
   pub ended : ℕ

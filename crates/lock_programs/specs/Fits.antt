@@ -1,9 +1,9 @@
 -- Behind which replies a program goes on, and which replies a call can have.
 use Rattle.std.specs.Prelude.{◌≡◌, Bool, true, false}
 use Rattle.lock_rules.specs.declared.calls.Call.{Call}
-use Rattle.lock_rules.specs.declared.calls.Call.TheVariants.{Begin, Lock, Convert, Poll, Release, Commit, Abort, Try, Withdraw}
+use Rattle.lock_rules.specs.declared.calls.Call.TheVariants.{Begin, Lock, Convert, Poll, Release, Commit, Abort, Try, Withdraw, Restart}
 use Rattle.lock_rules.specs.declared.calls.Reply.{Reply}
-use Rattle.lock_rules.specs.declared.calls.Reply.TheVariants.{Began, Granted, Waiting, Deadlock, Clear, Released, Committed, Aborted, Refused, Withdrawn}
+use Rattle.lock_rules.specs.declared.calls.Reply.TheVariants.{Began, Granted, Waiting, Deadlock, Clear, Released, Committed, Aborted, Refused, Withdrawn, Restarted}
 
 -- a program goes on behind this reply: the call was granted or done
 abbrev pub goes_on_behind : Reply → Bool
@@ -26,6 +26,7 @@ fits (Try r m) (Granted k) = true
 fits Poll Clear = true
 fits (Release r) Released = true
 fits Withdraw Withdrawn = true
+fits Restart (Restarted n) = true
 fits c r = false
 
 abbrev pub Fits : Call → Reply → Type 0

@@ -2,13 +2,13 @@
 use Rattle.std.specs.Prelude.{ℕ, zero, suc, ◌+◌, List, [], ◌∷◌, take}
 use Rattle.lock_modes.specs.declared.Mode.{Mode}
 use Rattle.lock_rules.specs.declared.calls.Call.{Call}
-use Rattle.lock_rules.specs.declared.calls.Call.TheVariants.{Begin, Lock, Convert, Poll, Release, Commit, Abort, Try, Withdraw}
+use Rattle.lock_rules.specs.declared.calls.Call.TheVariants.{Begin, Lock, Convert, Poll, Release, Commit, Abort, Try, Withdraw, Restart}
 use Rattle.lock_programs.specs.declared.program.Start.{Start}
-use Rattle.lock_programs.specs.declared.program.Start.TheVariants.{Nothing, Begins, Commits, Aborts, CommitsAndBegins, AbortsAndBegins}
+use Rattle.lock_programs.specs.declared.program.Start.TheVariants.{Nothing, Begins, Commits, Aborts, CommitsAndBegins, AbortsAndBegins, Restarts}
 use Rattle.lock_programs.specs.declared.program.Last.{Last}
 use Rattle.lock_programs.specs.declared.program.Last.TheVariants.{Locks, Converts, Tries, Releases, Polls, Withdraws}
 
--- the calls that end a transaction and begin one
+-- the calls that end a transaction and begin one, or restart it
 abbrev pub start_calls : Start → List Call
 start_calls Nothing = []
 start_calls Begins = Begin ∷ []
@@ -16,6 +16,7 @@ start_calls Commits = Commit ∷ []
 start_calls Aborts = Abort ∷ []
 start_calls CommitsAndBegins = Commit ∷ Begin ∷ []
 start_calls AbortsAndBegins = Abort ∷ Begin ∷ []
+start_calls Restarts = Restart ∷ []
 
 -- the last call of a path to this resource
 abbrev pub last_call : Last → List ℕ → Call

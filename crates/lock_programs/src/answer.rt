@@ -17,7 +17,7 @@ pub struct Answer {
     first: u64,
     /// The number of the transaction that was begun.
     began: u64,
-    /// How many locks were released as a transaction ended.
+    /// How many locks were released as a transaction ended or restarted.
     ended: u32,
     /// The mode granted to each call that was: a conversion's is the least at or above the mode held before and the one asked.
     granted: [Mode; CALLS],

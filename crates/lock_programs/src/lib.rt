@@ -1,7 +1,7 @@
 //! Programs of the lock table in a compact form: several calls of a session that are made as one.
 //!
-//! A [`Program`] ends and begins a transaction, or does either or neither, and then makes the calls of a path: a lock on each
-//! resource of it in one mode, and a call of any kind on the last. So commit, begin and five locks are one program, and so is
+//! A [`Program`] ends and begins a transaction, does either or neither, or restarts one, and then makes the calls of a path: a lock
+//! on each resource of it in one mode, and a call of any kind on the last. So commit, begin and five locks are one program, and so is
 //! each single call. Its calls are performed one after another until the first reply that isn't granted or done. An [`Answer`]
 //! has what was granted and done, and why the program stopped: all replies follow from the program and its answer.
 //!

@@ -26,12 +26,12 @@ pub(crate) fn began_after(number: u64, reply: &Reply) -> u64
     }
 }
 
-/// How many locks were released as a transaction ended, after this reply.
+/// How many locks were released as a transaction ended or restarted, after this reply.
 pub(crate) fn ended_after(locks: u32, reply: &Reply) -> u32
     ensures { result ≡ ended_after locks reply.now }
 {
     match reply {
-        Reply::Committed(locks) | Reply::Aborted(locks) => *locks,
+        Reply::Committed(locks) | Reply::Aborted(locks) | Reply::Restarted(locks) => *locks,
         _ => locks,
     }
 }
@@ -59,7 +59,7 @@ pub(crate) fn stop_after(reply: &Reply) -> Stop
 }
 
 /// The reply to a call that was granted or done: `began` is the number of the transaction begun, `ended` how many locks were
-/// released as one ended, `mode` the mode granted.
+/// released as one ended or restarted, `mode` the mode granted.
 pub(crate) fn done_with(began: u64, ended: u32, mode: Mode, call: &Call) -> Reply
     ensures { result ≡ done_with began ended mode call.now }
 {
@@ -71,6 +71,7 @@ pub(crate) fn done_with(began: u64, ended: u32, mode: Mode, call: &Call) -> Repl
         Call::Poll => Reply::Clear,
         Call::Release(_) => Reply::Released,
         Call::Withdraw => Reply::Withdrawn,
+        Call::Restart => Reply::Restarted(ended),
     }
 }
 

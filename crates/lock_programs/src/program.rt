@@ -1,4 +1,4 @@
-//! A program: the end of a transaction, the begin of the next, and the calls of a path.
+//! A program: the end of a transaction and the begin of the next, or a restart, and the calls of a path.
 
 ghost use Rattle.std.specs.Prelude.{◌≡◌, ◌+◌, ◌-◌, ◌<◌, ◌≤◌, ◌∷◌, ◌++◌, [], length, Some, slice_get};
 ghost use Rattle.lock_tree.specs.declared.levels.TheConstants.{LEVELS};
@@ -29,6 +29,8 @@ pub enum Start {
     CommitsAndBegins,
     /// Aborts the open one and begins the next.
     AbortsAndBegins,
+    /// Restarts the open one.
+    Restarts,
 }
 
 impl Start {
@@ -40,7 +42,7 @@ impl Start {
     {
         match self {
             Start::Nothing => 0,
-            Start::Begins | Start::Commits | Start::Aborts => 1,
+            Start::Begins | Start::Commits | Start::Aborts | Start::Restarts => 1,
             Start::CommitsAndBegins | Start::AbortsAndBegins => 2,
         }
     }
@@ -54,6 +56,7 @@ impl Start {
             Start::Nothing | Start::Begins => Call::Begin,
             Start::Commits => Call::Commit,
             Start::Aborts => Call::Abort,
+            Start::Restarts => Call::Restart,
             Start::CommitsAndBegins => { if at == 0 { Call::Commit } else { Call::Begin } }
             Start::AbortsAndBegins => { if at == 0 { Call::Abort } else { Call::Begin } }
         }
@@ -183,6 +186,7 @@ impl Program {
             Call::Begin => Program::start(Start::Begins),
             Call::Commit => Program::start(Start::Commits),
             Call::Abort => Program::start(Start::Aborts),
+            Call::Restart => Program::start(Start::Restarts),
             Call::Lock(resource, mode) => Program::on_one(&resource, Last::Locks(mode)),
             Call::Convert(resource, mode) => Program::on_one(&resource, Last::Converts(mode)),
             Call::Try(resource, mode) => Program::on_one(&resource, Last::Tries(mode)),

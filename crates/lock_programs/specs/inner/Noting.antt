@@ -2,7 +2,7 @@
 use Rattle.std.specs.Prelude.{ℕ}
 use Rattle.lock_modes.specs.declared.Mode.{Mode}
 use Rattle.lock_rules.specs.declared.calls.Reply.{Reply}
-use Rattle.lock_rules.specs.declared.calls.Reply.TheVariants.{Began, Granted, Waiting, Deadlock, Committed, Aborted, Refused}
+use Rattle.lock_rules.specs.declared.calls.Reply.TheVariants.{Began, Granted, Waiting, Deadlock, Committed, Aborted, Refused, Restarted}
 use Rattle.lock_programs.specs.declared.stop.Stop.{Stop}
 use Rattle.lock_programs.specs.declared.stop.Stop.TheVariants.{GoesOn, Waits, IsVictim, IsRefused}
 
@@ -11,10 +11,11 @@ abbrev pub began_after : ℕ → Reply → ℕ
 began_after n (Began m) = m
 began_after n _ = n
 
--- how many locks were released as a transaction ended
+-- how many locks were released as a transaction ended or restarted
 abbrev pub ended_after : ℕ → Reply → ℕ
 ended_after n (Committed m) = m
 ended_after n (Aborted m) = m
+ended_after n (Restarted m) = m
 ended_after n _ = n
 
 -- the mode granted
