@@ -130,6 +130,10 @@ read_value reply_kind.Aborted w v r word e =
     let (n, read, is) = bind_ok (number_in max_u32 v) (λ n. ok_reply (reply.Aborted n)) r e in
     let of = number_is max_u32 n v few_32 read in
     subst (AreReplyFields w v) (same_reply (reply.Aborted n) r is) (record { reply = below_32 n of.0; word = word; value = of.1 })
+read_value reply_kind.Restarted w v r word e =
+    let (n, read, is) = bind_ok (number_in max_u32 v) (λ n. ok_reply (reply.Restarted n)) r e in
+    let of = number_is max_u32 n v few_32 read in
+    subst (AreReplyFields w v) (same_reply (reply.Restarted n) r is) (record { reply = below_32 n of.0; word = word; value = of.1 })
 read_value reply_kind.Refused w v r word e =
     let (why, read, is) = bind_ok (why_in v) (λ why. ok_reply (reply.Refused why)) r e in
     subst (AreReplyFields w v) (same_reply (reply.Refused why) r is) (record { reply = tt; word = word; value = why_is v why read })
@@ -151,6 +155,7 @@ reply_back reply.Released is = refl
 reply_back reply.Withdrawn is = refl
 reply_back (reply.Committed n) is = rw (number_back max_u32 n few_32 (within_32 n is)) refl
 reply_back (reply.Aborted n) is = rw (number_back max_u32 n few_32 (within_32 n is)) refl
+reply_back (reply.Restarted n) is = rw (number_back max_u32 n few_32 (within_32 n is)) refl
 reply_back (reply.Refused w) is = rw (why_by_name w _ refl) refl
 
 -- Equal words and values make equal pairs of fields.

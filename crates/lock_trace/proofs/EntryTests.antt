@@ -62,6 +62,7 @@ form_agrees reply_kind.Committed v = made_agrees kind.Value (is_numeral max_u32 
 form_agrees reply_kind.Aborted v = made_agrees kind.Value (is_numeral max_u32 v) (number_in max_u32 v) (λ n. reply.Aborted n) (number_agrees max_u32 v)
 form_agrees reply_kind.Refused v = made_agrees kind.Value (is_why v) (why_in v) (λ w. reply.Refused w) (named_agrees name_of_why kind.Value REFUSALS v)
 form_agrees reply_kind.Withdrawn v = none_agrees reply.Withdrawn (length v == 0)
+form_agrees reply_kind.Restarted v = made_agrees kind.Value (is_numeral max_u32 v) (number_in max_u32 v) (λ n. reply.Restarted n) (number_agrees max_u32 v)
 
 -- `b || false` is `b`.
 or_false : (b : Bool) → (b || false) ≡ b
@@ -80,6 +81,7 @@ value_is reply_kind.Committed v = or_false (is_numeral max_u32 v)
 value_is reply_kind.Aborted v = or_false (is_numeral max_u32 v)
 value_is reply_kind.Refused v = or_false (is_why v)
 value_is reply_kind.Withdrawn v = or_false (length v == 0)
+value_is reply_kind.Restarted v = or_false (is_numeral max_u32 v)
 
 -- A reading that agrees with its only test has the fault of that test.
 one_test : {A : Type 0} (k : TraceKind) (b : Bool) (x : Result A TraceKind) → Agree k b x → fault_in x ≡ first_failing ((not b, k) ∷ [])

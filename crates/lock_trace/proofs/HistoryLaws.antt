@@ -41,6 +41,7 @@ reply_fits reply.Released is = tt
 reply_fits reply.Withdrawn is = tt
 reply_fits (reply.Committed n) is = omega (arith, is)
 reply_fits (reply.Aborted n) is = omega (arith, is)
+reply_fits (reply.Restarted n) is = omega (arith, is)
 reply_fits (reply.Refused w) is = tt
 
 -- Valid entries fit in 64 bits.

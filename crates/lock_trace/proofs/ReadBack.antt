@@ -95,6 +95,7 @@ reply_plain reply.Released fits = (refl, (refl, tt))
 reply_plain reply.Withdrawn fits = (refl, (refl, tt))
 reply_plain (reply.Committed n) fits = (refl, (decimal_plain n fits, tt))
 reply_plain (reply.Aborted n) fits = (refl, (decimal_plain n fits, tt))
+reply_plain (reply.Restarted n) fits = (refl, (decimal_plain n fits, tt))
 reply_plain (reply.Refused w) fits = (refl, (why_plain w, tt))
 
 -- The fields of a call need no quotes.
@@ -108,6 +109,7 @@ call_plain call.Commit fs has rest = (refl, (refl, (refl, rest)))
 call_plain call.Abort fs has rest = (refl, (refl, (refl, rest)))
 call_plain (call.Try r m) fs has rest = (refl, (resource_plain r has, (mode_plain m, rest)))
 call_plain call.Withdraw fs has rest = (refl, (refl, (refl, rest)))
+call_plain call.Restart fs has rest = (refl, (refl, (refl, rest)))
 
 -- The fields of an entry need no quotes.
 entry_plain : (place : ℕ) (e : Entry) → place < 18446744073709551616 → EntryFits e → ArePlain (fields_of_entry place e)

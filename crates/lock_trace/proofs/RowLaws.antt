@@ -97,6 +97,7 @@ read_call op.Poll r m c e = call_without_fields (word_of op.Poll) call.Poll r m 
 read_call op.Commit r m c e = call_without_fields (word_of op.Commit) call.Commit r m c tt refl e
 read_call op.Abort r m c e = call_without_fields (word_of op.Abort) call.Abort r m c tt refl e
 read_call op.Withdraw r m c e = call_without_fields (word_of op.Withdraw) call.Withdraw r m c tt refl e
+read_call op.Restart r m c e = call_without_fields (word_of op.Restart) call.Restart r m c tt refl e
 read_call op.Try r m c e =
     let (asked, read, is_ok) = bind_ok (resource_and_mode_in r m) (λ asked. ok_call (call.Try asked.0 asked.1)) c e in
     let is : call.Try asked.0 asked.1 ≡ c = cc in
@@ -166,6 +167,7 @@ fields_row n s call.Commit lt some le has = rw (session_back n s lt some le) ref
 fields_row n s call.Abort lt some le has = rw (session_back n s lt some le) refl
 fields_row n s (call.Try r m) lt some le has = rw (session_back n s lt some le, resource_back r has, mode_by_name m (name_of m) refl) refl
 fields_row n s call.Withdraw lt some le has = rw (session_back n s lt some le) refl
+fields_row n s call.Restart lt some le has = rw (session_back n s lt some le) refl
 
 -- The fields of a valid row are read as that row.
 pub row_back : (n : ℕ) (row : TraceRow) → n < 2 ^ 16 → IsRow n row → row_of n (fields_of_row row) ≡ Ok row

@@ -123,6 +123,7 @@ call_fault op.Commit r m = extra_fault (not (length r == 0) || not (length m == 
 call_fault op.Abort r m = extra_fault (not (length r == 0) || not (length m == 0)) call.Abort
 call_fault op.Try r m = fault_after (resource_and_mode_in r m) (λ asked. call.Try asked.0 asked.1) ∙ both_fault r m
 call_fault op.Withdraw r m = extra_fault (not (length r == 0) || not (length m == 0)) call.Withdraw
+call_fault op.Restart r m = extra_fault (not (length r == 0) || not (length m == 0)) call.Restart
 
 -- Whole rows.
 

@@ -23,6 +23,7 @@ IsReply (reply.Committed n) = n < 2 ^ 32
 IsReply (reply.Aborted n) = n < 2 ^ 32
 IsReply (reply.Refused w) = Unit {0}
 IsReply reply.Withdrawn = Unit {0}
+IsReply (reply.Restarted n) = n < 2 ^ 32
 
 -- The entry's session is between 1 and the number of sessions, its call names only valid resources, and its
 -- reply's numbers are in range.
@@ -58,6 +59,9 @@ value_in reply_kind.Refused v = do
   why ← why_in v
   Ok (reply.Refused why)
 value_in reply_kind.Withdrawn v = without_value reply.Withdrawn v
+value_in reply_kind.Restarted v = do
+  locks ← number_in max_u32 v
+  Ok (reply.Restarted locks)
 
 -- The reply of a reply field and a value field, or the first fault.
 abbrev pub reply_in : List ℕ → List ℕ → Result Reply TraceKind

@@ -23,6 +23,7 @@ value_field (reply.Committed n) = decimal n
 value_field (reply.Aborted n) = decimal n
 value_field (reply.Refused w) = name_of_why w
 value_field reply.Withdrawn = []
+value_field (reply.Restarted n) = decimal n
 
 -- The fields of a reply: its word and its value.
 abbrev pub fields_of_reply : Reply → List (List ℕ)
@@ -75,6 +76,7 @@ ReplyFits (reply.Committed n) = n < 2 ^ 64
 ReplyFits (reply.Aborted n) = n < 2 ^ 64
 ReplyFits (reply.Refused w) = Unit {0}
 ReplyFits reply.Withdrawn = Unit {0}
+ReplyFits (reply.Restarted n) = n < 2 ^ 64
 
 -- The numbers of an entry fit in 64 bits, and its call names only valid resources.
 pub record EntryFits (e : Entry) : Type 0 where

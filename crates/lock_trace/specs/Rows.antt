@@ -26,6 +26,7 @@ resource_field call.Commit = []
 resource_field call.Abort = []
 resource_field (call.Try r m) = text_of r
 resource_field call.Withdraw = []
+resource_field call.Restart = []
 
 -- The name of the mode that a call asks for, or the empty field.
 abbrev pub mode_field : Call → List ℕ
@@ -38,6 +39,7 @@ mode_field call.Commit = []
 mode_field call.Abort = []
 mode_field (call.Try r m) = name_of m
 mode_field call.Withdraw = []
+mode_field call.Restart = []
 
 -- The fields of a call: operation, resource and mode.
 abbrev pub fields_of_call : Call → List (List ℕ)
@@ -58,6 +60,7 @@ HasResources call.Commit = Unit {0}
 HasResources call.Abort = Unit {0}
 HasResources (call.Try r m) = IsResource r
 HasResources call.Withdraw = Unit {0}
+HasResources call.Restart = Unit {0}
 
 -- The row's session is between 1 and the number of sessions, and its call names only valid resources.
 pub record IsRow (sessions : ℕ) (row : TraceRow) : Type 0 where
@@ -105,6 +108,7 @@ call_in op.Try r m = do
   operands ← resource_and_mode_in r m
   Ok (call.Try operands.0 operands.1)
 call_in op.Withdraw r m = without_fields call.Withdraw r m
+call_in op.Restart r m = without_fields call.Restart r m
 
 -- The trace row of four fields, or the first fault.
 abbrev pub row_in : ℕ → List ℕ → List ℕ → List ℕ → List ℕ → Result TraceRow TraceKind

@@ -87,6 +87,7 @@ has_form_of reply_kind.Committed value = is_numeral max_u32 value
 has_form_of reply_kind.Aborted value = is_numeral max_u32 value
 has_form_of reply_kind.Refused value = is_why value
 has_form_of reply_kind.Withdrawn value = length value == 0
+has_form_of reply_kind.Restarted value = is_numeral max_u32 value
 
 -- The value field has the form that the reply with this word takes.
 abbrev pub is_value : List ℕ → List ℕ → Bool

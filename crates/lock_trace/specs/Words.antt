@@ -16,6 +16,7 @@ word_of op.Commit = codes "commit"
 word_of op.Abort = codes "abort"
 word_of op.Try = codes "try"
 word_of op.Withdraw = codes "withdraw"
+word_of op.Restart = codes "restart"
 
 -- The word of a kind of reply.
 abbrev pub word_of_reply : ReplyKind → List ℕ
@@ -29,3 +30,4 @@ word_of_reply reply_kind.Committed = codes "committed"
 word_of_reply reply_kind.Aborted = codes "aborted"
 word_of_reply reply_kind.Refused = codes "refused"
 word_of_reply reply_kind.Withdrawn = codes "withdrawn"
+word_of_reply reply_kind.Restarted = codes "restarted"

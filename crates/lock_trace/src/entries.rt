@@ -52,6 +52,10 @@ fn reply_of_kind(kind: ReplyKind, value: &[u8]) -> Result<Reply, TraceKind>
             Ok(Reply::Refused(why))
         }
         ReplyKind::Withdrawn => reply_without_value(Reply::Withdrawn, value),
+        ReplyKind::Restarted => {
+            let locks = count_of(value)?;
+            Ok(Reply::Restarted(locks))
+        }
     }
 }
 

@@ -25,6 +25,7 @@ pub(crate) fn op_token(call: &Call) -> (&'static [u8; 16], usize)
         Call::Abort => (b",abort,.........", 7),
         Call::Try(_, _) => (b",try,...........", 5),
         Call::Withdraw => (b",withdraw,......", 10),
+        Call::Restart => (b",restart,.......", 9),
     }
 }
 
@@ -62,5 +63,6 @@ pub(crate) fn reply_token(reply: &Reply) -> (&'static [u8; 16], usize)
         Reply::Aborted(_) => (b",aborted,.......", 9),
         Reply::Refused(_) => (b",refused,.......", 9),
         Reply::Withdrawn => (b",withdrawn,.....", 11),
+        Reply::Restarted(_) => (b",restarted,.....", 11),
     }
 }

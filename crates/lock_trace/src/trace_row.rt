@@ -72,6 +72,7 @@ fn call_of(op: Op, resource: &[u8], mode: &[u8]) -> Result<Call, TraceKind>
             Ok(Call::Try(resource, mode))
         }
         Op::Withdraw => call_without_fields(Call::Withdraw, resource, mode),
+        Op::Restart => call_without_fields(Call::Restart, resource, mode),
     }
 }
 

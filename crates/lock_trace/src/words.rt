@@ -19,6 +19,7 @@ pub(crate) fn op_word(op: Op) -> &'static str
         Op::Abort => "abort",
         Op::Try => "try",
         Op::Withdraw => "withdraw",
+        Op::Restart => "restart",
     }
 }
 
@@ -37,5 +38,6 @@ pub(crate) fn reply_word(kind: ReplyKind) -> &'static str
         ReplyKind::Aborted => "aborted",
         ReplyKind::Refused => "refused",
         ReplyKind::Withdrawn => "withdrawn",
+        ReplyKind::Restarted => "restarted",
     }
 }

@@ -59,7 +59,8 @@ fn put_resource_field(line: &mut [u8], at: usize, call: &Call) -> usize
         | Call::Convert(resource, _)
         | Call::Release(resource)
         | Call::Try(resource, _) => put_resource(line, at, resource),
-        Call::Begin | Call::Poll | Call::Commit | Call::Abort | Call::Withdraw => at,
+        Call::Begin | Call::Poll | Call::Commit | Call::Abort | Call::Withdraw | Call::Restart =>
+            at,
     }
 }
 
@@ -87,8 +88,13 @@ fn put_mode_field(line: &mut [u8], at: usize, call: &Call) -> usize
         Call::Lock(_, mode) | Call::Convert(_, mode) | Call::Try(_, mode) => put_mode(
             line, at, *mode,
         ),
-        Call::Begin | Call::Poll | Call::Release(_) | Call::Commit | Call::Abort | Call::Withdraw =>
-            at,
+        Call::Begin
+        | Call::Poll
+        | Call::Release(_)
+        | Call::Commit
+        | Call::Abort
+        | Call::Withdraw
+        | Call::Restart => at,
     }
 }
 
@@ -119,7 +125,11 @@ fn put_value(line: &mut [u8], at: usize, reply: &Reply) -> usize
     match reply {
         Reply::Granted(mode) => put_mode(line, at, *mode),
         Reply::Began(number) => put_number(line, at, *number),
-        Reply::Committed(locks) | Reply::Aborted(locks) => put_number(line, at, *locks as u64),
+        Reply::Committed(locks) | Reply::Aborted(locks) | Reply::Restarted(locks) => put_number(
+            line,
+            at,
+            *locks as u64,
+        ),
         Reply::Refused(why) => put_text(line, at, why.name().as_bytes()),
         Reply::Waiting | Reply::Deadlock | Reply::Clear | Reply::Released | Reply::Withdrawn => at,
     }
