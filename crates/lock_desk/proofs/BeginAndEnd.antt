@@ -1,4 +1,4 @@
--- A transaction begins, is doomed or ends, and a request is cancelled.
+-- A transaction begins, is doomed, ends or begins again, and a request is cancelled.
 use Rattle.std.proofs.Common.{◌≡◌, ℕ, zero, suc, ◌+◌, ◌<◌, ◌≤◌, Bool, true, false, cond, eqb, inl, inr, List, [], ◌∷◌, length, get_or, set, Option, Some, None, refl, sym, ◌∙◌, ap, arith, subst, vec_len}
 use Rattle.std.proofs.lemmas.Bool.{cases_Bool}
 use Rattle.lock_rules.proofs.Sound.{eqb-swap}
@@ -14,7 +14,7 @@ use Rattle.lock_desk.specs.declared.lock_table.LockTable.{LockTable}
 use Rattle.lock_desk.specs.inner.Cells.{View, has_session, view_after_giving_up, view_after_freeing, cell_view, has_path, AreKeptCells, CellsBecame}
 use Rattle.lock_desk.specs.inner.Requests.{wanted_in}
 use Rattle.lock_desk.specs.inner.Lockers.{Standing, standing_of, standings_of, standing_at, is_wanted, AreSameOrGranted, DoAgree}
-use Rattle.lock_desk.specs.inner.Changes.{view_at, standings, standing, view_after_unlock, view_after_cancel, IsWhole, DoesKeep, IsSameSeen, HasFreed, HasGivenBackAll, HasCancelled, HasDoomed, HasBegun, HasEnded}
+use Rattle.lock_desk.specs.inner.Changes.{view_at, standings, standing, view_after_unlock, view_after_cancel, IsWhole, DoesKeep, IsSameSeen, HasFreed, HasGivenBackAll, HasCancelled, HasDoomed, HasBegun, HasGivenUpAll}
 use Rattle.lock_desk.specs.inner.Blocking.{DoFollow}
 use Rattle.lock_desk.specs.inner.Ready.{IsReadyTable}
 use Rattle.lock_desk.proofs.LockerStandings.{IsPositionOf, standings-set, standing-here, length-standings}
@@ -112,21 +112,21 @@ nothing (r ∷ rs) h = absurd (omega arith)
 pub none-cancelled : (s : ℕ) (d : LockTable) → IsWhole d → (standing s d).wanted ≡ None → (q : List ℕ) → view_after_cancel s (view_at q d) ≡ view_at q d
 none-cancelled s d w idle q = ap (λ (b : Bool). cond b (view_after_freeing claim.Request s (view_at q d)) (view_at q d)) (idle-there s q d w idle)
 
--- once all is given back, the transaction has ended
-pub has-ended : (s : ℕ) (d f e : LockTable) → IsWhole d → (standing s d).wanted ≡ None → HasGivenBackAll s d f → length (standing s f).held ≡ 0 → e.count ≡ f.count → ((q : List ℕ) → view_at q e ≡ view_at q f)
-    → ((u : ℕ) → (standing u e).transaction ≡ cond (eqb u s) None (standing u f).transaction) → HasEnded s d e
-has-ended s d f e w idle g none count views transactions = record {
+-- once all locks are given back and the transaction is changed, the session has given up all
+pub has-given_up : (after : Option Transaction → Option Transaction) (s : ℕ) (d f e : LockTable) → IsWhole d → (standing s d).wanted ≡ None → HasGivenBackAll s d f → length (standing s f).held ≡ 0 → e.count ≡ f.count → ((q : List ℕ) → view_at q e ≡ view_at q f)
+    → ((u : ℕ) → (standing u e).transaction ≡ cond (eqb u s) (after (standing u f).transaction) (standing u f).transaction) → HasGivenUpAll after s d e
+has-given_up after s d f e w idle g none count views transactions = record {
   count = count ∙ g.count;
-  transactions = λ u. transactions u ∙ ap (λ (o : Option Transaction). cond (eqb u s) None o) (g.transactions u);
+  transactions = λ u. transactions u ∙ ap (λ (o : Option Transaction). cond (eqb u s) (after o) o) (g.transactions u);
   views = λ q. views q ∙ (g.views q ∙ (ap (λ (rs : List (List ℕ)). cond (has_path q rs) (view_at q d) (view_after_unlock s (view_at q d))) (nothing (standing s f).held none)
       ∙ sym (ap (view_after_unlock s) (none-cancelled s d w idle q))));
 }
 
 -- the request was cancelled before
-pub ended-after : (s : ℕ) (d f e : LockTable) → IsWhole f → HasCancelled s d f → HasEnded s f e → HasEnded s d e
-ended-after s d f e w c h = record {
+pub given_up-after : (after : Option Transaction → Option Transaction) (s : ℕ) (d f e : LockTable) → IsWhole f → HasCancelled s d f → HasGivenUpAll after s f e → HasGivenUpAll after s d e
+given_up-after after s d f e w c h = record {
   count = h.count ∙ c.count;
-  transactions = λ u. h.transactions u ∙ ap (λ (o : Option Transaction). cond (eqb u s) None o) (c.transactions u);
+  transactions = λ u. h.transactions u ∙ ap (λ (o : Option Transaction). cond (eqb u s) (after o) o) (c.transactions u);
   views = λ q. h.views q ∙ ap (view_after_unlock s) (none-cancelled s f w c.idle q ∙ c.views q);
 }
 
@@ -210,7 +210,15 @@ has-doomed s d f e c count views transactions = record {
     go u true e = ap doom (c.transactions s ∙ ap (λ (i : ℕ). (standing i d).transaction) (sym ((Decides-eqb u s).0 e)))
     go u false e = c.transactions u
 
--- whose transaction that is
-pub doomed-each : (f : LockTable) (s : ℕ) {i : ℕ} (locker : Locker) (o : Option Transaction) → IsPositionOf s i f.lockers.items → locker ≡ get_or f.lockers.items i locker → o ≡ doom locker.transaction
-    → (e : LockTable) → ((u : ℕ) → (standing u e).transaction ≡ cond (eqb u s) o (standing u f).transaction) → (u : ℕ) → (standing u e).transaction ≡ cond (eqb u s) (doom (standing s f).transaction) (standing u f).transaction
-doomed-each f s {i} locker o lt at is e h u = h u ∙ ap (λ (x : Option Transaction). cond (eqb u s) x (standing u f).transaction) (is ∙ ap (λ (x : Standing). doom x.transaction) (sym (standing-here f.lockers.items s locker lt at)))
+-- a transaction that its locker changes is that of the session's standing
+pub changed-each : (after : Option Transaction → Option Transaction) (f : LockTable) (s : ℕ) {i : ℕ} (locker : Locker) (o : Option Transaction) → IsPositionOf s i f.lockers.items → locker ≡ get_or f.lockers.items i locker → o ≡ after locker.transaction
+    → (e : LockTable) → ((u : ℕ) → (standing u e).transaction ≡ cond (eqb u s) o (standing u f).transaction) → (u : ℕ) → (standing u e).transaction ≡ cond (eqb u s) (after (standing s f).transaction) (standing u f).transaction
+changed-each after f s {i} locker o lt at is e h u = h u ∙ ap (λ (x : Option Transaction). cond (eqb u s) x (standing u f).transaction) (is ∙ ap (λ (x : Standing). after x.transaction) (sym (standing-here f.lockers.items s locker lt at)))
+
+-- the same, with the session named by the other number
+pub changed-there : (after : Option Transaction → Option Transaction) (f : LockTable) (s u : ℕ) → cond (eqb u s) (after (standing s f).transaction) (standing u f).transaction ≡ cond (eqb u s) (after (standing u f).transaction) (standing u f).transaction
+changed-there after f s u = go (eqb u s) refl
+  where
+    go : (b : Bool) → eqb u s ≡ b → cond b (after (standing s f).transaction) (standing u f).transaction ≡ cond b (after (standing u f).transaction) (standing u f).transaction
+    go true e = ap (λ (i : ℕ). after (standing i f).transaction) (sym ((Decides-eqb u s).0 e))
+    go false e = refl

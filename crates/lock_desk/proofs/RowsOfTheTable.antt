@@ -11,6 +11,7 @@ use Rattle.lock_tree.specs.Paths.{same_path}
 use Rattle.lock_rules.specs.declared.calls.Transaction.{Transaction}
 use Rattle.lock_rules.specs.State.{number_in}
 use Rattle.lock_rules.specs.Waits.{doom}
+use Rattle.lock_rules.specs.Step.{restarted}
 use Rattle.lock_rules.proofs.Lists.{same_path-refl, same_path-true, same_path_tells}
 use Rattle.lock_desk.specs.declared.lock_table.LockTable.{LockTable}
 use Rattle.lock_desk.specs.declared.waits.Waits.{Waits}
@@ -212,20 +213,26 @@ pub ready-numbered : (d e : LockTable) (s n : ℕ) (o : Option Transaction) → 
     → e.waits.rows ≡ d.waits.rows → vec_len e.waits.numbers ≡ vec_len d.waits.numbers → ((a : ℕ) → slice_index_or e.waits.numbers.items a 0 ≡ cond (eqb (a + 1) s) n (slice_index_or d.waits.numbers.items a 0)) → IsReadyTable d → IsReadyTable e
 ready-numbered d e s n o is w x views len sized transactions rows length numbers k = ready-transactions d e w x views len sized rows length (numbers-changed d e s n o is transactions numbers k) k
 
--- the graph stays current when a transaction is doomed, which keeps its number
-pub ready-doomed : (d e : LockTable) (s : ℕ) → IsWhole d → IsWhole e → ((q : List ℕ) → view_at q e ≡ view_at q d) → vec_len e.lockers ≡ vec_len d.lockers → length e.ended.places ≡ length d.ended.places → ((u : ℕ) → (standing u e).transaction ≡ cond (eqb u s) (doom (standing s d).transaction) (standing u d).transaction)
-    → e.waits ≡ d.waits → IsReadyTable d → IsReadyTable e
-ready-doomed d e s w x views len sized transactions waits k =
+-- the graph stays current when a transaction changes and keeps its number
+pub ready-changed : (after : Option Transaction → Option Transaction) → ((o : Option Transaction) → number_in o ≡ number_in (after o)) → (d e : LockTable) (s : ℕ) → IsWhole d → IsWhole e → ((q : List ℕ) → view_at q e ≡ view_at q d) → vec_len e.lockers ≡ vec_len d.lockers → length e.ended.places ≡ length d.ended.places
+    → ((u : ℕ) → (standing u e).transaction ≡ cond (eqb u s) (after (standing s d).transaction) (standing u d).transaction) → e.waits ≡ d.waits → IsReadyTable d → IsReadyTable e
+ready-changed after same d e s w x views len sized transactions waits k =
     ready-transactions d e w x views len sized (ap (λ (y : Waits). y.rows) waits) (ap (λ (y : Waits). vec_len y.numbers) waits)
     (λ a. ap (λ (y : Waits). slice_index_or y.numbers.items a 0) waits ∙ (k.filled.numbers a ∙ (go a (eqb (a + 1) s) refl ∙ sym (ap number_in (transactions (a + 1)))))) k
   where
-    same-number : (o : Option Transaction) → number_in o ≡ number_in (doom o)
-    same-number None = refl
-    same-number (Some t) = refl
-
-    go : (a : ℕ) (b : Bool) → eqb (a + 1) s ≡ b → number_in (standing (a + 1) d).transaction ≡ number_in (cond b (doom (standing s d).transaction) (standing (a + 1) d).transaction)
-    go a true e = ap (λ (i : ℕ). number_in (standing i d).transaction) ((Decides-eqb (a + 1) s).0 e) ∙ same-number (standing s d).transaction
+    go : (a : ℕ) (b : Bool) → eqb (a + 1) s ≡ b → number_in (standing (a + 1) d).transaction ≡ number_in (cond b (after (standing s d).transaction) (standing (a + 1) d).transaction)
+    go a true e = ap (λ (i : ℕ). number_in (standing i d).transaction) ((Decides-eqb (a + 1) s).0 e) ∙ same (standing s d).transaction
     go a false e = refl
+
+-- a doom keeps the number
+pub doom-number : (o : Option Transaction) → number_in o ≡ number_in (doom o)
+doom-number None = refl
+doom-number (Some t) = refl
+
+-- so does a restart
+pub restart-number : (o : Option Transaction) → number_in o ≡ number_in (restarted o)
+restart-number None = refl
+restart-number (Some t) = refl
 
 -- the graph of an empty table is current
 pub ready-new : (d : LockTable) → d.waits.rows.sessions ≡ vec_len d.lockers → length d.ended.places ≡ vec_len d.lockers → IsSizedFor d.waits.rows.sessions d.waits → ((a b : ℕ) → pairs_of d.waits.rows a b ≡ false) → ((a : ℕ) → slice_index_or d.waits.numbers.items a 0 ≡ 0) → ((s : ℕ) → standing s d ≡ no_standing) → IsReadyTable d

@@ -1,13 +1,14 @@
 -- A lock table that represents a state makes the tests of that state, and represents the next state after each call.
 use Rattle.std.proofs.Common.{◌≡◌, ℕ, ◌+◌, ◌<◌, Bool, true, false, cond, not, eqb, ◌&&◌, leb, inl, inr, List, [], ◌∷◌, ◌++◌, length, length-append, map, Option, Some, None, is_some, refl, sym, ◌∙◌, ap, arith, subst, Result, IfOk}
 use Rattle.std.proofs.lemmas.Bool.{not-false, cases_Bool}
+use Rattle.std.proofs.lemmas.Bool.Decides.{Decides-eqb}
 use Rattle.lock_modes.specs.declared.Mode.{Mode}
 use Rattle.lock_modes.specs.Order.{at_or_below, need_of}
 use Rattle.lock_tree.specs.Paths.{same_path, parent_of, has_parent}
 use Rattle.lock_rules.specs.State as rules
 use Rattle.lock_rules.specs.declared.calls.Call.{Call}
 use Rattle.lock_rules.specs.declared.calls.Transaction.{Transaction}
-use Rattle.lock_rules.specs.declared.calls.Call.TheVariants.{Begin, Lock, Convert, Poll, Release, Commit, Abort, Try, Withdraw}
+use Rattle.lock_rules.specs.declared.calls.Call.TheVariants.{Begin, Lock, Convert, Poll, Release, Commit, Abort, Try, Withdraw, Restart}
 use Rattle.lock_rules.specs.declared.calls.Why.{Why}
 use Rattle.lock_rules.specs.declared.calls.Why.TheVariants.{AlreadyOpen, NoTransaction, IsWaiting, IsDoomed, NothingAsked, NotHeld, ParentNotHeld, ChildHeld, TooManyLocks, WouldWait, NotWaiting}
 use Rattle.lock_rules.specs.declared.calls.Reply.{Reply}
@@ -16,7 +17,7 @@ use Rattle.lock_rules.specs.declared.calls.TheConstants.{MAX_LOCKS}
 use Rattle.lock_rules.specs.Queue.{after_grant, is_granted_at_once, with_request}
 use Rattle.lock_rules.specs.Waits.{after_victims, after_cancel}
 use Rattle.lock_rules.specs.Step as step
-use Rattle.lock_rules.specs.Step.{is_nothing, lacks_parent, holds_child, target_of, tests, first_failing, is_held, after_asking, after_wait, ask, after_end, act, outcome_of, step}
+use Rattle.lock_rules.specs.Step.{is_nothing, lacks_parent, holds_child, target_of, tests, first_failing, is_held, after_asking, after_wait, ask, after_end, restarted, act, outcome_of, step}
 use Rattle.lock_rules.specs.Sound.{IsNumbered, IsSound, Stands}
 use Rattle.lock_rules.proofs.Lists.{request_of-claims_but}
 use Rattle.lock_rules.proofs.Marks.{below-sup, sup-some}
@@ -28,7 +29,7 @@ use Rattle.lock_desk.specs.declared.cells.GivenUp.TheVariants as claim
 use Rattle.lock_desk.specs.declared.lock_table.LockTable.{LockTable}
 use Rattle.lock_desk.specs.inner.Cells.{View, has_session, mode_of, pair_of, view_after_freeing, can_grant, view_after_asking}
 use Rattle.lock_desk.specs.inner.Lockers.{Standing, standing_at}
-use Rattle.lock_desk.specs.inner.Changes.{view_at, standing, view_after_end, IsWhole, mode_held, lacks_need, lock_tests, convert_tests, release_tests, idle_tests, call_tests, IsSameSeen, MayAsk, HasAsked, CanRelease, HasFreed, HasBegun, HasEnded, would_wait, try_tests, HasCancelled, view_after_cancel}
+use Rattle.lock_desk.specs.inner.Changes.{view_at, standing, view_after_end, IsWhole, mode_held, lacks_need, lock_tests, convert_tests, release_tests, idle_tests, call_tests, IsSameSeen, MayAsk, HasAsked, CanRelease, HasFreed, HasBegun, HasGivenUpAll, HasEnded, HasRestarted, would_wait, try_tests, HasCancelled, view_after_cancel}
 use Rattle.lock_desk.specs.inner.Shows.{view, Shows, DoesAnswer}
 use Rattle.lock_desk.proofs.Agreement.{apart-at}
 use Rattle.lock_desk.proofs.Asking.{held-locker}
@@ -139,6 +140,7 @@ module _ (d : LockTable) (st : rules.State) (s : ℕ) (w : IsWhole d) (i : IsSou
   tests-shown Abort = ap (λ (b : Bool). (not b, NoTransaction) ∷ []) (open-shown d st s h)
   tests-shown (Try r m) = standing-shown _ _ (try-shown r m)
   tests-shown Withdraw = let a = open-shown d st s h in let b = waits-shown d st s w h in let k = doom-shown d st s h in λ j. (not (a j), NoTransaction) ∷ (k j, IsDoomed) ∷ (not (b j), NotWaiting) ∷ []
+  tests-shown Restart = ap (λ (b : Bool). (not b, NoTransaction) ∷ []) (open-shown d st s h)
 
 -- what a call may assume once its tests are passed
 
@@ -299,15 +301,27 @@ module _ (d e : LockTable) (st : rules.State) (s : ℕ) (r : List ℕ) (asks m :
         subst (λ (t : Mode). DoesAnswer (ask st s r t) last reply) (sym same-target)
         (told ∙ ((λ j. cond (a j) Deadlock (cond (b j) Waiting (Granted m))) ∙ ap reply-in (sym is)), subst (Shows last) (sym is) shows)
 
--- the end of a transaction
+-- the end of a transaction, and a restart
+
+-- after a session gives up all that it had, the lock table represents the state with its transaction changed
+given_up-shown : (after : Option Transaction → Option Transaction) (d e : LockTable) (st : rules.State) (s : ℕ) → IsSound st.table → HasGivenUpAll after s d e → Shows d st → Shows e (rules.with_begun s (after (st.begun s)) (rules.with_table (after_end s st.table) st))
+given_up-shown after d e st s i k h = record {
+  count = k.count ∙ h.count;
+  transactions = λ u. k.transactions u ∙ (ap (λ (o : Option Transaction). cond (eqb u s) (after o) o) (h.transactions u) ∙ named u (eqb u s) refl);
+  views = λ q. k.views q ∙ (ap (view_after_end s) (h.views q) ∙ sym (ended-seen s st.table i q));
+}
+  where
+    named : (u : ℕ) (b : Bool) → eqb u s ≡ b → cond b (after (st.begun u)) (st.begun u) ≡ cond b (after (st.begun s)) (st.begun u)
+    named u true e = ap (λ (w : ℕ). after (st.begun w)) ((Decides-eqb u s).0 e)
+    named u false e = refl
 
 -- after a commit or an abort, the lock table represents the next state
 pub ended-shown : (d e : LockTable) (st : rules.State) (s : ℕ) → IsSound st.table → HasEnded s d e → Shows d st → Shows e (rules.with_begun s None (rules.with_table (after_end s st.table) st))
-ended-shown d e st s i k h = record {
-  count = k.count ∙ h.count;
-  transactions = λ u. k.transactions u ∙ ap (λ (o : Option Transaction). cond (eqb u s) None o) (h.transactions u);
-  views = λ q. k.views q ∙ (ap (view_after_end s) (h.views q) ∙ sym (ended-seen s st.table i q));
-}
+ended-shown = given_up-shown (λ o. None)
+
+-- after a restart, the lock table represents the next state
+pub restarted-shown : (d e : LockTable) (st : rules.State) (s : ℕ) → IsSound st.table → HasRestarted s d e → Shows d st → Shows e (rules.with_begun s (restarted (st.begun s)) (rules.with_table (after_end s st.table) st))
+restarted-shown = given_up-shown restarted
 
 -- a withdrawal
 

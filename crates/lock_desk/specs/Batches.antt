@@ -6,7 +6,7 @@ use Rattle.sequential.specs.EndedWaits.{HasEndedIn}
 use Rattle.lock_rules.specs.declared.calls.Call.{Call}
 use Rattle.lock_rules.specs.declared.calls.Reply.{Reply}
 use Rattle.lock_rules.specs.Entries.{Entry}
-use Rattle.lock_rules.specs.declared.calls.Call.TheVariants.{Release, Commit, Abort, Withdraw}
+use Rattle.lock_rules.specs.declared.calls.Call.TheVariants.{Release, Commit, Abort, Withdraw, Restart}
 use Rattle.lock_rules.specs.State.{State}
 use Rattle.lock_rules.specs.Legal.{state_of}
 use Rattle.lock_rules.specs.Step.{step}
@@ -51,4 +51,5 @@ makes_room (Release resource) = true
 makes_room Commit = true
 makes_room Abort = true
 makes_room Withdraw = true
+makes_room Restart = true
 makes_room _ = false

@@ -267,8 +267,8 @@ impl Book {
     /// are this project's own choice. `session` is from 1 to `sessions()`. `ended` tells whose wait the call has ended.
     ///
     /// Fails with `NoMemory` only if memory is refused. Every growth comes before the first change, so the book is
-    /// unchanged then, and the same call may be made again. Begin, Poll, Release, Commit, Abort, Withdraw and refused calls
-    /// need memory for the history alone.
+    /// unchanged then, and the same call may be made again. Begin, Poll, Release, Commit, Abort, Withdraw, Restart and refused
+    /// calls need memory for the history alone.
     #[inline(always)]
     pub fn serve(&mut self, session: u16, call: Call) -> Result<Reply, NoMemory>
         requires some { 1 ≤ session }

@@ -1,5 +1,5 @@
 //! The lock table for one thread. Sessions begin transactions, lock, convert and release resources of a tree, poll,
-//! commit, abort and withdraw requests. A deadlock is resolved by dooming a victim. Every served call is recorded in a
+//! commit, abort, restart and withdraw requests. A deadlock is resolved by dooming a victim. Every served call is recorded in a
 //! history with its reply.
 //!
 //! Three layers, each of which uses only the contracts of the layers below:

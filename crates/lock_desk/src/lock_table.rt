@@ -19,6 +19,7 @@ mod grants;
 mod listing;
 mod refusals;
 mod requests;
+mod restarts;
 pub(crate) mod runs;
 
 use crate::cell_table::CellTable;

@@ -3,6 +3,7 @@
 ghost use Rattle.std.specs.Prelude.{◌≡◌, ℕ, ◌+◌, ◌<◌, ◌≤◌, false, true, None, Some, length, List, [], ◌∷◌, ◌++◌, is_some, OnOk, IfSome, IfNone};
 ghost use Rattle.lock_rules.specs.State.{number_in, doomed_in};
 ghost use Rattle.lock_rules.specs.Waits.{doom};
+ghost use Rattle.lock_rules.specs.Step.{restarted};
 ghost use Rattle.lock_rules.specs.declared.calls.TheConstants.{MAX_LOCKS};
 ghost use Rattle.lock_tree.specs.Paths.{same_path};
 ghost use Rattle.lock_desk.specs.inner.Cells.{has_path, AreApart, AreApart-prop};
@@ -95,6 +96,19 @@ fn doom(transaction: Option<Transaction>) -> Option<Transaction>
         Some(transaction) => Some(Transaction {
             number: transaction.number,
             doomed: true,
+        }),
+        None => None,
+    }
+}
+
+/// The same transaction begun again: with its number, and no deadlock victim.
+fn restarted(transaction: Option<Transaction>) -> Option<Transaction>
+    ensures { result ≡ restarted transaction }
+{
+    match transaction {
+        Some(transaction) => Some(Transaction {
+            number: transaction.number,
+            doomed: false,
         }),
         None => None,
     }
@@ -200,6 +214,13 @@ impl Locker {
         ensures { self.new ≡ record self.old { transaction = None } }
     {
         self.transaction = None;
+    }
+
+    /// Begins the transaction again, with its number: it is no deadlock victim any more.
+    pub(crate) fn restart(&mut self)
+        ensures { self.new ≡ record self.old { transaction = restarted self.old.transaction } }
+    {
+        self.transaction = restarted(self.transaction);
     }
 
     /// Marks the transaction as a deadlock victim.

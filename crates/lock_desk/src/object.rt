@@ -67,7 +67,7 @@ impl Serving for Book {
     fn goes_first(call: &Call) -> bool {
         matches!(
             call,
-            Call::Release(_) | Call::Commit | Call::Abort | Call::Withdraw
+            Call::Release(_) | Call::Commit | Call::Abort | Call::Withdraw | Call::Restart
         )
     }
 

@@ -5,12 +5,13 @@ use Rattle.lock_modes.specs.declared.Mode.{Mode}
 use Rattle.lock_modes.specs.Order.{at_or_below, need_of}
 use Rattle.lock_tree.specs.Paths.{same_path, parent_of, has_parent}
 use Rattle.lock_rules.specs.declared.calls.Call.{Call}
-use Rattle.lock_rules.specs.declared.calls.Call.TheVariants.{Begin, Lock, Convert, Poll, Release, Commit, Abort, Try, Withdraw}
+use Rattle.lock_rules.specs.declared.calls.Call.TheVariants.{Begin, Lock, Convert, Poll, Release, Commit, Abort, Try, Withdraw, Restart}
 use Rattle.lock_rules.specs.declared.calls.Why.{Why}
 use Rattle.lock_rules.specs.declared.calls.Why.TheVariants.{AlreadyOpen, NoTransaction, IsWaiting, IsDoomed, NothingAsked, NotHeld, ParentNotHeld, ChildHeld, TooManyLocks, WouldWait, NotWaiting}
 use Rattle.lock_rules.specs.declared.calls.TheConstants.{MAX_LOCKS}
 use Rattle.lock_rules.specs.State.{mode_or_nothing, doomed_in}
-use Rattle.lock_rules.specs.Step.{is_nothing, target_of, is_held}
+use Rattle.lock_rules.specs.declared.calls.Transaction.{Transaction}
+use Rattle.lock_rules.specs.Step.{is_nothing, target_of, is_held, restarted}
 use Rattle.lock_rules.specs.Waits.{doom}
 use Rattle.lock_desk.specs.declared.lock_table.LockTable.{LockTable}
 use Rattle.lock_desk.specs.declared.cells.GivenUp.{GivenUp}
@@ -111,6 +112,7 @@ standing_tests d s (Release r) = idle_tests d s
 standing_tests d s Commit = idle_tests d s
 standing_tests d s (Try r m) = idle_tests d s
 standing_tests d s Withdraw = open_tests d s ++ (doomed_in (standing s d).transaction, IsDoomed) ∷ (not (is_some (standing s d).wanted), NotWaiting) ∷ []
+standing_tests d s Restart = open_tests d s
 
 -- the tests of a call that look at its resource and its mode
 abbrev pub request_tests : LockTable → ℕ → Call → List (Bool × Why)
@@ -123,6 +125,7 @@ request_tests d s Commit = []
 request_tests d s Abort = []
 request_tests d s (Try r m) = try_tests d s r m
 request_tests d s Withdraw = []
+request_tests d s Restart = []
 
 -- all tests of a call
 abbrev pub call_tests : LockTable → ℕ → Call → List (Bool × Why)
@@ -233,8 +236,17 @@ pub record HasBegun (s : ℕ) (d e : LockTable) : Type 0 where
 abbrev pub view_after_end : ℕ → View → View
 view_after_end s v = view_after_unlock s (view_after_cancel s v)
 
--- the transaction of session `s` has ended: its request is removed, and all its locks are released
-pub record HasEnded (s : ℕ) (d e : LockTable) : Type 0 where
+-- session `s` has given up all that it had: its request is removed, and all its locks are released; its transaction is what
+-- `after` makes of it
+pub record HasGivenUpAll (after : Option Transaction → Option Transaction) (s : ℕ) (d e : LockTable) : Type 0 where
   pub count : e.count ≡ d.count
-  pub transactions : (u : ℕ) → (standing u e).transaction ≡ (if u == s then None else (standing u d).transaction)
+  pub transactions : (u : ℕ) → (standing u e).transaction ≡ (if u == s then after (standing u d).transaction else (standing u d).transaction)
   pub views : (q : List ℕ) → view_at q e ≡ view_after_end s (view_at q d)
+
+-- the transaction of session `s` has ended
+abbrev pub HasEnded : ℕ → LockTable → LockTable → Type 0
+HasEnded s d e = HasGivenUpAll (λ o. None) s d e
+
+-- the transaction of session `s` has begun again, with its number
+abbrev pub HasRestarted : ℕ → LockTable → LockTable → Type 0
+HasRestarted s d e = HasGivenUpAll restarted s d e

@@ -7,7 +7,7 @@ use Rattle.lock_modes.specs.Compatibility.{are_compatible}
 use Rattle.lock_modes.specs.Codes.{code_of, mask_of}
 use Rattle.lock_tree.specs.Paths.{parent_of, has_parent}
 use Rattle.lock_rules.specs.declared.calls.Call.{Call}
-use Rattle.lock_rules.specs.declared.calls.Call.TheVariants.{Begin, Lock, Convert, Poll, Release, Commit, Abort, Try, Withdraw}
+use Rattle.lock_rules.specs.declared.calls.Call.TheVariants.{Begin, Lock, Convert, Poll, Release, Commit, Abort, Try, Withdraw, Restart}
 use Rattle.lock_rules.specs.Entries.{Entry}
 use Rattle.lock_rules.specs.Step.{first_failing}
 use Rattle.lock_rules.specs.Legal.{state_of, IsLegal}
@@ -47,6 +47,7 @@ mode_asked Commit = NL
 mode_asked Abort = NL
 mode_asked (Try r m) = m
 mode_asked Withdraw = NL
+mode_asked Restart = NL
 
 -- the session of an item with the mode that it requests
 abbrev pub asker_of : Item → SessionMode

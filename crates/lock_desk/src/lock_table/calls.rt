@@ -2,7 +2,7 @@
 //! test fails.
 
 ghost use Rattle.std.specs.Prelude.{◌≡◌, ◌+◌, ◌<◌, ◌≤◌, IfOk, OnErr, vec_len};
-ghost use Rattle.lock_rules.specs.declared.calls.Call.TheVariants.{Begin, Lock, Convert, Poll, Release, Commit, Abort, Try, Withdraw};
+ghost use Rattle.lock_rules.specs.declared.calls.Call.TheVariants.{Begin, Lock, Convert, Poll, Release, Commit, Abort, Try, Withdraw, Restart};
 ghost use Rattle.lock_rules.specs.State.{State};
 ghost use Rattle.lock_rules.specs.Step.{step};
 ghost use Rattle.lock_rules.specs.Sound.{IsNumbered, IsSound};
@@ -267,6 +267,24 @@ impl LockTable {
         Reply::Aborted(self.abort(session) as u32)
     }
 
+    /// Restarts the transaction, and replies how many locks it held.
+    fn serve_restart(&mut self, session: u16) -> Reply
+        requires some { 1 ≤ session }
+        requires within { session ≤ vec_len self.old.lockers }
+        requires whole { IsWhole self.old }
+        requires ready { IsReadyTable self.old }
+        ensures step { (st : State) → IsSound st.table → IsNumbered st → Shows self.old st
+            → DoesAnswer (step st session Restart) self.new result }
+        ensures waits_ended { HasNotedEnded session self.old self.new }
+        ensures count { self.new.count ≤ self.old.count + 1 }
+        ensures kept { DoesKeep self.old self.new }
+    {
+        if let Some(why) = self.open_refusal(session) {
+            return Reply::Refused(why);
+        }
+        Reply::Restarted(self.restart(session) as u32)
+    }
+
     /// Serves one call of `session`. If memory is refused, nothing that contracts see changes.
     pub(crate) fn serve(&mut self, session: u16, call: Call) -> Result<Reply, AllocError>
         requires some { 1 ≤ session }
@@ -294,6 +312,7 @@ impl LockTable {
             Call::Abort => Ok(self.serve_abort(session)),
             Call::Try(resource, mode) => self.serve_try(session, resource, mode),
             Call::Withdraw => Ok(self.serve_withdraw(session)),
+            Call::Restart => Ok(self.serve_restart(session)),
         }
     }
 }

@@ -1,10 +1,11 @@
+use Rattle.std.proofs.Common.{None}
 use Rattle.lock_desk.proofs.Agreement.{keeps-on}
-use Rattle.lock_desk.proofs.BeginAndEnd.{ended-after}
+use Rattle.lock_desk.proofs.BeginAndEnd.{given_up-after}
 use Rattle.lock_desk.proofs.EndedWaits.{waits_ended-on}
 use Rattle.lock_desk.proofs.lock_table.LockTable.abort.Goals as goal
 
 pub returns-clause-ended : goal.returns-clause-ended
-returns-clause-ended c = ended-after c.args.session c.args.self.now c.cancel.new.self c.end.new.self c.cancel.ensures.kept.whole c.cancel.ensures.cancelled c.end.ensures.ended
+returns-clause-ended c = given_up-after (λ o. None) c.args.session c.args.self.now c.cancel.new.self c.end.new.self c.cancel.ensures.kept.whole c.cancel.ensures.cancelled c.end.ensures.ended
 
 pub returns-clause-kept : goal.returns-clause-kept
 returns-clause-kept c = keeps-on c.cancel.ensures.kept c.end.ensures.kept

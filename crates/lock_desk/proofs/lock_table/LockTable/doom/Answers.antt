@@ -5,8 +5,8 @@ use Rattle.lock_desk.specs.declared.lock_table.LockTable.{LockTable}
 use Rattle.lock_rules.specs.Waits.{doom}
 use Rattle.lock_desk.specs.inner.Lockers.{standing_of}
 use Rattle.lock_desk.proofs.Asking.{within}
-use Rattle.lock_desk.proofs.BeginAndEnd.{told-whole, transaction-each, has-doomed, doomed-each}
-use Rattle.lock_desk.proofs.RowsOfTheTable.{ready-doomed}
+use Rattle.lock_desk.proofs.BeginAndEnd.{told-whole, transaction-each, has-doomed, changed-each}
+use Rattle.lock_desk.proofs.RowsOfTheTable.{ready-changed, doom-number}
 use Rattle.lock_desk.proofs.EndedWaits.{list-on, list-wanted}
 use Rattle.lock_desk.proofs.lock_table.LockTable.doom.Goals as goal
 
@@ -21,7 +21,7 @@ returns-clause-doomed c =
     let lt = within f s c.position_of.ensures c.requires.some (omega (arith, c.requires.within, c.end_wait.ensures.kept.lockers)) in
     let at = c.index_mut-locker.ensures.value in
     has-doomed s c.args.self.now f e c.end_wait.ensures.cancelled refl (λ q. refl)
-    (doomed-each f s locker (doom locker.transaction) lt at refl e (transaction-each f s (doom locker.transaction) locker new e c.end_wait.ensures.kept.whole lt at (ap standing_of is) (ap (λ (x : Locker). x.held) is) (ap (λ (x : Locker). x.wanted) is) refl refl))
+    (changed-each doom f s locker (doom locker.transaction) lt at refl e (transaction-each f s (doom locker.transaction) locker new e c.end_wait.ensures.kept.whole lt at (ap standing_of is) (ap (λ (x : Locker). x.held) is) (ap (λ (x : Locker). x.wanted) is) refl refl))
 
 pub returns-clause-kept : goal.returns-clause-kept
 returns-clause-kept c =
@@ -38,8 +38,8 @@ returns-clause-kept c =
     record {
       whole = whole;
       lockers = search rules;
-      ready = ready-doomed f e s kept.whole whole (λ q. refl) (search rules) refl
-          (doomed-each f s locker (doom locker.transaction) lt at refl e (transaction-each f s (doom locker.transaction) locker new e kept.whole lt at (ap standing_of is) (ap (λ (x : Locker). x.held) is) (ap (λ (x : Locker). x.wanted) is) refl refl)) refl kept.ready;
+      ready = ready-changed doom doom-number f e s kept.whole whole (λ q. refl) (search rules) refl
+          (changed-each doom f s locker (doom locker.transaction) lt at refl e (transaction-each f s (doom locker.transaction) locker new e kept.whole lt at (ap standing_of is) (ap (λ (x : Locker). x.held) is) (ap (λ (x : Locker). x.wanted) is) refl refl)) refl kept.ready;
     }
 
 pub returns-clause-waits_ended : goal.returns-clause-waits_ended

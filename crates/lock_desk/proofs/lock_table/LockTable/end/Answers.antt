@@ -4,7 +4,7 @@ use Rattle.lock_desk.specs.declared.lockers.Locker.{Locker}
 use Rattle.lock_desk.specs.declared.lock_table.LockTable.{LockTable}
 use Rattle.lock_desk.specs.inner.Lockers.{standing_of}
 use Rattle.lock_desk.proofs.Asking.{within}
-use Rattle.lock_desk.proofs.BeginAndEnd.{few-at, told-whole, transaction-each, has-ended}
+use Rattle.lock_desk.proofs.BeginAndEnd.{few-at, told-whole, transaction-each, has-given_up}
 use Rattle.lock_desk.proofs.RowsOfTheTable.{ready-numbered}
 use Rattle.lock_desk.proofs.EndedWaits.{list-on, list-own}
 use Rattle.lock_desk.proofs.lock_table.LockTable.end.Goals as goal
@@ -23,7 +23,7 @@ returns-clause-ended c =
     let lt = within f s c.position_of.ensures c.requires.some (omega (arith, c.requires.within, c.give_back_all-locks.ensures.kept.lockers)) in
     let at = c.index_mut-locker.ensures.value in
     let w = c.give_back_all-locks.ensures.kept.whole in
-    has-ended s c.args.self.now f e c.requires.whole c.requires.idle c.give_back_all-locks.ensures.back c.give_back_all-locks.ensures.none refl (λ q. refl)
+    has-given_up (λ o. None) s c.args.self.now f e c.requires.whole c.requires.idle c.give_back_all-locks.ensures.back c.give_back_all-locks.ensures.none refl (λ q. refl)
     (transaction-each f s None locker new e w lt at (ap standing_of is) (ap (λ (x : Locker). x.held) is) (ap (λ (x : Locker). x.wanted) is) refl refl)
 
 pub returns-clause-kept : goal.returns-clause-kept
