@@ -16,12 +16,12 @@ use Rattle.lock_board.specs.HoldsAsTold.{AsksFor, KeepsLock, KeptLock, ToldOfGra
 use Rattle.lock_board.proofs.Telling.{not-waiting}
 
 asking-keeps : (c : Call) (r x : List ℕ) (m : Mode) → AsksFor c r m → KeepsLock x c
-asking-keeps c r x m (inl e) = ((λ f. cc (e, f)), (λ f. cc (e, f)), (λ f. cc (e, f)))
-asking-keeps c r x m (inr (inl e)) = ((λ f. cc (e, f)), (λ f. cc (e, f)), (λ f. cc (e, f)))
-asking-keeps c r x m (inr (inr e)) = ((λ f. cc (e, f)), (λ f. cc (e, f)), (λ f. cc (e, f)))
+asking-keeps c r x m (inl e) = ((λ f. cc (e, f)), (λ f. cc (e, f)), (λ f. cc (e, f)), (λ f. cc (e, f)))
+asking-keeps c r x m (inr (inl e)) = ((λ f. cc (e, f)), (λ f. cc (e, f)), (λ f. cc (e, f)), (λ f. cc (e, f)))
+asking-keeps c r x m (inr (inr e)) = ((λ f. cc (e, f)), (λ f. cc (e, f)), (λ f. cc (e, f)), (λ f. cc (e, f)))
 
 polling-keeps : (c : Call) (x : List ℕ) → c ≡ Poll → KeepsLock x c
-polling-keeps c x e = ((λ f. cc (e, f)), (λ f. cc (e, f)), (λ f. cc (e, f)))
+polling-keeps c x e = ((λ f. cc (e, f)), (λ f. cc (e, f)), (λ f. cc (e, f)), (λ f. cc (e, f)))
 
 nothing-pending : (r : List ℕ) (p : Pending) → None ≡ Some p → KeepsLock r p.call
 nothing-pending r p e = absurd (cc e)

@@ -2,7 +2,7 @@
 use Rattle.std.proofs.Common.{◌≡◌, ◌≢◌, inl, inr, ℕ, Bool, true, false, not, cond, List, [], ◌∷◌, refl}
 use Rattle.lock_modes.specs.declared.Mode.{Mode}
 use Rattle.lock_rules.specs.declared.calls.Call.{Call}
-use Rattle.lock_rules.specs.declared.calls.Call.TheVariants.{Begin, Lock, Convert, Poll, Release, Commit, Abort, Try, Withdraw}
+use Rattle.lock_rules.specs.declared.calls.Call.TheVariants.{Begin, Lock, Convert, Poll, Release, Commit, Abort, Try, Withdraw, Restart}
 use Rattle.lock_rules.specs.declared.calls.Reply.TheVariants.{Granted, Waiting, Deadlock, Clear}
 use Rattle.lock_rules.specs.declared.calls.Why.{Why}
 use Rattle.lock_rules.specs.declared.calls.Why.TheVariants.{AlreadyOpen, NoTransaction, IsWaiting, IsDoomed, NothingAsked, NotHeld, ParentNotHeld, ChildHeld, TooManyLocks, WouldWait, NotWaiting}
@@ -30,7 +30,7 @@ passed st s c true true doomed rest t = absurd (t.2 refl)
 passed st s c true false true rest t = absurd (t.3 refl)
 passed st s c true false false rest t = (refl, refl, refl)
 
--- A begin and an abort tell of no grant.
+-- A begin, an abort and a restart tell of no grant.
 begin-tells-nothing : (st : State) (s : ℕ) (opened : Bool) → TellsOfGrant Begin (outcome_of (first_failing ((opened, AlreadyOpen) ∷ [])) st s Begin).reply → ⊥
 begin-tells-nothing st s false t = t
 begin-tells-nothing st s true t = t.0 refl
@@ -38,6 +38,10 @@ begin-tells-nothing st s true t = t.0 refl
 abort-tells-nothing : (st : State) (s : ℕ) (opened : Bool) → TellsOfGrant Abort (outcome_of (first_failing ((not opened, NoTransaction) ∷ [])) st s Abort).reply → ⊥
 abort-tells-nothing st s false t = t.1 refl
 abort-tells-nothing st s true t = t
+
+restart-tells-nothing : (st : State) (s : ℕ) (opened : Bool) → TellsOfGrant Restart (outcome_of (first_failing ((not opened, NoTransaction) ∷ [])) st s Restart).reply → ⊥
+restart-tells-nothing st s false t = t.1 refl
+restart-tells-nothing st s true t = t
 
 -- A poll is no request.
 polls-ask-nothing : (r : List ℕ) (m : Mode) → AsksFor Poll r m → ⊥
@@ -73,6 +77,7 @@ tells-free st s Commit t = passed st s Commit (is_open st s) (is_waiting st s) (
 tells-free st s Abort t = absurd (abort-tells-nothing st s (is_open st s) t)
 tells-free st s (Try r m) t = passed st s (Try r m) (is_open st s) (is_waiting st s) (is_doomed st s) (tail (tail (tail (tests st s (Try r m))))) t
 tells-free st s Withdraw t = withdrawal-tells st s (is_open st s) (is_doomed st s) (is_waiting st s) t
+tells-free st s Restart t = absurd (restart-tells-nothing st s (is_open st s) t)
 
 -- If the reply tells of a grant, the session may go on.
 pub goes-on : (st : State) (s : ℕ) (c : Call) → TellsOfGrant c (step st s c).reply → MayGoOn st s
@@ -82,7 +87,7 @@ goes-on st s c t = let f = tells-free st s c t in record {
   not_doomed = λ d. let e = (doomed-decides st s).1 d in let g = f.2 in absurd (cc (e, g));
 }
 
--- Conversely: a session that may go on gets such an answer to each call but a begin and an abort.
+-- Conversely: a session that may go on gets such an answer to each call but a begin, an abort and a restart.
 
 -- No waiting session and no victim gets one of these refusals.
 
@@ -151,44 +156,45 @@ withdrawal-free st s true true doomed f = absurd (let e = f.1 in cc e)
 withdrawal-free st s true false true f = absurd (let e = f.2 in cc e)
 withdrawal-free st s true false false f = not-waiting
 
-free-tells : (st : State) (s : ℕ) (c : Call) → c ≢ Begin → c ≢ Abort → IsFree (is_open st s) (is_waiting st s) (is_doomed st s) → TellsOfGrant c (step st s c).reply
-free-tells st s Begin b a f = absurd (b refl)
-free-tells st s (Lock r m) b a f =
+free-tells : (st : State) (s : ℕ) (c : Call) → c ≢ Begin → c ≢ Abort → c ≢ Restart → IsFree (is_open st s) (is_waiting st s) (is_doomed st s) → TellsOfGrant c (step st s c).reply
+free-tells st s Begin b a g f = absurd (b refl)
+free-tells st s (Lock r m) b a g f =
     let k : Mode = target_of (held_mode st.table s r) m in
     let after = after_asking st s r k in
     let rest : List Test = tail (tail (tail (tests st s (Lock r m)))) in
     pass st s (Lock r m) (is_open st s) (is_waiting st s) (is_doomed st s) rest f
     (later st s (Lock r m) rest (nothing-asked, (parent-not-held, (too-many-locks, tt)))
     (answered-request (Lock r m) r m k (is_doomed after s) (is_waiting after s) (inl refl)))
-free-tells st s (Convert r m) b a f =
+free-tells st s (Convert r m) b a g f =
     let k : Mode = target_of (held_mode st.table s r) m in
     let after = after_asking st s r k in
     let rest : List Test = tail (tail (tail (tests st s (Convert r m)))) in
     pass st s (Convert r m) (is_open st s) (is_waiting st s) (is_doomed st s) rest f
     (later st s (Convert r m) rest (nothing-asked, (not-held, (parent-not-held, tt)))
     (answered-request (Convert r m) r m k (is_doomed after s) (is_waiting after s) (inr (inl refl))))
-free-tells st s Poll b a f = poll-free st s (is_open st s) f
-free-tells st s (Release r) b a f =
+free-tells st s Poll b a g f = poll-free st s (is_open st s) f
+free-tells st s (Release r) b a g f =
     let rest : List Test = tail (tail (tail (tests st s (Release r)))) in
     pass st s (Release r) (is_open st s) (is_waiting st s) (is_doomed st s) rest f
     (later st s (Release r) rest (not-held, (child-held, tt)) tt)
-free-tells st s Commit b a f = pass st s Commit (is_open st s) (is_waiting st s) (is_doomed st s) [] f tt
-free-tells st s Abort b a f = absurd (a refl)
-free-tells st s (Try r m) b a f =
+free-tells st s Commit b a g f = pass st s Commit (is_open st s) (is_waiting st s) (is_doomed st s) [] f tt
+free-tells st s Abort b a g f = absurd (a refl)
+free-tells st s (Try r m) b a g f =
     let k : Mode = target_of (held_mode st.table s r) m in
     let after = after_asking st s r k in
     let rest : List Test = tail (tail (tail (tests st s (Try r m)))) in
     pass st s (Try r m) (is_open st s) (is_waiting st s) (is_doomed st s) rest f
     (later st s (Try r m) rest (nothing-asked, (parent-not-held, (too-many-locks, (would-wait, tt))))
     (answered-request (Try r m) r m k (is_doomed after s) (is_waiting after s) (inr (inr refl))))
-free-tells st s Withdraw b a f = withdrawal-free st s (is_open st s) (is_waiting st s) (is_doomed st s) f
+free-tells st s Withdraw b a g f = withdrawal-free st s (is_open st s) (is_waiting st s) (is_doomed st s) f
+free-tells st s Restart b a g f = absurd (g refl)
 
 -- A test of what doesn't hold is false.
 off : {P : Type 0} (b : Bool) → (b ≡ true → P) → (P → ⊥) → b ≡ false
 off true holds not-so = absurd (not-so (holds refl))
 off false holds not-so = refl
 
-pub always-told : (st : State) (s : ℕ) (c : Call) → c ≢ Begin → c ≢ Abort → MayGoOn st s → TellsOfGrant c (step st s c).reply
-always-told st s c b a f =
-    free-tells st s c b a
+pub always-told : (st : State) (s : ℕ) (c : Call) → c ≢ Begin → c ≢ Abort → c ≢ Restart → MayGoOn st s → TellsOfGrant c (step st s c).reply
+always-told st s c b a g f =
+    free-tells st s c b a g
     ((open-decides st s).1 f.has_transaction, off (is_waiting st s) (waiting-decides st s).0 f.not_waiting, off (is_doomed st s) (doomed-decides st s).0 f.not_doomed)

@@ -9,7 +9,7 @@ use Rattle.lock_modes.specs.declared.Mode.{Mode}
 use Rattle.lock_modes.specs.Order.{IsAtOrBelow, same}
 use Rattle.lock_modes.proofs.Order.{order-from, order-tests, at_or_below-trans}
 use Rattle.lock_rules.specs.declared.calls.Call.{Call}
-use Rattle.lock_rules.specs.declared.calls.Call.TheVariants.{Lock, Convert, Try, Abort, Withdraw}
+use Rattle.lock_rules.specs.declared.calls.Call.TheVariants.{Lock, Convert, Try, Abort, Withdraw, Restart}
 use Rattle.lock_rules.specs.declared.calls.Reply.{Reply}
 use Rattle.lock_rules.specs.declared.calls.Reply.TheVariants.{Granted, Waiting, Refused, Withdrawn}
 use Rattle.lock_rules.specs.declared.calls.Why.{Why}
@@ -19,7 +19,7 @@ use Rattle.lock_rules.specs.Queue.{with_request}
 use Rattle.lock_rules.specs.Step.{Outcome, tests, first_failing, outcome_of, step}
 use Rattle.lock_rules.specs.Legal.{IsLegal, state_of}
 use Rattle.sequential.specs.Histories.{calls_from, calls_of}
-use Rattle.lock_rules.specs.Laws.{DoesRefusalKeep, DoesKeepLock, HoldsAtLeast, HasDoomedTransaction, IsNoAbort}
+use Rattle.lock_rules.specs.Laws.{DoesRefusalKeep, DoesKeepLock, HoldsAtLeast, HasTransaction, HasDoomedTransaction, DoesKeepDoom}
 use Rattle.lock_rules.specs.Effects.{request, IsTarget, IsAnswerTo, IsReplyAfterWait, DoVictimsKeepTheirLocks}
 use Rattle.lock_rules.proofs.Histories.{legal-steps, legal-front, state_of-push}
 use Rattle.lock_rules.proofs.Grants.{grant-stands}
@@ -242,7 +242,7 @@ module _ (refuses : (st : State) → DoesRefusalKeep st) (s : ℕ) (r : List ℕ
           let p = all-pass (tests (state_of front) s (Convert r m)) (passes (state_of front) s (Convert r m) open_question) in
           record { mode = a.0; least = at_least m a.0 (held_mode (state_of front).table s r) a.1; request_is = request-there (state_of front) a.0 (step (state_of front) s (Convert r m)) p.1.0 l.victims_keep_their_locks a.2 waits }
 
-  -- A deadlock victim stays doomed until it aborts.
+  -- A deadlock victim stays doomed until it aborts or restarts.
   doomed-on : (rest front : List Entry) → IsLegal (front ++ rest) → EachKept s r rest → HasDoomedTransaction (state_of front) s → HasDoomedTransaction (state_of (front ++ rest)) s
   doomed-on [] front legal kept d = subst (λ (h : List Entry). HasDoomedTransaction (state_of h) s) (sym (append-nil front)) d
   doomed-on (x ∷ xs) front legal kept d =
@@ -250,13 +250,13 @@ module _ (refuses : (st : State) → DoesRefusalKeep st) (s : ℕ) (r : List ℕ
       subst (λ (h : List Entry). HasDoomedTransaction (state_of h) s) one
       (doomed-on xs (front ++ x ∷ []) (subst IsLegal (sym one) legal) kept.1 (next (legal-steps (front ++ x ∷ xs) legal front xs x refl)))
     where
-      goes : (x.session ≡ s → x.call ≢ Abort) → HasDoomedTransaction (state_of (front ++ x ∷ [])) s
-      goes n = (d.0, doom-stands front (x ∷ []) s d.0 d.1 d.2 (All-cons (IsNoAbort s) x [] n (All-nil (IsNoAbort s))), d.2)
+      goes : (x.session ≡ s → (x.call ≢ Abort) × (x.call ≢ Restart)) → HasDoomedTransaction (state_of (front ++ x ∷ [])) s
+      goes n = (d.0, doom-stands front (x ∷ []) s d.0 d.1 d.2 (All-cons (DoesKeepDoom s) x [] n (All-nil (DoesKeepDoom s))), d.2)
 
       next : x.reply ≡ (step (state_of front) x.session x.call).reply → HasDoomedTransaction (state_of (front ++ x ∷ [])) s
       next told = dite (ℕ_discrete x.session s)
           (λ mine. elim (kept.0 mine) [
-            | inl k ↦ goes (λ _. k.1)
+            | inl k ↦ goes (λ _. (k.1, k.2))
             | inr w ↦ subst (λ (st : State). HasDoomedTransaction st s) (refused front x w.0 told w.1) d
           ])
           (λ other. goes (λ mine. absurd (other mine)))
@@ -270,15 +270,15 @@ module _ (refuses : (st : State) → DoesRefusalKeep st) (s : ℕ) (r : List ℕ
       let free = goes-on (state_of front) s p.call (subst (TellsOfGrant p.call) (told ∙ mine) tells) in
       ((λ q f. free.not_waiting (q, f)), free.not_doomed)
 
-  -- A session that waits, and whose calls keep the lock, makes no abort.
-  no-abort : (front : List Entry) (q : Claim) (x : Entry) → x.reply ≡ (step (state_of front) x.session x.call).reply → request_of s (state_of front).table.requests ≡ Some q
-      → KeepsIt r x.call x.reply → x.session ≡ s → x.call ≡ Abort → ⊥
-  no-abort front q x told w (inl k) mine aborts = k.1 aborts
-  no-abort front q x told w (inr why) mine aborts =
-      let l = lawful front in
-      let here : (step (state_of front) s Abort).reply ≡ Refused why.0
-      = ap (λ (n : ℕ). (step (state_of front) n Abort).reply) (sym mine) ∙ (ap (λ (c : Call). (step (state_of front) x.session c).reply) (sym aborts) ∙ (sym told ∙ why.1)) in
-      ((l.abort_needs_transaction s why.0).0 here).1 ((open-decides (state_of front) s).0 (l.owners_open s (inr (q, w))))
+  -- A session that waits, and whose calls keep the lock, makes no call that gives the lock back and is refused only without a
+  -- transaction.
+  no-end : (c : Call) (front : List Entry) (q : Claim) (x : Entry) → (KeepsLock r c → ⊥) → ((why : Why) → (step (state_of front) s c).reply ≡ Refused why → HasTransaction (state_of front) s → ⊥)
+      → x.reply ≡ (step (state_of front) x.session x.call).reply → request_of s (state_of front).table.requests ≡ Some q → KeepsIt r x.call x.reply → x.session ≡ s → x.call ≡ c → ⊥
+  no-end c front q x gives needs told w (inl k) mine is = gives (subst (KeepsLock r) is k)
+  no-end c front q x gives needs told w (inr why) mine is =
+      let here : (step (state_of front) s c).reply ≡ Refused why.0
+      = ap (λ (n : ℕ). (step (state_of front) n c).reply) (sym mine) ∙ (ap (λ (y : Call). (step (state_of front) x.session y).reply) (sym is) ∙ (sym told ∙ why.1)) in
+      needs why.0 here ((open-decides (state_of front) s).0 ((lawful front).owners_open s (inr (q, w))))
 
   -- If the session waits after the front, its request is granted by the time an answer tells of it.
   resolved : (m : Mode) (es front rest : List Entry) (p : Entry) → IsLegal (front ++ (es ++ p ∷ rest)) → EachKept s r es → EachStood s es → p.session ≡ s → TellsOfGrant p.call p.reply
@@ -295,11 +295,14 @@ module _ (refuses : (st : State) → DoesRefusalKeep st) (s : ℕ) (r : List ℕ
       let after : (step (state_of front) x.session x.call).state ≡ state_of (front ++ x ∷ []) = sym (state_of-push front x) in
       subst (Holds m) one (elim (request-stands front (x ∷ []) s (request s r w.mode) w.request_is).1 [
         | inl own ↦ elim own.1 [
-          | inl aborts ↦ absurd (no-abort front (request s r w.mode) x told w.request_is (kept.0 own.0) own.0 aborts)
-          | inr takes ↦ elim (withdrawal-told (state_of front) x.session (first_failing (tests (state_of front) x.session Withdraw))) [
-            | inl back ↦ absurd (stood.0 own.0 (told ∙ (ap (λ (c : Call). (step (state_of front) x.session c).reply) takes ∙ back)))
-            | inr why ↦ resolved m xs (front ++ x ∷ []) rest p legal-all kept.1 stood.1 whose ended
-                (subst (Waits m) (refused front x why.0 told (told ∙ (ap (λ (c : Call). (step (state_of front) x.session c).reply) takes ∙ why.1))) w)
+          | inl aborts ↦ absurd (no-end Abort front (request s r w.mode) x (λ k. k.1 refl) (λ why e. (((lawful front).abort_needs_transaction s why).0 e).1) told w.request_is (kept.0 own.0) own.0 aborts)
+          | inr other ↦ elim other [
+            | inl takes ↦ elim (withdrawal-told (state_of front) x.session (first_failing (tests (state_of front) x.session Withdraw))) [
+              | inl back ↦ absurd (stood.0 own.0 (told ∙ (ap (λ (c : Call). (step (state_of front) x.session c).reply) takes ∙ back)))
+              | inr why ↦ resolved m xs (front ++ x ∷ []) rest p legal-all kept.1 stood.1 whose ended
+                  (subst (Waits m) (refused front x why.0 told (told ∙ (ap (λ (c : Call). (step (state_of front) x.session c).reply) takes ∙ why.1))) w)
+            ]
+            | inr restarts ↦ absurd (no-end Restart front (request s r w.mode) x (λ k. k.2 refl) (λ why e. (((lawful front).restart_needs_transaction s why).0 e).1) told w.request_is (kept.0 own.0) own.0 restarts)
           ]
         ]
         | inr k ↦ elim k [

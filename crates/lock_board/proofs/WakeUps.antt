@@ -11,7 +11,7 @@ use native.Mathlib.Decide.{ℕ_discrete}
 use lib.ListN.{get_elem?}
 use Rattle.lock_modes.specs.declared.Mode.{Mode}
 use Rattle.lock_rules.specs.declared.calls.Call.{Call}
-use Rattle.lock_rules.specs.declared.calls.Call.TheVariants.{Begin, Lock, Convert, Poll, Release, Commit, Abort, Try, Withdraw}
+use Rattle.lock_rules.specs.declared.calls.Call.TheVariants.{Begin, Lock, Convert, Poll, Release, Commit, Abort, Try, Withdraw, Restart}
 use Rattle.lock_rules.specs.declared.calls.Reply.TheVariants.{Waiting, Deadlock, Granted, Clear}
 use Rattle.lock_rules.specs.declared.calls.Why.{Why}
 use Rattle.lock_rules.specs.Entries.{Entry, Answered}
@@ -99,6 +99,7 @@ waits-after st s c is = by_test (first_failing (tests st s c)) c is
     by_test None Abort e = absurd (cc e)
     by_test None (Try r m) e = (waiting-decides (outcome_of None st s (Try r m)).state s).0 (asked _ _ _ e)
     by_test None Withdraw e = absurd (cc e)
+    by_test None Restart e = absurd (cc e)
 
 -- Where an entry stands.
 

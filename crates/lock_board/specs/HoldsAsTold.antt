@@ -4,7 +4,7 @@ use Rattle.lock_modes.specs.declared.Mode.{Mode}
 use Rattle.lock_modes.specs.declared.Mode.TheVariants.{S, X}
 use Rattle.lock_modes.specs.Order.{IsAtOrBelow}
 use Rattle.lock_rules.specs.declared.calls.Call.{Call}
-use Rattle.lock_rules.specs.declared.calls.Call.TheVariants.{Lock, Convert, Try, Release, Commit, Abort}
+use Rattle.lock_rules.specs.declared.calls.Call.TheVariants.{Lock, Convert, Try, Release, Commit, Abort, Restart}
 use Rattle.lock_rules.specs.declared.calls.Reply.{Reply}
 use Rattle.lock_rules.specs.declared.calls.Reply.TheVariants.{Granted, Waiting, Deadlock, Clear, Released, Committed, Refused, Withdrawn}
 use Rattle.lock_rules.specs.declared.calls.Why.{Why}
@@ -18,9 +18,9 @@ use Rattle.lock_board.specs.LockBoards.{Pending}
 abbrev pub AsksFor : Call → List ℕ → Mode → Type 0
 AsksFor c r m = (c ≡ Lock r m) ⊎ ((c ≡ Convert r m) ⊎ (c ≡ Try r m))
 
--- The call doesn't give the resource back: it is no commit, no abort and no release of it.
+-- The call doesn't give the resource back: it is no commit, no abort, no restart and no release of it.
 abbrev pub KeepsLock : List ℕ → Call → Type 0
-KeepsLock r c = (c ≢ Commit) × (c ≢ Abort) × (c ≢ Release r)
+KeepsLock r c = (c ≢ Commit) × (c ≢ Abort) × (c ≢ Restart) × (c ≢ Release r)
 
 -- The answered call gave nothing of the resource back: it is a call that doesn't, or it was refused.
 abbrev pub KeptLock : List ℕ → Answered → Type 0
@@ -85,7 +85,7 @@ pub record WasGrantedLater (answers : List Answered) (r : List ℕ) (m : Mode) :
   pub kept : All (KeptLock r) after
 
 -- A session with these answers and this pending call was told that it holds the resource in this mode, and has published
--- nothing since that may give it back. A deadlock victim keeps its locks until it aborts, so a Deadlock ends nothing.
+-- nothing since that may give it back. A deadlock victim keeps its locks until it aborts or restarts, so a Deadlock ends nothing.
 pub record HoldsAsTold (answers : List Answered) (pending : Option Pending) (r : List ℕ) (m : Mode) : Type 0 where
   pub told : WasGranted answers r m ⊎ WasGrantedLater answers r m
   pub kept : (p : Pending) → pending ≡ Some p → KeepsLock r p.call

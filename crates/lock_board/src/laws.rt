@@ -8,7 +8,7 @@ ghost use Rattle.std.specs.Prelude.{◌≡◌, ◌≢◌, ◌⊎◌, ℕ, ◌+�
 ghost use Rattle.lock_modes.specs.declared.Mode.{Mode};
 ghost use Rattle.sequential.specs.Histories.{calls_of};
 ghost use Rattle.lock_rules.specs.declared.calls.Call.{Call};
-ghost use Rattle.lock_rules.specs.declared.calls.Call.TheVariants.{Begin, Poll, Abort, Withdraw};
+ghost use Rattle.lock_rules.specs.declared.calls.Call.TheVariants.{Begin, Poll, Abort, Withdraw, Restart};
 ghost use Rattle.lock_rules.specs.declared.calls.Reply.{Reply};
 ghost use Rattle.lock_rules.specs.declared.calls.Reply.TheVariants.{Granted, Waiting, Clear, Refused};
 ghost use Rattle.lock_rules.specs.declared.calls.Why.{Why};
@@ -36,8 +36,8 @@ use publication::laws::{boards_open_with_an_empty_history, each_place_is_entered
 /// that is answered Clear, the withdrawal that is refused with NotWaiting, or any other answer that tells of the grant
 /// (`ToldOfGrant`), unless the session took its request back meanwhile or the call that tells gives the lock back. It
 /// lasts past each answer that gave nothing of the resource back, and while a call is pending that gives nothing of it
-/// back. It ends when the session publishes a commit, an abort or a release of the resource, or enters one directly. The
-/// answer of that call doesn't bring it back, except a refusal.
+/// back. It ends when the session publishes a commit, an abort, a restart or a release of the resource, or enters one
+/// directly. The answer of that call doesn't bring it back, except a refusal.
 pub fn what_is_told_begins_and_ends()
     ensures granted { (answers : List Answered) (call : Call) (place : ℕ) (r : List ℕ) (k m : Mode) →
         AsksFor call r k → HoldsAsTold (answers ++ answer place call (Granted m) ∷ []) None r m }
@@ -78,13 +78,13 @@ pub fn what_is_told_is_held()
 
 /// An answer tells of a grant (`ToldOfGrant`) exactly if no waiting session and no victim can get it. A session gets such
 /// an answer only if it may go on when it calls: it has a transaction, which neither waits nor is doomed (`only`). Each
-/// call of such a session is answered so (`each`), except a begin and an abort, which a waiting session and a victim may
-/// make with the same replies. So a session whose request waited learns by its next call, if that is neither of the two,
-/// whether it still waits, is a victim, or holds the lock.
+/// call of such a session is answered so (`each`), except a begin, an abort and a restart, which a waiting session and a
+/// victim may make with the same replies. So a session whose request waited learns by its next call, if that is none of the
+/// three, whether it still waits, is a victim, or holds the lock.
 pub fn answers_tell_who_may_go_on()
     ensures only { (st : State) (session place : ℕ) (call : Call) →
         ToldOfGrant (answer place call (step st session call).reply) → MayGoOn st session }
-    ensures each { (st : State) (session place : ℕ) (call : Call) → call ≢ Begin → call ≢ Abort →
+    ensures each { (st : State) (session place : ℕ) (call : Call) → call ≢ Begin → call ≢ Abort → call ≢ Restart →
         MayGoOn st session → ToldOfGrant (answer place call (step st session call).reply) }
 {}
 
