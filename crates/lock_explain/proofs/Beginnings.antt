@@ -5,7 +5,7 @@ use Rattle.std.proofs.lemmas.Bool.{and_parts, cases_Bool, not-false}
 use Rattle.std.proofs.lemmas.Bool.Decides.{Decides-eqb}
 use Rattle.lock_modes.specs.declared.Mode.{Mode}
 use Rattle.lock_rules.specs.declared.calls.Call.{Call}
-use Rattle.lock_rules.specs.declared.calls.Call.TheVariants.{Begin, Lock, Convert, Poll, Release, Commit, Abort, Try, Withdraw}
+use Rattle.lock_rules.specs.declared.calls.Call.TheVariants.{Begin, Lock, Convert, Poll, Release, Commit, Abort, Try, Withdraw, Restart}
 use Rattle.lock_rules.specs.Entries.{Entry}
 use Rattle.lock_rules.specs.declared.calls.Reply.TheVariants.{Refused, Waiting}
 use Rattle.lock_rules.specs.declared.calls.Why.{Why}
@@ -42,6 +42,7 @@ made-session st s Commit q e = absurd (cc)
 made-session st s Abort q e = absurd (cc)
 made-session st s (Try r m) q e = let same : request s r (target_of (held_mode st.table s r) m) ≡ q = cc in ap (λ (c : Claim). c.session) (sym same)
 made-session st s Withdraw q e = absurd (cc)
+made-session st s Restart q e = absurd (cc)
 
 -- a lock is answered as the law states it
 lock-answered : (st : State) (s : ℕ) (r : List ℕ) (m : Mode) (q : Claim) → request s r (target_of (held_mode st.table s r) m) ≡ q → IsNotRefused st s (Lock r m) → IsAnswerTo s q.resource q.mode st (step st s (Lock r m))
@@ -68,6 +69,7 @@ made-answered st s (Try r m) q e h =
     let accepted : IsNotRefused st s (Lock r m) = λ (why : Why) (f : (step st s (Lock r m)).reply ≡ Refused why). h why (ap (λ (o : Outcome). o.reply) locks ∙ f) in
     subst (λ (o : Outcome). IsAnswerTo s q.resource q.mode st o) (sym locks) (lock-answered st s r m q (cc) accepted)
 made-answered st s Withdraw q e h = absurd (cc)
+made-answered st s Restart q e h = absurd (cc)
 
 -- a session with an open transaction that neither waits nor is doomed
 pub record IsClear (st : State) (s : ℕ) : Type 0 where
@@ -86,6 +88,7 @@ made-clear st s Commit q e h = absurd (cc)
 made-clear st s Abort q e h = absurd (cc)
 made-clear st s (Try r m) q e h = let p = all-pass (tests st s (Lock r m)) (try-locks st s r m (passes st s (Try r m) h)) in record { opened = not-false _ p.0; idle = is-none (request_of s st.table.requests) p.1.0; alive = p.1.1.0 }
 made-clear st s Withdraw q e h = absurd (cc)
+made-clear st s Restart q e h = absurd (cc)
 
 -- new victims
 

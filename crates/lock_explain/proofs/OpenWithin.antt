@@ -6,14 +6,14 @@ use Rattle.std.proofs.lemmas.Bool.Decides.{Decides-eqb}
 use Rattle.std.proofs.lemmas.List.Elements.{All-head, All-tail}
 use Rattle.lock_modes.specs.declared.Mode.{Mode}
 use Rattle.lock_rules.specs.declared.calls.Call.{Call}
-use Rattle.lock_rules.specs.declared.calls.Call.TheVariants.{Begin, Lock, Convert, Poll, Release, Commit, Abort, Try, Withdraw}
+use Rattle.lock_rules.specs.declared.calls.Call.TheVariants.{Begin, Lock, Convert, Poll, Release, Commit, Abort, Try, Withdraw, Restart}
 use Rattle.lock_rules.specs.Entries.{Entry}
 use Rattle.lock_rules.specs.declared.calls.Transaction.{Transaction}
 use Rattle.lock_rules.specs.declared.calls.Why.{Why}
 use Rattle.lock_rules.specs.State.{Claim, State, empty, held_mode, request_of, is_open, with_table}
 use Rattle.lock_rules.specs.Queue.{after_grant, is_granted_at_once, with_request}
 use Rattle.lock_rules.specs.Waits.{reaches, doom, victim_of, after_victim, after_victims}
-use Rattle.lock_rules.specs.Step.{target_of, tests, first_failing, is_held, after_wait, after_asking, act, outcome_of, step}
+use Rattle.lock_rules.specs.Step.{target_of, tests, first_failing, is_held, after_wait, after_asking, restarted, act, outcome_of, step}
 use Rattle.lock_rules.specs.Legal.{state_after, state_of}
 use Rattle.lock_rules.proofs.Owners.{state-numbered}
 use Rattle.sequential.specs.Histories.{IsEntryWithin}
@@ -59,6 +59,7 @@ act-open st s Commit u n = ap (λ (b : Bool). is_some (cond b None (st.begun u))
 act-open st s Abort u n = ap (λ (b : Bool). is_some (cond b None (st.begun u))) n
 act-open st s (Try r m) u n = asked-open st s r (target_of (held_mode st.table s r) m) u
 act-open st s Withdraw u n = refl
+act-open st s Restart u n = ap (λ (b : Bool). is_some (cond b (restarted (st.begun s)) (st.begun u))) n
 
 -- the same, refused or not
 step-open : (st : State) (s : ℕ) (c : Call) (u : ℕ) → eqb u s ≡ false → is_open (step st s c).state u ≡ is_open st u

@@ -5,14 +5,14 @@ use Rattle.std.proofs.lemmas.Bool.{and_parts, and_from, or_cases, le-leb, leb-tr
 use Rattle.std.proofs.lemmas.Bool.Decides.{Decides-eqb}
 use Rattle.lock_modes.specs.declared.Mode.{Mode}
 use Rattle.lock_rules.specs.declared.calls.Call.{Call}
-use Rattle.lock_rules.specs.declared.calls.Call.TheVariants.{Begin, Lock, Convert, Poll, Release, Commit, Abort, Try, Withdraw}
+use Rattle.lock_rules.specs.declared.calls.Call.TheVariants.{Begin, Lock, Convert, Poll, Release, Commit, Abort, Try, Withdraw, Restart}
 use Rattle.lock_rules.specs.declared.calls.Why.{Why}
 use Rattle.lock_rules.specs.Entries.{Entry}
 use Rattle.lock_rules.specs.declared.calls.Transaction.{Transaction}
 use Rattle.lock_rules.specs.State.{Claim, Table, State, empty, held_mode, request_of, is_open, with_table}
 use Rattle.lock_rules.specs.Queue.{queue, after_grant, with_request, is_granted_at_once}
 use Rattle.lock_rules.specs.Waits.{conflicts, stands_before, keeps_waiting, waits_for, doom, reaches, victim_of, after_victim, after_victims}
-use Rattle.lock_rules.specs.Step.{target_of, tests, first_failing, is_held, after_wait, after_asking, act, outcome_of, step}
+use Rattle.lock_rules.specs.Step.{target_of, tests, first_failing, is_held, after_wait, after_asking, restarted, act, outcome_of, step}
 use Rattle.lock_rules.specs.Legal.{state_after, state_of}
 use Rattle.lock_rules.specs.Sound.{AllOpen}
 use Rattle.lock_rules.proofs.Owners.{state-numbered, begins-open}
@@ -79,6 +79,7 @@ step-inside n st s c is h = go (first_failing (tests st s c))
     acted Abort = changed-inside n s st None is h
     acted (Try r m) = asked-inside n st s r (target_of (held_mode st.table s r) m) h
     acted Withdraw = h
+    acted Restart = changed-inside n s st (restarted (st.begun s)) is h
 
     go : (o : Option Why) → AreInside n (outcome_of o st s c).state
     go None = acted c

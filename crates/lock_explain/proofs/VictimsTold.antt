@@ -3,17 +3,18 @@ use Rattle.std.proofs.Common.{◌≡◌, ℕ, ◌+◌, ◌<◌, ◌≤◌, Bool,
 use Rattle.std.specs.List.{All, flat_map, range_with_len}
 use Rattle.std.proofs.lemmas.Bool.{and_parts, and_from, not-true}
 use Rattle.lock_rules.specs.declared.calls.Call.{Call}
-use Rattle.lock_rules.specs.declared.calls.Call.TheVariants.{Begin, Lock, Convert, Poll, Release, Commit, Abort, Try, Withdraw}
+use Rattle.lock_rules.specs.declared.calls.Call.TheVariants.{Begin, Lock, Convert, Poll, Release, Commit, Abort, Try, Withdraw, Restart}
 use Rattle.lock_rules.specs.declared.calls.Transaction.{Transaction}
 use Rattle.lock_rules.specs.declared.calls.Why.{Why}
 use Rattle.lock_rules.specs.Entries.{Entry}
 use Rattle.lock_rules.specs.State.{Claim, State, doomed_in, is_doomed}
 use Rattle.lock_rules.specs.Waits.{reaches}
-use Rattle.lock_rules.specs.Step.{tests, first_failing, act, outcome_of, step}
+use Rattle.lock_rules.specs.Step.{tests, first_failing, restarted, act, outcome_of, step}
 use Rattle.lock_rules.specs.Legal.{state_of}
 use Rattle.lock_rules.specs.Laws.{AreVictims}
 use Rattle.lock_rules.proofs.Alters.{true≢false}
 use Rattle.lock_rules.proofs.Settle.{reaches-walk}
+use Rattle.lock_rules.proofs.Idle.{restarted-lives}
 use Rattle.lock_rules.proofs.KeptCycles.{victims-on}
 use Rattle.sequential.specs.Histories.{IsEntryWithin}
 use Rattle.sequential.proofs.Members.{Member, contains-member, member-contains}
@@ -39,7 +40,7 @@ on-listed st s a n u from below on = session-member (party_on_cycle st s) (party
 -- a call that makes no request makes no victim
 
 module _ (st : State) (s u : ℕ) (n : is_doomed st u ≡ false) where
-  -- the transaction of s is new, or ended
+  -- the transaction of s is new, ended or restarted
   replaced : (o : Option Transaction) → doomed_in o ≡ false → doomed_in (cond (eqb u s) o (st.begun u)) ≡ false
   replaced o h = go (eqb u s)
     where
@@ -58,6 +59,7 @@ module _ (st : State) (s u : ℕ) (n : is_doomed st u ≡ false) where
   acts-clear Abort e = replaced None refl
   acts-clear (Try r m) e = absurd (cc)
   acts-clear Withdraw e = n
+  acts-clear Restart e = replaced (restarted (st.begun s)) (restarted-lives (st.begun s))
 
   -- and one that is refused
   call-clear : (c : Call) → request_made st s c ≡ None → is_doomed (step st s c).state u ≡ false

@@ -3,7 +3,7 @@ use Rattle.std.specs.Prelude.{◌≡◌, ◌≢◌, ℕ, if◌then◌else◌, Li
 use Rattle.std.specs.List.{flat_map, range_with_len}
 use Rattle.lock_modes.specs.declared.Mode.{Mode}
 use Rattle.lock_rules.specs.declared.calls.Call.{Call}
-use Rattle.lock_rules.specs.declared.calls.Call.TheVariants.{Begin, Lock, Convert, Poll, Release, Commit, Abort, Try, Withdraw}
+use Rattle.lock_rules.specs.declared.calls.Call.TheVariants.{Begin, Lock, Convert, Poll, Release, Commit, Abort, Try, Withdraw, Restart}
 use Rattle.lock_rules.specs.State.{Claim, Table, State, held_mode, request_of, number_of, with_table}
 use Rattle.lock_rules.specs.Queue.{queue, with_request}
 use Rattle.lock_rules.specs.Waits.{conflicts, stands_before, waits_for}
@@ -31,6 +31,7 @@ request_made st s Commit = None
 request_made st s Abort = None
 request_made st s (Try r m) = Some (request s r (target_of (held_mode st.table s r) m))
 request_made st s Withdraw = None
+request_made st s Restart = None
 
 -- the call of the session makes this request, which isn't refused, isn't held already, and isn't free to be granted at once
 pub record BeginsToWait (st : State) (s : ℕ) (call : Call) (q : Claim) : Type 0 where
