@@ -26,7 +26,7 @@ use Rattle.lock_rules.proofs.Alters.{true≢false}
 use Rattle.lock_rules.proofs.Listings.{listing-shows}
 use Rattle.lock_rules.proofs.Cuts.{ended-lawful}
 use Rattle.lock_rules.proofs.Steps.{state-lawful}
-use Rattle.lock_rules.proofs.Taken.{ended-takes}
+use Rattle.lock_rules.proofs.Taken.{claims-taken}
 use Rattle.lock_desk.specs.declared.cells.SessionMode.{SessionMode}
 use Rattle.lock_desk.specs.declared.cells.GivenUp.TheVariants as claim
 use Rattle.lock_desk.specs.inner.Cells.{View, has_path, has_session, pair_of, times, with_holder, without, fits_among, view_after_grants, view_after_freeing}
@@ -220,7 +220,7 @@ module _ (es : List Entry) (s : ℕ) (begun : is_open (state_of es) s ≡ true) 
       let differs : u ≢ s = λ e. no (ap (λ (k : ℕ). request_of k t.requests) (sym e) ∙ wants) in
       let apart : eqb u s ≡ false = other s u differs in
       let after : (request_of u (after_end s t).requests ≡ Some q) ⊎ (request_of u (after_end s t).requests ≡ None) =
-      elim ((ended-takes s (state_of es) sound).others u differs) [ inl a ↦ inl (a.request ∙ wants) | inr p ↦ inr p.1.waits_no_more ] in
+      elim ((claims-taken s None (state_of es) sound).others u differs) [ inl a ↦ inl (a.request ∙ wants) | inr p ↦ inr p.1.waits_no_more ] in
       let waits : is_some (request_of u (after_end s t).requests) ≡ has_session u (view r (after_end s t)).waiting = waits-seen (after_end s t) u q (ended-lawful s t (state-lawful es)).sound.once after in
       let queued : has_session u ws ≡ true = sym (waits-seen t u q sound.once (inl wants)) ∙ ap is_some wants in
       ap (λ (x : Table). not (eqb u s) && (is_waiting (state_of es) u && not (is_some (request_of u x.requests)))) (abort-table (state_of es) s begun)

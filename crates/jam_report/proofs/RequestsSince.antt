@@ -7,7 +7,7 @@ use Rattle.std.proofs.lemmas.List.{take-append-le}
 use Rattle.std.proofs.Math.Seq.{take-append_seam}
 use Rattle.lock_modes.specs.declared.Mode.{Mode}
 use Rattle.lock_rules.specs.declared.calls.Call.{Call}
-use Rattle.lock_rules.specs.declared.calls.Call.TheVariants.{Begin, Lock, Convert, Poll, Release, Commit, Abort, Try, Withdraw}
+use Rattle.lock_rules.specs.declared.calls.Call.TheVariants.{Begin, Lock, Convert, Poll, Release, Commit, Abort, Try, Withdraw, Restart}
 use Rattle.lock_rules.specs.declared.calls.Reply.TheVariants.{Deadlock, Granted, Waiting}
 use Rattle.lock_rules.specs.declared.calls.Why.{Why}
 use Rattle.lock_rules.specs.Entries.{Entry}
@@ -87,6 +87,7 @@ module _ (s : ℕ) (q : Claim) where
   act-kept st u Abort e a h = inl (request-fewer s u st.table.requests q (all-kept (resource_of_request (request_of u st.table.requests) ++ map (λ (c : Claim). c.resource) (claims_of u st.table.held)) (without_claims u st.table) h))
   act-kept st u (Try r m) e a h = inl (ap (request_of s) (sym (try-leaves st u r m).0 ∙ ap (λ (x : State). x.table.requests) a) ∙ h)
   act-kept st u Withdraw e a h = inl (request-fewer s u st.table.requests q (all-kept (resource_of_request (request_of u st.table.requests)) (without_request u st.table) h))
+  act-kept st u Restart e a h = inl (request-fewer s u st.table.requests q (all-kept (resource_of_request (request_of u st.table.requests) ++ map (λ (c : Claim). c.resource) (claims_of u st.table.held)) (without_claims u st.table) h))
 
 -- what the replies tell
 
@@ -111,6 +112,7 @@ asked-reply st u Commit m w d = absurd (cc)
 asked-reply st u Abort m w d = absurd (cc)
 asked-reply st u (Try r k) m w d = absurd (cc)
 asked-reply st u Withdraw m w d = absurd (cc)
+asked-reply st u Restart m w d = absurd (cc)
 
 -- a lock or a conversion that isn't refused is of a session that doesn't wait
 free-before : (st : State) (u : ℕ) (c : Call) → may_wait c ≡ true → first_failing (tests st u c) ≡ None → is_waiting st u ≡ false
@@ -123,6 +125,7 @@ free-before st u Commit m e = absurd (cc)
 free-before st u Abort m e = absurd (cc)
 free-before st u (Try r k) m e = absurd (cc)
 free-before st u Withdraw m e = absurd (cc)
+free-before st u Restart m e = absurd (cc)
 
 -- one entry more
 
