@@ -1,6 +1,6 @@
 //! How a picture is collected: what each call of a history begins and ends.
 
-use crate::model::{Arrow, Bar, Closed, Deed, End, Hold, Mark, Standing, Timeline, Waited};
+use crate::model::{Arrow, Bar, Closed, Deed, End, Hold, Mark, Origin, Standing, Timeline, Waited};
 use indexmap::IndexMap;
 use lock_explain::{Explanation, Wait};
 use lock_modes::Mode;
@@ -16,7 +16,8 @@ fn resource_of(call: Call) -> Option<Resource> {
         | Call::Convert(resource, _)
         | Call::Try(resource, _)
         | Call::Release(resource) => Some(resource),
-        Call::Begin | Call::Poll | Call::Commit | Call::Abort | Call::Withdraw => None,
+        Call::Begin | Call::Poll | Call::Commit | Call::Abort | Call::Withdraw | Call::Restart =>
+            None,
     }
 }
 
@@ -84,11 +85,12 @@ impl Timeline {
     fn note_reply(&mut self, alloc: Global, place: u64, entry: &Entry) -> Result<(), NoMemory> {
         let session = entry.session;
         match entry.reply {
-            Reply::Began(transaction) => self.begin(session, transaction, place),
+            Reply::Began(transaction) => { self.begin(session, transaction, Origin::Begun, place) }
             Reply::Granted(mode) => self.grant(session, resource_of(entry.call), mode, place),
             Reply::Released => self.release(session, resource_of(entry.call), place),
             Reply::Committed(_) => self.end_transaction(alloc, session, End::Committed, place),
             Reply::Aborted(_) => self.end_transaction(alloc, session, End::Aborted, place),
+            Reply::Restarted(_) => self.restart(alloc, session, place),
             Reply::Withdrawn => self.end_wait(session, place),
             Reply::Waiting | Reply::Deadlock | Reply::Clear | Reply::Refused(_) => Ok(()),
         }
@@ -175,12 +177,19 @@ impl Timeline {
         Ok(())
     }
 
-    /// Begins a transaction.
-    fn begin(&mut self, session: u16, transaction: u64, place: u64) -> Result<(), NoMemory> {
+    /// Begins the bar of a transaction.
+    fn begin(
+        &mut self,
+        session: u16,
+        transaction: u64,
+        origin: Origin,
+        place: u64,
+    ) -> Result<(), NoMemory> {
         if let Some(standing) = self.standings.get_mut(session as usize) {
             standing.bar = Some(Bar {
                 session,
                 transaction,
+                origin,
                 from: place,
                 upto: place,
                 end: End::Open,
@@ -295,6 +304,18 @@ impl Timeline {
             self.keep_hold(*hold, place)?;
         }
         Ok(())
+    }
+
+    /// Ends the bar of the session's transaction, its wait and its locks, and begins the next bar of the same transaction.
+    fn restart(&mut self, alloc: Global, session: u16, place: u64) -> Result<(), NoMemory> {
+        let Some(standing) = self.standings.get(session as usize) else {
+            return Ok(());
+        };
+        let Some(bar) = standing.bar else {
+            return Ok(());
+        };
+        self.end_transaction(alloc, session, End::Restarted, place)?;
+        self.begin(session, bar.transaction, Origin::Restarted, place)
     }
 
     /// Ends the bar of the session's transaction.

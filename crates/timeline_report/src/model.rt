@@ -15,18 +15,31 @@ pub(crate) enum End {
     Committed,
     /// It aborted.
     Aborted,
+    /// It restarted, and goes on in the next bar.
+    Restarted,
 }
 
-/// A transaction of a session.
+/// How the bar of a transaction begins.
+#[derive(Clone, Copy, Debug, PartialEq, Eq)]
+pub(crate) enum Origin {
+    /// The transaction began.
+    Begun,
+    /// The transaction restarted, with its number.
+    Restarted,
+}
+
+/// A transaction of a session, up to its end or its restart.
 #[derive(Clone, Copy, Debug)]
 pub(crate) struct Bar {
     /// The session, numbered from 1.
     pub(crate) session: u16,
     /// The number of the transaction.
     pub(crate) transaction: u64,
-    /// The place of its begin.
+    /// How it begins.
+    pub(crate) origin: Origin,
+    /// The place of its begin or restart.
     pub(crate) from: u64,
-    /// The place at which it ended, or where the picture ends.
+    /// The place at which it ended or restarted, or where the picture ends.
     pub(crate) upto: u64,
     /// How it ended.
     pub(crate) end: End,

@@ -84,7 +84,7 @@ fn put_end(out: &mut String, end: End, x: u64, y: u64, title: &str) -> Result<()
     match end {
         End::Open => Ok(()),
         End::Committed => put_circle(out, "commit", x, y, 4, title),
-        End::Aborted => put_cross(out, "abort", x, y, title),
+        End::Aborted | End::Restarted => put_cross(out, "abort", x, y, title),
     }
 }
 

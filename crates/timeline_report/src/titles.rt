@@ -1,6 +1,6 @@
 //! The words that are shown on hovering.
 
-use crate::model::{Arrow, Bar, Closed, Deed, End, Hold, Mark, Waited};
+use crate::model::{Arrow, Bar, Closed, Deed, End, Hold, Mark, Origin, Waited};
 use lock_explain::Blocker;
 use lock_rules::{Call, Claim, ClaimKind, Entry, Reply};
 use std::alloc::AllocError as NoMemory;
@@ -22,6 +22,7 @@ fn put_call(out: &mut String, entry: &Entry) -> Result<(), NoMemory> {
         Call::Abort => out.push_str("abort"),
         Call::Try(resource, mode) => write!(out, "try {} in {}", resource, mode.name()),
         Call::Withdraw => out.push_str("withdraw"),
+        Call::Restart => out.push_str("restart"),
     }
 }
 
@@ -38,6 +39,7 @@ fn put_reply(out: &mut String, reply: Reply) -> Result<(), NoMemory> {
         Reply::Aborted(locks) => write!(out, "aborted, gave back {locks} locks"),
         Reply::Refused(why) => write!(out, "refused, {}", why.name()),
         Reply::Withdrawn => out.push_str("withdrawn"),
+        Reply::Restarted(locks) => write!(out, "restarted, gave back {locks} locks"),
     }
 }
 
@@ -55,6 +57,7 @@ fn put_end(out: &mut String, bar: &Bar) -> Result<(), NoMemory> {
         End::Open => out.push_str("open at the end of the picture"),
         End::Committed => write!(out, "committed at place {}", bar.upto),
         End::Aborted => write!(out, "aborted at place {}", bar.upto),
+        End::Restarted => write!(out, "restarted at place {}", bar.upto),
     }
 }
 
@@ -69,9 +72,13 @@ fn put_until(out: &mut String, upto: u64, end: u64) -> Result<(), NoMemory> {
 
 /// Writes the title of a transaction.
 pub(crate) fn put_bar_title(out: &mut String, bar: &Bar) -> Result<(), NoMemory> {
+    let begun = match bar.origin {
+        Origin::Begun => "begun",
+        Origin::Restarted => "restarted",
+    };
     write!(
         out,
-        "session {}, transaction {}: begun at place {}, ",
+        "session {}, transaction {}: {begun} at place {}, ",
         bar.session, bar.transaction, bar.from
     )?;
     put_end(out, bar)
