@@ -8,7 +8,7 @@ use Rattle.lock_modes.specs.Order.{need_of}
 use Rattle.lock_rules.specs.declared.calls.Call.{Call}
 use Rattle.lock_rules.specs.declared.calls.Call.TheVariants.{Lock}
 use Rattle.lock_rules.specs.declared.calls.Reply.{Reply}
-use Rattle.lock_rules.specs.declared.calls.Reply.TheVariants.{Began, Granted, Waiting, Deadlock, Clear, Released, Committed, Aborted, Refused, Withdrawn}
+use Rattle.lock_rules.specs.declared.calls.Reply.TheVariants.{Began, Granted, Waiting, Deadlock, Clear, Released, Committed, Aborted, Refused, Withdrawn, Restarted}
 use Rattle.lock_rules.specs.Entries.{Entry}
 use Rattle.lock_rules.specs.Legal.{IsLegal as IsLegalByCalls}
 use Rattle.lock_rules.proofs.Histories.{legal-front}
@@ -60,6 +60,7 @@ granted r m (Committed n) on fit = absurd (cc fit)
 granted r m (Aborted n) on fit = absurd (cc fit)
 granted r m (Refused why) on fit = absurd (cc on)
 granted r m Withdrawn on fit = absurd (cc fit)
+granted r m (Restarted n) on fit = absurd (cc fit)
 
 -- a reply behind which it doesn't grants no lock
 denied : (q : Reply) → goes_on_behind q ≡ false → (grants q ≡ false) × (granted_among (q ∷ []) ≡ 0)
@@ -73,6 +74,7 @@ denied (Committed n) stops = absurd (cc stops)
 denied (Aborted n) stops = absurd (cc stops)
 denied (Refused why) stops = (refl, refl)
 denied Withdrawn stops = absurd (cc stops)
+denied (Restarted n) stops = absurd (cc stops)
 
 -- the first replies grant, so many; behind them is the end of the program
 pub record AreGrantedFirst (cs : List Call) (rs : List Reply) (refused : Bool) (n : ℕ) : Type 0 where
