@@ -12,7 +12,7 @@ use std::alloc::AllocError as NoMemory;
 
 /// The line of the ops.
 const OPS_ARE: &str =
-    "ops are begin, lock, convert, poll, release, commit, abort, try and withdraw";
+    "ops are begin, lock, convert, poll, release, commit, abort, try, withdraw and restart";
 
 /// The line of the modes.
 pub(crate) const MODES_ARE: &str = "modes are NL, IS, IX, S, SIX, U and X";

@@ -8,7 +8,7 @@ use std::alloc::AllocError as NoMemory;
 
 /// The line of the replies.
 const REPLIES_ARE: &str =
-    "replies are began, granted, waiting, deadlock, clear, released, committed, aborted, refused and withdrawn";
+    "replies are began, granted, waiting, deadlock, clear, released, committed, aborted, refused, withdrawn and restarted";
 
 /// Writes the hint to `Reply`.
 pub(crate) fn put_reply(lines: &mut Lines, bad: &BadRow<'_>) -> Result<(), NoMemory> {
@@ -47,7 +47,7 @@ pub(crate) fn put_value(lines: &mut Lines, bad: &BadRow<'_>) -> Result<(), NoMem
         }
         _ if put_blanks(lines, field)? => Ok(()),
         "began" => lines.put("began has the number of the transaction"),
-        "committed" | "aborted" => {
+        "committed" | "aborted" | "restarted" => {
             let line = format!(in lines.alloc(); "{reply} has the number of locks given back")?;
             lines.put(line.as_str())
         }

@@ -9,15 +9,15 @@ use lock_modes::MODES;
 use lock_rules::{OPS, REFUSALS, REPLY_KINDS, Why};
 
 /// The ops of a trace.
-pub(crate) const OP_WORDS: [&str; 9] = [
-    "begin", "lock", "convert", "poll", "release", "commit", "abort", "try", "withdraw",
+pub(crate) const OP_WORDS: [&str; 10] = [
+    "begin", "lock", "convert", "poll", "release", "commit", "abort", "try", "withdraw", "restart",
 ];
 
 /// The modes.
 pub(crate) const MODE_WORDS: [&str; 7] = ["NL", "IS", "IX", "S", "SIX", "U", "X"];
 
 /// The replies of a history.
-pub(crate) const REPLY_WORDS: [&str; 10] = [
+pub(crate) const REPLY_WORDS: [&str; 11] = [
     "began",
     "granted",
     "waiting",
@@ -28,10 +28,11 @@ pub(crate) const REPLY_WORDS: [&str; 10] = [
     "aborted",
     "refused",
     "withdrawn",
+    "restarted",
 ];
 
 /// What other systems call an op, and the op.
-const OTHER_OPS: [(&str, &str); 30] = [
+const OTHER_OPS: [(&str, &str); 31] = [
     ("acquire", "lock"),
     ("cancel", "withdraw"),
     ("check", "poll"),
@@ -50,6 +51,7 @@ const OTHER_OPS: [(&str, &str); 30] = [
     ("open", "begin"),
     ("promote", "convert"),
     ("request", "lock"),
+    ("retry", "restart"),
     ("rollback", "abort"),
     ("select", "lock"),
     ("start", "begin"),
