@@ -21,6 +21,7 @@ database, a file, a page, a record and a field. A mode is IS, IX, S, SIX, U or X
   1,withdraw,,         takes a request that waits back
   1,release,1/2,       gives one lock back
   1,commit,,           gives all back; so does abort
+  1,restart,,          gives all back, and begins again with the same number
 
 The history has a row for each call: place,session,op,resource,mode,reply,value.
 
@@ -37,7 +38,7 @@ pub(crate) const ABOUT_RUN: &str =
     "Performs a trace, from a file or standard input, on threads, one for each session that has a row, and writes the history
 that came about to standard output or a file. The rows of a session are performed in their order, each once the one
 before is answered, whatever the answer was; how those of two sessions fall between one another differs from run to run.
-While a request waits, its session's rows are refused, except poll, withdraw and abort.
+While a request waits, its session's rows are refused, except poll, withdraw, abort and restart.
 
 A row of a trace is session,op,resource,mode, one for each call, and one of the history
 place,session,op,resource,mode,reply,value; 'glm help replay' shows a row of each form.
@@ -65,7 +66,7 @@ A row of a history is place,session,op,resource,mode,reply,value, one for each c
   1,1,lock,1,S,granted,S                   the mode that is held; so have convert and try
   2,2,lock,1,X,waiting,                    so answers poll, or clear, or deadlock
   3,1,release,1,,released,
-  4,1,commit,,,committed,0                 how many locks were given back; so has aborted
+  4,1,commit,,,committed,0                 how many locks were given back; so have aborted and restarted
   5,1,lock,1,S,refused,NoTransaction       the name of the refusal
   6,3,withdraw,,,withdrawn,
 
