@@ -9,7 +9,7 @@ use Rattle.lock_rules.specs.declared.calls.Reply.{Reply}
 use Rattle.lock_rules.specs.declared.calls.Reply.TheVariants as reply
 use Rattle.lock_rules.specs.Entries.{Entry}
 use Rattle.lock_rules.specs.declared.kinds.Op.{Op}
-use Rattle.lock_rules.specs.declared.kinds.Op.TheVariants.{Begin, Lock, Convert, Poll, Release, Commit, Abort, Try, Withdraw}
+use Rattle.lock_rules.specs.declared.kinds.Op.TheVariants.{Begin, Lock, Convert, Poll, Release, Commit, Abort, Try, Withdraw, Restart}
 use Rattle.lock_rules.specs.Kinds.{op_of_call, ops_with_resource, ops_with_mode, number_of_op, kind_of_reply, number_of_kind, number_of_why}
 use Rattle.pelgaisti_c.specs.declared.numbers.ResourceNumbers.{ResourceNumbers}
 use Rattle.pelgaisti_c.specs.declared.numbers.CallNumbers.{CallNumbers}
@@ -51,6 +51,7 @@ IsCall c call.Commit = c.op ≡ number_of_op Commit
 IsCall c call.Abort = c.op ≡ number_of_op Abort
 IsCall c (call.Try r mode) = (c.op ≡ number_of_op Try) × IsPath c.resource r × (c.mode ≡ code_of mode)
 IsCall c call.Withdraw = c.op ≡ number_of_op Withdraw
+IsCall c call.Restart = c.op ≡ number_of_op Restart
 
 -- the status for numbers that encode no call: that of the first test that fails
 pub record IsCallFault (c : CallNumbers) (fault : ℕ) : Type 0 where
@@ -71,6 +72,7 @@ value_of (reply.Committed n) = n
 value_of (reply.Aborted n) = n
 value_of (reply.Refused w) = number_of_why w
 value_of reply.Withdrawn = 0
+value_of (reply.Restarted n) = n
 
 -- the numbers of a resource: its level, and its path padded with 0
 abbrev pub place_of : List ℕ → ResourceNumbers
@@ -91,6 +93,7 @@ mode_of_call call.Commit = 0
 mode_of_call call.Abort = 0
 mode_of_call (call.Try r mode) = code_of mode
 mode_of_call call.Withdraw = 0
+mode_of_call call.Restart = 0
 
 -- the resource that a call names, or none
 abbrev pub place_of_call : Call → ResourceNumbers
@@ -103,6 +106,7 @@ place_of_call call.Commit = nowhere
 place_of_call call.Abort = nowhere
 place_of_call (call.Try r mode) = place_of r
 place_of_call call.Withdraw = nowhere
+place_of_call call.Restart = nowhere
 
 -- the numbers of a call; a call without a mode has mode 0
 abbrev pub numbers_of_call : Call → CallNumbers

@@ -12,7 +12,7 @@ use Rattle.lock_rules.specs.Legal.{IsLegal}
 use Rattle.programs.specs.Flat.{entries, IsAnswer}
 use Rattle.lock_programs.specs.declared.program.TheConstants.{CALLS}
 use Rattle.lock_programs.specs.declared.program.Start.{Start}
-use Rattle.lock_programs.specs.declared.program.Start.TheVariants.{Nothing, Begins, Commits, Aborts, CommitsAndBegins, AbortsAndBegins}
+use Rattle.lock_programs.specs.declared.program.Start.TheVariants.{Nothing, Begins, Commits, Aborts, CommitsAndBegins, AbortsAndBegins, Restarts}
 use Rattle.lock_programs.specs.declared.program.Last.{Last}
 use Rattle.lock_programs.specs.declared.program.Last.TheVariants.{Locks, Converts, Tries, Releases}
 use Rattle.lock_programs.specs.declared.program.Program.{Program}
@@ -40,6 +40,7 @@ number_of_start Commits = 2
 number_of_start Aborts = 3
 number_of_start CommitsAndBegins = 4
 number_of_start AbortsAndBegins = 5
+number_of_start Restarts = 6
 
 abbrev pub IsStart : ℕ → Type 0
 IsStart number = (s : Start) × (number ≡ number_of_start s)
@@ -52,8 +53,8 @@ IsOnPath level r = (1 ≤ level) × (level ≤ length r)
 abbrev pub IsPathTo : ProgramNumbers → List ℕ → Last → List Call → Type 0
 IsPathTo n r last path = IsOnPath n.from r × ((above : Mode) × (n.above ≡ code_of above) × (path ≡ path_calls r above last n.from (length r + 1 - n.from)))
 
--- the calls of the path that has this call at its end: the numbers of the path are read if the call has a resource. A call that begins
--- or ends a transaction is at the end of none
+-- the calls of the path that has this call at its end: the numbers of the path are read if the call has a resource. A call that begins,
+-- ends or restarts a transaction is at the end of none
 abbrev pub IsPathBefore : ProgramNumbers → Call → List Call → Type 0
 IsPathBefore n (call.Lock r m) path = IsPathTo n r (Locks m) path
 IsPathBefore n (call.Convert r m) path = IsPathTo n r (Converts m) path
@@ -64,6 +65,7 @@ IsPathBefore n call.Withdraw path = path ≡ call.Withdraw ∷ []
 IsPathBefore n call.Begin path = ⊥
 IsPathBefore n call.Commit path = ⊥
 IsPathBefore n call.Abort path = ⊥
+IsPathBefore n call.Restart path = ⊥
 
 -- the calls behind the start: none, or a path
 abbrev pub AreBehindStart : ProgramNumbers → List Call → Type 0
@@ -77,9 +79,9 @@ pub record IsProgram (n : ProgramNumbers) (p : Program) : Type 0 where
   pub behind : AreBehindStart n path
   pub calls : calls_of p ≡ start_calls start ++ path
 
--- the operations that begin or end a transaction
+-- the operations that begin, end or restart a transaction
 abbrev pub ops_of_start : List Op
-ops_of_start = op.Begin ∷ op.Commit ∷ op.Abort ∷ []
+ops_of_start = op.Begin ∷ op.Commit ∷ op.Abort ∷ op.Restart ∷ []
 
 -- the last call is one on resource r
 abbrev pub LeadsTo : ProgramNumbers → List ℕ → Type 0

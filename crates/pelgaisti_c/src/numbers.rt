@@ -148,6 +148,7 @@ pub(crate) fn read_call(asked: &CallNumbers) -> Result<Call, u32>
             Ok(Call::Try(resource, mode))
         }
         Op::Withdraw => Ok(Call::Withdraw),
+        Op::Restart => Ok(Call::Restart),
     }
 }
 
@@ -174,7 +175,9 @@ pub(crate) fn call_numbers(call: &Call) -> CallNumbers
             (u32::from(mode.code()), place_of(&resource))
         }
         Call::Release(resource) => (0, place_of(&resource)),
-        Call::Begin | Call::Poll | Call::Commit | Call::Abort | Call::Withdraw => (0, NOWHERE),
+        Call::Begin | Call::Poll | Call::Commit | Call::Abort | Call::Withdraw | Call::Restart => (
+            0, NOWHERE,
+        ),
     };
     CallNumbers { op, mode, resource }
 }
@@ -188,6 +191,7 @@ fn value_of(reply: &Reply) -> u64
         Reply::Granted(mode) => u64::from(mode.code()),
         Reply::Committed(count) => u64::from(count),
         Reply::Aborted(count) => u64::from(count),
+        Reply::Restarted(count) => u64::from(count),
         Reply::Refused(why) => u64::from(why.number()),
         Reply::Waiting | Reply::Deadlock | Reply::Clear | Reply::Released | Reply::Withdrawn => 0,
     }

@@ -58,6 +58,7 @@ fn read_start(number: u32) -> Option<Start>
         3 => Some(Start::Aborts),
         4 => Some(Start::CommitsAndBegins),
         5 => Some(Start::AbortsAndBegins),
+        6 => Some(Start::Restarts),
         _ => None,
     }
 }
@@ -115,7 +116,7 @@ pub(crate) fn read_program(asked: &ProgramNumbers) -> Result<Program, u32>
         Call::Release(resource) => read_path(asked, start, &resource, Last::Releases),
         Call::Poll => Ok(read_plain(start, Last::Polls)),
         Call::Withdraw => Ok(read_plain(start, Last::Withdraws)),
-        Call::Begin | Call::Commit | Call::Abort => Err(NO_SUCH_OP),
+        Call::Begin | Call::Commit | Call::Abort | Call::Restart => Err(NO_SUCH_OP),
     }
 }
 
