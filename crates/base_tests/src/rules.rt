@@ -3,11 +3,11 @@
 use lock_modes::Mode;
 use lock_rules::{
     Call, Entry, MAX_LOCKS, MAX_SESSIONS, OPS, Op, REFUSALS, REPLY_KINDS, Reply, ReplyKind, Why,
-    laws, update_laws,
+    laws, restart_laws, update_laws,
 };
 
-/// The operation of each number from 0 to 10.
-const OP_OF_NUMBER: [Option<Op>; 11] = [
+/// The operation of each number from 0 to 11.
+const OP_OF_NUMBER: [Option<Op>; 12] = [
     None,
     Some(Op::Begin),
     Some(Op::Lock),
@@ -18,37 +18,38 @@ const OP_OF_NUMBER: [Option<Op>; 11] = [
     Some(Op::Abort),
     Some(Op::Try),
     Some(Op::Withdraw),
+    Some(Op::Restart),
     None,
 ];
 
 /// The numbers of the operations, which the library for C passes on; no other number is of an operation.
 #[test]
 fn operations_have_their_numbers(rt: HostRuntime) {
-    for number in 0..11u32 {
+    for number in 0..12u32 {
         assert!(rt;
             Op::from_number(number) == OP_OF_NUMBER[number as usize],
             "{number}"
         );
     }
-    for k in 0..9 {
+    for k in 0..10 {
         assert!(rt; OPS[k].number() == k as u32 + 1, "{k}");
         assert!(rt; OP_OF_NUMBER[k + 1] == Some(OPS[k]), "{k}");
     }
     let has_abort = Call::Abort.op() == Op::Abort;
-    assert!(rt; has_abort && Call::Withdraw.op() == Op::Withdraw && OPS.len() == 9);
+    assert!(rt; has_abort && Call::Restart.op() == Op::Restart && OPS.len() == 10);
 }
 
 /// The numbers of the kinds of replies, which the library for C passes on.
 #[test]
 fn kinds_of_replies_have_their_numbers(rt: HostRuntime) {
-    assert!(rt; REPLY_KINDS.len() == 10);
-    for k in 0..10 {
+    assert!(rt; REPLY_KINDS.len() == 11);
+    for k in 0..11 {
         assert!(rt; REPLY_KINDS[k].number() == k as u32 + 1, "{k}");
     }
     let refused = Reply::Refused(Why::ChildHeld).kind() == ReplyKind::Refused;
-    let withdrawn = Reply::Withdrawn.kind() == ReplyKind::Withdrawn;
-    let number = ReplyKind::Withdrawn.number();
-    assert!(rt; refused && withdrawn && number == 10);
+    let restarted = Reply::Restarted(4096).kind() == ReplyKind::Restarted;
+    let number = ReplyKind::Restarted.number();
+    assert!(rt; refused && restarted && number == 11);
 }
 
 /// The name and the number of each refusal, in the order of `REFUSALS`.
@@ -138,6 +139,8 @@ fn laws_can_be_cited() {
     laws::states_are_lawful();
     laws::kinds_are_listed_once();
     laws::examples_are_legal();
+    restart_laws::restarts_take_all_locks_and_keep_the_number();
+    restart_laws::restart_examples_are_legal();
     update_laws::updates_are_alone();
     update_laws::update_examples_are_legal();
 }

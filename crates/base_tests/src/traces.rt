@@ -194,16 +194,16 @@ const HISTORY_TEXT: &[u8] = b"0,1,begin,,,began,1
 10,1,release,7/2/40/1,,released,
 11,1,poll,,,clear,
 12,1,abort,,,aborted,0
-13,1024,poll,,,waiting,
-14,1024,abort,,,aborted,4294967295
-15,1,lock,7,S,deadlock,
-16,1,commit,,,refused,IsDoomed
-17,1,poll,,,deadlock,
-18,1,lock,8,U,granted,U
-19,1,try,7/2/40/1,S,granted,U
-20,1024,try,4294967295,X,refused,WouldWait
-21,1024,withdraw,,,withdrawn,
-22,1,withdraw,,,refused,NotWaiting
+13,1024,abort,,,aborted,4294967295
+14,1,lock,7,S,deadlock,
+15,1,commit,,,refused,IsDoomed
+16,1,lock,8,U,granted,U
+17,1,try,7/2/40/1,S,granted,U
+18,1024,try,4294967295,X,refused,WouldWait
+19,1024,withdraw,,,withdrawn,
+20,1,withdraw,,,refused,NotWaiting
+21,1,restart,,,restarted,0
+22,1024,restart,,,restarted,4294967295
 ";
 
 /// Returns an entry of a history.
@@ -245,11 +245,9 @@ fn history(
         entry(1, Call::Release(record), Reply::Released),
         entry(1, Call::Poll, Reply::Clear),
         entry(1, Call::Abort, Reply::Aborted(0)),
-        entry(1024, Call::Poll, Reply::Waiting),
         entry(1024, Call::Abort, Reply::Aborted(4294967295)),
         entry(1, Call::Lock(seven, Mode::S), Reply::Deadlock),
         entry(1, Call::Commit, Reply::Refused(Why::IsDoomed)),
-        entry(1, Call::Poll, Reply::Deadlock),
         entry(1, Call::Lock(eight, Mode::U), Reply::Granted(Mode::U)),
         entry(1, Call::Try(record, Mode::S), Reply::Granted(Mode::U)),
         entry(
@@ -259,6 +257,8 @@ fn history(
         ),
         entry(1024, Call::Withdraw, Reply::Withdrawn),
         entry(1, Call::Withdraw, Reply::Refused(Why::NotWaiting)),
+        entry(1, Call::Restart, Reply::Restarted(0)),
+        entry(1024, Call::Restart, Reply::Restarted(4294967295)),
     ]
 }
 

@@ -16,23 +16,23 @@ const TRACES: [(&str, &str); 43] = [
     ),
     (
         "\n\n1,begin,,\n\n1,unlock,7,\n",
-        "  line 5: 1,unlock,7,\n            ^~~~~~\n  is 'release' meant?\n  ops are begin, lock, convert, poll, release, commit, abort, try and withdraw\n",
+        "  line 5: 1,unlock,7,\n            ^~~~~~\n  is 'release' meant?\n  ops are begin, lock, convert, poll, release, commit, abort, try, withdraw and restart\n",
     ),
     (
         "1,rollback,,",
-        "  line 1: 1,rollback,,\n            ^~~~~~~~\n  is 'abort' meant?\n  ops are begin, lock, convert, poll, release, commit, abort, try and withdraw\n",
+        "  line 1: 1,rollback,,\n            ^~~~~~~~\n  is 'abort' meant?\n  ops are begin, lock, convert, poll, release, commit, abort, try, withdraw and restart\n",
     ),
     (
         "1,comit,,",
-        "  line 1: 1,comit,,\n            ^~~~~\n  is 'commit' meant?\n  ops are begin, lock, convert, poll, release, commit, abort, try and withdraw\n",
+        "  line 1: 1,comit,,\n            ^~~~~\n  is 'commit' meant?\n  ops are begin, lock, convert, poll, release, commit, abort, try, withdraw and restart\n",
     ),
     (
         "1,lcok,7,S",
-        "  line 1: 1,lcok,7,S\n            ^~~~\n  is 'lock' meant?\n  ops are begin, lock, convert, poll, release, commit, abort, try and withdraw\n",
+        "  line 1: 1,lcok,7,S\n            ^~~~\n  is 'lock' meant?\n  ops are begin, lock, convert, poll, release, commit, abort, try, withdraw and restart\n",
     ),
     (
         "1,,7,S",
-        "  line 1: 1,,7,S\n            ^\n  ops are begin, lock, convert, poll, release, commit, abort, try and withdraw\n",
+        "  line 1: 1,,7,S\n            ^\n  ops are begin, lock, convert, poll, release, commit, abort, try, withdraw and restart\n",
     ),
     (
         "1, begin,,\n",
@@ -52,15 +52,15 @@ const TRACES: [(&str, &str); 43] = [
     ),
     (
         "1,l\u{1b}\u{e9}k,7,S",
-        "  line 1: 1,l\\x1b\\xc3\\xa9k,7,S\n            ^~~~~~~~~~~~~~\n  ops are begin, lock, convert, poll, release, commit, abort, try and withdraw\n",
+        "  line 1: 1,l\\x1b\\xc3\\xa9k,7,S\n            ^~~~~~~~~~~~~~\n  ops are begin, lock, convert, poll, release, commit, abort, try, withdraw and restart\n",
     ),
     (
         "1,\"lo\n\nck\",7,S\n\n1,x,,",
-        "  line 1: 1,\"lo\\n\\nck\",7,S\n            ^~~~~~~~~~\n  ops are begin, lock, convert, poll, release, commit, abort, try and withdraw\n",
+        "  line 1: 1,\"lo\\n\\nck\",7,S\n            ^~~~~~~~~~\n  ops are begin, lock, convert, poll, release, commit, abort, try, withdraw and restart\n",
     ),
     (
         "\"1\",\"begin\",\"\",\n1,\"a\"\"b,c\",7,S",
-        "  line 2: 1,\"a\"\"b,c\",7,S\n            ^~~~~~~~\n  ops are begin, lock, convert, poll, release, commit, abort, try and withdraw\n",
+        "  line 2: 1,\"a\"\"b,c\",7,S\n            ^~~~~~~~\n  ops are begin, lock, convert, poll, release, commit, abort, try, withdraw and restart\n",
     ),
     (
         "session,op,resource,mode\n1,begin,,\n",
@@ -212,11 +212,11 @@ const HISTORIES: [(&str, &str); 15] = [
     ),
     (
         "0,1,lock,7,S,ok,S",
-        "  line 1: 0,1,lock,7,S,ok,S\n                       ^~\n  is 'granted' meant?\n  replies are began, granted, waiting, deadlock, clear, released, committed, aborted, refused and withdrawn\n",
+        "  line 1: 0,1,lock,7,S,ok,S\n                       ^~\n  is 'granted' meant?\n  replies are began, granted, waiting, deadlock, clear, released, committed, aborted, refused, withdrawn and restarted\n",
     ),
     (
         "0,1,lock,7,S,x,",
-        "  line 1: 0,1,lock,7,S,x,\n                       ^\n  replies are began, granted, waiting, deadlock, clear, released, committed, aborted, refused and withdrawn\n",
+        "  line 1: 0,1,lock,7,S,x,\n                       ^\n  replies are began, granted, waiting, deadlock, clear, released, committed, aborted, refused, withdrawn and restarted\n",
     ),
     (
         "0,1,begin,,, began,1",

@@ -74,7 +74,7 @@ fn a_row_behind_many_has_its_line(rt: HostRuntime) -> Result<(), Fail> {
     let want = "  line 40003: 1,wait,,
                 ^~~~
   is 'poll' meant?
-  ops are begin, lock, convert, poll, release, commit, abort, try and withdraw
+  ops are begin, lock, convert, poll, release, commit, abort, try, withdraw and restart
 ";
     for (front, row) in [
         (b"\n\n".as_slice(), b"1,poll,,\n\n".as_slice()),

@@ -155,7 +155,7 @@ fn want_kept_of_book(rt: &impl Abort, alloc: Global, book: &mut Book) {
     assert_eq!(rt; book.kept().last().copied(), Some(last));
     let kept = book.take_kept(alloc);
     assert_eq!(rt; kept.len(), 2);
-    assert!(rt; Book::goes_first(&Call::Commit));
+    assert!(rt; Book::goes_first(&Call::Commit) && Book::goes_first(&Call::Restart));
     assert!(rt; !Book::goes_first(&Call::Begin));
 }
 

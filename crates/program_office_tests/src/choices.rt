@@ -36,13 +36,14 @@ impl Chooser {
 
     /// Any start.
     fn start(&mut self) -> Start {
-        match self.number() % 10 {
+        match self.number() % 11 {
             0 | 1 | 2 => Start::Nothing,
             3 | 4 | 5 => Start::Begins,
             6 => Start::Commits,
             7 => Start::Aborts,
             8 => Start::CommitsAndBegins,
-            _ => Start::AbortsAndBegins,
+            9 => Start::AbortsAndBegins,
+            _ => Start::Restarts,
         }
     }
 

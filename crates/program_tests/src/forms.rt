@@ -40,9 +40,10 @@ fn want_single(rt: &impl Abort, page: Resource) {
     want_one(rt, Call::Withdraw);
     want_one(rt, Call::Commit);
     want_one(rt, Call::Abort);
+    want_one(rt, Call::Restart);
 }
 
-/// Programs of the end of a transaction and the begin of the next.
+/// Programs of the end of a transaction and the begin of the next, and of a restart.
 fn want_started(rt: &impl Abort) {
     want_calls(rt, Program::start(Start::Nothing), &[]);
     want_calls(
@@ -55,6 +56,7 @@ fn want_started(rt: &impl Abort) {
         Program::start(Start::AbortsAndBegins),
         &[Call::Abort, Call::Begin],
     );
+    want_calls(rt, Program::start(Start::Restarts), &[Call::Restart]);
 }
 
 /// Programs of a path. The database of the page is 7, its file 7/2.

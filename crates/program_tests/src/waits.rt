@@ -155,6 +155,7 @@ fn want_kept(rt: &impl Abort, alloc: Global, programs: &mut Programs<Book>) {
     let kept = programs.take_kept(alloc);
     assert_eq!(rt; kept.len(), 2);
     assert!(rt; Programs::<Book>::goes_first(&Program::start(Start::CommitsAndBegins)));
+    assert!(rt; Programs::<Book>::goes_first(&Program::one(Call::Restart)));
     assert!(rt; !Programs::<Book>::goes_first(&Program::one(Call::Begin)));
 }
 
