@@ -25,7 +25,8 @@ static void write_entry(uint64_t place, const pelgaisti_entry *e) {
     case PELGAISTI_REFUSED: printf("%s\n", pelgaisti_refusal_name(e->reply.value)); break;
     case PELGAISTI_BEGAN:
     case PELGAISTI_COMMITTED:
-    case PELGAISTI_ABORTED: printf("%" PRIu64 "\n", e->reply.value); break;
+    case PELGAISTI_ABORTED:
+    case PELGAISTI_RESTARTED: printf("%" PRIu64 "\n", e->reply.value); break;
     default: printf("\n");
     }
 }

@@ -32,7 +32,7 @@ static pelgaisti_call call_of(uint32_t op, uint32_t mode, uint32_t level, uint32
 }
 
 static const uint32_t off_sessions[] = {0, 4, 256, 1024, 1025, 65537, UINT32_MAX};
-static const uint32_t off_ops[] = {0, 10, 256, UINT32_MAX};
+static const uint32_t off_ops[] = {0, 11, 256, UINT32_MAX};
 static const uint32_t off_modes[] = {2, 4, 6, 8, 12, 14, 16, 255, 256, 257, UINT32_MAX};
 static const uint32_t off_levels[] = {0, 6, 256, 257, UINT32_MAX};
 #define COUNT(list) (sizeof(list) / sizeof((list)[0]))
@@ -404,9 +404,9 @@ static void numbers_have_names(void) {
     static const char *const modes[] = {"NL", "IS", "unknown", "IX", "unknown", "S", "unknown", "SIX", "unknown", "unknown",
                                         "unknown", "unknown", "unknown", "U", "unknown", "X", "unknown"};
     static const char *const ops[] = {"unknown", "begin", "lock", "convert", "poll", "release", "commit", "abort", "try", "withdraw",
-                                      "unknown"};
+                                      "restart", "unknown"};
     static const char *const replies[] = {"unknown", "began", "granted", "waiting", "deadlock", "clear", "released", "committed",
-                                          "aborted", "refused", "withdrawn", "unknown"};
+                                          "aborted", "refused", "withdrawn", "restarted", "unknown"};
     static const char *const refusals[] = {"unknown", "AlreadyOpen", "NoTransaction", "IsWaiting", "IsDoomed", "NothingAsked",
                                            "NotHeld", "ParentNotHeld", "ChildHeld", "TooManyLocks", "unknown", "WouldWait",
                                            "NotWaiting", "unknown"};
@@ -445,7 +445,7 @@ static void batches_are_served(void) {
     CHECK(pelgaisti_book_serve_batch(&book, items, 6, &count) == PELGAISTI_NO_SUCH_MODE && count == 99);
     items[4].call.resource.level = 6;
     CHECK(pelgaisti_book_serve_batch(&book, items, 6, &count) == PELGAISTI_NO_SUCH_LEVEL);
-    items[4].call.op = 10;
+    items[4].call.op = 11;
     CHECK(pelgaisti_book_serve_batch(&book, items, 6, &count) == PELGAISTI_NO_SUCH_OP);
     items[4].session = 0;
     CHECK(pelgaisti_book_serve_batch(&book, items, 6, &count) == PELGAISTI_NO_SUCH_SESSION);
@@ -1419,7 +1419,8 @@ static int is_unrun(pelgaisti_book *book, uint32_t session, pelgaisti_program pr
 
 /* Each bad number of a program gives its status, the first of them in the order of the header's comment. */
 static void programs_refuse(void) {
-    static const uint32_t off_starts[] = {6, 7, 255, 256, UINT32_MAX}, ends[] = {PELGAISTI_BEGIN, PELGAISTI_COMMIT, PELGAISTI_ABORT};
+    static const uint32_t off_starts[] = {7, 8, 255, 256, UINT32_MAX};
+    static const uint32_t ends[] = {PELGAISTI_BEGIN, PELGAISTI_COMMIT, PELGAISTI_ABORT, PELGAISTI_RESTART};
     static const uint32_t on_resources[] = {PELGAISTI_LOCK, PELGAISTI_CONVERT, PELGAISTI_TRY, PELGAISTI_RELEASE};
     pelgaisti_book book = PELGAISTI_EMPTY;
     pelgaisti_program program = program_of(PELGAISTI_BEGINS, call_of(PELGAISTI_LOCK, PELGAISTI_X, 2, 7, 1));
@@ -1428,16 +1429,16 @@ static void programs_refuse(void) {
     size_t count = 99;
     CHECK(pelgaisti_book_run(&book, 1, &program, &answer, list, 3, &count) == PELGAISTI_CLOSED && count == 0);
     CHECK(pelgaisti_book_open(&book, 3) == PELGAISTI_OK);
-    program.start = 6;
+    program.start = 7;
     for (size_t room = 0; room < 3; room++) CHECK(is_unrun(&book, 4, program, room, PELGAISTI_NO_ROOM));
     for (size_t k = 0; k < COUNT(off_sessions); k++)
         CHECK(is_unrun(&book, off_sessions[k], program, 3, PELGAISTI_NO_SUCH_SESSION));
-    program.last.op = 10;
+    program.last.op = 11;
     for (size_t k = 0; k < COUNT(off_starts); k++) {
         program.start = off_starts[k];
         CHECK(is_unrun(&book, 1, program, 3, PELGAISTI_NO_SUCH_START));
     }
-    for (program.start = 0; program.start < 6; program.start++) {
+    for (program.start = 0; program.start < 7; program.start++) {
         for (size_t k = 1; k < COUNT(off_ops); k++) {
             program.last.op = off_ops[k];
             program.last.resource.level = 0;
@@ -1510,6 +1511,8 @@ static void programs_are_run(void) {
     CHECK(run(&book, 1, program_of(PELGAISTI_COMMITS_AND_BEGINS, none), 1, PELGAISTI_REFUSED).replies[0].value == PELGAISTI_NO_TRANSACTION);
     CHECK(run(&book, 1, program_of(PELGAISTI_BEGINS, none), 1, PELGAISTI_BEGAN).replies[0].value == 3);
     CHECK(run(&book, 1, program_of(PELGAISTI_ABORTS_AND_BEGINS, none), 2, PELGAISTI_BEGAN).replies[1].value == 4);
+    CHECK(run(&book, 1, program_of(PELGAISTI_RESTARTS, write_7), 2, PELGAISTI_GRANTED).replies[0].kind == PELGAISTI_RESTARTED);
+    CHECK(run(&book, 1, program_of(PELGAISTI_RESTARTS, none), 1, PELGAISTI_RESTARTED).replies[0].value == 1);
     /* seven calls: a commit, a begin and a path of five */
     longest.from = 1;
     longest.above = PELGAISTI_IX;
@@ -1622,6 +1625,50 @@ static void tries_and_withdrawals(void) {
     CHECK(entries[1].call.op == 8 && entries[1].call.mode == PELGAISTI_S && entries[1].call.resource.level == 1);
     CHECK(entries[1].reply.kind == PELGAISTI_GRANTED && entries[1].reply.value == PELGAISTI_S);
     for (uint32_t s = 1; s <= 3; s++) CHECK(replies(&book, s, commit, PELGAISTI_COMMITTED, s == 3 ? 2 : 1));
+    CHECK(pelgaisti_book_close(&book) == PELGAISTI_OK);
+}
+
+/* A victim restarts: its locks are given back, and its transaction goes on with its number. It is the older one of the next cycle, and
+   is spared. A session that waits restarts too. Session s has transaction s. */
+static void restarts(void) {
+    pelgaisti_book book = PELGAISTI_EMPTY;
+    pelgaisti_call begin = call_of(PELGAISTI_BEGIN, 0, 0, 0, 0), commit = call_of(PELGAISTI_COMMIT, 0, 0, 0, 0);
+    pelgaisti_call poll = call_of(PELGAISTI_POLL, 0, 0, 0, 0), restart = call_of(PELGAISTI_RESTART, 77, 88, 5, 6);
+    pelgaisti_call one = call_of(PELGAISTI_LOCK, PELGAISTI_X, 1, 1, 0), two = call_of(PELGAISTI_LOCK, PELGAISTI_X, 1, 2, 0);
+    pelgaisti_entry entry;
+    pelgaisti_transaction open;
+    uint32_t list[3] = {77, 77, 77}, mode = 99;
+    size_t count = 9;
+
+    CHECK(pelgaisti_book_open(&book, 3) == PELGAISTI_OK);
+    CHECK(replies(&book, 1, restart, PELGAISTI_REFUSED, PELGAISTI_NO_TRANSACTION));
+    for (uint32_t s = 1; s <= 2; s++) CHECK(replies(&book, s, begin, PELGAISTI_BEGAN, s));
+    CHECK(replies(&book, 1, one, PELGAISTI_GRANTED, PELGAISTI_X) && replies(&book, 2, two, PELGAISTI_GRANTED, PELGAISTI_X));
+    CHECK(replies(&book, 1, two, PELGAISTI_WAITING, 0) && replies(&book, 2, one, PELGAISTI_DEADLOCK, 0));
+    CHECK(replies(&book, 2, restart, PELGAISTI_RESTARTED, 1));
+    CHECK(pelgaisti_book_ended(&book, list, 3, &count) == PELGAISTI_OK && count == 1 && list[0] == 1);
+    CHECK(pelgaisti_book_held(&book, 2, &two.resource, &mode) == PELGAISTI_OK && mode == PELGAISTI_NL);
+    CHECK(pelgaisti_book_transaction(&book, 2, &open) == PELGAISTI_OK && open.number == 2 && open.doomed == 0);
+    CHECK(replies(&book, 2, poll, PELGAISTI_CLEAR, 0) && replies(&book, 2, begin, PELGAISTI_REFUSED, PELGAISTI_ALREADY_OPEN));
+    CHECK(replies(&book, 1, commit, PELGAISTI_COMMITTED, 2));
+
+    /* transaction 3, of session 1, closes a cycle with transaction 2: the younger is the victim */
+    CHECK(replies(&book, 1, begin, PELGAISTI_BEGAN, 3));
+    CHECK(replies(&book, 2, two, PELGAISTI_GRANTED, PELGAISTI_X) && replies(&book, 1, one, PELGAISTI_GRANTED, PELGAISTI_X));
+    CHECK(replies(&book, 2, one, PELGAISTI_WAITING, 0) && replies(&book, 1, two, PELGAISTI_DEADLOCK, 0));
+
+    /* a session that waits restarts: its request goes, and so does its lock */
+    CHECK(replies(&book, 2, restart, PELGAISTI_RESTARTED, 1) && replies(&book, 2, restart, PELGAISTI_RESTARTED, 0));
+    CHECK(pelgaisti_book_ended(&book, list, 3, &count) == PELGAISTI_OK && count == 0);
+    CHECK(replies(&book, 1, restart, PELGAISTI_RESTARTED, 1) && replies(&book, 1, commit, PELGAISTI_COMMITTED, 0));
+
+    /* in a batch; the numbers that a restart doesn't use become 0 */
+    memset(&entry, 0x55, sizeof entry);
+    entry.session = 2;
+    entry.call = restart;
+    CHECK(pelgaisti_book_serve_batch(&book, &entry, 1, &count) == PELGAISTI_OK && count == 1);
+    CHECK(entry.call.op == 10 && entry.call.mode == 0 && entry.call.resource.level == 0);
+    CHECK(entry.reply.kind == 11 && entry.reply.value == 0 && replies(&book, 2, commit, PELGAISTI_COMMITTED, 0));
     CHECK(pelgaisti_book_close(&book) == PELGAISTI_OK);
 }
 
@@ -2464,6 +2511,7 @@ int main(int argc, char **argv) {
     pieces_are_the_history();
     ended_waits_of_a_book();
     tries_and_withdrawals();
+    restarts();
     claims_of_a_book();
     sessions_ask();
     passes_tell();

@@ -149,6 +149,8 @@ static void programs() {
     CHECK(answer.size() == 4 && answer[0].value == 3 && ended == (std::vector<std::uint32_t>{9, 2}));
     CHECK(book.run(1, program::locks(start::nothing, {8, 2}, mode::X, 2), ended).size() == 1);
     CHECK(book.run(2, program(start::nothing, {op::poll}), ended)[0].kind == kind::clear);
+    answer = book.run(2, program(start::restarts, {op::lock, mode::S, {9}}), ended);
+    CHECK(answer[0].kind == kind::restarted && answer[0].value == 2 && answer[1].kind == kind::granted);
     CHECK(book.run(2, program(start::aborts, {op::try_lock, mode::S, {8}}), ended).stopped());
     CHECK(throws(PELGAISTI_NOT_ON_PATH, [&] { static_cast<void>(book.run(1, program::locks(start::begins, {8}, mode::X, 2), ended)); }));
     CHECK(throws(PELGAISTI_NO_SUCH_OP, [&] { static_cast<void>(book.run(1, program(start::commits, {op::begin}), ended)); }));
@@ -552,10 +554,11 @@ static void sizes() {
 
 static void names() {
     CHECK(std::string(name(mode::U)) == "U" && std::string(name(op::release)) == "release");
-    CHECK(std::string(name(kind::clear)) == "clear" && std::string(name(static_cast<kind>(11))) == "unknown");
+    CHECK(std::string(name(kind::clear)) == "clear" && std::string(name(static_cast<kind>(12))) == "unknown");
     CHECK(std::string(name(pelgaisti::refusal::too_many_locks)) == "TooManyLocks");
     CHECK(std::string(name(pelgaisti::refusal::not_waiting)) == "NotWaiting" && std::string(name(op::try_lock)) == "try");
     CHECK(std::string(name(op::withdraw)) == "withdraw" && std::string(name(kind::withdrawn)) == "withdrawn");
+    CHECK(std::string(name(op::restart)) == "restart" && std::string(name(kind::restarted)) == "restarted");
 }
 
 int main() {

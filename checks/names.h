@@ -15,13 +15,14 @@ typedef struct name {
 
 static const name ops[] = {{"begin", PELGAISTI_BEGIN},     {"lock", PELGAISTI_LOCK},     {"convert", PELGAISTI_CONVERT},
                            {"poll", PELGAISTI_POLL},       {"release", PELGAISTI_RELEASE}, {"commit", PELGAISTI_COMMIT},
-                           {"abort", PELGAISTI_ABORT},     {"try", PELGAISTI_TRY},       {"withdraw", PELGAISTI_WITHDRAW}};
+                           {"abort", PELGAISTI_ABORT},     {"try", PELGAISTI_TRY},       {"withdraw", PELGAISTI_WITHDRAW},
+                           {"restart", PELGAISTI_RESTART}};
 static const name modes[] = {{"NL", PELGAISTI_NL},   {"IS", PELGAISTI_IS}, {"IX", PELGAISTI_IX}, {"S", PELGAISTI_S},
                              {"SIX", PELGAISTI_SIX}, {"U", PELGAISTI_U},   {"X", PELGAISTI_X}};
 static const name kinds[] = {{"began", PELGAISTI_BEGAN},       {"granted", PELGAISTI_GRANTED},     {"waiting", PELGAISTI_WAITING},
                              {"deadlock", PELGAISTI_DEADLOCK}, {"clear", PELGAISTI_CLEAR},         {"released", PELGAISTI_RELEASED},
                              {"committed", PELGAISTI_COMMITTED}, {"aborted", PELGAISTI_ABORTED},   {"refused", PELGAISTI_REFUSED},
-                             {"withdrawn", PELGAISTI_WITHDRAWN}};
+                             {"withdrawn", PELGAISTI_WITHDRAWN}, {"restarted", PELGAISTI_RESTARTED}};
 static const name reasons[] = {
     {"AlreadyOpen", PELGAISTI_ALREADY_OPEN},    {"NoTransaction", PELGAISTI_NO_TRANSACTION}, {"IsWaiting", PELGAISTI_IS_WAITING},
     {"IsDoomed", PELGAISTI_IS_DOOMED},          {"NothingAsked", PELGAISTI_NOTHING_ASKED},   {"NotHeld", PELGAISTI_NOT_HELD},

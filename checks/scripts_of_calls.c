@@ -134,6 +134,7 @@ static pelgaisti_entry read_row(char *line, size_t index) {
     switch (row.reply.kind) {
     case PELGAISTI_BEGAN:
     case PELGAISTI_COMMITTED:
+    case PELGAISTI_RESTARTED:
     case PELGAISTI_ABORTED: row.reply.value = read_number(field[6]); break;
     case PELGAISTI_GRANTED: row.reply.value = number_of(modes, COUNT(modes), field[6]); break;
     case PELGAISTI_REFUSED: row.reply.value = number_of(reasons, COUNT(reasons), field[6]); break;
@@ -644,7 +645,7 @@ static pelgaisti_entry random_entry(void) {
     if (choice < 2) op = PELGAISTI_BEGIN;
     else if (choice == 2) op = PELGAISTI_POLL;
     else if (choice == 3) op = PELGAISTI_COMMIT;
-    else if (choice == 4) op = PELGAISTI_ABORT;
+    else if (choice == 4) op = draw(2) ? PELGAISTI_ABORT : PELGAISTI_RESTART;
     else if (choice == 5) op = PELGAISTI_RELEASE;
     else if (choice < 8) op = PELGAISTI_WITHDRAW;
     else if (choice < 10) op = PELGAISTI_TRY;
@@ -679,8 +680,8 @@ enum { EIGHT = 8 };
 
 /* The calls of a program, as the header says. Returns how many there are. */
 static size_t calls_of(const pelgaisti_program *program, pelgaisti_call calls[PELGAISTI_CALLS]) {
-    static const uint32_t starts[6][2] = {{0, 0}, {PELGAISTI_BEGIN, 0}, {PELGAISTI_COMMIT, 0}, {PELGAISTI_ABORT, 0},
-                                          {PELGAISTI_COMMIT, PELGAISTI_BEGIN}, {PELGAISTI_ABORT, PELGAISTI_BEGIN}};
+    static const uint32_t starts[7][2] = {{0, 0}, {PELGAISTI_BEGIN, 0}, {PELGAISTI_COMMIT, 0}, {PELGAISTI_ABORT, 0},
+                                          {PELGAISTI_COMMIT, PELGAISTI_BEGIN}, {PELGAISTI_ABORT, PELGAISTI_BEGIN}, {PELGAISTI_RESTART, 0}};
     const pelgaisti_resource *on = &program->last.resource;
     uint32_t level;
     size_t count = 0, k;
@@ -698,7 +699,7 @@ static pelgaisti_program random_program(void) {
     static const uint32_t ops[12] = {PELGAISTI_LOCK, PELGAISTI_LOCK, PELGAISTI_LOCK, PELGAISTI_LOCK, PELGAISTI_LOCK, PELGAISTI_TRY, PELGAISTI_TRY,
                                      PELGAISTI_CONVERT, PELGAISTI_RELEASE, PELGAISTI_WITHDRAW, PELGAISTI_POLL, 0};
     uint32_t op = ops[draw(12)], level = 1 + draw(3);
-    pelgaisti_program program = {draw(6), 0, 0, {0, 0, {0, {0}}}};
+    pelgaisti_program program = {draw(7), 0, 0, {0, 0, {0, {0}}}};
     int has_resource = has_mode(op) || op == PELGAISTI_RELEASE;
     program.last = entry_of(0, op, has_mode(op) ? drawn[draw(6)] : 0, path(has_resource ? level : 0, 1 + draw(2), 1 + draw(2)), 0, 0).call;
     if (has_resource) program.from = 1 + draw(level);
@@ -789,6 +790,7 @@ static void serve_and_note(size_t at, pelgaisti_entry entry, uint64_t turn) {
     case PELGAISTI_DEADLOCK: requests[at].waits = 0, seen_victims++; break;
     case PELGAISTI_WITHDRAWN: requests[at].waits = 0, seen_withdrawals++; break;
     case PELGAISTI_ABORTED:
+    case PELGAISTI_RESTARTED:
     case PELGAISTI_CLEAR: requests[at].waits = 0; break;
     default: break;
     }
@@ -830,17 +832,17 @@ static void want_edges_now(void) {
 
 static void want_edges(uint64_t turns) {
     static const uint32_t drawn[7] = {PELGAISTI_IS, PELGAISTI_IX, PELGAISTI_SIX, PELGAISTI_X, PELGAISTI_U, PELGAISTI_S, PELGAISTI_S};
-    static const uint32_t calls[19] = {PELGAISTI_BEGIN, PELGAISTI_BEGIN, PELGAISTI_BEGIN, PELGAISTI_RELEASE, PELGAISTI_COMMIT,
+    static const uint32_t calls[20] = {PELGAISTI_BEGIN, PELGAISTI_BEGIN, PELGAISTI_BEGIN, PELGAISTI_RELEASE, PELGAISTI_COMMIT,
                                        PELGAISTI_ABORT, PELGAISTI_CONVERT, PELGAISTI_CONVERT, PELGAISTI_CONVERT, PELGAISTI_TRY,
                                        PELGAISTI_TRY, PELGAISTI_WITHDRAW, PELGAISTI_LOCK, PELGAISTI_LOCK, PELGAISTI_LOCK,
-                                       PELGAISTI_LOCK, PELGAISTI_LOCK, PELGAISTI_LOCK, PELGAISTI_LOCK};
+                                       PELGAISTI_LOCK, PELGAISTI_LOCK, PELGAISTI_LOCK, PELGAISTI_LOCK, PELGAISTI_RESTART};
     uint64_t turn;
     size_t at;
     memset(requests, 0, sizeof requests);
     seen_waits = seen_victims = seen_withdrawals = seen_edges = 0;
     seed = 2026;
     for (turn = 0; turn < turns && !is_wrong; turn++) {
-        uint32_t who = draw(EIGHT), number = 1 + draw(3), mode = drawn[draw(7)], op = calls[draw(19)];
+        uint32_t who = draw(EIGHT), number = 1 + draw(3), mode = drawn[draw(7)], op = calls[draw(20)];
         serve_and_note(who, entry_of(0, op, has_mode(op) ? mode : 0, path(1, number, 0), 0, 0), turn);
         /* the model learns of grants and victims by polls */
         for (at = 0; at < EIGHT; at++)

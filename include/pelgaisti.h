@@ -152,7 +152,8 @@ typedef enum pelgaisti_op {
     PELGAISTI_COMMIT = 6,  /* ends the transaction and releases all its locks */
     PELGAISTI_ABORT = 7,   /* like COMMIT, also for a transaction that waits or is a victim */
     PELGAISTI_TRY = 8,     /* like LOCK, but never waits: where LOCK would wait, it is refused with WOULD_WAIT and changes nothing */
-    PELGAISTI_WITHDRAW = 9 /* takes the session's waiting request back: the transaction goes on, with the locks that it holds */
+    PELGAISTI_WITHDRAW = 9, /* takes the session's waiting request back: the transaction goes on, with the locks that it holds */
+    PELGAISTI_RESTART = 10 /* like ABORT, and the transaction is open again at once with its old number, not a victim */
 } pelgaisti_op;
 
 /* The kinds of replies, with the meaning of the reply's value. */
@@ -161,7 +162,7 @@ typedef enum pelgaisti_kind {
     PELGAISTI_GRANTED = 2,   /* the pelgaisti_mode that the session holds now */
     PELGAISTI_WAITING = 3,   /* 0: poll until the reply is CLEAR, which means granted, or DEADLOCK; or take the request back by
                                 WITHDRAW */
-    PELGAISTI_DEADLOCK = 4,  /* 0: the transaction was chosen as a victim. It keeps its locks: undo, then abort */
+    PELGAISTI_DEADLOCK = 4,  /* 0: the transaction was chosen as a victim. It keeps its locks: undo, then abort or restart */
     PELGAISTI_CLEAR = 5,     /* 0: the session waits for nothing. What was granted after a wait: a lock in the mode that was asked
                                 for; after a conversion the or of the code held before and the one asked for. Whoever doesn't know
                                 asks by pelgaisti_book_held, or locks the resource again in the mode that was asked for, which is
@@ -170,7 +171,8 @@ typedef enum pelgaisti_kind {
     PELGAISTI_COMMITTED = 7, /* the number of locks that were released */
     PELGAISTI_ABORTED = 8,   /* the number of locks that were released */
     PELGAISTI_REFUSED = 9,   /* a pelgaisti_why */
-    PELGAISTI_WITHDRAWN = 10 /* 0: the request was not granted and waits no more */
+    PELGAISTI_WITHDRAWN = 10, /* 0: the request was not granted and waits no more */
+    PELGAISTI_RESTARTED = 11 /* the number of locks that were released */
 } pelgaisti_kind;
 
 /* The reason for a refusal: the first test that failed. A refused call is entered into the history and has no other effect. Number 10
@@ -179,7 +181,7 @@ typedef enum pelgaisti_why {
     PELGAISTI_ALREADY_OPEN = 1,    /* the session already has a transaction */
     PELGAISTI_NO_TRANSACTION = 2,  /* the session has no transaction */
     PELGAISTI_IS_WAITING = 3,      /* a request of the session waits */
-    PELGAISTI_IS_DOOMED = 4,       /* the transaction is a victim and can only abort */
+    PELGAISTI_IS_DOOMED = 4,       /* the transaction is a victim and can only abort or restart */
     PELGAISTI_NOTHING_ASKED = 5,   /* the mode is NL */
     PELGAISTI_NOT_HELD = 6,        /* the session does not hold the resource */
     PELGAISTI_PARENT_NOT_HELD = 7, /* the session does not hold the parent in a mode that the lock needs there */
@@ -202,7 +204,8 @@ typedef enum pelgaisti_start {
     PELGAISTI_COMMITS = 2,           /* COMMIT */
     PELGAISTI_ABORTS = 3,            /* ABORT */
     PELGAISTI_COMMITS_AND_BEGINS = 4, /* COMMIT, and then BEGIN */
-    PELGAISTI_ABORTS_AND_BEGINS = 5  /* ABORT, and then BEGIN */
+    PELGAISTI_ABORTS_AND_BEGINS = 5, /* ABORT, and then BEGIN */
+    PELGAISTI_RESTARTS = 6           /* RESTART */
 } pelgaisti_start;
 
 #define PELGAISTI_LEVELS 5
@@ -256,7 +259,7 @@ typedef struct pelgaisti_holder {
 /* The open transaction of a session. */
 typedef struct pelgaisti_transaction {
     uint64_t number; /* the number that BEGAN told; 0 if the session has no transaction */
-    uint32_t doomed; /* 1 if it is a deadlock's victim that has not aborted yet. Otherwise 0 */
+    uint32_t doomed; /* 1 if it is a deadlock's victim that has not aborted or restarted yet. Otherwise 0 */
 } pelgaisti_transaction;
 
 /* A lock or a waiting request of a session. */
@@ -264,7 +267,7 @@ typedef struct pelgaisti_claim {
     uint32_t session;
     uint32_t kind;        /* a pelgaisti_claim_kind; 0 if there is none */
     uint32_t mode;        /* a pelgaisti_mode: of a lock its mode, of a request the mode that the session holds once it is granted */
-    uint32_t doomed;      /* 1 if the transaction is a deadlock's victim that has not aborted yet. Otherwise 0 */
+    uint32_t doomed;      /* 1 if the transaction is a deadlock's victim that has not aborted or restarted yet. Otherwise 0 */
     uint64_t transaction; /* the number of the session's transaction */
     pelgaisti_resource resource;
 } pelgaisti_claim;
@@ -611,8 +614,8 @@ pelgaisti_status pelgaisti_session_serve_telling(pelgaisti_session *session, pel
 
 /* Tries once to take the lock table, without blocking, and if that succeeds, performs the session's call at once, in a pass that
    serves the calls on the publication list too. The call is not published, and there is nothing to collect: the answer is written
-   here. A release, a commit, an abort or a withdrawal is performed ahead of the published calls, any other call behind them. `served`
-   of the pass counts the published calls. ELSEWHERE: nothing has changed, and the call may be published. NO_MEMORY: memory was refused
+   here. A release, a commit, an abort, a withdrawal or a restart is performed ahead of the published calls, any other call behind them.
+   `served` of the pass counts the published calls. ELSEWHERE: nothing has changed, and the call may be published. NO_MEMORY: memory was refused
    for the call, which is not in the history; it may be made again, or published. A pass was made, and other calls may have been
    served in it; the waker is called for those whose wait it has ended. `pass` may be NULL.
    NULL, CLOSED, NO_SUCH_OP, NO_SUCH_LEVEL, NO_SUCH_MODE, RETIRED, PENDING, NO_MEMORY or ELSEWHERE. */

@@ -34,8 +34,9 @@ using std::size_t, std::uint32_t, std::uint64_t;
 using entry = pelgaisti_entry;
 using waker = pelgaisti_waker;  // {wake, engine}: a function that may throw is no waker
 enum class mode : uint32_t { NL = 0, IS = 1, IX = 3, S = 5, SIX = 7, X = 15, U = 13 };
-enum class op : uint32_t { begin = 1, lock, convert, poll, release, commit, abort, try_lock, withdraw };
-enum class kind : uint32_t { began = 1, granted, waiting, deadlock, clear, released, committed, aborted, refused, withdrawn };
+enum class op : uint32_t { begin = 1, lock, convert, poll, release, commit, abort, try_lock, withdraw, restart };
+enum class kind : uint32_t { began = 1, granted, waiting, deadlock, clear, released, committed, aborted, refused, withdrawn,
+                             restarted };
 enum class refusal : uint64_t { already_open = 1, no_transaction, is_waiting, is_doomed, nothing_asked, not_held, parent_not_held,
                                 child_held, too_many_locks, would_wait = 11, not_waiting };
 inline const char *name(mode it) { return pelgaisti_mode_name(static_cast<uint64_t>(it)); }
@@ -95,12 +96,12 @@ struct [[nodiscard]] reply {
 };
 struct [[nodiscard]] answer { uint64_t place; pelgaisti::reply reply; };
 // What a program does with the session's transaction first.
-enum class start : uint32_t { nothing = 0, begins, commits, aborts, commits_and_begins, aborts_and_begins };
+enum class start : uint32_t { nothing = 0, begins, commits, aborts, commits_and_begins, aborts_and_begins, restarts };
 // Several calls of a session that are made as one: what `first` says, and then one call or the locks of a path.
 struct program : pelgaisti_program {
     // What `first` says, and no other call.
     explicit program(pelgaisti::start first) : pelgaisti_program{static_cast<uint32_t>(first), 0, 0, {}} {}
-    // One call behind it, which neither begins nor ends a transaction, as `first` does: else run fails with NO_SUCH_OP.
+    // One call behind it, which doesn't begin, end or restart a transaction, as `first` does: else run fails with NO_SUCH_OP.
     program(pelgaisti::start first, const call &one) : pelgaisti_program{static_cast<uint32_t>(first), one.resource.level, 0, one} {}
     // A path: the ancestors of the resource, from the level `from` on, in the mode that `in` needs of a parent, and the resource in `in`.
     static program locks(pelgaisti::start first, const resource &on, mode in, uint32_t from = 1) {

@@ -26,13 +26,13 @@ const char *pelgaisti_mode_name(uint64_t mode) {
 
 const char *pelgaisti_op_name(uint64_t op) {
     static const char *const names[] = {"unknown", "begin", "lock", "convert", "poll", "release", "commit", "abort", "try",
-                                        "withdraw"};
+                                        "withdraw", "restart"};
     return NAME_IN(names, op);
 }
 
 const char *pelgaisti_reply_name(uint64_t kind) {
     static const char *const names[] = {"unknown", "began", "granted", "waiting", "deadlock", "clear", "released", "committed",
-                                        "aborted", "refused", "withdrawn"};
+                                        "aborted", "refused", "withdrawn", "restarted"};
     return NAME_IN(names, kind);
 }
 
