@@ -163,6 +163,8 @@ pub enum Call {
     Try(Resource, Mode),
     /// Takes the session's waiting request back: the transaction goes on, with the locks that it holds.
     Withdraw,
+    /// Like `Abort`, and the transaction is open again at once with its old number, not a victim.
+    Restart,
 }
 
 impl Call {
@@ -183,6 +185,7 @@ impl Call {
             Call::Abort => plain(7),
             Call::Try(resource, mode) => of(8, resource, *mode),
             Call::Withdraw => plain(9),
+            Call::Restart => plain(10),
         }
     }
 
@@ -198,6 +201,7 @@ impl Call {
             (7, _) => Call::Abort,
             (8, Some(resource)) => Call::Try(resource, mode),
             (9, _) => Call::Withdraw,
+            (10, _) => Call::Restart,
             _ => Call::Poll,
         }
     }
@@ -214,7 +218,7 @@ pub enum Reply {
     /// The request waits. Poll until the reply is `Clear`, which means granted, or `Deadlock`; or take it back by
     /// [`Call::Withdraw`].
     Waiting,
-    /// The transaction was chosen as a victim. It keeps its locks: undo, then abort.
+    /// The transaction was chosen as a victim. It keeps its locks: undo, then abort or restart.
     Deadlock,
     /// The session waits for nothing. After a wait for a lock it is held in the mode that was asked for; after one for a conversion
     /// in the least upper bound of that and what was held, which [`crate::Book::held`] tells, or the reply to the same lock again.
@@ -229,6 +233,8 @@ pub enum Reply {
     Refused(Refusal),
     /// The request was not granted and waits no more.
     Withdrawn,
+    /// The transaction is open again with its old number. How many locks were released.
+    Restarted(u64),
 }
 
 impl Reply {
@@ -243,6 +249,7 @@ impl Reply {
             7 => Reply::Committed(raw.value),
             8 => Reply::Aborted(raw.value),
             10 => Reply::Withdrawn,
+            11 => Reply::Restarted(raw.value),
             _ => Reply::Refused(Refusal::of(raw.value)),
         }
     }
@@ -257,7 +264,7 @@ pub enum Refusal {
     NoTransaction,
     /// A request of the session waits.
     IsWaiting,
-    /// The transaction is a victim and can only abort.
+    /// The transaction is a victim and can only abort or restart.
     IsDoomed,
     /// The mode is NL.
     NothingAsked,

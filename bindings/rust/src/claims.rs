@@ -8,7 +8,7 @@ use crate::ffi::{RawClaim, RawHolder, RawTransaction};
 pub struct Transaction {
     /// Its number, which [`crate::Reply::Began`] told.
     pub number: u64,
-    /// Whether it is a deadlock's victim that hasn't aborted yet.
+    /// Whether it is a deadlock's victim that hasn't aborted or restarted yet.
     pub doomed: bool,
 }
 

@@ -18,6 +18,8 @@ pub enum Start {
     CommitsAndBegins,
     /// Aborts the open one and begins the next.
     AbortsAndBegins,
+    /// Restarts the open one.
+    Restarts,
 }
 
 impl Start {
@@ -29,6 +31,7 @@ impl Start {
             Start::Aborts => 3,
             Start::CommitsAndBegins => 4,
             Start::AbortsAndBegins => 5,
+            Start::Restarts => 6,
         }
     }
 }
@@ -67,6 +70,7 @@ impl Program {
             Call::Begin => Program::start(Start::Begins),
             Call::Commit => Program::start(Start::Commits),
             Call::Abort => Program::start(Start::Aborts),
+            Call::Restart => Program::start(Start::Restarts),
             other => Program::behind(Start::Nothing, other.raw()),
         }
     }

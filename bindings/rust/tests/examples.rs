@@ -27,6 +27,7 @@ fn calls(trace: &str) -> Vec<(u32, Call)> {
             "abort" => Call::Abort,
             "try" => Call::Try(resource(fields[2]), mode(fields[3])),
             "withdraw" => Call::Withdraw,
+            "restart" => Call::Restart,
             other => panic!("{other}"),
         };
         (fields[0].parse().unwrap(), call)
@@ -48,6 +49,7 @@ fn text(entries: &[Entry]) -> String {
             Call::Abort => ("abort", String::new(), ""),
             Call::Try(resource, mode) => ("try", resource.to_string(), mode.name()),
             Call::Withdraw => ("withdraw", String::new(), ""),
+            Call::Restart => ("restart", String::new(), ""),
         };
         let (reply, value) = match entry.reply {
             Reply::Began(number) => ("began", number.to_string()),
@@ -60,6 +62,7 @@ fn text(entries: &[Entry]) -> String {
             Reply::Aborted(locks) => ("aborted", locks.to_string()),
             Reply::Refused(why) => ("refused", why.to_string()),
             Reply::Withdrawn => ("withdrawn", String::new()),
+            Reply::Restarted(locks) => ("restarted", locks.to_string()),
         };
         lines += &format!("{place},{},{op},{resource},{mode},{reply},{value}\n", entry.session);
     }

@@ -25,6 +25,7 @@ fn each_start_is_made() {
     assert_eq!(replies(Start::Begins), [Reply::Began(2)]);
     assert_eq!(replies(Start::CommitsAndBegins), [Reply::Committed(0), Reply::Began(3)]);
     assert_eq!(replies(Start::AbortsAndBegins), [Reply::Aborted(0), Reply::Began(4)]);
+    assert_eq!(replies(Start::Restarts), [Reply::Restarted(0)]);
     assert_eq!(replies(Start::Aborts), [Reply::Aborted(0)]);
 }
 
@@ -40,13 +41,14 @@ fn each_call_is_a_program() {
         (Call::Poll, Reply::Clear),
         (Call::Withdraw, Reply::Refused(Refusal::NotWaiting)),
         (Call::Release(database), Reply::Released),
+        (Call::Restart, Reply::Restarted(0)),
         (Call::Commit, Reply::Committed(0)),
         (Call::Abort, Reply::Refused(Refusal::NoTransaction)),
     ] {
         assert_eq!(run(&mut book, 1, Program::one(&call)).0, [reply]);
     }
-    let called: Vec<_> = book.history(0, 9).unwrap().iter().map(|it| it.call).collect();
-    assert_eq!((called[0], called[5], called[8]), (Call::Begin, Call::Withdraw, Call::Abort));
+    let called: Vec<_> = book.history(0, 10).unwrap().iter().map(|it| it.call).collect();
+    assert_eq!((called[0], called[5], called[7], called[9]), (Call::Begin, Call::Withdraw, Call::Restart, Call::Abort));
 }
 
 #[test]
