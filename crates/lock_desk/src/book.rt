@@ -18,6 +18,7 @@ ghost use Rattle.sequential.specs.Histories.{IsEntryWithin};
 ghost use Rattle.lock_desk.specs.inner.Runs.{AreServed};
 
 mod blockers;
+mod memory;
 mod paths;
 
 use crate::lock_table::LockTable;
@@ -78,6 +79,9 @@ impl Book {
     ///
     /// `sessions` is from 1 to `MAX_SESSIONS`, which is this project's own limit. Fails with `NoMemory` if memory is
     /// refused for the table or for its marks.
+    ///
+    /// Resources are hashed with the seed 0: who knows that, and chooses the names of resources, can choose names that collide, and
+    /// calls on them are dear. Where strangers choose names, use `with_seed`.
     pub fn new(alloc: Global, sessions: u16) -> Result<Book, NoMemory>
         requires some { 1 ≤ sessions }
         requires few { sessions ≤ MAX_SESSIONS }
@@ -87,7 +91,22 @@ impl Book {
         ensures bound { IfOk result (λ book. book.bound ≡ NO_BOUND) }
         ensures ended { IfOk result (λ book. book.ended ≡ []) }
     {
-        let lock_table = LockTable::new(alloc, sessions)?;
+        Book::with_seed(alloc, sessions, 0)
+    }
+
+    /// Creates an empty lock table as `new` does, whose resources are hashed with this seed. No reply and no history depends on it.
+    ///
+    /// With a seed that is drawn by chance and kept secret, who chooses names doesn't know which of them collide.
+    pub fn with_seed(alloc: Global, sessions: u16, seed: u64) -> Result<Book, NoMemory>
+        requires some { 1 ≤ sessions }
+        requires few { sessions ≤ MAX_SESSIONS }
+        ensures sessions { IfOk result (λ book. book.sessions ≡ sessions) }
+        ensures empty { IfOk result (λ book. book.history ≡ []) }
+        ensures cut { IfOk result (λ book. book.cut ≡ 0) }
+        ensures bound { IfOk result (λ book. book.bound ≡ NO_BOUND) }
+        ensures ended { IfOk result (λ book. book.ended ≡ []) }
+    {
+        let lock_table = LockTable::new(alloc, sessions, seed)?;
         let marks = Marks::new(alloc, sessions)?;
         Ok(Book {
             sessions,
@@ -97,7 +116,7 @@ impl Book {
         })
     }
 
-    /// The number of sessions that was given to `new`, from 1 to `MAX_SESSIONS`.
+    /// The number of sessions that was given at its creation, from 1 to `MAX_SESSIONS`.
     pub fn sessions(&self) -> u16
         ensures sessions { result ≡ self.now.sessions }
         ensures some { 1 ≤ result }

@@ -17,12 +17,16 @@ use crate::ended::EndedWaits;
 use crate::lockers::Locker;
 use crate::promotion::promote;
 use crate::resource_order::sort_resources;
+use crate::seeded::Seeded;
 use crate::waits::{Waits, follow_give_up, update_rows};
 use indexmap::IndexSet;
 use lock_modes::Mode;
 use lock_tree::{Resource, same_path_is_equality};
 use std::alloc::{AllocError, Global};
 use std::marker::Model;
+
+/// Resources, each with a place.
+type Resources = IndexSet<Resource, Seeded>;
 
 /// The cells, each with the resource that it belongs to. Contracts see the cells in use: those of the resources that
 /// are held or waited for.
@@ -32,7 +36,7 @@ use std::marker::Model;
 #[derive(Drop)]
 pub struct CellTable {
     /// The resources whose cells are in use, and behind them the provisional key, if there is one.
-    resources: IndexSet<Resource>,
+    resources: Resources,
     /// The cell of each resource in use, at the same index. The cells behind those in use are idle, and keep the
     /// memory of their lists.
     cells: Vec<Cell>,
@@ -55,7 +59,7 @@ impl Model for CellTable {
 }
 
 /// Removes the provisional key, if there is one.
-fn drop_provisional(resources: &mut IndexSet<Resource>, has_provisional: &mut bool)
+fn drop_provisional(resources: &mut Resources, has_provisional: &mut bool)
     ensures keys { resources.new.keys ≡ in_use resources.old.keys has_provisional.old }
     ensures none { has_provisional.new ≡ false }
 {
@@ -67,7 +71,7 @@ fn drop_provisional(resources: &mut IndexSet<Resource>, has_provisional: &mut bo
 
 /// Whether `resource` is the last key.
 #[inline(always)]
-fn is_last(resources: &IndexSet<Resource>, resource: Resource) -> bool
+fn is_last(resources: &Resources, resource: Resource) -> bool
     ensures { result ≡ true → resources.now.keys ≡ in_use resources.now.keys true ++ resource ∷ [] }
 {
     match resources.last() {
@@ -77,7 +81,7 @@ fn is_last(resources: &IndexSet<Resource>, resource: Resource) -> bool
 }
 
 /// Whether the key at `place` is `resource`.
-fn is_at(resources: &IndexSet<Resource>, place: usize, resource: Resource) -> bool
+fn is_at(resources: &Resources, place: usize, resource: Resource) -> bool
     ensures { result ≡ true → slice_get resources.now.keys place ≡ Some resource }
 {
     match resources.get_index(place) {
@@ -90,7 +94,7 @@ fn is_at(resources: &IndexSet<Resource>, place: usize, resource: Resource) -> bo
 /// the keys in use are unchanged.
 #[inline(never)]
 fn insert_new_key(
-    resources: &mut IndexSet<Resource>,
+    resources: &mut Resources,
     has_provisional: &mut bool,
     resource: Resource,
 ) -> Result<(), AllocError>
@@ -109,7 +113,7 @@ fn insert_new_key(
 /// Like `insert_new_key`, but keeps the key if it is the provisional one already.
 #[inline(always)]
 fn insert_key(
-    resources: &mut IndexSet<Resource>,
+    resources: &mut Resources,
     has_provisional: &mut bool,
     resource: Resource,
 ) -> Result<(), AllocError>
@@ -155,15 +159,40 @@ fn ensure_cell(cells: &mut Vec<Cell>, place: usize) -> Result<(), AllocError>
 }
 
 impl CellTable {
-    /// An empty table.
-    pub(crate) fn new(alloc: Global) -> CellTable
+    /// An empty table, whose resources are hashed behind a seed.
+    pub(crate) fn new(alloc: Global, seed: u64) -> CellTable
         ensures { result.entries ≡ [] }
     {
         CellTable {
-            resources: IndexSet::new(alloc),
+            resources: IndexSet::with_hasher(alloc, Seeded::new(seed)),
             cells: Vec::new(alloc),
             has_provisional: false,
         }
+    }
+
+    /// Makes room for `more` resources beside those in use, so that as many cells are added without growing the table. If memory is
+    /// refused, some room may have been made.
+    pub(crate) fn reserve(&mut self, more: usize) -> Result<(), AllocError>
+        ensures same { self.new ≡ self.old }
+    {
+        drop_provisional(&mut self.resources, &mut self.has_provisional);
+        self.resources.reserve(more)?;
+        self.cells.reserve(more)
+    }
+
+    /// Gives back the memory of the cells that aren't in use, and the room for further ones.
+    pub(crate) fn shrink(&mut self)
+        ensures same { self.new ≡ self.old }
+    {
+        drop_provisional(&mut self.resources, &mut self.has_provisional);
+        self.resources.shrink_to_fit();
+        self.cells.truncate(self.resources.len());
+        self.cells.shrink_to_fit();
+    }
+
+    /// The number of cells that aren't in use, and keep their memory.
+    pub(crate) fn idle(&self) -> usize {
+        self.cells.len().saturating_sub(self.len())
     }
 
     /// The number of cells in use.

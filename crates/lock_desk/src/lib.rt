@@ -7,7 +7,8 @@
 //! 1. The structures.
 //!    - By resource: a cell has the holders and the wait queue of one resource (`cells.rt`), and `cell_table.rt` is the
 //!      table of all cells. The holders of a cell are in `holders.rt`: a single holder by itself, several in two
-//!      columns (`holder_columns.rt`). `resource_order.rt` brings resources into their order.
+//!      columns (`holder_columns.rt`). `resource_order.rt` brings resources into their order, `seeded.rt`
+//!      hashes them.
 //!    - By session: a locker has the transaction, the waiting request and the locks of one session (`lockers.rt`). Its
 //!      list of locks counts, for each indexed lock, the children held below it (`locks.rt`).
 //!    - Across both: `promotion.rt` grants queued requests in a cell and in the lockers, `waits.rt` keeps the waits-for
@@ -18,7 +19,7 @@
 //!    several locks on one resource together, by the operations of `grants.rt`. `listing.rt` lists all locks and
 //!    requests.
 //! 3. The book: the lock table with its history (`book.rt`). It is all that callers see. `book/paths.rt` locks a path,
-//!    `book/blockers.rt` lists whom a session waits for. `recording.rt` serves one call and adds it to the history.
+//!    `book/blockers.rt` lists whom a session waits for, `book/memory.rt` makes room and gives memory back. `recording.rt` serves one call and adds it to the history.
 //!    `object.rt` makes the book a sequential object, which threads can share.
 //!
 //! Proved: each reply is that of the sequential lock manager of `lock_rules` in the state that the history leads to,
@@ -41,6 +42,7 @@ mod positions;
 mod promotion;
 mod recording;
 mod resource_order;
+mod seeded;
 mod waits;
 
 pub use book::{Book, Item, PathLocked, grants, lock_of_level};

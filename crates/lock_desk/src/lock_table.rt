@@ -17,6 +17,7 @@ mod calls;
 mod deadlocks;
 mod grants;
 mod listing;
+mod memory;
 mod refusals;
 mod requests;
 mod restarts;
@@ -53,8 +54,9 @@ pub struct LockTable {
 }
 
 impl LockTable {
-    /// A table with a locker for each session, no transaction and no lock. Fails if memory is refused.
-    pub(crate) fn new(alloc: Global, sessions: u16) -> Result<LockTable, AllocError>
+    /// A table with a locker for each session, no transaction and no lock. Its resources are hashed behind a seed. Fails if memory is
+    /// refused.
+    pub(crate) fn new(alloc: Global, sessions: u16, seed: u64) -> Result<LockTable, AllocError>
         requires some { 1 ≤ sessions }
         requires few { sessions ≤ MAX_SESSIONS }
         ensures shows { IfOk result (λ lock_table. Shows lock_table empty) }
@@ -67,12 +69,12 @@ impl LockTable {
         let ended = EndedWaits::new(alloc, sessions)?;
         let mut lockers = Vec::new(alloc);
         for _locker in 0..sessions {
-            lockers.push(Locker::new(alloc))?;
+            lockers.push(Locker::new(alloc, seed))?;
         }
         Ok(LockTable {
             count: 0,
             lockers,
-            cells: CellTable::new(alloc),
+            cells: CellTable::new(alloc, seed),
             waits,
             ended,
         })

@@ -124,19 +124,28 @@ fn is_fresh(wanted: Option<Request>) -> bool
 impl Locker {
     ghost use Rattle.lock_desk.specs.inner.Lockers.{no_standing, standing_of, standing_after_grant, standing_after_asking, is_wanted};
 
-    /// The locker of a session without a transaction.
-    pub(crate) fn new(alloc: Global) -> Locker
+    /// The locker of a session without a transaction. Its resources are hashed behind a seed.
+    pub(crate) fn new(alloc: Global, seed: u64) -> Locker
         ensures { standing_of result ≡ no_standing }
     {
         Locker {
             transaction: None,
-            held: Locks::new(alloc),
+            held: Locks::new(alloc, seed),
             wanted: None,
             parent_hint: ParentHint {
                 level: 0,
                 latest: 0,
                 above: 0,
             },
+        }
+    }
+
+    /// Gives back the memory of the list of locks, if the session holds none and doesn't wait.
+    pub(crate) fn shrink(&mut self)
+        ensures standing { standing_of self.new ≡ standing_of self.old }
+    {
+        if self.wanted.is_none() {
+            self.held.shrink();
         }
     }
 

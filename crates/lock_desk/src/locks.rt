@@ -7,6 +7,7 @@ ghost use Rattle.lock_desk.specs.inner.Cells.{has_path, AreApart};
 ghost use Rattle.lock_desk.specs.inner.ChildCounts.{is_child, has_child, IsUnder, AreUnder, DoCount, resources_of, IsWithout};
 
 use crate::cells::is_same;
+use crate::seeded::Seeded;
 use indexmap::IndexMap;
 use lock_rules::MAX_LOCKS;
 use lock_tree::{Resource, same_path_is_equality};
@@ -15,6 +16,9 @@ use std::marker::Model;
 
 /// A release searches up to this many locks one by one. If there are more, it first moves them into the index.
 const SHORT: usize = 16;
+
+/// Resources, each with a number of children.
+type Counts = IndexMap<Resource, u32, Seeded>;
 
 /// The resources that a session holds: first those in the index, then the recent ones, in the order of their grants
 /// until one of them is released early. Contracts see them as this list, with the room for more.
@@ -25,7 +29,7 @@ const SHORT: usize = 16;
 #[derive(Drop)]
 pub struct Locks {
     /// The locks that were indexed, each with the number of its children in the index, while `counts_valid`.
-    indexed: IndexMap<Resource, u32>,
+    indexed: Counts,
     /// The locks granted since.
     recent: Vec<HeldLock>,
     /// `recent` may hold up to this many locks without growing anything: it has memory for them, and the index has room
@@ -93,7 +97,7 @@ fn search(list: &[HeldLock], resource: Resource) -> Option<usize>
 }
 
 /// The index of the parent of `resource`, if the parent is indexed.
-fn parent_place(indexed: &IndexMap<Resource, u32>, resource: Resource) -> Option<usize>
+fn parent_place(indexed: &Counts, resource: Resource) -> Option<usize>
     requires { AreApart (keys indexed.now) }
     ensures within { IfSome result (λ p. p < index_map_len indexed.now) }
     ensures only { IfSome result (λ p. (i : ℕ) → i < index_map_len indexed.now
@@ -112,7 +116,7 @@ fn parent_place(indexed: &IndexMap<Resource, u32>, resource: Resource) -> Option
 }
 
 /// Adds 1 to the count of the parent of `resource`, if the parent is indexed.
-fn raise_parent(indexed: &mut IndexMap<Resource, u32>, resource: Resource)
+fn raise_parent(indexed: &mut Counts, resource: Resource)
     requires counted { DoCount (keys indexed.old) (values indexed.old) }
     requires apart { AreApart (keys indexed.old) }
     requires few { index_map_len indexed.old < MAX_LOCKS }
@@ -128,7 +132,7 @@ fn raise_parent(indexed: &mut IndexMap<Resource, u32>, resource: Resource)
 
 /// Subtracts 1 from the count of the parent of `resource`, if the parent is indexed. `resource` must be indexed. A count
 /// that isn't right may be 0, and stays.
-fn lower_parent(indexed: &mut IndexMap<Resource, u32>, resource: Resource)
+fn lower_parent(indexed: &mut Counts, resource: Resource)
     requires apart { AreApart (keys indexed.old) }
     requires there { has_path resource (keys indexed.old) ≡ true }
     ensures keys { keys indexed.new ≡ keys indexed.old }
@@ -144,7 +148,7 @@ fn lower_parent(indexed: &mut IndexMap<Resource, u32>, resource: Resource)
 }
 
 /// Adds `resource` to the index, with the count 0: its children come after it. The index must have room.
-fn index_one(indexed: &mut IndexMap<Resource, u32>, resource: Resource)
+fn index_one(indexed: &mut Counts, resource: Resource)
     requires counted { DoCount (keys indexed.old) (values indexed.old) }
     requires apart { AreApart (keys indexed.old) }
     requires new { has_path resource (keys indexed.old) ≡ false }
@@ -161,7 +165,7 @@ fn index_one(indexed: &mut IndexMap<Resource, u32>, resource: Resource)
 }
 
 /// Removes `resource`, which has no children, from its place in the index. The last key moves to that place.
-fn remove_indexed(indexed: &mut IndexMap<Resource, u32>, place: usize, resource: Resource)
+fn remove_indexed(indexed: &mut Counts, place: usize, resource: Resource)
     requires within { place < index_map_len indexed.old }
     requires at { slice_index_or (keys indexed.old) place [] ≡ resource }
     requires apart { AreApart (keys indexed.old) }
@@ -175,7 +179,7 @@ fn remove_indexed(indexed: &mut IndexMap<Resource, u32>, place: usize, resource:
 }
 
 /// Whether the index has a child of `resource`, by the count of `resource`.
-fn counts_child(indexed: &IndexMap<Resource, u32>, resource: Resource) -> bool
+fn counts_child(indexed: &Counts, resource: Resource) -> bool
     requires { DoCount (keys indexed.now) (values indexed.now) }
     ensures { result ≡ has_child resource (keys indexed.now) }
 {
@@ -187,7 +191,7 @@ fn counts_child(indexed: &IndexMap<Resource, u32>, resource: Resource) -> bool
 }
 
 /// Adds these locks to the index, in their order. Each parent comes before its children.
-fn index_all(indexed: &mut IndexMap<Resource, u32>, recent: &[HeldLock])
+fn index_all(indexed: &mut Counts, recent: &[HeldLock])
     requires counted { DoCount (keys indexed.old) (values indexed.old) }
     requires apart { AreApart (keys indexed.old ++ resources_of recent.now) }
     requires under { AreUnder (keys indexed.old) (resources_of recent.now) }
@@ -204,17 +208,29 @@ fn index_all(indexed: &mut IndexMap<Resource, u32>, recent: &[HeldLock])
 }
 
 impl Locks {
-    /// No locks.
-    pub(crate) fn new(alloc: Global) -> Locks
+    /// No locks, whose resources are hashed behind a seed.
+    pub(crate) fn new(alloc: Global, seed: u64) -> Locks
         ensures { result.items ≡ [] }
     {
         Locks {
-            indexed: IndexMap::new(alloc),
+            indexed: IndexMap::with_hasher(alloc, Seeded::new(seed)),
             recent: Vec::new(alloc),
             reserved: 0,
             counts_valid: true,
             next_converted: 0,
         }
+    }
+
+    /// Gives back the memory of the lists, if there are no locks.
+    pub(crate) fn shrink(&mut self)
+        ensures { self.new.items ≡ self.old.items }
+    {
+        if self.len() > 0 {
+            return;
+        }
+        self.reserved = 0;
+        self.indexed.shrink_to_fit();
+        self.recent.shrink_to_fit();
     }
 
     /// The number of locks.

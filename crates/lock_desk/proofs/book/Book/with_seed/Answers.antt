@@ -5,7 +5,7 @@ use Rattle.lock_rules.specs.Entries.{Entry}
 use Rattle.lock_rules.specs.Legal.{IsLegal, state_of}
 use Rattle.lock_desk.specs.inner.Shows.{Shows}
 use Rattle.lock_desk.proofs.EndedList.{none-in}
-use Rattle.lock_desk.proofs.book.Book.new.Goals as goal
+use Rattle.lock_desk.proofs.book.Book.with_seed.Goals as goal
 
 pub invariant_of-result : goal.invariant_of-result
 invariant_of-result c =

@@ -1,0 +1,15 @@
+use Rattle.std.proofs.Common.{refl, ◌∙◌}
+use Rattle.lock_rules.specs.Legal.{state_of}
+use Rattle.lock_desk.proofs.BookInvariant.{kept-of, kept-same, of-kept}
+use Rattle.lock_desk.proofs.Simulation.{same-shown}
+use Rattle.lock_desk.proofs.book.Book.shrink.Goals as goal
+
+pub invariant_of-self : goal.invariant_of-self
+invariant_of-self c =
+    let a = c.self.inside in
+    let k = c.self.invariant in
+    let kept = c.shrink.ensures.kept in
+    of-kept _ k.some k.few
+    (kept-same a.lock_table c.shrink.new.self a.history.items a.history.items refl (kept-of a k)
+    (same-shown a.lock_table c.shrink.new.self (state_of a.history.items) c.shrink.ensures.same k.shows) kept.whole kept.ready kept.lockers)
+    (kept.lockers ∙ k.lockers) k.marked

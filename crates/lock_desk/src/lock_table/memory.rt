@@ -1,0 +1,62 @@
+//! Room that is made beforehand, and memory that is given back.
+
+ghost use Rattle.std.specs.Prelude.{◌≡◌, ◌≤◌, vec_len};
+ghost use Rattle.lock_desk.specs.inner.Changes.{IsSameSeen, IsWhole, DoesKeep};
+ghost use Rattle.lock_desk.specs.inner.Ready.{IsReadyTable};
+
+use crate::lock_table::LockTable;
+use crate::positions::position_of;
+use std::alloc::AllocError;
+
+impl LockTable {
+    /// Makes room for `more` resources beside those in use. If memory is refused, some room may have been made.
+    pub(crate) fn reserve(&mut self, more: usize) -> Result<(), AllocError>
+        ensures same { self.new ≡ self.old }
+    {
+        self.cells.reserve(more)
+    }
+
+    /// Gives back the memory of the list of locks of `session`, if it holds none and doesn't wait.
+    fn shrink_locker(&mut self, session: u16)
+        requires some { 1 ≤ session }
+        requires within { session ≤ vec_len self.old.lockers }
+        requires whole { IsWhole self.old }
+        requires ready { IsReadyTable self.old }
+        ensures same { IsSameSeen self.old self.new }
+        ensures kept { DoesKeep self.old self.new }
+    {
+        let locker = &mut self.lockers[position_of(session)];
+        locker.shrink();
+    }
+
+    /// Gives back the memory of the lists of locks of the first `sessions` sessions that hold none and don't wait.
+    fn shrink_lockers(&mut self, sessions: u16)
+        requires within { sessions ≤ vec_len self.old.lockers }
+        requires whole { IsWhole self.old }
+        requires ready { IsReadyTable self.old }
+        ensures same { IsSameSeen self.old self.new }
+        ensures kept { DoesKeep self.old self.new }
+    {
+        for session in 0..sessions {
+            self.shrink_locker(session + 1);
+        }
+    }
+
+    /// Gives back the memory of cells that aren't in use, and of lists of locks of those of the `sessions` sessions that hold
+    /// none.
+    pub(crate) fn shrink(&mut self, sessions: u16)
+        requires within { sessions ≤ vec_len self.old.lockers }
+        requires whole { IsWhole self.old }
+        requires ready { IsReadyTable self.old }
+        ensures same { IsSameSeen self.old self.new }
+        ensures kept { DoesKeep self.old self.new }
+    {
+        self.shrink_lockers(sessions);
+        self.cells.shrink();
+    }
+
+    /// The number of cells that aren't in use, and keep their memory.
+    pub(crate) fn idle_cells(&self) -> usize {
+        self.cells.idle()
+    }
+}
