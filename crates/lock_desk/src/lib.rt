@@ -20,7 +20,8 @@
 //!    requests.
 //! 3. The book: the lock table with its history (`book.rt`). It is all that callers see. `book/paths.rt` locks a path,
 //!    `book/blockers.rt` lists whom a session waits for, `book/memory.rt` makes room and gives memory back. `recording.rt` serves one call and adds it to the history.
-//!    `object.rt` makes the book a sequential object, which threads can share.
+//!    `object.rt` makes the book a sequential object, which threads can share; `tending.rt` has what is done with the memory of one that
+//!    is shared.
 //!
 //! Proved: each reply is that of the sequential lock manager of `lock_rules` in the state that the history leads to,
 //! and a call for which memory is refused changes nothing that callers see. Only tested: that memory follows the
@@ -43,6 +44,7 @@ mod promotion;
 mod recording;
 mod resource_order;
 mod seeded;
+mod tending;
 mod waits;
 
 pub use book::{Book, Item, PathLocked, grants, lock_of_level};
@@ -51,6 +53,7 @@ pub use lock_rules::{
     Call, Claim, ClaimKind, Entry, MAX_LOCKS, MAX_SESSIONS, Reply, Transaction, Why,
 };
 pub use lock_tree::Resource;
+pub use tending::{CountIdle, Reserve, Shrink};
 pub use trimmed_list::{MOST_DROPPED, NO_BOUND};
 
 /// The only error of this crate: memory was refused.

@@ -6,7 +6,8 @@ ghost use Rattle.lock_rules.specs.Entries.{Entry};
 
 use lock_desk::Book;
 use programs::{Programmed, Programs};
-use sequential::Batching;
+use sequential::{Batching, Tends};
+use std::alloc::AllocError as NoMemory;
 
 /// An object that serves its calls by a book.
 pub trait HasBook: Batching {
@@ -17,6 +18,10 @@ pub trait HasBook: Batching {
     fn book(&self) -> &Book
         ensures history { result.now.history ≡ calls (Self.history self.now) }
         ensures sessions { result.now.sessions ≡ Self.sessions self.now };
+
+    /// Works on the book, and changes nothing that contracts see.
+    fn tend<T: Tends<Book>>(&mut self, how: &mut T) -> Result<(), NoMemory>
+        ensures same { self.new ≡ self.old };
 }
 
 impl HasBook for Book {
@@ -24,6 +29,21 @@ impl HasBook for Book {
 
     fn book(&self) -> &Book {
         self
+    }
+
+    fn tend<T: Tends<Book>>(&mut self, how: &mut T) -> Result<(), NoMemory> {
+        how.tend(self)
+    }
+}
+
+/// Works on the book that an object has.
+struct OnBook<'a, T> {
+    how: &'a mut T,
+}
+
+impl<O: HasBook, T: Tends<Book>> Tends<O> for OnBook<'_, T> {
+    fn tend(&mut self, object: &mut O) -> Result<(), NoMemory> {
+        object.tend(self.how)
     }
 }
 
@@ -35,5 +55,10 @@ impl<O: Programmed + HasBook> HasBook for Programs<O> {
 
     fn book(&self) -> &Book {
         self.object().book()
+    }
+
+    fn tend<T: Tends<Book>>(&mut self, how: &mut T) -> Result<(), NoMemory> {
+        let mut on_book = OnBook { how };
+        self.tend(&mut on_book)
     }
 }

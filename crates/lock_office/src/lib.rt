@@ -3,7 +3,7 @@
 //!
 //! Sessions publish, serve and collect by the calls of `combining`. `opening.rt` opens an office that lets go of its history,
 //! `paths.rt` locks a path in one taking of the lock table, `queries.rt` has questions that a session asks of the lock table meanwhile,
-//! of any object with a book (`has_book.rt`), and `laws.rt` says what holds of locks.
+//! of any object with a book (`has_book.rt`), `memory.rt` makes room in it and gives memory back, and `laws.rt` says what holds of locks.
 //!
 //! Proved, beside what `combining` proves of any object: each reply is the one that the sequential lock manager gives at its
 //! place, no two transactions ever have incompatible access to a resource, no waits form a circle, and no wake-up is lost
@@ -12,6 +12,7 @@
 
 mod has_book;
 pub mod laws;
+pub mod memory;
 mod opening;
 mod paths;
 pub mod queries;
@@ -23,7 +24,7 @@ pub use combining::{
 pub use has_book::HasBook;
 pub use lock_board::{Knowledge, Ticket as Session};
 use lock_desk::{Book, Entry, Reply};
-pub use opening::{book_keeping, open_keeping};
+pub use opening::{book_keeping, book_seeded, open_keeping, open_seeded};
 pub use paths::{NextOfPath, PathPerformed, WhileGranted, lock_path, path_turn};
 
 /// A lock table that threads share by reference, each with sessions of its own.

@@ -21,13 +21,29 @@ pub fn book_keeping(alloc: Global, sessions: u16, bound: u64) -> Result<Book, Op
     ensures bound { IfOk result (λ book. book.bound ≡ bound) }
     ensures empty { IfOk result (λ book. book.history ≡ []) }
 {
+    book_seeded(alloc, sessions, bound, 0)
+}
+
+/// A book as `book_keeping` makes it, whose resources are hashed with a seed, as `Book::with_seed` says.
+pub fn book_seeded(
+    alloc: Global,
+    sessions: u16,
+    bound: u64,
+    seed: u64,
+) -> Result<Book, OpenFault>
+    ensures none { (result ≡ Err OpenFault.NoSessions) ↔ (sessions ≡ 0) }
+    ensures many { (result ≡ Err OpenFault.TooManySessions) ↔ (MAX_SESSIONS < sessions) }
+    ensures sessions { IfOk result (λ book. book.sessions ≡ sessions) }
+    ensures bound { IfOk result (λ book. book.bound ≡ bound) }
+    ensures empty { IfOk result (λ book. book.history ≡ []) }
+{
     if sessions == 0 {
         return Err(OpenFault::NoSessions);
     }
     if sessions > MAX_SESSIONS {
         return Err(OpenFault::TooManySessions);
     }
-    let Ok(mut book) = Book::new(alloc, sessions) else {
+    let Ok(mut book) = Book::with_seed(alloc, sessions, seed) else {
         return Err(OpenFault::NoMemory);
     };
     book.keep_at_most(bound);
@@ -49,7 +65,25 @@ pub fn open_keeping(
     ensures sessions { IfOk result (λ made. made.1.items ≡ new_tickets made.0.id sessions sessions) }
     ensures ready { IfOk result (λ made. All (λ session. IsSessionOf made.0 session × IsIdle session) made.1.items) }
 {
-    let book = book_keeping(alloc, sessions, bound)?;
+    open_seeded(alloc, sessions, bound, 0)
+}
+
+/// Opens an office as `open_keeping` does, whose lock table hashes resources with a seed: where strangers choose the names of
+/// resources, one that is drawn by chance and kept secret. No reply and no history depends on it.
+pub fn open_seeded(
+    alloc: Global,
+    sessions: u16,
+    bound: u64,
+    seed: u64,
+) -> Result<(Office, Vec<Session>), OpenFault>
+    ensures none { (result ≡ Err OpenFault.NoSessions) ↔ (sessions ≡ 0) }
+    ensures many { (result ≡ Err OpenFault.TooManySessions) ↔ (MAX_SESSIONS < sessions) }
+    ensures office { IfOk result (λ made. made.0.sessions ≡ sessions) }
+    ensures bound { IfOk result (λ made. made.0.bound ≡ bound) }
+    ensures sessions { IfOk result (λ made. made.1.items ≡ new_tickets made.0.id sessions sessions) }
+    ensures ready { IfOk result (λ made. All (λ session. IsSessionOf made.0 session × IsIdle session) made.1.items) }
+{
+    let book = book_seeded(alloc, sessions, bound, seed)?;
     match Office::share(alloc, book) {
         Ok(made) => Ok(made),
         Err(NoMemory) => Err(OpenFault::NoMemory),

@@ -11,7 +11,7 @@ use crate::continuing::{Continuing, serve_each_on};
 use crate::counted::CountedList;
 use crate::form::Programmed;
 use crate::run_calls::{run, run_on};
-use sequential::{Batching, Entry, Item, Sequential, Serving};
+use sequential::{Batching, Entry, Item, Sequential, Serving, Tends};
 use std::alloc::AllocError as NoMemory;
 use std::marker::Model;
 
@@ -57,6 +57,13 @@ impl<O: Programmed> Programs<O> {
         ensures history { O.history result.now ≡ flat O.form self.now.history }
     {
         &self.object
+    }
+
+    /// Works on the object that serves the calls, and changes nothing that contracts see.
+    pub fn tend<T: Tends<O>>(&mut self, how: &mut T) -> Result<(), NoMemory>
+        ensures same { self.new ≡ self.old }
+    {
+        how.tend(&mut self.object)
     }
 
     /// Gives up the programs for the object that served their calls.

@@ -139,6 +139,16 @@ impl<T: Drop> TrimmedList<T> {
         self.dropped += dead;
     }
 
+    /// Gives back the memory of items that aren't kept, and the room for more. Moves the items that are kept.
+    pub fn shrink(&mut self)
+        ensures items { self.new.items ≡ self.old.items }
+        ensures cut { self.new.cut ≡ self.old.cut }
+        ensures bound { self.new.bound ≡ self.old.bound }
+    {
+        self.drop_dead();
+        self.tail.shrink_to_fit();
+    }
+
     /// Appends an item, for which there is room.
     #[inline(always)]
     pub fn push_reserved(&mut self, item: T)

@@ -28,6 +28,7 @@ impl Book {
         ensures { self.new ≡ self.old }
     {
         self.lock_table.shrink(self.sessions);
+        self.history.shrink();
     }
 
     /// The number of cells that are kept with their memory, and serve no resource at the moment: `shrink` gives it back.
