@@ -1,4 +1,4 @@
-use Rattle.std.proofs.Common.{refl, ◌∙◌}
+use Rattle.std.proofs.Common.{◌∙◌}
 use Rattle.lock_rules.specs.Legal.{state_of}
 use Rattle.lock_desk.proofs.BookInvariant.{kept-of, kept-same, of-kept}
 use Rattle.lock_desk.proofs.Simulation.{same-shown}
@@ -10,6 +10,6 @@ invariant_of-self c =
     let k = c.self.invariant in
     let kept = c.shrink.ensures.kept in
     of-kept _ k.some k.few
-    (kept-same a.lock_table c.shrink.new.self a.history.items a.history.items refl (kept-of a k)
+    (kept-same a.lock_table c.shrink.new.self a.history.items c.shrink-2.new.self.items c.shrink-2.ensures.items (kept-of a k)
     (same-shown a.lock_table c.shrink.new.self (state_of a.history.items) c.shrink.ensures.same k.shows) kept.whole kept.ready kept.lockers)
     (kept.lockers ∙ k.lockers) k.marked
