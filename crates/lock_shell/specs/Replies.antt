@@ -39,6 +39,7 @@ words_of_operands call.Commit = []
 words_of_operands call.Abort = []
 words_of_operands (call.Try r m) = words_of_request_at r m
 words_of_operands call.Withdraw = []
+words_of_operands call.Restart = []
 
 -- the place of a call of session s, its session and its op
 abbrev pub words_of_start : ℕ → ℕ → Call → List ℕ
@@ -87,6 +88,7 @@ words_of_reply (reply.Committed n) x = codes "committed, locks given back: " ++ 
 words_of_reply (reply.Aborted n) x = codes "aborted, locks given back: " ++ decimal n
 words_of_reply (reply.Refused w) x = codes "refused: " ++ words_of_refusal w x.refusal
 words_of_reply reply.Withdrawn x = codes "withdrawn"
+words_of_reply (reply.Restarted n) x = codes "restarted, locks given back: " ++ decimal n
 
 -- what becomes of a victim, and how to see why
 abbrev pub words_of_fate : ℕ → List ℕ

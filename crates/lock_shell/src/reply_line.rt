@@ -35,6 +35,7 @@ pub(crate) fn op_word(call: &Call) -> &'static str
         Call::Abort => "abort",
         Call::Try(_, _) => "try",
         Call::Withdraw => "withdraw",
+        Call::Restart => "restart",
     }
 }
 
@@ -56,7 +57,8 @@ fn put_operands(out: &mut String, call: &Call) -> Result<(), NoMemory>
             write!(out, " {resource} {name}")
         }
         Call::Release(resource) => write!(out, " {resource}"),
-        Call::Begin | Call::Poll | Call::Commit | Call::Abort | Call::Withdraw => Ok(()),
+        Call::Begin | Call::Poll | Call::Commit | Call::Abort | Call::Withdraw | Call::Restart =>
+            Ok(()),
     }
 }
 
@@ -172,6 +174,7 @@ fn put_reply(out: &mut String, reply: Reply, explanation: &Explanation) -> Resul
             put_refusal(out, why, &explanation.refusal)
         }
         Reply::Withdrawn => put_words(out, "withdrawn"),
+        Reply::Restarted(count) => write!(out, "restarted, locks given back: {count}"),
     }
 }
 

@@ -22,6 +22,7 @@ pub(crate) const HELP: &str =
   1 withdraw           takes a request that waits back
   1 release 1/2        gives one lock back
   1 commit             gives all back; so does abort
+  1 restart            gives all back, and begins the same transaction anew
 resources are 1 to 5 numbers joined by '/'; modes are IS, IX, S, SIX, U and X
   show                 who holds what, and who waits for whom
   why 2                why session 2 waits, was refused or is a deadlock victim
@@ -46,7 +47,7 @@ pub(crate) fn text_of_unread(unread: Unread) -> &'static str
             TraceKind::Session =>
                 "can't read this: a line begins with one of the sessions, as in '1 begin'; 'help' lists the words\n",
             TraceKind::Op =>
-                "can't read this: calls are begin, lock, path, convert, try, release, poll, withdraw, commit and abort\n",
+                "can't read this: calls are begin, lock, path, convert, try, release, poll, withdraw, commit, abort and restart\n",
             TraceKind::Path(_) =>
                 "can't read this: a resource is 1 to 5 numbers joined by '/', as in 1/2/3\n",
             TraceKind::Mode =>

@@ -21,7 +21,7 @@ fn put_row(out: &mut String, entry: &Entry) -> Result<(), NoMemory>
             writeln!(out, "{session},{op},{resource},{name}")
         }
         Call::Release(resource) => writeln!(out, "{session},{op},{resource},"),
-        Call::Begin | Call::Poll | Call::Commit | Call::Abort | Call::Withdraw => {
+        Call::Begin | Call::Poll | Call::Commit | Call::Abort | Call::Withdraw | Call::Restart => {
             writeln!(out, "{session},{op},,")
         }
     }
