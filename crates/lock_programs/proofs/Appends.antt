@@ -11,14 +11,14 @@ use Rattle.lock_programs.specs.declared.stop.Stop.{Stop}
 use Rattle.lock_programs.specs.declared.stop.Stop.TheVariants.{GoesOn, Waits, IsVictim, IsRefused}
 use Rattle.lock_programs.specs.declared.program.Program.{Program}
 use Rattle.lock_programs.specs.Calls.{calls_of}
-use Rattle.lock_programs.specs.Answers.{Told, done_with, done_reply, stop_reply, reply_at, replies_from, program_form}
+use Rattle.lock_programs.specs.Answers.{Told, done_with, done_reply, stop_at, stop_reply, reply_at, replies_from, program_form}
 use Rattle.lock_programs.specs.Fits.{goes_on_behind, fits}
-use Rattle.lock_programs.specs.inner.Noting.{began_after, ended_after, granted_after, stop_after}
+use Rattle.lock_programs.specs.inner.Noting.{began_after, ended_after, granted_after}
 use Rattle.lock_programs.proofs.Lasts.{last-with}
-use Rattle.lock_programs.proofs.Shapes.{begin-place, commit-place, abort-place, restart-place}
+use Rattle.lock_programs.proofs.Shapes.{begin-once, commit-place, abort-place, restart-place}
 
 -- fewer replies than calls were served
-served-few : (a : Told) (cs : List Call) (k n : ℕ) → length (replies_from a cs k n) < length cs → n < length cs
+pub served-few : (a : Told) (cs : List Call) (k n : ℕ) → length (replies_from a cs k n) < length cs → n < length cs
 served-few a [] k n h = absurd (omega (arith, h))
 served-few a (c ∷ cs) k zero h = omega arith
 served-few a (c ∷ cs) k (suc n) h = omega (arith, served-few a cs (k + 1) n (omega (arith, h)))
@@ -150,7 +150,7 @@ began-kept p old (Refused why) n j l f m h = refl
 began-kept p old (Began k) n j l f m h =
     let c = call-at (calls_of p) n m in
     let b : c.0 ≡ Begin = only-begin c.0 k (f c.0 c.1) in
-    absurd (omega (arith, l, begin-place p j h, begin-place p n (c.1 ∙ ap Some b)))
+    absurd (omega (arith, l, begin-once p j n h (c.1 ∙ ap Some b)))
 
 -- the number of locks that were released, at the end alone
 ended-kept : (p : Program) (old : ℕ) (r : Reply) (n j : ℕ) → j < n → ((c : Call) → slice_get (calls_of p) n ≡ Some c → fits c r ≡ true) → n < length (calls_of p)
@@ -198,7 +198,7 @@ went cs a (suc n) h l z = going-stop a cs 0 n (omega (arith, l)) h
 
 -- the last reply is told as it is
 last : (p : Program) (old new : Told) (r : Reply) (n : ℕ) → n < length old.granted → new.began ≡ began_after old.began r → new.ended ≡ ended_after old.ended r
-    → new.granted ≡ set old.granted n (granted_after (slice_index_or old.granted n NL) r) → new.stop ≡ stop_after r
+    → new.granted ≡ set old.granted n (granted_after (slice_index_or old.granted n NL) r) → new.stop ≡ stop_at r
     → (c : Call) → fits c r ≡ true → stop_reply new.stop (done_reply new c (0 + n)) ≡ r
 last p old new r n w b e g t c f =
     let o : Mode = slice_index_or old.granted n NL in
@@ -206,16 +206,16 @@ last p old new r n w b e g t c f =
     let m : slice_index_or new.granted (0 + n) NL ≡ granted_after o r
     = ap (λ (i : ℕ). slice_index_or new.granted i NL) z ∙ ap (λ (l : List Mode). slice_index_or l n NL) g ∙ get_or-set_same old.granted n (granted_after o r) NL w in
     ap (λ (s : Stop). stop_reply s (done_reply new c (0 + n))) t
-    ∙ ap (λ (x : ℕ). stop_reply (stop_after r) (done_with x new.ended (slice_index_or new.granted (0 + n) NL) c)) b
-    ∙ ap (λ (x : ℕ). stop_reply (stop_after r) (done_with (began_after old.began r) x (slice_index_or new.granted (0 + n) NL) c)) e
-    ∙ ap (λ (x : Mode). stop_reply (stop_after r) (done_with (began_after old.began r) (ended_after old.ended r) x c)) m
+    ∙ ap (λ (x : ℕ). stop_reply (stop_at r) (done_with x new.ended (slice_index_or new.granted (0 + n) NL) c)) b
+    ∙ ap (λ (x : ℕ). stop_reply (stop_at r) (done_with (began_after old.began r) x (slice_index_or new.granted (0 + n) NL) c)) e
+    ∙ ap (λ (x : Mode). stop_reply (stop_at r) (done_with (began_after old.began r) (ended_after old.ended r) x c)) m
     ∙ last-with c r old.began old.ended o f
 
 -- the answer with one more reply tells one more
 pub appended : (p : Program) (old new : Told) (n : ℕ) (r : Reply) → AllGoOn program_form (replies_from old (calls_of p) 0 n) → length (replies_from old (calls_of p) 0 n) < length (calls_of p)
     → ((c : Call) → slice_get (calls_of p) (length (replies_from old (calls_of p) 0 n)) ≡ Some c → fits c r ≡ true) → n < length old.granted
     → new.began ≡ began_after old.began r → new.ended ≡ ended_after old.ended r
-    → new.granted ≡ set old.granted n (granted_after (slice_index_or old.granted n NL) r) → new.stop ≡ stop_after r
+    → new.granted ≡ set old.granted n (granted_after (slice_index_or old.granted n NL) r) → new.stop ≡ stop_at r
     → replies_from new (calls_of p) 0 (n + 1) ≡ replies_from old (calls_of p) 0 n ++ r ∷ []
 appended p old new n r h l f w b e g t =
     let cs : List Call = calls_of p in

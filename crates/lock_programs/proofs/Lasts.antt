@@ -5,13 +5,13 @@ use Rattle.lock_rules.specs.declared.calls.Call.{Call}
 use Rattle.lock_rules.specs.declared.calls.Call.TheVariants.{Begin, Lock, Convert, Poll, Release, Commit, Abort, Try, Withdraw, Restart}
 use Rattle.lock_rules.specs.declared.calls.Reply.{Reply}
 use Rattle.lock_rules.specs.declared.calls.Reply.TheVariants.{Began, Granted, Waiting, Deadlock, Clear, Released, Committed, Aborted, Refused, Withdrawn, Restarted}
-use Rattle.lock_programs.specs.Answers.{done_with, stop_reply}
+use Rattle.lock_programs.specs.Answers.{done_with, stop_at, stop_reply}
 use Rattle.lock_programs.specs.Fits.{fits}
-use Rattle.lock_programs.specs.inner.Noting.{began_after, ended_after, granted_after, stop_after}
+use Rattle.lock_programs.specs.inner.Noting.{began_after, ended_after, granted_after}
 
 -- what was noted of a reply that fits its call tells the reply
 pub last-with : (c : Call) (r : Reply) (b e : ℕ) (o : Mode) → fits c r ≡ true
-    → stop_reply (stop_after r) (done_with (began_after b r) (ended_after e r) (granted_after o r) c) ≡ r
+    → stop_reply (stop_at r) (done_with (began_after b r) (ended_after e r) (granted_after o r) c) ≡ r
 last-with Begin (Began n) b e o h = refl
 last-with Begin (Granted k) b e o h = absurd (cc)
 last-with Begin Waiting b e o h = refl

@@ -27,3 +27,9 @@ pub few-from : (t : Told) (cs : List Call) (k n : ℕ) → length (replies_from 
 few-from t [] k n = omega arith
 few-from t (c ∷ cs) k zero = omega arith
 few-from t (c ∷ cs) k (suc n) = let l = few-from t cs (k + 1) n in omega (arith, l)
+
+-- and no more than there are calls
+pub within-calls : (t : Told) (cs : List Call) (k n : ℕ) → length (replies_from t cs k n) ≤ length cs
+within-calls t [] k n = omega arith
+within-calls t (c ∷ cs) k zero = omega arith
+within-calls t (c ∷ cs) k (suc n) = let l = within-calls t cs (k + 1) n in omega (arith, l)

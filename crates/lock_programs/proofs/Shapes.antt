@@ -7,9 +7,12 @@ use Rattle.lock_programs.specs.declared.program.Start.{Start}
 use Rattle.lock_programs.specs.declared.program.Start.TheVariants.{Nothing, Begins, Commits, Aborts, CommitsAndBegins, AbortsAndBegins, Restarts}
 use Rattle.lock_programs.specs.declared.program.Last.{Last}
 use Rattle.lock_programs.specs.declared.program.Last.TheVariants.{Locks, Converts, Tries, Releases, Polls, Withdraws}
+use Rattle.lock_programs.specs.declared.path.StartedPath.{StartedPath}
+use Rattle.lock_programs.specs.declared.program.Calls.{Calls}
+use Rattle.lock_programs.specs.declared.program.Calls.TheVariants.{One, Path}
 use Rattle.lock_programs.specs.declared.program.Program.{Program}
 use Rattle.lock_programs.specs.Starts.{start_calls, last_call, call_before, path_calls}
-use Rattle.lock_programs.specs.Calls.{path_of, calls_of}
+use Rattle.lock_programs.specs.Calls.{path_of, calls_started, calls_in, calls_of}
 
 -- as many calls on a path as were counted
 pub path-length : (r : List ℕ) (above : Mode) (last : Last) (from n : ℕ) → length (path_calls r above last from n) ≡ n
@@ -26,13 +29,20 @@ start-few CommitsAndBegins = omega arith
 start-few AbortsAndBegins = omega arith
 start-few Restarts = omega arith
 
-pub calls-few : (p : Program) → length (calls_of p) ≤ 7
-calls-few p =
+started-few : (p : StartedPath) → length (calls_started p) ≤ 7
+started-few p =
     let a = start-few p.start in
     let n = path-length p.resource p.above p.last p.from (length p.resource + 1 - p.from) in
     let deep : length p.resource ≤ 5 = p.deep in
     let some : 1 ≤ p.from = p.some in
     omega (arith, length-append (start_calls p.start) (path_of p), a, n, deep, some)
+
+few-in : (cs : Calls) → length (calls_in cs) ≤ 7
+few-in (One c) = omega arith
+few-in (Path p) = started-few p
+
+pub calls-few : (p : Program) → length (calls_of p) ≤ 7
+calls-few p = few-in p.calls
 
 -- the call at a place of a path, which has so many behind it
 pub path-at : (r : List ℕ) (above : Mode) (last : Last) (from n j b : ℕ) → n ≡ j + 1 + b → slice_get (path_calls r above last from n) j ≡ Some (call_before above last b (take (from + j) r))
@@ -137,17 +147,36 @@ front-among c other AbortsAndBegins ps none_of (suc (suc i)) h = absurd (none_of
 front-among c other Restarts ps none_of zero h = refl
 front-among c other Restarts ps none_of (suc i) h = absurd (none_of i h)
 
-off-path : (p : Program) (i : ℕ) (c : Call) → slice_get (path_of p) i ≡ Some c → is_turn c ≡ false
+off-path : (p : StartedPath) (i : ℕ) (c : Call) → slice_get (path_of p) i ≡ Some c → is_turn c ≡ false
 off-path p i c h = path-no_turn p.resource p.above p.last p.from (length p.resource + 1 - p.from) i c h
 
-pub begin-place : (p : Program) (i : ℕ) → slice_get (calls_of p) i ≡ Some Begin → i ≡ begins_at p.start
-begin-place p i h = begin-among p.start (path_of p) (λ j k. no_begin Begin (off-path p j Begin k) refl) i h
+-- a single call is at the front
+single-place : (c d : Call) (i : ℕ) → slice_get (c ∷ []) i ≡ Some d → i ≡ 0
+single-place c d zero h = refl
+single-place c d (suc i) h = absurd (cc)
+
+-- the place of the begin of a program
+abbrev begins_in : Calls → ℕ
+begins_in (One c) = 0
+begins_in (Path p) = begins_at p.start
+
+begin-in : (cs : Calls) (i : ℕ) → slice_get (calls_in cs) i ≡ Some Begin → i ≡ begins_in cs
+begin-in (One c) i h = single-place c Begin i h
+begin-in (Path p) i h = begin-among p.start (path_of p) (λ j k. no_begin Begin (off-path p j Begin k) refl) i h
+
+-- what isn't on a path and isn't a begin is at the front of a program
+front-in : (d : Call) → (d ≡ Begin → ⊥) → (is_turn d ≡ false → ⊥) → (cs : Calls) (i : ℕ) → slice_get (calls_in cs) i ≡ Some d → i ≡ 0
+front-in d other turns (One c) i h = single-place c d i h
+front-in d other turns (Path p) i h = front-among d other p.start (path_of p) (λ j k. turns (off-path p j d k)) i h
+
+pub begin-once : (p : Program) (i j : ℕ) → slice_get (calls_of p) i ≡ Some Begin → slice_get (calls_of p) j ≡ Some Begin → i ≡ j
+begin-once p i j h k = begin-in p.calls i h ∙ sym (begin-in p.calls j k)
 
 pub commit-place : (p : Program) (i : ℕ) → slice_get (calls_of p) i ≡ Some Commit → i ≡ 0
-commit-place p i h = front-among Commit (λ e. cc) p.start (path_of p) (λ j k. no_commit Commit (off-path p j Commit k) refl) i h
+commit-place p i h = front-in Commit (λ e. cc) (λ t. no_commit Commit t refl) p.calls i h
 
 pub abort-place : (p : Program) (i : ℕ) → slice_get (calls_of p) i ≡ Some Abort → i ≡ 0
-abort-place p i h = front-among Abort (λ e. cc) p.start (path_of p) (λ j k. no_abort Abort (off-path p j Abort k) refl) i h
+abort-place p i h = front-in Abort (λ e. cc) (λ t. no_abort Abort t refl) p.calls i h
 
 pub restart-place : (p : Program) (i : ℕ) → slice_get (calls_of p) i ≡ Some Restart → i ≡ 0
-restart-place p i h = front-among Restart (λ e. cc) p.start (path_of p) (λ j k. no_restart Restart (off-path p j Restart k) refl) i h
+restart-place p i h = front-in Restart (λ e. cc) (λ t. no_restart Restart t refl) p.calls i h

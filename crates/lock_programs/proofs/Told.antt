@@ -11,11 +11,13 @@ use Rattle.programs.specs.Answers.{RepliesFit, AreTold}
 use Rattle.programs.proofs.Placed.{run-few}
 use Rattle.lock_programs.specs.declared.stop.Stop.TheVariants.{GoesOn}
 use Rattle.lock_programs.specs.declared.program.Program.{Program}
-use Rattle.lock_programs.specs.declared.answer.Answer.{Answer}
+use Rattle.lock_programs.specs.declared.notes.Notes.{Notes}
+use Rattle.lock_programs.specs.declared.answer.Replies.{Replies}
+use Rattle.lock_programs.specs.declared.answer.Replies.TheVariants as told_by
 use Rattle.lock_programs.specs.Calls.{calls_of}
-use Rattle.lock_programs.specs.Answers.{Told, replies_from, program_form}
+use Rattle.lock_programs.specs.Answers.{Told, stop_at, replies_from, replies_told, replies_in, program_form}
 use Rattle.lock_programs.specs.Fits.{Fits}
-use Rattle.lock_programs.specs.inner.Noting.{began_after, ended_after, granted_after, stop_after}
+use Rattle.lock_programs.specs.inner.Noting.{began_after, ended_after, granted_after}
 use Rattle.lock_programs.proofs.Shapes.{calls-few}
 use Rattle.lock_programs.proofs.Appends.{none-from, appended}
 
@@ -55,7 +57,7 @@ tells-first p rs run fit (suc n) l =
     let long : length (take n rs) ≡ n = front-length rs n (omega (arith, l)) in
     let here : length (replies_from old.told (calls_of p) 0 n) ≡ n = ap (λ (q : List Reply). length q) old.replies ∙ long in
     let m = granted_after (slice_index_or old.told.granted n NL) i.0 in
-    let new : Told = record { began = began_after old.told.began i.0; ended = ended_after old.told.ended i.0; granted = set old.told.granted n m; stop = stop_after i.0 } in
+    let new : Told = record { began = began_after old.told.began i.0; ended = ended_after old.told.ended i.0; granted = set old.told.granted n m; stop = stop_at i.0 } in
     let one : suc n ≡ n + 1 = omega arith in
     record {
       told = new;
@@ -70,11 +72,20 @@ tells-first p rs run fit (suc n) l =
           ∙ (ap (λ (q : List Reply). q ++ i.0 ∷ []) old.replies ∙ sym i.2));
     }
 
+-- told by a single reply, or by notes
+told-by : (cs : List Call) (rs : List Reply) → length rs ≤ length cs → (n : Notes) → replies_told cs n ≡ rs → (x : Replies) × (replies_in cs x ≡ rs)
+told-by [] rs few n e = (told_by.Several n, e)
+told-by (c ∷ []) [] few n e = (told_by.None, refl)
+told-by (c ∷ []) (r ∷ []) few n e = (told_by.One r, refl)
+told-by (c ∷ []) (r ∷ q ∷ rs) few n e = absurd (omega (arith, few))
+told-by (c ∷ d ∷ cs) rs few n e = (told_by.Several n, e)
+
 pub runs_are_told : AreTold program_form Fits
 runs_are_told p first rs run fit =
     let t : Tells p rs (length rs) = tells-first p rs run fit (length rs) (omega arith) in
-    let few : length rs ≤ 7 = omega (arith, run-few program_form (calls_of p) rs false run, calls-few p) in
-    (answer t.told few, t.replies ∙ take-length rs, refl, refl)
+    let few : length rs ≤ length (calls_of p) = run-few program_form (calls_of p) rs false run in
+    let x = told-by (calls_of p) rs few (notes t.told (omega (arith, few, calls-few p))) (t.replies ∙ take-length rs) in
+    (record { first = first; is_refused = false; replies = x.0 }, x.1, refl, refl)
   where
-    answer : Told → length rs ≤ 7 → Answer
-    answer t few = record { first = first; began = t.began; ended = t.ended; granted = t.granted; served = length rs; is_refused = false; stop = t.stop; few = few }
+    notes : Told → length rs ≤ 7 → Notes
+    notes t few = record { began = t.began; ended = t.ended; granted = t.granted; served = length rs; stop = t.stop; few = few }

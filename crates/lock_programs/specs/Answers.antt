@@ -9,6 +9,9 @@ use Rattle.lock_rules.specs.declared.calls.Reply.{Reply}
 use Rattle.lock_rules.specs.declared.calls.Reply.TheVariants.{Began, Granted, Waiting, Deadlock, Clear, Released, Committed, Aborted, Refused, Withdrawn, Restarted}
 use Rattle.lock_programs.specs.declared.stop.Stop.{Stop}
 use Rattle.lock_programs.specs.declared.stop.Stop.TheVariants.{GoesOn, Waits, IsVictim, IsRefused}
+use Rattle.lock_programs.specs.declared.notes.Notes.{Notes}
+use Rattle.lock_programs.specs.declared.answer.Replies.{Replies}
+use Rattle.lock_programs.specs.declared.answer.Replies.TheVariants as told_by
 use Rattle.lock_programs.specs.declared.answer.Answer.{Answer}
 use Rattle.lock_programs.specs.declared.program.Program.{Program}
 use Rattle.lock_programs.specs.Calls.{calls_of}
@@ -36,7 +39,7 @@ pub record Told : Type 0 where
   pub granted : List Mode
   pub stop : Stop
 
-abbrev pub told_of : Answer → Told
+abbrev pub told_of : Notes → Told
 told_of a = record { began = a.began; ended = a.ended; granted = a.granted; stop = a.stop }
 
 -- the reply to the call at place k, if it was granted or done
@@ -61,9 +64,37 @@ replies_from t [] k n = []
 replies_from t (c ∷ cs) k zero = []
 replies_from t (c ∷ cs) k (suc n) = reply_at t c k n ∷ replies_from t cs (k + 1) n
 
+-- the replies that notes tell to the first of these calls
+abbrev pub replies_told : List Call → Notes → List Reply
+replies_told cs n = replies_from (told_of n) cs 0 n.served
+
+-- the replies that are told to the first of these calls. A single reply is that to a single call
+abbrev pub replies_in : List Call → Replies → List Reply
+replies_in cs told_by.None = []
+replies_in [] (told_by.One r) = []
+replies_in (c ∷ []) (told_by.One r) = r ∷ []
+replies_in (c ∷ d ∷ cs) (told_by.One r) = []
+replies_in cs (told_by.Several n) = replies_told cs n
+
 -- the replies to the calls of a program that were served
 abbrev pub replies_of : Program → Answer → List Reply
-replies_of p a = replies_from (told_of a) (calls_of p) 0 a.served
+replies_of p a = replies_in (calls_of p) a.replies
+
+-- why a program stops at this reply
+abbrev pub stop_at : Reply → Stop
+stop_at Waiting = Waits
+stop_at Deadlock = IsVictim
+stop_at (Refused why) = IsRefused why
+stop_at _ = GoesOn
+
+-- why a program stopped at its last reply
+abbrev pub stop_told : Replies → Stop
+stop_told told_by.None = GoesOn
+stop_told (told_by.One r) = stop_at r
+stop_told (told_by.Several n) = n.stop
+
+abbrev pub stop_of : Answer → Stop
+stop_of a = stop_told a.replies
 
 -- how programs and their answers are read
 abbrev pub program_form : Form Program Answer Call Reply

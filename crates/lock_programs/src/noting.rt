@@ -2,8 +2,8 @@
 
 ghost use Rattle.std.specs.Prelude.{◌≡◌};
 ghost use Rattle.lock_programs.specs.Fits.{goes_on_behind};
-ghost use Rattle.lock_programs.specs.Answers.{done_with, stop_reply};
-ghost use Rattle.lock_programs.specs.inner.Noting.{began_after, ended_after, granted_after, stop_after};
+ghost use Rattle.lock_programs.specs.Answers.{done_with, stop_at, stop_reply};
+ghost use Rattle.lock_programs.specs.inner.Noting.{began_after, ended_after, granted_after};
 
 use crate::stop::Stop;
 use lock_modes::Mode;
@@ -48,7 +48,7 @@ pub(crate) fn granted_after(mode: Mode, reply: &Reply) -> Mode
 
 /// Why the program stops at this reply.
 pub(crate) fn stop_after(reply: &Reply) -> Stop
-    ensures { result ≡ stop_after reply.now }
+    ensures { result ≡ stop_at reply.now }
 {
     match reply {
         Reply::Waiting => Stop::Waits,

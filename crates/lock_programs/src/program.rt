@@ -4,6 +4,7 @@ ghost use Rattle.std.specs.Prelude.{◌≡◌, ◌+◌, ◌-◌, ◌<◌, ◌≤
 ghost use Rattle.lock_tree.specs.declared.levels.TheConstants.{LEVELS};
 ghost use Rattle.lock_programs.specs.declared.program.TheConstants.{CALLS};
 
+use crate::path::StartedPath;
 use lock_modes::Mode;
 use lock_rules::Call;
 use lock_tree::{LEVELS, Resource};
@@ -37,7 +38,7 @@ impl Start {
     ghost use Rattle.lock_programs.specs.Starts.{start_calls};
 
     /// The number of its calls.
-    fn length(self) -> usize
+    pub(crate) fn length(self) -> usize
         ensures { result ≡ length (start_calls self) }
     {
         match self {
@@ -48,7 +49,7 @@ impl Start {
     }
 
     /// The call at index `at`, from 0 on.
-    fn call(self, at: usize) -> Call
+    pub(crate) fn call(self, at: usize) -> Call
         requires { at < length (start_calls self) }
         ensures { slice_get (start_calls self) at ≡ Some result }
     {
@@ -84,7 +85,7 @@ impl Last {
     ghost use Rattle.lock_programs.specs.Starts.{last_call};
 
     /// The call, on this resource.
-    fn call(self, resource: &Resource) -> Call
+    pub(crate) fn call(self, resource: &Resource) -> Call
         ensures { result ≡ last_call self resource.now }
     {
         match self {
@@ -98,22 +99,20 @@ impl Last {
     }
 }
 
-/// Several calls of a session, in order: what `Start` says; then a lock on each ancestor of a resource from a level on, in one
-/// mode; then a call on the resource. There may be none of either kind.
+/// The calls of a program.
+#[derive(Clone, Copy)]
+enum Calls {
+    /// One call.
+    One(Call),
+    /// A path, and what comes before it.
+    Path(StartedPath),
+}
+
+/// Several calls of a session, in order: one call of any kind; or what `Start` says, then a lock on each ancestor of a resource from a
+/// level on, in one mode, then a call on the resource.
 pub struct Program {
-    /// The resource at the end of the path. Nothing relies on it if there is no path.
-    resource: Resource,
-    /// The level of the first resource on the path, from 1; the one below the resource if there is no path.
-    from: u8,
-    /// The mode of the locks on the ancestors.
-    above: Mode,
-    /// The call on the resource.
-    last: Last,
-    /// What comes before the path.
-    start: Start,
-    ghost some: { 1 ≤ from },
-    ghost within: { from ≤ length resource + 1 },
-    ghost deep: { length resource ≤ LEVELS },
+    /// The calls.
+    calls: Calls,
 }
 
 impl Clone for Program {
@@ -128,7 +127,7 @@ impl Program {
     ghost use Rattle.lock_modes.specs.Order.{need_of};
     ghost use Rattle.lock_programs.specs.declared.program.Last.TheVariants.{Locks};
     ghost use Rattle.lock_programs.specs.Starts.{start_calls, last_call, path_calls};
-    ghost use Rattle.lock_programs.specs.Calls.{calls_of, path_of};
+    ghost use Rattle.lock_programs.specs.Calls.{calls_of};
 
     /// A program that begins with `start`, locks the ancestors of `resource` from the level `from` on in the mode `above`, and
     /// makes the call `last` on the resource. Levels are counted from 1, that of a database.
@@ -139,11 +138,13 @@ impl Program {
     {
         let _numbers = resource.numbers();
         Program {
-            resource: *resource,
-            from,
-            above,
-            last,
-            start,
+            calls: Calls::Path(StartedPath {
+                resource: *resource,
+                from,
+                above,
+                last,
+                start,
+            }),
         }
     }
 
@@ -170,81 +171,47 @@ impl Program {
         let resource = any_resource();
         let _numbers = resource.numbers();
         Program {
-            resource,
-            from: resource.level() + 1,
-            above: Mode::NL,
-            last: Last::Polls,
-            start,
+            calls: Calls::Path(StartedPath {
+                resource,
+                from: resource.level() + 1,
+                above: Mode::NL,
+                last: Last::Polls,
+                start,
+            }),
         }
     }
 
     /// A program of one call.
+    #[inline(always)]
     pub fn one(call: Call) -> Program
         ensures { calls_of result ≡ call ∷ [] }
     {
-        match call {
-            Call::Begin => Program::start(Start::Begins),
-            Call::Commit => Program::start(Start::Commits),
-            Call::Abort => Program::start(Start::Aborts),
-            Call::Restart => Program::start(Start::Restarts),
-            Call::Lock(resource, mode) => Program::on_one(&resource, Last::Locks(mode)),
-            Call::Convert(resource, mode) => Program::on_one(&resource, Last::Converts(mode)),
-            Call::Try(resource, mode) => Program::on_one(&resource, Last::Tries(mode)),
-            Call::Release(resource) => Program::on_one(&resource, Last::Releases),
-            Call::Poll => Program::on_one(&any_resource(), Last::Polls),
-            Call::Withdraw => Program::on_one(&any_resource(), Last::Withdraws),
+        Program {
+            calls: Calls::One(call),
         }
     }
 
-    /// A program of one call on a resource.
-    fn on_one(resource: &Resource, last: Last) -> Program
-        ensures { calls_of result ≡ last_call last resource.now ∷ [] }
-    {
-        let _numbers = resource.numbers();
-        Program::path(Start::Nothing, resource, resource.level(), Mode::NL, last)
-    }
-
     /// The number of calls.
+    #[inline(always)]
     pub fn length(&self) -> usize
         ensures value { result ≡ length (calls_of self.now) }
         ensures few { result ≤ CALLS }
     {
-        self.start.length() + self.path_length()
-    }
-
-    /// The number of calls of the path.
-    fn path_length(&self) -> usize
-        ensures levels { result ≡ length self.now.resource + 1 - self.now.from }
-        ensures counted { result ≡ length (path_of self.now) }
-    {
-        (self.resource.level() + 1 - self.from) as usize
+        match &self.calls {
+            Calls::One(_) => 1,
+            Calls::Path(path) => path.length(),
+        }
     }
 
     /// The call at index `at`, from 0 on.
+    #[inline(always)]
     pub fn call(&self, at: usize) -> Call
         requires { at < length (calls_of self.now) }
         ensures { slice_get (calls_of self.now) at ≡ Some result }
     {
-        let first = self.start.length();
-        if at < first {
-            return self.start.call(at);
-        }
-        self.on_path(at - first)
-    }
-
-    /// The call at index `at` of the path, from 0 on.
-    fn on_path(&self, at: usize) -> Call
-        requires { at < length self.now.resource + 1 - self.now.from }
-        ensures { slice_get (path_of self.now) at ≡ Some result }
-    {
-        let numbers = self.resource.numbers();
-        let level = self.from as usize + at;
-        if level == numbers.len() {
-            return self.last.call(&self.resource);
-        }
-        match Resource::from_numbers(&numbers[..level]) {
-            Some(ancestor) => Call::Lock(ancestor, self.above),
-            None => unreachable!(),
+        match &self.calls {
+            Calls::One(call) => *call,
+            Calls::Path(path) => path.call(at),
         }
     }
 }

@@ -2,9 +2,7 @@
 use Rattle.std.specs.Prelude.{ℕ}
 use Rattle.lock_modes.specs.declared.Mode.{Mode}
 use Rattle.lock_rules.specs.declared.calls.Reply.{Reply}
-use Rattle.lock_rules.specs.declared.calls.Reply.TheVariants.{Began, Granted, Waiting, Deadlock, Committed, Aborted, Refused, Restarted}
-use Rattle.lock_programs.specs.declared.stop.Stop.{Stop}
-use Rattle.lock_programs.specs.declared.stop.Stop.TheVariants.{GoesOn, Waits, IsVictim, IsRefused}
+use Rattle.lock_rules.specs.declared.calls.Reply.TheVariants.{Began, Granted, Committed, Aborted, Restarted}
 
 -- the number of the transaction that was begun
 abbrev pub began_after : ℕ → Reply → ℕ
@@ -22,10 +20,3 @@ ended_after n _ = n
 abbrev pub granted_after : Mode → Reply → Mode
 granted_after m (Granted k) = k
 granted_after m _ = m
-
--- why the program stops
-abbrev pub stop_after : Reply → Stop
-stop_after Waiting = Waits
-stop_after Deadlock = IsVictim
-stop_after (Refused why) = IsRefused why
-stop_after _ = GoesOn

@@ -4,7 +4,7 @@ use Rattle.lock_rules.specs.declared.calls.Call.{Call}
 use Rattle.lock_rules.specs.declared.calls.Call.TheVariants.{Lock}
 use Rattle.lock_programs.specs.Starts.{last_call}
 use Rattle.lock_programs.proofs.Shapes.{path-at}
-use Rattle.lock_programs.proofs.program.Program.on_path.Goals as goal
+use Rattle.lock_programs.proofs.path.StartedPath.on_path.Goals as goal
 
 pub returns-then-level-numbers : goal.returns-then-level-numbers
 returns-then-level-numbers c =

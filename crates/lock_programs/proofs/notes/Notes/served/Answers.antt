@@ -3,7 +3,7 @@ use Rattle.lock_programs.specs.Answers.{told_of}
 use Rattle.lock_programs.specs.Calls.{calls_of}
 use Rattle.lock_programs.proofs.Appends.{served-length}
 use Rattle.lock_programs.proofs.Readings.{all-from}
-use Rattle.lock_programs.proofs.answer.Answer.served.Goals as goal
+use Rattle.lock_programs.proofs.notes.Notes.served.Goals as goal
 
 pub returns-then-served-length-clause-value : goal.returns-then-served-length-clause-value
 returns-then-served-length-clause-value c =

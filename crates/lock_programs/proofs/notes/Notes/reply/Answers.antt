@@ -2,8 +2,8 @@ use Rattle.std.proofs.Common.{◌≡◌, ℕ, ◌+◌, ◌-◌, suc, ◌∙◌, 
 use Rattle.lock_rules.specs.declared.calls.Reply.{Reply}
 use Rattle.lock_programs.specs.Answers.{told_of, done_reply, stop_reply}
 use Rattle.lock_programs.specs.Calls.{calls_of}
-use Rattle.lock_programs.proofs.Readings.{from-at, few-from}
-use Rattle.lock_programs.proofs.answer.Answer.reply.Goals as goal
+use Rattle.lock_programs.proofs.Readings.{from-at, few-from, within-calls}
+use Rattle.lock_programs.proofs.notes.Notes.reply.Goals as goal
 
 pub returns-then-at-self : goal.returns-then-at-self
 returns-then-at-self c =
@@ -21,3 +21,6 @@ returns c =
     from-at (told_of a) (calls_of c.args.program.now) 0 a.served c.args.at (suc (a.served - c.args.at - 2)) c.call-call.result c.call-call.ensures (omega (arith, c.if-at-self.false, c.requires, few))
     ∙ ap (λ (k : ℕ). Some (done_reply (told_of a) c.call-call.result k)) z
     ∙ ap (λ (r : Reply). Some r) (sym c.done_with-done.ensures)
+
+pub call-call-requires : goal.call-call-requires
+call-call-requires c = let few = within-calls (told_of c.args.self.now) (calls_of c.args.program.now) 0 c.args.self.now.served in omega (arith, c.requires, few)
