@@ -108,22 +108,27 @@ impl Programmed for Book {
 
     ghost any_answer = { no_replies };
 
+    #[inline(always)]
     fn length(program: &Program) -> usize {
         program.length()
     }
 
+    #[inline(always)]
     fn call(program: &Program, at: usize) -> Call {
         program.call(at)
     }
 
+    #[inline(always)]
     fn goes_on(reply: &Reply) -> bool {
         goes_on_behind(reply)
     }
 
+    #[inline(always)]
     fn none_served(_program: &Program, first: u64) -> Answer {
         Answer::none_served(first)
     }
 
+    #[inline(always)]
     fn append(answer: &mut Answer, program: &Program, reply: Reply) {
         answer.append(program, reply);
     }

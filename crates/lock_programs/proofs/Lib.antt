@@ -6,8 +6,6 @@ pub mod Lasts
 pub mod Appends
 -- single replies of an answer
 pub mod Readings
--- a single reply
-pub mod Singles
 -- each reply of the lock manager is one that its call can have
 pub mod Steps
 -- each run of a program is told by an answer

@@ -6,8 +6,8 @@
 //! has what was granted and done, and why the program stopped: all replies follow from the program and its answer.
 //!
 //! `program.rt` has programs and their calls, `path.rt` those of several calls; `answer.rt` answers and their replies, `notes.rt` those
-//! to programs of several calls. `noting.rt` says what such an answer notes of a reply, and which reply follows from that; `stop.rt` why a program stops. `laws.rt` has what is true of every legal history:
-//! each reply is one of which an answer can tell.
+//! to programs of several calls. `noting.rt` says what such an answer notes of a reply, and which reply follows from that; `stop.rt`
+//! why a program stops. `laws.rt` has what is true of every legal history: each reply is one of which an answer can tell.
 //!
 //! Proved: a call at each place of a program, and a reply at each place of an answer, is that of `specs/Calls.antt` and
 //! `specs/Answers.antt`; an answer tells exactly the replies that it was given. Only tested: that a program takes at most 40 bytes,

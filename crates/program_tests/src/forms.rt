@@ -85,7 +85,7 @@ fn want_paths(rt: &impl Abort, database: Resource, file: Resource, page: Resourc
 
 /// An answer without replies, which notes that memory was refused.
 fn want_refused(rt: &impl Abort) {
-    assert!(rt; CALLS == 7 && size_of::<Program>() <= 32 && size_of::<Answer>() <= 32);
+    assert!(rt; CALLS == 7 && size_of::<Program>() <= 40 && size_of::<Answer>() <= 48);
     let program = Program::one(Call::Poll);
     let mut answer = Answer::none_served(3);
     assert!(rt; !answer.is_refused());

@@ -132,6 +132,7 @@ impl<O: Programmed> Serving for Programs<O> {
 
     /// Whether a combiner serves the program ahead of the others of its pass: if it does so with its first call. A program of no
     /// calls is served in its turn.
+    #[inline(always)]
     fn goes_first(program: &O::Program) -> bool {
         if O::length(program) == 0 {
             return false;
@@ -143,6 +144,7 @@ impl<O: Programmed> Serving for Programs<O> {
     /// Serves a program: its calls, one after another, until the first reply behind which the object doesn't go on. If memory is
     /// refused to a later call than the first, the answer says so, and this call and those behind it are in no history. The answer
     /// to a program of no calls has no replies, and the place of the next call that is served.
+    #[inline(always)]
     fn serve(&mut self, session: u16, program: O::Program) -> Result<O::Answer, NoMemory> {
         if self.history.is_full() {
             return Err(NoMemory);

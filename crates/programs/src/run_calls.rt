@@ -11,6 +11,7 @@ use std::alloc::AllocError as NoMemory;
 /// Runs a program of a session: serves its calls, one after another, until the first reply behind which the object doesn't go on.
 /// The object tells of these calls afterwards. Fails with `NoMemory` if memory is refused to the first call; the object is unchanged
 /// then. If it is refused to a later one, the answer says so, and this call and those behind it are in no history.
+#[inline(always)]
 pub fn run<O: Programmed>(
     object: &mut O,
     session: u16,
@@ -62,6 +63,7 @@ pub(crate) fn run_on<O: Programmed>(
 }
 
 /// The answer to a program of which no call is served yet.
+#[inline(always)]
 fn new_answer<O: Programmed>(object: &O, program: &O::Program) -> O::Answer
     ensures first { (O.form).first result ≡ length (O.history object.now) }
     ensures none { (O.form).replies program.now result ≡ [] }
@@ -106,6 +108,8 @@ fn serve_others<O: Programmed>(
 }
 
 /// Completes the answer to a program that goes on behind its first call: serves the others, and goes on telling.
+// Out of line, so that a program of one call is quick.
+#[inline(never)]
 fn serve_from_second<O: Programmed>(
     object: &mut O,
     session: u16,
