@@ -25,12 +25,7 @@ pub fn book_keeping(alloc: Global, sessions: u16, bound: u64) -> Result<Book, Op
 }
 
 /// A book as `book_keeping` makes it, whose resources are hashed with a seed, as `Book::with_seed` says.
-pub fn book_seeded(
-    alloc: Global,
-    sessions: u16,
-    bound: u64,
-    seed: u64,
-) -> Result<Book, OpenFault>
+pub fn book_seeded(alloc: Global, sessions: u16, bound: u64, seed: u64) -> Result<Book, OpenFault>
     ensures none { (result ≡ Err OpenFault.NoSessions) ↔ (sessions ≡ 0) }
     ensures many { (result ≡ Err OpenFault.TooManySessions) ↔ (MAX_SESSIONS < sessions) }
     ensures sessions { IfOk result (λ book. book.sessions ≡ sessions) }

@@ -47,7 +47,11 @@ fn list_blockers(book: &Book, sessions: u16, whose: u16, list: &mut Vec<u16>)
 }
 
 /// Gives the lock table back, and returns how many calls its history has.
-pub(crate) fn end_look<O: HasBook>(office: &Office<O>, session: &mut Session<O>, load: Box<Load<O>>) -> u64
+pub(crate) fn end_look<O: HasBook>(
+    office: &Office<O>,
+    session: &mut Session<O>,
+    load: Box<Load<O>>,
+) -> u64
     requires looks { IsLooking O.Sequential office.now session.old load.value }
     ensures ours { IsSessionOf office.now session.new }
     ensures looked { (before : _) → HasBegunToLook O.Sequential before session.old → HasLooked O.Sequential before session.new }
