@@ -150,6 +150,16 @@ impl Resource {
         })
     }
 
+    /// The resource of the first `level` of its numbers: an ancestor, or this resource itself.
+    #[inline(always)]
+    pub fn at_level(&self, level: usize) -> Resource
+        requires some { 0 < level }
+        requires within { level ≤ length self.now }
+        ensures { result ≡ take level self.now }
+    {
+        Resource::prefix(&self.numbers, level)
+    }
+
     /// Whether this resource is an ancestor of the other, at any height. No resource is its own ancestor.
     pub fn is_ancestor_of(&self, other: &Resource) -> bool
         ensures value { result ≡ is_ancestor self.now other.now }
