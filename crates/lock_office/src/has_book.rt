@@ -37,6 +37,7 @@ impl HasBook for Book {
 }
 
 /// Works on the book that an object has.
+#[derive(Drop)]
 struct OnBook<'a, T> {
     how: &'a mut T,
 }
