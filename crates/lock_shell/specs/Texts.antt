@@ -8,7 +8,7 @@ use Rattle.lock_shell.specs.declared.line.Unread.TheVariants as unread
 -- what is wrong with a call, and what would help, by the first test that its row fails
 abbrev pub text_of_fault : TraceKind → List ℕ
 text_of_fault kind.Session = codes "can't read this: a line begins with one of the sessions, as in '1 begin'; 'help' lists the words\n"
-text_of_fault kind.Op = codes "can't read this: calls are begin, lock, path, convert, try, release, poll, withdraw, commit and abort\n"
+text_of_fault kind.Op = codes "can't read this: calls are begin, lock, path, convert, try, release, poll, withdraw, commit, abort and restart\n"
 text_of_fault (kind.Path fault) = codes "can't read this: a resource is 1 to 5 numbers joined by '/', as in 1/2/3\n"
 text_of_fault kind.Mode = codes "can't read this: a mode is IS, IX, S, SIX, U or X, as in '1 lock 1/2 S'\n"
 text_of_fault kind.Extra = codes "can't read this: this call takes fewer words; 'help' shows each\n"

@@ -1,6 +1,6 @@
 //! One flat history has the calls of all programs of many threads.
 
-ghost use Rattle.std.specs.Prelude.{All, IfOk, IfSome};
+ghost use Rattle.std.specs.Prelude.{◌≡◌, true, All, IfOk, IfSome};
 ghost use Rattle.combining.specs.Sessions.{IsSessionOf, IsIdle};
 
 use crate::answers::{has_entries, has_stopped};
@@ -82,29 +82,37 @@ fn make(office: &Office, session: &mut Session, program: &Program, made: u64) ->
     }
 }
 
+/// Makes a random program, behind so many, and notes its answer. Whether an answer came, and memory wasn't refused to the list.
+fn make_next(office: &Office, worked: &mut Worked, chooser: &mut Chooser, made: u64) -> bool
+    requires ours { IsSessionOf office.now worked.old.session × IsIdle worked.old.session }
+    ensures ours { IsSessionOf office.now worked.new.session }
+    ensures idle { result ≡ true → IsIdle worked.new.session }
+{
+    let Some(program) = chooser.program() else {
+        return false;
+    };
+    let Some(answer) = make(office, &mut worked.session, &program, made) else {
+        return false;
+    };
+    let entry = sequential::Entry {
+        session: worked.session.number(),
+        call: program,
+        reply: answer,
+    };
+    worked.made.push(entry).is_ok()
+}
+
 /// Makes so many random programs, one after another, and notes their answers. Stops early if an answer doesn't come, or if memory
 /// is refused to the list.
 fn make_often(office: &Office, worked: &mut Worked, programs: u64)
     requires ours { IsSessionOf office.now worked.old.session × IsIdle worked.old.session }
     ensures ours { IsSessionOf office.now worked.new.session }
 {
-    let number = worked.session.number();
     let mut chooser = Chooser {
-        state: u64::from(number),
+        state: u64::from(worked.session.number()),
     };
     for made in 0..programs {
-        let Some(program) = chooser.program() else {
-            break;
-        };
-        let Some(answer) = make(office, &mut worked.session, &program, made) else {
-            break;
-        };
-        let entry = sequential::Entry {
-            session: number,
-            call: program,
-            reply: answer,
-        };
-        if worked.made.push(entry).is_err() {
+        if !make_next(office, worked, &mut chooser, made) {
             break;
         }
     }
