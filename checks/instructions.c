@@ -1,11 +1,13 @@
 /* For checks/instructions.py, which counts the instructions of one function alone. Usage: instructions WHAT TIMES. WHAT is
        locks      passes of an office serve 32 compatible locks each: pass_of_locks
+       batches    a book serves batches of 32 compatible locks: batch_of_locks
        performs   one thread makes transactions of a begin, a lock and a commit: perform_transaction, of three calls
        wakes      the same, in an office with a waker, which wakes nobody since nobody waits
        calls      one thread makes transfers of seven calls: a commit, a begin, a database and a file in IX and a page in X, another file
                   and a page of it: make_transfer
        programs   the same by two programs: make_transfer
-       served     the same seven calls of a book: make_transfer */
+       served     the same seven calls of a book: make_transfer
+       ran        the same two programs of a book: make_transfer */
 #include "pelgaisti.h"
 #include <stdlib.h>
 #include <string.h>
@@ -58,6 +60,45 @@ static void locks(long passes) {
     }
 }
 
+static pelgaisti_book book;
+
+/* Fills a batch with this call of each locker. */
+static void fill(pelgaisti_entry *batch, uint32_t op, uint32_t mode) {
+    for (uint32_t k = 0; k < LOCKERS; k++) {
+        memset(&batch[k], 0, sizeof batch[k]);
+        batch[k].session = k + 1;
+        batch[k].call = (pelgaisti_call){op, mode, {1, {7}}};
+    }
+}
+
+__attribute__((noinline)) void batch_of_locks(pelgaisti_entry *batch);
+
+/* A function of its own, by whose name its instructions are counted. */
+__attribute__((noinline)) void batch_of_locks(pelgaisti_entry *batch) {
+    size_t count;
+    if (pelgaisti_book_serve_batch(&book, batch, LOCKERS, &count) != PELGAISTI_OK || count != LOCKERS) exit(22);
+}
+
+static void batches(long times) {
+    const pelgaisti_call begin = {PELGAISTI_BEGIN, 0, {0, {0}}}, lock = {PELGAISTI_LOCK, PELGAISTI_IX, {1, {7}}};
+    pelgaisti_entry batch[LOCKERS];
+    pelgaisti_reply reply;
+    size_t count;
+    if (pelgaisti_book_open(&book, LOCKERS + 1) != PELGAISTI_OK || pelgaisti_book_keep_at_most(&book, 64) != PELGAISTI_OK) exit(23);
+    /* somebody holds the resource, so the first lock of a batch needs no cell */
+    if (pelgaisti_book_serve(&book, LOCKERS + 1, &begin, &reply) != PELGAISTI_OK) exit(24);
+    if (pelgaisti_book_serve(&book, LOCKERS + 1, &lock, &reply) != PELGAISTI_OK) exit(25);
+    for (long k = 0; k < times; k++) {
+        fill(batch, PELGAISTI_BEGIN, 0);
+        if (pelgaisti_book_serve_batch(&book, batch, LOCKERS, &count) != PELGAISTI_OK || count != LOCKERS) exit(26);
+        fill(batch, PELGAISTI_LOCK, PELGAISTI_IX);
+        batch_of_locks(batch);
+        if (batch[LOCKERS - 1].reply.kind != PELGAISTI_GRANTED) exit(27);
+        fill(batch, PELGAISTI_COMMIT, 0);
+        if (pelgaisti_book_serve_batch(&book, batch, LOCKERS, &count) != PELGAISTI_OK || count != LOCKERS) exit(28);
+    }
+}
+
 __attribute__((noinline)) void perform_transaction(const pelgaisti_call *calls);
 
 /* A function of its own, by whose name its instructions are counted. */
@@ -85,8 +126,6 @@ static const pelgaisti_program transfer_programs[TRANSFER_PROGRAMS] = {
     {PELGAISTI_COMMITS_AND_BEGINS, 1, PELGAISTI_IX, {PELGAISTI_LOCK, PELGAISTI_X, {3, {1, 2, 3}}}},
     {PELGAISTI_NOTHING, 2, PELGAISTI_IX, {PELGAISTI_LOCK, PELGAISTI_X, {3, {1, 4, 5}}}}};
 
-static pelgaisti_book book;
-
 static void transfer_of_calls(void) {
     pelgaisti_answer answer;
     for (int k = 0; k < TRANSFER_CALLS; k++) {
@@ -111,20 +150,35 @@ static void transfer_of_a_book(void) {
     }
 }
 
+static void transfer_of_book_programs(void) {
+    pelgaisti_program_answer answer;
+    uint32_t list[LOCKERS + 1];
+    size_t count;
+    for (int k = 0; k < TRANSFER_PROGRAMS; k++) {
+        if (pelgaisti_book_run(&book, 1, &transfer_programs[k], &answer, list, LOCKERS + 1, &count) != PELGAISTI_OK) exit(20);
+        if (answer.stop || answer.served != (k ? 2 : 5)) exit(21);
+    }
+}
+
+static const struct {
+    const char *name;
+    void (*make)(void);
+} ways[] = {{"calls", transfer_of_calls}, {"programs", transfer_of_programs}, {"served", transfer_of_a_book}, {"ran", transfer_of_book_programs}};
+
 __attribute__((noinline)) void make_transfer(void (*way)(void));
 
 /* A function of its own, by whose name its instructions are counted. */
 __attribute__((noinline)) void make_transfer(void (*way)(void)) { way(); }
 
-static void transfers(const char *way, long times) {
+static void transfers(const char *name, long times) {
     static const pelgaisti_call begin = {PELGAISTI_BEGIN, 0, {0, {0}}};
     pelgaisti_answer answer;
     pelgaisti_reply reply;
     if (pelgaisti_session_perform(&sessions[0], &begin, UINT64_MAX, &answer) != PELGAISTI_OK) exit(17);
     if (pelgaisti_book_open(&book, LOCKERS + 1) != PELGAISTI_OK || pelgaisti_book_keep_at_most(&book, 64) != PELGAISTI_OK) exit(18);
     if (pelgaisti_book_serve(&book, 1, &begin, &reply) != PELGAISTI_OK) exit(19);
-    for (long k = 0; k < times; k++)
-        make_transfer(!strcmp(way, "calls") ? transfer_of_calls : !strcmp(way, "programs") ? transfer_of_programs : transfer_of_a_book);
+    for (size_t way = 0; way < sizeof ways / sizeof *ways; way++)
+        for (long k = 0; k < times && !strcmp(name, ways[way].name); k++) make_transfer(ways[way].make);
 }
 
 static void wake_nobody(void *engine, uint32_t session) {
@@ -142,6 +196,7 @@ int main(int argc, char **argv) {
     if (status != PELGAISTI_OK) return 1;
     if (argc == 3 && !strcmp(argv[1], "locks")) locks(times);
     else if (argc == 3 && (!strcmp(argv[1], "performs") || is_waking)) performs(times);
+    else if (argc == 3 && !strcmp(argv[1], "batches")) batches(times);
     else if (argc == 3) transfers(argv[1], times);
     return 0;
 }

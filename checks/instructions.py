@@ -4,10 +4,10 @@
 Usage: checks/instructions.py [--over-gate]
 
 Each case has calls that go a fast way, and a bound on the instructions of one of them. Under callgrind lock_bench serves the calls
-behind what leads up to them, and what leads up alone, each once and twice: the count is the difference of the differences. Locks
-of a batch are served by a pass of an office, through the library for C (checks/instructions.c), and calls of one thread are
-performed at once, with no waker and with one that has nobody to wake. A transfer is made by single calls and by programs of an
-office, and by a book: what an office takes beyond the book is its hand-over. A bound is some 20 per cent above
+behind what leads up to them, and what leads up alone, each once and twice: the count is the difference of the differences. Through
+the library for C (checks/instructions.c) a book serves locks of a batch, a pass of an office serves locks, and calls of one thread
+are performed at once, with no waker and with one that has nobody to wake. A transfer is made by single calls and by programs, of an
+office and of a book: what the office takes beyond the book is its hand-over. A bound is some 20 per cent above
 what was counted when it was set (more for the smallest count), and below what the calls cost without the fast way, as tried in
 builds in which it was broken; for locks of a batch, with locks of two databases in turn, which make no run; for a second holder,
 with the least that two requests for memory take. If calls have become dearer for a good reason, set the bound anew.
@@ -118,13 +118,15 @@ DEAREST = [
 # What a thread alone does through the library for C: what it is, what checks/instructions.c does, the function of which the
 # instructions are counted, how often it is called, how many calls it makes each time, the most instructions of one.
 THROUGH_C = [
-    ("compatible locks of a batch are granted together", "locks", "pass_of_locks", 200, 32, 790),
-    ("a call is performed at once", "performs", "perform_transaction", 2000, 3, 800),
-    ("a call is performed at once in an office with a waker", "wakes", "perform_transaction", 2000, 3, 850),
+    ("compatible locks of a batch are granted together", "batches", "batch_of_locks", 200, 32, 730),
+    ("locks are granted by a pass of an office", "locks", "pass_of_locks", 200, 32, 1410),
+    ("a call is performed at once", "performs", "perform_transaction", 2000, 3, 1120),
+    ("a call is performed at once in an office with a waker", "wakes", "perform_transaction", 2000, 3, 1160),
 ]
 
-# A transfer of seven calls: by single calls, by two programs. What an office takes beyond a book, by programs, of that by calls.
-TRANSFERS = ("calls", 9000), ("programs", 7000)
+# A transfer of seven calls: by single calls and by two programs of an office, each with how a book is called for the same, and a bound.
+# What an office takes beyond the book is its hand-over: that of programs is bounded by so much of that of calls.
+TRANSFERS = ("calls", "served", 9700), ("programs", "ran", 8200)
 MOST_OF_CALLS = 0.5
 
 
@@ -242,12 +244,12 @@ def main():
             dear = pool.map(lambda case: instructions_of_a_dear_call(case, folder), DEAREST)
             for (name, *_, most), instructions in zip(CASES + DEAREST + THROUGH_C, [*found, *dear, *through_c]):
                 judge(name, instructions, most, "instructions")
-            ways = ["served", *(way for way, _ in TRANSFERS)]
+            ways = [way for office, book, _ in TRANSFERS for way in (office, book)]
             transfers = dict(zip(ways, pool.map(lambda way: instructions_of_a_transfer(way, program), ways)))
-            for way, most in TRANSFERS:
-                judge(f"a transfer by {way} of an office", transfers[way], most, "instructions")
-            handed = {way: transfers[way] - transfers["served"] for way, _ in TRANSFERS}
-            judge("hand-over of a transfer by programs", handed["programs"] / handed["calls"], MOST_OF_CALLS, "of that by calls", digits=2)
+            for office, _, most in TRANSFERS:
+                judge(f"a transfer by {office} of an office", transfers[office], most, "instructions")
+            by_calls, by_programs = (transfers[office] - transfers[book] for office, book, _ in TRANSFERS)
+            judge("hand-over of a transfer by programs", by_programs / by_calls, MOST_OF_CALLS, "of that by calls", digits=2)
         few, new = (peak(transactions(databases), folder) for databases in (8, 100_000))
         judge("idle cells serve ever new resources", new / few, MOST_MEMORY, "times the memory of few", digits=2)
     left_out = "" if has_valgrind else "; instructions left out, since valgrind isn't on the path"
