@@ -82,6 +82,11 @@ fn make(office: &Office, session: &mut Session, program: &Program, made: u64) ->
     }
 }
 
+/// Appends to a list. Whether memory wasn't refused to it.
+fn note<T: Copy>(list: &mut Vec<T>, item: T) -> bool {
+    list.push(item).is_ok()
+}
+
 /// Makes a random program, behind so many, and notes its answer. Whether an answer came, and memory wasn't refused to the list.
 fn make_next(office: &Office, worked: &mut Worked, chooser: &mut Chooser, made: u64) -> bool
     requires ours { IsSessionOf office.now worked.old.session × IsIdle worked.old.session }
@@ -99,7 +104,7 @@ fn make_next(office: &Office, worked: &mut Worked, chooser: &mut Chooser, made: 
         call: program,
         reply: answer,
     };
-    worked.made.push(entry).is_ok()
+    note(&mut worked.made, entry)
 }
 
 /// Makes so many random programs, one after another, and notes their answers. Stops early if an answer doesn't come, or if memory
