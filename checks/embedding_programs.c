@@ -88,16 +88,16 @@ static int is_unrun(pelgaisti_session *session, const pelgaisti_program *program
 
 /* Each bad number of a program gives its status, the first of them in the order of the header's comment, whatever the session has. */
 static void bad_programs(pelgaisti_session *session) {
-    static const uint32_t off_starts[] = {6, 7, 255, 256, UINT32_MAX}, off_ops[] = {10, 256, UINT32_MAX};
-    static const uint32_t ends[] = {PELGAISTI_BEGIN, PELGAISTI_COMMIT, PELGAISTI_ABORT}, off_levels[] = {0, 6, 256, UINT32_MAX};
+    static const uint32_t off_starts[] = {7, 8, 255, 256, UINT32_MAX}, off_ops[] = {11, 256, UINT32_MAX};
+    static const uint32_t ends[] = {PELGAISTI_BEGIN, PELGAISTI_COMMIT, PELGAISTI_ABORT, PELGAISTI_RESTART}, off_levels[] = {0, 6, 256, UINT32_MAX};
     static const uint32_t on_resources[] = {PELGAISTI_LOCK, PELGAISTI_CONVERT, PELGAISTI_TRY, PELGAISTI_RELEASE};
     static const uint32_t off_path[] = {0, 3, 6, 258, UINT32_MAX}, off_modes[] = {2, 4, 8, 16, UINT32_MAX};
-    pelgaisti_program program = program_of(PELGAISTI_BEGINS, call_of(10, 2, 6, 1, 2)), none = start_of(PELGAISTI_NOTHING);
+    pelgaisti_program program = program_of(PELGAISTI_BEGINS, call_of(11, 2, 6, 1, 2)), none = start_of(PELGAISTI_NOTHING);
     for (size_t k = 0; k < COUNT(off_starts); k++) {
         program.start = off_starts[k];
         CHECK(is_unrun(session, &program, 9, PELGAISTI_NO_SUCH_START));
     }
-    for (program.start = 0; program.start < 6; program.start++) {
+    for (program.start = 0; program.start < 7; program.start++) {
         for (size_t k = 0; k < COUNT(off_ops); k++) {
             program.last.op = off_ops[k];
             CHECK(is_unrun(session, &program, 9, PELGAISTI_NO_SUCH_OP));
