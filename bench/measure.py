@@ -16,14 +16,16 @@ The sections, with the minutes that they take on 4 free processors:
     sharing       a book behind a mutex and an office, by bench/sharing.c on the traces of bench/sharing.py  1 1/2
     lock_bench    the same traces by lock_bench mutex and lock_bench threads                                 1/2
     programs      a mutex, an office and Berkeley DB, by single calls and by programs, by bench/programs.c   4
+    store         examples/store over offices, RocksDB's own transactions and Berkeley DB, by bench/store.cpp  15
     objects       a queue and a map, by an office, a mutex, and queues without a lock, by object_bench       1 1/2
     waiting       three ways to wait for locks, by bench/waiting.c                                           1
     embedding     the boundary to C beside lock_bench seq and, if its library is there, Berkeley DB          1/2
     instructions  what checks/instructions.py counts; needs valgrind; once                                   1/2
 
 The sections come out one by one, and what they are at goes to standard error. --quick makes one round with few repetitions, to try
-this script: its figures are none. Needs a C compiler, `$CC` or cc. Builds the programs and the library first, if they aren't built;
-with --over-gate, takes those that a full run of the gate and checks/embedding have left. Status 1: a section was left out.
+this script: its figures are none. Needs a C compiler, `$CC` or cc; `store` needs RocksDB, and `$CXX` or c++ for C++17. Builds the
+programs and the library first, if they aren't built; with --over-gate, takes those that a full run of the gate and checks/embedding
+have left. Status 1: a section was left out.
 """
 import argparse
 import os

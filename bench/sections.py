@@ -363,6 +363,65 @@ class Programs(Section):
         return lines[1:]
 
 
+class Store(Section):
+    name, heading, needs = "store", "The store: `bench/store.cpp`", (LIBRARY,)
+    how = (
+        "Thousands of transactions a second; the ratio of the medians to one office; µs of processors for a transaction; and the 99th of 100"
+        " times of one, in µs. The program says what each workload does, and each way."
+    )
+    TRANSACTIONS = 20_000
+    THREADS = (1, 2, 4, 8, 16)
+    WAREHOUSES = (2, 8)
+    WORKLOADS = ("orders", "bank")
+    WAYS = {
+        "office": "one office",
+        "offices": "an office for each warehouse",
+        "kept": "intention locks kept",
+        "rocksdb": "RocksDB's own",
+        "berkeley": "Berkeley DB",
+        "none": "no locks",
+    }
+
+    def build(self, *flags):
+        program = self.folder / "store"
+        compiler = shlex.split(os.environ.get("CXX", "c++"))
+        linked = [f"-I{TOP}/out", f"-L{TOP}/out", "-lpelgaisti", "-lrocksdb", *flags, "-lpthread"]
+        # what goes wrong without the library of Berkeley DB is no message for a reader
+        errors = subprocess.DEVNULL if flags else None
+        subprocess.run([*compiler, "-std=c++17", "-O2", TOP / "bench/store.cpp", *linked, "-o", program], check=True, stderr=errors)
+        return program
+
+    def cases(self):
+        try:
+            program = self.build("-DBERKELEY_DB", "-ldb")
+        except subprocess.CalledProcessError:
+            program, self.WAYS = self.build(), {way: told for way, told in self.WAYS.items() if way != "berkeley"}
+        keys = [(work, n, threads, way) for work in self.WORKLOADS for n in self.WAREHOUSES for threads in self.THREADS for way in self.WAYS]
+        return [(key, lambda k=key: self.told(program, *k)) for key in keys if key[2] == 1 or key[3] != "none"]
+
+    def told(self, program, workload, warehouses, threads, way):
+        rows = self.folder / "rows"
+        count = max(threads, self.few(self.TRANSACTIONS))
+        line = output_of([program, way, workload, str(warehouses), str(threads), str(count), rows])
+        shutil.rmtree(rows)
+        return {name: float(number) for name, number in re.findall(r"(\w+)=([\d.]+)", line)}
+
+    def cell(self, found, key):
+        if (key, "second") not in found.found:
+            return ""
+        ratio = found.middle(key, "second") / found.middle((*key[:3], "office"), "second")
+        told = [found.text(key, "second", 1, 1000), f"{ratio:.2f}"]
+        return ", ".join([*told, *(f"{found.middle(key, name) / 1000:.0f}" for name in ("processor", "99th"))])
+
+    def tables(self, found):
+        lines = []
+        for work in self.WORKLOADS:
+            for n in self.WAREHOUSES:
+                rows = [[threads, *(self.cell(found, (work, n, threads, way)) for way in self.WAYS)] for threads in self.THREADS]
+                lines += ["", *table([f"{work}, {n} warehouses, threads", *self.WAYS.values()], rows)]
+        return lines[1:]
+
+
 class Embedding(Section):
     name, heading, needs = "embedding", "The boundary to C: `bench/embedding.c`", (LIBRARY, LOCK_BENCH)
     how = "Nanoseconds a call, one thread, 8 sessions, 100,000 rows in which nothing waits; in a round the least of 50 times."
@@ -428,5 +487,5 @@ class Instructions(Section):
         return table(["calls", "instructions", "at most"], [[told, f"{int(a):,}", f"{int(b):,}"] for told, a, b in self.lines])
 
 
-SECTIONS = [Replay, Worst, Memory, Growth, Sharing, LockBench, Programs, Objects, Waiting, Embedding, Instructions]
+SECTIONS = [Replay, Worst, Memory, Growth, Sharing, LockBench, Programs, Store, Objects, Waiting, Embedding, Instructions]
 

@@ -48,7 +48,7 @@ gather() {
     mkdir -p "$to/share/doc/pelgaisti/docs" "$to/share/doc/pelgaisti/examples" &&
         cp "$top"/{README.md,CHANGELOG.md,CITATION.cff} "$to/share/doc/pelgaisti/" &&
         cp "$top"/docs/* "$to/share/doc/pelgaisti/docs/" &&
-        cp "$top"/examples/* "$to/share/doc/pelgaisti/examples/" &&
+        cp -r "$top"/examples/* "$to/share/doc/pelgaisti/examples/" &&
         tell_built "$version" > "$to/BUILT" || return 1
     find "$to" -type d -exec chmod 755 {} + && find "$to" -type f -exec chmod 644 {} + && chmod 755 "$to"/bin/* || return 1
     (cd "$to" && find . -type f ! -name SHA256SUMS -printf '%P\0' | LC_ALL=C sort -z | xargs -0 sha256sum) > "$work/sums" &&
