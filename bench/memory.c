@@ -3,7 +3,8 @@
                                     C library's heap that each takes, and the nanoseconds to make it, and to hand in all sessions
                                     and close the office: the middle ones of the times
        memory held LOCKS            has 64 sessions of one book, which keeps no history, lock so many databases each. Prints the bytes
-                                    of the heap for a lock and its resource
+                                    of the heap for a lock and its resource; those that stay when all have committed; and those that
+                                    stay behind a shrink
        memory calls KEPT CALLS      has 64 sessions of one book begin, take three locks and commit, over so many calls, and prints
                                     nothing: bench/peak.c tells its peak memory. KEPT is the greatest number of entries that the
                                     book keeps of its history, or `all`, or `taken`: the history is taken every 4,000 calls
@@ -63,8 +64,12 @@ static void make_new(uint32_t count, int times) {
            (unsigned long long)took[0][times / 2], (unsigned long long)took[1][times / 2], (unsigned long long)took[2][times / 2]);
 }
 
+/* The bytes of the heap beyond so many, for each of so many locks. */
+static double each(size_t bytes, double locks) { return ((double)heap() - (double)bytes) / locks; }
+
 static void hold(uint32_t locks) {
-    pelgaisti_call begin = {PELGAISTI_BEGIN, 0, {0, {0}}}, lock = {PELGAISTI_LOCK, PELGAISTI_X, {1, {0}}};
+    pelgaisti_call begin = {PELGAISTI_BEGIN, 0, {0, {0}}}, commit = {PELGAISTI_COMMIT, 0, {0, {0}}};
+    pelgaisti_call lock = {PELGAISTI_LOCK, PELGAISTI_X, {1, {0}}};
     pelgaisti_book book = PELGAISTI_EMPTY;
     pelgaisti_reply reply;
     if (pelgaisti_book_open(&book, SESSIONS) != PELGAISTI_OK || pelgaisti_book_keep_at_most(&book, 0) != PELGAISTI_OK) exit(4);
@@ -76,7 +81,13 @@ static void hold(uint32_t locks) {
             if (pelgaisti_book_serve(&book, session, &lock, &reply) != PELGAISTI_OK || reply.kind != PELGAISTI_GRANTED) exit(5);
         }
     }
-    printf("bytes=%.0f\n", (double)(heap() - bytes) / (double)SESSIONS / (double)locks);
+    const double all = (double)SESSIONS * (double)locks;
+    printf("held=%.0f", each(bytes, all));
+    for (uint32_t session = 1; session <= SESSIONS; session++)
+        if (pelgaisti_book_serve(&book, session, &commit, &reply) != PELGAISTI_OK || reply.value != locks) exit(5);
+    printf(" idle=%.0f", each(bytes, all));
+    if (pelgaisti_book_shrink(&book) != PELGAISTI_OK) exit(5);
+    printf(" shrunk=%.0f\n", each(bytes, all));
     if (pelgaisti_book_close(&book) != PELGAISTI_OK) exit(6);
 }
 

@@ -24,6 +24,11 @@ def output_of(words, stream="stdout", **more):
     return getattr(subprocess.run(words, check=True, text=True, timeout=600, **{stream: subprocess.PIPE}, **more), stream)
 
 
+def numbers_of(words):
+    """What a command writes, as numbers by their names: each number stands behind its name and '='."""
+    return {name: float(number) for name, number in re.findall(r"(\w+)=(-?\d+)", output_of(words))}
+
+
 def table(head, rows):
     """The lines of a table in Markdown."""
     return ["| " + " | ".join(map(str, row)) + " |" for row in (head, ["---"] * len(head), *rows)]
@@ -166,13 +171,14 @@ class Memory(Section):
     def cases(self):
         peaks, program = self.built("peak", library=False), self.built("memory")
         asked = {kept: [program, "calls", kept, str(self.few(calls))] for kept, _, calls in self.CASES}
-        held = [(locks, lambda n=locks: {"bytes": float(output_of([program, "held", str(n)]).split("=")[1])}) for locks in self.LOCKS]
+        held = [(locks, lambda n=locks: numbers_of([program, "held", str(n)])) for locks in self.LOCKS]
         return [(kept, lambda w=words: {"peak": peak(peaks, w)}) for kept, words in asked.items()] + held
 
     def tables(self, found):
         rows = [[told, f"{self.few(calls):,}", found.text(kept, "peak", 1, 1e6)] for kept, told, calls in self.CASES]
-        held = [[f"{locks:,}", found.text(locks, "bytes")] for locks in self.LOCKS]
+        held = [[f"{locks:,}", *(found.text(locks, name) for name in ("held", "idle", "shrunk"))] for locks in self.LOCKS]
         head = ["locks on databases of its own that each of 64 sessions holds", "bytes of the C library's heap, a lock with its resource"]
+        head += ["that stay behind the commits", "behind a shrink"]
         return [*table(["entries kept", "calls", "memory at most, MB"], rows), "", *table(head, held)]
 
 
@@ -184,10 +190,7 @@ class Growth(Section):
 
     def cases(self):
         program = self.built("memory")
-        return [(n, lambda n=n: self.told([program, "new", str(n), str(self.few(self.TIMES))])) for n in self.SESSIONS]
-
-    def told(self, words):
-        return {name: float(number) for name, number in re.findall(r"(\w+)=(\d+)", output_of(words))}
+        return [(n, lambda n=n: numbers_of([program, "new", str(n), str(self.few(self.TIMES))])) for n in self.SESSIONS]
 
     def tables(self, found):
         rows = [

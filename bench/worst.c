@@ -1,7 +1,12 @@
 /* Times dear calls of a book and of an office that no trace of bench/worst.py shows: worst CASE TIMES. CASE is
-       growth       locks of a million databases, each of its own, by 256 sessions of a book: the dearest call
-       chosen       locks of 262,144 databases whose names were chosen to have hashes alike, since the hash of resources has a fixed
-                    seed: the dearest call, and, once all are held, the mean of a lock of 1,000 further ones
+       growth       locks of a million databases, each of its own, by 256 sessions of a book: the dearest call; the same if room is
+                    made first; to make room
+       history      a million polls of a book that keeps all entries: the same
+       shrink       1,048,576 locks of 256 sessions that were given back: to count the idle cells; to lock as many other databases, which
+                    take the idle cells, the dearest call; to give the memory back
+       chosen       locks of 262,144 databases whose names were chosen to have hashes alike with a seed that is known: the dearest call,
+                    the mean of a lock of 1,000 further ones once all are held, and the mean of all
+       another      the same names in a book with another seed
        ordinary     the same with ordinary names
        page         a page of 8 of the `locks` of a book that holds 1,048,576; 131,072; 8,192
        commits      in an office: a poll whose pass serves 255 commits of 4,096 locks each
@@ -11,13 +16,14 @@
    Prints a line for each figure: the least of so many times, in microseconds.
        ./embed && cc -O2 bench/worst.c -Iout -Lout -lpelgaisti -o worst_c */
 #define _DEFAULT_SOURCE
+#include "chosen.h"
 #include "pelgaisti.h"
 #include <stdio.h>
 #include <stdlib.h>
 #include <string.h>
 #include <time.h>
 
-enum { SESSIONS = 256, LOCKS = 4096, CHOSEN = 262144, FURTHER = 1000, MOST_FIGURES = 3 };
+enum { SESSIONS = 256, LOCKS = 4096, CHOSEN = 262144, FURTHER = 1000, MOST_FIGURES = 3, SEED = 7, OTHER_SEED = 8 };
 
 static pelgaisti_session sessions[PELGAISTI_MAX_SESSIONS];
 static uint32_t names[CHOSEN + FURTHER];
@@ -48,10 +54,12 @@ static uint64_t serve(pelgaisti_book *book, uint32_t session, pelgaisti_call cal
     return from;
 }
 
-static void open_book(pelgaisti_book *book, uint32_t count, uint64_t bound) {
+static void open_seeded(pelgaisti_book *book, uint32_t count, uint64_t bound, uint64_t seed) {
     *book = (pelgaisti_book)PELGAISTI_EMPTY;
-    if (pelgaisti_book_open(book, count) || pelgaisti_book_keep_at_most(book, bound)) exit(4);
+    if (pelgaisti_book_open_seeded(book, count, seed) || pelgaisti_book_keep_at_most(book, bound)) exit(4);
 }
+
+static void open_book(pelgaisti_book *book, uint32_t count, uint64_t bound) { open_seeded(book, count, bound, SEED); }
 
 /* Has the sessions of a book lock these databases, LOCKS each, or the databases from 0 on. Returns the nanoseconds of the dearest. */
 static uint64_t hold(pelgaisti_book *book, uint32_t count, const uint32_t *named) {
@@ -67,36 +75,76 @@ static uint64_t hold(pelgaisti_book *book, uint32_t count, const uint32_t *named
     return dearest;
 }
 
+/* Makes room in a book. Returns the nanoseconds. */
+static uint64_t reserve(pelgaisti_book *book, size_t resources, size_t entries) {
+    uint64_t from = now();
+    if (pelgaisti_book_reserve(book, resources, entries)) exit(4);
+    return now() - from;
+}
+
 static void growth(uint64_t *took) {
+    for (int is_reserved = 0; is_reserved < 2; is_reserved++) {
+        pelgaisti_book book;
+        open_book(&book, SESSIONS, 0);
+        if (is_reserved) took[2] = reserve(&book, SESSIONS * LOCKS, 0);
+        took[is_reserved] = hold(&book, SESSIONS, NULL);
+        if (pelgaisti_book_close(&book)) exit(6);
+    }
+}
+
+static void history(uint64_t *took) {
+    for (int is_reserved = 0; is_reserved < 2; is_reserved++) {
+        pelgaisti_book book;
+        open_book(&book, 1, UINT64_MAX);
+        if (is_reserved) took[2] = reserve(&book, 0, (1 << 20) + 1);
+        serve(&book, 1, call_of(PELGAISTI_BEGIN, 0, 0), PELGAISTI_BEGAN);
+        took[is_reserved] = 0;
+        for (uint32_t k = 0; k < 1 << 20; k++) {
+            uint64_t poll = serve(&book, 1, call_of(PELGAISTI_POLL, 0, 0), PELGAISTI_CLEAR);
+            if (poll > took[is_reserved]) took[is_reserved] = poll;
+        }
+        if (pelgaisti_book_close(&book)) exit(6);
+    }
+}
+
+/* Ends the transactions of the sessions of a book. */
+static void give_back(pelgaisti_book *book, uint32_t count) {
+    for (uint32_t session = 1; session <= count; session++) serve(book, session, call_of(PELGAISTI_COMMIT, 0, 0), PELGAISTI_COMMITTED);
+}
+
+static void shrink(uint64_t *took) {
+    static uint32_t others[SESSIONS * LOCKS];
     pelgaisti_book book;
+    uint64_t from;
+    size_t cells;
+    for (uint32_t k = 0; k < SESSIONS * LOCKS; k++) others[k] = SESSIONS * LOCKS + k;
     open_book(&book, SESSIONS, 0);
-    took[0] = hold(&book, SESSIONS, NULL);
-    if (pelgaisti_book_close(&book)) exit(6);
+    hold(&book, SESSIONS, NULL);
+    give_back(&book, SESSIONS);
+    from = now();
+    if (pelgaisti_book_idle_cells(&book, &cells) || cells != SESSIONS * LOCKS) exit(5);
+    took[0] = now() - from;
+    took[1] = hold(&book, SESSIONS, others);
+    give_back(&book, SESSIONS);
+    from = now();
+    if (pelgaisti_book_shrink(&book)) exit(5);
+    took[2] = now() - from;
+    if (pelgaisti_book_idle_cells(&book, &cells) || cells != 0 || pelgaisti_book_close(&book)) exit(6);
 }
 
-/* The hash of a database's name, as an index of the kit's maps starts with it. */
-static uint32_t hash_of(uint32_t name) {
-    unsigned __int128 product = (unsigned __int128)(UINT64_C(0x243f6a8885a308d3) ^ name) * (UINT64_C(0x9e3779b97f4a7c15) ^ 16);
-    uint64_t folded = (uint64_t)product ^ (uint64_t)(product >> 64);
-    return (uint32_t)(folded ^ folded >> 32);
-}
-
-/* Names of databases whose hashes agree in their lowest twelve bits. */
-static void choose(void) {
-    size_t found = 0;
-    for (uint32_t name = 0; found < CHOSEN + FURTHER; name++)
-        if ((hash_of(name) & 0xfff) == 0) names[found++] = name;
-}
+static void choose(void) { choose_names(names, CHOSEN + FURTHER, SEED, 12); }
 
 static void name_in_order(void) {
     for (uint32_t k = 0; k < CHOSEN + FURTHER; k++) names[k] = k;
 }
 
-static void of_names(uint64_t *took) {
+static void of_names(uint64_t *took, uint64_t seed) {
     pelgaisti_book book;
     uint64_t from;
-    open_book(&book, SESSIONS, 0);
+    open_seeded(&book, SESSIONS, 0, seed);
+    from = now();
     took[0] = hold(&book, CHOSEN / LOCKS, names);
+    took[2] = (now() - from) / CHOSEN;
     serve(&book, SESSIONS, call_of(PELGAISTI_BEGIN, 0, 0), PELGAISTI_BEGAN);
     from = now();
     for (uint32_t k = 0; k < FURTHER; k++)
@@ -104,6 +152,10 @@ static void of_names(uint64_t *took) {
     took[1] = (now() - from) / FURTHER;
     if (pelgaisti_book_close(&book)) exit(6);
 }
+
+static void by_the_seed(uint64_t *took) { of_names(took, SEED); }
+
+static void by_another(uint64_t *took) { of_names(took, OTHER_SEED); }
 
 static void pages(uint64_t *took) {
     static const uint32_t counts[] = {256, 32, 2};
@@ -131,7 +183,7 @@ static void commits(uint64_t *took) {
     pelgaisti_answer answer;
     pelgaisti_book book = PELGAISTI_EMPTY;
     for (uint32_t k = 0; k < SESSIONS; k++) sessions[k] = (pelgaisti_session)PELGAISTI_EMPTY;
-    if (pelgaisti_office_open_keeping(sessions, SESSIONS, 0)) exit(4);
+    if (pelgaisti_office_open_seeded(sessions, SESSIONS, 0, NULL, SEED)) exit(4);
     for (uint32_t session = 1; session <= SESSIONS; session++) {
         perform(session, call_of(PELGAISTI_BEGIN, 0, 0));
         for (uint32_t k = 0; session > 1 && k < LOCKS; k++) perform(session, call_of(PELGAISTI_LOCK, PELGAISTI_X, session * LOCKS + k));
@@ -190,9 +242,12 @@ static const struct {
     void (*prepare)(void), (*measure)(uint64_t *);
     const char *figures[MOST_FIGURES];
 } cases[] = {
-    {"growth", NULL, growth, {"the dearest lock of 1,048,576 databases"}},
-    {"chosen", choose, of_names, {"the dearest lock of 262,144 chosen names", "a lock of a further one"}},
-    {"ordinary", name_in_order, of_names, {"the dearest lock of 262,144 ordinary names", "a lock of a further one"}},
+    {"growth", NULL, growth, {"the dearest lock of 1,048,576 databases", "the same behind a reserve", "the reserve"}},
+    {"history", NULL, history, {"the dearest of 1,048,576 polls that are kept", "the same behind a reserve", "the reserve"}},
+    {"shrink", NULL, shrink, {"to count 1,048,576 idle cells", "the dearest lock that takes one of them", "a shrink that gives them back"}},
+    {"chosen", choose, by_the_seed, {"the dearest lock of 262,144 chosen names", "a lock of a further one", "the mean of all"}},
+    {"another", choose, by_another, {"the dearest lock of these names with another seed", "a lock of a further one", "the mean of all"}},
+    {"ordinary", name_in_order, by_the_seed, {"the dearest lock of 262,144 ordinary names", "a lock of a further one", "the mean of all"}},
     {"page", NULL, pages, {"a page of 1,048,576 locks", "of 131,072", "of 8,192"}},
     {"commits", NULL, commits, {"a poll whose pass serves 255 commits of 4,096 locks"}},
     {"bound", NULL, bound, {"the dearest poll with a bound of 2^20 entries"}},
@@ -213,7 +268,7 @@ int main(int argc, char **argv) {
                 if (took[figure] < least[figure]) least[figure] = took[figure];
         }
         for (size_t figure = 0; figure < MOST_FIGURES && cases[k].figures[figure]; figure++)
-            printf("%.1f %s\n", (double)least[figure] / 1000, cases[k].figures[figure]);
+            printf("%.2f %s\n", (double)least[figure] / 1000, cases[k].figures[figure]);
         return 0;
     }
     return 2;

@@ -17,8 +17,8 @@ static size_t uncounted = 99;
 static pelgaisti_pass unwritten;
 static pelgaisti_answer unanswered = {99, {77, 88}};
 
-/* What a session's questions return at that allocation. */
-static uint32_t asked[7], unasked = 99;
+/* What a session's questions, and its calls on the memory of the lock table, return at that allocation. */
+static uint32_t asked[10], unasked = 99;
 static uint64_t unseen = 99;
 static const pelgaisti_call begin = {PELGAISTI_BEGIN, 0, {0, {0}}};
 
@@ -35,6 +35,9 @@ static void ask_each(pelgaisti_session *session) {
     asked[4] = pelgaisti_session_holders(session, &place, &holder, 1, &uncounted, &unseen);
     asked[5] = pelgaisti_session_blockers(session, 1, &unasked, 1, &uncounted, &unseen);
     asked[6] = pelgaisti_session_locks(session, 0, &claim, 1, &uncounted, &unseen);
+    asked[7] = pelgaisti_session_reserve(session, 1, 1, &unseen);
+    asked[8] = pelgaisti_session_shrink(session, &unseen);
+    asked[9] = pelgaisti_session_idle_cells(session, &uncounted, &unseen);
 }
 
 /* At the next allocation, `meanwhile` tries to serve and `other` to perform a call and to ask, once. */
@@ -59,14 +62,14 @@ static void try_meanwhile(void) {
 /* The calls that may lack memory, and how often memory was refused to each. */
 enum { BOOK_OPEN, BOOK_SERVE, BOOK_SERVE_BATCH, BOOK_LOCK_PATH, BOOK_RUN, BOOK_HOLDERS, BOOK_LOCKS, OFFICE_OPEN, SESSION_SERVE, AT_ONCE, TELLING,
        SESSION_HOLDERS, SESSION_BLOCKERS, SESSION_LOCKS, HAND_IN, OFFICE_CLOSE, OPEN_WAKING, WAKING_SERVE, WAKING_SERVE_TELLING,
-       WAKING_AT_ONCE, WAKING_TELLING, WAKING_PERFORM, WAKING_PATH, SESSION_RUN, LACKING };
+       WAKING_AT_ONCE, WAKING_TELLING, WAKING_PERFORM, WAKING_PATH, SESSION_RUN, BOOK_RESERVE, SESSION_RESERVE, LACKING };
 static const char *const lacking[LACKING] = {"book_open", "book_serve", "book_serve_batch", "book_lock_path", "book_run",
                                              "book_holders", "book_locks", "office_open", "session_serve", "session_perform_at_once",
                                              "session_perform_telling", "session_holders", "session_blockers", "session_locks",
                                              "session_hand_in", "office_close", "office_open_waking", "session_serve, which wakes",
                                              "session_serve_telling, which wakes", "session_perform_at_once, which wakes",
                                              "session_perform_telling, which wakes", "session_perform, which wakes",
-                                             "session_lock_path, which wakes", "session_run"};
+                                             "session_lock_path, which wakes", "session_run", "book_reserve", "session_reserve"};
 static long lacked[LACKING];
 
 /* How many batches were refused memory behind the calls that they served. */
@@ -309,6 +312,37 @@ static void programs(void) {
     CHECK(pelgaisti_book_close(&book) == PELGAISTI_OK);
 }
 
+/* Session 1 holds resources, of which one is given back; then room is made, again if memory is refused: nothing that a call tells has
+   changed then. Behind it 400 locks of 4 sessions take no more memory than for the sessions' own lists. A shrink takes none. */
+static void rooms(void) {
+    static const uint32_t counts[] = {3, 100, 400};
+    pelgaisti_book book = PELGAISTI_EMPTY;
+    while (is_lacking(BOOK_OPEN, pelgaisti_book_open(&book, 4))) continue;
+    for (uint32_t s = 1; s <= 4; s++) serve_surely(&book, s, begin, PELGAISTI_BEGAN);
+    for (uint32_t k = 0; k < 3; k++) serve_surely(&book, 1, call_of(PELGAISTI_LOCK, PELGAISTI_IX, 1000 + k), PELGAISTI_GRANTED);
+    serve_surely(&book, 1, call_of(PELGAISTI_RELEASE, 0, 1001), PELGAISTI_RELEASED);
+    for (size_t k = 0; k < 3; k++) {
+        pelgaisti_call kept = call_of(PELGAISTI_LOCK, PELGAISTI_IX, 1002);
+        uint64_t length = length_of(&book);
+        size_t idle = 99, cells;
+        uint32_t mode;
+        CHECK(pelgaisti_book_idle_cells(&book, &idle) == PELGAISTI_OK && idle == (k == 0));
+        while (is_lacking(BOOK_RESERVE, pelgaisti_book_reserve(&book, counts[k], counts[k]))) {
+            CHECK(length_of(&book) == length && pelgaisti_book_idle_cells(&book, &cells) == PELGAISTI_OK && cells == idle);
+            CHECK(pelgaisti_book_held(&book, 1, &kept.resource, &mode) == PELGAISTI_OK && mode == PELGAISTI_IX);
+        }
+        largest = 0;
+        for (uint32_t n = 0; n < counts[k]; n++)
+            serve_surely(&book, 1 + n % 4, call_of(PELGAISTI_LOCK, PELGAISTI_IX, 1000 * (uint32_t)k + 2000 + n), PELGAISTI_GRANTED);
+        CHECK(largest <= 256 * 64); /* a session's list has room for at most 256 locks, each in 64 bytes or less */
+        largest = 0;
+        CHECK(pelgaisti_book_shrink(&book) == PELGAISTI_OK && length_of(&book) == length + counts[k]);
+        CHECK(pelgaisti_book_idle_cells(&book, &cells) == PELGAISTI_OK && cells == 0);
+        CHECK(pelgaisti_book_held(&book, 1, &kept.resource, &mode) == PELGAISTI_OK && mode == PELGAISTI_IX);
+    }
+    CHECK(pelgaisti_book_close(&book) == PELGAISTI_OK);
+}
+
 enum { CLERKS = 5 };
 
 /* Each session publishes the call, and passes of one of them serve the five: one pass, or a starved one and another. */
@@ -380,6 +414,14 @@ static void ask_lists(pelgaisti_session *session, size_t locks, uint64_t length)
     CHECK(status == PELGAISTI_OK && count == locks && seen == length && claims[0].kind == PELGAISTI_HELD);
 }
 
+/* Makes room by a session, again if memory is refused: then nothing is written. */
+static void reserve_surely(pelgaisti_session *session, uint64_t length) {
+    uint64_t seen = 99;
+    while (is_lacking(SESSION_RESERVE, pelgaisti_session_reserve(session, 500, 500, &seen))) CHECK(seen == 99);
+    CHECK(seen == length);
+    CHECK(pelgaisti_session_shrink(session, &seen) == PELGAISTI_OK && seen == length);
+}
+
 static void offices(void) {
     pelgaisti_session sessions[CLERKS];
     pelgaisti_book book = PELGAISTI_EMPTY;
@@ -408,6 +450,7 @@ static void offices(void) {
     for (uint32_t k = 0; k < 40; k++) perform_nth(&sessions[k % CLERKS], k, 40 + k);
     for (uint32_t k = 0; k < 12; k++) serve_five(sessions, call_of(PELGAISTI_LOCK, PELGAISTI_IX, 100 + k), PELGAISTI_GRANTED);
     ask_lists(&sessions[3], 35 + 40 + 12 * CLERKS, 80 + 12 * CLERKS);
+    reserve_surely(&sessions[4], 80 + 12 * CLERKS);
     serve_five(sessions, call_of(PELGAISTI_COMMIT, 0, 0), PELGAISTI_COMMITTED);
     for (int k = CLERKS - 1; k > 0; k--) {
         status = pelgaisti_session_hand_in(&sessions[k], &sessions[k / 2]);
@@ -647,7 +690,7 @@ static void elsewhere(void) {
     CHECK(pelgaisti_session_serve(&sessions[0], NULL) == PELGAISTI_OK);
     CHECK(!meanwhile && told == PELGAISTI_ELSEWHERE && unwritten.served == 99 && unwritten.starved == 99);
     CHECK(at_once == PELGAISTI_ELSEWHERE && telling == PELGAISTI_ELSEWHERE && unanswered.place == 99 && untold[0] == 77 && uncounted == 99);
-    for (int k = 0; k < 7; k++) CHECK(asked[k] == PELGAISTI_ELSEWHERE);
+    for (int k = 0; k < 10; k++) CHECK(asked[k] == PELGAISTI_ELSEWHERE);
     CHECK(unasked == 99 && unseen == 99);
     CHECK(pelgaisti_session_collect(&sessions[2], &answer) == PELGAISTI_NOTHING_PENDING);
     CHECK(pelgaisti_session_serve(&sessions[1], NULL) == PELGAISTI_OK);
@@ -679,6 +722,7 @@ int main(void) {
     each_in_turn("books", books, 1);
     each_in_turn("paths", paths, 1);
     each_in_turn("programs", programs, 1);
+    each_in_turn("rooms", rooms, 1);
     each_in_turn("offices", offices, 1);
     each_in_turn("wakers", wakers, 1);
     each_in_turn("wakers, two in a row", wakers, 2); /* a path tries once more before its call is left pending */

@@ -52,6 +52,9 @@ static void *work(void *unused) {
     MUST(pelgaisti_session_holders(&sessions[0], &last, holders, SESSIONS, &count, &place) == PELGAISTI_OK && count == 1);
     MUST(pelgaisti_session_blockers(&sessions[0], 1, list, SESSIONS, &count, &place) == PELGAISTI_OK);
     MUST(pelgaisti_session_locks(&sessions[0], 0, claims, SESSIONS * LOCKS, &count, &place) == PELGAISTI_OK);
+    MUST(pelgaisti_session_reserve(&sessions[0], 100, 100, &place) == PELGAISTI_OK);
+    MUST(pelgaisti_session_shrink(&sessions[0], &place) == PELGAISTI_OK);
+    MUST(pelgaisti_session_idle_cells(&sessions[0], &count, &place) == PELGAISTI_OK);
     MUST(pelgaisti_session_take_history(&sessions[0], &place, entries, 10, &count) == PELGAISTI_OK);
     for (k = SESSIONS - 1; k > 0; k--) MUST(pelgaisti_session_hand_in(&sessions[k], &sessions[0]) == PELGAISTI_OK);
     MUST(pelgaisti_office_close(&sessions[0], &book) == PELGAISTI_OK);
@@ -68,8 +71,11 @@ static void *work(void *unused) {
     level = 0;
     MUST(pelgaisti_book_lock_path(&book, 1, &path, PELGAISTI_S, &level, &reply, list, PELGAISTI_MAX_SESSIONS, &count) == PELGAISTI_OK);
     MUST(pelgaisti_book_run(&book, 1, &program, &made, list, PELGAISTI_MAX_SESSIONS, &count) == PELGAISTI_OK && made.served == 2);
+    MUST(pelgaisti_book_reserve(&book, 100, 100) == PELGAISTI_OK && pelgaisti_book_shrink(&book) == PELGAISTI_OK);
+    MUST(pelgaisti_book_idle_cells(&book, &count) == PELGAISTI_OK && count == 0);
     MUST(pelgaisti_book_take_history(&book, &place, entries, 10, &count) == PELGAISTI_OK);
     MUST(pelgaisti_book_close(&book) == PELGAISTI_OK);
+    MUST(pelgaisti_book_open(&book, 1) == PELGAISTI_OK && pelgaisti_book_close(&book) == PELGAISTI_OK);
     return unused;
 }
 

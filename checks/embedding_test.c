@@ -50,7 +50,9 @@ static const struct {
     any_call call;
     const char *arguments;
 } all_calls[] = {
-    {ANY(book_open), "pn"}, {ANY(book_close), "p"}, {ANY(book_serve), "pnpp"}, {ANY(book_serve_batch), "plrp"}, {ANY(book_held), "pnpp"},
+    {ANY(book_open), "pn"}, {ANY(book_open_seeded), "pnn"}, {ANY(book_reserve), "pnn"}, {ANY(book_shrink), "p"},
+    {ANY(book_idle_cells), "pp"}, {ANY(office_open_seeded), "pnnon"}, {ANY(session_reserve), "pnnp"}, {ANY(session_shrink), "pp"},
+    {ANY(session_idle_cells), "ppp"}, {ANY(book_close), "p"}, {ANY(book_serve), "pnpp"}, {ANY(book_serve_batch), "plrp"}, {ANY(book_held), "pnpp"},
     {ANY(book_holders), "pplrp"}, {ANY(book_waits_for), "pnnp"}, {ANY(book_blockers), "pnlrp"}, {ANY(book_transaction), "pnp"},
     {ANY(book_request), "pnp"}, {ANY(book_locks), "pnlrp"}, {ANY(book_ended), "plrp"}, {ANY(book_length), "pp"},
     {ANY(book_history), "pnlrp"}, {ANY(book_first_kept), "pp"}, {ANY(book_keep_at_most), "pn"}, {ANY(book_take_history), "pplrp"},
@@ -1863,6 +1865,197 @@ static void sessions_ask(void) {
     CHECK(pelgaisti_book_close(&book) == PELGAISTI_OK);
 }
 
+/* Seeds of books and offices that are to have the same history. The last one is drawn. */
+static const uint64_t seeds[] = {0, 1, UINT64_MAX, 77};
+
+/* What is drawn for the next call: the same numbers in each run. */
+static uint32_t draw(uint32_t *state, uint32_t below) {
+    *state = *state * 1664525u + 1013904223u;
+    return (*state >> 8) % below;
+}
+
+/* The next call of a run by 8 sessions over 40 databases and 160 files of theirs, and whose it is: a begin in 3 of 40, a lock in 29, and else
+   any call. */
+static pelgaisti_call draw_call(uint32_t *state, uint32_t *session) {
+    static const uint32_t modes[] = {PELGAISTI_IS, PELGAISTI_IX, PELGAISTI_S, PELGAISTI_X};
+    uint32_t op = draw(state, 40), mode = modes[draw(state, 4)], level = 1 + (draw(state, 4) == 0), database = draw(state, 40);
+    *session = 1 + draw(state, 8);
+    if (op < 3) op = PELGAISTI_BEGIN;
+    else if (op > PELGAISTI_RESTART) op = PELGAISTI_LOCK;
+    return call_of(op, mode, level, database, level > 1 ? draw(state, 4) : 0);
+}
+
+/* Whether both are the same entry. Between the fields of a reply are bytes that are nothing. */
+static int is_same_entry(const pelgaisti_entry *one, const pelgaisti_entry *two) {
+    return one->session == two->session && !memcmp(&one->call, &two->call, sizeof one->call) && one->reply.kind == two->reply.kind &&
+           one->reply.value == two->reply.value;
+}
+
+enum { DRAWN = 3000 };
+
+/* Whether the book has the history of `entries`, or if `is_first`, notes it there; and the same of its locks. It has more than 400 grants. */
+static void want_history(pelgaisti_book *book, int is_first) {
+    static pelgaisti_entry entries[DRAWN], others[DRAWN];
+    static pelgaisti_claim claims[DRAWN], their_claims[DRAWN];
+    static size_t lines;
+    size_t count = 0, granted = 0, differ = 0;
+    CHECK(pelgaisti_book_history(book, 0, is_first ? entries : others, DRAWN, &count) == PELGAISTI_OK && count == DRAWN);
+    for (size_t k = 0; k < DRAWN && is_first; k++) granted += entries[k].reply.kind == PELGAISTI_GRANTED;
+    for (size_t k = 0; k < DRAWN && !is_first; k++) differ += !is_same_entry(&entries[k], &others[k]);
+    CHECK(differ == 0 && (!is_first || granted > 400));
+    CHECK(pelgaisti_book_locks(book, 0, is_first ? claims : their_claims, DRAWN, &count) == PELGAISTI_OK && count > 0 && count <= DRAWN);
+    if (is_first) lines = count;
+    CHECK(count == lines && (is_first || !memcmp(claims, their_claims, count * sizeof *claims)));
+}
+
+/* The same calls give the same history and the same locks, whatever the seed, and if room is made and memory is given back meanwhile. */
+static void no_history_depends_on_seeds(void) {
+    static pelgaisti_session sessions[8];
+    pelgaisti_book book = PELGAISTI_EMPTY;
+    pelgaisti_reply reply;
+    pelgaisti_answer answer;
+    uint64_t seen;
+    for (size_t k = 0; k < 2 * COUNT(seeds); k++) {
+        const int is_office = k % 2, is_drawn = k / 2 + 1 == COUNT(seeds);
+        uint32_t state = 1, session, failures = 0;
+        if (is_office && is_drawn) CHECK(pelgaisti_office_open(sessions, 8) == PELGAISTI_OK);
+        else if (is_office) CHECK(pelgaisti_office_open_seeded(sessions, 8, UINT64_MAX, NULL, seeds[k / 2]) == PELGAISTI_OK);
+        else if (is_drawn) CHECK(pelgaisti_book_open(&book, 8) == PELGAISTI_OK);
+        else CHECK(pelgaisti_book_open_seeded(&book, 8, seeds[k / 2]) == PELGAISTI_OK);
+        for (uint32_t n = 0; n < DRAWN; n++) {
+            pelgaisti_call call = draw_call(&state, &session);
+            if (is_office) {
+                failures += pelgaisti_session_perform(&sessions[session - 1], &call, 9, &answer) != PELGAISTI_OK;
+                if (n % 100 == 50) failures += pelgaisti_session_reserve(&sessions[n % 8], n, n, &seen) != PELGAISTI_OK;
+                if (n % 100 == 0) failures += pelgaisti_session_shrink(&sessions[n % 8], &seen) != PELGAISTI_OK;
+            } else {
+                failures += pelgaisti_book_serve(&book, session, &call, &reply) != PELGAISTI_OK;
+                if (k > 0 && n % 100 == 50) failures += pelgaisti_book_reserve(&book, n, n) != PELGAISTI_OK;
+                if (k > 0 && n % 100 == 0) failures += pelgaisti_book_shrink(&book) != PELGAISTI_OK;
+            }
+        }
+        CHECK(failures == 0);
+        for (int s = 1; s < 8 && is_office; s++) CHECK(pelgaisti_session_hand_in(&sessions[s], &sessions[0]) == PELGAISTI_OK);
+        if (is_office) CHECK(pelgaisti_office_close(&sessions[0], &book) == PELGAISTI_OK);
+        want_history(&book, k == 0);
+        CHECK(pelgaisti_book_close(&book) == PELGAISTI_OK);
+    }
+}
+
+/* A book is opened with a seed as without one. Room that can't be made is refused. A resource that nobody holds any more leaves an idle
+   cell, which the next new one takes; a shrink takes away those that are left. */
+static void memory_of_a_book(void) {
+    pelgaisti_book book = PELGAISTI_EMPTY;
+    pelgaisti_call begin = call_of(PELGAISTI_BEGIN, 0, 0, 0, 0), commit = call_of(PELGAISTI_COMMIT, 0, 0, 0, 0);
+    pelgaisti_reply reply;
+    uint32_t mode;
+    uint64_t length = 0;
+    size_t cells = 99;
+    CHECK(pelgaisti_book_reserve(&book, 1, 1) == PELGAISTI_CLOSED && pelgaisti_book_shrink(&book) == PELGAISTI_CLOSED);
+    CHECK(pelgaisti_book_idle_cells(&book, &cells) == PELGAISTI_CLOSED && cells == 99);
+    CHECK(pelgaisti_book_open_seeded(NULL, 2, 7) == PELGAISTI_NULL);
+    for (size_t k = 0; k < COUNT(off_sessions); k++)
+        if (off_sessions[k] < 1 || off_sessions[k] > PELGAISTI_MAX_SESSIONS)
+            CHECK(pelgaisti_book_open_seeded(&book, off_sessions[k], 7) == PELGAISTI_NO_SUCH_COUNT);
+    CHECK(book.is_open_ == 0 && pelgaisti_book_open_seeded(&book, 2, 7) == PELGAISTI_OK);
+    CHECK(pelgaisti_book_open_seeded(&book, 2, 7) == PELGAISTI_OPEN && pelgaisti_book_open_seeded(&book, 0, 7) == PELGAISTI_OPEN);
+    CHECK(pelgaisti_book_reserve(NULL, 1, 1) == PELGAISTI_NULL && pelgaisti_book_shrink(NULL) == PELGAISTI_NULL);
+    CHECK(pelgaisti_book_idle_cells(NULL, &cells) == PELGAISTI_NULL && pelgaisti_book_idle_cells(&book, NULL) == PELGAISTI_NULL);
+    CHECK(cells == 99 && pelgaisti_book_idle_cells(&book, &cells) == PELGAISTI_OK && cells == 0);
+    CHECK(pelgaisti_book_reserve(&book, SIZE_MAX, 0) == PELGAISTI_NO_MEMORY);
+    CHECK(pelgaisti_book_reserve(&book, 0, SIZE_MAX) == PELGAISTI_NO_MEMORY);
+    CHECK(pelgaisti_book_reserve(&book, 0, 0) == PELGAISTI_OK && pelgaisti_book_reserve(&book, 100, 100) == PELGAISTI_OK);
+    CHECK(pelgaisti_book_idle_cells(&book, &cells) == PELGAISTI_OK && cells == 0); /* room is no cell */
+    CHECK(pelgaisti_book_serve(&book, 1, &begin, &reply) == PELGAISTI_OK);
+    for (uint32_t k = 1; k <= 3; k++) {
+        pelgaisti_call lock = call_of(PELGAISTI_LOCK, PELGAISTI_X, 1, k, 0);
+        CHECK(pelgaisti_book_serve(&book, 1, &lock, &reply) == PELGAISTI_OK && reply.kind == PELGAISTI_GRANTED);
+    }
+    CHECK(pelgaisti_book_idle_cells(&book, &cells) == PELGAISTI_OK && cells == 0);
+    CHECK(pelgaisti_book_serve(&book, 1, &commit, &reply) == PELGAISTI_OK && reply.value == 3);
+    CHECK(pelgaisti_book_idle_cells(&book, &cells) == PELGAISTI_OK && cells == 3);
+    CHECK(pelgaisti_book_serve(&book, 2, &begin, &reply) == PELGAISTI_OK);
+    pelgaisti_call lock = call_of(PELGAISTI_LOCK, PELGAISTI_X, 1, 9, 0);
+    CHECK(pelgaisti_book_serve(&book, 2, &lock, &reply) == PELGAISTI_OK && reply.kind == PELGAISTI_GRANTED);
+    CHECK(pelgaisti_book_idle_cells(&book, &cells) == PELGAISTI_OK && cells == 2);
+    CHECK(pelgaisti_book_shrink(&book) == PELGAISTI_OK && pelgaisti_book_idle_cells(&book, &cells) == PELGAISTI_OK && cells == 0);
+    CHECK(pelgaisti_book_held(&book, 2, &lock.resource, &mode) == PELGAISTI_OK && mode == PELGAISTI_X);
+    CHECK(pelgaisti_book_length(&book, &length) == PELGAISTI_OK && length == 7);
+    CHECK(pelgaisti_book_serve(&book, 2, &commit, &reply) == PELGAISTI_OK && reply.value == 1);
+    CHECK(pelgaisti_book_idle_cells(&book, &cells) == PELGAISTI_OK && cells == 1);
+    CHECK(pelgaisti_book_close(&book) == PELGAISTI_OK);
+}
+
+/* The same of an office, by a session that knows the whole history then. */
+static void memory_of_an_office(void) {
+    static pelgaisti_session sessions[2], closed;
+    pelgaisti_book book = PELGAISTI_EMPTY;
+    pelgaisti_waker nobody = {NULL, NULL};
+    pelgaisti_call begin = call_of(PELGAISTI_BEGIN, 0, 0, 0, 0), commit = call_of(PELGAISTI_COMMIT, 0, 0, 0, 0);
+    pelgaisti_answer answer;
+    uint64_t seen = 99, known;
+    size_t cells = 99;
+    CHECK(pelgaisti_office_open_seeded(NULL, 2, UINT64_MAX, NULL, 7) == PELGAISTI_NULL);
+    CHECK(pelgaisti_office_open_seeded(sessions, 2, UINT64_MAX, &nobody, 7) == PELGAISTI_NULL);
+    CHECK(pelgaisti_office_open_seeded(sessions, 0, UINT64_MAX, NULL, 7) == PELGAISTI_NO_SUCH_COUNT);
+    CHECK(pelgaisti_office_open_seeded(sessions, 1025, UINT64_MAX, NULL, 7) == PELGAISTI_NO_SUCH_COUNT);
+    CHECK(pelgaisti_office_open_seeded(sessions, 2, 3, NULL, 7) == PELGAISTI_OK);
+    CHECK(pelgaisti_office_open_seeded(sessions, 2, 3, NULL, 7) == PELGAISTI_OPEN);
+    CHECK(pelgaisti_session_reserve(&closed, 1, 1, &seen) == PELGAISTI_CLOSED);
+    CHECK(pelgaisti_session_shrink(&closed, &seen) == PELGAISTI_CLOSED);
+    CHECK(pelgaisti_session_idle_cells(&closed, &cells, &seen) == PELGAISTI_CLOSED);
+    CHECK(pelgaisti_session_reserve(NULL, 1, 1, &seen) == PELGAISTI_NULL && pelgaisti_session_reserve(sessions, 1, 1, NULL) == PELGAISTI_NULL);
+    CHECK(pelgaisti_session_shrink(NULL, &seen) == PELGAISTI_NULL && pelgaisti_session_shrink(sessions, NULL) == PELGAISTI_NULL);
+    CHECK(pelgaisti_session_idle_cells(NULL, &cells, &seen) == PELGAISTI_NULL);
+    CHECK(pelgaisti_session_idle_cells(sessions, NULL, &seen) == PELGAISTI_NULL);
+    CHECK(pelgaisti_session_idle_cells(sessions, &cells, NULL) == PELGAISTI_NULL && seen == 99 && cells == 99);
+    CHECK(pelgaisti_session_reserve(&sessions[1], 100, 100, &seen) == PELGAISTI_OK && seen == 0);
+    CHECK(pelgaisti_session_perform(&sessions[0], &begin, 9, &answer) == PELGAISTI_OK);
+    for (uint32_t k = 1; k <= 3; k++) {
+        pelgaisti_call lock = call_of(PELGAISTI_LOCK, PELGAISTI_X, 1, k, 0);
+        CHECK(pelgaisti_session_perform(&sessions[0], &lock, 9, &answer) == PELGAISTI_OK && answer.reply.kind == PELGAISTI_GRANTED);
+    }
+    seen = 99;
+    CHECK(pelgaisti_session_reserve(&sessions[1], SIZE_MAX, 0, &seen) == PELGAISTI_NO_MEMORY && seen == 99);
+    CHECK(pelgaisti_session_seen(&sessions[1], &known) == PELGAISTI_OK && known == 4); /* also if memory is refused */
+    CHECK(pelgaisti_session_idle_cells(&sessions[1], &cells, &seen) == PELGAISTI_OK && cells == 0 && seen == 4);
+    /* a session may have a call pending, which isn't served */
+    CHECK(pelgaisti_session_publish(&sessions[0], &commit, NULL) == PELGAISTI_OK);
+    CHECK(pelgaisti_session_reserve(&sessions[0], 1, 1, &seen) == PELGAISTI_OK && seen == 4);
+    CHECK(pelgaisti_session_shrink(&sessions[0], &seen) == PELGAISTI_OK && seen == 4);
+    CHECK(pelgaisti_session_collect(&sessions[0], &answer) == PELGAISTI_NOT_SERVED);
+    CHECK(pelgaisti_session_perform(&sessions[0], NULL, 9, &answer) == PELGAISTI_OK && answer.reply.value == 3);
+    CHECK(pelgaisti_session_idle_cells(&sessions[1], &cells, &seen) == PELGAISTI_OK && cells == 3 && seen == 5);
+    CHECK(pelgaisti_session_shrink(&sessions[1], &seen) == PELGAISTI_OK && seen == 5);
+    CHECK(pelgaisti_session_idle_cells(&sessions[1], &cells, &seen) == PELGAISTI_OK && cells == 0);
+    CHECK(pelgaisti_session_hand_in(&sessions[1], &sessions[0]) == PELGAISTI_OK);
+    CHECK(pelgaisti_office_close(&sessions[0], &book) == PELGAISTI_OK);
+    CHECK(pelgaisti_book_first_kept(&book, &seen) == PELGAISTI_OK && seen == 2); /* the bound was given */
+    CHECK(pelgaisti_book_close(&book) == PELGAISTI_OK);
+}
+
+/* A waker is called in an office that was opened with a seed, too. */
+static void seeded_wakers(void) {
+    static pelgaisti_session sessions[2];
+    sem_t woken[3];
+    pelgaisti_waker waker = {post, woken};
+    pelgaisti_book book = PELGAISTI_EMPTY;
+    pelgaisti_call begin = call_of(PELGAISTI_BEGIN, 0, 0, 0, 0), write = call_of(PELGAISTI_LOCK, PELGAISTI_X, 1, 1, 0);
+    pelgaisti_call commit = call_of(PELGAISTI_COMMIT, 0, 0, 0, 0);
+    pelgaisti_answer answer;
+    for (int s = 0; s < 3; s++) CHECK(sem_init(&woken[s], 0, 0) == 0);
+    CHECK(pelgaisti_office_open_seeded(sessions, 2, UINT64_MAX, &waker, 7) == PELGAISTI_OK);
+    for (int s = 0; s < 2; s++) {
+        CHECK(pelgaisti_session_perform(&sessions[s], &begin, 9, &answer) == PELGAISTI_OK);
+        CHECK(pelgaisti_session_perform(&sessions[s], &write, 9, &answer) == PELGAISTI_OK);
+    }
+    CHECK(answer.reply.kind == PELGAISTI_WAITING && sem_trywait(&woken[2]) != 0);
+    CHECK(pelgaisti_session_perform(&sessions[0], &commit, 9, &answer) == PELGAISTI_OK && sem_trywait(&woken[2]) == 0);
+    CHECK(pelgaisti_session_hand_in(&sessions[1], &sessions[0]) == PELGAISTI_OK);
+    CHECK(pelgaisti_office_close(&sessions[0], &book) == PELGAISTI_OK && pelgaisti_book_close(&book) == PELGAISTI_OK);
+    for (int s = 0; s < 3; s++) sem_destroy(&woken[s]);
+}
+
 /* A pass tells whose wait it has ended, whoever makes it, and the next pass tells nobody. */
 static void passes_tell(void) {
     static pelgaisti_session sessions[2];
@@ -2514,6 +2707,10 @@ int main(int argc, char **argv) {
     restarts();
     claims_of_a_book();
     sessions_ask();
+    memory_of_a_book();
+    memory_of_an_office();
+    no_history_depends_on_seeds();
+    seeded_wakers();
     passes_tell();
     calls_at_once();
     threads_sleep();

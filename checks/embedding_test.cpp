@@ -114,6 +114,37 @@ static void books() {
     CHECK(throws(PELGAISTI_NO_SUCH_COUNT, [] { pelgaisti::book none{0}; }));
 }
 
+// With a seed a lock table replies what it replies without one. A resource that nobody holds leaves an idle cell until the table shrinks.
+static void seeds_and_memory() {
+    pelgaisti::book book{2}, seeded{2, pelgaisti::seed{7}};
+    for (auto *one : {&book, &seeded}) {
+        one->reserve(100, 100);
+        CHECK(one->idle_cells() == 0 && one->serve(1, {op::begin}).kind == kind::began);
+        CHECK(one->serve(1, {op::lock, mode::X, {7}}).kind == kind::granted && one->serve(1, {op::lock, mode::S, {8}}).kind == kind::granted);
+        CHECK(one->serve(1, {op::commit}).value == 2 && one->idle_cells() == 2);
+        one->shrink();
+        CHECK(one->idle_cells() == 0 && one->length() == 4 && one->history(0, 9).size() == 4);
+        CHECK(throws(PELGAISTI_NO_MEMORY, [&] { one->reserve(SIZE_MAX, 0); }) && throws(PELGAISTI_NO_MEMORY, [&] { one->reserve(0, SIZE_MAX); }));
+    }
+    CHECK(throws(PELGAISTI_NO_SUCH_COUNT, [] { pelgaisti::book none(0, pelgaisti::seed{7}); }));
+    CHECK(throws(PELGAISTI_NO_SUCH_COUNT, [] { pelgaisti::office none(0, pelgaisti::seed{7}); }));
+    std::vector<std::uint32_t> woken;
+    const auto note = [](void *engine, std::uint32_t session) noexcept {
+        static_cast<std::vector<std::uint32_t> *>(engine)->push_back(session);
+    };
+    pelgaisti::office office{2, pelgaisti::seed{7}, {note, &woken}, 3};
+    CHECK(office[1].reserve(100, 100) == 0u && office[0].perform({op::begin}) && office[1].perform({op::begin}));
+    CHECK(office[0].perform({op::lock, mode::X, {7}}) && office[1].perform({op::lock, mode::X, {7}})->reply.kind == kind::waiting);
+    CHECK(office[0].perform({op::commit}) && woken == std::vector<std::uint32_t>{2} && office[1].perform({op::commit}));
+    const auto idle = office[0].idle_cells();
+    CHECK(idle && idle->found == 1 && idle->length == 6);
+    CHECK(office[0].shrink() == 6u && office[0].idle_cells()->found == 0);
+    CHECK(throws(PELGAISTI_NO_MEMORY, [&] { office[0].reserve(SIZE_MAX, 0); }));
+    CHECK(office.close()->first_kept() == 3);
+    pelgaisti::office silent{1, pelgaisti::seed{7}};
+    CHECK(silent[0].perform({op::begin}) && silent.close()->length() == 1);
+}
+
 // The first call of session 1's path makes 3 a victim, since 1 would wait for 3, which waits for 2, which waits for 1. The second call
 // ends nobody's wait where it is granted; else it waits for 2, which becomes a victim, too.
 static void paths_tell() {
@@ -562,8 +593,8 @@ static void names() {
 }
 
 int main() {
-    for (const auto test : {books, paths_tell, programs, session_programs, tries, offices, wakers, a_task_throws, sessions_have_owners, orphans_wait,
-                            threads_share_the_orphans, marks_are_of_transactions, asked_sessions_obey, offices_are_left, sizes, names}) {
+    for (const auto test : {books, seeds_and_memory, paths_tell, programs, session_programs, tries, offices, wakers, a_task_throws,
+                            sessions_have_owners, orphans_wait, threads_share_the_orphans, marks_are_of_transactions, asked_sessions_obey, offices_are_left, sizes, names}) {
         try {
             test();
         } catch (const pelgaisti::error &error) {

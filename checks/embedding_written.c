@@ -53,6 +53,7 @@ static void of_a_book(void) {
     WRITES_1(length, pelgaisti_book_length(&book, &length));
     WRITES_2(count, history, pelgaisti_book_history(&book, 0, history, 2, &count));
     WRITES_1(first_kept, pelgaisti_book_first_kept(&book, &first_kept));
+    WRITES_1(count, pelgaisti_book_idle_cells(&book, &count));
     WRITES_3(first, count, taken, pelgaisti_book_take_history(&book, &first, taken, 2, &count));
     OK(pelgaisti_book_close(&book));
 }
@@ -89,6 +90,9 @@ static void of_an_office(void) {
     WRITES_3(holders, count, seen, pelgaisti_session_holders(&sessions[0], &lock.resource, holders, 1, &count, &seen));
     WRITES_3(blockers, count, seen, pelgaisti_session_blockers(&sessions[0], 2, blockers, 1, &count, &seen));
     WRITES_3(locks, count, seen, pelgaisti_session_locks(&sessions[0], 0, locks, 1, &count, &seen));
+    WRITES_1(seen, pelgaisti_session_reserve(&sessions[0], 1, 1, &seen));
+    WRITES_1(seen, pelgaisti_session_shrink(&sessions[0], &seen));
+    WRITES_2(count, seen, pelgaisti_session_idle_cells(&sessions[0], &count, &seen));
     WRITES_1(seen, pelgaisti_session_seen(&sessions[0], &seen));
     WRITES_1(mark, pelgaisti_session_mark(&sessions[0], &mark));
     WRITES_3(first, count, taken, pelgaisti_session_take_history(&sessions[0], &first, taken, 2, &count));

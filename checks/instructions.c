@@ -7,12 +7,13 @@
                   and a page of it: make_transfer
        programs   the same by two programs: make_transfer
        served     the same seven calls of a book: make_transfer
-       ran        the same two programs of a book: make_transfer */
+       ran        the same two programs of a book: make_transfer
+   All lock tables have one seed, so that the counts are the same each time. */
 #include "pelgaisti.h"
 #include <stdlib.h>
 #include <string.h>
 
-enum { LOCKERS = 32 };
+enum { LOCKERS = 32, SEED = 7 };
 
 static pelgaisti_session sessions[LOCKERS + 1];
 
@@ -84,7 +85,7 @@ static void batches(long times) {
     pelgaisti_entry batch[LOCKERS];
     pelgaisti_reply reply;
     size_t count;
-    if (pelgaisti_book_open(&book, LOCKERS + 1) != PELGAISTI_OK || pelgaisti_book_keep_at_most(&book, 64) != PELGAISTI_OK) exit(23);
+    if (pelgaisti_book_open_seeded(&book, LOCKERS + 1, SEED) != PELGAISTI_OK || pelgaisti_book_keep_at_most(&book, 64) != PELGAISTI_OK) exit(23);
     /* somebody holds the resource, so the first lock of a batch needs no cell */
     if (pelgaisti_book_serve(&book, LOCKERS + 1, &begin, &reply) != PELGAISTI_OK) exit(24);
     if (pelgaisti_book_serve(&book, LOCKERS + 1, &lock, &reply) != PELGAISTI_OK) exit(25);
@@ -175,7 +176,7 @@ static void transfers(const char *name, long times) {
     pelgaisti_answer answer;
     pelgaisti_reply reply;
     if (pelgaisti_session_perform(&sessions[0], &begin, UINT64_MAX, &answer) != PELGAISTI_OK) exit(17);
-    if (pelgaisti_book_open(&book, LOCKERS + 1) != PELGAISTI_OK || pelgaisti_book_keep_at_most(&book, 64) != PELGAISTI_OK) exit(18);
+    if (pelgaisti_book_open_seeded(&book, LOCKERS + 1, SEED) != PELGAISTI_OK || pelgaisti_book_keep_at_most(&book, 64) != PELGAISTI_OK) exit(18);
     if (pelgaisti_book_serve(&book, 1, &begin, &reply) != PELGAISTI_OK) exit(19);
     for (size_t way = 0; way < sizeof ways / sizeof *ways; way++)
         for (long k = 0; k < times && !strcmp(name, ways[way].name); k++) make_transfer(ways[way].make);
@@ -191,9 +192,7 @@ int main(int argc, char **argv) {
     static const pelgaisti_waker waker = {wake_nobody, NULL};
     long times = argc == 3 ? atol(argv[2]) : 0;
     int is_waking = argc == 3 && !strcmp(argv[1], "wakes");
-    pelgaisti_status status = is_waking ? pelgaisti_office_open_waking(sessions, LOCKERS + 1, 64, &waker)
-                                        : pelgaisti_office_open_keeping(sessions, LOCKERS + 1, 64);
-    if (status != PELGAISTI_OK) return 1;
+    if (pelgaisti_office_open_seeded(sessions, LOCKERS + 1, 64, is_waking ? &waker : NULL, SEED) != PELGAISTI_OK) return 1;
     if (argc == 3 && !strcmp(argv[1], "locks")) locks(times);
     else if (argc == 3 && (!strcmp(argv[1], "performs") || is_waking)) performs(times);
     else if (argc == 3 && !strcmp(argv[1], "batches")) batches(times);

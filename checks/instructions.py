@@ -12,8 +12,10 @@ what was counted when it was set (more for the smallest count), and below what t
 builds in which it was broken; for locks of a batch, with locks of two databases in turn, which make no run; for a second holder,
 with the least that two requests for memory take. If calls have become dearer for a good reason, set the bound anew.
 
-The dearest calls known (bench/worst.py) are counted by `glm replay`, as the difference between traces with them and without. A
-search for cycles that takes the square of the sessions for each victim goes far beyond their bounds.
+The dearest calls known are counted, too: searches for cycles (bench/worst.py) by `glm replay`, as the difference between traces with
+them and without, and others through the library for C (checks/dear_calls.c). A search for cycles that takes the square of the sessions
+for each victim goes far beyond their bounds. Names of resources that collide with one seed of the hash cost with another seed what
+ordinary names do; with that seed they cost many times as much, or the choice of names is wrong.
 
 Memory is the peak of `glm replay` over short transactions on ever new resources, against as many rows on few resources.
 
@@ -41,6 +43,9 @@ LOCK_BENCH = TOP / "crates/lock_bench/out/lock_bench"
 GLM = TOP / "crates/glm_main/out/glm_main"
 # the greatest peak over ever new resources, as a multiple of the peak over few
 MOST_MEMORY = 1.05
+# the greatest cost of ordinary names, as a part of the cost of names that collide with the seed; and the greatest of names that collide
+# with another seed, as a multiple of the cost of ordinary names
+MOST_ORDINARY, MOST_CHOSEN = 0.3, 1.1
 
 
 def transaction(session, *calls):
@@ -124,6 +129,19 @@ THROUGH_C = [
     ("a call is performed at once in an office with a waker", "wakes", "perform_transaction", 2000, 3, 1160),
 ]
 
+# Dear calls through the library for C: what it is, what checks/dear_calls.c does, how many calls or items it counts as, the most
+# instructions of one.
+DEAR_THROUGH_C = [
+    ("a lock of 4,096, as the table grows", "growth", 4096, 915),
+    ("a lock of 4,096, behind a reserve", "reserved", 4096, 700),
+    ("a page of 8 of 8,192 locks", "page", 1, 2_300_000),
+    ("a pass that serves 63 commits of 4,096 locks, for each lock", "commits", 63 * 4096, 280),
+    ("a commit before 1,023 readers", "readers", 1, 375_000),
+    ("a withdrawal from the front of a queue of 1,023", "withdraw", 1, 32_000),
+    ("a poll of 4,096, of which 1,024 are kept", "history", 4096, 340),
+    ("a shrink of 8,192 idle cells, for each", "idle", 8192, 22),
+]
+
 # A transfer of seven calls: by single calls and by two programs of an office, each with how a book is called for the same, and a bound.
 # What an office takes beyond the book is its hand-over: that of programs is bounded by so much of that of calls.
 TRANSFERS = ("calls", "served", 9700), ("programs", "ran", 8200)
@@ -170,11 +188,11 @@ def instructions_of_a_dear_call(case, folder):
     return (instructions_of_a_replay(rows, sessions, folder) - instructions_of_a_replay(others, sessions, folder)) / number
 
 
-def program_through_c(folder):
-    """Builds checks/instructions.c."""
-    program = folder / "instructions"
+def program_through_c(name, folder):
+    """Builds a source of checks/ against the library for C."""
+    program = folder / name
     compiler = shlex.split(os.environ.get("CC", "cc"))
-    source = TOP / "checks/instructions.c"
+    source = TOP / f"checks/{name}.c"
     flags = ["-O1", f"-I{TOP}/out", f"-L{TOP}/out", "-lpelgaisti"]
     subprocess.run([*compiler, source, *flags, "-o", program], check=True)
     return program
@@ -184,6 +202,11 @@ def instructions_through_c(case, program):
     """The instructions of a call through the library for C."""
     _, what, function, times, calls, _ = case
     return counted([program, what, str(times)], f"--toggle-collect={function}") / (times * calls)
+
+
+def instructions_of_dear_calls(what, program):
+    """The instructions of what checks/dear_calls.c does."""
+    return counted([program, what], "--toggle-collect=dear_call")
 
 
 def instructions_of_a_transfer(way, program):
@@ -238,12 +261,19 @@ def main():
         folder = Path(name)
         has_valgrind = shutil.which("valgrind") is not None
         if has_valgrind:
-            program = program_through_c(folder)
+            program = program_through_c("instructions", folder)
+            dear_calls = program_through_c("dear_calls", folder)
             through_c = pool.map(lambda case: instructions_through_c(case, program), THROUGH_C)
             found = pool.map(lambda case: instructions_of_a_call(case, folder), CASES)
             dear = pool.map(lambda case: instructions_of_a_dear_call(case, folder), DEAREST)
             for (name, *_, most), instructions in zip(CASES + DEAREST + THROUGH_C, [*found, *dear, *through_c]):
                 judge(name, instructions, most, "instructions")
+            whats = [what for _, what, _, _ in DEAR_THROUGH_C] + ["chosen", "known"]
+            counts = dict(zip(whats, pool.map(lambda what: instructions_of_dear_calls(what, dear_calls), whats)))
+            for name, what, number, most in DEAR_THROUGH_C:
+                judge(name, counts[what] / number, most, "instructions")
+            judge("names that collide with another seed", counts["chosen"] / counts["growth"], MOST_CHOSEN, "times ordinary ones", digits=2)
+            judge("ordinary names", counts["growth"] / counts["known"], MOST_ORDINARY, "times those that collide", digits=2)
             ways = [way for office, book, _ in TRANSFERS for way in (office, book)]
             transfers = dict(zip(ways, pool.map(lambda way: instructions_of_a_transfer(way, program), ways)))
             for office, _, most in TRANSFERS:

@@ -18,10 +18,14 @@ static long in_a_row = 1, refused_so_far;
 /* How many allocations were refused. */
 static long refusals;
 
+/* The most bytes that one allocation has asked for, since it was set to 0. */
+static size_t largest;
+
 /* What runs ahead of each allocation, if anything. */
 static void (*ahead)(void);
 
-static int is_refused(void) {
+static int is_refused(size_t size) {
+    if (size > largest) largest = size;
     if (ahead) ahead();
     if (left != 0) {
         left -= left > 0;
@@ -35,8 +39,8 @@ static int is_refused(void) {
     return 1;
 }
 
-void *__wrap_malloc(size_t size) { return is_refused() ? NULL : __real_malloc(size); }
+void *__wrap_malloc(size_t size) { return is_refused(size) ? NULL : __real_malloc(size); }
 
-void *__wrap_realloc(void *at, size_t size) { return is_refused() ? NULL : __real_realloc(at, size); }
+void *__wrap_realloc(void *at, size_t size) { return is_refused(size) ? NULL : __real_realloc(at, size); }
 
 #endif

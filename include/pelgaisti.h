@@ -64,12 +64,12 @@
  * has changed and nothing was written: no handle, no history, no memory that an argument points to. There are four exceptions: a
  * serve that returns ELSEWHERE may put the session's record on the publication list; COPIED closes the session's handle; where
  * memory was refused for a call that was to be performed at once, a pass was made that may have served other calls, and the waker was
- * called for whom it has told of; and where memory was refused for the answer to a question of a session, the session may know more
- * of the history. The calls that make several turns say for themselves what they leave (pelgaisti_session_perform, .._run,
- * .._lock_path).
+ * called for whom it has told of; and where memory was refused for the answer to a question of a session, or for the room that it
+ * reserves, the session may know more of the history. The calls that make several turns say for themselves what they leave
+ * (pelgaisti_session_perform, .._run, .._lock_path).
  *
  * WHAT IS PROVED. Each call leads to an export of crates/pelgaisti_c, which states and proves its contract: what PELGAISTI_OK means,
- * which other statuses the call can return, and what each of these implies. What stands between is in bindings/c, some 400 lines of C,
+ * which other statuses the call can return, and what each of these implies. What stands between is in bindings/c, some 500 lines of C,
  * and is tested: that calls are made and turns follow as their comments say, that SAME is refused, that threads pause and are woken,
  * names. So are three sentences:
  * - NOT_SERVED. Proved: the session has a pending call, and that call is not in the part of the history that the session knows
@@ -403,9 +403,16 @@ uint32_t pelgaisti_version(void);
 
 /* ---- A book: the lock table for one thread. The line in capitals lists the statuses other than OK. ---- */
 
-/* Opens the handle with an empty lock table for sessions 1 to `sessions`.
+/* Opens the handle with an empty lock table for sessions 1 to `sessions`. The lock table finds a resource by a hash of its numbers, with a
+   seed that is drawn for each opening, so that who chooses numbers can't choose many with one hash [tested]: 8 bytes of the system call
+   getrandom; if it isn't there or fails, the random bytes of AT_RANDOM; without them the clock and an address, which can be guessed.
    NULL, OPEN, NO_SUCH_COUNT, NO_MEMORY. */
 pelgaisti_status pelgaisti_book_open(pelgaisti_book *book, uint32_t sessions);
+
+/* Like pelgaisti_book_open, with this seed, for timings that can be repeated. No reply and no history depends on the seed [proved: what
+   contracts see of a book has none]. Whoever knows it can choose numbers on which calls take long.
+   NULL, OPEN, NO_SUCH_COUNT, NO_MEMORY. */
+pelgaisti_status pelgaisti_book_open_seeded(pelgaisti_book *book, uint32_t sessions, uint64_t seed);
 
 /* Closes the handle and frees the lock table. The handle may be opened again.
    NULL, CLOSED. */
@@ -496,6 +503,25 @@ pelgaisti_status pelgaisti_book_keep_at_most(pelgaisti_book *book, uint64_t boun
 pelgaisti_status pelgaisti_book_take_history(pelgaisti_book *book, uint64_t *first, pelgaisti_entry *entries, size_t room,
                                              size_t *count);
 
+/* ---- Memory of a book. It grows by doubling, and what has grown is moved then, in one call. It gives nothing back by itself: a resource
+   that nobody holds or waits for any more leaves an idle cell, whose memory the next new resource takes. These three calls change nothing
+   that another call tells [proved: same; what they do to the memory is tested]. ---- */
+
+/* Makes room for `resources` resources beside those that are held or waited for, and for `entries` entries of the history beside those
+   that are kept: until as many have come, neither grows in a call. NO_MEMORY: some of the room may have been made.
+   NULL, CLOSED, NO_MEMORY. */
+pelgaisti_status pelgaisti_book_reserve(pelgaisti_book *book, size_t resources, size_t entries);
+
+/* Gives back memory that isn't in use: the idle cells, the lists of locks of sessions that hold none and don't wait, the memory of entries
+   that were let go, and room for more. It takes time for each cell, each session, and each entry that is kept. Later calls take memory
+   again as they need it.
+   NULL, CLOSED. */
+pelgaisti_status pelgaisti_book_shrink(pelgaisti_book *book);
+
+/* Writes the number of idle cells to `cells`.
+   NULL, CLOSED. */
+pelgaisti_status pelgaisti_book_idle_cells(pelgaisti_book *book, size_t *cells);
+
 /* The mode that a lock in this mode needs of the parent, at least: IS for IS and S, IX for IX, SIX, U and X. A number that is no
    mode, and NL, come back as they are. */
 uint32_t pelgaisti_parent_mode(uint32_t mode);
@@ -536,7 +562,7 @@ pelgaisti_status pelgaisti_book_run(pelgaisti_book *book, uint32_t session, cons
 /* ---- An office: a lock table that threads share, each by a session of its own. ---- */
 
 /* Opens `count` handles, an array at `sessions`, as the sessions of a new office: sessions[0] is session 1, and so on. The office gets
-   a mark that no other office of the process has [tested].
+   a mark that no other office of the process has, and its lock table a seed as pelgaisti_book_open draws it [tested].
    Requires `count` handles at `sessions`.
    NULL, NO_SUCH_COUNT, OPEN (one of the handles), NO_MEMORY. */
 pelgaisti_status pelgaisti_office_open(pelgaisti_session *sessions, size_t count);
@@ -589,6 +615,12 @@ pelgaisti_status pelgaisti_office_open_keeping(pelgaisti_session *sessions, size
    program_office::laws::no_wake_up_is_lost]. */
 pelgaisti_status pelgaisti_office_open_waking(pelgaisti_session *sessions, size_t count, uint64_t bound,
                                               const pelgaisti_waker *waker);
+
+/* Opens an office as pelgaisti_office_open_waking does, or with NULL for `waker` as .._open_keeping does, whose lock table has this seed,
+   as pelgaisti_book_open_seeded says.
+   NULL (`sessions`, or the `wake` of a waker), NO_SUCH_COUNT, OPEN (one of the handles), NO_MEMORY. */
+pelgaisti_status pelgaisti_office_open_seeded(pelgaisti_session *sessions, size_t count, uint64_t bound,
+                                              const pelgaisti_waker *waker, uint64_t seed);
 
 /* Publishes a call. The call is pending until the session collects its answer. Writes a pelgaisti_posted to `posted`, which may
    be NULL.
@@ -687,6 +719,22 @@ pelgaisti_status pelgaisti_session_blockers(pelgaisti_session *session, uint32_t
    NULL, CLOSED, NO_MEMORY or ELSEWHERE. */
 pelgaisti_status pelgaisti_session_locks(pelgaisti_session *session, size_t first, pelgaisti_claim *list, size_t room,
                                          size_t *count, uint64_t *seen);
+
+/* ---- Memory of the lock table of an open office. Each of these calls tries once to take the lock table, and writes `seen`, as the
+   questions do; and as with a book, nothing changes that another call tells. While it works, no other session can take the lock table.
+   ---- */
+
+/* Makes room, as pelgaisti_book_reserve does. NO_MEMORY: the session knows the history up to there all the same.
+   NULL, CLOSED, NO_MEMORY or ELSEWHERE. */
+pelgaisti_status pelgaisti_session_reserve(pelgaisti_session *session, size_t resources, size_t entries, uint64_t *seen);
+
+/* Gives back memory that isn't in use, as pelgaisti_book_shrink does.
+   NULL, CLOSED, ELSEWHERE. */
+pelgaisti_status pelgaisti_session_shrink(pelgaisti_session *session, uint64_t *seen);
+
+/* Writes the number of idle cells to `cells`, as pelgaisti_book_idle_cells does.
+   NULL, CLOSED, ELSEWHERE. */
+pelgaisti_status pelgaisti_session_idle_cells(pelgaisti_session *session, size_t *cells, uint64_t *seen);
 
 /* Writes the number of history entries that the session knows. These are the first ones. The number never decreases.
    NULL, CLOSED. */

@@ -6,8 +6,9 @@
  *     pelgaisti::office office{4};                                            // one that four threads share
  *     auto answer = office[0].perform({pelgaisti::op::lock, pelgaisti::mode::X, {7}});
  * A call that fails throws pelgaisti::error with its status, after which nothing has changed but what its comment says. Two statuses
- * are no failures and are told by the result: ELSEWHERE by serve, by a session's take_history and by its questions, NOT_SERVED by
- * collect and what is made of it. Compiled with -fno-exceptions, a call that fails ends the program by std::abort.
+ * are no failures and are told by the result: ELSEWHERE by serve, by a session's take_history, its questions and what it does with the
+ * table's memory, NOT_SERVED by collect and what is made of it. Compiled with -fno-exceptions, a call that fails ends the program by
+ * std::abort.
  * A compiler warns of a result that is ignored where it tells what the caller has then: a reply or an answer, which may be WAITING,
  * how many calls of a batch or a program were served, and entries of the history that are taken out of the library's memory.
  * pelgaisti.h says what each call does and asks of its caller.
@@ -33,6 +34,7 @@ namespace pelgaisti {
 using std::size_t, std::uint32_t, std::uint64_t;
 using entry = pelgaisti_entry;
 using waker = pelgaisti_waker;  // {wake, engine}: a function that may throw is no waker
+enum class seed : uint64_t {};  // seed{7}: of the hash of resources, in place of one that is drawn; no reply depends on it
 enum class mode : uint32_t { NL = 0, IS = 1, IX = 3, S = 5, SIX = 7, X = 15, U = 13 };
 enum class op : uint32_t { begin = 1, lock, convert, poll, release, commit, abort, try_lock, withdraw, restart };
 enum class kind : uint32_t { began = 1, granted, waiting, deadlock, clear, released, committed, aborted, refused, withdrawn,
@@ -130,6 +132,9 @@ struct pinned { pinned() = default; pinned(const pinned &) = delete; pinned &ope
 class book : pinned {
 public:
     explicit book(uint32_t sessions) { check_version(), check(pelgaisti_book_open(&handle_, sessions)); }
+    book(uint32_t sessions, seed by) {
+        check_version(), check(pelgaisti_book_open_seeded(&handle_, sessions, static_cast<uint64_t>(by)));
+    }
     ~book() { static_cast<void>(pelgaisti_book_close(&handle_)); }
     pelgaisti::reply serve(uint32_t session, const pelgaisti::call &call) {
         return reply(made_by<pelgaisti_reply>([&](auto *made) { return pelgaisti_book_serve(&handle_, session, &call, made); }));
@@ -197,6 +202,11 @@ public:
             if (count <= list.size()) return list.resize(count), list;
         }
     }
+    // Makes room, so that neither the table nor the history grows in a call until so many more resources and entries have come; gives back
+    // memory that isn't in use; counts the cells that are kept and serve no resource.
+    void reserve(size_t resources, size_t entries) { check(pelgaisti_book_reserve(&handle_, resources, entries)); }
+    void shrink() { check(pelgaisti_book_shrink(&handle_)); }
+    size_t idle_cells() { return made_by<size_t>([&](auto *cells) { return pelgaisti_book_idle_cells(&handle_, cells); }); }
     uint64_t length() { return made_by<uint64_t>([&](auto *n) { return pelgaisti_book_length(&handle_, n); }); }
     uint64_t first_kept() { return made_by<uint64_t>([&](auto *place) { return pelgaisti_book_first_kept(&handle_, place); }); }
     void keep_at_most(uint64_t bound) { check(pelgaisti_book_keep_at_most(&handle_, bound)); }
@@ -291,6 +301,19 @@ public:
         return listed<pelgaisti_claim>([&](auto *at, size_t room, auto *count, auto *n) {
             return pelgaisti_session_locks(&handle_, 0, at, room, count, n); });
     }
+    // What a book's do with the memory of the lock table, each by one try for it; how many calls the history had, or nothing if another
+    // session has the table.
+    std::optional<uint64_t> reserve(size_t resources, size_t entries) {
+        uint64_t length = 0;
+        return elsewhere(pelgaisti_session_reserve(&handle_, resources, entries, &length)) ? std::nullopt : std::optional(length);
+    }
+    std::optional<uint64_t> shrink() {
+        uint64_t length = 0;
+        return elsewhere(pelgaisti_session_shrink(&handle_, &length)) ? std::nullopt : std::optional(length);
+    }
+    std::optional<seen<size_t>> idle_cells() {
+        return asked<size_t>([&](auto *cells, auto *n) { return pelgaisti_session_idle_cells(&handle_, cells, n); });
+    }
     void hear(session &other) { check(pelgaisti_session_hear(&handle_, &other.handle_)); }
     void retire() { check(pelgaisti_session_retire(&handle_)); }
 private:
@@ -357,6 +380,12 @@ public:
     office(size_t sessions, const pelgaisti::waker &wakes, uint64_t bound = UINT64_MAX)
         : waker_(wakes), sessions_(closed(sessions)), count_(sessions) {
         check(pelgaisti_office_open_waking(&sessions_[0].handle_, sessions, bound, &waker_));
+    }
+    // The same with a seed; a waker whose function is null is none.
+    office(size_t sessions, seed by, const pelgaisti::waker &wakes = {nullptr, nullptr}, uint64_t bound = UINT64_MAX)
+        : waker_(wakes), sessions_(closed(sessions)), count_(sessions) {
+        const pelgaisti::waker *const used = waker_.wake != nullptr ? &waker_ : nullptr;
+        check(pelgaisti_office_open_seeded(&sessions_[0].handle_, sessions, bound, used, static_cast<uint64_t>(by)));
     }
     ~office() {
         pelgaisti_session *const first = &sessions_[0].handle_;

@@ -1,6 +1,7 @@
 /* The functions that pelgaisti.h declares. Each tells ThreadSanitizer of the call and MemorySanitizer what it has written, and gives the
    export of the proved crate the addresses of its pointers: the export tests them for NULL and does the rest. Nothing here is proved. */
 #include "pelgaisti_raw.h"
+#include "seed.h"
 #include "wait.h"
 
 /* ---- ThreadSanitizer, which can't see the steps of the archive. A program that is built with it has these functions. ---- */
@@ -101,8 +102,12 @@ pelgaisti_call pelgaisti_path_call(const pelgaisti_resource *resource, uint32_t 
 
 /* ---- Books. ---- */
 
+pelgaisti_status pelgaisti_book_open_seeded(pelgaisti_book *book, uint32_t sessions, uint64_t seed) {
+    return CALL(book, pelgaisti_raw_book_open(&book, sessions, seed));
+}
+
 pelgaisti_status pelgaisti_book_open(pelgaisti_book *book, uint32_t sessions) {
-    return CALL(book, pelgaisti_raw_book_open(&book, sessions));
+    return pelgaisti_book_open_seeded(book, sessions, draw_seed());
 }
 
 pelgaisti_status pelgaisti_book_close(pelgaisti_book *book) {
@@ -173,6 +178,18 @@ pelgaisti_status pelgaisti_book_take_history(pelgaisti_book *book, uint64_t *fir
                    CALL(book, pelgaisti_raw_book_take_history(&book, &first, LIST(entries, room), &count))));
 }
 
+pelgaisti_status pelgaisti_book_reserve(pelgaisti_book *book, size_t resources, size_t entries) {
+    return CALL(book, pelgaisti_raw_book_reserve(&book, resources, entries));
+}
+
+pelgaisti_status pelgaisti_book_shrink(pelgaisti_book *book) {
+    return CALL(book, pelgaisti_raw_book_shrink(&book));
+}
+
+pelgaisti_status pelgaisti_book_idle_cells(pelgaisti_book *book, size_t *cells) {
+    return WRITING(cells, CALL(book, pelgaisti_raw_book_idle_cells(&book, &cells)));
+}
+
 pelgaisti_status pelgaisti_book_lock_path(pelgaisti_book *book, uint32_t session, const pelgaisti_resource *resource, uint32_t mode,
                                           uint32_t *level, pelgaisti_reply *reply, uint32_t *list, size_t room, size_t *count) {
     return WRITING(reply, LISTING(list, room, count,
@@ -189,25 +206,31 @@ pelgaisti_status pelgaisti_book_run(pelgaisti_book *book, uint32_t session, cons
 /* ---- Offices: how they are opened, and how they wake. ---- */
 
 /* Opens an office with a mark of its own. */
-static pelgaisti_status open_office(pelgaisti_session *sessions, size_t count, uint64_t bound, const pelgaisti_waker *waker) {
+static pelgaisti_status open_office(pelgaisti_session *sessions, size_t count, uint64_t bound, const pelgaisti_waker *waker,
+                                    uint64_t seed) {
     const uint64_t at = (uint64_t)(uintptr_t)waker;
     size_t k;
     if (IS_WATCHED && sessions)
         for (k = 1; k < count && k < PELGAISTI_MAX_SESSIONS; k++) note_use(&sessions[k]);
-    return CALL(sessions, pelgaisti_raw_office_open(LIST(sessions, count), draw_mark(), bound, at));
+    return CALL(sessions, pelgaisti_raw_office_open(LIST(sessions, count), draw_mark(), bound, at, seed));
 }
 
 pelgaisti_status pelgaisti_office_open(pelgaisti_session *sessions, size_t count) {
-    return open_office(sessions, count, UINT64_MAX, NULL);
+    return open_office(sessions, count, UINT64_MAX, NULL, draw_seed());
 }
 
 pelgaisti_status pelgaisti_office_open_keeping(pelgaisti_session *sessions, size_t count, uint64_t bound) {
-    return open_office(sessions, count, bound, NULL);
+    return open_office(sessions, count, bound, NULL, draw_seed());
 }
 
 pelgaisti_status pelgaisti_office_open_waking(pelgaisti_session *sessions, size_t count, uint64_t bound,
                                               const pelgaisti_waker *waker) {
-    return waker && waker->wake ? open_office(sessions, count, bound, waker) : PELGAISTI_NULL;
+    return waker && waker->wake ? open_office(sessions, count, bound, waker, draw_seed()) : PELGAISTI_NULL;
+}
+
+pelgaisti_status pelgaisti_office_open_seeded(pelgaisti_session *sessions, size_t count, uint64_t bound,
+                                              const pelgaisti_waker *waker, uint64_t seed) {
+    return !waker || waker->wake ? open_office(sessions, count, bound, waker, seed) : PELGAISTI_NULL;
 }
 
 /* The waker of the session's office, or NULL. */
@@ -409,6 +432,18 @@ pelgaisti_status pelgaisti_session_locks(pelgaisti_session *session, size_t firs
                                          size_t *count, uint64_t *seen) {
     return LISTING(list, room, count, WRITING(seen,
                    CALL(session, pelgaisti_raw_session_locks(&session, first, LIST(list, room), &count, &seen))));
+}
+
+pelgaisti_status pelgaisti_session_reserve(pelgaisti_session *session, size_t resources, size_t entries, uint64_t *seen) {
+    return WRITING(seen, CALL(session, pelgaisti_raw_session_reserve(&session, resources, entries, &seen)));
+}
+
+pelgaisti_status pelgaisti_session_shrink(pelgaisti_session *session, uint64_t *seen) {
+    return WRITING(seen, CALL(session, pelgaisti_raw_session_shrink(&session, &seen)));
+}
+
+pelgaisti_status pelgaisti_session_idle_cells(pelgaisti_session *session, size_t *cells, uint64_t *seen) {
+    return WRITING(cells, WRITING(seen, CALL(session, pelgaisti_raw_session_idle_cells(&session, &cells, &seen))));
 }
 
 pelgaisti_status pelgaisti_session_seen(pelgaisti_session *session, uint64_t *seen) {

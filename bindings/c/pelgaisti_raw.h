@@ -19,7 +19,7 @@ uint32_t pelgaisti_raw_version(void);
 uint32_t pelgaisti_raw_parent_mode(uint32_t mode);
 /* NO_SUCH_LEVEL and NO_SUCH_MODE write nothing. */
 uint32_t pelgaisti_raw_path_call(const pelgaisti_resource *resource, uint32_t mode, uint32_t level, pelgaisti_call *call);
-uint32_t pelgaisti_raw_book_open(pelgaisti_book **book, uint32_t sessions);
+uint32_t pelgaisti_raw_book_open(pelgaisti_book **book, uint32_t sessions, uint64_t seed);
 uint32_t pelgaisti_raw_book_close(pelgaisti_book **book);
 uint32_t pelgaisti_raw_book_serve(pelgaisti_book **book, uint32_t session, const pelgaisti_call **call,
                                   pelgaisti_reply **reply);
@@ -38,6 +38,9 @@ uint32_t pelgaisti_raw_book_history(pelgaisti_book **book, uint64_t first, pelga
 uint32_t pelgaisti_raw_book_first_kept(pelgaisti_book **book, uint64_t **first);
 uint32_t pelgaisti_raw_book_keep_at_most(pelgaisti_book **book, uint64_t bound);
 uint32_t pelgaisti_raw_book_take_history(pelgaisti_book **book, uint64_t **first, pelgaisti_raw_list *entries, size_t **count);
+uint32_t pelgaisti_raw_book_reserve(pelgaisti_book **book, size_t resources, size_t entries);
+uint32_t pelgaisti_raw_book_shrink(pelgaisti_book **book);
+uint32_t pelgaisti_raw_book_idle_cells(pelgaisti_book **book, size_t **cells);
 uint32_t pelgaisti_raw_book_blockers(pelgaisti_book **book, uint32_t session, pelgaisti_raw_list *list, size_t **count);
 uint32_t pelgaisti_raw_book_lock_path(pelgaisti_book **book, uint32_t session, const pelgaisti_resource **resource,
                                       uint32_t mode, uint32_t **level, pelgaisti_reply **reply, pelgaisti_raw_list *list,
@@ -47,7 +50,7 @@ uint32_t pelgaisti_raw_book_run(pelgaisti_book **book, uint32_t session, const p
 /* `mark` is the number by which pelgaisti_raw_session_hear and pelgaisti_raw_session_hand_in tell offices apart: one that no other
    open office has. `bound` is that of pelgaisti_office_open_keeping. `waker` is what pelgaisti_raw_session_waker tells, 0 for none: the
    address of the waker, which the archive doesn't read. */
-uint32_t pelgaisti_raw_office_open(pelgaisti_raw_list *sessions, uint64_t mark, uint64_t bound, uint64_t waker);
+uint32_t pelgaisti_raw_office_open(pelgaisti_raw_list *sessions, uint64_t mark, uint64_t bound, uint64_t waker, uint64_t seed);
 uint32_t pelgaisti_raw_session_publish(pelgaisti_session **session, const pelgaisti_call **call, uint32_t **posted);
 /* `told` gets how many sessions the waker is to wake after the pass, 0 in an office without one: it is written with OK, with NO_MEMORY,
    and with ELSEWHERE, which is 0. pelgaisti_raw_session_told tells which they are, until the session's next try to make a pass. */
@@ -94,6 +97,9 @@ uint32_t pelgaisti_raw_session_blockers(pelgaisti_session **session, uint32_t wh
                                         uint64_t **seen);
 uint32_t pelgaisti_raw_session_locks(pelgaisti_session **session, size_t first, pelgaisti_raw_list *list, size_t **count,
                                      uint64_t **seen);
+uint32_t pelgaisti_raw_session_reserve(pelgaisti_session **session, size_t resources, size_t entries, uint64_t **seen);
+uint32_t pelgaisti_raw_session_shrink(pelgaisti_session **session, uint64_t **seen);
+uint32_t pelgaisti_raw_session_idle_cells(pelgaisti_session **session, size_t **cells, uint64_t **seen);
 uint32_t pelgaisti_raw_session_seen(pelgaisti_session **session, uint64_t **seen);
 uint32_t pelgaisti_raw_session_mark(pelgaisti_session **session, uint64_t **mark);
 uint32_t pelgaisti_raw_session_waker(pelgaisti_session **session, uint64_t *waker);

@@ -35,11 +35,27 @@ impl Book {
     ///
     ///     assert!(pelgaisti::Book::open(1024).is_ok());
     ///     assert_eq!(pelgaisti::Book::open(0).err(), Some(pelgaisti::Error::NoSuchCount));
+    ///
+    /// The table finds a resource by a hash of its numbers, with a seed that is drawn for each opening, so that who chooses numbers can't
+    /// choose many with one hash.
     pub fn open(sessions: u32) -> Result<Book, Error> {
+        // SAFETY: the handle is the book's own, and empty
+        Book::open_by(|handle| unsafe { ffi::pelgaisti_book_open(handle, sessions) })
+    }
+
+    /// An empty lock table as [`Book::open`] makes it, with this seed, for timings that can be repeated. No reply and no history depends
+    /// on the seed. Whoever knows it can choose numbers on which calls take long.
+    ///
+    ///     assert!(pelgaisti::Book::open_seeded(1024, 7).is_ok());
+    pub fn open_seeded(sessions: u32, seed: u64) -> Result<Book, Error> {
+        // SAFETY: the handle is the book's own, and empty
+        Book::open_by(|handle| unsafe { ffi::pelgaisti_book_open_seeded(handle, sessions, seed) })
+    }
+
+    fn open_by(call: impl FnOnce(*mut RawHandle) -> u32) -> Result<Book, Error> {
         same_version()?;
         let book = Book::closed()?;
-        // SAFETY: the handle is this book's own, and empty
-        done(unsafe { ffi::pelgaisti_book_open(book.raw(), sessions) })?;
+        done(call(book.raw()))?;
         Ok(book)
     }
 

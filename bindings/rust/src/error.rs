@@ -4,8 +4,8 @@ use crate::ffi;
 use std::fmt;
 
 /// Why a call made nothing. Nothing has changed then, but for [`Error::Elsewhere`], after which a pending call that wasn't listed
-/// may be; for [`Error::NoMemory`] of a session's question, after which the session may know more of the history; and for the calls
-/// that are made of several: `perform`, `resume`, `run`, `resume_program` and `lock_path` say what they leave.
+/// may be; for [`Error::NoMemory`] of a session's question or of [`crate::Session::reserve`], after which the session may know more of the
+/// history; and for the calls that are made of several: `perform`, `resume`, `run`, `resume_program` and `lock_path` say what they leave.
 #[derive(Clone, Copy, Debug, PartialEq, Eq, Hash)]
 pub enum Error {
     /// Memory was refused. The same call may be made again.

@@ -157,6 +157,7 @@ extern "C" {
     pub(crate) fn pelgaisti_parent_mode(mode: u32) -> u32;
     pub(crate) fn pelgaisti_path_call(resource: *const RawResource, mode: u32, level: u32) -> RawCall;
     pub(crate) fn pelgaisti_book_open(book: *mut RawHandle, sessions: u32) -> u32;
+    pub(crate) fn pelgaisti_book_open_seeded(book: *mut RawHandle, sessions: u32, seed: u64) -> u32;
     pub(crate) fn pelgaisti_book_close(book: *mut RawHandle) -> u32;
     pub(crate) fn pelgaisti_book_serve(book: *mut RawHandle, session: u32, call: *const RawCall, reply: *mut RawReply) -> u32;
     pub(crate) fn pelgaisti_book_serve_batch(book: *mut RawHandle, calls: *mut RawEntry, length: usize, count: *mut usize) -> u32;
@@ -223,12 +224,22 @@ extern "C" {
         room: usize,
         count: *mut usize,
     ) -> u32;
+    pub(crate) fn pelgaisti_book_reserve(book: *mut RawHandle, resources: usize, entries: usize) -> u32;
+    pub(crate) fn pelgaisti_book_shrink(book: *mut RawHandle) -> u32;
+    pub(crate) fn pelgaisti_book_idle_cells(book: *mut RawHandle, cells: *mut usize) -> u32;
     pub(crate) fn pelgaisti_office_open_keeping(sessions: *mut RawHandle, count: usize, bound: u64) -> u32;
     pub(crate) fn pelgaisti_office_open_waking(
         sessions: *mut RawHandle,
         count: usize,
         bound: u64,
         waker: *const RawWaker,
+    ) -> u32;
+    pub(crate) fn pelgaisti_office_open_seeded(
+        sessions: *mut RawHandle,
+        count: usize,
+        bound: u64,
+        waker: *const RawWaker,
+        seed: u64,
     ) -> u32;
     pub(crate) fn pelgaisti_session_publish(session: *mut RawHandle, call: *const RawCall, posted: *mut u32) -> u32;
     pub(crate) fn pelgaisti_session_serve(session: *mut RawHandle, pass: *mut RawPass) -> u32;
@@ -305,6 +316,9 @@ extern "C" {
         count: *mut usize,
         seen: *mut u64,
     ) -> u32;
+    pub(crate) fn pelgaisti_session_reserve(session: *mut RawHandle, resources: usize, entries: usize, seen: *mut u64) -> u32;
+    pub(crate) fn pelgaisti_session_shrink(session: *mut RawHandle, seen: *mut u64) -> u32;
+    pub(crate) fn pelgaisti_session_idle_cells(session: *mut RawHandle, cells: *mut usize, seen: *mut u64) -> u32;
     pub(crate) fn pelgaisti_session_seen(session: *mut RawHandle, seen: *mut u64) -> u32;
     pub(crate) fn pelgaisti_session_hear(session: *mut RawHandle, other: *mut RawHandle) -> u32;
     pub(crate) fn pelgaisti_session_retire(session: *mut RawHandle) -> u32;

@@ -35,8 +35,13 @@ unsafe impl Send for Handles {}
 unsafe impl Sync for Handles {}
 
 impl Handles {
-    /// Opens an office.
-    pub(crate) fn open(sessions: usize, bound: u64, waker: Option<Arc<AnyWaker>>) -> Result<Arc<Handles>, Error> {
+    /// Opens an office, with a seed of its own or this one.
+    pub(crate) fn open(
+        sessions: usize,
+        bound: u64,
+        waker: Option<Arc<AnyWaker>>,
+        seed: Option<u64>,
+    ) -> Result<Arc<Handles>, Error> {
         if sessions == 0 || sessions > MAX_SESSIONS {
             return Err(Error::NoSuchCount);
         }
@@ -50,11 +55,16 @@ impl Handles {
         });
         // of the whole slice, not of its first handle
         let first = UnsafeCell::raw_get(handles.all.as_ptr());
-        done(match &handles.waker {
+        let waker = handles.waker.as_deref().map(AnyWaker::raw);
+        done(match (waker, seed) {
             // SAFETY: there are so many handles, empty, at places that they keep while these `Handles` live
-            None => unsafe { ffi::pelgaisti_office_open_keeping(first, sessions, bound) },
+            (None, None) => unsafe { ffi::pelgaisti_office_open_keeping(first, sessions, bound) },
             // SAFETY: likewise; the waker keeps its place and its fields as long, and `wake` returns whatever the closure does
-            Some(waker) => unsafe { ffi::pelgaisti_office_open_waking(first, sessions, bound, waker.raw()) },
+            (Some(waker), None) => unsafe { ffi::pelgaisti_office_open_waking(first, sessions, bound, waker) },
+            // SAFETY: likewise; the waker may be null
+            (_, Some(seed)) => unsafe {
+                ffi::pelgaisti_office_open_seeded(first, sessions, bound, waker.unwrap_or(ptr::null()), seed)
+            },
         })?;
         Ok(handles)
     }

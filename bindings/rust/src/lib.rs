@@ -33,6 +33,7 @@ mod ffi;
 mod handles;
 mod lists;
 mod looks;
+mod memory;
 mod office;
 mod operator;
 mod orphans;

@@ -89,7 +89,15 @@ impl Office {
     ///     assert_eq!((book.length(), book.first_kept()), (3, 1));
     ///     # Ok::<(), pelgaisti::Error>(())
     pub fn open_keeping(sessions: usize, bound: u64) -> Result<Vec<Session>, Error> {
-        Office::open_by(sessions, bound, None)
+        Office::open_by(sessions, bound, None, None)
+    }
+
+    /// Opens an office as [`Office::open_keeping`] does, whose lock table has this seed, as [`Book::open_seeded`] says.
+    ///
+    ///     assert_eq!(pelgaisti::Office::open_seeded(2, u64::MAX, 7)?.len(), 2);
+    ///     # Ok::<(), pelgaisti::Error>(())
+    pub fn open_seeded(sessions: usize, bound: u64, seed: u64) -> Result<Vec<Session>, Error> {
+        Office::open_by(sessions, bound, None, Some(seed))
     }
 
     /// Opens an office as [`Office::open_keeping`] does, whose threads sleep while they wait for a lock. A thread that was told
@@ -127,12 +135,30 @@ impl Office {
         bound: u64,
         wake: impl Fn(usize) + Send + Sync + 'static,
     ) -> Result<Vec<Session>, Error> {
-        Office::open_by(sessions, bound, Some(Waker::new(wake)))
+        Office::open_by(sessions, bound, Some(Waker::new(wake)), None)
     }
 
-    fn open_by(sessions: usize, bound: u64, waker: Option<Arc<AnyWaker>>) -> Result<Vec<Session>, Error> {
+    /// Opens an office as [`Office::open_waking`] does, whose lock table has this seed, as [`Book::open_seeded`] says.
+    ///
+    ///     assert_eq!(pelgaisti::Office::open_waking_seeded(2, u64::MAX, 7, |_| ())?.len(), 2);
+    ///     # Ok::<(), pelgaisti::Error>(())
+    pub fn open_waking_seeded(
+        sessions: usize,
+        bound: u64,
+        seed: u64,
+        wake: impl Fn(usize) + Send + Sync + 'static,
+    ) -> Result<Vec<Session>, Error> {
+        Office::open_by(sessions, bound, Some(Waker::new(wake)), Some(seed))
+    }
+
+    fn open_by(
+        sessions: usize,
+        bound: u64,
+        waker: Option<Arc<AnyWaker>>,
+        seed: Option<u64>,
+    ) -> Result<Vec<Session>, Error> {
         same_version()?;
-        let handles = Handles::open(sessions, bound, waker)?;
+        let handles = Handles::open(sessions, bound, waker, seed)?;
         let mut opened = list_for(sessions)?;
         opened.extend((0..sessions).map(|index| Session::of(&handles, index)));
         Ok(opened)

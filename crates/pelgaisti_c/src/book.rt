@@ -27,12 +27,13 @@ use lock_desk::{Book, NO_BOUND};
 use lock_rules::MAX_SESSIONS;
 use std::alloc::Global;
 
-/// Opens the handle with an empty book for sessions 1 to `sessions`. The handle must be closed.
+/// Opens the handle with an empty book for sessions 1 to `sessions`, whose resources are hashed with the seed. The handle must be closed.
 #[unsafe(no_mangle)]
 pub extern "C" fn pelgaisti_raw_book_open(
     alloc: Global,
     book: &mut BookPointer,
     sessions: u32,
+    seed: u64,
 ) -> u32
     ensures null { result ≡ NULL_POINTER ↔ (book.old.at ≡ null_ptr) }
     ensures ok { result ≡ OK → (book.new.behind.is_open ≡ 1) × (book.new.behind.held.book ≡ Some (record { sessions = sessions; history = []; cut = 0; bound = NO_BOUND; ended = [] })) }
@@ -51,7 +52,7 @@ pub extern "C" fn pelgaisti_raw_book_open(
     if sessions == 0 || sessions > u32::from(MAX_SESSIONS) {
         return NO_SUCH_COUNT;
     }
-    let Ok(made) = Book::new(alloc, sessions as u16) else {
+    let Ok(made) = Book::with_seed(alloc, sessions as u16, seed) else {
         return NO_MEMORY;
     };
     match Box::new(alloc, made) {

@@ -114,7 +114,7 @@ fn open_handles(handles: &mut [SessionHandle], shares: Vec<Box<SessionShare>>)
 
 /// Opens the handles as the sessions of a new office, in their order. The handles must be closed. No other open office
 /// should have this mark. Its lock table keeps at most the newest `bound` entries of its history in memory. `waker` is the address of
-/// what wakes threads, which is the caller's alone to use; 0 means that there is none.
+/// what wakes threads, which is the caller's alone to use; 0 means that there is none. The lock table hashes resources with the seed.
 #[unsafe(no_mangle)]
 pub extern "C" fn pelgaisti_raw_office_open(
     alloc: Global,
@@ -122,6 +122,7 @@ pub extern "C" fn pelgaisti_raw_office_open(
     mark: u64,
     bound: u64,
     waker: u64,
+    seed: u64,
 ) -> u32
     ensures null { result ≡ NULL_POINTER ↔ (sessions.old.at ≡ null_ptr) }
     ensures ok { result ≡ OK → (office : BoardView) × (office.sessions ≡ length sessions.old.behind) × AreSessionsOf office mark waker sessions.new.behind }
@@ -142,7 +143,7 @@ pub extern "C" fn pelgaisti_raw_office_open(
     if has_open(sessions) {
         return OPEN;
     }
-    let Ok((office, made)) = open_keeping(alloc, count as u16, bound) else {
+    let Ok((office, made)) = open_keeping(alloc, count as u16, bound, seed) else {
         return NO_MEMORY;
     };
     let Ok(shares) = shares_of(alloc, office, made, count as u16, mark, waker) else {

@@ -8,16 +8,18 @@ ghost use Rattle.program_office.specs.Sessions.{IsSessionOf, IsIdle};
 
 use crate::{Office, Session};
 use combining::OpenFault;
-use lock_office::book_keeping;
+use lock_office::book_seeded;
 use programs::Programs;
 use std::alloc::{AllocError as NoMemory, Global};
 
 /// Opens an office as `Office::open` does, whose lock table keeps at most the newest `bound` entries of the history of calls in memory,
-/// as `lock_office::open_keeping` says. With `NO_BOUND` all entries are kept.
+/// as `lock_office::open_keeping` says, and hashes resources with a seed, as `lock_office::open_seeded` says. With `NO_BOUND` all entries
+/// are kept.
 pub fn open_keeping(
     alloc: Global,
     sessions: u16,
     bound: u64,
+    seed: u64,
 ) -> Result<(Office, Vec<Session>), OpenFault>
     ensures none { (result ≡ Err OpenFault.NoSessions) ↔ (sessions ≡ 0) }
     ensures many { (result ≡ Err OpenFault.TooManySessions) ↔ (MAX_SESSIONS < sessions) }
@@ -26,7 +28,7 @@ pub fn open_keeping(
     ensures sessions { IfOk result (λ made. made.1.items ≡ new_tickets made.0.id sessions sessions) }
     ensures ready { IfOk result (λ made. All (λ session. IsSessionOf made.0 session × IsIdle session) made.1.items) }
 {
-    let book = book_keeping(alloc, sessions, bound)?;
+    let book = book_seeded(alloc, sessions, bound, seed)?;
     match Office::share(alloc, Programs::new(book)) {
         Ok(made) => Ok(made),
         Err(NoMemory) => Err(OpenFault::NoMemory),

@@ -1,4 +1,5 @@
-//! Questions that a session asks of the lock table of its open office, as `lock_office::queries` does.
+//! Questions that a session asks of the lock table of its open office, as `lock_office::queries` does, and work on its memory, as
+//! `lock_office::memory` does.
 
 ghost use Rattle.std.specs.Prelude.{◌≡◌, ◌<◌, None, Some, Ok, IfOk, IfErr, IfSome, IfNone, length};
 ghost use Rattle.lock_rules.specs.State.{held_mode, holders};
@@ -12,9 +13,10 @@ ghost use Rattle.program_office.specs.Sessions.{IsSessionOf, HasLooked};
 
 use crate::Office;
 use crate::call_session::CallSession;
-use lock_desk::{Claim, Mode, NoMemory, Resource, Transaction};
-use lock_office::queries;
+use lock_desk::{Book, Claim, Mode, NoMemory, Resource, Transaction};
 use lock_office::queries::Snapshot;
+use lock_office::{memory, queries};
+use sequential::Tends;
 use std::alloc::Global;
 
 impl CallSession {
@@ -161,5 +163,24 @@ impl CallSession {
             Ok(()) => Ok(Some(listed.length)),
             Err(refused) => Err(refused),
         }
+    }
+
+    /// Makes room in the lock table, gives its memory back, or counts what is kept, as `memory::tend` does. `None` in place of an answer is
+    /// as with `held`.
+    pub fn tend<T: Tends<Book>>(
+        &mut self,
+        office: &Office,
+        how: &mut T,
+    ) -> Option<Snapshot<Result<(), NoMemory>>>
+        requires ours { IsSessionOf office.now self.old }
+        ensures ours { IsSessionOf office.now self.new }
+        ensures looked { IfSome result (λ _. HasLooked self.old self.new) }
+        ensures length { IfSome result (λ seen. seen.length ≡ length (flat_history self.new.front)) }
+        ensures none { IfNone result ((self.new ≡ self.old) × (1 < office.now.sessions)) }
+        ensures calls { HasCallsOf self.new.front self.new }
+    {
+        let told = memory::tend(office, &mut self.session, how)?;
+        self.seen = told.length;
+        Some(told)
     }
 }

@@ -1,0 +1,17 @@
+use Rattle.std.proofs.Common.{rules, ◌≡◌, Some}
+use Rattle.pelgaisti_c.proofs.memory_exports.pelgaisti_raw_session_reserve.Goals as goal
+
+pub returns-clause-ok : goal.returns-clause-ok
+returns-clause-ok c = λ e.
+    let was : c.args.session.now.behind.held.share ≡ Some c.deref_mut.result.now = search rules in
+    (c.deref_mut.result.now, c.reserve-status.new.share, was, c.put.ensures.1, c.reserve-status.ensures.ok e)
+
+pub returns-clause-memory : goal.returns-clause-memory
+returns-clause-memory c = λ e.
+    let was : c.args.session.now.behind.held.share ≡ Some c.deref_mut.result.now = search rules in
+    (c.deref_mut.result.now, c.reserve-status.new.share, was, c.put.ensures.1, c.reserve-status.ensures.memory e)
+
+pub returns-clause-elsewhere : goal.returns-clause-elsewhere
+returns-clause-elsewhere c = λ e.
+    let was : c.args.session.now.behind.held.share ≡ Some c.deref_mut.result.now = search rules in
+    (c.deref_mut.result.now, was, c.reserve-status.ensures.elsewhere e)
