@@ -32,6 +32,7 @@
 mod book;
 mod cell_table;
 mod cells;
+mod deadlock_log;
 mod ended;
 mod holder_columns;
 mod holders;
@@ -48,6 +49,7 @@ mod tending;
 mod waits;
 
 pub use book::{Book, Item, PathLocked, grants, lock_of_level};
+pub use deadlock_log::{Deadlock, Member};
 pub use lock_modes::Mode;
 pub use lock_rules::{
     Call, Claim, ClaimKind, Entry, MAX_LOCKS, MAX_SESSIONS, Reply, Transaction, Why,
