@@ -1,9 +1,9 @@
 -- What a log tells: the newest deadlocks, and one more.
 use Rattle.std.proofs.Common.{◌≡◌, ℕ, ◌+◌, ◌-◌, ◌<◌, ◌≤◌, List, [], ◌∷◌, ◌++◌, length, drop, refl, sym, ◌∙◌, ap, arith, subst, append_assoc, append-nil, length-append, length-drop}
 use Rattle.std.proofs.lemmas.List.{drop-append-le, drop-drop}
-use Rattle.lock_desk.specs.Deadlocks.{Moment, IsDeadlockTold, AreDeadlocksTold, newest}
+use Rattle.lock_desk.specs.Deadlocks.{Moment, IsCycleTold, IsDeadlockTold, AreDeadlocksTold, newest}
 use Rattle.lock_desk.specs.declared.deadlock_log.Deadlock.{Deadlock}
-use Rattle.lock_desk.specs.inner.Noting.{LogView, HasNoted}
+use Rattle.lock_desk.specs.inner.Noting.{LogView, HasNoted, IsAlike, AreAlike}
 
 -- lists of deadlocks told
 
@@ -105,3 +105,28 @@ noted-instead a b m d t same some full more = record {
       (subst (λ (ms : List Moment). AreDeadlocksTold ms (drop 1 a.told ++ d ∷ [])) (sym (newest-push a.most before m some many))
       (told-push (drop 1 (newest a.most before)) (drop 1 a.told) m d (told-rest (newest a.most before) a.told h) t));
 }
+
+-- copies
+
+-- one more copy
+pub alike-push : (ds es : List Deadlock) (d e : Deadlock) → AreAlike ds es → IsAlike d e → AreAlike (ds ++ d ∷ []) (es ++ e ∷ [])
+alike-push [] [] d e h k = (k, tt)
+alike-push [] (y ∷ es) d e h k = absurd h
+alike-push (x ∷ ds) [] d e h k = absurd h
+alike-push (x ∷ ds) (y ∷ es) d e h k = (h.0, alike-push ds es d e h.1 k)
+
+-- copies tell what the originals tell
+pub told-alike : (ms : List Moment) (ds es : List Deadlock) → AreDeadlocksTold ms ds → AreAlike ds es → AreDeadlocksTold ms es
+told-alike [] [] [] h k = tt
+told-alike [] [] (e ∷ es) h k = absurd k
+told-alike [] (d ∷ ds) es h k = absurd h
+told-alike (m ∷ ms) [] es h k = absurd h
+told-alike (m ∷ ms) (d ∷ ds) [] h k = absurd k
+told-alike (m ∷ ms) (d ∷ ds) (e ∷ es) h k = (
+  record {
+    place = k.0.place ∙ h.0.place;
+    session = k.0.session ∙ h.0.session;
+    cycle = subst (IsCycleTold m.state m.session) (sym k.0.cycle) h.0.cycle;
+  },
+  told-alike ms ds es h.1 k.1,
+)

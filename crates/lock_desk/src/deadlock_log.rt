@@ -11,7 +11,7 @@ ghost use Rattle.lock_desk.specs.Deadlocks.{IsMember, IsCycleTold, moments_at};
 ghost use Rattle.lock_desk.specs.inner.Changes.{IsWhole};
 ghost use Rattle.lock_desk.specs.inner.Ready.{IsReadyTable};
 ghost use Rattle.lock_desk.specs.inner.Shows.{Shows};
-ghost use Rattle.lock_desk.specs.inner.Noting.{HasNoted, IsLogFor};
+ghost use Rattle.lock_desk.specs.inner.Noting.{HasNoted, IsLogFor, AreAlike};
 
 use crate::lock_table::LockTable;
 use crate::positions::{position_of, session_at};
@@ -186,4 +186,20 @@ impl DeadlockLog {
             self.count += 1;
         }
     }
+}
+
+/// Copies of these deadlocks. Fails if memory is refused.
+pub(crate) fn copies_of(alloc: Global, deadlocks: &[Deadlock]) -> Result<Vec<Deadlock>, AllocError>
+    ensures { IfOk result (λ list. AreAlike deadlocks.now list.items) }
+{
+    let mut list = Vec::new(alloc);
+    for deadlock in deadlocks {
+        let cycle = Vec::from_slice(alloc, &deadlock.cycle)?;
+        list.push(Deadlock {
+            place: deadlock.place,
+            session: deadlock.session,
+            cycle,
+        })?;
+    }
+    Ok(list)
 }

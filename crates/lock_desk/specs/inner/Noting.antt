@@ -1,5 +1,5 @@
 -- Internal to this crate, cited by no public contract: the log of deadlocks.
-use Rattle.std.specs.Prelude.{◌≡◌, ℕ, ◌-◌, ◌<◌, ◌≤◌, List, ◌++◌, length, drop, vec_capacity}
+use Rattle.std.specs.Prelude.{◌≡◌, ℕ, ◌-◌, ◌<◌, ◌≤◌, List, [], ◌∷◌, ◌++◌, length, drop, vec_capacity}
 use Rattle.std.specs.List.{All}
 use Rattle.lock_desk.specs.Deadlocks.{Moment, AreDeadlocksTold, newest}
 use Rattle.lock_desk.specs.declared.deadlock_log.Deadlock.{Deadlock}
@@ -32,3 +32,16 @@ IsLogFor n log = 0 < log.most → log.sessions ≡ n
 pub record HasNoted (ms : List Moment) (old new : LogView) : Type 0 where
   pub most : new.most ≡ old.most
   pub told : (before : List Moment) → AreDeadlocksTold (newest old.most before) old.told → AreDeadlocksTold (newest old.most (before ++ ms)) new.told
+
+-- two deadlocks tell the same
+pub record IsAlike (d e : Deadlock) : Type 0 where
+  pub place : e.place ≡ d.place
+  pub session : e.session ≡ d.session
+  pub cycle : e.cycle.items ≡ d.cycle.items
+
+-- so do two lists of them
+abbrev pub AreAlike : List Deadlock → List Deadlock → Type 0
+AreAlike [] [] = Unit {0}
+AreAlike [] (e ∷ es) = ⊥
+AreAlike (d ∷ ds) [] = ⊥
+AreAlike (d ∷ ds) (e ∷ es) = IsAlike d e × AreAlike ds es

@@ -4,7 +4,7 @@ ghost use Rattle.std.specs.Prelude.{◌≡◌, [], OnOk, OnErr};
 ghost use Rattle.lock_desk.specs.Deadlocks.{AreDeadlocksTold, deadlocks_in, newest};
 
 use crate::book::Book;
-use crate::deadlock_log::{Deadlock, DeadlockLog};
+use crate::deadlock_log::{Deadlock, DeadlockLog, copies_of};
 use std::alloc::{AllocError as NoMemory, Global};
 
 impl Book {
@@ -39,5 +39,15 @@ impl Book {
         ensures { AreDeadlocksTold (newest self.now.deadlocks (deadlocks_in self.now.history)) result.now }
     {
         self.deadlocks.told()
+    }
+
+    /// Replaces the contents of `list` by copies of the deadlocks that `deadlocks` tells. Fails with `NoMemory` if memory is refused; the
+    /// contents of `list` are unchanged then.
+    pub fn copy_deadlocks(&self, alloc: Global, list: &mut Vec<Deadlock>) -> Result<(), NoMemory>
+        ensures ok { OnOk result (AreDeadlocksTold (newest self.now.deadlocks (deadlocks_in self.now.history)) list.new.items) }
+        ensures err { OnErr result (list.new.items ≡ list.old.items) }
+    {
+        *list = copies_of(alloc, self.deadlocks())?;
+        Ok(())
     }
 }
