@@ -1,10 +1,11 @@
 //! The deadlocks that a book tells.
 
-ghost use Rattle.std.specs.Prelude.{◌≡◌, ◌≤◌};
+ghost use Rattle.std.specs.Prelude.{◌≡◌, ◌≤◌, []};
 
 use lock_desk::{
     Book, Call, Claim, ClaimKind, Deadlock, Member, Mode, Reply, Resource, Transaction,
 };
+use std::alloc::Global;
 use std::process::Abort;
 use std::test::Fail;
 
@@ -73,30 +74,48 @@ fn want_victims(rt: &impl Abort, book: &mut Book, left: Resource, right: Resourc
     assert_eq!(rt; book.serve(1, Call::Lock(right, Mode::S)).ok(), waiting);
 }
 
-/// A book that keeps two deadlocks tells both, one that keeps one tells the newest, and one that wasn't asked tells none.
+/// Expects the first or the second deadlock, or both, as many of the newest as the book keeps.
+fn want_newest(rt: &impl Abort, told: &[Deadlock], most: usize, left: Resource, right: Resource) {
+    assert_eq!(rt; told.len(), most);
+    if let Some(newest) = told.last() {
+        assert!(rt; is_deadlock(newest, 10, 1, reader(2, left), reader(1, right)));
+    }
+    if most > 1 {
+        let first = &told[0];
+        assert!(rt; is_deadlock(first, 5, 2, reader(2, left), reader(1, right)));
+    }
+}
+
+/// Asks the book to keep `most` deadlocks, makes two, and expects the newest of them.
+fn want_told(
+    rt: &impl Abort,
+    alloc: Global,
+    book: &mut Book,
+    most: usize,
+    left: Resource,
+    right: Resource,
+)
+    requires two { 2 ≤ book.old.sessions }
+    requires fresh { book.old.history ≡ [] }
+{
+    assert!(rt; book.keep_deadlocks(alloc, most).is_ok());
+    assert_eq!(rt; book.deadlocks_kept(), most);
+    want_locked(rt, book, left, right);
+    want_victims(rt, book, left, right);
+    want_newest(rt, book.deadlocks(), most, left, right);
+    let mut copies = Vec::new(alloc);
+    assert!(rt; book.copy_deadlocks(alloc, &mut copies).is_ok());
+    want_newest(rt, &copies, most, left, right);
+}
+
+/// A book that keeps two deadlocks tells both, one that keeps one tells the newest, and one that keeps none tells none.
 #[test]
 fn the_newest_deadlocks_are_told(rt: HostRuntime) -> Result<(), Fail> {
     let left = Resource::from_numbers(&[1]).ok_or("no resource")?;
     let right = Resource::from_numbers(&[2]).ok_or("no resource")?;
     for most in 0..3 {
         let mut book = Book::new(rt.alloc(), 2)?;
-        book.keep_deadlocks(rt.alloc(), most)?;
-        assert_eq!(&rt; book.deadlocks_kept(), most);
-        want_locked(&rt, &mut book, left, right);
-        want_victims(&rt, &mut book, left, right);
-        let told = book.deadlocks();
-        assert_eq!(&rt; told.len(), most);
-        if let Some(newest) = told.last() {
-            assert!(&rt; is_deadlock(newest, 10, 1, reader(2, left), reader(1, right)));
-        }
-        if most == 2 {
-            if let Some(first) = told.first() {
-                assert!(&rt; is_deadlock(first, 5, 2, reader(2, left), reader(1, right)));
-            }
-        }
-        let mut copies = Vec::new(rt.alloc());
-        book.copy_deadlocks(rt.alloc(), &mut copies)?;
-        assert_eq!(&rt; copies.len(), most);
+        want_told(&rt, rt.alloc(), &mut book, most, left, right);
     }
     Ok(())
 }
