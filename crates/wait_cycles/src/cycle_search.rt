@@ -65,10 +65,14 @@ fn meet(
     ensures met_room { vec_capacity met.new ≡ vec_capacity met.old }
     ensures nexts_room { vec_capacity nexts.new ≡ vec_capacity nexts.old }
 {
-    if rows.waits(u, met[at]) && marks.mark(u) {
-        met.push_reserved(u);
-        nexts.push_reserved(at);
+    if !rows.waits(u, met[at]) {
+        return;
     }
+    if !marks.mark(u) {
+        return;
+    }
+    met.push_reserved(u);
+    nexts.push_reserved(at);
 }
 
 /// Adds the positions that wait directly for `met[at]` to those met.
