@@ -15,13 +15,16 @@ use Rattle.lock_rules.specs.Sound.{IsSound}
 use Rattle.lock_rules.proofs.Alters.{waits_for-waits}
 use Rattle.lock_rules.proofs.Lists.{request_of-session}
 use Rattle.lock_rules.proofs.Settle.{has-waits}
-use Rattle.lock_desk.specs.Deadlocks.{IsMember, AreMembers, IsCycleTold, first_session}
+use Rattle.lock_desk.specs.Deadlocks.{Moment, IsMember, AreMembers, IsCycleTold, IsDeadlockTold, first_session}
+use Rattle.lock_desk.specs.declared.deadlock_log.Deadlock.{Deadlock}
+use Rattle.lock_desk.specs.inner.Noting.{LogView, HasNoted}
 use Rattle.lock_desk.specs.declared.deadlock_log.Member.{Member}
 use Rattle.lock_desk.specs.declared.lock_table.LockTable.{LockTable}
 use Rattle.lock_desk.specs.inner.Changes.{standings, IsWhole}
 use Rattle.lock_desk.specs.inner.Ready.{IsReadyTable}
 use Rattle.lock_desk.specs.inner.Shows.{Shows}
 use Rattle.lock_desk.proofs.WaitsOfTheState.{pairs-shown}
+use Rattle.lock_desk.proofs.DeadlocksTold.{noted-more, noted-instead}
 
 -- the request of a session
 
@@ -149,3 +152,28 @@ slots-instead n xs x some full =
     let none : length xs - n ≡ 0 = omega (arith, full) in
     ap (λ (k : ℕ). drop k (drop 1 xs ++ x ∷ [])) from
     ∙ ap (λ (k : ℕ). drop 1 (drop k xs) ++ x ∷ []) (sym none)
+
+-- a deadlock is noted in the slot of the oldest
+pub noted-slot : (slots new : List Deadlock) (count now sessions then_sessions : ℕ) (m : Moment) (d : Deadlock) → 0 < length slots → count ≤ length slots → new ≡ drop 1 slots ++ d ∷ [] → now ≡ cond (ltb count (length new)) (count + 1) count → IsDeadlockTold m d
+    → HasNoted (m ∷ []) (record { most = length slots; sessions = sessions; told = drop (length slots - count) slots }) (record { most = length new; sessions = then_sessions; told = drop (length new - now) new })
+noted-slot slots new count now sessions then_sessions m d some few is one told =
+    elim (cases_lt count (length slots)) [
+      | inl low ↦
+          let up : now ≡ count + 1 = one ∙ ap (λ (b : Bool). cond b (count + 1) count) (lt-ltb count (length new) (omega (arith, long, low))) in
+          noted-more before after m d told long (omega (arith, length-drop (length slots - count) slots, low))
+          (ap (λ (n : ℕ). drop (length new - n) new) up ∙ (ap (λ (xs : List Deadlock). drop (length xs - (count + 1)) xs) is ∙ slots-more count slots d low))
+      | inr high ↦
+          let stay : now ≡ count = one ∙ ap (λ (b : Bool). cond b (count + 1) count) (le-ltb count (length new) (omega (arith, long, high))) in
+          let full : length slots ≡ count = omega (arith, few, high) in
+          noted-instead before after m d told long some (omega (arith, length-drop (length slots - count) slots, full))
+          (ap (λ (n : ℕ). drop (length new - n) new) stay ∙ (ap (λ (xs : List Deadlock). drop (length xs - count) xs) is ∙ slots-instead count slots d some full))
+    ]
+  where
+    before : LogView
+    before = record { most = length slots; sessions = sessions; told = drop (length slots - count) slots }
+
+    after : LogView
+    after = record { most = length new; sessions = then_sessions; told = drop (length new - now) new }
+
+    long : length new ≡ length slots
+    long = omega (arith, ap length is, length-append (drop 1 slots) (d ∷ []), length-drop 1 slots, some)

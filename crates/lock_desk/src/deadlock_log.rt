@@ -1,13 +1,15 @@
 //! The newest deadlocks: of each the call that made it, and the cycle with what its members waited for.
 
-ghost use Rattle.std.specs.Prelude.{◌≡◌, ℕ, ◌+◌, ◌-◌, ◌<◌, ◌≤◌, true, [], ◌∷◌, nat_lt, if◌then◌else◌, length, slice_index_or, vec_len, vec_capacity, IfOk, IfSome, IfNone};
+ghost use Rattle.std.specs.Prelude.{◌≡◌, ℕ, ◌+◌, ◌-◌, ◌<◌, ◌≤◌, true, [], ◌∷◌, ◌++◌, drop, nat_lt, if◌then◌else◌, length, slice_index_or, vec_len, vec_capacity, IfOk, IfSome, IfNone};
+ghost use Rattle.std.specs.List.{All};
 ghost use Rattle.waits_for.specs.Pairs.{pairs_of};
 ghost use Rattle.waits_for.specs.Walks.{Reaches};
 ghost use Rattle.wait_cycles.specs.Cycles.{IsCycle};
 ghost use Rattle.lock_rules.specs.State.{State};
 ghost use Rattle.lock_rules.specs.Waits.{victim_of, waits_for};
 ghost use Rattle.lock_rules.specs.Sound.{IsSound};
-ghost use Rattle.lock_desk.specs.Deadlocks.{IsMember, IsCycleTold, moments_at};
+ghost use Rattle.lock_desk.specs.Deadlocks.{IsMember, IsCycleTold, IsDeadlockTold, moments_at};
+ghost use Rattle.lock_desk.specs.declared.deadlock_log.Deadlock.{Deadlock as DeadlockValue};
 ghost use Rattle.lock_desk.specs.inner.Changes.{IsWhole};
 ghost use Rattle.lock_desk.specs.inner.Ready.{IsReadyTable};
 ghost use Rattle.lock_desk.specs.inner.Shows.{Shows};
@@ -107,6 +109,38 @@ fn write_cycle(table: &LockTable, positions: &[usize], cycle: &mut Vec<Member>)
     }
 }
 
+/// Fills the slot of the oldest deadlock with one of `session`, whose call has the place `place`, and moves it to the end. The cycle is at
+/// these positions, the victim first.
+fn refill(
+    slots: &mut Vec<Deadlock>,
+    table: &LockTable,
+    positions: &[usize],
+    place: u64,
+    session: u16,
+)
+    requires some { 0 < length slots.old.items }
+    requires whole { IsWhole table.now }
+    requires ready { IsReadyTable table.now }
+    requires cycle { IsCycle (pairs_of table.now.waits.rows) (slice_index_or positions.now 0 0) positions.now }
+    requires room { All (λ d. length positions.now ≤ vec_capacity d.cycle) slots.old.items }
+    ensures slots { (d : DeadlockValue) × (slots.new.items ≡ drop 1 slots.old.items ++ d ∷ []) × ((st : State) → IsSound st.table → Shows table.now st
+        → victim_of st session ≡ slice_index_or positions.now 0 0 + 1 → IsDeadlockTold (record { place = place; session = session; state = st }) d) }
+    ensures room { (n : ℕ) → All (λ d. n ≤ vec_capacity d.cycle) slots.old.items → All (λ d. n ≤ vec_capacity d.cycle) slots.new.items }
+{
+    let mut deadlock = slots.remove(0);
+    deadlock.place = place;
+    deadlock.session = session;
+    write_cycle(table, positions, &mut deadlock.cycle);
+    slots.push_reserved(deadlock);
+}
+
+/// One more than `count`, `most` at most.
+fn one_more(count: usize, most: usize) -> usize
+    ensures { result ≡ (if nat_lt count most then count + 1 else count) }
+{
+    if count < most { count + 1 } else { count }
+}
+
 impl DeadlockLog {
     /// A log that keeps none.
     pub(crate) fn none(alloc: Global) -> Result<DeadlockLog, AllocError>
@@ -177,14 +211,8 @@ impl DeadlockLog {
         if !self.search.find(table.edges(), position_of(victim)) {
             return;
         }
-        let mut deadlock = self.slots.remove(0);
-        deadlock.place = place;
-        deadlock.session = session;
-        write_cycle(table, self.search.cycle(), &mut deadlock.cycle);
-        self.slots.push_reserved(deadlock);
-        if self.count < self.slots.len() {
-            self.count += 1;
-        }
+        refill(&mut self.slots, table, self.search.cycle(), place, session);
+        self.count = one_more(self.count, self.slots.len());
     }
 }
 
