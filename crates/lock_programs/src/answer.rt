@@ -64,6 +64,7 @@ impl Answer {
     }
 
     /// The place of the first call in the history: if none was served, of the next one that is.
+    #[inline(always)]
     pub fn first(&self) -> u64
         ensures { result ≡ self.now.first }
     {
@@ -84,6 +85,7 @@ impl Answer {
     }
 
     /// Whether memory was refused to the call behind those that were served.
+    #[inline(always)]
     pub fn is_refused(&self) -> bool
         ensures { result ≡ self.now.is_refused }
     {
@@ -91,6 +93,7 @@ impl Answer {
     }
 
     /// Why the program stopped at the last reply.
+    #[inline(always)]
     pub fn stop(&self) -> Stop
         ensures { result ≡ stop_of self.now }
     {
@@ -129,6 +132,7 @@ impl Answer {
     }
 
     /// Notes that memory was refused to the next call.
+    #[inline(always)]
     pub fn refuse(&mut self)
         ensures replies { (p : ProgramValue) → replies_of p self.new ≡ replies_of p self.old }
         ensures first { self.new.first ≡ self.old.first }
@@ -165,6 +169,7 @@ fn count_of_one(program: &Program) -> usize
 }
 
 /// Notes with the reply to the next call of the program.
+#[inline(always)]
 fn noted(notes: Notes, program: &Program, reply: Reply) -> Notes
     requires going { AllGoOn program_form (replies_told (calls_of program.now) notes) }
     requires next { length (replies_told (calls_of program.now) notes) < length (calls_of program.now) }

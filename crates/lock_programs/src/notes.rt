@@ -3,7 +3,7 @@
 ghost use Rattle.std.specs.Prelude.{◌≡◌, ◌<◌, ◌≤◌, [], ◌∷◌, ◌++◌, length, Some, slice_get};
 ghost use Rattle.lock_programs.specs.declared.program.TheConstants.{CALLS};
 
-use crate::noting::{began_after, done_with, ended_after, granted_after, stop_after, stop_reply};
+use crate::noting::{began_after, ended_after, granted_after, stop_after, stop_reply};
 use crate::program::{CALLS, Program};
 use crate::stop::Stop;
 use lock_modes::Mode;
@@ -42,6 +42,7 @@ impl Notes {
     ghost use Rattle.lock_programs.specs.Fits.{Fits};
 
     /// Notes of no reply.
+    #[inline(always)]
     pub(crate) fn none() -> Notes
         ensures { (p : ProgramValue) → replies_told (calls_of p) result ≡ [] }
     {
@@ -55,6 +56,7 @@ impl Notes {
     }
 
     /// How many calls of its program were served.
+    #[inline(always)]
     pub(crate) fn served(&self, program: &Program) -> usize
         ensures value { result ≡ length (replies_told (calls_of program.now) self.now) }
         ensures few { result ≤ CALLS }
@@ -65,6 +67,7 @@ impl Notes {
     }
 
     /// Why the program stopped at the last reply.
+    #[inline(always)]
     pub(crate) fn stop(&self) -> Stop
         ensures { result ≡ self.now.stop }
     {
@@ -72,13 +75,13 @@ impl Notes {
     }
 
     /// The reply to the call at index `at` of its program, from 0 on, which was served.
+    #[inline(always)]
     pub(crate) fn reply(&self, program: &Program, at: usize) -> Reply
         requires { at < length (replies_told (calls_of program.now) self.now) }
         ensures { slice_get (replies_told (calls_of program.now) self.now) at ≡ Some result }
     {
         let _served = self.served(program);
-        let call = program.call(at);
-        let done = done_with(self.began, self.ended, self.granted[at], &call);
+        let done = program.done(at, self.began, self.ended, self.granted[at]);
         if at + 1 == self.served as usize {
             return stop_reply(self.stop, done);
         }
@@ -86,6 +89,7 @@ impl Notes {
     }
 
     /// Notes the reply to the next call of the program, as `Answer::append` appends it.
+    #[inline(always)]
     pub(crate) fn append(&mut self, program: &Program, reply: Reply)
         requires going { AllGoOn program_form (replies_told (calls_of program.now) self.old) }
         requires next { length (replies_told (calls_of program.now) self.old) < length (calls_of program.now) }

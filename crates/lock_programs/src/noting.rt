@@ -10,6 +10,7 @@ use lock_modes::Mode;
 use lock_rules::{Call, Reply};
 
 /// Whether a program goes on behind this reply: the call was granted or done.
+#[inline(always)]
 pub fn goes_on_behind(reply: &Reply) -> bool
     ensures { result ≡ goes_on_behind reply.now }
 {
@@ -17,6 +18,7 @@ pub fn goes_on_behind(reply: &Reply) -> bool
 }
 
 /// The number of the transaction that was begun, after this reply.
+#[inline(always)]
 pub(crate) fn began_after(number: u64, reply: &Reply) -> u64
     ensures { result ≡ began_after number reply.now }
 {
@@ -27,6 +29,7 @@ pub(crate) fn began_after(number: u64, reply: &Reply) -> u64
 }
 
 /// How many locks were released as a transaction ended or restarted, after this reply.
+#[inline(always)]
 pub(crate) fn ended_after(locks: u32, reply: &Reply) -> u32
     ensures { result ≡ ended_after locks reply.now }
 {
@@ -37,6 +40,7 @@ pub(crate) fn ended_after(locks: u32, reply: &Reply) -> u32
 }
 
 /// The mode granted, after this reply.
+#[inline(always)]
 pub(crate) fn granted_after(mode: Mode, reply: &Reply) -> Mode
     ensures { result ≡ granted_after mode reply.now }
 {
@@ -47,6 +51,7 @@ pub(crate) fn granted_after(mode: Mode, reply: &Reply) -> Mode
 }
 
 /// Why the program stops at this reply.
+#[inline(always)]
 pub(crate) fn stop_after(reply: &Reply) -> Stop
     ensures { result ≡ stop_at reply.now }
 {
@@ -60,6 +65,7 @@ pub(crate) fn stop_after(reply: &Reply) -> Stop
 
 /// The reply to a call that was granted or done: `began` is the number of the transaction begun, `ended` how many locks were
 /// released as one ended or restarted, `mode` the mode granted.
+#[inline(always)]
 pub(crate) fn done_with(began: u64, ended: u32, mode: Mode, call: &Call) -> Reply
     ensures { result ≡ done_with began ended mode call.now }
 {
@@ -76,6 +82,7 @@ pub(crate) fn done_with(began: u64, ended: u32, mode: Mode, call: &Call) -> Repl
 }
 
 /// The last reply, if it is `reply` where the program went on behind it.
+#[inline(always)]
 pub(crate) fn stop_reply(stop: Stop, reply: Reply) -> Reply
     ensures { result ≡ stop_reply stop reply }
 {

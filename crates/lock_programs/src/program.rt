@@ -4,9 +4,10 @@ ghost use Rattle.std.specs.Prelude.{◌≡◌, ◌+◌, ◌-◌, ◌<◌, ◌≤
 ghost use Rattle.lock_tree.specs.declared.levels.TheConstants.{LEVELS};
 ghost use Rattle.lock_programs.specs.declared.program.TheConstants.{CALLS};
 
+use crate::noting::done_with;
 use crate::path::StartedPath;
 use lock_modes::Mode;
-use lock_rules::Call;
+use lock_rules::{Call, Reply};
 use lock_tree::{LEVELS, Resource};
 use std::alloc::AllocError as NoMemory;
 
@@ -38,6 +39,7 @@ impl Start {
     ghost use Rattle.lock_programs.specs.Starts.{start_calls};
 
     /// The number of its calls.
+    #[inline(always)]
     pub(crate) fn length(self) -> usize
         ensures { result ≡ length (start_calls self) }
     {
@@ -49,6 +51,7 @@ impl Start {
     }
 
     /// The call at index `at`, from 0 on.
+    #[inline(always)]
     pub(crate) fn call(self, at: usize) -> Call
         requires { at < length (start_calls self) }
         ensures { slice_get (start_calls self) at ≡ Some result }
@@ -82,9 +85,12 @@ pub enum Last {
 }
 
 impl Last {
+    ghost use Rattle.std.specs.Prelude.{ℕ, List};
     ghost use Rattle.lock_programs.specs.Starts.{last_call};
+    ghost use Rattle.lock_programs.specs.Answers.{done_with};
 
     /// The call, on this resource.
+    #[inline(always)]
     pub(crate) fn call(self, resource: &Resource) -> Call
         ensures { result ≡ last_call self resource.now }
     {
@@ -95,6 +101,19 @@ impl Last {
             Last::Releases => Call::Release(*resource),
             Last::Polls => Call::Poll,
             Last::Withdraws => Call::Withdraw,
+        }
+    }
+
+    /// The reply to it if it was granted or done: `mode` is the mode granted.
+    #[inline(always)]
+    pub(crate) fn done(self, mode: Mode) -> Reply
+        ensures { (began ended : ℕ) (r : List ℕ) → result ≡ done_with began ended mode (last_call self r) }
+    {
+        match self {
+            Last::Locks(_) | Last::Converts(_) | Last::Tries(_) => Reply::Granted(mode),
+            Last::Releases => Reply::Released,
+            Last::Polls => Reply::Clear,
+            Last::Withdraws => Reply::Withdrawn,
         }
     }
 }
@@ -125,6 +144,8 @@ impl Copy for Program {}
 
 impl Program {
     ghost use Rattle.lock_modes.specs.Order.{need_of};
+    ghost use Rattle.lock_rules.specs.declared.calls.Call.{Call as CallValue};
+    ghost use Rattle.lock_programs.specs.Answers.{done_with};
     ghost use Rattle.lock_programs.specs.declared.program.Last.TheVariants.{Locks};
     ghost use Rattle.lock_programs.specs.Starts.{start_calls, last_call, path_calls};
     ghost use Rattle.lock_programs.specs.Calls.{calls_of};
@@ -212,6 +233,18 @@ impl Program {
         match &self.calls {
             Calls::One(call) => *call,
             Calls::Path(path) => path.call(at),
+        }
+    }
+
+    /// The reply to the call at index `at`, from 0 on, if it was granted or done, as `done_with` has it.
+    #[inline(always)]
+    pub(crate) fn done(&self, at: usize, began: u64, ended: u32, mode: Mode) -> Reply
+        requires { at < length (calls_of self.now) }
+        ensures { (c : CallValue) × (slice_get (calls_of self.now) at ≡ Some c) × (result ≡ done_with began ended mode c) }
+    {
+        match &self.calls {
+            Calls::One(call) => done_with(began, ended, mode, call),
+            Calls::Path(path) => path.done(at, began, ended, mode),
         }
     }
 }

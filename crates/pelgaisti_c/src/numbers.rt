@@ -198,6 +198,7 @@ fn value_of(reply: &Reply) -> u64
 }
 
 /// The numbers of a reply.
+#[inline(always)]
 pub(crate) fn reply_numbers(reply: Reply) -> ReplyNumbers
     ensures { result ≡ numbers_of_reply reply }
 {

@@ -48,6 +48,7 @@ pub struct ProgramAnswerNumbers {
 }
 
 /// What the number says that a program does first. Returns `None` if it says nothing.
+#[inline(always)]
 fn read_start(number: u32) -> Option<Start>
     ensures { (start : StartValue) → (result ≡ Some start) ↔ (number ≡ number_of_start start) }
 {
@@ -64,6 +65,7 @@ fn read_start(number: u32) -> Option<Start>
 }
 
 /// The program whose path leads to `resource`, with this call at its end.
+#[inline(always)]
 fn read_path(
     asked: &ProgramNumbers,
     start: Start,
@@ -121,6 +123,7 @@ pub(crate) fn read_program(asked: &ProgramNumbers) -> Result<Program, u32>
 }
 
 /// The kind of the reply if a program stops at it, otherwise 0.
+#[inline(always)]
 fn stop_number(reply: &Reply) -> u32
     ensures { result ≡ stop_number reply.now }
 {
@@ -131,6 +134,7 @@ fn stop_number(reply: &Reply) -> u32
 }
 
 /// The kind of the last reply of the answer if the program stopped at it, otherwise 0.
+#[inline(always)]
 fn stop_of(program: &Program, answer: &Answer) -> u32
     ensures { result ≡ stop_of (replies_of program.now answer.now) }
 {
@@ -142,6 +146,7 @@ fn stop_of(program: &Program, answer: &Answer) -> u32
 }
 
 /// Writes the numbers of the answer's replies, from the first place on.
+#[inline(always)]
 fn write_replies(program: &Program, answer: &Answer, places: &mut [ReplyNumbers])
     requires { length places.old ≡ CALLS }
     ensures { places.new ≡ are_written numbers_of_reply (replies_of program.now answer.now) places.old }
@@ -153,6 +158,7 @@ fn write_replies(program: &Program, answer: &Answer, places: &mut [ReplyNumbers]
 }
 
 /// The numbers of the answer to a program.
+#[inline(always)]
 pub(crate) fn answer_numbers(program: &Program, answer: &Answer) -> ProgramAnswerNumbers
     ensures { result ≡ numbers_of_answer program.now answer.now }
 {

@@ -29,6 +29,7 @@ use program_office::Counted;
 
 /// The program that the numbers encode, if it makes a call. Else the status of the first test that fails: a program of no calls fails that of
 /// its last call.
+#[inline(always)]
 fn read_calls(asked: &ProgramNumbers) -> Result<Program, u32>
     ensures ok { IfOk result (λ program. IsOfCalls asked.now program) }
     ensures err { IfErr result (λ fault. IsRunFault asked.now fault) }
@@ -42,6 +43,7 @@ fn read_calls(asked: &ProgramNumbers) -> Result<Program, u32>
 }
 
 /// Writes the answer to the program, or how to wait, in numbers. Returns the status.
+#[inline(always)]
 fn write_next(
     next: Next<Answer>,
     program: &Program,
@@ -69,6 +71,7 @@ fn write_next(
 }
 
 /// Makes one turn of a program, as `CallSession::run_turn` does. In an office with a waker it lists whom to wake in the share.
+#[inline(always)]
 fn make_turn(share: &mut SessionShare, program: &Program, made: u64) -> Next<Answer>
     requires live { share.old.session.retired ≡ false }
     requires some { 0 < length (calls_of program.now) }
@@ -143,6 +146,7 @@ fn publish_last(share: &mut SessionShare, program: Program)
 /// Makes turn number `made` of a program, of which there are `turns` at most: as `CallSession::run_turn` makes it, or, if no turn is left,
 /// publishes the program unless one is pending. Writes the answer; or how to wait before the next turn, 0 if none is left; and how many
 /// sessions are to be woken to `told`.
+#[inline(always)]
 fn turn_of(
     share: &mut SessionShare,
     program: &Program,

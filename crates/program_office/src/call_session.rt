@@ -66,6 +66,7 @@ impl Model for CallSession {
 }
 
 /// The answer to a program of one call that was served: the place of the call in the history of calls, and the reply.
+#[inline(always)]
 fn answer_of(asked: &Program, answer: &ProgramAnswer) -> Answer
     requires served { (reply : ReplyValue) × (replies_of asked.now answer.now ≡ reply ∷ []) }
     ensures replies { replies_of asked.now answer.now ≡ result.reply ∷ [] }
@@ -78,6 +79,7 @@ fn answer_of(asked: &Program, answer: &ProgramAnswer) -> Answer
 }
 
 /// The last reply to a program of which a call was served, and its place in the history of calls.
+#[inline(always)]
 fn last_of(program: &Program, answer: &ProgramAnswer) -> Answer
     requires served { 0 < length (replies_of program.now answer.now) }
     ensures last { (earlier : List ReplyValue) × (replies_of program.now answer.now ≡ earlier ++ result.reply ∷ [])

@@ -51,6 +51,7 @@ impl<T: Told<Programs<Book>>> Told<Programs<Book>> for Counted<T> {
 }
 
 /// How many calls of the history are known to one that knew `seen` of them, once it has the answer to its program.
+#[inline(always)]
 pub(crate) fn seen_behind(seen: u64, program: &Program, answer: &ProgramAnswer) -> u64
     ensures { result ≡ max seen (min (answer.now.first + length (replies_of program.now answer.now)) (2 ^ 64 - 1)) }
 {
@@ -59,6 +60,7 @@ pub(crate) fn seen_behind(seen: u64, program: &Program, answer: &ProgramAnswer) 
 }
 
 /// The same once it has the answer, if a turn has brought it.
+#[inline(always)]
 pub(crate) fn seen_next(seen: u64, program: &Program, next: &Next<ProgramAnswer>) -> u64
     ensures answered { (answer : _) → next.now ≡ Next.Answered answer
         → result ≡ max seen (min (answer.reply.first + length (replies_of program.now answer.reply)) (2 ^ 64 - 1)) }
@@ -72,6 +74,7 @@ pub(crate) fn seen_next(seen: u64, program: &Program, next: &Next<ProgramAnswer>
 }
 
 /// The same once it has the answer, if a call has brought it.
+#[inline(always)]
 pub(crate) fn seen_called(seen: u64, program: &Program, called: &Called<ProgramAnswer>) -> u64
     ensures answered { (answer : _) → called.now ≡ Called.Answered answer
         → result ≡ max seen (min (answer.reply.first + length (replies_of program.now answer.reply)) (2 ^ 64 - 1)) }

@@ -36,6 +36,7 @@ impl CallSession {
     }
 
     /// Performs a call at once and tells, as `Office::perform_telling` does.
+    #[inline(always)]
     pub fn perform_telling<T: Told<Programs<Book>>>(
         &mut self,
         office: &Office,
@@ -77,6 +78,7 @@ impl CallSession {
     }
 
     /// Performs a program of any calls at once and tells, as `Office::perform_telling` does.
+    #[inline(always)]
     pub fn perform_program<T: Told<Programs<Book>>>(
         &mut self,
         office: &Office,

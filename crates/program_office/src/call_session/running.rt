@@ -21,6 +21,7 @@ use programs::Programs;
 
 impl CallSession {
     /// The program that is pending. If none is, it is any program.
+    #[inline(always)]
     pub fn pending_program(&self) -> Program
         ensures { (program : ProgramValue) (floor : ℕ) → self.now.pending ≡ Some (asks program floor) → (program ≡ result) × (0 < length (calls_of program)) }
     {
@@ -28,6 +29,7 @@ impl CallSession {
     }
 
     /// The program that a turn goes on with: the pending one, or else this one.
+    #[inline(always)]
     pub fn program_for(&self, program: &Program) -> Program
         requires live { self.now.retired ≡ false }
         ensures idle { self.now.pending ≡ None → result ≡ program.now }
@@ -40,6 +42,7 @@ impl CallSession {
     }
 
     /// Whether what is pending is a single call. If nothing is pending, it says nothing.
+    #[inline(always)]
     pub fn is_single(&self) -> bool
         ensures single { result ≡ true → IsPendingSingle self.now }
         ensures several { result ≡ false → self.now.pending ≢ None → HasSeveralPending self.now }
@@ -86,6 +89,7 @@ impl CallSession {
 
     /// Makes one turn of a program that makes a call, as `combining::turn` does: it goes on with the pending program, if there is one, whatever
     /// `program` is. The answer is read by the program that the turn goes on with (`program_for`, before the turn).
+    #[inline(always)]
     pub fn run_turn<T: Told<Programs<Book>>>(
         &mut self,
         office: &Office,

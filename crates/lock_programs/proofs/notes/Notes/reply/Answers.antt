@@ -8,19 +8,21 @@ use Rattle.lock_programs.proofs.notes.Notes.reply.Goals as goal
 pub returns-then-at-self : goal.returns-then-at-self
 returns-then-at-self c =
     let a = c.args.self.now in
+    let d = c.done-done.ensures in
     let z : 0 + c.args.at ≡ c.args.at = omega arith in
-    from-at (told_of a) (calls_of c.args.program.now) 0 a.served c.args.at 0 c.call-call.result c.call-call.ensures (omega (arith, c.if-at-self.true))
-    ∙ ap (λ (k : ℕ). Some (stop_reply a.stop (done_reply (told_of a) c.call-call.result k))) z
-    ∙ ap (λ (r : Reply). Some r) (ap (stop_reply a.stop) (sym c.done_with-done.ensures) ∙ sym c.stop_reply.ensures)
+    from-at (told_of a) (calls_of c.args.program.now) 0 a.served c.args.at 0 d.0 d.1 (omega (arith, c.if-at-self.true))
+    ∙ ap (λ (k : ℕ). Some (stop_reply a.stop (done_reply (told_of a) d.0 k))) z
+    ∙ ap (λ (r : Reply). Some r) (ap (stop_reply a.stop) (sym d.2) ∙ sym c.stop_reply.ensures)
 
 pub returns : goal.returns
 returns c =
     let a = c.args.self.now in
+    let d = c.done-done.ensures in
     let z : 0 + c.args.at ≡ c.args.at = omega arith in
     let few = few-from (told_of a) (calls_of c.args.program.now) 0 a.served in
-    from-at (told_of a) (calls_of c.args.program.now) 0 a.served c.args.at (suc (a.served - c.args.at - 2)) c.call-call.result c.call-call.ensures (omega (arith, c.if-at-self.false, c.requires, few))
-    ∙ ap (λ (k : ℕ). Some (done_reply (told_of a) c.call-call.result k)) z
-    ∙ ap (λ (r : Reply). Some r) (sym c.done_with-done.ensures)
+    from-at (told_of a) (calls_of c.args.program.now) 0 a.served c.args.at (suc (a.served - c.args.at - 2)) d.0 d.1 (omega (arith, c.if-at-self.false, c.requires, few))
+    ∙ ap (λ (k : ℕ). Some (done_reply (told_of a) d.0 k)) z
+    ∙ ap (λ (r : Reply). Some r) (sym d.2)
 
-pub call-call-requires : goal.call-call-requires
-call-call-requires c = let few = within-calls (told_of c.args.self.now) (calls_of c.args.program.now) 0 c.args.self.now.served in omega (arith, c.requires, few)
+pub done-done-requires : goal.done-done-requires
+done-done-requires c = let few = within-calls (told_of c.args.self.now) (calls_of c.args.program.now) 0 c.args.self.now.served in omega (arith, c.requires, few)

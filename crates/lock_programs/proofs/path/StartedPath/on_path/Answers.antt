@@ -6,10 +6,10 @@ use Rattle.lock_programs.specs.Starts.{last_call}
 use Rattle.lock_programs.proofs.Shapes.{path-at}
 use Rattle.lock_programs.proofs.path.StartedPath.on_path.Goals as goal
 
-pub returns-then-level-numbers : goal.returns-then-level-numbers
-returns-then-level-numbers c =
+pub returns-then-level : goal.returns-then-level
+returns-then-level c =
     let p = c.args.self.now in
-    let at : p.from + c.args.at ≡ length p.resource = omega (arith, c.if-level-numbers.true, ap (λ (l : List ℕ). length l) c.numbers-numbers.ensures.value) in
+    let at : p.from + c.args.at ≡ length p.resource = omega (arith, c.if-level.true, c.level.ensures) in
     path-at p.resource p.above p.last p.from (length p.resource + 1 - p.from) c.args.at 0 (omega (arith, at))
     ∙ ap (λ (r : List ℕ). Some (last_call p.last r)) (ap (λ (n : ℕ). take n p.resource) at ∙ take-length p.resource)
     ∙ ap (λ (d : Call). Some d) (sym c.call.ensures)
@@ -17,6 +17,5 @@ returns-then-level-numbers c =
 pub returns : goal.returns
 returns c =
     let p = c.args.self.now in
-    let long = ap (λ (l : List ℕ). length l) c.numbers-numbers.ensures.value in
-    path-at p.resource p.above p.last p.from (length p.resource + 1 - p.from) c.args.at (suc (length p.resource - (p.from + c.args.at) - 1)) (omega (arith, c.requires, c.if-level-numbers.false, long))
-    ∙ ap (λ (r : List ℕ). Some (Lock r p.above)) (sym (c.in-Some.ensures.value ∙ ap (take (p.from + c.args.at)) c.numbers-numbers.ensures.value))
+    path-at p.resource p.above p.last p.from (length p.resource + 1 - p.from) c.args.at (suc (length p.resource - (p.from + c.args.at) - 1)) (omega (arith, c.requires, c.if-level.false, c.level.ensures))
+    ∙ ap (λ (r : List ℕ). Some (Lock r p.above)) (sym c.at_level.ensures)
