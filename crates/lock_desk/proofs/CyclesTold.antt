@@ -97,6 +97,13 @@ waits-behind d w r ps c st i h k lt = elim (cases_lt (k + 1) (length ps)) [
     same : (a b : ℕ) → pairs_of d.waits.rows a b ≡ waits_for st.table (a + 1) (b + 1)
     same a b = r.filled.pairs a b ∙ pairs-shown d st w i h (a + 1) (b + 1)
 
+-- the index behind one on a cycle is one on it
+pub behind-within : (n k : ℕ) → k < n → cond (ltb (k + 1) n) (k + 1) 0 < n
+behind-within n k lt = elim (cases_lt (k + 1) n) [
+  | inl low ↦ rw (lt-ltb (k + 1) n low) low
+  | inr high ↦ rw (le-ltb (k + 1) n high) (omega (arith, lt))
+]
+
 -- the first session of the members is the first of the cycle
 first-of : (ms : List Member) (ps : List ℕ) → map session_of ms ≡ map (λ p. p + 1) ps → 0 < length ps → (first_session ms 0 ≡ get_or ps 0 0 + 1) × (ms ≢ [])
 first-of [] [] e some = absurd (omega (arith, some))
@@ -107,7 +114,7 @@ first-of (m ∷ ms) (p ∷ ps) e some = (ap (λ (xs : List ℕ). get_or xs 0 0) 
 -- positions that differ are those of sessions that differ
 once-up : (ps : List ℕ) → IsDistinct eqb ps → IsDistinct eqb (map (λ p. p + 1) ps)
 once-up ps once = IsDistinct-from_apart eqb (map (λ p. p + 1) ps) (λ i j d lt in_it.
-    let low : j < length ps = omega (arith, in_it, length-map (λ (p : ℕ). p + 1) ps) in
+    let low : j < length ps = omega (arith, in_it, length-map ps (λ (p : ℕ). p + 1)) in
     let a = get_or-map (λ (p : ℕ). p + 1) ps i 0 d (omega (arith, lt, low)) in
     let b = get_or-map (λ (p : ℕ). p + 1) ps j 0 d low in
     let apart = eqb-false (get_or ps i 0) (get_or ps j 0) (apart_from_distinct eqb ps i j 0 once lt low) in
@@ -134,7 +141,7 @@ cycle-told d ps st s k ms c all victim h =
 
 -- the newest slots, after one more is filled
 pub slots-more : {X : Type 0} (n : ℕ) (xs : List X) (x : X) → n < length xs → drop (length (drop 1 xs ++ x ∷ []) - (n + 1)) (drop 1 xs ++ x ∷ []) ≡ drop (length xs - n) xs ++ x ∷ []
-slots-more n xs x lt =
+slots-more {X = X} n xs x lt =
     let len = length-append (drop 1 xs) (x ∷ []) in
     let one = length-drop 1 xs in
     let from : length (drop 1 xs ++ x ∷ []) - (n + 1) ≡ length xs - n - 1 = omega (arith, len, one, lt) in

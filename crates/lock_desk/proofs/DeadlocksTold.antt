@@ -36,7 +36,7 @@ newest-all n xs le = let none : length xs - n ≡ 0 = omega (arith, le) in ap (�
 
 -- if there are as many, each new one takes the place of the oldest
 pub newest-push : {X : Type 0} (n : ℕ) (xs : List X) (x : X) → 0 < n → n ≤ length xs → newest n (xs ++ x ∷ []) ≡ drop 1 (newest n xs) ++ x ∷ []
-newest-push n xs x some full =
+newest-push {X = X} n xs x some full =
     let more : length (xs ++ x ∷ []) - n ≡ length xs - n + 1 = omega (arith, length-append xs (x ∷ []), full) in
     ap (λ (k : ℕ). drop k (xs ++ x ∷ [])) more
     ∙ (drop-append-le (length xs - n + 1) xs (x ∷ []) (omega (arith, some, full))

@@ -1,6 +1,6 @@
 //! The newest deadlocks: of each the call that made it, and the cycle with what its members waited for.
 
-ghost use Rattle.std.specs.Prelude.{◌≡◌, ℕ, ◌+◌, ◌-◌, ◌<◌, ◌≤◌, true, [], ◌∷◌, ◌++◌, drop, nat_lt, if◌then◌else◌, length, slice_index_or, vec_len, vec_capacity, IfOk, IfSome, IfNone};
+ghost use Rattle.std.specs.Prelude.{◌≡◌, ℕ, ◌+◌, ◌-◌, ◌<◌, ◌≤◌, true, [], ◌∷◌, ◌++◌, drop, nat_lt, if◌then◌else◌, length, slice_index_or, vec_len, vec_capacity, IfOk};
 ghost use Rattle.std.specs.List.{All};
 ghost use Rattle.waits_for.specs.Pairs.{pairs_of};
 ghost use Rattle.waits_for.specs.Walks.{Reaches};
@@ -10,6 +10,7 @@ ghost use Rattle.lock_rules.specs.Waits.{victim_of, waits_for};
 ghost use Rattle.lock_rules.specs.Sound.{IsSound};
 ghost use Rattle.lock_desk.specs.Deadlocks.{IsMember, IsCycleTold, IsDeadlockTold, moments_at};
 ghost use Rattle.lock_desk.specs.declared.deadlock_log.Deadlock.{Deadlock as DeadlockValue};
+ghost use Rattle.lock_desk.specs.declared.deadlock_log.Member.{Member as MemberValue};
 ghost use Rattle.lock_desk.specs.inner.Changes.{IsWhole};
 ghost use Rattle.lock_desk.specs.inner.Ready.{IsReadyTable};
 ghost use Rattle.lock_desk.specs.inner.Shows.{Shows};
@@ -68,16 +69,21 @@ impl Model for DeadlockLog {
     ghost invariant = { HasSlots };
 }
 
-/// What is told of `session`, which waits for `next`. `None` if it doesn't wait.
-fn member_of(table: &LockTable, session: u16, next: u16) -> Option<Member>
+/// Appends what is told of `session`, which waits for `next`.
+fn push_member(table: &LockTable, session: u16, next: u16, cycle: &mut Vec<Member>)
     requires whole { IsWhole table.now }
     requires ready { IsReadyTable table.now }
-    ensures member { IfSome result (λ m. (st : State) → IsSound st.table → Shows table.now st → waits_for st.table session next ≡ true → (m.request.session ≡ session) × IsMember st next m) }
-    ensures none { IfNone result ((st : State) → IsSound st.table → Shows table.now st → waits_for st.table session next ≡ true → ⊥) }
+    requires room { length cycle.old.items < vec_capacity cycle.old }
+    ensures told { (st : State) → IsSound st.table → Shows table.now st → waits_for st.table session next ≡ true
+        → (m : MemberValue) × (cycle.new.items ≡ cycle.old.items ++ m ∷ []) × (m.request.session ≡ session) × IsMember st next m }
+    ensures few { length cycle.new.items ≤ length cycle.old.items + 1 }
+    ensures room { vec_capacity cycle.new ≡ vec_capacity cycle.old }
 {
-    let request = table.waiting_request(session)?;
+    let Some(request) = table.waiting_request(session) else {
+        return;
+    };
     let held = table.held(next, request.resource);
-    Some(Member { request, held })
+    cycle.push_reserved(Member { request, held });
 }
 
 /// The index behind this one on a cycle of `length` positions.
@@ -103,9 +109,7 @@ fn write_cycle(table: &LockTable, positions: &[usize], cycle: &mut Vec<Member>)
     for index in 0..positions.len() {
         let session = session_at(positions[index]);
         let next = session_at(positions[index_behind(index, positions.len())]);
-        if let Some(member) = member_of(table, session, next) {
-            cycle.push_reserved(member);
-        }
+        push_member(table, session, next, cycle);
     }
 }
 

@@ -4,15 +4,17 @@ use Rattle.lock_rules.specs.Listing.{waiting_line}
 use Rattle.lock_desk.proofs.CyclesTold.{line-session, line-some}
 use Rattle.lock_desk.proofs.Listings.{request-shown}
 use Rattle.lock_desk.proofs.Simulation.{mode-shown}
-use Rattle.lock_desk.proofs.deadlock_log.member_of.Goals as goal
+use Rattle.lock_desk.proofs.deadlock_log.push_member.Goals as goal
 
-pub returns-clause-member : goal.returns-clause-member
-returns-clause-member c = λ st i h w.
+pub returns-clause-told : goal.returns-clause-told
+returns-clause-told c = λ st i h w.
     let d = c.args.table.now in
     let s = c.args.session in
-    let q = c.in_ok-request.request in
-    let line : waiting_line st s ≡ Some q = sym (request-shown d st c.requires.whole h s i) ∙ sym c.in_ok-request.ensures in
+    let q = c.in-Some.request in
+    let line : waiting_line st s ≡ Some q = sym (request-shown d st c.requires.whole h s i) ∙ sym c.in-Some.ensures in
     let own = line-session st s q line in (
+      record { request = q; held = c.held-held.result },
+      c.push_reserved.ensures.items,
       own,
       record {
         request = ap (waiting_line st) own ∙ line;
@@ -21,5 +23,5 @@ returns-clause-member c = λ st i h w.
       },
     )
 
-pub returns-in_err-request-clause-none : goal.returns-in_err-request-clause-none
-returns-in_err-request-clause-none c = λ st i h w. line-some st c.args.session c.args.next w (sym (request-shown c.args.table.now st c.requires.whole h c.args.session i) ∙ sym c.in_err-request.ensures)
+pub returns-in_default-clause-told : goal.returns-in_default-clause-told
+returns-in_default-clause-told c = λ st i h w. absurd (line-some st c.args.session c.args.next w (sym (request-shown c.args.table.now st c.requires.whole h c.args.session i) ∙ sym c.in_default.ensures))
