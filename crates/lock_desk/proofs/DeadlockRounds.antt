@@ -1,5 +1,5 @@
 -- The deadlocks that are noted while victims are chosen are those of the state.
-use Rattle.std.proofs.Common.{◌≡◌, ℕ, zero, suc, ◌+◌, ◌-◌, ◌<◌, Bool, true, false, cond, List, [], ◌∷◌, ◌++◌, length, map, append_assoc, append-nil, refl, sym, ◌∙◌, ap, arith, subst}
+use Rattle.std.proofs.Common.{◌≡◌, ℕ, zero, suc, ◌+◌, ◌-◌, ◌<◌, ◌≤◌, Bool, true, false, cond, List, [], ◌∷◌, ◌++◌, length, map, append_assoc, append-nil, refl, sym, ◌∙◌, ap, arith, subst}
 use Rattle.std.proofs.lemmas.List.{map-append}
 use Rattle.lock_rules.specs.State as rules
 use Rattle.lock_rules.specs.Waits.{reaches, victim_of, after_victim, after_cancel, after_victims}
@@ -8,9 +8,9 @@ use Rattle.lock_rules.proofs.Cuts.{cancelled-follows, cancelled-fewer}
 use Rattle.lock_rules.proofs.Settle.{victim-waits}
 use Rattle.lock_desk.specs.Deadlocks.{Moment, deadlocked_states, moments_at}
 use Rattle.lock_desk.specs.declared.lock_table.LockTable.{LockTable}
-use Rattle.lock_desk.specs.inner.Changes.{HasDoomed}
 use Rattle.lock_desk.specs.inner.Noting.{LogView, HasNoted}
-use Rattle.lock_desk.proofs.VictimRounds.{IsRound, next-round}
+use Rattle.lock_desk.specs.inner.Shows.{Shows}
+use Rattle.lock_desk.proofs.VictimRounds.{IsRound}
 use Rattle.lock_desk.proofs.DeadlocksTold.{noted-none, noted-on}
 
 -- more rounds than requests find no more deadlocks
@@ -40,7 +40,7 @@ pub noted-begun : (n s place : ℕ) (st : rules.State) (d : LockTable) (log : Lo
 noted-begun n s place st d log r is = record {
   round = r;
   states = [];
-  split = ap (deadlocked_states n s) (sym is);
+  split = let all : n ≡ n - 0 = omega arith in ap (deadlocked_states n s) (sym is) ∙ ap (λ (k : ℕ). deadlocked_states k s r.state) all;
   noted = noted-none log;
 }
 
@@ -76,3 +76,16 @@ pub noted-last : (n k s place : ℕ) (st : rules.State) (d : LockTable) (a b : L
 noted-last n k s place st d a b r off =
     let all : deadlocked_states n s st ≡ r.states = r.split ∙ (ap (λ (sts : List rules.State). r.states ++ sts) (no-state (n - k) s r.round.state off) ∙ append-nil r.states) in
     subst (λ (sts : List rules.State). HasNoted (moments_at place s sts) a b) (sym all) r.noted
+
+-- nor are there more rounds
+pub noted-end : (n k s place : ℕ) (st : rules.State) (d : LockTable) (a b : LogView) (r : IsNotedRound n k s place st d a b) → n ≤ k → HasNoted (moments_at place s (deadlocked_states n s st)) a b
+noted-end n k s place st d a b r le =
+    let none : n - k ≡ 0 = omega (arith, le) in
+    let all : deadlocked_states n s st ≡ r.states = r.split ∙ (ap (λ (m : ℕ). r.states ++ deadlocked_states m s r.round.state) none ∙ append-nil r.states) in
+    subst (λ (sts : List rules.State). HasNoted (moments_at place s sts) a b) (sym all) r.noted
+
+-- and the lock table represents the state after the last one
+pub shown-end : (n k s : ℕ) (st : rules.State) (d : LockTable) (r : IsRound n k s st d) → n ≤ k → Shows d (after_victims n s st)
+shown-end n k s st d r le =
+    let none : n - k ≡ 0 = omega (arith, le) in
+    subst (Shows d) (sym (r.same ∙ ap (λ (m : ℕ). after_victims m s r.state) none)) r.shows

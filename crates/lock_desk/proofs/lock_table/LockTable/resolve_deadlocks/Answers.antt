@@ -1,4 +1,5 @@
-use Rattle.std.proofs.Common.{refl, ◌+◌, ◌-◌, vec_len, sym, ◌∙◌, ap, arith, subst}
+use Rattle.std.proofs.Common.{◌≡◌, ℕ, ◌<◌, ◌≤◌, refl, ◌+◌, ◌-◌, vec_len, sym, ◌∙◌, ap, arith, subst}
+use Rattle.lock_rules.specs.Waits.{after_victims}
 use Rattle.waits_for.specs.Pairs.{pairs_of}
 use Rattle.waits_for.specs.Walks.{Reaches}
 use Rattle.waits_for.proofs.Walks.{reaches-trans}
@@ -6,7 +7,7 @@ use Rattle.lock_desk.specs.declared.waits.Waits.{Waits}
 use Rattle.lock_desk.specs.inner.Ready.{IsReadyTable}
 use Rattle.lock_desk.proofs.EndedWaits.{waits_ended-on, waits_ended-none}
 use Rattle.lock_desk.proofs.VictimRounds.{rewaited, none-found, found, next-round, last-round}
-use Rattle.lock_desk.proofs.DeadlockRounds.{noted-begun, noted-round, noted-last}
+use Rattle.lock_desk.proofs.DeadlockRounds.{noted-begun, noted-round, noted-last, noted-end, shown-end}
 use Rattle.lock_desk.proofs.lock_table.LockTable.resolve_deadlocks.Goals as goal
 
 pub returns-in_default-clause-settled : goal.returns-in_default-clause-settled
@@ -65,7 +66,7 @@ loop-round-preserved c =
           let r = n.round in
           let y = c.in-Some.ensures.some in
           let f = found d k.whole d.waits k.ready.filled r.state r.shows r.sound r.numbered c.args.session c.in-Some.chosen c.requires.some y.0 y.2 in
-          let lt = omega (arith, c.loop-round-test.true, c.len-round-end.ensures) in
+          let lt : c.loop-round._round < vec_len c.args.self.now.lockers + 1 = omega (arith, c.loop-round-test.true, c.len-round-end.ensures) in
           let again = rewaited (vec_len c.args.self.now.lockers + 1) c.loop-round._round c.args.session st d c.victim.new.waits r in
           noted-round (vec_len c.args.self.now.lockers + 1) c.loop-round._round c.args.session c.in-Some.chosen c.args.place st d c.doom.new.self c.args.log.now c.loop-round.log c.note.new.self n
           (next-round (vec_len c.args.self.now.lockers + 1) c.loop-round._round c.args.session c.in-Some.chosen st _ c.doom.new.self again lt f.0 f.1 c.doom.ensures.doomed)
@@ -80,5 +81,21 @@ loop-round-init c = record {
   len = refl;
   waits_ended = waits_ended-none 0 c.args.self.now;
   log = c.requires.log;
-  rounds = λ st i j h. noted-begun (vec_len c.args.self.now.lockers + 1) c.args.session c.args.place st c.args.self.now c.args.log.now (record { state = st; shows = h; sound = i; numbered = j; same = refl }) refl;
+  rounds = λ st i j h.
+      let n = vec_len c.args.self.now.lockers + 1 in
+      let all : vec_len c.args.self.now.lockers + 1 ≡ vec_len c.args.self.now.lockers + 1 - 0 = omega arith in
+      noted-begun n c.args.session c.args.place st c.args.self.now c.args.log.now
+      (record { state = st; shows = h; sound = i; numbered = j; same = ap (λ (m : ℕ). after_victims m c.args.session st) all }) refl;
 }
+
+pub returns-clause-settled : goal.returns-clause-settled
+returns-clause-settled c = λ st i j h.
+    let k = c.loop-round.invariant in
+    let le : vec_len c.args.self.now.lockers + 1 ≤ c.loop-round._round = omega (arith, c.loop-round-test.false, c.len-round-end.ensures) in
+    shown-end (vec_len c.args.self.now.lockers + 1) c.loop-round._round c.args.session st c.loop-round.self (k.rounds st i j h).round le
+
+pub returns-clause-noted : goal.returns-clause-noted
+returns-clause-noted c = λ st i j h.
+    let k = c.loop-round.invariant in
+    let le : vec_len c.args.self.now.lockers + 1 ≤ c.loop-round._round = omega (arith, c.loop-round-test.false, c.len-round-end.ensures) in
+    noted-end (vec_len c.args.self.now.lockers + 1) c.loop-round._round c.args.session c.args.place st c.loop-round.self c.args.log.now c.loop-round.log (k.rounds st i j h) le
