@@ -130,3 +130,12 @@ told-alike (m ∷ ms) (d ∷ ds) (e ∷ es) h k = (
   },
   told-alike ms ds es h.1 k.1,
 )
+
+-- nothing is told of nothing
+pub newest-none : {X : Type 0} (n : ℕ) → newest {X = X} n [] ≡ []
+newest-none {X = X} n = let none : 0 - n ≡ 0 = omega arith in ap (λ (k : ℕ). drop {A = X} k []) none
+
+pub told-none : (n : ℕ) (ms : List Moment) (ds : List Deadlock) → ms ≡ [] → ds ≡ [] → AreDeadlocksTold (newest n ms) ds
+told-none n ms ds e f =
+    subst (λ (xs : List Moment). AreDeadlocksTold (newest n xs) ds) (sym e)
+    (subst (AreDeadlocksTold (newest n [])) (sym f) (subst (λ (xs : List Moment). AreDeadlocksTold xs []) (sym (newest-none n)) tt))
