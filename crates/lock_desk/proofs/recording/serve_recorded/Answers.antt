@@ -52,7 +52,7 @@ returns-clause-told c =
     let noted = c.in_ok-reply.ensures.noted (state_of es) (state-lawful es).sound (state-numbered es) c.requires.kept.shows in
     told-more es c.push_reserved.new.self.items (record { session = c.args.session; call = c.args.call; reply = c.in_ok-reply.reply }) c.count-served.result c.args.log.now c.serve.new.log
     (c.push_reserved.ensures.items ∙ ap (λ (xs : List Entry). xs ++ record { session = c.args.session; call = c.args.call; reply = c.in_ok-reply.reply } ∷ []) c.in_ok-reserve.ensures.items)
-    (c.count-served.ensures ∙ ap length c.in_ok-reserve.ensures.items) noted c.requires.told
+    (c.count-served.ensures.count ∙ ap length c.in_ok-reserve.ensures.items) noted c.requires.told
 
 pub returns-clause-most : goal.returns-clause-most
 returns-clause-most c =
