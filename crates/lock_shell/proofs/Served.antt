@@ -1,8 +1,9 @@
 -- A history grows by entries, and a text by their lines.
-use Rattle.std.proofs.Common.{◌≡◌, ◌∙◌, ◌+◌, ◌<◌, ◌≤◌, ℕ, zero, suc, List, [], ◌∷◌, ◌++◌, add-one, length, take, take-suc, take_all, get_or, map, min, inr, refl, sym, ap, subst, append_assoc, append-nil, arith}
+use Rattle.std.proofs.Common.{◌≡◌, ◌∙◌, ◌+◌, ◌-◌, ◌<◌, ℕ, suc, true, false, not, List, [], ◌∷◌, ◌++◌, Some, add-one, length, take, take-suc, take_all, get_or, map, min, inl, inr, refl, sym, ap, subst, append_assoc, append-nil, arith}
 use Rattle.std.specs.List.{range_with_len}
+use Rattle.std.proofs.Math.Seq.{take-append_seam}
 use Rattle.std.proofs.lemmas.List.{map_push, length_push, take_min}
-use Rattle.std.proofs.lemmas.Option.{slice_get_read}
+use Rattle.std.proofs.lemmas.List.Elements.{All-push, All-take}
 use Rattle.lock_modes.specs.declared.Mode.{Mode}
 use Rattle.lock_rules.specs.declared.calls.Call.{Call}
 use Rattle.lock_rules.specs.declared.calls.Reply.{Reply}
@@ -17,11 +18,11 @@ use Rattle.lock_trace.specs.Histories.{row_of_entry}
 use Rattle.lock_shell.specs.Replies.{IsReplied, text_of_reply}
 use Rattle.lock_desk.specs.BookView.{BookView}
 use Rattle.history_commands.proofs.IsVerdict.{fewer, grown as grown_front, one_more}
-use Rattle.lock_desk.specs.Paths.{lock_of_level}
-use Rattle.command_line.specs.declared.args.Form.TheVariants as form
-use Rattle.history_commands.specs.Explaining.{IsAccount}
-use Rattle.lock_shell.specs.Turns.{AreReplied, HasServed, HasServedPath, HasServedRows, IsToldOf, IsUndone, path_row}
+use Rattle.lock_desk.specs.Paths.{grants, last_reply, lock_of_level, stops}
+use Rattle.lock_desk.proofs.Blockers.{one-behind}
+use Rattle.lock_shell.specs.Turns.{AreGranted, AreReplied, HasServed, HasServedPath, HasServedRows, IsUndone, path_row}
 use Rattle.lock_shell.specs.inner.Desks.{AreAlike, kept_in}
+use Rattle.lock_shell.specs.inner.Parts.{HasServedLevels}
 
 -- the line of one entry, with what explains its reply
 pub one_served : (n : ℕ) (front back : List Entry) (e : Entry) (x : Explanation) (old new : List ℕ) → back ≡ front ++ e ∷ []
@@ -93,46 +94,75 @@ rows_more n rows row front back more e old mid new h k is = record {
 pub no_rows : (n : ℕ) (front : List Entry) (old : List ℕ) → HasServedRows n [] front front old old
 no_rows n front old = record { served = []; calls = refl; told = none_served n front old }
 
--- numbers from a on, with one number more
-one_behind : (a n j : ℕ) → a + n ≡ j → range_with_len a (suc n) ≡ range_with_len a n ++ j ∷ []
-one_behind a zero j e = let same : a ≡ j = omega arith in ap (λ (k : ℕ). k ∷ []) same
-one_behind a (suc n) j e = ap (λ (l : List ℕ). a ∷ l) (one_behind (a + 1) n j (omega (arith, e)))
-
--- a path of which so many levels were served
-pub record HasServedLevels (n s : ℕ) (r : List ℕ) (m : Mode) (level : ℕ) (front back : List Entry) (old new : List ℕ) : Type 0 where
-  pub served : List Entry
-  pub count : length served ≡ level
-  pub calls : map row_of_entry served ≡ map (path_row s r m) (range_with_len 1 level)
-  pub told : HasServed n front back served old new
-
 -- no level was served yet
 pub no_levels : (n s : ℕ) (r : List ℕ) (m : Mode) (front : List Entry) (old : List ℕ) → HasServedLevels n s r m 0 front front old old
-no_levels n s r m front old = record { served = []; count = refl; calls = refl; told = none_served n front old }
+no_levels n s r m front old = record {
+  served = [];
+  count = refl;
+  calls = refl;
+  granted = λ k x lt. absurd (omega (arith, lt));
+  told = none_served n front old;
+}
 
--- one level more was served
-pub levels_more : (n s : ℕ) (r : List ℕ) (m : Mode) (level : ℕ) (front back more : List Entry) (e : Entry) (old mid new : List ℕ)
-    → HasServedLevels n s r m level front back old mid → HasServed n back more (e ∷ []) mid new → row_of_entry e ≡ path_row s r m (level + 1)
-    → HasServedLevels n s r m (level + 1) front more old new
-levels_more n s r m level front back more e old mid new h k is =
+-- the rows of the calls of one level more
+rows_of_levels : (s : ℕ) (r : List ℕ) (m : Mode) (level : ℕ) (es : List Entry) (e : Entry) → map row_of_entry es ≡ map (path_row s r m) (range_with_len 1 level)
+    → row_of_entry e ≡ path_row s r m (level + 1) → map row_of_entry (es ++ e ∷ []) ≡ map (path_row s r m) (range_with_len 1 (level + 1))
+rows_of_levels s r m level es e calls is =
     let next : level + 1 ≡ suc level = omega arith in
     let at : 1 + level ≡ level + 1 = omega arith in
+    map_push row_of_entry es e ∙ ap (λ (rs : List TraceRow). rs ++ row_of_entry e ∷ []) calls
+    ∙ ap (λ (x : TraceRow). map (path_row s r m) (range_with_len 1 level) ++ x ∷ []) is
+    ∙ sym (ap (λ (i : ℕ). map (path_row s r m) (range_with_len 1 i)) next ∙ ap (map (path_row s r m)) (one-behind 1 level (level + 1) at)
+    ∙ map_push (path_row s r m) (range_with_len 1 level) (level + 1))
+
+-- one level more was served, and granted
+pub levels_more : (n s : ℕ) (r : List ℕ) (m : Mode) (level : ℕ) (front back more : List Entry) (e : Entry) (old mid new : List ℕ)
+    → HasServedLevels n s r m level front back old mid → HasServed n back more (e ∷ []) mid new → row_of_entry e ≡ path_row s r m (level + 1)
+    → grants e.reply ≡ true → HasServedLevels n s r m (level + 1) front more old new
+levels_more n s r m level front back more e old mid new h k is yes = record {
+  served = h.served ++ e ∷ [];
+  count = length_push h.served e ∙ ap (λ (i : ℕ). i + 1) h.count;
+  calls = rows_of_levels s r m level h.served e h.calls is;
+  granted = All-push (λ (x : Entry). grants x.reply ≡ true) h.served e h.granted yes;
+  told = served_more n front back more h.served e old mid new h.told k;
+}
+
+-- the reply of the last entry
+last_pushed : (es : List Entry) (e : Entry) → last_reply (es ++ e ∷ []) ≡ Some e.reply
+last_pushed [] e = refl
+last_pushed (x ∷ []) e = refl
+last_pushed (x ∷ y ∷ ys) e = last_pushed (y ∷ ys) e
+
+-- the entries without the last one
+but_last : (es : List Entry) (e : Entry) → take (length (es ++ e ∷ []) - 1) (es ++ e ∷ []) ≡ es
+but_last es e =
+    let count : length (es ++ e ∷ []) - 1 ≡ length es = omega (arith, length_push es e) in
+    ap (λ (i : ℕ). take i (es ++ e ∷ [])) count ∙ take-append_seam es (e ∷ [])
+
+-- one level more was served, and not granted: the path stops
+pub levels_stop : (n s : ℕ) (r : List ℕ) (m : Mode) (level : ℕ) (front back more : List Entry) (e : Entry) (old mid new : List ℕ)
+    → HasServedLevels n s r m level front back old mid → HasServed n back more (e ∷ []) mid new → row_of_entry e ≡ path_row s r m (level + 1)
+    → level < length r → grants e.reply ≡ false → HasServedPath n s r m front more old new
+levels_stop n s r m level front back more e old mid new h k is lt no =
+    let count : length (h.served ++ e ∷ []) ≡ level + 1 = length_push h.served e ∙ ap (λ (i : ℕ). i + 1) h.count in
     record {
       served = h.served ++ e ∷ [];
-      count = length_push h.served e ∙ ap (λ (i : ℕ). i + 1) h.count;
-      calls = map_push row_of_entry h.served e ∙ ap (λ (rs : List TraceRow). rs ++ row_of_entry e ∷ []) h.calls
-          ∙ ap (λ (x : TraceRow). map (path_row s r m) (range_with_len 1 level) ++ x ∷ []) is
-          ∙ sym (ap (λ (i : ℕ). map (path_row s r m) (range_with_len 1 i)) next ∙ ap (map (path_row s r m)) (one_behind 1 level (level + 1) at)
-          ∙ map_push (path_row s r m) (range_with_len 1 level) (level + 1));
+      few = omega (arith, count, lt);
+      calls = rows_of_levels s r m level h.served e h.calls is ∙ ap (λ (i : ℕ). map (path_row s r m) (range_with_len 1 i)) (sym count);
+      goes_on = subst AreGranted (sym (but_last h.served e)) h.granted;
+      ends = inr (ap stops (last_pushed h.served e) ∙ ap not no);
       told = served_more n front back more h.served e old mid new h.told k;
     }
 
--- the levels that were served are of the path
-pub levels_are_path : (n s : ℕ) (r : List ℕ) (m : Mode) (level : ℕ) (front back : List Entry) (old new : List ℕ) → level ≤ length r
+-- all levels were served, and granted: the path is locked
+pub levels_end : (n s : ℕ) (r : List ℕ) (m : Mode) (level : ℕ) (front back : List Entry) (old new : List ℕ) → level ≡ length r
     → HasServedLevels n s r m level front back old new → HasServedPath n s r m front back old new
-levels_are_path n s r m level front back old new few h = record {
+levels_end n s r m level front back old new all h = record {
   served = h.served;
-  few = omega (arith, few, h.count);
+  few = omega (arith, all, h.count);
   calls = h.calls ∙ ap (λ (i : ℕ). map (path_row s r m) (range_with_len 1 i)) (sym h.count);
+  goes_on = All-take (λ (x : Entry). grants x.reply ≡ true) (length h.served - 1) h.served h.granted;
+  ends = inl (h.count ∙ all);
   told = h.told;
 }
 
@@ -191,10 +221,3 @@ pub undone : (after again : BookView) (old new : List ℕ) (mark kept : ℕ) →
     → again.history ≡ take kept after.history → IsUndone (kept_in after old) (kept_in again new)
 undone after again old new mark kept marks is served =
     inr (mark, (marks, served ∙ ap (λ (k : ℕ). take k after.history) is ∙ take_min mark after.history))
-
--- the account of an entry of the history tells what it did
-pub told_at : (n : ℕ) (history entries : List Entry) (place : ℕ) (e : Entry) (text : List ℕ) → entries ≡ history → place < length history
-    → e ≡ get_or entries place e → IsAccount form.Lines n (take place history) e text → IsToldOf n history text
-told_at n history entries place e text same there is account =
-    let at : e ≡ get_or history place e = is ∙ ap (λ (es : List Entry). get_or es place e) same in
-    inr (place, e, (slice_get_read history (length history) place e refl there at, account))

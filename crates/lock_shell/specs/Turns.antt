@@ -1,5 +1,5 @@
 -- What a shell answers to a line, and what this does to the history that it keeps.
-use Rattle.std.specs.Prelude.{◌≡◌, ◌⊎◌, ℕ, ◌≤◌, List, [], ◌∷◌, ◌++◌, length, map, take, slice_get, Option, Some}
+use Rattle.std.specs.Prelude.{◌≡◌, ◌⊎◌, ℕ, ◌-◌, ◌<◌, ◌≤◌, ◌==◌, Bool, true, false, not, ◌&&◌, List, [], ◌∷◌, ◌++◌, length, map, take, slice_get, All, Option, Some, None}
 use Rattle.std.specs.List.{flat_map, range_with_len}
 use Rattle.std.specs.Io.KnownBytes.{Appends}
 use Rattle.lock_modes.specs.declared.Mode.{Mode}
@@ -7,9 +7,11 @@ use Rattle.lock_rules.specs.Entries.{Entry}
 use Rattle.lock_rules.specs.Legal.{IsLegal}
 use Rattle.lock_trace.specs.declared.trace_row.TraceRow.{TraceRow}
 use Rattle.lock_trace.specs.Histories.{row_of_entry}
-use Rattle.lock_desk.specs.Paths.{lock_of_level}
+use Rattle.lock_trace.specs.Rows.{IsRow}
+use Rattle.lock_desk.specs.Paths.{grants, last_reply, lock_of_level, stops}
+use Rattle.lock_report.specs.declared.snapshot.Doom.{Doom}
 use Rattle.command_line.specs.declared.args.Form.TheVariants as form
-use Rattle.history_commands.specs.Explaining.{IsAccount, answer_in}
+use Rattle.history_commands.specs.Explaining.{IsAccount, answer_in, doom_answered, is_poll}
 use Rattle.history_commands.specs.Showing.{lines_in}
 use Rattle.replay_commands.specs.Written.{AppendsPart}
 use Rattle.replay_commands.specs.declared.tool_fault.ToolFault.{ToolFault}
@@ -18,7 +20,7 @@ use Rattle.lock_shell.specs.declared.line.Asked.{Asked}
 use Rattle.lock_shell.specs.declared.line.Asked.TheVariants as asked
 use Rattle.lock_shell.specs.declared.texts.TheConstants.{GREETING, HELP, NO_CALL}
 use Rattle.lock_shell.specs.Replies.{IsReplied}
-use Rattle.lock_shell.specs.Texts.{text_of_unread}
+use Rattle.lock_shell.specs.Texts.{IsNotLoaded, IsSaved, text_of_undo, text_of_unread}
 
 -- what a shell keeps from line to line: its history, and for each line that served calls how many were served before it
 pub record Kept : Type 0 where
@@ -54,12 +56,18 @@ pub record HasServed (n : ℕ) (front back : List Entry) (es : List Entry) (old 
 abbrev pub path_row : ℕ → List ℕ → Mode → ℕ → TraceRow
 path_row s r m k = record { session = s; call = lock_of_level r m k }
 
+-- each of these calls was granted
+abbrev pub AreGranted : List Entry → Type 0
+AreGranted es = All (λ (e : Entry). grants e.reply ≡ true) es
+
 -- the history grew by calls that lock the path of session s to the resource in mode m, from the database down, and the text by
--- their lines
+-- their lines: all but the last were granted, and the last one is that of the resource, or it wasn't granted
 pub record HasServedPath (n s : ℕ) (r : List ℕ) (m : Mode) (front back : List Entry) (old new : List ℕ) : Type 0 where
   pub served : List Entry
   pub few : length served ≤ length r
   pub calls : map row_of_entry served ≡ map (path_row s r m) (range_with_len 1 (length served))
+  pub goes_on : AreGranted (take (length served - 1) served)
+  pub ends : (length served ≡ length r) ⊎ (stops (last_reply served) ≡ true)
   pub told : HasServed n front back served old new
 
 -- the history grew by the calls of these rows, and the text by their lines
@@ -73,18 +81,46 @@ abbrev pub IsUndone : Kept → Kept → Type 0
 IsUndone old new =
     ((old.marks ≡ []) × IsUnchanged old new) ⊎ ((mark : ℕ) × ((old.marks ≡ new.marks ++ mark ∷ []) × (new.history ≡ take mark old.history)))
 
--- the text says what an entry of the history did and why, or that there is none
-abbrev pub IsToldOf : ℕ → List Entry → List ℕ → Type 0
-IsToldOf n history text =
-    (text ≡ NO_CALL.now) ⊎ ((place : ℕ) × (e : Entry) × ((slice_get history place ≡ Some e) × IsAccount form.Lines n (take place history) e text))
+-- session s made this call, and it is no poll
+abbrev pub is_call_of : ℕ → Entry → Bool
+is_call_of s e = (e.session == s) && not (is_poll e.call)
 
--- the text says for whom session s waits, or which call made it a victim, and what an entry of the history did and why
+-- the last call of session s in the history, polls left out, is at this place; None: it made none
+abbrev pub IsLastCall : ℕ → List Entry → Option ℕ → Type 0
+IsLastCall s history None = (i : ℕ) (e : Entry) → slice_get history i ≡ Some e → is_call_of s e ≡ false
+IsLastCall s history (Some place) =
+    ((e : Entry) × ((slice_get history place ≡ Some e) × (is_call_of s e ≡ true)))
+    × ((i : ℕ) (e : Entry) → place < i → slice_get history i ≡ Some e → is_call_of s e ≡ false)
+
+-- the call that is told of is at this place: the one that made the transaction of session s a victim, if it is one, and else the
+-- session's last call, polls left out
+abbrev pub IsPlaceTold : ℕ → List Entry → Option Doom → Option ℕ → Type 0
+IsPlaceTold s history (Some doom) place = place ≡ Some doom.place
+IsPlaceTold s history None place = IsLastCall s history place
+
+-- the text says what the entry at this place of the history did and why; None: that there is no call
+abbrev pub IsAccountAt : ℕ → List Entry → Option ℕ → List ℕ → Type 0
+IsAccountAt n history None text = text ≡ NO_CALL.now
+IsAccountAt n history (Some place) text = (e : Entry) × ((slice_get history place ≡ Some e) × IsAccount form.Lines n (take place history) e text)
+
+-- the text says what the call that is told of for session s did and why, or that it has made none
+abbrev pub IsToldOf : ℕ → List Entry → ℕ → List ℕ → Type 0
+IsToldOf n history s text = (place : Option ℕ) × (IsPlaceTold s history (doom_answered history s) place × IsAccountAt n history place text)
+
+-- the text says for whom session s waits, or which call made it a victim; and then what that call, or else its last one, did and why
 abbrev pub IsWhy : ℕ → List Entry → ℕ → List ℕ → Type 0
-IsWhy n history s text = (told : List ℕ) × ((text ≡ answer_in form.Lines n history s ++ told) × IsToldOf n history told)
+IsWhy n history s text = (told : List ℕ) × ((text ≡ answer_in form.Lines n history s ++ told) × IsToldOf n history s told)
 
--- the calls of some rows were served, or none could be loaded: what files have isn't known
+-- the calls of these rows were served, of which there are some, each of a session of 1 to n
+pub record HasLoaded (n : ℕ) (rows : List TraceRow) (old new : Kept) (text : List ℕ) : Type 0 where
+  pub some : 0 < length rows
+  pub within : All (IsRow n) rows
+  pub marked : IsMarked old new
+  pub served : HasServedRows n rows old.history new.history [] text
+
+-- the calls of some rows were served, or nothing has changed and the text says why; what files have isn't known
 abbrev pub IsLoaded : ℕ → Kept → Kept → List ℕ → Type 0
-IsLoaded n old new text = IsUnchanged old new ⊎ (IsMarked old new × (rows : List TraceRow) × HasServedRows n rows old.history new.history [] text)
+IsLoaded n old new text = (IsUnchanged old new × IsNotLoaded text) ⊎ ((rows : List TraceRow) × HasLoaded n rows old new text)
 
 -- with sessions 1 to n, the answer to what a line asks for, and what it leaves
 abbrev pub IsAnswer : ℕ → Asked → Kept → Kept → List ℕ → Type 0
@@ -93,8 +129,8 @@ IsAnswer n (asked.Call row) old new text = IsMarked old new × HasServedRows n (
 IsAnswer n (asked.Path s r m) old new text = IsMarked old new × HasServedPath n s r m old.history new.history [] text
 IsAnswer n asked.Show old new text = IsUnchanged old new × (text ≡ lines_in n (length old.history) old.history)
 IsAnswer n (asked.Why s) old new text = IsUnchanged old new × IsWhy n old.history s text
-IsAnswer n asked.Undo old new text = IsUndone old new
-IsAnswer n (asked.Save path) old new text = IsUnchanged old new
+IsAnswer n asked.Undo old new text = IsUndone old new × (text ≡ text_of_undo (length old.history - length new.history))
+IsAnswer n (asked.Save path) old new text = IsUnchanged old new × IsSaved (length old.history) text
 IsAnswer n (asked.Load path) old new text = IsLoaded n old new text
 IsAnswer n asked.Help old new text = IsUnchanged old new × (text ≡ HELP.now)
 IsAnswer n asked.Quit old new text = IsUnchanged old new × (text ≡ [])

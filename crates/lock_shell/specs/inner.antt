@@ -1,4 +1,5 @@
 pub mod Answered
 pub mod Asked
 pub mod Desks
+pub mod Parts
 pub mod Traces

@@ -1,9 +1,10 @@
 //! What a shell answers to a line.
 
-ghost use Rattle.std.specs.Prelude.{◌≡◌, [], length, All, IfOk, OnOk};
+ghost use Rattle.std.specs.Prelude.{◌≡◌, ◌<◌, [], length, All, IfOk, OnOk, string_bytes};
 ghost use Rattle.history_commands.specs.Showing.{lines_in};
 ghost use Rattle.lock_trace.specs.Rows.{IsRow};
-ghost use Rattle.lock_shell.specs.Turns.{HasServedRows, IsAnswer, IsLoaded, IsMarked, IsUndone};
+ghost use Rattle.lock_shell.specs.Texts.{IsSaved, text_of_undo};
+ghost use Rattle.lock_shell.specs.Turns.{HasLoaded, IsAnswer, IsLoaded, IsUndone};
 ghost use Rattle.lock_shell.specs.declared.line.Asked.TheVariants as Asked;
 ghost use Rattle.lock_shell.specs.inner.Asked.{IsAsked, IsSession};
 ghost use Rattle.lock_shell.specs.inner.Desks.{AreAlike, kept_in};
@@ -83,11 +84,11 @@ fn answer_rows(
     marks: &mut Vec<u64>,
     rows: &[TraceRow],
 ) -> Result<Vec<u8>, NoMemory>
+    requires some { 0 < length rows.now }
     requires within { All (IsRow desk.old.after.sessions) rows.now }
     requires alike { AreAlike desk.old.after.sessions desk.old.before desk.old.after }
     ensures alike { OnOk result (AreAlike desk.old.after.sessions desk.new.before desk.new.after) }
-    ensures marked { OnOk result (IsMarked (kept_in desk.old.after marks.old.items) (kept_in desk.new.after marks.new.items)) }
-    ensures served { IfOk result (λ text. HasServedRows desk.old.after.sessions rows.now desk.old.after.history desk.new.after.history [] text.items) }
+    ensures loaded { IfOk result (λ text. HasLoaded desk.old.after.sessions rows.now (kept_in desk.old.after marks.old.items) (kept_in desk.new.after marks.new.items) text.items) }
 {
     marks.push(desk.after.served())?;
     let mut text = Vec::new(alloc);
@@ -114,21 +115,26 @@ fn answer_load<T: Files>(
     }
 }
 
-/// Takes back the calls of the last line that served some. Returns how many were taken back. Fails if memory is refused; the desk
-/// counts no more then.
-fn undo(alloc: Global, desk: &mut Desk, marks: &mut Vec<u64>) -> Result<u64, NoMemory>
+/// Takes back the calls of the last line that served some. Fails if memory is refused; the desk counts no more then.
+fn undo(alloc: Global, desk: &mut Desk, marks: &mut Vec<u64>) -> Result<(), NoMemory>
     requires alike { AreAlike desk.old.after.sessions desk.old.before desk.old.after }
     ensures alike { OnOk result (AreAlike desk.old.after.sessions desk.new.before desk.new.after) }
     ensures undone { OnOk result (IsUndone (kept_in desk.old.after marks.old.items) (kept_in desk.new.after marks.new.items)) }
 {
     let Some(mark) = marks.pop() else {
-        return Ok(0);
+        return Ok(());
     };
-    let count = desk.after.served();
-    let kept = mark.min(count);
+    let kept = mark.min(desk.after.served());
     let again = desk_again(alloc, &desk.after, kept as usize)?;
     *desk = again;
-    Ok(count - kept)
+    Ok(())
+}
+
+/// The line that says how many calls were taken back. Fails if memory is refused.
+fn undo_line(alloc: Global, count: u64) -> Result<String, NoMemory>
+    ensures { IfOk result (λ line. string_bytes line ≡ text_of_undo count) }
+{
+    format!(in alloc; "calls taken back: {count}\n")
 }
 
 /// Takes back the calls of the last line that served some, and returns the line that says how many. Fails if memory is refused; the
@@ -136,10 +142,12 @@ fn undo(alloc: Global, desk: &mut Desk, marks: &mut Vec<u64>) -> Result<u64, NoM
 fn answer_undo(alloc: Global, desk: &mut Desk, marks: &mut Vec<u64>) -> Result<Vec<u8>, NoMemory>
     requires alike { AreAlike desk.old.after.sessions desk.old.before desk.old.after }
     ensures alike { OnOk result (AreAlike desk.old.after.sessions desk.new.before desk.new.after) }
-    ensures undone { OnOk result (IsUndone (kept_in desk.old.after marks.old.items) (kept_in desk.new.after marks.new.items)) }
+    ensures answer { IfOk result (λ text. IsAnswer desk.old.after.sessions Asked.Undo (kept_in desk.old.after marks.old.items) (kept_in desk.new.after marks.new.items) text.items) }
 {
-    let count = undo(alloc, desk, marks)?;
-    let line = format!(in alloc; "calls taken back: {count}\n")?;
+    let before = desk.after.served();
+    undo(alloc, desk, marks)?;
+    let count = before.saturating_sub(desk.after.served());
+    let line = undo_line(alloc, count)?;
     Ok(line.into_bytes())
 }
 
@@ -150,7 +158,11 @@ fn answer_save<T: Files>(
     alloc: Global,
     after: &Book,
     path: &str,
-) -> Result<Vec<u8>, NoMemory> {
+) -> Result<Vec<u8>, NoMemory>
+    requires all { after.now.cut ≡ 0 }
+    requires unbounded { after.now.bound ≡ NO_BOUND }
+    ensures { IfOk result (λ text. IsSaved (length after.now.history) text.items) }
+{
     let line = save(files, alloc, path, after.history())?;
     Ok(line.into_bytes())
 }

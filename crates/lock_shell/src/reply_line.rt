@@ -196,19 +196,12 @@ fn put_doomed(out: &mut String, session: u16) -> Result<(), NoMemory>
     put_fate(out, session)
 }
 
-/// Writes the line of a transaction that the call makes a deadlock victim.
-fn put_victim(out: &mut String, victim: &Party) -> Result<(), NoMemory>
-    ensures { OnOk result (string_bytes out.new ≡ string_bytes out.old ++ line_of_victim victim.now) }
-{
-    put_doomed(out, victim.session)
-}
-
 /// Writes the lines of the victims.
 fn put_victims(out: &mut String, victims: &[Party]) -> Result<(), NoMemory>
     ensures { OnOk result (string_bytes out.new ≡ string_bytes out.old ++ flat_map line_of_victim victims.now) }
 {
     for victim in victims {
-        put_victim(out, victim)?;
+        put_doomed(out, victim.session)?;
     }
     Ok(())
 }

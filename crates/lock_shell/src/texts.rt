@@ -1,10 +1,11 @@
 //! Texts that never change.
 
-ghost use Rattle.std.specs.Prelude.{◌≡◌};
-ghost use Rattle.lock_shell.specs.Texts.{text_of_unread};
+ghost use Rattle.std.specs.Prelude.{◌≡◌, ◌++◌, codes};
+ghost use Rattle.lock_shell.specs.Texts.{name_of_kind, name_of_path_fault, text_of_unread};
 
 use crate::line::Unread;
 use lock_trace::TraceKind;
+use lock_tree::PathFault;
 
 /// The first line of a shell.
 pub(crate) const GREETING: &str =
@@ -63,3 +64,35 @@ pub(crate) const NO_CALL: &str = "this session has made no call\n";
 
 /// The answer to `load` for a trace without rows.
 pub(crate) const NO_CALLS: &str = "this trace has no calls\n";
+
+/// The name of the fault of a path, behind the name of the kind.
+fn path_name(fault: PathFault) -> &'static str
+    ensures { result.now ≡ codes "Path " ++ name_of_path_fault fault }
+{
+    match fault {
+        PathFault::Empty => "Path Empty",
+        PathFault::TooDeep => "Path TooDeep",
+        PathFault::NotANumber => "Path NotANumber",
+        PathFault::TooLarge => "Path TooLarge",
+        PathFault::LeadingZero => "Path LeadingZero",
+    }
+}
+
+/// The name of a fault of a row, as other commands write it.
+pub(crate) fn kind_name(kind: TraceKind) -> &'static str
+    ensures { result.now ≡ name_of_kind kind }
+{
+    match kind {
+        TraceKind::Shape => "Shape",
+        TraceKind::Session => "Session",
+        TraceKind::Op => "Op",
+        TraceKind::Path(fault) => path_name(fault),
+        TraceKind::Mode => "Mode",
+        TraceKind::Extra => "Extra",
+        TraceKind::Device => "Device",
+        TraceKind::NoMemory => "NoMemory",
+        TraceKind::Place => "Place",
+        TraceKind::Reply => "Reply",
+        TraceKind::Value => "Value",
+    }
+}

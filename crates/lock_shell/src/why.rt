@@ -1,8 +1,9 @@
 //! Why a session waits, was refused or is a deadlock victim.
 
-ghost use Rattle.std.specs.Prelude.{◌≡◌, ◌<◌, length, All, IfOk, IfSome};
+ghost use Rattle.std.specs.Prelude.{◌≡◌, ◌<◌, length, All, Some, IfOk};
 ghost use Rattle.sequential.specs.Histories.{IsEntryWithin};
-ghost use Rattle.lock_shell.specs.Turns.{IsToldOf, IsWhy};
+ghost use Rattle.history_commands.specs.Explaining.{doom_answered};
+ghost use Rattle.lock_shell.specs.Turns.{IsAccountAt, IsLastCall, IsPlaceTold, IsToldOf, IsWhy, is_call_of};
 
 use crate::desk::desk_again;
 use crate::texts::NO_CALL;
@@ -11,18 +12,20 @@ use history_commands::{account, answer_of, doom_of};
 use lock_desk::{Book, Call, Entry, NO_BOUND, NoMemory};
 use std::alloc::Global;
 
-/// Whether an entry is of the session, and no poll.
-fn is_told(entry: &Entry, session: u16) -> bool {
-    entry.session == session && entry.call != Call::Poll
+/// Whether the session made this call, and it is no poll.
+fn is_call_of(entry: &Entry, session: u16) -> bool
+    ensures { result ≡ is_call_of session entry.now }
+{
+    entry.session == session && !matches!(entry.call, Call::Poll)
 }
 
 /// The place of the last call of the session among the entries, polls left out, `None` if there is none.
 fn last_call(entries: &[Entry], session: u16) -> Option<usize>
-    ensures { IfSome result (λ place. place < length entries.now) }
+    ensures { IsLastCall session entries.now result }
 {
     for back in 0..entries.len() {
         let place = entries.len() - 1 - back;
-        if is_told(&entries[place], session) {
+        if is_call_of(&entries[place], session) {
             return Some(place);
         }
     }
@@ -39,15 +42,12 @@ fn place_told(
 ) -> Result<Option<usize>, NoMemory>
     requires within { All (IsEntryWithin after.now.sessions) entries.now }
     requires served { after.now.history ≡ entries.now }
-    ensures { IfOk result (λ found. IfSome found (λ place. place < length entries.now)) }
+    ensures { IfOk result (λ found. IsPlaceTold session after.now.history (doom_answered after.now.history session) found) }
 {
-    if let Some(doom) = doom_of(alloc, after, entries, session)? {
-        let place = doom.place as usize;
-        if place < entries.len() {
-            return Ok(Some(place));
-        }
+    match doom_of(alloc, after, entries, session)? {
+        Some(doom) => Ok(Some(doom.place as usize)),
+        None => Ok(last_call(entries, session)),
     }
-    Ok(last_call(entries, session))
 }
 
 /// What the entry at `place` of the book's history did and why; the book keeps all of it in memory. Fails if memory is refused.
@@ -55,7 +55,7 @@ fn account_at(alloc: Global, after: &Book, place: usize) -> Result<Vec<u8>, NoMe
     requires all { after.now.cut ≡ 0 }
     requires unbounded { after.now.bound ≡ NO_BOUND }
     requires there { place < length after.now.history }
-    ensures { IfOk result (λ text. IsToldOf after.now.sessions after.now.history text.items) }
+    ensures { IfOk result (λ text. IsAccountAt after.now.sessions after.now.history (Some place) text.items) }
 {
     let front = desk_again(alloc, after, place)?;
     let back = desk_again(alloc, after, place + 1)?;
@@ -75,7 +75,7 @@ fn account_at(alloc: Global, after: &Book, place: usize) -> Result<Vec<u8>, NoMe
 fn told_of(alloc: Global, after: &Book, session: u16) -> Result<Vec<u8>, NoMemory>
     requires all { after.now.cut ≡ 0 }
     requires unbounded { after.now.bound ≡ NO_BOUND }
-    ensures { IfOk result (λ text. IsToldOf after.now.sessions after.now.history text.items) }
+    ensures { IfOk result (λ text. IsToldOf after.now.sessions after.now.history session text.items) }
 {
     match place_told(alloc, after, after.history(), session)? {
         Some(place) => account_at(alloc, after, place),

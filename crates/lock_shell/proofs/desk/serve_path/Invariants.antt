@@ -1,5 +1,5 @@
 use Rattle.lock_shell.specs.inner.Desks.{AreAlike}
-use Rattle.lock_shell.proofs.Served.{HasServedLevels}
+use Rattle.lock_shell.specs.inner.Parts.{HasServedLevels}
 use Rattle.lock_shell.proofs.desk.serve_path.Given as goal
 
 -- the books are alike, and have served the levels so far

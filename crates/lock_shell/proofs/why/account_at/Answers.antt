@@ -3,7 +3,7 @@ use Rattle.std.proofs.lemmas.Result.{IfOk-weaker}
 use Rattle.lock_rules.specs.Entries.{Entry}
 use Rattle.command_line.specs.declared.args.Form.TheVariants as form
 use Rattle.history_commands.specs.Explaining.{IsAccount}
-use Rattle.lock_shell.proofs.Served.{told_at}
+use Rattle.lock_shell.proofs.Told.{told_at}
 use Rattle.lock_shell.proofs.why.account_at.Goals as goal
 
 pub returns : goal.returns
