@@ -1,6 +1,6 @@
 //! What a shell answers to a line.
 
-ghost use Rattle.std.specs.Prelude.{◌≡◌, ◌<◌, [], length, All, IfOk, OnOk, string_bytes};
+ghost use Rattle.std.specs.Prelude.{◌≡◌, ◌<◌, length, All, IfOk, OnOk, string_bytes};
 ghost use Rattle.history_commands.specs.Showing.{lines_in};
 ghost use Rattle.lock_trace.specs.Rows.{IsRow};
 ghost use Rattle.lock_shell.specs.Texts.{IsSaved, text_of_undo};
