@@ -1,3 +1,4 @@
+pub mod Loads
 pub mod Served
 pub mod Talks
 pub mod Told
