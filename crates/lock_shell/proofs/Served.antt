@@ -119,11 +119,11 @@ rows_of_levels s r m level es e calls is =
 pub levels_more : (n s : ℕ) (r : List ℕ) (m : Mode) (level : ℕ) (front back more : List Entry) (e : Entry) (old mid new : List ℕ)
     → HasServedLevels n s r m level front back old mid → HasServed n back more (e ∷ []) mid new → row_of_entry e ≡ path_row s r m (level + 1)
     → grants e.reply ≡ true → HasServedLevels n s r m (level + 1) front more old new
-levels_more n s r m level front back more e old mid new h k is yes = record {
+levels_more n s r m level front back more e old mid new h k is granted = record {
   served = h.served ++ e ∷ [];
   count = length_push h.served e ∙ ap (λ (i : ℕ). i + 1) h.count;
   calls = rows_of_levels s r m level h.served e h.calls is;
-  granted = All-push (λ (x : Entry). grants x.reply ≡ true) h.served e h.granted yes;
+  granted = All-push (λ (x : Entry). grants x.reply ≡ true) h.served e h.granted granted;
   told = served_more n front back more h.served e old mid new h.told k;
 }
 
@@ -143,14 +143,14 @@ but_last es e =
 pub levels_stop : (n s : ℕ) (r : List ℕ) (m : Mode) (level : ℕ) (front back more : List Entry) (e : Entry) (old mid new : List ℕ)
     → HasServedLevels n s r m level front back old mid → HasServed n back more (e ∷ []) mid new → row_of_entry e ≡ path_row s r m (level + 1)
     → level < length r → grants e.reply ≡ false → HasServedPath n s r m front more old new
-levels_stop n s r m level front back more e old mid new h k is lt no =
+levels_stop n s r m level front back more e old mid new h k is lt denied =
     let count : length (h.served ++ e ∷ []) ≡ level + 1 = length_push h.served e ∙ ap (λ (i : ℕ). i + 1) h.count in
     record {
       served = h.served ++ e ∷ [];
       few = omega (arith, count, lt);
       calls = rows_of_levels s r m level h.served e h.calls is ∙ ap (λ (i : ℕ). map (path_row s r m) (range_with_len 1 i)) (sym count);
       goes_on = subst AreGranted (sym (but_last h.served e)) h.granted;
-      ends = inr (ap stops (last_pushed h.served e) ∙ ap not no);
+      ends = inr (ap stops (last_pushed h.served e) ∙ ap not denied);
       told = served_more n front back more h.served e old mid new h.told k;
     }
 
