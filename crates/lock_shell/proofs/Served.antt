@@ -1,9 +1,11 @@
 -- A history grows by entries, and a text by their lines.
-use Rattle.std.proofs.Common.{◌≡◌, ◌∙◌, ◌+◌, ◌-◌, ◌<◌, ℕ, suc, true, false, not, List, [], ◌∷◌, ◌++◌, Some, add-one, length, take, take-suc, take_all, get_or, map, min, inl, inr, refl, sym, ap, subst, append_assoc, append-nil, arith}
+use Rattle.std.proofs.Common.{◌≡◌, ◌∙◌, ◌+◌, ◌-◌, ◌<◌, ℕ, suc, true, false, List, [], ◌∷◌, ◌++◌, Some, add-one, length, take, take-suc, take_all, get_or, map, min, inl, inr, refl, sym, ap, subst, append_assoc, append-nil, arith}
 use Rattle.std.specs.List.{range_with_len}
-use Rattle.std.proofs.Math.Seq.{take-append_seam}
+use Rattle.std.specs.Prelude.{slice_get}
+use Rattle.std.proofs.Math.Seq.{get_or-append_seam, take-append_seam}
 use Rattle.std.proofs.lemmas.List.{map_push, length_push, take_min}
 use Rattle.std.proofs.lemmas.List.Elements.{All-push, All-take}
+use Rattle.std.proofs.lemmas.Option.{slice_get_read}
 use Rattle.lock_modes.specs.declared.Mode.{Mode}
 use Rattle.lock_rules.specs.declared.calls.Call.{Call}
 use Rattle.lock_rules.specs.declared.calls.Reply.{Reply}
@@ -18,7 +20,7 @@ use Rattle.lock_trace.specs.Histories.{row_of_entry}
 use Rattle.lock_shell.specs.Replies.{IsReplied, text_of_reply}
 use Rattle.lock_desk.specs.BookView.{BookView}
 use Rattle.history_commands.proofs.IsVerdict.{fewer, grown as grown_front, one_more}
-use Rattle.lock_desk.specs.Paths.{grants, last_reply, lock_of_level, stops}
+use Rattle.lock_desk.specs.Paths.{grants, lock_of_level}
 use Rattle.lock_desk.proofs.Blockers.{one-behind}
 use Rattle.lock_shell.specs.Turns.{AreGranted, AreReplied, HasServed, HasServedPath, HasServedRows, IsUndone, path_row}
 use Rattle.lock_shell.specs.inner.Desks.{AreAlike, kept_in}
@@ -127,17 +129,20 @@ levels_more n s r m level front back more e old mid new h k is granted = record 
   told = served_more n front back more h.served e old mid new h.told k;
 }
 
--- the reply of the last entry
-last_pushed : (es : List Entry) (e : Entry) → last_reply (es ++ e ∷ []) ≡ Some e.reply
-last_pushed [] e = refl
-last_pushed (x ∷ []) e = refl
-last_pushed (x ∷ y ∷ ys) e = last_pushed (y ∷ ys) e
+-- how many entries are in front of the last one
+all_but_one : (es : List Entry) (e : Entry) → length (es ++ e ∷ []) - 1 ≡ length es
+all_but_one es e = omega (arith, length_push es e)
 
 -- the entries without the last one
 but_last : (es : List Entry) (e : Entry) → take (length (es ++ e ∷ []) - 1) (es ++ e ∷ []) ≡ es
-but_last es e =
-    let count : length (es ++ e ∷ []) - 1 ≡ length es = omega (arith, length_push es e) in
-    ap (λ (i : ℕ). take i (es ++ e ∷ [])) count ∙ take-append_seam es (e ∷ [])
+but_last es e = ap (λ (i : ℕ). take i (es ++ e ∷ [])) (all_but_one es e) ∙ take-append_seam es (e ∷ [])
+
+-- the last one
+last_is : (es : List Entry) (e : Entry) → slice_get (es ++ e ∷ []) (length (es ++ e ∷ []) - 1) ≡ Some e
+last_is es e =
+    let all = es ++ e ∷ [] in
+    let at : e ≡ get_or all (length es) e = sym (get_or-append_seam es e [] e) in
+    ap (slice_get all) (all_but_one es e) ∙ slice_get_read all (length all) (length es) e refl (omega (arith, length_push es e)) at
 
 -- one level more was served, and not granted: the path stops
 pub levels_stop : (n s : ℕ) (r : List ℕ) (m : Mode) (level : ℕ) (front back more : List Entry) (e : Entry) (old mid new : List ℕ)
@@ -150,7 +155,7 @@ levels_stop n s r m level front back more e old mid new h k is lt denied =
       few = omega (arith, count, lt);
       calls = rows_of_levels s r m level h.served e h.calls is ∙ ap (λ (i : ℕ). map (path_row s r m) (range_with_len 1 i)) (sym count);
       goes_on = subst AreGranted (sym (but_last h.served e)) h.granted;
-      ends = inr (ap stops (last_pushed h.served e) ∙ ap not denied);
+      ends = inr (e, (last_is h.served e, denied));
       told = served_more n front back more h.served e old mid new h.told k;
     }
 

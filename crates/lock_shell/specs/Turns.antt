@@ -8,7 +8,7 @@ use Rattle.lock_rules.specs.Legal.{IsLegal}
 use Rattle.lock_trace.specs.declared.trace_row.TraceRow.{TraceRow}
 use Rattle.lock_trace.specs.Histories.{row_of_entry}
 use Rattle.lock_trace.specs.Rows.{IsRow}
-use Rattle.lock_desk.specs.Paths.{grants, last_reply, lock_of_level, stops}
+use Rattle.lock_desk.specs.Paths.{grants, lock_of_level}
 use Rattle.lock_report.specs.declared.snapshot.Doom.{Doom}
 use Rattle.command_line.specs.declared.args.Form.TheVariants as form
 use Rattle.history_commands.specs.Explaining.{IsAccount, answer_in, doom_answered, is_poll}
@@ -67,7 +67,7 @@ pub record HasServedPath (n s : ℕ) (r : List ℕ) (m : Mode) (front back : Lis
   pub few : length served ≤ length r
   pub calls : map row_of_entry served ≡ map (path_row s r m) (range_with_len 1 (length served))
   pub goes_on : AreGranted (take (length served - 1) served)
-  pub ends : (length served ≡ length r) ⊎ (stops (last_reply served) ≡ true)
+  pub ends : (length served ≡ length r) ⊎ ((e : Entry) × ((slice_get served (length served - 1) ≡ Some e) × (grants e.reply ≡ false)))
   pub told : HasServed n front back served old new
 
 -- the history grew by the calls of these rows, and the text by their lines

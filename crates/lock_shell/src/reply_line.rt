@@ -196,16 +196,6 @@ fn put_doomed(out: &mut String, session: u16) -> Result<(), NoMemory>
     put_fate(out, session)
 }
 
-/// Writes the lines of the victims.
-fn put_victims(out: &mut String, victims: &[Party]) -> Result<(), NoMemory>
-    ensures { OnOk result (string_bytes out.new ≡ string_bytes out.old ++ flat_map line_of_victim victims.now) }
-{
-    for victim in victims {
-        put_doomed(out, victim.session)?;
-    }
-    Ok(())
-}
-
 /// Writes the beginning of the line of a request of another session that the call grants.
 fn put_grantee(out: &mut String, session: u16) -> Result<(), NoMemory>
     ensures { OnOk result (string_bytes out.new ≡ string_bytes out.old ++ (codes "  session " ++ decimal session ++ codes " is granted its request ")) }
@@ -220,6 +210,16 @@ fn put_granted(out: &mut String, request: &Claim) -> Result<(), NoMemory>
     put_grantee(out, request.session)?;
     put_request(out, request)?;
     put_words(out, "\n")
+}
+
+/// Writes the lines of the victims.
+fn put_victims(out: &mut String, victims: &[Party]) -> Result<(), NoMemory>
+    ensures { OnOk result (string_bytes out.new ≡ string_bytes out.old ++ flat_map line_of_victim victims.now) }
+{
+    for victim in victims {
+        put_doomed(out, victim.session)?;
+    }
+    Ok(())
 }
 
 /// Writes the lines of the requests of other sessions that the call grants.
