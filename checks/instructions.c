@@ -1,7 +1,11 @@
 /* For checks/instructions.py, which counts the instructions of one function alone. Usage: instructions WHAT TIMES. WHAT is
        locks      passes of an office serve 32 compatible locks each: pass_of_locks
        performs   one thread makes transactions of a begin, a lock and a commit: perform_transaction, of three calls
-       wakes      the same, in an office with a waker, which wakes nobody since nobody waits */
+       wakes      the same, in an office with a waker, which wakes nobody since nobody waits
+       calls      one thread makes transfers of seven calls: a commit, a begin, a database and a file in IX and a page in X, another file
+                  and a page of it: make_transfer
+       programs   the same by two programs: make_transfer
+       served     the same seven calls of a book: make_transfer */
 #include "pelgaisti.h"
 #include <stdlib.h>
 #include <string.h>
@@ -69,6 +73,60 @@ static void performs(long transactions) {
     for (long k = 0; k < transactions; k++) perform_transaction(calls);
 }
 
+enum { TRANSFER_CALLS = 7, TRANSFER_PROGRAMS = 2 };
+
+static const pelgaisti_call transfer_calls[TRANSFER_CALLS] = {
+    {PELGAISTI_COMMIT, 0, {0, {0}}},             {PELGAISTI_BEGIN, 0, {0, {0}}},
+    {PELGAISTI_LOCK, PELGAISTI_IX, {1, {1}}},    {PELGAISTI_LOCK, PELGAISTI_IX, {2, {1, 2}}},
+    {PELGAISTI_LOCK, PELGAISTI_X, {3, {1, 2, 3}}}, {PELGAISTI_LOCK, PELGAISTI_IX, {2, {1, 4}}},
+    {PELGAISTI_LOCK, PELGAISTI_X, {3, {1, 4, 5}}}};
+
+static const pelgaisti_program transfer_programs[TRANSFER_PROGRAMS] = {
+    {PELGAISTI_COMMITS_AND_BEGINS, 1, PELGAISTI_IX, {PELGAISTI_LOCK, PELGAISTI_X, {3, {1, 2, 3}}}},
+    {PELGAISTI_NOTHING, 2, PELGAISTI_IX, {PELGAISTI_LOCK, PELGAISTI_X, {3, {1, 4, 5}}}}};
+
+static pelgaisti_book book;
+
+static void transfer_of_calls(void) {
+    pelgaisti_answer answer;
+    for (int k = 0; k < TRANSFER_CALLS; k++) {
+        if (pelgaisti_session_perform(&sessions[0], &transfer_calls[k], UINT64_MAX, &answer) != PELGAISTI_OK) exit(11);
+        if (answer.reply.kind == PELGAISTI_REFUSED) exit(12);
+    }
+}
+
+static void transfer_of_programs(void) {
+    pelgaisti_program_answer answer;
+    for (int k = 0; k < TRANSFER_PROGRAMS; k++) {
+        if (pelgaisti_session_run(&sessions[0], &transfer_programs[k], UINT64_MAX, &answer) != PELGAISTI_OK) exit(13);
+        if (answer.stop || answer.served != (k ? 2 : 5)) exit(14);
+    }
+}
+
+static void transfer_of_a_book(void) {
+    pelgaisti_reply reply;
+    for (int k = 0; k < TRANSFER_CALLS; k++) {
+        if (pelgaisti_book_serve(&book, 1, &transfer_calls[k], &reply) != PELGAISTI_OK) exit(15);
+        if (reply.kind == PELGAISTI_REFUSED) exit(16);
+    }
+}
+
+__attribute__((noinline)) void make_transfer(void (*way)(void));
+
+/* A function of its own, by whose name its instructions are counted. */
+__attribute__((noinline)) void make_transfer(void (*way)(void)) { way(); }
+
+static void transfers(const char *way, long times) {
+    static const pelgaisti_call begin = {PELGAISTI_BEGIN, 0, {0, {0}}};
+    pelgaisti_answer answer;
+    pelgaisti_reply reply;
+    if (pelgaisti_session_perform(&sessions[0], &begin, UINT64_MAX, &answer) != PELGAISTI_OK) exit(17);
+    if (pelgaisti_book_open(&book, LOCKERS + 1) != PELGAISTI_OK || pelgaisti_book_keep_at_most(&book, 64) != PELGAISTI_OK) exit(18);
+    if (pelgaisti_book_serve(&book, 1, &begin, &reply) != PELGAISTI_OK) exit(19);
+    for (long k = 0; k < times; k++)
+        make_transfer(!strcmp(way, "calls") ? transfer_of_calls : !strcmp(way, "programs") ? transfer_of_programs : transfer_of_a_book);
+}
+
 static void wake_nobody(void *engine, uint32_t session) {
     (void)engine;
     (void)session;
@@ -83,6 +141,7 @@ int main(int argc, char **argv) {
                                         : pelgaisti_office_open_keeping(sessions, LOCKERS + 1, 64);
     if (status != PELGAISTI_OK) return 1;
     if (argc == 3 && !strcmp(argv[1], "locks")) locks(times);
-    else performs(times);
+    else if (argc == 3 && (!strcmp(argv[1], "performs") || is_waking)) performs(times);
+    else if (argc == 3) transfers(argv[1], times);
     return 0;
 }

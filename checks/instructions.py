@@ -6,7 +6,8 @@ Usage: checks/instructions.py [--over-gate]
 Each case has calls that go a fast way, and a bound on the instructions of one of them. Under callgrind lock_bench serves the calls
 behind what leads up to them, and what leads up alone, each once and twice: the count is the difference of the differences. Locks
 of a batch are served by a pass of an office, through the library for C (checks/instructions.c), and calls of one thread are
-performed at once, with no waker and with one that has nobody to wake. A bound is some 20 per cent above
+performed at once, with no waker and with one that has nobody to wake. A transfer is made by single calls and by programs of an
+office, and by a book: what an office takes beyond the book is its hand-over. A bound is some 20 per cent above
 what was counted when it was set (more for the smallest count), and below what the calls cost without the fast way, as tried in
 builds in which it was broken; for locks of a batch, with locks of two databases in turn, which make no run; for a second holder,
 with the least that two requests for memory take. If calls have become dearer for a good reason, set the bound anew.
@@ -122,6 +123,10 @@ THROUGH_C = [
     ("a call is performed at once in an office with a waker", "wakes", "perform_transaction", 2000, 3, 850),
 ]
 
+# A transfer of seven calls: by single calls, by two programs. What an office takes beyond a book, by programs, of that by calls.
+TRANSFERS = ("calls", 9000), ("programs", 7000)
+MOST_OF_CALLS = 0.5
+
 
 def counted(words, *flags, given=subprocess.DEVNULL):
     """The instructions of a command, as callgrind counts them."""
@@ -179,6 +184,12 @@ def instructions_through_c(case, program):
     return counted([program, what, str(times)], f"--toggle-collect={function}") / (times * calls)
 
 
+def instructions_of_a_transfer(way, program):
+    """The instructions of a transfer, made this way."""
+    times = 500
+    return counted([program, way, str(times)], "--toggle-collect=make_transfer") / times
+
+
 def peak(trace, folder):
     """The peak memory of a replay, in KiB. It is at least that of this process, which so keeps no rows."""
     file = folder / "memory.csv"
@@ -231,6 +242,12 @@ def main():
             dear = pool.map(lambda case: instructions_of_a_dear_call(case, folder), DEAREST)
             for (name, *_, most), instructions in zip(CASES + DEAREST + THROUGH_C, [*found, *dear, *through_c]):
                 judge(name, instructions, most, "instructions")
+            ways = ["served", *(way for way, _ in TRANSFERS)]
+            transfers = dict(zip(ways, pool.map(lambda way: instructions_of_a_transfer(way, program), ways)))
+            for way, most in TRANSFERS:
+                judge(f"a transfer by {way} of an office", transfers[way], most, "instructions")
+            handed = {way: transfers[way] - transfers["served"] for way, _ in TRANSFERS}
+            judge("hand-over of a transfer by programs", handed["programs"] / handed["calls"], MOST_OF_CALLS, "of that by calls", digits=2)
         few, new = (peak(transactions(databases), folder) for databases in (8, 100_000))
         judge("idle cells serve ever new resources", new / few, MOST_MEMORY, "times the memory of few", digits=2)
     left_out = "" if has_valgrind else "; instructions left out, since valgrind isn't on the path"
