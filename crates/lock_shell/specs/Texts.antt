@@ -62,7 +62,7 @@ name_of_kind kind.Value = codes "Value"
 
 -- the first row of a trace that can't be read, by its number, and its fault
 abbrev pub text_of_bad_row : TraceFault → List ℕ
-text_of_bad_row fault = codes "can't load this trace: row " ++ decimal fault.row ++ codes ": " ++ name_of_kind fault.kind ++ codes "\n"
+text_of_bad_row fault = (codes "can't load this trace: row " ++ decimal fault.row) ++ (codes ": " ++ name_of_kind fault.kind ++ codes "\n")
 
 -- the text says why none of a file's calls was served: for what reason the file can't be opened, or that it has no calls, or which of
 -- its rows, counted from 1, can't be read

@@ -4,7 +4,7 @@ ghost use Rattle.std.specs.Prelude.{◌≡◌, ℕ, List, ◌++◌, length, Some
 ghost use Rattle.lock_shell.specs.Texts.{IsSaved, text_of_bad_row, text_of_save};
 ghost use Rattle.lock_shell.specs.inner.Asked.{AreLoaded, AreRead, IsFound, IsNotRead};
 
-use crate::texts::{NO_CALLS, kind_name};
+use crate::texts::{NO_CALLS, kind_name, put_bad_row, put_fault};
 use crate::trace_text::trace_text;
 use file_streams::NewFile;
 use lock_desk::{Entry, NoMemory};
@@ -81,9 +81,10 @@ pub(crate) enum Loaded {
 fn bad_row_line(alloc: Global, fault: &TraceFault) -> Result<String, NoMemory>
     ensures { IfOk result (λ line. string_bytes line ≡ text_of_bad_row fault.now) }
 {
-    let row = fault.row;
-    let name = kind_name(fault.kind);
-    format!(in alloc; "can't load this trace: row {row}: {name}\n")
+    let mut line = String::new(alloc);
+    put_bad_row(&mut line, fault.row)?;
+    put_fault(&mut line, kind_name(fault.kind))?;
+    Ok(line)
 }
 
 /// What was read, if it is these rows. Fails if memory is refused.

@@ -1,11 +1,13 @@
-//! Texts that never change.
+//! The texts of answers that tell of no call.
 
-ghost use Rattle.std.specs.Prelude.{◌≡◌, ◌++◌, codes};
+ghost use Rattle.std.specs.Prelude.{◌≡◌, ◌++◌, OnOk, codes, decimal, string_bytes};
 ghost use Rattle.lock_shell.specs.Texts.{name_of_kind, name_of_path_fault, text_of_unread};
 
 use crate::line::Unread;
 use lock_trace::TraceKind;
 use lock_tree::PathFault;
+use std::alloc::AllocError as NoMemory;
+use std::fmt::Write;
 
 /// The first line of a shell.
 pub(crate) const GREETING: &str =
@@ -95,4 +97,18 @@ pub(crate) fn kind_name(kind: TraceKind) -> &'static str
         TraceKind::Reply => "Reply",
         TraceKind::Value => "Value",
     }
+}
+
+/// Writes the number of a row that can't be read.
+pub(crate) fn put_bad_row(out: &mut String, row: u64) -> Result<(), NoMemory>
+    ensures { OnOk result (string_bytes out.new ≡ string_bytes out.old ++ (codes "can't load this trace: row " ++ decimal row)) }
+{
+    write!(out, "can't load this trace: row {row}")
+}
+
+/// Writes the name of a fault, behind the number of its row.
+pub(crate) fn put_fault(out: &mut String, name: &str) -> Result<(), NoMemory>
+    ensures { OnOk result (string_bytes out.new ≡ string_bytes out.old ++ (codes ": " ++ name.now ++ codes "\n")) }
+{
+    writeln!(out, ": {name}")
 }
