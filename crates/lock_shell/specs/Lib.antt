@@ -1,4 +1,5 @@
 -- What public contracts speak of.
+pub mod Lines
 pub mod Replies
 pub mod Texts
 pub mod Turns

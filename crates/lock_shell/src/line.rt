@@ -1,9 +1,11 @@
 //! What a line asks for.
 
-ghost use Rattle.std.specs.Prelude.{ℕ, IfOk};
+ghost use Rattle.std.specs.Prelude.{◌≡◌, ℕ, [], map, IfOk, codes};
+ghost use Rattle.lock_trace.specs.Traces.{trace_of};
+ghost use Rattle.lock_shell.specs.Lines.{Asks, AsksFile, AsksTwo, call_asked, first_row, path_asked, row_asked, row_read, row_text, why_asked, word_asked, words_of};
 ghost use Rattle.lock_shell.specs.inner.Asked.{IsAsked, IsSession};
 
-use crate::words::{is_word, words_of};
+use crate::words::{is_comment, is_word, words_of};
 use lock_modes::Mode;
 use lock_rules::Call;
 use lock_trace::{TraceKind, TraceRow, read_trace};
@@ -59,7 +61,9 @@ fn row_text(
     op: &[u8],
     resource: &[u8],
     mode: &[u8],
-) -> Result<Vec<u8>, NoMemory> {
+) -> Result<Vec<u8>, NoMemory>
+    ensures { IfOk result (λ text. text.items ≡ row_text session.now op.now resource.now mode.now) }
+{
     let mut text = Vec::new(alloc);
     text.extend_from_slice(session)?;
     text.push(b',')?;
@@ -81,7 +85,8 @@ fn row_read(
     text: &[u8],
     sessions: u16,
 ) -> Result<Result<TraceRow, TraceKind>, NoMemory>
-    ensures { IfOk result (λ read. IfOk read (λ row. IsSession sessions row.session)) }
+    ensures session { IfOk result (λ read. IfOk read (λ row. IsSession sessions row.session)) }
+    ensures row { IfOk result (λ read. read ≡ first_row (trace_of sessions text.now)) }
 {
     match read_trace(alloc, text, sessions) {
         Ok(rows) => match rows.as_slice() {
@@ -89,14 +94,56 @@ fn row_read(
             [] => Ok(Err(TraceKind::Shape)),
         },
         Err(fault) => match fault.kind {
-            TraceKind::NoMemory => Err(NoMemory),
+            // a text in memory doesn't fail as a device
+            TraceKind::NoMemory | TraceKind::Device => Err(NoMemory),
             kind => Ok(Err(kind)),
         },
     }
 }
 
+/// Reads the row of a trace with these fields. Fails if memory is refused.
+fn fields_read(
+    alloc: Global,
+    session: &[u8],
+    op: &[u8],
+    resource: &[u8],
+    mode: &[u8],
+    sessions: u16,
+) -> Result<Result<TraceRow, TraceKind>, NoMemory>
+    ensures session { IfOk result (λ read. IfOk read (λ row. IsSession sessions row.session)) }
+    ensures row { IfOk result (λ read. read ≡ row_read sessions session.now op.now resource.now mode.now) }
+{
+    let text = row_text(alloc, session, op, resource, mode)?;
+    row_read(alloc, &text, sessions)
+}
+
+/// What a row asks for.
+fn call_of<'a>(read: Result<TraceRow, TraceKind>) -> Asked<'a>
+    ensures asked { (sessions : ℕ) → IfOk read (λ row. IsSession sessions row.session) → IsAsked sessions result }
+    ensures call { result ≡ call_asked read }
+{
+    match read {
+        Ok(row) => Asked::Call(row),
+        Err(kind) => Asked::Unreadable(Unread::Call(kind)),
+    }
+}
+
+/// What a row asks for whose op was `path`, and was read as `lock`.
+fn path_of<'a>(read: Result<TraceRow, TraceKind>) -> Asked<'a>
+    ensures asked { (sessions : ℕ) → IfOk read (λ row. IsSession sessions row.session) → IsAsked sessions result }
+    ensures path { result ≡ path_asked read }
+{
+    match read {
+        Ok(row) => match row.call {
+            Call::Lock(resource, mode) => Asked::Path(row.session, resource, mode),
+            _ => Asked::Call(row),
+        },
+        Err(kind) => Asked::Unreadable(Unread::Call(kind)),
+    }
+}
+
 /// Reads a call. Fails if memory is refused.
-fn call_asked<'a>(
+fn row_asked<'a>(
     alloc: Global,
     session: &[u8],
     op: &[u8],
@@ -104,28 +151,23 @@ fn call_asked<'a>(
     mode: &[u8],
     sessions: u16,
 ) -> Result<Asked<'a>, NoMemory>
-    ensures { IfOk result (IsAsked sessions) }
+    ensures asked { IfOk result (IsAsked sessions) }
+    ensures row { IfOk result (λ asked. asked ≡ row_asked sessions session.now op.now resource.now mode.now) }
 {
-    let is_path = is_word(op, "path");
-    let op = if is_path { b"lock".as_slice() } else { op };
-    let text = row_text(alloc, session, op, resource, mode)?;
-    match row_read(alloc, &text, sessions)? {
-        Ok(row) => match &row.call {
-            Call::Lock(resource, mode) if is_path => {
-                Ok(Asked::Path(row.session, *resource, *mode))
-            }
-            _ => Ok(Asked::Call(row)),
-        },
-        Err(kind) => Ok(Asked::Unreadable(Unread::Call(kind))),
+    if is_word(op, "path") {
+        let read = fields_read(alloc, session, b"lock", resource, mode, sessions)?;
+        return Ok(path_of(read));
     }
+    let read = fields_read(alloc, session, op, resource, mode, sessions)?;
+    Ok(call_of(read))
 }
 
 /// Reads the session of a `why`. Fails if memory is refused.
 fn why_asked<'a>(alloc: Global, session: &[u8], sessions: u16) -> Result<Asked<'a>, NoMemory>
-    ensures { IfOk result (IsAsked sessions) }
+    ensures asked { IfOk result (IsAsked sessions) }
+    ensures why { IfOk result (λ asked. asked ≡ why_asked (row_read sessions session.now (codes "poll") [] [])) }
 {
-    let text = row_text(alloc, session, b"poll", b"", b"")?;
-    match row_read(alloc, &text, sessions)? {
+    match fields_read(alloc, session, b"poll", b"", b"", sessions)? {
         Ok(row) => Ok(Asked::Why(row.session)),
         Err(_) => Ok(Asked::Unreadable(Unread::Session)),
     }
@@ -133,7 +175,8 @@ fn why_asked<'a>(alloc: Global, session: &[u8], sessions: u16) -> Result<Asked<'
 
 /// Reads a word of the shell that stands alone.
 fn word_asked<'a>(word: &[u8]) -> Asked<'a>
-    ensures { (sessions : ℕ) → IsAsked sessions result }
+    ensures asked { (sessions : ℕ) → IsAsked sessions result }
+    ensures word { result ≡ word_asked word.now }
 {
     if is_word(word, "show") {
         return Asked::Show;
@@ -158,7 +201,8 @@ fn word_asked<'a>(word: &[u8]) -> Asked<'a>
 
 /// Reads the name of a file, to which or from which calls are written or read.
 fn file_asked<'a>(saves: bool, name: &'a [u8]) -> Asked<'a>
-    ensures { (sessions : ℕ) → IsAsked sessions result }
+    ensures asked { (sessions : ℕ) → IsAsked sessions result }
+    ensures file { AsksFile saves name.now result }
 {
     match std::str::from_utf8(name) {
         Ok(path) if saves => Asked::Save(path),
@@ -174,15 +218,33 @@ fn two_asked<'a>(
     second: &'a [u8],
     sessions: u16,
 ) -> Result<Asked<'a>, NoMemory>
-    ensures { IfOk result (IsAsked sessions) }
+    ensures asked { IfOk result (IsAsked sessions) }
+    ensures two { IfOk result (AsksTwo sessions first.now second.now) }
 {
     if is_word(first, "why") {
         return why_asked(alloc, second, sessions);
     }
-    if is_word(first, "save") || is_word(first, "load") {
-        return Ok(file_asked(is_word(first, "save"), second));
+    let saves = is_word(first, "save");
+    if saves || is_word(first, "load") {
+        return Ok(file_asked(saves, second));
     }
-    call_asked(alloc, first, second, b"", b"", sessions)
+    row_asked(alloc, first, second, b"", b"", sessions)
+}
+
+/// Reads words, of which the first begins no comment. Fails if memory is refused.
+fn words_asked<'a>(alloc: Global, words: &[&'a [u8]], sessions: u16) -> Result<Asked<'a>, NoMemory>
+    ensures asked { IfOk result (IsAsked sessions) }
+    ensures words { IfOk result (Asks sessions (map (λ w. w.now) words.now)) }
+{
+    match words {
+        [] => Ok(Asked::Nothing),
+        [first, ..] if is_comment(first) => Ok(Asked::Nothing),
+        [word] => Ok(word_asked(word)),
+        [first, second] => two_asked(alloc, first, second, sessions),
+        [session, op, resource] => row_asked(alloc, session, op, resource, b"", sessions),
+        [session, op, resource, mode] => { row_asked(alloc, session, op, resource, mode, sessions) }
+        _ => Ok(Asked::Unreadable(Unread::Long)),
+    }
 }
 
 /// Reads a line for a shell of sessions 1 to `sessions`. Fails if memory is refused.
@@ -191,18 +253,9 @@ pub(crate) fn asked_by<'a>(
     line: &'a [u8],
     sessions: u16,
 ) -> Result<Asked<'a>, NoMemory>
-    ensures { IfOk result (IsAsked sessions) }
+    ensures asked { IfOk result (IsAsked sessions) }
+    ensures words { IfOk result (Asks sessions (words_of line.now)) }
 {
     let words = words_of(alloc, line)?;
-    match words.as_slice() {
-        [] => Ok(Asked::Nothing),
-        [first, ..] if first.starts_with(b"#") => Ok(Asked::Nothing),
-        [word] => Ok(word_asked(word)),
-        [first, second] => two_asked(alloc, first, second, sessions),
-        [session, op, resource] => call_asked(alloc, session, op, resource, b"", sessions),
-        [session, op, resource, mode] => {
-            call_asked(alloc, session, op, resource, mode, sessions)
-        }
-        _ => Ok(Asked::Unreadable(Unread::Long)),
-    }
+    words_asked(alloc, &words, sessions)
 }
