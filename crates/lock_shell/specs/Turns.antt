@@ -1,6 +1,7 @@
 -- What a shell answers to a line, and what this does to the history that it keeps.
-use Rattle.std.specs.Prelude.{◌≡◌, ◌⊎◌, ℕ, ◌-◌, ◌<◌, ◌≤◌, ◌==◌, Bool, true, false, not, ◌&&◌, List, [], ◌∷◌, ◌++◌, length, map, take, slice_get, All, Option, Some, None}
+use Rattle.std.specs.Prelude.{◌≡◌, ◌⊎◌, ℕ, ◌-◌, ◌^◌, ◌<◌, ◌≤◌, ◌==◌, Bool, true, false, not, ◌&&◌, List, [], ◌∷◌, ◌++◌, length, map, take, slice_get, All, Option, Some, None, IfSome}
 use Rattle.std.specs.List.{flat_map, range_with_len}
+use Rattle.std.specs.Io.BufRead.{drop_through, take_through}
 use Rattle.std.specs.Io.KnownBytes.{Appends}
 use Rattle.lock_modes.specs.declared.Mode.{Mode}
 use Rattle.lock_rules.specs.Entries.{Entry}
@@ -19,6 +20,7 @@ use Rattle.replay_commands.specs.declared.tool_fault.ToolFault.TheVariants as to
 use Rattle.lock_shell.specs.declared.line.Asked.{Asked}
 use Rattle.lock_shell.specs.declared.line.Asked.TheVariants as asked
 use Rattle.lock_shell.specs.declared.texts.TheConstants.{GREETING, HELP, NO_CALL}
+use Rattle.lock_shell.specs.Lines.{Asks, words_of}
 use Rattle.lock_shell.specs.Replies.{IsReplied}
 use Rattle.lock_shell.specs.Texts.{IsNotLoaded, IsSaved, text_of_undo, text_of_unread}
 
@@ -136,14 +138,16 @@ IsAnswer n asked.Help old new text = IsUnchanged old new × (text ≡ HELP.now)
 IsAnswer n asked.Quit old new text = IsUnchanged old new × (text ≡ [])
 IsAnswer n (asked.Unreadable why) old new text = IsUnchanged old new × (text ≡ text_of_unread why)
 
--- a line that was answered: what it asks for, what the shell keeps behind it, and the text of the answer
+-- a line that was answered: its bytes, what it asks for, what the shell keeps behind it, and the text of the answer
 pub record Turn : Type 0 where
+  pub line : List ℕ
   pub asks : Asked
   pub back : Kept
   pub text : List ℕ
 
--- with sessions 1 to n, the turn answers its line, and the history that it leaves is legal
+-- with sessions 1 to n, the turn answers what its line asks for, and the history that it leaves is legal
 pub record IsTurn (n : ℕ) (front : Kept) (t : Turn) : Type 0 where
+  pub asked : Asks n (words_of t.line) t.asks
   pub answer : IsAnswer n t.asks front t.back t.text
   pub legal : IsLegal t.back.history
 
@@ -160,16 +164,37 @@ answers_of ts = flat_map (λ (t : Turn). t.text) ts
 abbrev pub text_of_turns : List Turn → List ℕ
 text_of_turns ts = GREETING.now ++ answers_of ts
 
--- for so many turns, the output grew by what a shell of the sessions 1 to n writes in them, and by nothing else
-pub record HasTalked (n count : ℕ) (old new : Option (List ℕ)) : Type 0 where
+-- the first lines of these bytes are those of the turns, and these bytes are left behind them
+abbrev pub AreLines : List ℕ → List Turn → List ℕ → Type 0
+AreLines bytes [] left = left ≡ bytes
+AreLines bytes (t ∷ ts) left = (t.line ≡ take_through 10 bytes) × AreLines (drop_through 10 bytes) ts left
+
+-- no line is left, or the next one asks to end
+abbrev pub IsEnded : ℕ → List ℕ → Type 0
+IsEnded n left = (left ≡ []) ⊎ Asks n (words_of (take_through 10 left)) asked.Quit
+
+-- the turns answer the lines of the input, if its bytes are known, up to its end or to a line that asks to end, or the count is at its
+-- greatest
+abbrev pub AnswerAll : ℕ → ℕ → Option (List ℕ) → List Turn → Type 0
+AnswerAll n count input ts = IfSome input (λ bytes. (left : List ℕ) × (AreLines bytes ts left × (IsEnded n left ⊎ (count ≡ 2 ^ 64 - 1))))
+
+-- the turns answer the first lines of the input, if its bytes are known
+abbrev pub AnswerFirst : Option (List ℕ) → List Turn → Type 0
+AnswerFirst input ts = IfSome input (λ bytes. (left : List ℕ) × AreLines bytes ts left)
+
+-- for so many turns, which answer the lines of the input, the output grew by what a shell of the sessions 1 to n writes in them, and by
+-- nothing else
+pub record HasTalked (n count : ℕ) (input old new : Option (List ℕ)) : Type 0 where
   pub turns : List Turn
   pub counted : length turns ≡ count
+  pub lines : AnswerAll n count input turns
   pub answered : AreTurns n nothing_kept turns
   pub written : Appends old new (text_of_turns turns)
 
--- for some turns, the output grew by the first bytes of it, and by nothing else
-pub record HasTalkedPart (n : ℕ) (old new : Option (List ℕ)) : Type 0 where
+-- for some turns, which answer the first lines of the input, the output grew by the first bytes of it, and by nothing else
+pub record HasTalkedPart (n : ℕ) (input old new : Option (List ℕ)) : Type 0 where
   pub turns : List Turn
+  pub lines : AnswerFirst input turns
   pub answered : AreTurns n nothing_kept turns
   pub written : AppendsPart old new (text_of_turns turns)
 

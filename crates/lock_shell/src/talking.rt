@@ -1,12 +1,14 @@
 //! The loop of a shell, from line to line.
 
-ghost use Rattle.std.specs.Prelude.{◌≡◌, ◌⊎◌, ◌<◌, ◌≤◌, true, false, IfOk, IfErr, IfSome, OnOk, OnErr};
+ghost use Rattle.std.specs.Prelude.{◌≡◌, ◌⊎◌, ◌<◌, ◌≤◌, true, false, IfOk, IfErr, IfNone, IfSome, OnOk, OnErr};
 ghost use Rattle.std.specs.Io.KnownBytes.{Appends};
 ghost use Rattle.lock_rules.specs.declared.calls.TheConstants.{MAX_SESSIONS};
 ghost use Rattle.replay_commands.specs.Written.{AppendsPart};
+ghost use Rattle.lock_shell.specs.declared.line.Asked.TheVariants as Asked;
 ghost use Rattle.lock_shell.specs.declared.texts.TheConstants.{GREETING};
-ghost use Rattle.lock_shell.specs.Turns.{HasTalked, HasTalkedPart, IsFaultOfShell, Kept};
-ghost use Rattle.lock_shell.specs.inner.Answered.{HasAnswered, HasAnsweredPart, HasTurned, HasTurnedPart, IsTurned};
+ghost use Rattle.lock_shell.specs.Lines.{Asks, words_of};
+ghost use Rattle.lock_shell.specs.Turns.{HasTalked, HasTalkedPart, IsFaultOfShell};
+ghost use Rattle.lock_shell.specs.inner.Answered.{HasAnsweredAll, HasAnsweredPart, HasTurned, HasTurnedPart, IsEndOf, IsTurned, TakesNext};
 ghost use Rattle.lock_shell.specs.inner.Desks.{AreAlike, kept_in};
 
 use crate::answer::answer;
@@ -22,6 +24,7 @@ use std::io::{BufRead, BufReader, ErrorKind, Read, Write};
 
 /// Reads the next line. `None` at the end of the input.
 fn next_line<R: BufRead>(alloc: Global, reader: &mut R) -> Result<Option<Vec<u8>>, ToolFault>
+    ensures line { IfOk result (TakesNext (R.remaining reader.old) (R.remaining reader.new)) }
     ensures faults { IfErr result IsFaultOfShell }
 {
     let mut line = Vec::new(alloc);
@@ -44,18 +47,19 @@ fn answer_line<T: Files>(
 ) -> Result<Option<Vec<u8>>, NoMemory>
     requires alike { AreAlike desk.old.after.sessions desk.old.before desk.old.after }
     ensures alike { IfOk result (λ answered. IfSome answered (λ text. AreAlike desk.old.after.sessions desk.new.before desk.new.after)) }
-    ensures turn { IfOk result (λ answered. IfSome answered (λ text. IsTurned desk.old.after.sessions (kept_in desk.old.after marks.old.items) (kept_in desk.new.after marks.new.items) text.items)) }
+    ensures turn { IfOk result (λ answered. IfSome answered (λ text. IsTurned desk.old.after.sessions (kept_in desk.old.after marks.old.items) line.now (kept_in desk.new.after marks.new.items) text.items)) }
+    ensures quits { IfOk result (λ answered. IfNone answered (Asks desk.old.after.sessions (words_of line.now) Asked.Quit)) }
 {
-    let Ok(asked) = asked_by(alloc, line, desk.after.sessions()) else {
-        return Err(NoMemory);
-    };
-    if matches!(asked, Asked::Quit) {
-        return Ok(None);
+    let asked = asked_by(alloc, line, desk.after.sessions())?;
+    match asked {
+        Asked::Quit => Ok(None),
+        _ => {
+            let text = answer(files, alloc, desk, marks, &asked)?;
+            // called for its contract: the history is legal
+            let _ = desk.after.history();
+            Ok(Some(text))
+        }
     }
-    let text = answer(files, alloc, desk, marks, &asked)?;
-    // called for its contract: the history is legal
-    let _ = desk.after.history();
-    Ok(Some(text))
 }
 
 /// Reads a line, answers it, and writes the answer. Returns whether a line was answered: none is at the end of the input, nor is one that
@@ -71,10 +75,12 @@ fn answer_next<T: Files, R: BufRead, W: Write>(
     requires alike { AreAlike desk.old.after.sessions desk.old.before desk.old.after }
     ensures alike { IfOk result (λ went. went ≡ true → AreAlike desk.old.after.sessions desk.new.before desk.new.after) }
     ensures turn { IfOk result (λ went. went ≡ true
-        → HasTurned desk.old.after.sessions (kept_in desk.old.after marks.old.items) (kept_in desk.new.after marks.new.items) (W.contents output.old) (W.contents output.new)) }
-    ensures ended { IfOk result (λ went. went ≡ false → W.contents output.new ≡ W.contents output.old) }
+        → HasTurned desk.old.after.sessions (kept_in desk.old.after marks.old.items) (kept_in desk.new.after marks.new.items)
+        (R.remaining reader.old) (R.remaining reader.new) (W.contents output.old) (W.contents output.new)) }
+    ensures same { IfOk result (λ went. went ≡ false → W.contents output.new ≡ W.contents output.old) }
+    ensures ended { IfOk result (λ went. went ≡ false → IsEndOf desk.old.after.sessions (R.remaining reader.old)) }
     ensures part { OnErr result ((W.contents output.new ≡ W.contents output.old)
-        ⊎ HasTurnedPart desk.old.after.sessions (kept_in desk.old.after marks.old.items) (W.contents output.old) (W.contents output.new)) }
+        ⊎ HasTurnedPart desk.old.after.sessions (kept_in desk.old.after marks.old.items) (R.remaining reader.old) (W.contents output.old) (W.contents output.new)) }
     ensures faults { IfErr result IsFaultOfShell }
 {
     let Some(line) = next_line(alloc, reader)? else {
@@ -102,8 +108,8 @@ fn answer_lines<T: Files, R: BufRead, W: Write>(
     output: &mut W,
 ) -> Result<u64, ToolFault>
     requires alike { AreAlike desk.old.after.sessions desk.old.before desk.old.after }
-    ensures answered { IfOk result (λ count. (back : Kept) × HasAnswered desk.old.after.sessions count (kept_in desk.old.after marks.old.items) back (W.contents output.old) (W.contents output.new)) }
-    ensures part { OnErr result (HasAnsweredPart desk.old.after.sessions (kept_in desk.old.after marks.old.items) (W.contents output.old) (W.contents output.new)) }
+    ensures answered { IfOk result (λ count. HasAnsweredAll desk.old.after.sessions count (kept_in desk.old.after marks.old.items) (R.remaining reader.old) (W.contents output.old) (W.contents output.new)) }
+    ensures part { OnErr result (HasAnsweredPart desk.old.after.sessions (kept_in desk.old.after marks.old.items) (R.remaining reader.old) (W.contents output.old) (W.contents output.new)) }
     ensures faults { IfErr result IsFaultOfShell }
 {
     for count in 0..u64::MAX {
@@ -138,8 +144,8 @@ pub fn shell<T: Files, R: Read + Drop, W: Write>(
 ) -> Result<u64, ToolFault>
     requires some { 0 < sessions }
     requires few { sessions ≤ MAX_SESSIONS }
-    ensures talked { IfOk result (λ count. HasTalked sessions count (W.contents output.old) (W.contents output.new)) }
-    ensures part { OnErr result (HasTalkedPart sessions (W.contents output.old) (W.contents output.new)) }
+    ensures talked { IfOk result (λ count. HasTalked sessions count (R.remaining input) (W.contents output.old) (W.contents output.new)) }
+    ensures part { OnErr result (HasTalkedPart sessions (R.remaining input) (W.contents output.old) (W.contents output.new)) }
     ensures faults { IfErr result IsFaultOfShell }
 {
     let Ok(mut desk) = fresh_desk(alloc, sessions) else {
