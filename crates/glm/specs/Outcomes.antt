@@ -162,13 +162,13 @@ pub record HasAnsweredTimeline (words : List Text) (input old new : Option (List
   pub drawn : IfOk answer (λ verdict. HasDrawn sessions from to verdict old new)
   pub draws : (bytes : List ℕ) → input ≡ Some bytes → Draws sessions from to bytes old new answer
 
--- the words ask for the shell, and `answer` is the number of lines that were answered, or the fault; the output holds `old` before and
--- `new` after
-pub record HasAnsweredShell (words : List Text) (old new : Option (List ℕ)) (answer : Result ℕ ToolFault) : Type 0 where
+-- the words ask for the shell, and `answer` is the number of lines that were answered, or the fault; the input holds `input` before, the
+-- output `old` before and `new` after
+pub record HasAnsweredShell (words : List Text) (input old new : Option (List ℕ)) (answer : Result ℕ ToolFault) : Type 0 where
   pub sessions : ℕ
   pub asked : AskShell words sessions
-  pub talked : IfOk answer (λ count. HasTalked sessions count old new)
-  pub part : OnErr answer (HasTalkedPart sessions old new)
+  pub talked : IfOk answer (λ count. HasTalked sessions count input old new)
+  pub part : OnErr answer (HasTalkedPart sessions input old new)
   pub faults : IfErr answer (λ fault. IsFaultOfShell fault)
 
 -- the text of `--version`: the project's version, and the kit and the logic that it was proved with
@@ -185,7 +185,7 @@ HasDone words input old new (outcome.Check answer) = HasAnsweredCheck words inpu
 HasDone words input old new (outcome.Show answer) = HasAnsweredShow words input old new answer
 HasDone words input old new (outcome.Explain answer) = HasAnsweredExplain words input old new answer
 HasDone words input old new (outcome.Timeline answer) = HasAnsweredTimeline words input old new answer
-HasDone words input old new (outcome.Shell answer) = HasAnsweredShell words old new answer
+HasDone words input old new (outcome.Shell answer) = HasAnsweredShell words input old new answer
 HasDone words input old new outcome.HelpShown = AskHelp words
 HasDone words input old new outcome.HelpFailed = AskHelp words
 HasDone words input old new outcome.VersionShown = AskVersion words × Appends old new text_of_version
