@@ -1,7 +1,7 @@
 -- What a line asks for, by its words. The words are this project's own choice.
-use Rattle.std.specs.Prelude.{◌≡◌, ◌⊎◌, ℕ, Bool, true, false, not, ◌||◌, ◌==◌, if◌then◌else◌, List, [], ◌∷◌, ◌++◌, length, filter, map, nat_lt, Result, Ok, Err, IsUtf8, MatchBool, bytes_eq, codes}
+use Rattle.std.specs.Prelude.{◌≡◌, ◌⊎◌, ℕ, Bool, true, false, not, ◌||◌, ◌==◌, if◌then◌else◌, List, [], ◌∷◌, ◌++◌, length, filter, map, nat_eq, nat_lt, Result, Ok, Err, IsUtf8, MatchBool, bytes_eq, codes}
 use Rattle.std.specs.Char.{to_ascii_lowercase, to_ascii_uppercase}
-use Rattle.std.specs.List.{slice_split}
+use Rattle.std.specs.List.{slice_split, starts_with}
 use Rattle.lock_rules.specs.declared.calls.Call.{Call}
 use Rattle.lock_rules.specs.declared.calls.Call.TheVariants as call
 use Rattle.lock_trace.specs.declared.faults.TraceFault.{TraceFault}
@@ -32,17 +32,20 @@ is_word name w = bytes_eq (map to_ascii_lowercase w) (map to_ascii_lowercase nam
 
 -- the word begins a comment
 abbrev pub is_comment : List ℕ → Bool
-is_comment [] = false
-is_comment (b ∷ bs) = b == 35
+is_comment w = starts_with nat_eq w (codes "#")
 
 -- these words as a row of a trace, the op and the mode in any case
 abbrev pub row_text : List ℕ → List ℕ → List ℕ → List ℕ → List ℕ
 row_text s o r m = s ++ codes "," ++ map to_ascii_lowercase o ++ codes "," ++ r ++ codes "," ++ map to_ascii_uppercase m ++ codes "\n"
 
+-- the first of these rows
+abbrev pub first_of : List TraceRow → Result TraceRow TraceKind
+first_of [] = Err kind.Shape
+first_of (row ∷ rows) = Ok row
+
 -- the first of the rows that were read, or the fault
 abbrev pub first_row : Result (List TraceRow) TraceFault → Result TraceRow TraceKind
-first_row (Ok []) = Err kind.Shape
-first_row (Ok (row ∷ rows)) = Ok row
+first_row (Ok rows) = first_of rows
 first_row (Err fault) = Err fault.kind
 
 -- the row of these words, for sessions 1 to n, or the first test that it fails

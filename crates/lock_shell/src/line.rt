@@ -1,8 +1,10 @@
 //! What a line asks for.
 
-ghost use Rattle.std.specs.Prelude.{◌≡◌, ℕ, [], map, IfOk, codes};
+ghost use Rattle.std.specs.Prelude.{◌≡◌, ℕ, [], map, All, IfOk, codes};
+ghost use Rattle.lock_trace.specs.Files.{is_io_or_memory_fault};
+ghost use Rattle.lock_trace.specs.Rows.{IsRow};
 ghost use Rattle.lock_trace.specs.Traces.{trace_of};
-ghost use Rattle.lock_shell.specs.Lines.{Asks, AsksFile, AsksTwo, call_asked, first_row, path_asked, row_asked, row_read, row_text, why_asked, word_asked, words_of};
+ghost use Rattle.lock_shell.specs.Lines.{Asks, AsksFile, AsksTwo, call_asked, first_of, first_row, path_asked, row_asked, row_read, row_text, why_asked, word_asked, words_of};
 ghost use Rattle.lock_shell.specs.inner.Asked.{IsAsked, IsSession};
 
 use crate::words::{is_comment, is_word, words_of};
@@ -78,6 +80,24 @@ fn row_text(
     Ok(text)
 }
 
+/// Whether a fault is of the device or of memory, and not of the text.
+fn is_of_machine(kind: TraceKind) -> bool
+    ensures { result ≡ is_io_or_memory_fault kind }
+{
+    matches!(kind, TraceKind::Device | TraceKind::NoMemory)
+}
+
+/// The first of the rows.
+fn first_of(rows: &[TraceRow]) -> Result<TraceRow, TraceKind>
+    ensures session { (sessions : ℕ) → All (IsRow sessions) rows.now → IfOk result (λ row. IsSession sessions row.session) }
+    ensures first { result ≡ first_of rows.now }
+{
+    match rows {
+        [row, ..] => Ok(*row),
+        [] => Err(TraceKind::Shape),
+    }
+}
+
 /// Reads a row of a trace, whose sessions are 1 to `sessions`. The inner error is the first test that the row fails. Fails if
 /// memory is refused.
 fn row_read(
@@ -89,15 +109,14 @@ fn row_read(
     ensures row { IfOk result (λ read. read ≡ first_row (trace_of sessions text.now)) }
 {
     match read_trace(alloc, text, sessions) {
-        Ok(rows) => match rows.as_slice() {
-            [row, ..] => Ok(Ok(*row)),
-            [] => Ok(Err(TraceKind::Shape)),
-        },
-        Err(fault) => match fault.kind {
-            // a text in memory doesn't fail as a device
-            TraceKind::NoMemory | TraceKind::Device => Err(NoMemory),
-            kind => Ok(Err(kind)),
-        },
+        Ok(rows) => Ok(first_of(&rows)),
+        Err(fault) => {
+            // a text in memory fails as no device
+            if is_of_machine(fault.kind) {
+                return Err(NoMemory);
+            }
+            Ok(Err(fault.kind))
+        }
     }
 }
 

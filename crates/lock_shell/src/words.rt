@@ -32,8 +32,5 @@ pub(crate) fn is_word(word: &[u8], name: &str) -> bool
 pub(crate) fn is_comment(word: &[u8]) -> bool
     ensures { result ≡ is_comment word.now }
 {
-    match word {
-        [] => false,
-        [first, ..] => *first == b'#',
-    }
+    word.starts_with(b"#")
 }
