@@ -1,3 +1,4 @@
+pub mod Lined
 pub mod Loads
 pub mod Served
 pub mod Talks
