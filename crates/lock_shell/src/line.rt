@@ -4,7 +4,7 @@ ghost use Rattle.std.specs.Prelude.{◌≡◌, ℕ, [], map, All, IfOk, codes};
 ghost use Rattle.lock_trace.specs.Files.{is_io_or_memory_fault};
 ghost use Rattle.lock_trace.specs.Rows.{IsRow};
 ghost use Rattle.lock_trace.specs.Traces.{trace_of};
-ghost use Rattle.lock_shell.specs.Lines.{Asks, AsksFile, AsksTwo, call_asked, first_of, first_row, path_asked, row_asked, row_read, row_text, why_asked, word_asked, words_of};
+ghost use Rattle.lock_shell.specs.Lines.{Asks, AsksFile, AsksTwo, AsksWords, call_asked, first_of, first_row, path_asked, row_asked, row_read, row_text, why_asked, word_asked, words_of};
 ghost use Rattle.lock_shell.specs.inner.Asked.{IsAsked, IsSession};
 
 use crate::words::{is_comment, is_word, words_of};
@@ -250,20 +250,37 @@ fn two_asked<'a>(
     row_asked(alloc, first, second, b"", b"", sessions)
 }
 
-/// Reads words, of which the first begins no comment. Fails if memory is refused.
-fn words_asked<'a>(alloc: Global, words: &[&'a [u8]], sessions: u16) -> Result<Asked<'a>, NoMemory>
+/// Reads a word, which begins no comment, and those behind it. Fails if memory is refused.
+fn words_asked<'a>(
+    alloc: Global,
+    first: &'a [u8],
+    rest: &[&'a [u8]],
+    sessions: u16,
+) -> Result<Asked<'a>, NoMemory>
+    ensures asked { IfOk result (IsAsked sessions) }
+    ensures words { IfOk result (AsksWords sessions first.now (map (λ w. w.now) rest.now)) }
+{
+    match rest {
+        [] => Ok(word_asked(first)),
+        [second] => two_asked(alloc, first, second, sessions),
+        [op, resource] => row_asked(alloc, first, op, resource, b"", sessions),
+        [op, resource, mode] => row_asked(alloc, first, op, resource, mode, sessions),
+        _ => Ok(Asked::Unreadable(Unread::Long)),
+    }
+}
+
+/// Reads the words of a line. Fails if memory is refused.
+fn line_asked<'a>(alloc: Global, words: &[&'a [u8]], sessions: u16) -> Result<Asked<'a>, NoMemory>
     ensures asked { IfOk result (IsAsked sessions) }
     ensures words { IfOk result (Asks sessions (map (λ w. w.now) words.now)) }
 {
-    match words {
-        [] => Ok(Asked::Nothing),
-        [first, ..] if is_comment(first) => Ok(Asked::Nothing),
-        [word] => Ok(word_asked(word)),
-        [first, second] => two_asked(alloc, first, second, sessions),
-        [session, op, resource] => row_asked(alloc, session, op, resource, b"", sessions),
-        [session, op, resource, mode] => { row_asked(alloc, session, op, resource, mode, sessions) }
-        _ => Ok(Asked::Unreadable(Unread::Long)),
+    let Some((first, rest)) = words.split_first() else {
+        return Ok(Asked::Nothing);
+    };
+    if is_comment(first) {
+        return Ok(Asked::Nothing);
     }
+    words_asked(alloc, first, rest, sessions)
 }
 
 /// Reads a line for a shell of sessions 1 to `sessions`. Fails if memory is refused.
@@ -276,5 +293,5 @@ pub(crate) fn asked_by<'a>(
     ensures words { IfOk result (Asks sessions (words_of line.now)) }
 {
     let words = words_of(alloc, line)?;
-    words_asked(alloc, &words, sessions)
+    line_asked(alloc, &words, sessions)
 }
