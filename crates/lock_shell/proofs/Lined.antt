@@ -19,16 +19,16 @@ asks_nothing n (w ∷ ws) a none is = absurd (omega (arith, none))
 -- a comment
 pub asks_comment : (n : ℕ) (ws rest : List (Bor (List ℕ))) (first : Bor (List ℕ)) (a : Asked) → ws ≡ first ∷ rest → is_comment first.now ≡ true
     → a ≡ asked.Nothing → Asks n (now_of ws) a
-asks_comment n ws rest first a are yes is =
+asks_comment n ws rest first a are begins is =
     subst (λ (l : List (Bor (List ℕ))). Asks n (now_of l) a) (sym are)
-    (subst (λ (b : Bool). MatchBool b (a ≡ asked.Nothing) (AsksWords n first.now (now_of rest) a)) (sym yes) is)
+    (subst (λ (b : Bool). MatchBool b (a ≡ asked.Nothing) (AsksWords n first.now (now_of rest) a)) (sym begins) is)
 
 -- words of which the first begins no comment
 pub asks_words : (n : ℕ) (ws rest : List (Bor (List ℕ))) (first : Bor (List ℕ)) (a : Asked) → ws ≡ first ∷ rest → is_comment first.now ≡ false
     → AsksWords n first.now (now_of rest) a → Asks n (now_of ws) a
-asks_words n ws rest first a are no is =
+asks_words n ws rest first a are plain is =
     subst (λ (l : List (Bor (List ℕ))). Asks n (now_of l) a) (sym are)
-    (subst (λ (b : Bool). MatchBool b (a ≡ asked.Nothing) (AsksWords n first.now (now_of rest) a)) (sym no) is)
+    (subst (λ (b : Bool). MatchBool b (a ≡ asked.Nothing) (AsksWords n first.now (now_of rest) a)) (sym plain) is)
 
 -- one word
 pub asks_one : (n : ℕ) (w : List ℕ) (ws : List (Bor (List ℕ))) (a : Asked) → length ws ≡ 0 → a ≡ word_asked w → AsksWords n w (now_of ws) a

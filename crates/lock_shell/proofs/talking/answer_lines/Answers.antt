@@ -36,11 +36,11 @@ returns-in_err-went-clause-part g c =
 pub returns-then-not-went-clause-answered : goal.returns-then-not-went-clause-answered
 returns-then-not-went-clause-answered g c =
     let so_far = c.loop-count.invariant in
-    let no = c.if-not-went.true in
+    let over = c.if-not-went.true in
     let mid = g.R.Read.remaining c.loop-count.reader in
     answered_all c.args.desk.now.after.sessions c.loop-count.count _ _ _ mid _ _
-    (subst (HasAnswered c.args.desk.now.after.sessions c.loop-count.count _ _ _ mid _) (sym (c.in_ok-went.ensures.same no)) so_far.answered)
-    (inl (subst (λ (n : ℕ). IsEndOf n mid) so_far.alike.others (c.in_ok-went.ensures.ended no)))
+    (subst (HasAnswered c.args.desk.now.after.sessions c.loop-count.count _ _ _ mid _) (sym (c.in_ok-went.ensures.same over)) so_far.answered)
+    (inl (subst (λ (n : ℕ). IsEndOf n mid) so_far.alike.others (c.in_ok-went.ensures.ended over)))
 
 pub loop-count-preserved : goal.loop-count-preserved
 loop-count-preserved g c =
