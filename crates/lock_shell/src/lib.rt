@@ -5,10 +5,10 @@
 //! waits, `trace_text.rt` and `files.rt` write and read traces, `texts.rt` has the other texts. `talking.rt` goes on from
 //! line to line.
 //!
-//! Proved: each reply shown is that of its entry of the history that the shell keeps, which is legal, with what explains it; a path
-//! goes on only behind a granted call; of which call `why` tells; what `undo` leaves, and that a line that can't be read and a file
-//! that can't be loaded change nothing; and the text of each answer, but for the system's reason that a file can't be opened or
-//! written. Only tested: how lines are read, and what files have.
+//! Proved: the answers are to the lines of the input, and what a line asks for is told by its words; each reply shown is that of its
+//! entry of the history that the shell keeps, which is legal, with what explains it; a path goes on only behind a granted call; of
+//! which call `why` tells; what `undo` leaves, and that a line that can't be read and a file that can't be loaded change nothing; and
+//! the text of each answer, but for the system's reason that a file can't be opened or written. Only tested: what files have.
 #![tactic(auto)]
 
 mod answer;
