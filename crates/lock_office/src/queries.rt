@@ -6,19 +6,20 @@
 //!
 //! An office of programs (`Programs<Book>`) can be asked as well: then the calls are those of its programs, laid end to end.
 
-ghost use Rattle.std.specs.Prelude.{◌≡◌, ◌≢◌, ◌+◌, ◌<◌, ◌≤◌, true, false, [], Some, None, Ok, IfOk, IfErr, IfSome, IfNone, length, vec_capacity};
+ghost use Rattle.std.specs.Prelude.{◌≡◌, ◌≢◌, ℕ, ◌+◌, ◌<◌, ◌≤◌, true, false, [], Some, None, Ok, IfOk, IfErr, IfSome, IfNone, length, vec_capacity};
 ghost use Rattle.lock_rules.specs.State.{held_mode, holders};
 ghost use Rattle.lock_rules.specs.Waits.{waits_for};
 ghost use Rattle.lock_rules.specs.Legal.{state_of};
 ghost use Rattle.lock_rules.specs.Listing.{listing_of, waiting_line};
 ghost use Rattle.publication.specs.Boards.{HasCallsOf};
 ghost use Rattle.combining.specs.Sessions.{IsSessionOf};
+ghost use Rattle.lock_desk.specs.Deadlocks.{AreDeadlocksTold, deadlocks_in, newest};
 ghost use Rattle.lock_desk.specs.Queries.{blockers_among};
 ghost use Rattle.combining.specs.Looks.{IsLooking, HasBegunToLook, HasLooked};
 
 use crate::has_book::HasBook;
 use combining::Office;
-use lock_desk::{Book, Claim, Mode, NoMemory, Resource, Transaction};
+use lock_desk::{Book, Claim, Deadlock, Mode, NoMemory, Resource, Transaction};
 use publication::{Load, Ticket as Session};
 use std::alloc::Global;
 
@@ -285,4 +286,29 @@ pub fn locks<O: HasBook>(
         Ok(()) => Ok(Some(listed.length)),
         Err(refused) => Err(refused),
     }
+}
+
+/// Replaces the contents of `list` by the newest deadlocks, oldest first, as many as the office keeps, and says how many calls the
+/// history had also where memory is refused: the contents of `list` are unchanged then. `None` is as with `held`.
+///
+/// While it copies them, no other session can become the combiner.
+pub fn deadlocks<O: HasBook>(
+    office: &Office<O>,
+    alloc: Global,
+    session: &mut Session<O>,
+    list: &mut Vec<Deadlock>,
+) -> Option<Snapshot<Result<(), NoMemory>>>
+    requires ours { IsSessionOf office.now session.old }
+    ensures ours { IsSessionOf office.now session.new }
+    ensures looked { IfSome result (λ _. HasLooked O.Sequential session.old session.new) }
+    ensures length { IfSome result (λ seen. seen.length ≡ length (O.calls session.new.front)) }
+    ensures found { IfSome result (λ seen. IfOk seen.found (λ _. (most : ℕ) × AreDeadlocksTold (newest most (deadlocks_in (O.calls session.new.front))) list.new.items)) }
+    ensures err { IfSome result (λ seen. IfErr seen.found (λ _. list.new.items ≡ list.old.items)) }
+    ensures none { IfNone result ((session.new ≡ session.old) × (list.new.items ≡ list.old.items) × (1 < office.now.sessions)) }
+    ensures calls { HasCallsOf session.new.front session.new }
+{
+    let load = office.look(session)?;
+    let found = load.object.book().copy_deadlocks(alloc, list);
+    let length = end_look(office, session, load);
+    Some(Snapshot { length, found })
 }
