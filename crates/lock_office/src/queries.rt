@@ -6,7 +6,7 @@
 //!
 //! An office of programs (`Programs<Book>`) can be asked as well: then the calls are those of its programs, laid end to end.
 
-ghost use Rattle.std.specs.Prelude.{◌≡◌, ◌≢◌, ℕ, ◌+◌, ◌<◌, ◌≤◌, true, false, [], Some, None, Ok, IfOk, IfErr, IfSome, IfNone, length, vec_capacity};
+ghost use Rattle.std.specs.Prelude.{◌≡◌, ◌≢◌, ◌+◌, ◌<◌, ◌≤◌, true, false, [], Some, None, Ok, IfOk, IfErr, IfSome, IfNone, length, vec_capacity};
 ghost use Rattle.lock_rules.specs.State.{held_mode, holders};
 ghost use Rattle.lock_rules.specs.Waits.{waits_for};
 ghost use Rattle.lock_rules.specs.Legal.{state_of};
@@ -288,27 +288,40 @@ pub fn locks<O: HasBook>(
     }
 }
 
-/// Replaces the contents of `list` by the newest deadlocks, oldest first, as many as the office keeps, and says how many calls the
-/// history had also where memory is refused: the contents of `list` are unchanged then. `None` is as with `held`.
+/// Replaces the contents of `list` by the deadlocks that the book tells, and returns how many it keeps at most. Fails with `NoMemory` if
+/// memory is refused; the contents of `list` are unchanged then.
+fn copy_deadlocks(book: &Book, alloc: Global, list: &mut Vec<Deadlock>) -> Result<usize, NoMemory>
+    ensures ok { IfOk result (λ most. AreDeadlocksTold (newest most (deadlocks_in book.now.history)) list.new.items) }
+    ensures most { IfOk result (λ most. most ≡ book.now.deadlocks) }
+    ensures err { IfErr result (λ _. list.new.items ≡ list.old.items) }
+{
+    book.copy_deadlocks(alloc, list)?;
+    Ok(book.deadlocks_kept())
+}
+
+/// Replaces the contents of `list` by the newest deadlocks, oldest first, as `Book::copy_deadlocks` does. The answer is how many the lock
+/// table keeps at most: if `list` has fewer, it has all deadlocks of the history. `None` in place of an answer is as with `held`.
 ///
-/// While it copies them, no other session can become the combiner.
+/// Says how many calls the history had also where memory is refused: the contents of `list` are unchanged then. While it copies the
+/// deadlocks, no other session can become the combiner. Its cost grows with the number of deadlocks kept and of sessions on their
+/// cycles. That the lock table keeps as many as its office was opened with is only tested, since no contract sees that of an office.
 pub fn deadlocks<O: HasBook>(
     office: &Office<O>,
     alloc: Global,
     session: &mut Session<O>,
     list: &mut Vec<Deadlock>,
-) -> Option<Snapshot<Result<(), NoMemory>>>
+) -> Option<Snapshot<Result<usize, NoMemory>>>
     requires ours { IsSessionOf office.now session.old }
     ensures ours { IsSessionOf office.now session.new }
     ensures looked { IfSome result (λ _. HasLooked O.Sequential session.old session.new) }
     ensures length { IfSome result (λ seen. seen.length ≡ length (O.calls session.new.front)) }
-    ensures found { IfSome result (λ seen. IfOk seen.found (λ _. (most : ℕ) × AreDeadlocksTold (newest most (deadlocks_in (O.calls session.new.front))) list.new.items)) }
+    ensures found { IfSome result (λ seen. IfOk seen.found (λ most. AreDeadlocksTold (newest most (deadlocks_in (O.calls session.new.front))) list.new.items)) }
     ensures err { IfSome result (λ seen. IfErr seen.found (λ _. list.new.items ≡ list.old.items)) }
     ensures none { IfNone result ((session.new ≡ session.old) × (list.new.items ≡ list.old.items) × (1 < office.now.sessions)) }
     ensures calls { HasCallsOf session.new.front session.new }
 {
     let load = office.look(session)?;
-    let found = load.object.book().copy_deadlocks(alloc, list);
+    let found = copy_deadlocks(load.object.book(), alloc, list);
     let length = end_look(office, session, load);
     Some(Snapshot { length, found })
 }

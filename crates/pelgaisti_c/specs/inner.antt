@@ -2,3 +2,4 @@ pub mod Held
 pub mod Items
 pub mod EndedLists
 pub mod Lending
+pub mod Cycles

@@ -35,8 +35,7 @@ pub fn open_keeping(
     }
 }
 
-/// Opens an office as `open_keeping` does, whose resources are hashed with a seed, and which keeps the newest `deadlocks` deadlocks,
-/// as `lock_office::open_telling` says.
+/// Opens an office as `open_keeping` does, whose lock table keeps the newest `deadlocks` deadlocks, as `lock_office::open_telling` says.
 pub fn open_telling(
     alloc: Global,
     sessions: u16,

@@ -1,7 +1,7 @@
 //! Questions that a session asks of the lock table of its open office, as `lock_office::queries` does, and work on its memory, as
 //! `lock_office::memory` does.
 
-ghost use Rattle.std.specs.Prelude.{◌≡◌, ℕ, ◌<◌, None, Some, Ok, IfOk, IfErr, IfSome, IfNone, length};
+ghost use Rattle.std.specs.Prelude.{◌≡◌, ◌<◌, None, Some, Ok, IfOk, IfErr, IfSome, IfNone, length};
 ghost use Rattle.lock_rules.specs.State.{held_mode, holders};
 ghost use Rattle.lock_rules.specs.Waits.{waits_for};
 ghost use Rattle.lock_rules.specs.Legal.{state_of};
@@ -166,18 +166,19 @@ impl CallSession {
         }
     }
 
-    /// Replaces the contents of `list` by the newest deadlocks, oldest first, as `queries::deadlocks` does.
+    /// Replaces the contents of `list` by the newest deadlocks, oldest first, as `queries::deadlocks` does. Returns how many calls the history
+    /// had, and how many deadlocks the lock table keeps at most.
     pub fn deadlocks(
         &mut self,
         office: &Office,
         alloc: Global,
         list: &mut Vec<Deadlock>,
-    ) -> Result<Option<u64>, NoMemory>
+    ) -> Result<Option<Snapshot<usize>>, NoMemory>
         requires ours { IsSessionOf office.now self.old }
         ensures ours { IsSessionOf office.now self.new }
         ensures looked { (seen : _) → result ≡ Ok (Some seen) → HasLooked self.old self.new }
-        ensures length { (seen : _) → result ≡ Ok (Some seen) → seen ≡ length (flat_history self.new.front) }
-        ensures found { (seen : _) → result ≡ Ok (Some seen) → (most : ℕ) × AreDeadlocksTold (newest most (deadlocks_in (flat_history self.new.front))) list.new.items }
+        ensures length { (seen : _) → result ≡ Ok (Some seen) → seen.length ≡ length (flat_history self.new.front) }
+        ensures found { (seen : _) → result ≡ Ok (Some seen) → AreDeadlocksTold (newest seen.found (deadlocks_in (flat_history self.new.front))) list.new.items }
         ensures none { result ≡ Ok None → (self.new ≡ self.old) × (list.new.items ≡ list.old.items) × (1 < office.now.sessions) }
         ensures err { IfErr result (λ _. HasLooked self.old self.new × (list.new.items ≡ list.old.items)) }
         ensures calls { HasCallsOf self.new.front self.new }
@@ -185,9 +186,10 @@ impl CallSession {
         let Some(told) = queries::deadlocks(office, alloc, &mut self.session, list) else {
             return Ok(None);
         };
-        self.seen = told.length;
+        let length = told.length;
+        self.seen = length;
         match told.found {
-            Ok(()) => Ok(Some(told.length)),
+            Ok(found) => Ok(Some(Snapshot { length, found })),
             Err(refused) => Err(refused),
         }
     }
