@@ -376,10 +376,18 @@ static void post(void *engine, uint32_t session) {
 
 static const pelgaisti_waker waker = {post, NULL};
 
-static pelgaisti_reply perform(pelgaisti_session *session, pelgaisti_call call) {
+/* Makes a call, and counts in `bad` whether it failed. */
+static pelgaisti_reply perform_or(pelgaisti_session *session, pelgaisti_call call, int *bad) {
     pelgaisti_answer answer = {0, {0, 0}};
-    CHECK(pelgaisti_session_perform(session, &call, UINT64_MAX, &answer) == PELGAISTI_OK);
+    *bad += pelgaisti_session_perform(session, &call, UINT64_MAX, &answer) != PELGAISTI_OK;
     return answer.reply;
+}
+
+static pelgaisti_reply perform(pelgaisti_session *session, pelgaisti_call call) {
+    int bad = 0;
+    const pelgaisti_reply reply = perform_or(session, call, &bad);
+    CHECK(bad == 0);
+    return reply;
 }
 
 /* Each session has begun, in the order of numbers, and holds its own database in X. */
@@ -400,6 +408,7 @@ struct clerk {
     uint32_t number;
     int sleeps;
     uint32_t end; /* the kind of the reply that ended its wait */
+    int bad;
     char text[400]; /* why it became a victim */
 };
 
@@ -422,21 +431,21 @@ static void tell_cycle(pelgaisti_session *session, uint64_t transaction, char *t
 static void *ask_for_the_others(void *argument) {
     struct clerk *it = (struct clerk *)argument;
     pelgaisti_session *session = &sessions[it->number - 1];
-    pelgaisti_reply reply = perform(session, call_of(PELGAISTI_LOCK, PELGAISTI_X, it->number == 1 ? two : one));
+    pelgaisti_reply reply = perform_or(session, call_of(PELGAISTI_LOCK, PELGAISTI_X, it->number == 1 ? two : one), &it->bad);
     while (reply.kind == PELGAISTI_WAITING) {
         if (it->sleeps) {
             while (sem_wait(&woken[it->number]) != 0) continue;
         } else {
             sched_yield();
         }
-        reply = perform(session, call_of(PELGAISTI_POLL, 0, none));
+        reply = perform_or(session, call_of(PELGAISTI_POLL, 0, none), &it->bad);
     }
     it->end = reply.kind;
     if (reply.kind == PELGAISTI_DEADLOCK) {
         tell_cycle(session, it->number, it->text, sizeof it->text);
-        perform(session, call_of(PELGAISTI_ABORT, 0, none));
+        it->bad += perform_or(session, call_of(PELGAISTI_ABORT, 0, none), &it->bad).kind != PELGAISTI_ABORTED;
     } else {
-        perform(session, call_of(PELGAISTI_COMMIT, 0, none));
+        it->bad += perform_or(session, call_of(PELGAISTI_COMMIT, 0, none), &it->bad).kind != PELGAISTI_COMMITTED;
     }
     return NULL;
 }
@@ -445,7 +454,7 @@ static void *ask_for_the_others(void *argument) {
    entry at its place; the victim is told of it, the other session is, and so is the book of the closed office. */
 static void threads_meet_a_deadlock(int sleeps) {
     pelgaisti_book book = PELGAISTI_EMPTY;
-    struct clerk clerks[2] = {{1, 0, 0, ""}, {2, 0, 0, ""}};
+    struct clerk clerks[2] = {{1, 0, 0, 0, ""}, {2, 0, 0, 0, ""}};
     pthread_t threads[2];
     pelgaisti_entry entry;
     char text[400];
@@ -458,7 +467,7 @@ static void threads_meet_a_deadlock(int sleeps) {
         clerks[s].sleeps = sleeps;
         CHECK(pthread_create(&threads[s], NULL, ask_for_the_others, &clerks[s]) == 0);
     }
-    for (int s = 0; s < 2; s++) CHECK(pthread_join(threads[s], NULL) == 0);
+    for (int s = 0; s < 2; s++) CHECK(pthread_join(threads[s], NULL) == 0 && clerks[s].bad == 0);
     CHECK(clerks[1].end == PELGAISTI_DEADLOCK && (clerks[0].end == PELGAISTI_CLEAR || clerks[0].end == PELGAISTI_GRANTED));
     told = told_by_session(&sessions[0], ROOM, MEMBER_ROOM);
     CHECK(told.count == 1 && told.member_count == 2 && (told.list[0].session == 1 || told.list[0].session == 2));
