@@ -278,7 +278,7 @@ typedef struct pelgaisti_claim {
 typedef struct pelgaisti_member {
     pelgaisti_claim request; /* the request that the session waited with. `doomed` is 0: the victim isn't chosen yet */
     uint32_t held;           /* the pelgaisti_mode in which the next session of the cycle held the requested resource; PELGAISTI_NL if it
-                                held none: then its request was ahead in the queue */
+                                didn't hold it. If this mode doesn't conflict with the request, the next one's request was ahead */
 } pelgaisti_member;
 
 /* A deadlock, as it was before its victim was doomed. Its members stand in a list of their own: the victim first, each of which waits for

@@ -131,7 +131,7 @@ public:
 };
 // A deadlock, as it was before its victim was doomed: the place in the history of the call that made it, the session of that call, and
 // the sessions on the cycle: the victim first, each of which waits for the next one, and the last for the victim. A member's `held` is the
-// code of the mode in which the next one held what it waited for, 0 if that had a request ahead in the queue.
+// code of the mode in which the next one held what it waited for, 0 if it didn't hold it, but had a request ahead in the queue.
 using member = pelgaisti_member;
 struct deadlock { uint64_t place; uint32_t session; std::vector<member> cycle; };
 // A deadlock as lines of text, each with its line break, in the words of `glm explain`.

@@ -15,8 +15,8 @@ use std::fmt;
 pub struct Member {
     /// The request that the session waited with.
     pub request: Claim,
-    /// The mode in which the next session of the cycle held the requested resource. `None` if it held none: then its request was ahead in
-    /// the queue.
+    /// The mode in which the next session of the cycle held the requested resource, `None` if it didn't hold it. If it held it in no mode
+    /// that conflicts with the request, its own request was ahead in the queue.
     pub held: Option<Mode>,
 }
 
