@@ -412,18 +412,20 @@ struct clerk {
     char text[400]; /* why it became a victim */
 };
 
-enum { KEPT = 4 };
+enum { SESSIONS = 2, KEPT = 4 };
 
 /* Writes why this transaction of the session became a victim: the text of the newest deadlock whose victim it was. docs/EMBEDDING.md has
    this. */
 static void tell_cycle(pelgaisti_session *session, uint64_t transaction, char *text, size_t room) {
     pelgaisti_deadlock list[KEPT];
-    pelgaisti_member members[KEPT * 2];
-    size_t count, member_count, first = 0;
+    pelgaisti_member members[KEPT * SESSIONS];
+    size_t count, member_count, first = 0; /* `first`: where the members of a deadlock begin */
     uint64_t seen;
-    while (pelgaisti_session_deadlocks(session, list, KEPT, &count, members, KEPT * 2, &member_count, &seen) == PELGAISTI_ELSEWHERE)
-        sched_yield();
-    for (size_t k = 0; k < count; first += list[k++].members)
+    pelgaisti_status status;
+    do {
+        status = pelgaisti_session_deadlocks(session, list, KEPT, &count, members, KEPT * SESSIONS, &member_count, &seen);
+    } while (status == PELGAISTI_ELSEWHERE);
+    for (size_t k = 0; status == PELGAISTI_OK && k < count; first += list[k++].members)
         if (members[first].request.transaction == transaction) pelgaisti_deadlock_text(&list[k], &members[first], text, room);
 }
 
