@@ -269,6 +269,29 @@ static void one_waits_behind_a_request(void) {
     close_book(&book);
 }
 
+/* One waits for a conversion that is ahead of it, places 0 to 8, of a session whose lock it could have beside its own: session 3 waits to
+   convert 1 from IX to SIX, since 2 holds it in IX; 2 waits for 2, which 1 holds; and 1 asks for 1 in IX. The lock is told. */
+static void one_waits_behind_a_conversion(void) {
+    pelgaisti_book book = PELGAISTI_EMPTY;
+    struct told told;
+    open_book(&book, 3, 2);
+    begin(&book, 1, 1);
+    begin(&book, 2, 2);
+    begin(&book, 3, 3);
+    take(&book, 2, PELGAISTI_IX, one);
+    take(&book, 3, PELGAISTI_IX, one);
+    take(&book, 1, PELGAISTI_X, two);
+    serve(&book, 3, call_of(PELGAISTI_CONVERT, PELGAISTI_S, one), PELGAISTI_WAITING, 0);
+    ask(&book, 2, PELGAISTI_S, two, PELGAISTI_WAITING);
+    take(&book, 1, PELGAISTI_IX, one);
+    told = told_by_book(&book, ROOM, MEMBER_ROOM);
+    CHECK(told.count == 1 && told.member_count == 3 && is_deadlock(&told, 0, 8, 1, 3));
+    CHECK(is_member(&told, 0, 3, 3, PELGAISTI_CONVERSION, PELGAISTI_SIX, one, PELGAISTI_IX));
+    CHECK(is_member(&told, 1, 2, 2, PELGAISTI_FRESH, PELGAISTI_S, two, PELGAISTI_X));
+    CHECK(is_member(&told, 2, 1, 1, PELGAISTI_FRESH, PELGAISTI_IX, one, PELGAISTI_IX));
+    close_book(&book);
+}
+
 /* One call closes two cycles, places 0 to 8: sessions 2 and 3 hold 2 in S and wait for 1, which session 1 holds; then session 1 asks for 2
    in X. The youngest goes first, transaction 3; its shortest cycle is that with session 1, though it waits behind 2's request, too. */
 static void one_call_makes_two(void) {
@@ -507,8 +530,13 @@ static void want_deadlocks_of(size_t kept) {
     told = told_by_session(&sessions[0], ROOM, MEMBER_ROOM);
     CHECK(told.count == kept && told.member_count == 2 * kept && told.seen == 7);
     if (kept > 0) CHECK(is_deadlock(&told, 0, 5, 2, 2));
-    told = told_by_session(&sessions[1], 0, 0);
-    CHECK(told.count == kept && told.member_count == 2 * kept && told.seen == 7);
+    for (size_t room = 0; room < 3; room++)
+        for (size_t member_room = 0; member_room < 4; member_room++) {
+            told = told_by_session(&sessions[1], room, member_room);
+            CHECK(told.count == kept && told.member_count == 2 * kept && told.seen == 7);
+            if (kept > 0 && room > 0) CHECK(is_deadlock(&told, 0, 5, 2, 2));
+            if (kept > 0 && member_room > 0) CHECK(is_member(&told, 0, 2, 2, PELGAISTI_FRESH, PELGAISTI_X, one, PELGAISTI_X));
+        }
     close_office(&book);
     close_book(&book);
 }
@@ -560,6 +588,7 @@ int main(void) {
     room_is_kept();
     three_in_a_cycle();
     one_waits_behind_a_request();
+    one_waits_behind_a_conversion();
     one_call_makes_two();
     asking_too_late();
     texts();
