@@ -419,6 +419,7 @@ static const struct row {
     {"lock, that closes a cycle", ring, call_close_ring, 0},
     {"lock, that closes many cycles", fan, call_close_fan, 0},
     {"lock, that closes a cycle that is kept", ring, call_close_ring, 0},
+    {"lock, that closes many cycles that are kept", fan, call_close_fan, 0},
     {"convert, of a single holder", own_reader, call_convert, 0},
     {"convert, beside other holders", announcers, call_convert_among, 0},
     {"convert, before a queue", announcer_before_writers, call_convert_among, 0},

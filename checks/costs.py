@@ -76,6 +76,7 @@ ROWS = [
     Row("lock, that closes a cycle", grows=["n"], partly=["sessions"], words=["elsewhere"], n=100),
     Row("lock, that closes many cycles", square=["n"], partly=["sessions"], words=["elsewhere"], n=100),
     Row("lock, that closes a cycle that is kept", ["kept"], grows=["n", "sessions"], words=["elsewhere"], n=100),
+    Row("lock, that closes many cycles that are kept", ["kept"], square=["n"], grows=["sessions"], words=["elsewhere"], n=100),
     Row("release, the first", grows=["own"]),
     Row("release, the next"),
     Row("release, that frees requests", ["queue"], grows=["queue", "own"], words=["sessions"]),
