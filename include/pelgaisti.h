@@ -419,7 +419,7 @@ const char *pelgaisti_refusal_name(uint64_t why);
 
 /* Writes a deadlock as lines of text, as a char array with a final 0, and returns the length of the whole text without that 0. `members` are
    the deadlock's own. At most `room` characters are written, the 0 among them, so that the text is cut if the length isn't less than
-   `room`, as by snprintf. The words are those of `glm explain`. Of the deadlock that pelgaisti_book_deadlocks has for its example:
+   `room`, as by snprintf. Modes and resources are written as in traces. Of the deadlock that pelgaisti_book_deadlocks has for its example:
        deadlock at place 5: session 2 closed a cycle, session 2 is its victim
          session 2, transaction 2, waits for 1 in S, which session 1 holds in X
          session 1, transaction 1, waits for 2 in X, which session 2 holds in S
@@ -533,8 +533,8 @@ pelgaisti_status pelgaisti_book_take_history(pelgaisti_book *book, uint64_t *fir
                                              size_t *count);
 
 /* ---- Deadlocks of a book: the newest ones, as many as were asked for before its first call. The memory for them is taken then, so that no
-   call lacks memory for a deadlock. A call that makes one pays for a search, which grows with the sessions that wait; one that makes none
-   costs what it costs in a book that keeps none. ---- */
+   call lacks memory for a deadlock. A call that makes one pays for a search: among all sessions, for each of those that wait for the victim,
+   directly or through others. One that makes none costs what it costs in a book that keeps none. ---- */
 
 /* Keeps the newest `most` deadlocks from now on. A book keeps none unless it is asked to. Takes memory for a cycle of all sessions for each:
    some 56 bytes a session.
@@ -545,10 +545,10 @@ pelgaisti_status pelgaisti_book_keep_deadlocks(pelgaisti_book *book, size_t most
    `member_room` of the members of all of them, deadlock by deadlock, to `members`, and the number of all members to `member_count`. So the
    members of the first deadlock are the first list[0].members, those of the second follow them.
    A call makes a deadlock for each victim that it dooms; those of one call have the same place, in the order in which their victims were
-   doomed. Of several cycles that go through the victim one is told, a shortest one [that it is a shortest one is tested]. An example: transaction 1 of session 1 holds database
-   1 in X, transaction 2 of session 2 database 2 in S. Session 1 asks for database 2 in X and waits; then session 2, by the call at place 5,
-   asks for database 1 in S. The deadlock has place 5, session 2 and 2 members: session 2 with a request for database 1 in S, `held` X;
-   and session 1 with a request for database 2 in X, `held` S.
+   doomed. Of several cycles that go through the victim one is told, a shortest one [tested: that it is a shortest one].
+   An example: transaction 1 of session 1 holds database 1 in X, transaction 2 of session 2 database 2 in S. Session 1 asks for database 2
+   in X and waits; then session 2, by the call at place 5, asks for database 1 in S. The deadlock has place 5, session 2 and 2 members:
+   session 2 with a request for database 1 in S, `held` X; and session 1 with a request for database 2 in X, `held` S.
    `list` may be NULL if `room` is 0, and `members` if `member_room` is. Requires `room` elements at `list`, and `member_room` at
    `members`. As many as pelgaisti_book_keep_deadlocks was told, and this number times the book's sessions, suffice always.
    NULL, CLOSED, NO_MEMORY. */

@@ -232,7 +232,7 @@ public:
             if (count <= list.size()) return list.resize(count), list;
         }
     }
-    // Keeps the newest `most` deadlocks from now on, and takes the memory for them; else a book keeps none. SERVED: calls were served already.
+    // Keeps the newest `most` deadlocks from now on, and takes the memory for them; else a book keeps none. SERVED: it has served calls.
     void keep_deadlocks(size_t most) { check(pelgaisti_book_keep_deadlocks(&handle_, most)); }
     // The deadlocks that are kept, oldest first.
     std::vector<deadlock> deadlocks() {

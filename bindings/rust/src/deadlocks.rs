@@ -20,7 +20,8 @@ pub struct Member {
     pub held: Option<Mode>,
 }
 
-/// A deadlock, as it was before its victim was doomed. Its text is that of `glm explain`, each line with its line break.
+/// A deadlock, as it was before its victim was doomed. As text it is a line for the call that made it and one for each session on
+/// the cycle, in the words of `glm explain`.
 #[derive(Clone, Debug, PartialEq, Eq, Hash)]
 pub struct Deadlock {
     /// The place in the history of the call that made it.
