@@ -104,7 +104,7 @@ fn a_long_cycle_is_told() {
     assert_eq!(sessions, [40].into_iter().chain(1..40).collect::<Vec<u32>>());
 }
 
-/// A lock, a conversion and a request ahead, each in its words. Places 0 to 12: session 3 waits to convert 1 from IX to SIX, as session 2
+/// Fresh requests and a conversion, each in its words. Places 0 to 12: session 3 waits to convert 1 from IX to SIX, as session 2
 /// holds it in IX, too. Session 2 waits for 2, which session 1 holds. Session 1 asks for 1 in IX, beside the locks of the other two, but
 /// the conversion is ahead: a cycle of 1, 3 and 2, whose youngest is session 3. With its request the obstacle goes.
 #[test]
@@ -138,9 +138,36 @@ fn each_wait_has_its_words() {
         \x20 session 2, transaction 2, waits for 2/7/40 in S, which session 1 holds in X\n\
         \x20 session 1, transaction 1, waits for 1 in IX, which session 3 holds in IX\n"
     );
-    let mut behind = told[0].clone();
-    behind.cycle[2].held = None;
-    assert!(behind.to_string().ends_with("  session 1, transaction 1, waits for 1 in IX, behind session 3\n"));
+}
+
+/// Session 3 waits for 1 in X, which session 2 holds in S; session 2 waits for 2, which session 1 holds; and session 1, by the call at
+/// place 7, asks for 1 in S, beside session 2's lock, but behind session 3's request.
+#[test]
+fn a_request_ahead_blocks() {
+    let mut book = Book::open(3).unwrap();
+    book.keep_deadlocks(1).unwrap();
+    serve(
+        &mut book,
+        &[
+            (1, Call::Begin, Reply::Began(1)),
+            (2, Call::Begin, Reply::Began(2)),
+            (3, Call::Begin, Reply::Began(3)),
+            (2, lock(1, Mode::S), Reply::Granted(Mode::S)),
+            (1, lock(2, Mode::X), Reply::Granted(Mode::X)),
+            (3, lock(1, Mode::X), Reply::Waiting),
+            (2, lock(2, Mode::S), Reply::Waiting),
+            (1, lock(1, Mode::S), Reply::Granted(Mode::S)),
+        ],
+    );
+    let told = book.deadlocks().unwrap();
+    assert_eq!(told[0].cycle.iter().map(|it| it.held).collect::<Vec<_>>(), [Some(Mode::S), Some(Mode::X), None]);
+    assert_eq!(
+        told[0].to_string(),
+        "deadlock at place 7: session 1 closed a cycle, session 3 is its victim\n\
+        \x20 session 3, transaction 3, waits for 1 in X, which session 2 holds in S\n\
+        \x20 session 2, transaction 2, waits for 2 in S, which session 1 holds in X\n\
+        \x20 session 1, transaction 1, waits for 1 in S, behind session 3\n"
+    );
 }
 
 fn reply(session: &mut Session, call: Call) -> Reply {
