@@ -32,7 +32,7 @@ SQUARE, GROWS, PARTLY, WORDS, STAYS = 4.4, 2.2, 1.6, 1.25, 1.1
 LEAST = 1.2
 # what every row has; checks/costs.c says what each is
 USUAL = {"sessions": 512, "resources": 1500, "others": 700, "elsewhere": 50, "history": 2000, "own": 40}
-HERE = {"holders": 100, "queue": 60}
+HERE = {"holders": 100, "queue": 60, "kept": 50}
 
 
 class Row:
@@ -75,6 +75,8 @@ ROWS = [
     Row("convert, that waits", BOTH, grows=["queue", "holders", "elsewhere"], words=["sessions"]),
     Row("lock, that closes a cycle", grows=["n"], partly=["sessions"], words=["elsewhere"], n=100),
     Row("lock, that closes many cycles", square=["n"], partly=["sessions"], words=["elsewhere"], n=100),
+    Row("lock, that closes a cycle that is kept", ["kept"], grows=["n", "sessions"], words=["elsewhere"], n=100),
+    Row("lock, that closes many cycles that are kept", ["kept"], square=["n"], grows=["sessions"], words=["elsewhere"], n=100),
     Row("release, the first", grows=["own"]),
     Row("release, the next"),
     Row("release, that frees requests", ["queue"], grows=["queue", "own"], words=["sessions"]),
@@ -107,6 +109,8 @@ ROWS = [
     Row("take_history", grows=["n"], n=200),
     Row("reserve, resources", grows=["resources"], partly=["n"], n=3000),
     Row("shrink", grows=["n"], partly=["resources", "sessions", "history", "others"], n=2000),
+    Row("deadlocks", ["kept"], grows=["kept"]),
+    Row("keep_deadlocks", grows=["n"], partly=["sessions"], usual={"sessions": 512}, n=100),
     Row("open", grows=["sessions"], usual={"sessions": 512}),
     Row("close", grows=["elsewhere", "sessions"], partly=["resources", "others", "own", "n"], n=600),
 ]
