@@ -3,7 +3,7 @@ use Rattle.std.proofs.lemmas.List.{take_more}
 use Rattle.lock_desk.specs.declared.deadlock_log.Deadlock.{Deadlock}
 use Rattle.lock_desk.specs.declared.deadlock_log.Member.{Member}
 use Rattle.pelgaisti_c.specs.Deadlocks.{members_of}
-use Rattle.pelgaisti_c.proofs.Deadlocks.{members-push}
+use Rattle.pelgaisti_c.proofs.Members.{members-push}
 use Rattle.pelgaisti_c.proofs.deadlock_numbers.all_members.Goals as goal
 
 pub loop-deadlock-preserved : goal.loop-deadlock-preserved

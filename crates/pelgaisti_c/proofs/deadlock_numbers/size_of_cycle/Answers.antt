@@ -1,6 +1,6 @@
 use Rattle.std.proofs.Common.{length, arith}
 use Rattle.std.proofs.lemmas.List.Elements.{AllWithin-none, AllWithin-more, AllWithin-upto, All-from_all_within, at_read}
-use Rattle.pelgaisti_c.proofs.Deadlocks.{IsSmall, few-members}
+use Rattle.pelgaisti_c.proofs.Members.{IsSmall, few-members}
 use Rattle.pelgaisti_c.proofs.deadlock_numbers.size_of_cycle.Goals as goal
 
 pub loop-index-init : goal.loop-index-init

@@ -1,5 +1,5 @@
 use Rattle.std.specs.List.{AllWithin}
-use Rattle.pelgaisti_c.proofs.Deadlocks.{IsSmall}
+use Rattle.pelgaisti_c.proofs.Members.{IsSmall}
 use Rattle.pelgaisti_c.proofs.deadlock_numbers.size_of_cycle.Given as goal
 
 -- The members so far have numbers of sessions.

@@ -1,4 +1,4 @@
-use Rattle.pelgaisti_c.proofs.Deadlocks.{each-once}
+use Rattle.pelgaisti_c.proofs.Members.{each-once}
 use Rattle.pelgaisti_c.proofs.deadlocks.told.Goals as goal
 
 pub write_told-requires : goal.write_told-requires
