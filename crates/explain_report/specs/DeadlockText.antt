@@ -23,12 +23,22 @@ abbrev pub lines_of_waits : ℕ → List Member → List ℕ
 lines_of_waits last [] = []
 lines_of_waits last (m ∷ ms) = line_of_wait (first_session ms last) m ++ lines_of_waits last ms
 
--- the line of the call that made the deadlock and of the victim
-abbrev pub line_of_deadlock : Deadlock → List ℕ
-line_of_deadlock d =
-    codes "deadlock at place " ++ decimal d.place ++ codes ": session " ++ decimal d.session ++ codes " closed a cycle, session "
-    ++ decimal (first_session d.cycle.items 0) ++ codes " is its victim\n"
+-- the call that made the deadlock
+abbrev pub words_of_call : Deadlock → List ℕ
+words_of_call d = codes "deadlock at place " ++ (decimal d.place ++ (codes ": session " ++ decimal d.session))
 
--- a deadlock
+-- what it did, and its victim, this session
+abbrev pub words_of_victim : ℕ → List ℕ
+words_of_victim victim = codes " closed a cycle, session " ++ decimal victim ++ codes " is its victim\n"
+
+-- the line of the call that made the deadlock and of its victim, this session
+abbrev pub line_of_deadlock : ℕ → Deadlock → List ℕ
+line_of_deadlock victim d = words_of_call d ++ words_of_victim victim
+
+-- the text of a deadlock whose victim is this session
+abbrev pub text_with_victim : ℕ → Deadlock → List ℕ
+text_with_victim victim d = line_of_deadlock victim d ++ lines_of_waits victim d.cycle.items
+
+-- a deadlock, whose victim is the first session on its cycle
 abbrev pub text_of_deadlock : Deadlock → List ℕ
-text_of_deadlock d = line_of_deadlock d ++ lines_of_waits (first_session d.cycle.items 0) d.cycle.items
+text_of_deadlock d = text_with_victim (first_session d.cycle.items 0) d

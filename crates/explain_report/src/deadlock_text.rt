@@ -2,7 +2,7 @@
 
 ghost use Rattle.std.specs.Prelude.{◌≡◌, ◌+◌, ◌<◌, ◌++◌, nat_lt, if◌then◌else◌, length, drop, OnOk, string_bytes};
 ghost use Rattle.lock_desk.specs.Deadlocks.{first_session};
-ghost use Rattle.explain_report.specs.DeadlockText.{line_of_deadlock, line_of_wait, lines_of_waits, text_of_deadlock, words_of_block};
+ghost use Rattle.explain_report.specs.DeadlockText.{line_of_deadlock, line_of_wait, lines_of_waits, text_of_deadlock, text_with_victim, words_of_block, words_of_call, words_of_victim};
 
 use crate::request_text::{put_request, put_words_and_mode};
 use crate::words::put_words;
@@ -61,17 +61,36 @@ fn put_waits(out: &mut String, last: u16, members: &[Member]) -> Result<(), NoMe
     Ok(())
 }
 
-/// Writes the line of the call that made the deadlock and of the victim.
-fn put_line(out: &mut String, deadlock: &Deadlock, victim: u16) -> Result<(), NoMemory>
-    requires victim { victim ≡ first_session deadlock.now.cycle.items 0 }
-    ensures { OnOk result (string_bytes out.new ≡ string_bytes out.old ++ line_of_deadlock deadlock.now) }
+/// Writes which call made the deadlock.
+fn put_call(out: &mut String, deadlock: &Deadlock) -> Result<(), NoMemory>
+    ensures { OnOk result (string_bytes out.new ≡ string_bytes out.old ++ words_of_call deadlock.now) }
 {
     let place = deadlock.place;
     let session = deadlock.session;
-    writeln!(
-        out,
-        "deadlock at place {place}: session {session} closed a cycle, session {victim} is its victim"
-    )
+    write!(out, "deadlock at place {place}: session {session}")
+}
+
+/// Writes what the call did, and who is its victim.
+fn put_victim(out: &mut String, victim: u16) -> Result<(), NoMemory>
+    ensures { OnOk result (string_bytes out.new ≡ string_bytes out.old ++ words_of_victim victim) }
+{
+    write!(out, " closed a cycle, session {victim} is its victim\n")
+}
+
+/// Writes the line of the call that made the deadlock and of its victim.
+fn put_line(out: &mut String, deadlock: &Deadlock, victim: u16) -> Result<(), NoMemory>
+    ensures { OnOk result (string_bytes out.new ≡ string_bytes out.old ++ line_of_deadlock victim deadlock.now) }
+{
+    put_call(out, deadlock)?;
+    put_victim(out, victim)
+}
+
+/// Writes a deadlock with this victim.
+fn put_told(out: &mut String, deadlock: &Deadlock, victim: u16) -> Result<(), NoMemory>
+    ensures { OnOk result (string_bytes out.new ≡ string_bytes out.old ++ text_with_victim victim deadlock.now) }
+{
+    put_line(out, deadlock, victim)?;
+    put_waits(out, victim, &deadlock.cycle)
 }
 
 /// Writes a deadlock: the call that made it, the victim, and for each session on the cycle what it waited for and how the next one
@@ -79,7 +98,5 @@ fn put_line(out: &mut String, deadlock: &Deadlock, victim: u16) -> Result<(), No
 pub fn put_deadlock(out: &mut String, deadlock: &Deadlock) -> Result<(), NoMemory>
     ensures { OnOk result (string_bytes out.new ≡ string_bytes out.old ++ text_of_deadlock deadlock.now) }
 {
-    let victim = session_at(&deadlock.cycle, 0, 0);
-    put_line(out, deadlock, victim)?;
-    put_waits(out, victim, &deadlock.cycle)
+    put_told(out, deadlock, session_at(&deadlock.cycle, 0, 0))
 }
