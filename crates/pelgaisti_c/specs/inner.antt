@@ -2,4 +2,3 @@ pub mod Held
 pub mod Items
 pub mod EndedLists
 pub mod Lending
-pub mod Cycles

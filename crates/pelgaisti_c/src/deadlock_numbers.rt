@@ -1,12 +1,10 @@
 //! Deadlocks in numbers, and how they are written to C's structs.
 
-ghost use Rattle.std.specs.Prelude.{◌≡◌, ◌≢◌, ◌⊎◌, IfOk, length, map, nat_eq};
-ghost use Rattle.std.specs.List.{All, IsDistinct};
+ghost use Rattle.std.specs.Prelude.{◌≡◌, ◌≢◌, ◌⊎◌, IfOk, length};
 ghost use Rattle.lock_modes.specs.Codes.{code_of};
 ghost use Rattle.lock_rules.specs.State.{mode_or_nothing};
 ghost use Rattle.pelgaisti_c.specs.Calls.{are_written};
 ghost use Rattle.pelgaisti_c.specs.Deadlocks.{members_of, numbers_of_deadlock, numbers_of_member};
-ghost use Rattle.pelgaisti_c.specs.inner.Cycles.{IsOnceEach};
 
 use crate::claims::{ClaimNumbers, claim_numbers};
 use crate::status::{NO_MEMORY, OK};
@@ -19,7 +17,7 @@ use std::alloc::{AllocError, Global};
 pub struct DeadlockNumbers {
     pub place: u64,
     pub session: u32,
-    pub members: u32,
+    pub members: usize,
 }
 
 /// A session on the cycle of a deadlock: the request that it waited with, and the code of the mode in which the next session held the
@@ -51,33 +49,19 @@ fn member_numbers(member: &Member) -> MemberNumbers
     }
 }
 
-/// How many sessions are on the cycle: no more than there are numbers of sessions, since none is there twice.
-fn size_of_cycle(cycle: &[Member]) -> u32
-    requires once { IsDistinct nat_eq (map (λ m. m.request.session) cycle.now) }
-    ensures { result ≡ length cycle.now }
-{
-    for index in 0..cycle.len() {
-        // Shows that this session's number is one of a u16.
-        let _session = cycle[index].request.session;
-    }
-    cycle.len() as u32
-}
-
 /// The numbers of a deadlock.
 fn deadlock_numbers(deadlock: &Deadlock) -> DeadlockNumbers
-    requires once { IsOnceEach deadlock.now }
     ensures { result ≡ numbers_of_deadlock deadlock.now }
 {
     DeadlockNumbers {
         place: deadlock.place,
         session: u32::from(deadlock.session),
-        members: size_of_cycle(&deadlock.cycle),
+        members: deadlock.cycle.len(),
     }
 }
 
 /// Writes the numbers of the first deadlocks, as many as `places` has room for.
 fn write_deadlocks(deadlocks: &[Deadlock], places: &mut [DeadlockNumbers])
-    requires once { All IsOnceEach deadlocks.now }
     ensures { places.new ≡ are_written numbers_of_deadlock deadlocks.now places.old }
 {
     let count = usize::min(deadlocks.len(), places.len());
@@ -108,8 +92,7 @@ fn all_members(alloc: Global, deadlocks: &[Deadlock]) -> Result<Vec<Member>, All
 }
 
 /// Writes the first deadlocks, as many as `list` has room for, and the number of all deadlocks to `count`; and the first members of their
-/// cycles, one deadlock's behind another's, as many as `places` has room for, and the number of all members to `member_count`. No cycle may
-/// have a session twice.
+/// cycles, one deadlock's behind another's, as many as `places` has room for, and the number of all members to `member_count`.
 pub(crate) fn write_told(
     alloc: Global,
     deadlocks: &[Deadlock],
@@ -118,7 +101,6 @@ pub(crate) fn write_told(
     places: &mut [MemberNumbers],
     member_count: &mut usize,
 ) -> u32
-    requires once { All IsOnceEach deadlocks.now }
     ensures list { result ≡ OK → list.new ≡ are_written numbers_of_deadlock deadlocks.now list.old }
     ensures count { result ≡ OK → count.new ≡ length deadlocks.now }
     ensures members { result ≡ OK → places.new ≡ are_written numbers_of_member (members_of deadlocks.now) places.old }

@@ -1,9 +1,7 @@
-use Rattle.std.proofs.Common.{rules, ◌≡◌, suc, ◌+◌, get_or, set, sym, ap, ◌∙◌, subst, arith}
-use Rattle.std.proofs.lemmas.List.Elements.{All-get_or}
+use Rattle.std.proofs.Common.{rules, ◌≡◌, suc, ◌+◌, get_or, set, ap, ◌∙◌, arith}
 use Rattle.lock_desk.specs.declared.deadlock_log.Deadlock.{Deadlock}
 use Rattle.pelgaisti_c.specs.Calls.{written}
 use Rattle.pelgaisti_c.specs.Deadlocks.{numbers_of_deadlock}
-use Rattle.pelgaisti_c.specs.inner.Cycles.{IsOnceEach}
 use Rattle.pelgaisti_c.proofs.Writing.{next_written}
 use Rattle.pelgaisti_c.proofs.deadlock_numbers.write_deadlocks.Goals as goal
 
@@ -18,10 +16,3 @@ loop-k-preserved c =
     let next = next_written numbers_of_deadlock k items places d (omega (arith, c.loop-k-test.true, inv.1)) (omega (arith, c.loop-k-test.true, inv.2)) in
     let suc_is : suc k ≡ k + 1 = omega arith in
     (ap (λ ys. set ys k c.deadlock_numbers.result) inv.0 ∙ (ap (λ v. set (written numbers_of_deadlock k items places) k v) value ∙ (next ∙ ap (λ j. written numbers_of_deadlock j items places) suc_is)), inv.1, inv.2)
-
-pub deadlock_numbers-requires : goal.deadlock_numbers-requires
-deadlock_numbers-requires c =
-    let k = c.loop-k.k in
-    let items = c.args.deadlocks.now in
-    let d : Deadlock = c.index-deadlocks-k.result in
-    subst IsOnceEach (sym c.index-deadlocks-k.is) (All-get_or IsOnceEach items k d (omega (arith, c.loop-k-test.true, c.loop-k.invariant.1)) c.requires)
