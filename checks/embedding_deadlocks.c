@@ -80,7 +80,7 @@ static struct told told_by_session(pelgaisti_session *session, size_t room, size
     return told;
 }
 
-static int is_deadlock(const struct told *told, size_t index, uint64_t place, uint32_t session, uint32_t members) {
+static int is_deadlock(const struct told *told, size_t index, uint64_t place, uint32_t session, size_t members) {
     const pelgaisti_deadlock *it = &told->list[index];
     return it->place == place && it->session == session && it->members == members;
 }

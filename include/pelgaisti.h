@@ -286,7 +286,7 @@ typedef struct pelgaisti_member {
 typedef struct pelgaisti_deadlock {
     uint64_t place;   /* the index in the history of the entry of the call that made it, from 0 */
     uint32_t session; /* the session of that call */
-    uint32_t members; /* how many sessions are on the cycle, at least 2 */
+    size_t members;   /* how many sessions are on the cycle, at least 2 */
 } pelgaisti_deadlock;
 
 /* An entry of the history: a call of a session and its reply. The resource's numbers past its level are 0. */
@@ -392,8 +392,8 @@ PELGAISTI_ASSERT_(transaction, sizeof(pelgaisti_transaction) == 16 && offsetof(p
 PELGAISTI_ASSERT_(claim, sizeof(pelgaisti_claim) == 48 && offsetof(pelgaisti_claim, kind) == 4);
 PELGAISTI_ASSERT_(claim_fields, offsetof(pelgaisti_claim, transaction) == 16 && offsetof(pelgaisti_claim, resource) == 24);
 PELGAISTI_ASSERT_(member, sizeof(pelgaisti_member) == 56 && offsetof(pelgaisti_member, held) == 48);
-PELGAISTI_ASSERT_(deadlock, sizeof(pelgaisti_deadlock) == 16 && offsetof(pelgaisti_deadlock, session) == 8);
-PELGAISTI_ASSERT_(deadlock_members, offsetof(pelgaisti_deadlock, members) == 12);
+PELGAISTI_ASSERT_(deadlock, sizeof(pelgaisti_deadlock) == 24 && offsetof(pelgaisti_deadlock, session) == 8);
+PELGAISTI_ASSERT_(deadlock_members, offsetof(pelgaisti_deadlock, members) == 16);
 PELGAISTI_ASSERT_(entry, sizeof(pelgaisti_entry) == 56);
 PELGAISTI_ASSERT_(entry_fields, offsetof(pelgaisti_entry, call) == 4 && offsetof(pelgaisti_entry, reply) == 40);
 PELGAISTI_ASSERT_(answer, sizeof(pelgaisti_answer) == 24 && offsetof(pelgaisti_answer, reply) == 8);

@@ -136,7 +136,7 @@ using member = pelgaisti_member;
 struct deadlock { uint64_t place; uint32_t session; std::vector<member> cycle; };
 // A deadlock as lines of text, each with its line break, in the words of `glm explain`.
 inline std::string to_string(const deadlock &it) {
-    const pelgaisti_deadlock told{it.place, it.session, static_cast<uint32_t>(it.cycle.size())};
+    const pelgaisti_deadlock told{it.place, it.session, it.cycle.size()};
     std::string text(pelgaisti_deadlock_text(&told, it.cycle.data(), nullptr, 0), ' ');
     return static_cast<void>(pelgaisti_deadlock_text(&told, it.cycle.data(), &text[0], text.size() + 1)), text;
 }

@@ -71,8 +71,9 @@ static void put_wait(struct text *out, const pelgaisti_member *member, uint32_t 
 
 size_t pelgaisti_deadlock_text(const pelgaisti_deadlock *deadlock, const pelgaisti_member *members, char *text, size_t room) {
     struct text out = {text, room, 0};
-    const uint32_t count = deadlock->members, victim = count > 0 ? members[0].request.session : 0;
-    uint32_t k;
+    const size_t count = deadlock->members;
+    const uint32_t victim = count > 0 ? members[0].request.session : 0;
+    size_t k;
     put_words_and_number(&out, "deadlock at place ", deadlock->place);
     put_words_and_number(&out, ": session ", deadlock->session);
     put_words_and_number(&out, " closed a cycle, session ", victim);

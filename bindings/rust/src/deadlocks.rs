@@ -73,7 +73,7 @@ impl fmt::Display for Deadlock {
 fn deadlocks_of(list: &[RawDeadlock], mut members: &[RawMember]) -> Result<Vec<Deadlock>, Error> {
     let mut deadlocks = list_for(list.len())?;
     for raw in list {
-        let (own, others) = members.split_at(raw.members as usize);
+        let (own, others) = members.split_at(raw.members);
         members = others;
         deadlocks.push(Deadlock {
             place: raw.place,

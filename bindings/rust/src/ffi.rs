@@ -87,7 +87,7 @@ pub(crate) struct RawMember {
 pub(crate) struct RawDeadlock {
     pub(crate) place: u64,
     pub(crate) session: u32,
-    pub(crate) members: u32,
+    pub(crate) members: usize,
 }
 
 #[repr(C)]
@@ -148,7 +148,7 @@ impl RawHandle {
 const _: () = assert!(size_of::<*mut c_void>() == 8 && size_of::<RawHandle>() == 16 && size_of::<RawWaker>() == 16);
 const _: () = assert!(size_of::<RawResource>() == 24 && size_of::<RawCall>() == 32 && size_of::<RawReply>() == 16);
 const _: () = assert!(size_of::<RawHolder>() == 8 && size_of::<RawTransaction>() == 16 && size_of::<RawClaim>() == 48);
-const _: () = assert!(size_of::<RawMember>() == 56 && size_of::<RawDeadlock>() == 16);
+const _: () = assert!(size_of::<RawMember>() == 56 && size_of::<RawDeadlock>() == 24);
 const _: () = assert!(size_of::<RawEntry>() == 56 && size_of::<RawAnswer>() == 24 && size_of::<RawPass>() == 8);
 const _: () = assert!(size_of::<RawProgram>() == 44 && size_of::<RawProgramAnswer>() == 136);
 
