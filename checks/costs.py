@@ -32,7 +32,7 @@ SQUARE, GROWS, PARTLY, WORDS, STAYS = 4.4, 2.2, 1.6, 1.25, 1.1
 LEAST = 1.2
 # what every row has; checks/costs.c says what each is
 USUAL = {"sessions": 512, "resources": 1500, "others": 700, "elsewhere": 50, "history": 2000, "own": 40}
-HERE = {"holders": 100, "queue": 60, "kept": 50}
+HERE = {"holders": 100, "queue": 60}
 
 
 class Row:
@@ -109,7 +109,7 @@ ROWS = [
     Row("take_history", grows=["n"], n=200),
     Row("reserve, resources", grows=["resources"], partly=["n"], n=3000),
     Row("shrink", grows=["n"], partly=["resources", "sessions", "history", "others"], n=2000),
-    Row("deadlocks", ["kept"], grows=["kept"]),
+    Row("deadlocks", grows=["kept"], usual={"sessions": 512, "kept": 600}),
     Row("keep_deadlocks", grows=["n"], partly=["sessions"], usual={"sessions": 512}, n=100),
     Row("open", grows=["sessions"], usual={"sessions": 512}),
     Row("close", grows=["elsewhere", "sessions"], partly=["resources", "others", "own", "n"], n=600),
