@@ -11,8 +11,8 @@ loop-at-init c = record {
   room = refl;
 }
 
-pub push_reserved-requires-in-loop-at : goal.push_reserved-requires-in-loop-at
-push_reserved-requires-in-loop-at c =
+pub push_reserved-requires : goal.push_reserved-requires
+push_reserved-requires c =
     let k = c.loop-at.invariant in
     let path = reverse c.loop-at.cycle.items in
     let room = followed-room c.args.rows.now c.args.met.now c.args.parents.now c.requires.meeting.0 c.requires.meeting.1 c.args.found c.loop-at.at path k.followed in
@@ -24,16 +24,16 @@ loop-at-preserved c =
     let cycle = c.loop-at.cycle.items in
     let u = get_or c.args.met.now c.loop-at.at 0 in
     record {
-      followed = subst (IsFollowed c.args.rows.now c.args.met.now c.args.found (get_or c.args.parents.now c.loop-at.at 0)) (sym (ap reverse c.push_reserved-in-loop-at.ensures.items ∙ reverse-append cycle (u ∷ [])))
+      followed = subst (IsFollowed c.args.rows.now c.args.met.now c.args.found (get_or c.args.parents.now c.loop-at.at 0)) (sym (ap reverse c.push_reserved.ensures.items ∙ reverse-append cycle (u ∷ [])))
           (followed-more c.args.rows.now c.args.met.now c.args.parents.now c.requires.meeting.0 c.requires.meeting.1 c.args.found c.loop-at.at (reverse cycle) k.followed c.requires.looked c.loop-at-test.true);
-      room = c.push_reserved-in-loop-at.ensures.capacity ∙ k.room;
+      room = c.push_reserved.ensures.capacity ∙ k.room;
     }
 
 pub loop-at-smaller : goal.loop-at-smaller
 loop-at-smaller c = c.requires.meeting.1.before c.loop-at.at c.loop-at-test.true c.loop-at.invariant.followed.within
 
-pub push_reserved-requires : goal.push_reserved-requires
-push_reserved-requires c =
+pub push_reserved-requires-2 : goal.push_reserved-requires-2
+push_reserved-requires-2 c =
     let k = c.loop-at.invariant in
     let path = reverse c.loop-at.cycle.items in
     let room = followed-room c.args.rows.now c.args.met.now c.args.parents.now c.requires.meeting.0 c.requires.meeting.1 c.args.found c.loop-at.at path k.followed in
@@ -49,7 +49,7 @@ returns-clause-cycle c =
     let met = c.args.met.now in
     let t = get_or met 0 0 in
     let cycle = c.loop-at.cycle.items in
-    let is = turned c.push_reserved.new.self.items c.reverse.new.self.items cycle t c.push_reserved.ensures.items c.reverse.ensures.items in
+    let is = turned c.push_reserved-2.new.self.items c.reverse.new.self.items cycle t c.push_reserved-2.ensures.items c.reverse.ensures.items in
     let e : c.loop-at.at ≡ 0 = omega (arith, c.loop-at-test.false) in
     let followed = subst (λ (i : ℕ). IsFollowed p met c.args.found i (reverse cycle)) e c.loop-at.invariant.followed in
     subst (IsCycle (pairs_of p) t) (sym is) (followed-cycle p met c.args.parents.now c.requires.meeting.0 c.requires.meeting.1 c.args.found (reverse cycle) followed)
@@ -60,7 +60,7 @@ returns-clause-shortest c other round =
     let met = c.args.met.now in
     let t = get_or met 0 0 in
     let cycle = c.loop-at.cycle.items in
-    let is = turned c.push_reserved.new.self.items c.reverse.new.self.items cycle t c.push_reserved.ensures.items c.reverse.ensures.items in
+    let is = turned c.push_reserved-2.new.self.items c.reverse.new.self.items cycle t c.push_reserved-2.ensures.items c.reverse.ensures.items in
     let e : c.loop-at.at ≡ 0 = omega (arith, c.loop-at-test.false) in
     let followed = subst (λ (i : ℕ). IsFollowed p met c.args.found i (reverse cycle)) e c.loop-at.invariant.followed in
     omega (arith, ap length is, followed-shortest p met c.args.found (reverse cycle) followed other round)

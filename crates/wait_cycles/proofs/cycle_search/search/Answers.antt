@@ -42,7 +42,7 @@ returns-then-waits-clause-closed c =
     let met = c.loop-at.met.items in
     let lt : c.loop-at.at < length met = omega (arith, c.loop-at-test.true, c.len.ensures, c.loop-at.met.ok.0) in
     let is = get_or_read met c.loop-at.at c.index.result.now lt c.index.ensures 0 in
-    ap (λ (v : ℕ). pairs_of c.args.rows.now v c.args.t) is ∙ (sym c.waits.ensures.pairs ∙ c.if-waits.true)
+    ap (λ (v : ℕ). pairs_of c.args.rows.now v c.args.t) (sym is) ∙ (sym c.waits.ensures.pairs ∙ c.if-waits.true)
 
 pub loop-at-preserved : goal.loop-at-preserved
 loop-at-preserved c =
@@ -51,7 +51,7 @@ loop-at-preserved c =
     let met = c.loop-at.met.items in
     let lt : c.loop-at.at < length met = omega (arith, c.loop-at-test.true, c.len.ensures, c.loop-at.met.ok.0) in
     let is = get_or_read met c.loop-at.at c.index.result.now lt c.index.ensures 0 in
-    let apart = ap (λ (v : ℕ). pairs_of c.args.rows.now v c.args.t) is ∙ (sym c.waits.ensures.pairs ∙ c.if-waits.false) in
+    let apart = ap (λ (v : ℕ). pairs_of c.args.rows.now v c.args.t) (sym is) ∙ (sym c.waits.ensures.pairs ∙ c.if-waits.false) in
     record {
       some = omega (arith, h.some, k.met.long);
       first = k.met.same 0 h.some ∙ h.first;

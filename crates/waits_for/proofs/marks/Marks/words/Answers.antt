@@ -1,4 +1,4 @@
-use Rattle.std.proofs.Common.{◌≡◌, ℕ, ◌<◌, List, sym, ap, ◌∙◌, arith}
+use Rattle.std.proofs.Common.{ℕ, ◌<◌, List, sym, ap, ◌∙◌, arith}
 use Rattle.waits_for.specs.inner.Bits.{has_bit}
 use Rattle.waits_for.specs.Marks.{Marking, is_marked}
 use Rattle.waits_for.proofs.MarkBits.{marked-here}
