@@ -1,4 +1,4 @@
-use Rattle.std.proofs.Common.{◌≡◌, ◌+◌, ◌<◌, ◌≤◌, List, ℕ, [], ◌∷◌, ◌++◌, length, get_or, sym, ap, ◌∙◌, subst, refl, arith}
+use Rattle.std.proofs.Common.{◌≡◌, ◌<◌, ◌≤◌, List, ℕ, [], ◌∷◌, ◌++◌, length, get_or, sym, ap, ◌∙◌, subst, refl, arith}
 use Rattle.std.proofs.lemmas.List.{get_or_read}
 use Rattle.waits_for.specs.Pairs.{pairs_of}
 use Rattle.wait_cycles.specs.inner.Meeting.{IsMeeting}
@@ -24,7 +24,7 @@ loop-at-init c =
     }
   where
     first_behind : (xs : List ℕ) → xs ≡ 0 ∷ [] → (j : ℕ) → j < 1 → get_or xs j 0 ≤ 0
-    first_behind xs is j lt = 
+    first_behind xs is j lt =
         let z : j ≡ 0 = omega (arith, lt) in
         let e : get_or xs 0 0 ≡ 0 = ap (λ (ys : List ℕ). get_or ys 0 0) is in
         omega (arith, ap (λ (i : ℕ). get_or xs i 0) z, e)

@@ -1,4 +1,4 @@
-use Rattle.std.proofs.Common.{◌≡◌, ℕ, List, get_or, refl, sym, ap, ◌∙◌, subst}
+use Rattle.std.proofs.Common.{ℕ, List, get_or, refl, sym, ap, ◌∙◌, subst}
 use Rattle.waits_for.specs.Pairs.{pairs_of}
 use Rattle.wait_cycles.specs.Cycles.{IsCycle}
 use Rattle.wait_cycles.proofs.Cycles.{cycle-reaches}
