@@ -124,7 +124,8 @@ fn follow(rows: &Rows, found: usize, met: &[usize], parents: &[usize], cycle: &m
     requires meeting { (marks : Marking) × IsMeeting rows.now met.now parents.now marks }
     requires looked { IsLookedAt rows.now (slice_index_or met.now 0 0) met.now parents.now found }
     ensures cycle { IsCycle (pairs_of rows.now) (slice_index_or met.now 0 0) cycle.new.items }
-    ensures shortest { (other : List ℕ) → IsCycle (pairs_of rows.now) (slice_index_or met.now 0 0) other → length cycle.new.items ≤ length other }
+    ensures shortest { (other : List ℕ) → IsCycle (pairs_of rows.now) (slice_index_or met.now 0 0) other
+        → length cycle.new.items ≤ length other }
     ensures room { vec_capacity cycle.new ≡ vec_capacity cycle.old }
 {
     cycle.clear();
@@ -159,7 +160,7 @@ impl CycleSearch {
 
     /// Looks for a cycle through the session at position `t`, which `cycle` then has. Returns whether there is one.
     ///
-    /// Reads at most the row of each session that `t` reaches, and each of these sessions once.
+    /// Reads the row of `t`, and of each session that `t` reaches, at most once.
     pub fn find(&mut self, rows: &Rows, t: usize) -> bool
         requires t_below { t < rows.now.sessions }
         requires sessions { rows.now.sessions ≡ self.old.sessions }

@@ -4,8 +4,8 @@
 //! those for whom these wait, until one of them waits for the session itself.
 //!
 //! Proved: a cycle is found exactly if the session is on one, each session of it waits for the next and the last for the first,
-//! none is there twice, and no cycle through the session is shorter. Only measured: the time of a search, which reads the row of
-//! each session that it meets once. Memory is taken by [`CycleSearch::new`] alone.
+//! none is there twice, and no cycle through the session is shorter. Not said by any clause: the time of a search, which reads
+//! the row of each session that it meets at most once. Memory is taken by [`CycleSearch::new`] alone.
 #![tactic(auto)]
 
 mod cycle_search;

@@ -4,8 +4,8 @@ use Rattle.std.specs.List.{IsDistinct, list_any}
 use Rattle.waits_for.specs.Pairs.{Pairs, pairs_of}
 use Rattle.waits_for.specs.Marks.{Marking, is_marked}
 
--- the positions met, each once, and those marked, are the same; for each but the first one that was met before it waits directly,
--- at the index that `parents` has; and these indices rise
+-- the positions met, each once, and those marked, are the same; each but the first has a parent, met before it, that waits for it
+-- directly, whose index `parents` has; one met later has no earlier parent
 pub record IsMeeting (p : Pairs) (met parents : List ℕ) (marks : Marking) : Type 0 where
   pub long : length parents ≡ length met
   pub once : IsDistinct nat_eq met
@@ -15,7 +15,8 @@ pub record IsMeeting (p : Pairs) (met parents : List ℕ) (marks : Marking) : Ty
   pub rising : (i j : ℕ) → i < j → j < length met → slice_index_or parents i 0 ≤ slice_index_or parents j 0
   pub waits : (j : ℕ) → 0 < j → j < length met → pairs_of p (slice_index_or met (slice_index_or parents j 0) 0) (slice_index_or met j 0) ≡ true
 
--- of the first `done` positions that are met none waits for t, and each one that they wait for is met, by this one or one before
+-- none of the first `done` positions that are met waits for t; each one that they wait for is met, and its parent is the one that waits
+-- for it, or was met before that one
 pub record IsLookedAt (p : Pairs) (t : ℕ) (met parents : List ℕ) (done : ℕ) : Type 0 where
   pub few : done ≤ length met
   pub all : (j u : ℕ) → j < done → pairs_of p (slice_index_or met j 0) u ≡ true → (i : ℕ) × (i < length met) × (slice_index_or met i 0 ≡ u) × (slice_index_or parents i 0 ≤ j)
