@@ -20,6 +20,7 @@ ghost use Rattle.lock_desk.specs.inner.Runs.{AreServed};
 mod blockers;
 mod deadlocks;
 mod memory;
+mod pages;
 mod paths;
 
 use crate::deadlock_log::DeadlockLog;
