@@ -93,7 +93,7 @@ precedes-take x zero rs h = refl
 precedes-take x (suc n) [] h = refl
 precedes-take x (suc n) (y ∷ rs) h = h
 
-rise-take : (n : ℕ) (rs : List (List ℕ)) → rise rs ≡ true → rise (take n rs) ≡ true
+pub rise-take : (n : ℕ) (rs : List (List ℕ)) → rise rs ≡ true → rise (take n rs) ≡ true
 rise-take zero rs h = refl
 rise-take (suc n) [] h = refl
 rise-take (suc n) (x ∷ rs) h =
