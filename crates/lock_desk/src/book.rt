@@ -30,6 +30,7 @@ use crate::recording::serve_recorded;
 use lock_modes::Mode;
 use lock_rules::{Call, Claim, Entry, MAX_SESSIONS, Reply, Transaction, laws};
 use lock_tree::Resource;
+pub use pages::pages_tell_each_lock_once;
 pub use paths::{PathLocked, grants, lock_of_level};
 use std::alloc::{AllocError as NoMemory, Global};
 use std::marker::Model;

@@ -2,9 +2,9 @@
 //! memory.
 //!
 //! Exports: `book.rt`, `listing_exports.rt`, `path_exports.rt`, `path_step_exports.rt`, `program_exports.rt`, `office.rt`, `session.rt`,
-//! `turn_exports.rt`, `path_turn_exports.rt`, `program_turn_exports.rt`, `query_exports.rt`, `memory_exports.rt`, `close_exports.rt`,
-//! `version.rt`. What they do, on what a handle holds: `book_calls.rt`, `batch.rt`, `listing.rt`, `path_calls.rt`, `program_calls.rt`,
-//! `session_calls.rt`, `turn_calls.rt`, `path_turn_calls.rt`, `program_turn_calls.rt`, `queries.rt`, `memory_calls.rt`, `hand_in.rt`.
+//! `turn_exports.rt`, `path_turn_exports.rt`, `program_turn_exports.rt`, `query_exports.rt`, `page_exports.rt`, `memory_exports.rt`,
+//! `close_exports.rt`, `version.rt`. What they do, on what a handle holds: `book_calls.rt`, `batch.rt`, `listing.rt`, `path_calls.rt`, `program_calls.rt`,
+//! `session_calls.rt`, `turn_calls.rt`, `path_turn_calls.rt`, `program_turn_calls.rt`, `queries.rt`, `pages.rt`, `memory_calls.rt`, `hand_in.rt`.
 //! Numbers of C's structs: `numbers.rt`, `program_numbers.rt`, `claims.rt`, `status.rt`. Handles: `book_handle.rt`, `session_handle.rt`, and
 //! what is in them.
 //!
@@ -34,6 +34,8 @@ mod memory_calls;
 mod memory_exports;
 mod numbers;
 mod office;
+mod page_exports;
+mod pages;
 mod path_calls;
 mod path_exports;
 mod path_step_exports;
