@@ -202,6 +202,18 @@ public:
             if (count <= list.size()) return list.resize(count), list;
         }
     }
+    // How many locks the session holds; and a page of them: up to `most` of those on resources behind `after`, or of all. Fewer than `most`
+    // are the last page; the next one begins behind the resource of the last lock of this one.
+    size_t locks_held(uint32_t session) {
+        return made_by<size_t>([&](auto *count) { return pelgaisti_book_locks_held(&handle_, session, count); });
+    }
+    std::vector<pelgaisti_claim> locks_of(uint32_t session, const pelgaisti_resource &after, size_t most) {
+        std::vector<pelgaisti_claim> list(most);
+        size_t count = 0;
+        check(pelgaisti_book_locks_of(&handle_, session, &after, list.data(), list.size(), &count));
+        return list.resize(count), list;
+    }
+    std::vector<pelgaisti_claim> locks_of(uint32_t session, size_t most) { return locks_of(session, pelgaisti_resource{}, most); }
     // Makes room, so that neither the table nor the history grows in a call until so many more resources and entries have come; gives back
     // memory that isn't in use; counts the cells that are kept and serve no resource.
     void reserve(size_t resources, size_t entries) { check(pelgaisti_book_reserve(&handle_, resources, entries)); }
@@ -300,6 +312,20 @@ public:
     std::optional<seen<std::vector<pelgaisti_claim>>> locks() {
         return listed<pelgaisti_claim>([&](auto *at, size_t room, auto *count, auto *n) {
             return pelgaisti_session_locks(&handle_, 0, at, room, count, n); });
+    }
+    std::optional<seen<size_t>> locks_held(uint32_t whose) {
+        return asked<size_t>([&](auto *count, auto *n) { return pelgaisti_session_locks_held(&handle_, whose, count, n); });
+    }
+    std::optional<seen<std::vector<pelgaisti_claim>>> locks_of(uint32_t whose, const pelgaisti_resource &after, size_t most) {
+        std::vector<pelgaisti_claim> list(most);
+        size_t count = 0;
+        uint64_t n = 0;
+        if (elsewhere(pelgaisti_session_locks_of(&handle_, whose, &after, list.data(), list.size(), &count, &n))) return std::nullopt;
+        list.resize(count);
+        return seen<std::vector<pelgaisti_claim>>{std::move(list), n};
+    }
+    std::optional<seen<std::vector<pelgaisti_claim>>> locks_of(uint32_t whose, size_t most) {
+        return locks_of(whose, pelgaisti_resource{}, most);
     }
     // What a book's do with the memory of the lock table, each by one try for it; how many calls the history had, or nothing if another
     // session has the table.
