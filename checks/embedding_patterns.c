@@ -196,6 +196,7 @@ static void locks_are_escalated(void) {
     CHECK(ask(&s[1], PELGAISTI_LOCK, &mine, PELGAISTI_S) == PELGAISTI_GRANTED && escalate(&s[1], 2, &table) == 1);
     CHECK(ask(&s[0], PELGAISTI_BEGIN, NULL, 0) == PELGAISTI_BEGAN && ask(&s[0], PELGAISTI_LOCK, &database, PELGAISTI_IX) == PELGAISTI_GRANTED);
     CHECK(ask(&s[0], PELGAISTI_TRY, &table, PELGAISTI_S) == PELGAISTI_GRANTED && ask(&s[0], PELGAISTI_TRY, &table, PELGAISTI_IX) == PELGAISTI_REFUSED);
+    for (int k = 0; k < 2; k++) CHECK(ask(&s[k], PELGAISTI_COMMIT, NULL, 0) == PELGAISTI_COMMITTED);
     close_all(s, 2);
 }
 
