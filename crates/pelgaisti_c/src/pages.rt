@@ -19,6 +19,7 @@ use std::alloc::Global;
 /// The resource behind which a page begins, `Some(None)` at level 0. Returns `None` if no resource has this level.
 fn read_after(path: &ResourceNumbers) -> Option<Option<Resource>>
     ensures some { IfSome result (λ after. IsAfter path.now after) }
+    ensures level { IfSome result (λ _. IsAfterLevel path.now.level) }
     ensures none { IfNone result (¬ (IsAfterLevel path.now.level)) }
 {
     if path.level == 0 {
