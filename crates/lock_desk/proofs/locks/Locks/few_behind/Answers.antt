@@ -1,4 +1,4 @@
-use Rattle.std.proofs.Common.{◌≡◌, ◌+◌, ℕ, List, [], ◌∷◌, ◌++◌, take, sym, ◌∙◌, ap}
+use Rattle.std.proofs.Common.{◌≡◌, ◌+◌, ◌<◌, ℕ, List, [], ◌∷◌, ◌++◌, length, take, sym, ◌∙◌, ap, arith}
 use Rattle.std.proofs.lemmas.List.{append_assoc, map-append, take_more}
 use Rattle.indexmap.specs.IndexMap.{keys}
 use Rattle.lock_desk.specs.declared.locks.HeldLock.{HeldLock}
@@ -28,7 +28,8 @@ loop-index-preserved c =
     let ls = c.self.inside.recent.items in
     let i = c.loop-index.index in
     let l = c.index.result.now in
-    let all : take (i + 1) ls ≡ take i ls ++ l ∷ [] = take_more ls i l c.loop-index-test.true ∙ ap (λ (x : HeldLock). take i ls ++ x ∷ []) (sym c.index.ensures) in
+    let within : i < length ls = omega (arith, c.loop-index-test.true, c.len-index-end.ensures, c.self.inside.recent.ok.0) in
+    let all : take (i + 1) ls ≡ take i ls ++ l ∷ [] = take_more ls i l within ∙ ap (λ (x : HeldLock). take i ls ++ x ∷ []) (sym c.index.ensures) in
     let both : (ks ++ resources_of (take i ls)) ++ l.resource ∷ [] ≡ ks ++ resources_of (take (i + 1) ls) =
     append_assoc ks (resources_of (take i ls)) (l.resource ∷ [])
     ∙ ap (λ (xs : List (List ℕ)). ks ++ xs) (sym (map-append (λ (x : HeldLock). x.resource) (take i ls) (l ∷ [])) ∙ ap (λ (xs : List HeldLock). resources_of xs) (sym all)) in
