@@ -1,14 +1,14 @@
 -- The resources of a list that pass a test: which they are, and that they are in order and apart if all are.
-use Rattle.std.proofs.Common.{◌≡◌, ℕ, Bool, true, false, cond, ◌&&◌, ◌||◌, inl, inr, List, [], ◌∷◌, ◌++◌, refl, sym, ◌∙◌, ap, subst}
+use Rattle.std.proofs.Common.{◌≡◌, ℕ, Bool, true, false, cond, ◌&&◌, ◌||◌, inl, inr, List, [], ◌∷◌, ◌++◌, refl, sym, ◌∙◌, ap}
 use Rattle.std.specs.Prelude.{filter}
-use Rattle.std.specs.List.{list_any, list_all, IsDistinct, AllByRecursion}
+use Rattle.std.specs.List.{list_all, IsDistinct, AllByRecursion}
 use Rattle.std.proofs.Math.Bool.{and-false}
-use Rattle.std.proofs.lemmas.Bool.{cases_Bool, and_parts, and_from, or_parts}
+use Rattle.std.proofs.lemmas.Bool.{and_parts, and_from, or_parts}
 use Rattle.std.proofs.lemmas.List.Elements.{filter-append}
 use Rattle.lock_tree.specs.Paths.{same_path}
 use Rattle.lock_rules.specs.Listing.{comes_before}
 use Rattle.lock_rules.proofs.Lists.{same_path-refl, same_path_tells}
-use Rattle.lock_rules.proofs.ResourceOrder.{contrary, precedes, rise, before-all}
+use Rattle.lock_rules.proofs.ResourceOrder.{precedes, rise, before-all}
 use Rattle.lock_desk.specs.inner.Cells.{has_path, AreApart}
 use Rattle.lock_desk.proofs.Places.{same_path-equivalence}
 

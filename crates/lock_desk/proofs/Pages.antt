@@ -1,9 +1,9 @@
 -- The page that a lock table gives is that of the state which it represents; what one page tells.
-use Rattle.std.proofs.Common.{◌≡◌, ℕ, zero, suc, ◌+◌, Bool, true, false, cond, eqb, not, ◌&&◌, ◌||◌, inl, inr, List, [], ◌∷◌, ◌++◌, length, map, take, Option, Some, None, is_some, Contains, refl, sym, ◌∙◌, ap, subst, arith}
+use Rattle.std.proofs.Common.{◌≡◌, ℕ, zero, suc, Bool, true, false, cond, eqb, ◌&&◌, ◌||◌, List, [], ◌∷◌, ◌++◌, map, take, Option, Some, None, is_some, refl, sym, ◌∙◌, ap, subst}
 use Rattle.std.specs.Prelude.{filter}
 use Rattle.std.specs.List.{flat_map, list_any, list_all}
 use Rattle.std.proofs.Math.Bool.{and-false}
-use Rattle.std.proofs.lemmas.Bool.{cases_Bool, and_parts, and_from}
+use Rattle.std.proofs.lemmas.Bool.{and_parts, and_from}
 use Rattle.std.proofs.lemmas.Bool.Decides.{Decides-eqb}
 use Rattle.std.proofs.lemmas.List.Elements.{filter-append}
 use Rattle.std.proofs.lemmas.List.Folds.{list_any-append}
@@ -14,17 +14,16 @@ use Rattle.lock_rules.specs.declared.listing.Claim.{Claim as ListedClaim}
 use Rattle.lock_rules.specs.declared.listing.ClaimKind.TheVariants.{Held, Conversion, Fresh}
 use Rattle.lock_rules.specs.State.{Claim, State, mode_in, held_mode, holders, number_in, doomed_in}
 use Rattle.lock_rules.specs.Queue.{conversions, fresh_requests}
-use Rattle.lock_rules.specs.Sound.{IsOrdered, IsSound, after, ascend}
-use Rattle.lock_rules.specs.Listing.{resources_of, transaction_of, listed_as, listed_on, listing_of, lock_line, listed_resources}
-use Rattle.lock_rules.proofs.Lists.{seek, seek-after, mode_in-seek, same_path-true}
-use Rattle.lock_rules.proofs.ResourceOrder.{contrary, rise, same-lists, has-with, rise-with}
-use Rattle.lock_desk.specs.declared.cells.SessionMode.{SessionMode}
+use Rattle.lock_rules.specs.Sound.{IsOrdered, after, ascend}
+use Rattle.lock_rules.specs.Listing.{resources_of, transaction_of, listed_as, listed_on, lock_line, listed_resources}
+use Rattle.lock_rules.proofs.Lists.{seek, seek-after, mode_in-seek}
+use Rattle.lock_rules.proofs.ResourceOrder.{rise, same-lists, has-with, rise-with}
 use Rattle.lock_desk.specs.declared.lock_table.LockTable.{LockTable}
 use Rattle.lock_desk.specs.Pages.{is_behind, is_lock_of, locks_of}
 use Rattle.lock_desk.specs.inner.Cells.{has_path}
 use Rattle.lock_desk.specs.inner.Changes.{standing, mode_held, IsWhole}
 use Rattle.lock_desk.specs.inner.Listing.{in_order, transaction_shown}
-use Rattle.lock_desk.specs.inner.Pages.{those_behind, first_behind, lock_lines, lock_lines_at, page_of}
+use Rattle.lock_desk.specs.inner.Pages.{those_behind, lock_lines, lock_lines_at, page_of}
 use Rattle.lock_desk.specs.inner.Shows.{Shows}
 use Rattle.lock_desk.proofs.Asking.{held-locker}
 use Rattle.lock_desk.proofs.InOrder.{rise-in_order, has-in_order}

@@ -1,4 +1,4 @@
-use Rattle.std.proofs.Common.{[], ℕ, List, ◌-◌, ◌<◌, ◌≤◌, length, get_or, ◌≡◌, true, ◌∙◌, ap, subst}
+use Rattle.std.proofs.Common.{[], ℕ, List, ◌-◌, ◌<◌, ◌≤◌, length, get_or, ◌≡◌, true, subst}
 use Rattle.lock_rules.specs.Listing.{comes_before}
 use Rattle.lock_desk.proofs.FirstResources.{past}
 use Rattle.lock_desk.proofs.resource_order.enter_first.Goals as goal
