@@ -91,8 +91,6 @@ pub mod CyclesTold
 pub mod Listings
 -- a page of the locks of a session is that of the state, and what it tells
 pub mod Pages
--- the first resources of a list, gathered one by one
-pub mod FirstResources
 -- what pages that are read one after another tell together
 pub mod SeveralPages
 -- the book

@@ -1,10 +1,9 @@
 -- Internal to this crate, cited by no public contract: the lines that a lock table gives for a page of a session's locks.
-use Rattle.std.specs.Prelude.{◌≡◌, ℕ, if◌then◌else◌, List, [], ◌∷◌, filter, take, Option, Some, None}
+use Rattle.std.specs.Prelude.{ℕ, List, [], ◌∷◌, filter, take, Option, Some, None}
 use Rattle.std.specs.List.{flat_map}
 use Rattle.lock_modes.specs.declared.Mode.{Mode}
 use Rattle.lock_rules.specs.declared.listing.Claim.{Claim}
 use Rattle.lock_rules.specs.declared.listing.ClaimKind.TheVariants.{Held}
-use Rattle.lock_rules.specs.Listing.{with_path}
 use Rattle.lock_desk.specs.declared.lock_table.LockTable.{LockTable}
 use Rattle.lock_desk.specs.Pages.{is_behind}
 use Rattle.lock_desk.specs.inner.Changes.{standing, mode_held}
@@ -17,14 +16,6 @@ those_behind after rs = filter (is_behind after) rs
 -- the first `n` of the resources that come behind `after`, in the order of resources
 abbrev pub first_behind : ℕ → Option (List ℕ) → List (List ℕ) → List (List ℕ)
 first_behind n after rs = take n (in_order (those_behind after rs))
-
--- these are the first `n` of some resources, in the order of resources
-abbrev pub AreFirst : ℕ → List (List ℕ) → Type 0
-AreFirst n xs = (rs : List (List ℕ)) × (xs ≡ take n (in_order rs))
-
--- the first `n` of these resources, which are in order, and of resource `r` if it comes behind `after`
-abbrev pub first_with : ℕ → Option (List ℕ) → List ℕ → List (List ℕ) → List (List ℕ)
-first_with n after r xs = take n (if is_behind after r then with_path r xs else xs)
 
 -- the line of session `s`, which holds resource `r` in this mode, and none if it doesn't hold it
 abbrev pub lock_lines : LockTable → ℕ → List ℕ → Option Mode → List Claim

@@ -6,12 +6,9 @@ ghost use Rattle.lock_desk.specs.inner.ChildCounts.{resources_of};
 ghost use Rattle.lock_desk.specs.inner.Pages.{those_behind, first_behind};
 
 use crate::locks::{HeldLock, Locks};
-use crate::resource_order::{enter_behind, is_behind, keep_first};
+use crate::resource_order::{is_behind, keep_first};
 use lock_tree::Resource;
 use std::alloc::{AllocError, Global};
-
-/// A page of up to this many locks is gathered without sorting.
-const FEW: usize = 32;
 
 /// Appends those of the resources that come behind `after`.
 fn push_indexed(
@@ -51,45 +48,8 @@ impl Locks {
     /// The first `most` of the resources that come behind `after`, in the order of resources. No resource may be among the
     /// locks twice.
     ///
-    /// Looks at each lock once. Sorts those behind `after` if more than `FEW` are asked for, and else keeps the first ones.
+    /// Looks at each lock once, and sorts those behind `after`.
     pub(crate) fn first_behind(
-        &self,
-        alloc: Global,
-        after: Option<Resource>,
-        most: usize,
-    ) -> Result<Vec<Resource>, AllocError>
-        requires { AreApart self.now.items }
-        ensures { IfOk result (λ list. list.items ≡ first_behind most after self.now.items) }
-    {
-        if most <= FEW {
-            self.few_behind(alloc, after, most)
-        } else {
-            self.many_behind(alloc, after, most)
-        }
-    }
-
-    /// Does what `first_behind` does by keeping the first ones: what it takes grows with the locks times `most` at most.
-    fn few_behind(
-        &self,
-        alloc: Global,
-        after: Option<Resource>,
-        most: usize,
-    ) -> Result<Vec<Resource>, AllocError>
-        ensures { IfOk result (λ list. list.items ≡ first_behind most after self.now.items) }
-    {
-        let mut list = Vec::new(alloc);
-        let resources = self.indexed.keys().as_slice();
-        for key in 0..resources.len() {
-            enter_behind(&mut list, most, &after, resources[key])?;
-        }
-        for index in 0..self.recent.len() {
-            enter_behind(&mut list, most, &after, self.recent[index].resource)?;
-        }
-        Ok(list)
-    }
-
-    /// Does what `first_behind` does by sorting all that come behind `after`.
-    fn many_behind(
         &self,
         alloc: Global,
         after: Option<Resource>,

@@ -8,7 +8,7 @@ use Rattle.lock_desk.specs.inner.ChildCounts.{LockList, resources_of}
 use Rattle.lock_desk.specs.inner.Listing.{in_order}
 use Rattle.lock_desk.specs.inner.Pages.{those_behind}
 use Rattle.lock_desk.proofs.FilteredResources.{apart-filter, apart-distinct, gathered}
-use Rattle.lock_desk.proofs.locks.Locks.many_behind.Goals as goal
+use Rattle.lock_desk.proofs.locks.Locks.first_behind.Goals as goal
 
 pub keep_first-requires : goal.keep_first-requires
 keep_first-requires c =
