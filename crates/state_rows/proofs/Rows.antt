@@ -1,6 +1,6 @@
 -- A row is read from its fields exactly if each of its parts is.
-use Rattle.std.proofs.Common.{◌≡◌, ◌↔◌, ℕ, List, Option, Some, None, subst, ap, sym, ◌∙◌}
-use Rattle.std.specs.Prelude.{decimal}
+use Rattle.std.proofs.Common.{◌≡◌, ◌↔◌, ℕ, List, [], ◌∷◌, length, map, get_or, Option, Some, None, subst, refl, sym, ap, ◌∙◌, arith}
+use Rattle.std.specs.Prelude.{codes, decimal}
 use Rattle.lock_modes.specs.declared.Mode.{Mode}
 use Rattle.lock_modes.specs.Codes.{name_of}
 use Rattle.lock_tree.specs.Paths.{IsResource}
@@ -10,8 +10,11 @@ use Rattle.lock_rules.specs.declared.listing.Claim.{Claim}
 use Rattle.lock_rules.specs.declared.listing.ClaimKind.{ClaimKind}
 use Rattle.lock_report.specs.declared.snapshot.OpenTransaction.{OpenTransaction}
 use Rattle.lock_report.specs.declared.snapshot.Wait.{Wait}
-use Rattle.lock_report.specs.StateRows.{victim_field, word_of_kind}
-use Rattle.state_rows.specs.Rows.{IsClaim, IsNumbered, IsOpen, IsSession, IsWait}
+use Rattle.lock_rules.specs.declared.listing.ClaimKind.TheVariants.{Held, Conversion, Fresh}
+use Rattle.lock_report.specs.StateRows.{fields_of_claim, fields_of_transaction, fields_of_wait, victim_field, word_of_kind}
+use Rattle.state_rows.specs.declared.row.StateRow.{StateRow}
+use Rattle.state_rows.specs.declared.row.StateRow.TheVariants as row
+use Rattle.state_rows.specs.Rows.{IsClaim, IsNumbered, IsOpen, IsRow, IsSession, IsWait, fields_of_row}
 
 -- What is read of a text is one thing.
 pub only : {X : Type 0} (o : Option X) (x y : X) → o ≡ Some x → o ≡ Some y → x ≡ y
@@ -87,3 +90,69 @@ claim-iff n word session number victim resource mode ko oo ro mo k o r m kinds o
       let w = only mo m c.mode m-is ((modes c.mode).1 h.6) in
       λ i. Some (record { resource = z i; session = (y i).session; transaction = (y i).transaction; mode = w i; kind = x i }),
 )
+
+-- Lists of seven that are equal have equal items.
+pub seven : {A : Type 0} {a b c d e f g a2 b2 c2 d2 e2 f2 g2 : A} → a ∷ b ∷ c ∷ d ∷ e ∷ f ∷ g ∷ [] ≡ a2 ∷ b2 ∷ c2 ∷ d2 ∷ e2 ∷ f2 ∷ g2 ∷ []
+    → (a ≡ a2) × (b ≡ b2) × (c ≡ c2) × (d ≡ d2) × (e ≡ e2) × (f ≡ f2) × (g ≡ g2)
+seven is = (cc, cc, cc, cc, cc, cc, cc)
+
+-- A row has seven fields.
+pub seven-fields : (r : StateRow) → length (fields_of_row r) ≡ 7
+seven-fields (row.Transaction o) = refl
+seven-fields (row.Claim c) = refl
+seven-fields (row.Wait w) = refl
+
+-- The items of a list of seven.
+pub seven-items : {A B : Type 0} (of : A → B) (xs : List A) (a b c d e f g : A) → length xs ≡ 7
+    → a ≡ get_or xs 0 a → b ≡ get_or xs 1 b → c ≡ get_or xs 2 c → d ≡ get_or xs 3 d → e ≡ get_or xs 4 e → f ≡ get_or xs 5 f → g ≡ get_or xs 6 g
+    → map of xs ≡ of a ∷ of b ∷ of c ∷ of d ∷ of e ∷ of f ∷ of g ∷ []
+seven-items of [] a b c d e f g long a-is b-is c-is d-is e-is f-is g-is = absurd (omega (arith, long))
+seven-items of (p ∷ []) a b c d e f g long a-is b-is c-is d-is e-is f-is g-is = absurd (omega (arith, long))
+seven-items of (p ∷ q ∷ []) a b c d e f g long a-is b-is c-is d-is e-is f-is g-is = absurd (omega (arith, long))
+seven-items of (p ∷ q ∷ r ∷ []) a b c d e f g long a-is b-is c-is d-is e-is f-is g-is = absurd (omega (arith, long))
+seven-items of (p ∷ q ∷ r ∷ s ∷ []) a b c d e f g long a-is b-is c-is d-is e-is f-is g-is = absurd (omega (arith, long))
+seven-items of (p ∷ q ∷ r ∷ s ∷ t ∷ []) a b c d e f g long a-is b-is c-is d-is e-is f-is g-is = absurd (omega (arith, long))
+seven-items of (p ∷ q ∷ r ∷ s ∷ t ∷ u ∷ []) a b c d e f g long a-is b-is c-is d-is e-is f-is g-is = absurd (omega (arith, long))
+seven-items of (p ∷ q ∷ r ∷ s ∷ t ∷ u ∷ v ∷ []) a b c d e f g long a-is b-is c-is d-is e-is f-is g-is =
+    λ i. of (sym a-is i) ∷ of (sym b-is i) ∷ of (sym c-is i) ∷ of (sym d-is i) ∷ of (sym e-is i) ∷ of (sym f-is i) ∷ of (sym g-is i) ∷ []
+seven-items of (p ∷ q ∷ r ∷ s ∷ t ∷ u ∷ v ∷ w ∷ xs) a b c d e f g long a-is b-is c-is d-is e-is f-is g-is = absurd (omega (arith, long))
+
+-- The words of a transaction and a wait are those of no claim.
+no-transaction : (k : ClaimKind) → codes "transaction" ≡ word_of_kind k → ⊥
+no-transaction Held e = cc
+no-transaction Conversion e = cc
+no-transaction Fresh e = cc
+
+no-wait : (k : ClaimKind) → codes "waits" ≡ word_of_kind k → ⊥
+no-wait Held e = let bad : 119 ≡ 104 = ap (λ (l : List ℕ). get_or l 0 0) e in omega (arith, bad)
+no-wait Conversion e = let bad : 119 ≡ 99 = ap (λ (l : List ℕ). get_or l 0 0) e in omega (arith, bad)
+no-wait Fresh e = let bad : 119 ≡ 102 = ap (λ (l : List ℕ). get_or l 0 0) e in omega (arith, bad)
+
+-- Fields that are those of an open transaction are read as its row.
+pub row-of-open : (n : ℕ) (fields : List (List ℕ)) (oo : Option OpenTransaction) (o : OpenTransaction)
+    → ((x : OpenTransaction) → (oo ≡ Some x) ↔ (IsOpen n x × (fields ≡ fields_of_transaction x)))
+    → oo ≡ Some o → (r : StateRow) → (Some (row.Transaction o) ≡ Some r) ↔ (IsRow n r × (fields ≡ fields_of_row r))
+row-of-open n fields oo o opens is r = (
+  λ e. let same : row.Transaction o ≡ r = cc in subst (λ (x : StateRow). IsRow n x × (fields ≡ fields_of_row x)) same ((opens o).0 is),
+  λ h. go r h,
+)
+  where
+    go : (r : StateRow) → IsRow n r × (fields ≡ fields_of_row r) → Some (row.Transaction o) ≡ Some r
+    go (row.Transaction x) h = let same = only oo o x is ((opens x).1 h) in λ i. Some (row.Transaction (same i))
+    go (row.Claim c) h = absurd (no-transaction c.kind (seven (sym ((opens o).0 is).1 ∙ h.1)).0)
+    go (row.Wait w) h = let bad : codes "transaction" ≡ codes "waits" = (seven (sym ((opens o).0 is).1 ∙ h.1)).0 in absurd cc
+
+-- Fields that are those of a wait, and of no open transaction, are read as its row.
+pub row-of-wait : (n : ℕ) (fields : List (List ℕ)) (oo : Option OpenTransaction) (wo : Option Wait) (w : Wait)
+    → ((x : OpenTransaction) → (oo ≡ Some x) ↔ (IsOpen n x × (fields ≡ fields_of_transaction x)))
+    → ((x : Wait) → (wo ≡ Some x) ↔ (IsWait n x × (fields ≡ fields_of_wait x)))
+    → oo ≡ None → wo ≡ Some w → (r : StateRow) → (Some (row.Wait w) ≡ Some r) ↔ (IsRow n r × (fields ≡ fields_of_row r))
+row-of-wait n fields oo wo w opens waits none is r = (
+  λ e. let same : row.Wait w ≡ r = cc in subst (λ (x : StateRow). IsRow n x × (fields ≡ fields_of_row x)) same ((waits w).0 is),
+  λ h. go r h,
+)
+  where
+    go : (r : StateRow) → IsRow n r × (fields ≡ fields_of_row r) → Some (row.Wait w) ≡ Some r
+    go (row.Transaction x) h = let read = (opens x).1 h in absurd cc
+    go (row.Claim c) h = absurd (no-wait c.kind (seven (sym ((waits w).0 is).1 ∙ h.1)).0)
+    go (row.Wait x) h = let same = only wo w x is ((waits x).1 h) in λ i. Some (row.Wait (same i))

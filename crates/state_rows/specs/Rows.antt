@@ -1,5 +1,5 @@
 -- A row of a state, and its text without the line feed.
-use Rattle.std.specs.Prelude.{◌≡◌, ◌<◌, ◌≤◌, ◌^◌, ℕ, Bool, if◌then◌else◌, List, [], ◌∷◌, codes}
+use Rattle.std.specs.Prelude.{◌≡◌, ◌<◌, ◌≤◌, ◌^◌, ℕ, Bool, if◌then◌else◌, ◌==◌, List, [], ◌∷◌, codes}
 use Rattle.std.specs.List.{join_with_byte}
 use Rattle.lock_tree.specs.Paths.{IsResource}
 use Rattle.lock_rules.specs.declared.calls.Transaction.{Transaction}
@@ -45,6 +45,10 @@ abbrev pub fields_of_row : StateRow → List (List ℕ)
 fields_of_row (row.Transaction o) = fields_of_transaction o
 fields_of_row (row.Claim c) = fields_of_claim c
 fields_of_row (row.Wait w) = fields_of_wait w
+
+-- the byte is a comma
+abbrev pub is_comma : ℕ → Bool
+is_comma b = b == 44
 
 -- the line of a row, without its line feed
 abbrev pub line_of_row : StateRow → List ℕ
