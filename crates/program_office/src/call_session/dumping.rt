@@ -3,7 +3,7 @@
 ghost use Rattle.std.specs.Prelude.{◌≡◌, ◌<◌, None, Some, Ok, IfErr, length};
 ghost use Rattle.lock_rules.specs.Legal.{state_of};
 ghost use Rattle.lock_rules.specs.Listing.{listing_of};
-ghost use Rattle.lock_office.specs.Dump.{transactions_of};
+ghost use Rattle.lock_office.specs.Dump.{opens_of};
 ghost use Rattle.publication.specs.Boards.{HasCallsOf};
 ghost use Rattle.program_office.specs.ProgramBoards.{flat_history};
 ghost use Rattle.program_office.specs.Sessions.{IsSessionOf, HasLooked};
@@ -15,9 +15,8 @@ use lock_office::dump;
 use std::alloc::Global;
 
 impl CallSession {
-    /// Replaces the contents of `claims` by all locks and all waiting requests, and those of `transactions` by the open transaction of each
-    /// session of the office, by number, `None` for a session that has none: both of one moment, as `dump::dump` does. Returns how many
-    /// calls the history had then.
+    /// Replaces the contents of `claims` by all locks and all waiting requests, and those of `opens` by the open transactions, each
+    /// with its session, by session number: both of one moment, as `dump::dump` does. Returns how many calls the history had then.
     ///
     /// `Ok(None)`, with nothing changed, means that another session had the lock table. Fails with `NoMemory` if memory is refused: the
     /// contents of both lists are unchanged then, and the session knows the history up to there all the same.
@@ -26,19 +25,19 @@ impl CallSession {
         office: &Office,
         alloc: Global,
         claims: &mut Vec<Claim>,
-        transactions: &mut Vec<Option<Transaction>>,
+        opens: &mut Vec<(u16, Transaction)>,
     ) -> Result<Option<u64>, NoMemory>
         requires ours { IsSessionOf office.now self.old }
         ensures ours { IsSessionOf office.now self.new }
         ensures looked { (seen : _) → result ≡ Ok (Some seen) → HasLooked self.old self.new }
         ensures length { (seen : _) → result ≡ Ok (Some seen) → seen ≡ length (flat_history self.new.front) }
         ensures claims { (seen : _) → result ≡ Ok (Some seen) → claims.new.items ≡ listing_of (state_of (flat_history self.new.front)) }
-        ensures transactions { (seen : _) → result ≡ Ok (Some seen) → transactions.new.items ≡ transactions_of office.now.sessions (state_of (flat_history self.new.front)) }
-        ensures none { result ≡ Ok None → (self.new ≡ self.old) × (claims.new.items ≡ claims.old.items) × (transactions.new.items ≡ transactions.old.items) × (1 < office.now.sessions) }
-        ensures err { IfErr result (λ _. HasLooked self.old self.new × (claims.new.items ≡ claims.old.items) × (transactions.new.items ≡ transactions.old.items)) }
+        ensures opens { (seen : _) → result ≡ Ok (Some seen) → opens.new.items ≡ opens_of office.now.sessions (state_of (flat_history self.new.front)) }
+        ensures none { result ≡ Ok None → (self.new ≡ self.old) × (claims.new.items ≡ claims.old.items) × (opens.new.items ≡ opens.old.items) × (1 < office.now.sessions) }
+        ensures err { IfErr result (λ _. HasLooked self.old self.new × (claims.new.items ≡ claims.old.items) × (opens.new.items ≡ opens.old.items)) }
         ensures calls { HasCallsOf self.new.front self.new }
     {
-        let Some(dumped) = dump::dump(office, alloc, &mut self.session, claims, transactions) else {
+        let Some(dumped) = dump::dump(office, alloc, &mut self.session, claims, opens) else {
             return Ok(None);
         };
         self.seen = dumped.length;
