@@ -2,9 +2,9 @@
 //! memory.
 //!
 //! Exports: `book.rt`, `listing_exports.rt`, `path_exports.rt`, `path_step_exports.rt`, `program_exports.rt`, `office.rt`, `session.rt`,
-//! `turn_exports.rt`, `path_turn_exports.rt`, `program_turn_exports.rt`, `query_exports.rt`, `memory_exports.rt`, `close_exports.rt`,
+//! `turn_exports.rt`, `path_turn_exports.rt`, `program_turn_exports.rt`, `query_exports.rt`, `memory_exports.rt`, `close_exports.rt`, `dump_exports.rt`,
 //! `version.rt`. What they do, on what a handle holds: `book_calls.rt`, `batch.rt`, `listing.rt`, `path_calls.rt`, `program_calls.rt`,
-//! `session_calls.rt`, `turn_calls.rt`, `path_turn_calls.rt`, `program_turn_calls.rt`, `queries.rt`, `memory_calls.rt`, `hand_in.rt`.
+//! `session_calls.rt`, `turn_calls.rt`, `path_turn_calls.rt`, `program_turn_calls.rt`, `queries.rt`, `memory_calls.rt`, `hand_in.rt`, `dump.rt`.
 //! Numbers of C's structs: `numbers.rt`, `program_numbers.rt`, `claims.rt`, `status.rt`. Handles: `book_handle.rt`, `session_handle.rt`, and
 //! what is in them.
 //!
@@ -24,6 +24,8 @@ mod book_calls;
 mod book_handle;
 mod claims;
 mod close_exports;
+mod dump;
+mod dump_exports;
 mod ended_list;
 mod hand_in;
 mod held_book;
