@@ -151,6 +151,10 @@ pelgaisti_status pelgaisti_book_locks(pelgaisti_book *book, size_t first, pelgai
     return LISTING(list, room, count, CALL(book, pelgaisti_raw_book_locks(&book, first, LIST(list, room), &count)));
 }
 
+pelgaisti_status pelgaisti_book_dump(pelgaisti_book *book, pelgaisti_claim *rows, size_t room, size_t *count, uint64_t *place) {
+    return LISTING(rows, room, count, WRITING(place, CALL(book, pelgaisti_raw_book_dump(&book, LIST(rows, room), &count, &place))));
+}
+
 pelgaisti_status pelgaisti_book_ended(pelgaisti_book *book, uint32_t *list, size_t room, size_t *count) {
     return LISTING(list, room, count, CALL(book, pelgaisti_raw_book_ended(&book, LIST(list, room), &count)));
 }
@@ -432,6 +436,11 @@ pelgaisti_status pelgaisti_session_locks(pelgaisti_session *session, size_t firs
                                          size_t *count, uint64_t *seen) {
     return LISTING(list, room, count, WRITING(seen,
                    CALL(session, pelgaisti_raw_session_locks(&session, first, LIST(list, room), &count, &seen))));
+}
+
+pelgaisti_status pelgaisti_session_dump(pelgaisti_session *session, pelgaisti_claim *rows, size_t room, size_t *count, uint64_t *seen) {
+    return LISTING(rows, room, count, WRITING(seen,
+                   CALL(session, pelgaisti_raw_session_dump(&session, LIST(rows, room), &count, &seen))));
 }
 
 pelgaisti_status pelgaisti_session_reserve(pelgaisti_session *session, size_t resources, size_t entries, uint64_t *seen) {

@@ -32,6 +32,7 @@ uint32_t pelgaisti_raw_book_holders(pelgaisti_book **book, const pelgaisti_resou
 uint32_t pelgaisti_raw_book_transaction(pelgaisti_book **book, uint32_t session, pelgaisti_transaction **open);
 uint32_t pelgaisti_raw_book_request(pelgaisti_book **book, uint32_t session, pelgaisti_claim **waiting);
 uint32_t pelgaisti_raw_book_locks(pelgaisti_book **book, size_t first, pelgaisti_raw_list *list, size_t **count);
+uint32_t pelgaisti_raw_book_dump(pelgaisti_book **book, pelgaisti_raw_list *rows, size_t **count, uint64_t **place);
 uint32_t pelgaisti_raw_book_ended(pelgaisti_book **book, pelgaisti_raw_list *list, size_t **count);
 uint32_t pelgaisti_raw_book_length(pelgaisti_book **book, uint64_t **count);
 uint32_t pelgaisti_raw_book_history(pelgaisti_book **book, uint64_t first, pelgaisti_raw_list *entries, size_t **count);
@@ -97,6 +98,7 @@ uint32_t pelgaisti_raw_session_blockers(pelgaisti_session **session, uint32_t wh
                                         uint64_t **seen);
 uint32_t pelgaisti_raw_session_locks(pelgaisti_session **session, size_t first, pelgaisti_raw_list *list, size_t **count,
                                      uint64_t **seen);
+uint32_t pelgaisti_raw_session_dump(pelgaisti_session **session, pelgaisti_raw_list *rows, size_t **count, uint64_t **seen);
 uint32_t pelgaisti_raw_session_reserve(pelgaisti_session **session, size_t resources, size_t entries, uint64_t **seen);
 uint32_t pelgaisti_raw_session_shrink(pelgaisti_session **session, uint64_t **seen);
 uint32_t pelgaisti_raw_session_idle_cells(pelgaisti_session **session, size_t **cells, uint64_t **seen);
