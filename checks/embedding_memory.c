@@ -18,7 +18,7 @@ static pelgaisti_pass unwritten;
 static pelgaisti_answer unanswered = {99, {77, 88}};
 
 /* What a session's questions, and its calls on the memory of the lock table, return at that allocation. */
-static uint32_t asked[10], unasked = 99;
+static uint32_t asked[11], unasked = 99;
 static uint64_t unseen = 99;
 static const pelgaisti_call begin = {PELGAISTI_BEGIN, 0, {0, {0}}};
 
@@ -38,6 +38,7 @@ static void ask_each(pelgaisti_session *session) {
     asked[7] = pelgaisti_session_reserve(session, 1, 1, &unseen);
     asked[8] = pelgaisti_session_shrink(session, &unseen);
     asked[9] = pelgaisti_session_idle_cells(session, &uncounted, &unseen);
+    asked[10] = pelgaisti_session_dump(session, &claim, 1, &uncounted, &unseen);
 }
 
 /* At the next allocation, `meanwhile` tries to serve and `other` to perform a call and to ask, once. */
@@ -62,14 +63,16 @@ static void try_meanwhile(void) {
 /* The calls that may lack memory, and how often memory was refused to each. */
 enum { BOOK_OPEN, BOOK_SERVE, BOOK_SERVE_BATCH, BOOK_LOCK_PATH, BOOK_RUN, BOOK_HOLDERS, BOOK_LOCKS, OFFICE_OPEN, SESSION_SERVE, AT_ONCE, TELLING,
        SESSION_HOLDERS, SESSION_BLOCKERS, SESSION_LOCKS, HAND_IN, OFFICE_CLOSE, OPEN_WAKING, WAKING_SERVE, WAKING_SERVE_TELLING,
-       WAKING_AT_ONCE, WAKING_TELLING, WAKING_PERFORM, WAKING_PATH, SESSION_RUN, BOOK_RESERVE, SESSION_RESERVE, LACKING };
+       WAKING_AT_ONCE, WAKING_TELLING, WAKING_PERFORM, WAKING_PATH, SESSION_RUN, BOOK_RESERVE, SESSION_RESERVE, BOOK_DUMP, SESSION_DUMP,
+       LACKING };
 static const char *const lacking[LACKING] = {"book_open", "book_serve", "book_serve_batch", "book_lock_path", "book_run",
                                              "book_holders", "book_locks", "office_open", "session_serve", "session_perform_at_once",
                                              "session_perform_telling", "session_holders", "session_blockers", "session_locks",
                                              "session_hand_in", "office_close", "office_open_waking", "session_serve, which wakes",
                                              "session_serve_telling, which wakes", "session_perform_at_once, which wakes",
                                              "session_perform_telling, which wakes", "session_perform, which wakes",
-                                             "session_lock_path, which wakes", "session_run", "book_reserve", "session_reserve"};
+                                             "session_lock_path, which wakes", "session_run", "book_reserve", "session_reserve",
+                                             "book_dump", "session_dump"};
 static long lacked[LACKING];
 
 /* How many batches were refused memory behind the calls that they served. */
@@ -205,6 +208,16 @@ static void books(void) {
     }
     CHECK(status == PELGAISTI_OK && count == 45 && claims[0].session == SESSIONS && claims[0].resource.numbers[0] == 7);
     CHECK(claims[1].session == 1 && claims[1].resource.numbers[0] == 9);
+    uint64_t length = 0, place = 99;
+    CHECK(pelgaisti_book_length(&book, &length) == PELGAISTI_OK);
+    memset(claims, 0x55, sizeof claims);
+    count = 99;
+    status = pelgaisti_book_dump(&book, claims, 2, &count, &place);
+    if (is_lacking(BOOK_DUMP, status)) {
+        CHECK(count == 99 && place == 99 && claims[0].kind == 0x55555555);
+        status = pelgaisti_book_dump(&book, claims, 2, &count, &place);
+    }
+    CHECK(status == PELGAISTI_OK && count == SESSIONS + 45 && place == length && claims[1].session == 2 && claims[1].kind == 0);
     for (uint32_t k = 60; k < CALLS; k++) serve_nth(&book, k);
     CHECK(ample[66].kind == PELGAISTI_GRANTED && ample[71].kind == PELGAISTI_WITHDRAWN);
     pelgaisti_call end = call_of(PELGAISTI_ABORT, 0, 0);
@@ -412,6 +425,14 @@ static void ask_lists(pelgaisti_session *session, size_t locks, uint64_t length)
         status = pelgaisti_session_locks(session, 0, claims, 64, &count, &seen);
     }
     CHECK(status == PELGAISTI_OK && count == locks && seen == length && claims[0].kind == PELGAISTI_HELD);
+    count = 99;
+    seen = 99;
+    status = pelgaisti_session_dump(session, claims, 64, &count, &seen);
+    if (is_lacking(SESSION_DUMP, status)) {
+        CHECK(count == 99 && seen == 99);
+        status = pelgaisti_session_dump(session, claims, 64, &count, &seen);
+    }
+    CHECK(status == PELGAISTI_OK && count == locks + CLERKS && seen == length && claims[0].kind == 0 && claims[CLERKS].kind == PELGAISTI_HELD);
 }
 
 /* Makes room by a session, again if memory is refused: then nothing is written. */
@@ -690,7 +711,7 @@ static void elsewhere(void) {
     CHECK(pelgaisti_session_serve(&sessions[0], NULL) == PELGAISTI_OK);
     CHECK(!meanwhile && told == PELGAISTI_ELSEWHERE && unwritten.served == 99 && unwritten.starved == 99);
     CHECK(at_once == PELGAISTI_ELSEWHERE && telling == PELGAISTI_ELSEWHERE && unanswered.place == 99 && untold[0] == 77 && uncounted == 99);
-    for (int k = 0; k < 10; k++) CHECK(asked[k] == PELGAISTI_ELSEWHERE);
+    for (int k = 0; k < 11; k++) CHECK(asked[k] == PELGAISTI_ELSEWHERE);
     CHECK(unasked == 99 && unseen == 99);
     CHECK(pelgaisti_session_collect(&sessions[2], &answer) == PELGAISTI_NOTHING_PENDING);
     CHECK(pelgaisti_session_serve(&sessions[1], NULL) == PELGAISTI_OK);

@@ -54,7 +54,7 @@ static const struct {
     {ANY(book_idle_cells), "pp"}, {ANY(office_open_seeded), "pnnon"}, {ANY(session_reserve), "pnnp"}, {ANY(session_shrink), "pp"},
     {ANY(session_idle_cells), "ppp"}, {ANY(book_close), "p"}, {ANY(book_serve), "pnpp"}, {ANY(book_serve_batch), "plrp"}, {ANY(book_held), "pnpp"},
     {ANY(book_holders), "pplrp"}, {ANY(book_waits_for), "pnnp"}, {ANY(book_blockers), "pnlrp"}, {ANY(book_transaction), "pnp"},
-    {ANY(book_request), "pnp"}, {ANY(book_locks), "pnlrp"}, {ANY(book_ended), "plrp"}, {ANY(book_length), "pp"},
+    {ANY(book_request), "pnp"}, {ANY(book_locks), "pnlrp"}, {ANY(book_dump), "plrpp"}, {ANY(session_dump), "plrpp"}, {ANY(book_ended), "plrp"}, {ANY(book_length), "pp"},
     {ANY(book_history), "pnlrp"}, {ANY(book_first_kept), "pp"}, {ANY(book_keep_at_most), "pn"}, {ANY(book_take_history), "pplrp"},
     {ANY(book_lock_path), "pnpnpplrp"}, {ANY(book_run), "pnpplrp"}, {ANY(office_open), "pn"}, {ANY(office_open_keeping), "pnn"}, {ANY(office_open_waking), "pnnp"},
     {ANY(session_publish), "ppo"}, {ANY(session_serve), "po"}, {ANY(session_serve_telling), "polrp"},

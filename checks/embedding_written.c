@@ -47,6 +47,7 @@ static void of_a_book(void) {
     WRITES_1(open, pelgaisti_book_transaction(&book, 1, &open));
     WRITES_1(waiting, pelgaisti_book_request(&book, 2, &waiting));
     WRITES_2(count, locks, pelgaisti_book_locks(&book, 0, locks, 1, &count));
+    WRITES_3(count, locks, length, pelgaisti_book_dump(&book, locks, 1, &count, &length));
     WRITES_1(count, pelgaisti_book_ended(&book, told, 2, &count));
     WRITES_2(path_reply, count, pelgaisti_book_lock_path(&book, 1, &page, PELGAISTI_S, &level, &path_reply, told, 2, &count));
     WRITES_2(answer, count, pelgaisti_book_run(&book, 1, &program, &answer, told, 2, &count));
@@ -90,6 +91,7 @@ static void of_an_office(void) {
     WRITES_3(holders, count, seen, pelgaisti_session_holders(&sessions[0], &lock.resource, holders, 1, &count, &seen));
     WRITES_3(blockers, count, seen, pelgaisti_session_blockers(&sessions[0], 2, blockers, 1, &count, &seen));
     WRITES_3(locks, count, seen, pelgaisti_session_locks(&sessions[0], 0, locks, 1, &count, &seen));
+    WRITES_3(locks, count, seen, pelgaisti_session_dump(&sessions[0], locks, 1, &count, &seen));
     WRITES_1(seen, pelgaisti_session_reserve(&sessions[0], 1, 1, &seen));
     WRITES_1(seen, pelgaisti_session_shrink(&sessions[0], &seen));
     WRITES_2(count, seen, pelgaisti_session_idle_cells(&sessions[0], &count, &seen));

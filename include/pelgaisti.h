@@ -479,21 +479,21 @@ pelgaisti_status pelgaisti_book_locks(pelgaisti_book *book, size_t first, pelgai
 pelgaisti_status pelgaisti_book_dump(pelgaisti_book *book, pelgaisti_claim *rows, size_t room, size_t *count, uint64_t *place);
 
 /* How far a dump was written as text: the caller keeps it from line to line, and reads nothing of it. */
-typedef struct pelgaisti_dump_place {
+typedef struct pelgaisti_dumping {
     size_t row;
     size_t wait;
     uint32_t other;
-} pelgaisti_dump_place;
+} pelgaisti_dumping;
 
 /* The place in front of a dump's first line. */
-pelgaisti_dump_place pelgaisti_dump_begin(void);
+pelgaisti_dumping pelgaisti_dump_begin(void);
 
 /* Writes the next line of a whole dump to `text`, as snprintf does: at most `room` bytes with the 0 at the end; 96 are enough. Returns its
    length without the 0, and 0 behind the last line. The lines are those of `glm show --csv` of the state: the `count` rows of the dump, and
    then who waits for whom, which follows from the rows. A line of a wait costs a look at the rows of its resource, and each session that
    waits one at all rows. It needs no handle. Requires `count` elements at `rows`, which one dump wrote, and a place that
    pelgaisti_dump_begin or a call with these rows made. */
-int pelgaisti_dump_line(const pelgaisti_claim *rows, size_t count, pelgaisti_dump_place *at, char *text, size_t room);
+uint32_t pelgaisti_dump_line(const pelgaisti_claim *rows, size_t count, pelgaisti_dumping *at, char *text, size_t room);
 
 /* Writes the first `room` of the sessions whose wait the last call, batch, path or program has ended to `list`, each once, in no
    particular order, and the number of all of them to `count`: a request of the session that waited was granted, or its transaction

@@ -109,7 +109,7 @@ struct dump {
         std::string all;
         char line[128];
         auto at = pelgaisti_dump_begin();
-        while (int length = pelgaisti_dump_line(rows.data(), rows.size(), &at, line, sizeof line)) all.append(line, size_t(length));
+        while (const uint32_t length = pelgaisti_dump_line(rows.data(), rows.size(), &at, line, sizeof line)) all.append(line, length);
         return all;
     }
 };

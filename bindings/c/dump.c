@@ -55,7 +55,7 @@ static uint32_t blocker_above(const pelgaisti_claim *rows, size_t count, size_t 
 }
 
 /* Moves on to the next wait behind the rows. Returns 0 if there is none. */
-static int next_wait(const pelgaisti_claim *rows, size_t count, pelgaisti_dump_place *at) {
+static int next_wait(const pelgaisti_claim *rows, size_t count, pelgaisti_dumping *at) {
     while (at->wait < count || at->wait == SIZE_MAX) {
         if (at->wait != SIZE_MAX) {
             at->other = blocker_above(rows, count, at->wait, at->other);
@@ -67,17 +67,19 @@ static int next_wait(const pelgaisti_claim *rows, size_t count, pelgaisti_dump_p
     return 0;
 }
 
-pelgaisti_dump_place pelgaisti_dump_begin(void) {
-    pelgaisti_dump_place at = {0, SIZE_MAX, 0};
+pelgaisti_dumping pelgaisti_dump_begin(void) {
+    pelgaisti_dumping at = {0, SIZE_MAX, 0};
     return at;
 }
 
-int pelgaisti_dump_line(const pelgaisti_claim *rows, size_t count, pelgaisti_dump_place *at, char *text, size_t room) {
+uint32_t pelgaisti_dump_line(const pelgaisti_claim *rows, size_t count, pelgaisti_dumping *at, char *text, size_t room) {
     static const char *const kinds[] = {"transaction", "held", "conversion", "fresh"};
     const pelgaisti_claim *row = &rows[at->row];
     if (at->row >= count)
-        return next_wait(rows, count, at) ? snprintf(text, room, "waits,%" PRIu32 ",,,,,%" PRIu32 "\n", rows[at->wait].session, at->other) : 0;
+        return next_wait(rows, count, at)
+                   ? (uint32_t)snprintf(text, room, "waits,%" PRIu32 ",,,,,%" PRIu32 "\n", rows[at->wait].session, at->other)
+                   : 0;
     at->row++;
-    return snprintf(text, room, "%s,%" PRIu32 ",%" PRIu64 ",%s,%s,%s,\n", kinds[row->kind & 3], row->session, row->transaction,
+    return (uint32_t)snprintf(text, room, "%s,%" PRIu32 ",%" PRIu64 ",%s,%s,%s,\n", kinds[row->kind & 3], row->session, row->transaction,
                     row->doomed ? "victim" : "", text_of(&row->resource).bytes, row->kind ? pelgaisti_mode_name(row->mode) : "");
 }
