@@ -1,8 +1,8 @@
 -- A whole text of rows, from its lines.
-use Rattle.std.proofs.Common.{◌≡◌, ◌⊎◌, ℕ, ◌+◌, ◌-◌, ◌<◌, ◌≤◌, ◌^◌, List, [], ◌∷◌, ◌++◌, length, map, take, drop, refl, sym, ap, ◌∙◌, arith, subst, inl, inr}
+use Rattle.std.proofs.Common.{◌≡◌, ◌⊎◌, ℕ, ◌+◌, ◌-◌, ◌<◌, ◌≤◌, ◌^◌, List, [], ◌∷◌, ◌++◌, length, map, take, drop, refl, sym, ap, ◌∙◌, arith, subst, Bor}
 use lib.ListN.{take-append-drop}
 use Rattle.std.specs.List.{All, flat_map, join_with_byte}
-use Rattle.std.proofs.lemmas.List.{length-append, take-append-le}
+use Rattle.std.proofs.lemmas.List.{length-append, length-map, map-append, take-append-le}
 use Rattle.std.proofs.lemmas.List.Elements.{recursion_from_All}
 use Rattle.std.proofs.lemmas.List.Splits.{join_with_byte-slice_split}
 use Rattle.state_rows.specs.declared.reading.StateLists.{StateLists}
@@ -59,3 +59,23 @@ bad-in-all n text front last k parts bad = subst (λ (ls : List (List ℕ)). IsF
   front = let in_front = bad.within in subst (AreLinesOfState n) (sym (take-append-le (k - 1) front (last ∷ []) (omega (arith, in_front)))) bad.front;
   bad = let in_front = bad.within in subst (BeginNoState n) (sym (take-append-le k front (last ∷ []) in_front)) bad.bad;
 })
+
+-- The lines of a text, of which the last was taken off.
+pub parts-of : (text : List ℕ) (items rest : List (Bor (List ℕ))) (last : Bor (List ℕ)) → map (λ (line : Bor (List ℕ)). line.now) items ≡ lines_of text → items ≡ rest ++ last ∷ []
+    → lines_of text ≡ map (λ (line : Bor (List ℕ)). line.now) rest ++ last.now ∷ []
+parts-of text items rest last all is = sym all ∙ (ap (map (λ (line : Bor (List ℕ)). line.now)) is ∙ map-append (λ (line : Bor (List ℕ)). line.now) rest (last ∷ []))
+
+-- What is behind the last line feed isn't empty.
+pub open-end : (n : ℕ) (text : List ℕ) (rest : List (Bor (List ℕ))) (last : Bor (List ℕ)) (k : ℕ) (lists : StateLists)
+    → lines_of text ≡ map (λ (line : Bor (List ℕ)). line.now) rest ++ last.now ∷ [] → length rest + 1 ≡ k
+    → AreLists n lists × (map line_of_row (rows_of lists) ≡ map (λ (line : Bor (List ℕ)). line.now) rest) → (last.now ≡ [] → ⊥) → IsOpenEnd n text k
+open-end n text rest last k lists parts number read unended =
+    let f = λ (line : Bor (List ℕ)). line.now in
+    record {
+      front = map f rest;
+      last = last.now;
+      lines = parts;
+      number = sym number ∙ ap (λ (j : ℕ). j + 1) (sym (length-map rest f));
+      rows = (lists.opens.items, lists.claims.items, lists.waits.items, read);
+      unended = unended;
+    }
