@@ -44,6 +44,8 @@ pub struct CellTable {
     /// the lock is granted at once, the key needn't be looked for again. If not, the next look-up for a lock removes
     /// the key, or the next removal of a cell.
     has_provisional: bool,
+    /// At index `i`, the place to which the last cell that left place `i` went: a guess, which is tested.
+    moved: Vec<usize>,
 }
 
 impl Model for CellTable {
@@ -130,7 +132,7 @@ fn insert_key(
 
 /// Adds an idle cell at `place`, behind all others.
 #[inline(never)]
-fn add_idle_cell(cells: &mut Vec<Cell>, place: usize) -> Result<(), AllocError>
+fn add_idle_cell(cells: &mut Vec<Cell>, moved: &mut Vec<usize>, place: usize) -> Result<(), AllocError>
     requires place { place ≡ length cells.old.items }
     ensures ok { OnOk result (place < length cells.new.items) }
     ensures long { place ≤ length cells.new.items }
@@ -139,12 +141,13 @@ fn add_idle_cell(cells: &mut Vec<Cell>, place: usize) -> Result<(), AllocError>
 {
     let alloc = *cells.allocator();
     cells.push(Cell::new(alloc))?;
+    moved.push(place)?;
     Ok(())
 }
 
 /// Ensures that there is a cell at `place`. The cells from `place` on stay idle, those before it unchanged.
 #[inline(always)]
-fn ensure_cell(cells: &mut Vec<Cell>, place: usize) -> Result<(), AllocError>
+fn ensure_cell(cells: &mut Vec<Cell>, moved: &mut Vec<usize>, place: usize) -> Result<(), AllocError>
     requires place { place ≤ length cells.old.items }
     requires idle { AreIdleFrom place cells.old.items }
     ensures ok { OnOk result (place < length cells.new.items) }
@@ -155,7 +158,14 @@ fn ensure_cell(cells: &mut Vec<Cell>, place: usize) -> Result<(), AllocError>
     if place < cells.len() {
         return Ok(());
     }
-    add_idle_cell(cells, place)
+    add_idle_cell(cells, moved, place)
+}
+
+/// Notes that the cell at `from` goes to `to`, if there is memory for the note.
+fn note_moved(moved: &mut Vec<usize>, from: usize, to: usize) {
+    if from < moved.len() {
+        moved[from] = to;
+    }
 }
 
 impl CellTable {
@@ -167,6 +177,7 @@ impl CellTable {
             resources: IndexSet::with_hasher(alloc, Seeded::new(seed)),
             cells: Vec::new(alloc),
             has_provisional: false,
+            moved: Vec::new(alloc),
         }
     }
 
@@ -177,7 +188,8 @@ impl CellTable {
     {
         drop_provisional(&mut self.resources, &mut self.has_provisional);
         self.resources.reserve(more)?;
-        self.cells.reserve(more)
+        self.cells.reserve(more)?;
+        self.moved.reserve(more)
     }
 
     /// Gives back the memory of the cells that aren't in use, and the room for further ones.
@@ -188,6 +200,8 @@ impl CellTable {
         self.resources.shrink_to_fit();
         self.cells.truncate(self.resources.len());
         self.cells.shrink_to_fit();
+        self.moved.truncate(self.resources.len());
+        self.moved.shrink_to_fit();
     }
 
     /// The number of cells that aren't in use, and keep their memory.
@@ -270,6 +284,23 @@ impl CellTable {
         if likely < self.len() && is_at(&self.resources, likely, resource) {
             return Some(likely);
         }
+        self.place_moved(likely, resource)
+    }
+
+    /// Like `place_of`, but looks first at the place to which the last cell that left the place `from` went.
+    #[inline(never)]
+    fn place_moved(&self, from: usize, resource: Resource) -> Option<usize>
+        ensures { IsPlace resource self.now.entries result }
+    {
+        same_path_is_equality();
+        // Called for its contract: no key is in the set twice.
+        let _len = self.resources.len();
+        if from < self.moved.len() {
+            let to = self.moved[from];
+            if to < self.len() && is_at(&self.resources, to, resource) {
+                return Some(to);
+            }
+        }
         self.place_of(resource)
     }
 
@@ -318,7 +349,7 @@ impl CellTable {
         same_path_is_equality();
         insert_key(&mut self.resources, &mut self.has_provisional, resource)?;
         let place = self.resources.len() - 1;
-        ensure_cell(&mut self.cells, place)?;
+        ensure_cell(&mut self.cells, &mut self.moved, place)?;
         let cell = &mut self.cells[place];
         cell.set_first_holder(holder);
         self.has_provisional = false;
@@ -337,6 +368,7 @@ impl CellTable {
         let last = self.resources.len() - 1;
         let _gone = self.resources.swap_remove_index(place);
         self.cells.swap(place, last);
+        note_moved(&mut self.moved, last, place);
     }
 
     /// Requests `resource` for a session that has no request there, and updates the waits-for rows.
