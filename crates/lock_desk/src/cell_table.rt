@@ -132,7 +132,11 @@ fn insert_key(
 
 /// Adds an idle cell at `place`, behind all others.
 #[inline(never)]
-fn add_idle_cell(cells: &mut Vec<Cell>, moved: &mut Vec<usize>, place: usize) -> Result<(), AllocError>
+fn add_idle_cell(
+    cells: &mut Vec<Cell>,
+    moved: &mut Vec<usize>,
+    place: usize,
+) -> Result<(), AllocError>
     requires place { place ≡ length cells.old.items }
     ensures ok { OnOk result (place < length cells.new.items) }
     ensures long { place ≤ length cells.new.items }
@@ -147,7 +151,11 @@ fn add_idle_cell(cells: &mut Vec<Cell>, moved: &mut Vec<usize>, place: usize) ->
 
 /// Ensures that there is a cell at `place`. The cells from `place` on stay idle, those before it unchanged.
 #[inline(always)]
-fn ensure_cell(cells: &mut Vec<Cell>, moved: &mut Vec<usize>, place: usize) -> Result<(), AllocError>
+fn ensure_cell(
+    cells: &mut Vec<Cell>,
+    moved: &mut Vec<usize>,
+    place: usize,
+) -> Result<(), AllocError>
     requires place { place ≤ length cells.old.items }
     requires idle { AreIdleFrom place cells.old.items }
     ensures ok { OnOk result (place < length cells.new.items) }
