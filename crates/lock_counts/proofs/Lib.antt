@@ -1,3 +1,4 @@
 pub mod Counting
 pub mod Thinned
 pub mod Balance
+pub mod Tallies

@@ -40,10 +40,10 @@ is_op o e = number_of_op (op_of_call e.call) == number_of_op o
 abbrev pub is_kind : ReplyKind → Entry → Bool
 is_kind k e = number_of_kind (kind_of_reply e.reply) == number_of_kind k
 
--- the reply is a refusal for this reason
-abbrev pub is_refusal_for : Why → Reply → Bool
-is_refusal_for w (Refused v) = number_of_why v == number_of_why w
-is_refusal_for w _ = false
+-- the reply is a refusal whose reason has this number
+abbrev pub is_refusal_numbered : ℕ → Reply → Bool
+is_refusal_numbered n (Refused v) = number_of_why v == n
+is_refusal_numbered n _ = false
 
 -- the calls of an operation
 abbrev pub calls : Op → List Entry → ℕ
@@ -53,21 +53,28 @@ calls o h = count_if (is_op o) h
 abbrev pub replies : Op → ReplyKind → List Entry → ℕ
 replies o k h = count_if (λ e. is_op o e && is_kind k e) h
 
--- the calls of an operation that were refused for a reason
-abbrev pub refusals : Op → Why → List Entry → ℕ
-refusals o w h = count_if (λ e. is_op o e && is_refusal_for w e.reply) h
+-- the calls that were refused for a reason
+abbrev pub refusals : Why → List Entry → ℕ
+refusals w h = count_if (λ e. is_refusal_numbered (number_of_why w) e.reply) h
 
 -- requests
 
--- the entry requests a lock: by a Lock, a Convert or a Try
+-- the operations that request a lock
+abbrev pub is_requesting : Op → Bool
+is_requesting op.Lock = true
+is_requesting op.Convert = true
+is_requesting op.Try = true
+is_requesting _ = false
+
+-- the entry requests a lock
 abbrev pub is_request : Entry → Bool
-is_request e = is_op op.Lock e || (is_op op.Convert e || is_op op.Try e)
+is_request e = is_requesting (op_of_call e.call)
 
 -- the requests for locks
 abbrev pub requests : List Entry → ℕ
 requests h = count_if is_request h
 
--- those that were granted by their own reply: the session held the lock after the call, and didn't have to wait
+-- those that were granted by their own reply, also where a victim of theirs made room
 abbrev pub granted_at_once : List Entry → ℕ
 granted_at_once h = count_if (λ e. is_request e && is_kind kind.Granted e) h
 
@@ -97,7 +104,7 @@ doomed_by before e after = count_if (λ q. has_ended e.session before after q.se
 abbrev pub dooms_itself : Entry → Bool
 dooms_itself e = is_request e && is_kind kind.Deadlock e
 
--- how many victims the entry made: each waited, and its wait ended
+-- how many victims the entry made: each had a waiting request, and its wait ended
 abbrev pub victims_of : State → Entry → State → ℕ
 victims_of before e after = one_if (dooms_itself e) + doomed_by before e after
 

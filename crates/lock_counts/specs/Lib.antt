@@ -1,2 +1,3 @@
 pub mod Counts
 pub mod Balance
+pub mod Tallies
