@@ -1,0 +1,2 @@
+pub mod StatsText
+pub mod Stats
