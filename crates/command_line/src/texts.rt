@@ -133,10 +133,10 @@ gives the line of 'check', and status 3.
 
   glm stats examples/deadlock.history.csv
 
-  requests   all            7
-  requests   granted        5
+  requests   all            6
+  requests   granted        3
   requests   waiting        2
-  requests   refused        0
+  requests   refused        1
 
 With --csv the same is written as rows group,name,number.";
 
