@@ -120,11 +120,7 @@ pub(crate) fn fresh_book(alloc: Global, sessions: u16) -> Result<Book, NoMemory>
 
 /// Serves the calls of the entries in order on a fresh lock table of `sessions` sessions, at most `MAX_SESSIONS`, and returns what is
 /// found, as [`check_whole`] does of a history that it reads. Fails only if the lock table finds no memory.
-pub fn finding_on(
-    alloc: Global,
-    entries: &[Entry],
-    sessions: u16,
-) -> Result<Finding, NoMemory>
+pub fn finding_on(alloc: Global, entries: &[Entry], sessions: u16) -> Result<Finding, NoMemory>
     requires some { 0 < sessions }
     requires few { sessions ≤ MAX_SESSIONS }
     requires within { All (IsEntry sessions) entries.now }

@@ -87,12 +87,12 @@ module _ (s : ℕ) (before after : State) (more : List Claim) where
       ≡ granted_of s before after
       + doomed_of s before after
   others-gone of_s =
-      count-append another before.table.requests more
-      ∙ ap (λ (n : ℕ). count_if another before.table.requests + n) (count-none another more (λ q k. not-another q (of_s q k)))
-      ∙ (omega arith)
-      ∙ count-splits another (λ (q : Claim). has_ended s before after q.session && not (is_doomed after q.session)) (λ (q : Claim). has_ended s before after q.session && is_doomed after q.session)
-      before.table.requests
-      (λ q k. ap one_if (ended q k) ∙ split-behind (has_ended s before after q.session) (is_doomed after q.session))
+      let parts = count-append another before.table.requests more in
+      let none = count-none another more (λ q k. not-another q (of_s q k)) in
+      let by = count-splits another (λ (q : Claim). has_ended s before after q.session && not (is_doomed after q.session))
+      (λ (q : Claim). has_ended s before after q.session && is_doomed after q.session) before.table.requests
+      (λ q k. ap one_if (ended q k) ∙ split-behind (has_ended s before after q.session) (is_doomed after q.session)) in
+      omega (arith, parts, none, by)
     where
       not-another : (q : Claim) → q.session ≡ s → another q ≡ false
       not-another q e = ap (λ (u : ℕ). not (eqb u s) && not (is_waiting after q.session)) e ∙ ap (λ (b : Bool). not b && not (is_waiting after q.session)) (eqb-refl s)
@@ -308,10 +308,6 @@ module _ (st : State) (i : IsQuiescent st.table) (s : ℕ) where
   step-balanced : (c : Call) → DoDoomedWaitForNothing (step st s c).state → IsBalanced st s c (step st s c)
   step-balanced c = go (first_failing (tests st s c)) refl
     where
-      go : (o : Option Why) → first_failing (tests st s c) ≡ o → DoDoomedWaitForNothing (outcome_of o st s c).state → IsBalanced st s c (outcome_of o st s c)
-      go None h calm = act-balanced c h calm
-      go (Some w) h calm = refused c w
-
       refused : (c : Call) (w : Why) → IsBalanced st s c (record { state = st; reply = Refused w })
       refused Begin w = plain-balanced st (thin-same st.table.requests) (not-changed st i s)
       refused (Lock r m) w = plain-balanced st (thin-same st.table.requests) (not-changed st i s)
@@ -323,6 +319,10 @@ module _ (st : State) (i : IsQuiescent st.table) (s : ℕ) where
       refused (Try r m) w = plain-balanced st (thin-same st.table.requests) (not-changed st i s)
       refused Withdraw w = plain-balanced st (thin-same st.table.requests) (not-changed st i s)
       refused Restart w = restart-balanced st (thin-same st.table.requests)
+
+      go : (o : Option Why) → first_failing (tests st s c) ≡ o → DoDoomedWaitForNothing (outcome_of o st s c).state → IsBalanced st s c (outcome_of o st s c)
+      go None h calm = act-balanced c h calm
+      go (Some w) h calm = refused c w
 
 -- histories
 

@@ -338,7 +338,7 @@ ends-counted n s c h e list is all listed once =
     (λ q k. both (has_ended s st after q.session) (is_doomed after q.session)) in (
       subst (λ (x : ℕ). count_if (is_doomed after) list ≡ count_if (λ (q : Claim). has_ended x st after q.session && is_doomed after q.session) st.table.requests) (sym is) (count (is_doomed after)),
       subst (λ (x : ℕ). length list ≡ count_if (λ (q : Claim). has_ended x st after q.session && not (is_doomed after q.session)) st.table.requests
-      + count_if (λ (q : Claim). has_ended x st after q.session && is_doomed after q.session) st.table.requests) (sym is) (sym (count-all list) ∙ total),
+          + count_if (λ (q : Claim). has_ended x st after q.session && is_doomed after q.session) st.table.requests) (sym is) (sym (count-all list) ∙ total),
     )
   where
     both : (w d : Bool) → one_if (w && true) ≡ one_if (w && not d) + one_if (w && d)

@@ -1,6 +1,6 @@
 -- A tally has counted a history, and counts one call more.
-use Rattle.std.proofs.Common.{◌≡◌, ◌≢◌, ℕ, zero, suc, ◌+◌, ◌*◌, ◌<◌, ◌≤◌, ◌%◌, ◌^◌, Bool, true, false, cond, not, eqb, ltb, ◌&&◌, ◌||◌, inl, inr, List, [], ◌∷◌, ◌++◌, length, get_or, refl, sym, ◌∙◌, ap, subst, arith, length-append, mod-eq_of_lt}
-use Rattle.std.proofs.lemmas.Bool.Decides.{Decides-eqb, Decides-ltb, nat_tests}
+use Rattle.std.proofs.Common.{◌≡◌, ◌≢◌, ℕ, zero, suc, ◌+◌, ◌*◌, ◌<◌, ◌≤◌, ◌%◌, ◌^◌, Bool, true, false, cond, not, eqb, ltb, ◌&&◌, ◌||◌, inl, inr, List, [], ◌∷◌, ◌++◌, length, get_or, replicate, refl, sym, ◌∙◌, ap, subst, arith, length-append, mod-eq_of_lt}
+use Rattle.std.proofs.lemmas.Bool.Decides.{Decides-eqb, Decides-ltb}
 use Rattle.lock_rules.specs.declared.calls.Call.{Call}
 use Rattle.lock_rules.specs.declared.calls.Reply.{Reply}
 use Rattle.lock_rules.specs.declared.kinds.Op.{Op}
@@ -100,17 +100,17 @@ goes-on : (x y n m z : ℕ) → z ≡ (x + y) % 2 ^ 64 → x ≡ n → y ≡ m �
 goes-on x y n m z e f g few = e ∙ mod-eq_of_lt (omega (arith, f, g, few)) ∙ omega (arith, f, g)
 
 -- what a tally has of one call more, with its reply and the waits that it has ended
-pub record HasNoted (call : Call) (reply : Reply) (ends : WaitEnds) (old new : Tally) : Type 0 where
+pub record HasNoted (o : Op) (k : ReplyKind) (reply : Reply) (ends : WaitEnds) (old new : Tally) : Type 0 where
   pub replies : (n : ℕ) → get_or new.replies n 0
-      ≡ cond (eqb n (cell_of (op_of_call call) (number_of_kind (kind_of_reply reply)))) ((get_or old.replies n 0 + 1) % 2 ^ 64) (get_or old.replies n 0)
+      ≡ cond (eqb n (cell_of o (number_of_kind k))) ((get_or old.replies n 0 + 1) % 2 ^ 64) (get_or old.replies n 0)
   pub refusals : (n : ℕ) → n < 13 → get_or new.refusals n 0
       ≡ cond (is_refusal_numbered n reply) ((get_or old.refusals n 0 + 1) % 2 ^ 64) (get_or old.refusals n 0)
   pub granted : new.granted ≡ (old.granted + ends.granted) % 2 ^ 64
   pub doomed : new.doomed ≡ (old.doomed + ends.doomed) % 2 ^ 64
   pub dooming : new.dooming
-      ≡ cond (not (is_requesting (op_of_call call) && eqb (number_of_kind (kind_of_reply reply)) 4) && not (eqb ends.doomed 0)) ((old.dooming + 1) % 2 ^ 64) old.dooming
-  pub aborted : new.aborted ≡ cond (eqb (number_of_op (op_of_call call)) 7 && ends.own) ((old.aborted + 1) % 2 ^ 64) old.aborted
-  pub restarted : new.restarted ≡ cond (eqb (number_of_op (op_of_call call)) 10 && ends.own) ((old.restarted + 1) % 2 ^ 64) old.restarted
+      ≡ cond (not (is_requesting o && eqb (number_of_kind k) 4) && not (eqb ends.doomed 0)) ((old.dooming + 1) % 2 ^ 64) old.dooming
+  pub aborted : new.aborted ≡ cond (eqb (number_of_op o) 7 && ends.own) ((old.aborted + 1) % 2 ^ 64) old.aborted
+  pub restarted : new.restarted ≡ cond (eqb (number_of_op o) 10 && ends.own) ((old.restarted + 1) % 2 ^ 64) old.restarted
 
 -- a sum of tests is no more than the entries
 total-few : (test : State → Entry → State → Bool) (st : State) (es : List Entry) → total_from (λ before e after. one_if (test before e after)) st es ≤ length es
@@ -125,7 +125,7 @@ doomed-le before e after = omega arith
 pub noted : (h : List Entry) (s : ℕ) (call : Call) (reply : Reply) (ends : WaitEnds) (old new : Tally) → IsTallyOf h old → length h + 1 < 2 ^ 64
     → IsLegal (h ++ record { session = s; call = call; reply = reply } ∷ [])
     → AreEndsOf (state_of h) (record { session = s; call = call; reply = reply }) (step (state_of h) s call).state ends
-    → HasNoted call reply ends old new
+    → HasNoted (op_of_call call) (kind_of_reply reply) reply ends old new
     → IsTallyOf (h ++ record { session = s; call = call; reply = reply } ∷ []) new
 noted h s call reply ends old new t few legal told n =
     let e : Entry = record { session = s; call = call; reply = reply } in
@@ -172,12 +172,28 @@ noted h s call reply ends old new t few legal told n =
           ∙ sym (total-push (λ before x later. one_if (gives_up op.Restart before x later)) h e);
     }
 
--- what a tally tells
+-- a tally whose counters are all 0 has counted no call
+pub fresh : (t : Tally) → ((n : ℕ) → get_or t.replies n 0 ≡ 0) → ((n : ℕ) → get_or t.refusals n 0 ≡ 0) → t.granted ≡ 0 → t.doomed ≡ 0 → t.dooming ≡ 0
+    → t.aborted ≡ 0 → t.restarted ≡ 0 → IsTallyOf [] t
+fresh t replies refusals granted doomed dooming aborted restarted = record {
+  legal = tt;
+  few = omega arith;
+  replies = λ o n small. replies (cell_of o n);
+  refusals = λ n small. refusals n;
+  granted = granted;
+  doomed = doomed;
+  dooming = dooming;
+  aborted = aborted;
+  restarted = restarted;
+}
 
-module _ (h : List Entry) (t : Tally) (is : IsTallyOf h t) where
-  -- a sum of counts that is within the number of calls doesn't wrap
-  fits : (x y n : ℕ) → x + y ≡ n → n ≤ length h → (x + y) % 2 ^ 64 ≡ n
-  fits x y n e few = mod-eq_of_lt (omega (arith, e, few, is.few)) ∙ e
+-- a list of zeros
+pub zeros : (n i : ℕ) → get_or (replicate n 0) i 0 ≡ 0
+zeros zero i = refl
+zeros (suc n) zero = refl
+zeros (suc n) (suc i) = zeros n i
+
+-- what a tally tells
 
 -- the requests of three operations are those of all
 one-operation : (o : Op) (x : Bool) → one_if (is_requesting o && x) ≡ one_if (eqb (number_of_op o) 2 && x) + one_if (eqb (number_of_op o) 3 && x) + one_if (eqb (number_of_op o) 8 && x)
@@ -250,10 +266,11 @@ below-next true k n = go (ltb k n) (eqb k n) (ltb k (n + 1)) refl refl refl
     go true false false e f g = let x = (Decides-ltb k n).0 e in let z = (Decides-ltb k (n + 1)).1 (omega (arith, x)) in absurd (cc)
     go false true true e f g = refl
     go false true false e f g = let y = (Decides-eqb k n).0 f in let z = (Decides-ltb k (n + 1)).1 (omega (arith, y)) in absurd (cc)
-    go false false true e f g = absurd (neither (ltb k n) (eqb k n) e f g)
-      where
-        neither : (a b : Bool) → a ≡ false → b ≡ false → ltb k (n + 1) ≡ true → ⊥
-        neither a b x y z = grind (arith, nat_tests, e, f, g)
+    go false false true e f g =
+        let z = (Decides-ltb k (n + 1)).0 g in
+        let w = apart n k f in
+        let t = (Decides-ltb k n).1 (omega (arith, z, w)) in
+        absurd (cc)
     go false false false e f g = refl
 
 -- one number more
