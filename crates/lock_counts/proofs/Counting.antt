@@ -1,5 +1,5 @@
 -- Counting the items of a list that pass a test, and sums over served entries.
-use Rattle.std.proofs.Common.{◌≡◌, ℕ, ◌+◌, ◌≤◌, Bool, true, false, cond, not, ◌&&◌, ◌||◌, inl, inr, List, [], ◌∷◌, ◌++◌, length, filter, refl, sym, ◌∙◌, ap, arith}
+use Rattle.std.proofs.Common.{◌≡◌, ℕ, zero, suc, ◌+◌, ◌<◌, ◌≤◌, Bool, true, false, cond, not, ◌&&◌, ◌||◌, inl, inr, List, [], ◌∷◌, ◌++◌, length, filter, take, get_or, add-one, refl, sym, ◌∙◌, ap, arith}
 use Rattle.sequential.proofs.Members.{Member}
 use Rattle.lock_rules.specs.Entries.{Entry}
 use Rattle.lock_rules.specs.State.{State}
@@ -57,3 +57,18 @@ total-append amount st (e ∷ es) fs = omega (arith, total-append amount (step s
 pub total-le : (a b : State → Entry → State → ℕ) (st : State) (es : List Entry) → ((before : State) (e : Entry) (after : State) → a before e after ≤ b before e after) → total_from a st es ≤ total_from b st es
 total-le a b st [] h = omega arith
 total-le a b st (e ∷ es) h = omega (arith, h st e (step st e.session e.call).state, total-le a b (step st e.session e.call).state es h)
+
+-- one item more of those in front of an index
+pub count-next : {X : Type 0} (p : X → Bool) (xs : List X) (i : ℕ) (d : X) → i < length xs → count_if p (take (i + 1) xs) ≡ count_if p (take i xs) + one_if (p (get_or xs i d))
+count-next {X} p xs i d l = ap (λ (k : ℕ). count_if p (take k xs)) (add-one i) ∙ go xs i l
+  where
+    go : (xs : List X) (i : ℕ) → i < length xs → count_if p (take (suc i) xs) ≡ count_if p (take i xs) + one_if (p (get_or xs i d))
+    go [] i l = absurd (omega (arith, l))
+    go (x ∷ xs) zero l = omega arith
+    go (x ∷ xs) (suc i) l = omega (arith, go xs i (omega (arith, l)))
+
+-- no more of them than the index
+pub count-le : {X : Type 0} (p : X → Bool) (xs : List X) (i : ℕ) → count_if p (take i xs) ≤ i
+count-le p xs zero = omega arith
+count-le p [] (suc i) = omega arith
+count-le p (x ∷ xs) (suc i) = omega (arith, one_if-le (p x), count-le p xs i)

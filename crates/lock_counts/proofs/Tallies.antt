@@ -1,6 +1,8 @@
 -- A tally has counted a history, and counts one call more.
-use Rattle.std.proofs.Common.{◌≡◌, ◌≢◌, ℕ, zero, suc, ◌+◌, ◌*◌, ◌<◌, ◌≤◌, ◌%◌, ◌^◌, Bool, true, false, cond, not, eqb, ltb, ◌&&◌, ◌||◌, inl, inr, List, [], ◌∷◌, ◌++◌, length, get_or, replicate, refl, sym, ◌∙◌, ap, subst, arith, length-append, mod-eq_of_lt}
+use Rattle.std.proofs.Common.{◌≡◌, ◌≢◌, ℕ, zero, suc, ◌+◌, ◌*◌, ◌<◌, ◌≤◌, ◌%◌, ◌^◌, Bool, true, false, cond, not, eqb, ltb, ◌&&◌, ◌||◌, inl, inr, List, [], ◌∷◌, ◌++◌, length, get_or, set, replicate, refl, sym, ◌∙◌, ap, subst, arith, length-append, mod-eq_of_lt}
+use Rattle.std.proofs.lemmas.Bool.{cases_Bool}
 use Rattle.std.proofs.lemmas.Bool.Decides.{Decides-eqb, Decides-ltb}
+use Rattle.std.proofs.lemmas.List.{get_or-set_same, get_or-set_other}
 use Rattle.lock_rules.specs.declared.calls.Call.{Call}
 use Rattle.lock_rules.specs.declared.calls.Reply.{Reply}
 use Rattle.lock_rules.specs.declared.kinds.Op.{Op}
@@ -8,7 +10,6 @@ use Rattle.lock_rules.specs.declared.kinds.Op.TheVariants as op
 use Rattle.lock_rules.specs.declared.kinds.ReplyKind.{ReplyKind}
 use Rattle.lock_rules.specs.declared.kinds.ReplyKind.TheVariants as kind
 use Rattle.lock_rules.specs.declared.calls.Why.{Why}
-use Rattle.lock_rules.specs.declared.calls.Why.TheVariants as why
 use Rattle.lock_rules.specs.Kinds.{op_of_call, kind_of_reply, number_of_op, number_of_kind, number_of_why}
 use Rattle.lock_rules.specs.Entries.{Entry}
 use Rattle.lock_rules.specs.State.{State, empty, is_waiting}
@@ -20,50 +21,8 @@ use Rattle.lock_counts.specs.declared.tally.WaitEnds.{WaitEnds}
 use Rattle.lock_counts.specs.Counts.{one_if, count_if, total_from, is_op, is_kind, is_request, is_requesting, is_refusal_numbered, calls, replies, refusals, requests, granted_at_once, requests_refused, begins_wait, waits_begun, granted_by, doomed_by, dooms_itself, victims_of, gives_up, waits_granted, waits_doomed, waits_withdrawn, waits_aborted, waits_restarted, still_waiting, deadlocks}
 use Rattle.lock_counts.specs.Tallies.{cell_of, dooms_others_alone, IsTallyOf, AreEndsOf}
 use Rattle.lock_counts.proofs.Counting.{one_if-le, count-le-length, count-append, count-splits, count-alike, count-none, total-append, total-le}
+use Rattle.lock_counts.proofs.Numbers.{kind_few}
 use Rattle.lock_counts.proofs.Balance.{waits-end-once, requests-answered, counts-bounded}
-
--- numbers
-
--- the number of a kind of replies is below 12
-pub kind-few : (k : ReplyKind) → number_of_kind k < 12
-kind-few kind.Began = omega arith
-kind-few kind.Granted = omega arith
-kind-few kind.Waiting = omega arith
-kind-few kind.Deadlock = omega arith
-kind-few kind.Clear = omega arith
-kind-few kind.Released = omega arith
-kind-few kind.Committed = omega arith
-kind-few kind.Aborted = omega arith
-kind-few kind.Refused = omega arith
-kind-few kind.Withdrawn = omega arith
-kind-few kind.Restarted = omega arith
-
--- the number of an operation is at most 10
-pub op-few : (o : Op) → number_of_op o ≤ 10
-op-few op.Begin = omega arith
-op-few op.Lock = omega arith
-op-few op.Convert = omega arith
-op-few op.Poll = omega arith
-op-few op.Release = omega arith
-op-few op.Commit = omega arith
-op-few op.Abort = omega arith
-op-few op.Try = omega arith
-op-few op.Withdraw = omega arith
-op-few op.Restart = omega arith
-
--- the number of a refusal is below 13
-pub why-few : (w : Why) → number_of_why w < 13
-why-few why.AlreadyOpen = omega arith
-why-few why.NoTransaction = omega arith
-why-few why.IsWaiting = omega arith
-why-few why.IsDoomed = omega arith
-why-few why.NothingAsked = omega arith
-why-few why.NotHeld = omega arith
-why-few why.ParentNotHeld = omega arith
-why-few why.ChildHeld = omega arith
-why-few why.TooManyLocks = omega arith
-why-few why.WouldWait = omega arith
-why-few why.NotWaiting = omega arith
 
 -- two counters of replies have one index exactly if they are of one operation and one kind
 cells-apart : (a b x y : ℕ) → b < 12 → y < 12 → eqb (a * 12 + b) (x * 12 + y) ≡ (eqb x a && eqb y b)
@@ -78,6 +37,13 @@ cells-apart a b x y p q = go (eqb x a) (eqb y b) refl refl
         let same = (Decides-eqb x a).0 e in
         other (x * 12 + y) (a * 12 + b) (λ g. apart b y f (omega (arith, g, same)))
     go false d e f = other (x * 12 + y) (a * 12 + b) (λ g. apart a x e (omega (arith, g, p, q)))
+
+-- a list with one item written
+pub written : (xs : List ℕ) (i v n : ℕ) → i < length xs → get_or (set xs i v) n 0 ≡ cond (eqb n i) v (get_or xs n 0)
+written xs i v n l = elim (cases_Bool (eqb n i)) [
+  | inl y ↦ ap (λ (k : ℕ). get_or (set xs i v) k 0) ((Decides-eqb n i).0 y) ∙ get_or-set_same xs i v 0 l ∙ sym (ap (λ (b : Bool). cond b v (get_or xs n 0)) y)
+  | inr k ↦ get_or-set_other xs i n v 0 (apart i n k) ∙ sym (ap (λ (b : Bool). cond b v (get_or xs n 0)) k)
+]
 
 -- one entry more
 
@@ -140,7 +106,7 @@ noted h s call reply ends old new t few legal told n =
           goes-up (eqb (cell_of o k) (cell_of (op_of_call call) (number_of_kind (kind_of_reply reply)))) _ _ _ (n.replies (cell_of o k)) (t.replies o k small)
           (omega (arith, few, count-le-length (λ (x : Entry). is_op o x && eqb (number_of_kind (kind_of_reply x.reply)) k) h))
           ∙ ap (λ (b : Bool). count_if (λ (x : Entry). is_op o x && eqb (number_of_kind (kind_of_reply x.reply)) k) h + one_if b)
-          (cells-apart (number_of_op o) k (number_of_op (op_of_call call)) (number_of_kind (kind_of_reply reply)) small (kind-few (kind_of_reply reply)))
+          (cells-apart (number_of_op o) k (number_of_op (op_of_call call)) (number_of_kind (kind_of_reply reply)) small (kind_few (kind_of_reply reply)))
           ∙ sym (count-push (λ (x : Entry). is_op o x && eqb (number_of_kind (kind_of_reply x.reply)) k) h e);
       refusals = λ k small.
           goes-up (is_refusal_numbered k reply) _ _ _ (n.refusals k small) (t.refusals k small)
@@ -282,7 +248,7 @@ called-next o n h =
 
 -- all numbers
 pub called-all : (o : Op) (h : List Entry) → count_if (below o 12) h ≡ calls o h
-called-all o h = count-alike (below o 12) (is_op o) h (λ e k. all (is_op o e) (ltb (number_of_kind (kind_of_reply e.reply)) 12) ((Decides-ltb (number_of_kind (kind_of_reply e.reply)) 12).1 (kind-few (kind_of_reply e.reply))))
+called-all o h = count-alike (below o 12) (is_op o) h (λ e k. all (is_op o e) (ltb (number_of_kind (kind_of_reply e.reply)) 12) ((Decides-ltb (number_of_kind (kind_of_reply e.reply)) 12).1 (kind_few (kind_of_reply e.reply))))
   where
     all : (a b : Bool) → b ≡ true → (a && b) ≡ a
     all true b e = e

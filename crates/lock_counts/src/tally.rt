@@ -67,6 +67,7 @@ pub struct Tally {
 }
 
 /// The index of a counter of replies.
+#[tactic(auto, using(crate::proofs::Numbers::op_few, crate::proofs::Numbers::kind_few))]
 #[inline(always)]
 fn cell(op: Op, kind: ReplyKind) -> usize
     ensures cell { result ≡ cell_of op (number_of_kind kind) }
@@ -89,6 +90,22 @@ fn dooms_itself(op: Op, kind: ReplyKind) -> bool
     ensures { result ≡ (is_requesting op && (number_of_kind kind == number_of_kind kinds.Deadlock)) }
 {
     is_requesting(op) && kind.number() == ReplyKind::Deadlock.number()
+}
+
+/// Whether a call of this operation with a reply of this kind, which made so many other sessions victims, made others alone victims.
+#[inline(always)]
+fn dooms_others_alone(op: Op, kind: ReplyKind, doomed: u64) -> bool
+    ensures { result ≡ (not (is_requesting op && (number_of_kind kind == number_of_kind kinds.Deadlock)) && not (doomed == 0)) }
+{
+    !dooms_itself(op, kind) && doomed != 0
+}
+
+/// Whether a call of the operation `op` gave its session's wait up by the operation `by`; `own` says whether that wait has ended.
+#[inline(always)]
+fn gives_up(op: Op, by: Op, own: bool) -> bool
+    ensures { result ≡ ((number_of_op op == number_of_op by) && own) }
+{
+    op.number() == by.number() && own
 }
 
 /// One more, if the test holds.
@@ -133,9 +150,14 @@ impl Tally {
             ≡ (if is_refusal_numbered n reply.now then (slice_index_or self.old.refusals n 0 + 1) % 2 ^ 64 else slice_index_or self.old.refusals n 0) }
         ensures others { self.new ≡ record self.old { refusals = self.new.refusals } }
     {
-        if let Reply::Refused(why) = reply {
-            let at = why.number() as usize;
-            self.refusals[at] = self.refusals[at].wrapping_add(1);
+        match reply {
+            Reply::Refused(why) => {
+                let at = why.number() as usize;
+                self.refusals[at] = self.refusals[at].wrapping_add(1);
+            }
+            Reply::Began(_) | Reply::Granted(_) | Reply::Waiting | Reply::Deadlock => {}
+            Reply::Clear | Reply::Released | Reply::Committed(_) | Reply::Aborted(_) => {}
+            Reply::Withdrawn | Reply::Restarted(_) => {}
         }
     }
 
@@ -151,9 +173,9 @@ impl Tally {
         ensures replies { self.new.replies ≡ self.old.replies }
         ensures refusals { self.new.refusals ≡ self.old.refusals }
     {
-        let dooming = !dooms_itself(op, kind) && ends.doomed != 0;
-        let aborting = op.number() == Op::Abort.number() && ends.own;
-        let restarting = op.number() == Op::Restart.number() && ends.own;
+        let dooming = dooms_others_alone(op, kind, ends.doomed);
+        let aborting = gives_up(op, Op::Abort, ends.own);
+        let restarting = gives_up(op, Op::Restart, ends.own);
         self.granted = self.granted.wrapping_add(ends.granted);
         self.doomed = self.doomed.wrapping_add(ends.doomed);
         self.dooming = one_more(self.dooming, dooming);
