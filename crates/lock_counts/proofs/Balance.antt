@@ -1,5 +1,5 @@
 -- The counters of a legal history belong together.
-use Rattle.std.proofs.Common.{◌≡◌, ℕ, zero, suc, ◌+◌, ◌≤◌, Bool, true, false, cond, not, eqb, ◌&&◌, ◌||◌, inl, inr, List, [], ◌∷◌, ◌++◌, length, map, Option, Some, None, is_some, filter, refl, sym, ◌∙◌, ap, subst, arith, length-append, append-nil}
+use Rattle.std.proofs.Common.{◌≡◌, ℕ, zero, suc, ◌+◌, ◌≤◌, Bool, true, false, cond, not, eqb, ◌&&◌, inl, inr, List, [], ◌∷◌, ◌++◌, length, Option, Some, None, is_some, filter, refl, sym, ◌∙◌, ap, subst, arith, length-append, append-nil}
 use Rattle.std.proofs.lemmas.Bool.Decides.{Decides-eqb}
 use Rattle.std.proofs.lemmas.Bool.{cases_Bool, not-false}
 use Rattle.lock_modes.specs.declared.Mode.{Mode}
@@ -8,25 +8,24 @@ use Rattle.lock_rules.specs.declared.calls.Call.{Call}
 use Rattle.lock_rules.specs.declared.calls.Call.TheVariants.{Begin, Lock, Convert, Poll, Release, Commit, Abort, Try, Withdraw, Restart}
 use Rattle.lock_rules.specs.declared.calls.Reply.{Reply}
 use Rattle.lock_rules.specs.declared.calls.Reply.TheVariants.{Waiting, Deadlock, Granted, Refused}
-use Rattle.lock_rules.specs.declared.calls.Transaction.{Transaction}
 use Rattle.lock_rules.specs.declared.calls.Why.{Why}
 use Rattle.lock_rules.specs.declared.kinds.Op.TheVariants as op
 use Rattle.lock_rules.specs.declared.kinds.ReplyKind.TheVariants as kind
 use Rattle.lock_rules.specs.Entries.{Entry}
-use Rattle.lock_rules.specs.State.{Claim, State, empty, held_mode, request_of, claims_of, claims_but, is_waiting, is_doomed, with_begun, with_table}
-use Rattle.lock_rules.specs.Queue.{queue, after_grant, with_request, is_granted_at_once, granted_while_fitting}
-use Rattle.lock_rules.specs.Step.{Outcome, target_of, tests, first_failing, is_held, after_wait, after_asking, after_release, after_end, ask, restarted, act, outcome_of, step}
+use Rattle.lock_rules.specs.State.{Claim, State, empty, held_mode, request_of, is_waiting, is_doomed, with_table}
+use Rattle.lock_rules.specs.Queue.{queue, after_grant, with_request, is_granted_at_once}
+use Rattle.lock_rules.specs.Step.{Outcome, target_of, tests, first_failing, is_held, after_wait, after_asking, ask, restarted, act, outcome_of, step}
 use Rattle.lock_rules.specs.Legal.{state_after, state_of, IsLegalFrom, IsLegal}
 use Rattle.lock_rules.specs.Laws.{DoDoomedWaitForNothing}
 use Rattle.lock_rules.specs.Ended.{has_ended}
-use Rattle.lock_rules.specs.Sound.{IsOnce, times}
+use Rattle.lock_rules.specs.Sound.{times}
 use Rattle.lock_rules.proofs.Lists.{eqb-refl, times-none, none-times, request_of-push, request_of-claims_but}
 use Rattle.lock_rules.proofs.Histories.{state_of-push}
 use Rattle.lock_rules.proofs.Cuts.{IsQuiescent, one_less}
 use Rattle.lock_rules.proofs.Begins.{new, once-push}
 use Rattle.lock_rules.proofs.Steps.{all-pass, is-none, try-locks, state-lawful}
 use Rattle.lock_rules.proofs.Idle.{state-idle}
-use Rattle.lock_counts.specs.Counts.{one_if, count_if, total_from, is_op, is_kind, is_request, requests, granted_at_once, requests_refused, begins_wait, waits_begun, granted_by, doomed_by, dooms_itself, victims_of, gives_up, waits_granted, waits_doomed, waits_withdrawn, waits_aborted, waits_restarted, still_waiting, deadlocks}
+use Rattle.lock_counts.specs.Counts.{one_if, count_if, total_from, is_op, is_kind, is_request, requests, begins_wait, granted_by, victims_of, gives_up, deadlocks}
 use Rattle.lock_counts.specs.Balance.{AreRequestsAnswered, DoWaitsEndOnce, AreCountsBounded}
 use Rattle.lock_counts.proofs.Counting.{one_if-le, count-le-length, count-append, count-splits, count-alike, count-none, count-filtered, total-le}
 use Rattle.lock_counts.proofs.Thinned.{IsThinned, thin-same, thin-but, thin-front, thin-cancel, thin-end, thin-victims, waits-thinned, cancelled-waits-not, member-waits, times-count, and-false}

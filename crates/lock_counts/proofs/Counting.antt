@@ -1,5 +1,5 @@
 -- Counting the items of a list that pass a test, and sums over served entries.
-use Rattle.std.proofs.Common.{◌≡◌, ℕ, zero, suc, ◌+◌, ◌<◌, ◌≤◌, Bool, true, false, cond, not, ◌&&◌, ◌||◌, inl, inr, List, [], ◌∷◌, ◌++◌, length, filter, take, get_or, add-one, refl, sym, ◌∙◌, ap, arith}
+use Rattle.std.proofs.Common.{◌≡◌, ℕ, zero, suc, ◌+◌, ◌<◌, ◌≤◌, Bool, true, false, cond, not, inl, inr, List, [], ◌∷◌, ◌++◌, length, filter, take, get_or, add-one, refl, ◌∙◌, ap, arith}
 use Rattle.sequential.proofs.Members.{Member}
 use Rattle.lock_rules.specs.Entries.{Entry}
 use Rattle.lock_rules.specs.State.{State}

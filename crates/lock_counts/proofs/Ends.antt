@@ -2,7 +2,7 @@
 use Rattle.std.proofs.Common.{◌≡◌, ◌≢◌, ℕ, zero, suc, ◌+◌, ◌<◌, ◌≤◌, ◌↔◌, Bool, true, false, cond, not, eqb, ◌&&◌, ◌⊎◌, inl, inr, List, [], ◌∷◌, ◌++◌, length, map, Option, Some, None, is_some, filter, Contains, get_or, refl, sym, ◌∙◌, ap, subst, arith, append-nil}
 use Rattle.std.specs.List.{All}
 use Rattle.std.proofs.lemmas.Bool.Decides.{Decides-eqb}
-use Rattle.std.proofs.lemmas.Bool.{cases_Bool, and_parts, and_from}
+use Rattle.std.proofs.lemmas.Bool.{and_parts}
 use Rattle.lock_modes.specs.declared.Mode.{Mode}
 use Rattle.sequential.specs.Histories.{IsEntryWithin}
 use Rattle.sequential.proofs.Members.{Member, contains-member, member-contains}
@@ -17,13 +17,13 @@ use Rattle.lock_rules.specs.Step.{target_of, tests, first_failing, is_held, afte
 use Rattle.lock_rules.specs.Legal.{state_after, state_of}
 use Rattle.lock_rules.specs.Ended.{has_ended, ended_waits}
 use Rattle.lock_rules.specs.Sound.{IsOnce, times}
-use Rattle.lock_rules.proofs.Lists.{other, apart, eqb-refl}
+use Rattle.lock_rules.proofs.Lists.{apart, eqb-refl}
 use Rattle.lock_rules.proofs.Cuts.{one_less}
 use Rattle.lock_rules.proofs.Begins.{new}
 use Rattle.lock_rules.proofs.Steps.{state-lawful}
 use Rattle.lock_counts.specs.Counts.{one_if, count_if, granted_by, doomed_by}
-use Rattle.lock_counts.proofs.Counting.{count-alike, count-splits}
-use Rattle.lock_counts.proofs.Thinned.{IsThinned, thin-same, thin-but, thin-front, thin-cancel, thin-end, thin-victims, member-waits}
+use Rattle.lock_counts.proofs.Counting.{count-splits}
+use Rattle.lock_counts.proofs.Thinned.{IsThinned, thin-same, thin-but, thin-front, thin-cancel, thin-end, thin-victims}
 
 -- lists of numbers, each there once
 
@@ -300,7 +300,7 @@ AreRequestsWithin n st = (q : Claim) → Member q st.table.requests → (1 ≤ q
 step-within : (n : ℕ) (st : State) (s : ℕ) (c : Call) → 1 ≤ s → s ≤ n → AreRequestsWithin n st → AreRequestsWithin n (step st s c).state
 step-within n st s c some few within q k =
     let t = step-thinned st s c in
-    elim (either-member q st.table.requests t.more (kept-member (λ (x : Claim). t.thin.keeps x.session) q (st.table.requests ++ t.more) (subst (Member q) t.thin.is k))) [
+    elim (either-member q st.table.requests t.more (kept-member (λ (x : Claim). t.thin.keeps x.session) q (st.table.requests ++ t.more) (subst (λ (xs : List Claim). Member q xs) t.thin.is k))) [
       | inl j ↦ within q j
       | inr j ↦ let e = t.of q j in (omega (arith, some, e), omega (arith, few, e))
     ]

@@ -1,5 +1,5 @@
 -- A tally has counted a history, and counts one call more.
-use Rattle.std.proofs.Common.{◌≡◌, ◌≢◌, ℕ, zero, suc, ◌+◌, ◌*◌, ◌<◌, ◌≤◌, ◌%◌, ◌^◌, Bool, true, false, cond, not, eqb, ltb, ◌&&◌, ◌||◌, inl, inr, List, [], ◌∷◌, ◌++◌, length, get_or, set, replicate, refl, sym, ◌∙◌, ap, subst, arith, length-append, mod-eq_of_lt}
+use Rattle.std.proofs.Common.{◌≡◌, ℕ, zero, suc, ◌+◌, ◌*◌, ◌<◌, ◌≤◌, ◌%◌, ◌^◌, Bool, true, false, cond, not, eqb, ltb, ◌&&◌, ◌||◌, inl, inr, List, [], ◌∷◌, ◌++◌, length, get_or, set, replicate, refl, sym, ◌∙◌, ap, arith, length-append, mod-eq_of_lt}
 use Rattle.std.proofs.lemmas.Bool.{cases_Bool}
 use Rattle.std.proofs.lemmas.Bool.Decides.{Decides-eqb, Decides-ltb}
 use Rattle.std.proofs.lemmas.List.{get_or-set_same, get_or-set_other}
@@ -9,20 +9,19 @@ use Rattle.lock_rules.specs.declared.kinds.Op.{Op}
 use Rattle.lock_rules.specs.declared.kinds.Op.TheVariants as op
 use Rattle.lock_rules.specs.declared.kinds.ReplyKind.{ReplyKind}
 use Rattle.lock_rules.specs.declared.kinds.ReplyKind.TheVariants as kind
-use Rattle.lock_rules.specs.declared.calls.Why.{Why}
-use Rattle.lock_rules.specs.Kinds.{op_of_call, kind_of_reply, number_of_op, number_of_kind, number_of_why}
+use Rattle.lock_rules.specs.Kinds.{op_of_call, kind_of_reply, number_of_op, number_of_kind}
 use Rattle.lock_rules.specs.Entries.{Entry}
-use Rattle.lock_rules.specs.State.{State, empty, is_waiting}
+use Rattle.lock_rules.specs.State.{State, empty}
 use Rattle.lock_rules.specs.Step.{step}
 use Rattle.lock_rules.specs.Legal.{state_of, IsLegal}
 use Rattle.lock_rules.proofs.Lists.{other, apart}
 use Rattle.lock_counts.specs.declared.tally.Tally.{Tally}
 use Rattle.lock_counts.specs.declared.tally.WaitEnds.{WaitEnds}
-use Rattle.lock_counts.specs.Counts.{one_if, count_if, total_from, is_op, is_kind, is_request, is_requesting, is_refusal_numbered, calls, replies, refusals, requests, granted_at_once, requests_refused, begins_wait, waits_begun, granted_by, doomed_by, dooms_itself, victims_of, gives_up, waits_granted, waits_doomed, waits_withdrawn, waits_aborted, waits_restarted, still_waiting, deadlocks}
+use Rattle.lock_counts.specs.Counts.{one_if, count_if, total_from, is_op, is_kind, is_request, is_requesting, is_refusal_numbered, calls, replies, refusals, requests, begins_wait, waits_begun, granted_by, doomed_by, dooms_itself, victims_of, gives_up, waits_granted, waits_aborted, waits_restarted, deadlocks}
 use Rattle.lock_counts.specs.Tallies.{cell_of, dooms_others_alone, IsTallyOf, AreEndsOf}
 use Rattle.lock_counts.proofs.Counting.{one_if-le, count-le-length, count-append, count-splits, count-alike, count-none, total-append, total-le}
 use Rattle.lock_counts.proofs.Numbers.{kind_few}
-use Rattle.lock_counts.proofs.Balance.{waits-end-once, requests-answered, counts-bounded}
+use Rattle.lock_counts.proofs.Balance.{counts-bounded}
 
 -- two counters of replies have one index exactly if they are of one operation and one kind
 cells-apart : (a b x y : ℕ) → b < 12 → y < 12 → eqb (a * 12 + b) (x * 12 + y) ≡ (eqb x a && eqb y b)
@@ -206,8 +205,8 @@ victims-with st (e ∷ es) = omega (arith, victims-with (step st e.session e.cal
 
 -- the calls that closed a cycle made their own session a victim, or others alone
 closed-by : (own : Bool) (n : ℕ) → one_if (not (eqb (one_if own + n) 0)) ≡ one_if (not own && not (eqb n 0)) + one_if own
-closed-by true n = refl
-closed-by false n = omega arith
+closed-by true n = ap (λ (b : Bool). one_if (not b)) (other 0 (1 + n) (λ g. omega (arith, g)))
+closed-by false n = let none : 0 + n ≡ n = omega arith in let same = ap (λ (k : ℕ). one_if (not (eqb k 0))) none in omega (arith, same)
 
 -- the deadlocks
 pub deadlocks-with : (st : State) (h : List Entry)

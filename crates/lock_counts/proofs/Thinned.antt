@@ -1,16 +1,15 @@
 -- What calls do to the waiting requests: they add one at most, and otherwise leave those of some sessions out.
-use Rattle.std.proofs.Common.{◌≡◌, ℕ, zero, suc, ◌+◌, ◌≤◌, Bool, true, false, cond, not, eqb, ◌&&◌, inl, inr, List, [], ◌∷◌, ◌++◌, length, map, Option, Some, None, is_some, filter, refl, sym, ◌∙◌, ap, subst, arith}
-use Rattle.std.proofs.lemmas.Bool.Decides.{nat_tests, Decides-eqb}
+use Rattle.std.proofs.Common.{◌≡◌, ℕ, zero, suc, ◌+◌, Bool, true, false, cond, not, eqb, ◌&&◌, inl, inr, List, [], ◌∷◌, ◌++◌, map, Option, Some, is_some, filter, refl, sym, ◌∙◌, ap, arith}
+use Rattle.std.proofs.lemmas.Bool.Decides.{Decides-eqb}
 use Rattle.std.proofs.lemmas.Bool.{cases_Bool}
-use Rattle.lock_modes.specs.declared.Mode.{Mode}
 use Rattle.sequential.proofs.Members.{Member}
-use Rattle.lock_rules.specs.State.{Claim, Table, State, held_mode, request_of, claims_of, claims_but, with_table}
-use Rattle.lock_rules.specs.Queue.{queue, fits, after_grant, granted_while_fitting, after_promotion, after_promotions, with_request, is_granted_at_once}
+use Rattle.lock_rules.specs.State.{Claim, Table, State, request_of, claims_of, claims_but}
+use Rattle.lock_rules.specs.Queue.{queue, fits, after_grant, granted_while_fitting, after_promotion, after_promotions}
 use Rattle.lock_rules.specs.Waits.{resource_of_request, without_request, reaches, victim_of, after_cancel, after_victim, after_victims}
-use Rattle.lock_rules.specs.Step.{without_claims, after_end, after_release, after_wait}
+use Rattle.lock_rules.specs.Step.{without_claims, after_end}
 use Rattle.lock_rules.specs.Sound.{times}
 use Rattle.lock_rules.proofs.Lists.{eqb-refl, request_of-claims_but}
-use Rattle.lock_counts.specs.Counts.{one_if, count_if}
+use Rattle.lock_counts.specs.Counts.{count_if}
 
 -- the second requests are those of the first whose sessions pass a test
 pub record IsThinned (qs rs : List Claim) : Type 0 where

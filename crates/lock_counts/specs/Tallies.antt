@@ -1,7 +1,6 @@
 -- What a tally counts of a history.
 use Rattle.std.specs.Prelude.{◌≡◌, ℕ, ◌+◌, ◌*◌, ◌<◌, ◌^◌, ◌&&◌, ◌==◌, Bool, not, List, length, slice_index_or}
 use Rattle.lock_rules.specs.declared.kinds.Op.{Op}
-use Rattle.lock_rules.specs.declared.kinds.ReplyKind.{ReplyKind}
 use Rattle.lock_rules.specs.Kinds.{kind_of_reply, number_of_op, number_of_kind}
 use Rattle.lock_rules.specs.Entries.{Entry}
 use Rattle.lock_rules.specs.State.{State, empty, is_waiting}

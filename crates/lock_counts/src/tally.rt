@@ -1,14 +1,13 @@
 //! A tally of calls and of waits, kept on the way.
 
 ghost use Rattle.std.specs.Prelude.{◌≡◌, ℕ, ◌+◌, ◌%◌, ◌^◌, ◌<◌, ◌&&◌, ◌==◌, not, if◌then◌else◌, List, [], ◌∷◌, ◌++◌, length, slice_index_or};
-ghost use Rattle.lock_rules.specs.declared.kinds.Op.{Op as OpValue};
 ghost use Rattle.lock_rules.specs.declared.kinds.Op.TheVariants as ops;
 ghost use Rattle.lock_rules.specs.declared.kinds.ReplyKind.TheVariants as kinds;
-ghost use Rattle.lock_rules.specs.Kinds.{number_of_op, number_of_kind, number_of_why};
+ghost use Rattle.lock_rules.specs.Kinds.{number_of_op, number_of_kind};
 ghost use Rattle.lock_rules.specs.Entries.{Entry as EntryValue};
 ghost use Rattle.lock_rules.specs.Step.{step};
 ghost use Rattle.lock_rules.specs.Legal.{state_of, IsLegal};
-ghost use Rattle.lock_counts.specs.Counts.{one_if, count_if, is_kind, is_request, is_requesting, is_refusal_numbered, calls, replies, refusals, requests, granted_at_once, requests_refused, waits_begun, waits_granted, waits_doomed, waits_withdrawn, waits_aborted, waits_restarted, still_waiting, deadlocks};
+ghost use Rattle.lock_counts.specs.Counts.{count_if, is_kind, is_request, is_requesting, is_refusal_numbered, calls, replies, refusals, requests, granted_at_once, requests_refused, waits_begun, waits_granted, waits_doomed, waits_withdrawn, waits_aborted, waits_restarted, still_waiting, deadlocks};
 ghost use Rattle.lock_counts.specs.Tallies.{cell_of, IsTallyOf, AreEndsOf};
 
 use lock_rules::{Call, Op, Reply, ReplyKind, Why};

@@ -1,6 +1,6 @@
 //! Serves a history, and counts its calls and its waits on the way.
 
-ghost use Rattle.std.specs.Prelude.{◌≡◌, ◌×◌, ℕ, ◌+◌, ◌<◌, ◌≤◌, ◌^◌, ◌&&◌, not, List, [], ◌∷◌, ◌++◌, length, All, IfOk};
+ghost use Rattle.std.specs.Prelude.{◌≡◌, ◌+◌, ◌<◌, ◌≤◌, ◌&&◌, List, [], ◌∷◌, ◌++◌, length, All, IfOk};
 ghost use Rattle.lock_rules.specs.declared.calls.TheConstants.{MAX_SESSIONS};
 ghost use Rattle.lock_rules.specs.Entries.{Entry as EntryValue};
 ghost use Rattle.lock_rules.specs.State.{is_doomed, is_waiting};

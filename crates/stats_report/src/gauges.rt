@@ -1,6 +1,6 @@
 //! The gauges of a lock table, as its listing and its transactions tell them.
 
-ghost use Rattle.std.specs.Prelude.{◌≡◌, ℕ, ◌+◌, ◌<◌, ◌^◌, length};
+ghost use Rattle.std.specs.Prelude.{◌≡◌, ◌+◌, ◌<◌, ◌^◌, length};
 ghost use Rattle.std.specs.List.{range_with_len};
 ghost use Rattle.lock_rules.specs.State.{is_open};
 ghost use Rattle.lock_rules.specs.Legal.{state_of};

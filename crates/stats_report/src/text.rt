@@ -1,6 +1,6 @@
 //! The counters of a tally and the gauges of a lock table, a line for each.
 
-ghost use Rattle.std.specs.Prelude.{◌≡◌, ◌-◌, ◌++◌, List, length, OnOk, IfOk, string_bytes};
+ghost use Rattle.std.specs.Prelude.{◌≡◌, ◌-◌, ◌++◌, List, OnOk, IfOk, string_bytes};
 ghost use Rattle.lock_rules.specs.Entries.{Entry as EntryValue};
 ghost use Rattle.lock_rules.specs.Legal.{state_of};
 ghost use Rattle.lock_trace.specs.Words.{word_of};
