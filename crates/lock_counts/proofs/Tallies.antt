@@ -44,6 +44,16 @@ written xs i v n l = elim (cases_Bool (eqb n i)) [
   | inr k ↦ get_or-set_other xs i n v 0 (apart i n k) ∙ sym (ap (λ (b : Bool). cond b v (get_or xs n 0)) k)
 ]
 
+-- one counter of a list has one more
+pub counted_up : (xs : List ℕ) (i j v n : ℕ) → i < length xs → i ≡ j → v ≡ (get_or xs i 0 + 1) % 2 ^ 64
+    → get_or (set xs i v) n 0 ≡ cond (eqb n j) ((get_or xs n 0 + 1) % 2 ^ 64) (get_or xs n 0)
+counted_up xs i j v n l same is =
+    written xs i v n l ∙ go (eqb n i) refl ∙ ap (λ (k : ℕ). cond (eqb n k) ((get_or xs n 0 + 1) % 2 ^ 64) (get_or xs n 0)) same
+  where
+    go : (b : Bool) → eqb n i ≡ b → cond b v (get_or xs n 0) ≡ cond b ((get_or xs n 0 + 1) % 2 ^ 64) (get_or xs n 0)
+    go true e = is ∙ ap (λ (k : ℕ). (get_or xs k 0 + 1) % 2 ^ 64) (sym ((Decides-eqb n i).0 e))
+    go false e = refl
+
 -- one entry more
 
 -- one more item of a list
@@ -76,6 +86,33 @@ pub record HasNoted (o : Op) (k : ReplyKind) (reply : Reply) (ends : WaitEnds) (
       ≡ cond (not (is_requesting o && eqb (number_of_kind k) 4) && not (eqb ends.doomed 0)) ((old.dooming + 1) % 2 ^ 64) old.dooming
   pub aborted : new.aborted ≡ cond (eqb (number_of_op o) 7 && ends.own) ((old.aborted + 1) % 2 ^ 64) old.aborted
   pub restarted : new.restarted ≡ cond (eqb (number_of_op o) 10 && ends.own) ((old.restarted + 1) % 2 ^ 64) old.restarted
+
+-- what a tally has behind the three steps of a note: the reply, the refusal and the ends of waits
+pub steps_noted : (o : Op) (k : ReplyKind) (reply : Reply) (ends : WaitEnds) (old a b new : Tally)
+    → ((n : ℕ) → get_or a.replies n 0 ≡ cond (eqb n (cell_of o (number_of_kind k))) ((get_or old.replies n 0 + 1) % 2 ^ 64) (get_or old.replies n 0))
+    → a ≡ record old { replies = a.replies }
+    → ((n : ℕ) → n < 13 → get_or b.refusals n 0 ≡ cond (is_refusal_numbered n reply) ((get_or a.refusals n 0 + 1) % 2 ^ 64) (get_or a.refusals n 0))
+    → b ≡ record a { refusals = b.refusals }
+    → new.granted ≡ (b.granted + ends.granted) % 2 ^ 64
+    → new.doomed ≡ (b.doomed + ends.doomed) % 2 ^ 64
+    → new.dooming ≡ cond (not (is_requesting o && eqb (number_of_kind k) 4) && not (eqb ends.doomed 0)) ((b.dooming + 1) % 2 ^ 64) b.dooming
+    → new.aborted ≡ cond (eqb (number_of_op o) 7 && ends.own) ((b.aborted + 1) % 2 ^ 64) b.aborted
+    → new.restarted ≡ cond (eqb (number_of_op o) 10 && ends.own) ((b.restarted + 1) % 2 ^ 64) b.restarted
+    → new.replies ≡ b.replies → new.refusals ≡ b.refusals
+    → HasNoted o k reply ends old new
+steps_noted o k reply ends old a b new up a_is down b_is granted doomed dooming aborted restarted replies refusals = record {
+  replies = λ n. ap (λ (xs : List ℕ). get_or xs n 0) (replies ∙ ap (λ (t : Tally). t.replies) b_is) ∙ up n;
+  refusals = λ n small. ap (λ (xs : List ℕ). get_or xs n 0) refusals ∙ down n small
+      ∙ ap (λ (xs : List ℕ). cond (is_refusal_numbered n reply) ((get_or xs n 0 + 1) % 2 ^ 64) (get_or xs n 0)) (ap (λ (t : Tally). t.refusals) a_is);
+  granted = granted ∙ ap (λ (x : ℕ). (x + ends.granted) % 2 ^ 64) (ap (λ (t : Tally). t.granted) b_is ∙ ap (λ (t : Tally). t.granted) a_is);
+  doomed = doomed ∙ ap (λ (x : ℕ). (x + ends.doomed) % 2 ^ 64) (ap (λ (t : Tally). t.doomed) b_is ∙ ap (λ (t : Tally). t.doomed) a_is);
+  dooming = dooming ∙ ap (λ (x : ℕ). cond (not (is_requesting o && eqb (number_of_kind k) 4) && not (eqb ends.doomed 0)) ((x + 1) % 2 ^ 64) x)
+      (ap (λ (t : Tally). t.dooming) b_is ∙ ap (λ (t : Tally). t.dooming) a_is);
+  aborted = aborted ∙ ap (λ (x : ℕ). cond (eqb (number_of_op o) 7 && ends.own) ((x + 1) % 2 ^ 64) x)
+      (ap (λ (t : Tally). t.aborted) b_is ∙ ap (λ (t : Tally). t.aborted) a_is);
+  restarted = restarted ∙ ap (λ (x : ℕ). cond (eqb (number_of_op o) 10 && ends.own) ((x + 1) % 2 ^ 64) x)
+      (ap (λ (t : Tally). t.restarted) b_is ∙ ap (λ (t : Tally). t.restarted) a_is);
+}
 
 -- a sum of tests is no more than the entries
 total-few : (test : State → Entry → State → Bool) (st : State) (es : List Entry) → total_from (λ before e after. one_if (test before e after)) st es ≤ length es

@@ -214,7 +214,7 @@ impl Tally {
         let first = op.number() as usize * KINDS;
         let mut total: u64 = 0;
         for number in 0..KINDS {
-            total = total.wrapping_add(self.replies[first + number]);
+            total = total.saturating_add(self.replies[first + number]);
         }
         total
     }
@@ -233,7 +233,7 @@ impl Tally {
         let lock = self.replied(Op::Lock, kind);
         let convert = self.replied(Op::Convert, kind);
         let tried = self.replied(Op::Try, kind);
-        lock.wrapping_add(convert).wrapping_add(tried)
+        lock.saturating_add(convert).saturating_add(tried)
     }
 
     /// How many requests for locks there were: locks, conversions and tries.
@@ -243,7 +243,7 @@ impl Tally {
         let granted = self.granted_at_once();
         let begun = self.waits_begun();
         let refused = self.requests_refused();
-        granted.wrapping_add(begun).wrapping_add(refused)
+        granted.saturating_add(begun).saturating_add(refused)
     }
 
     /// How many requests were granted by their own reply, also where a victim of theirs made room.
@@ -266,7 +266,7 @@ impl Tally {
     {
         let waiting = self.requests_replied(ReplyKind::Waiting);
         let doomed = self.requests_replied(ReplyKind::Deadlock);
-        waiting.wrapping_add(doomed)
+        waiting.saturating_add(doomed)
     }
 
     /// How many waits ended since a call of another session made room.
@@ -281,7 +281,7 @@ impl Tally {
         ensures { (history : List EntryValue) → IsTallyOf history self.now → result ≡ waits_doomed history }
     {
         let own = self.requests_replied(ReplyKind::Deadlock);
-        self.doomed.wrapping_add(own)
+        self.doomed.saturating_add(own)
     }
 
     /// How many waits were withdrawn.
@@ -313,10 +313,10 @@ impl Tally {
         let granted = self.waits_granted();
         let doomed = self.waits_doomed();
         let withdrawn = self.waits_withdrawn();
-        let left = begun.wrapping_sub(granted).wrapping_sub(doomed);
-        left.wrapping_sub(withdrawn)
-            .wrapping_sub(self.aborted)
-            .wrapping_sub(self.restarted)
+        let left = begun.saturating_sub(granted).saturating_sub(doomed);
+        left.saturating_sub(withdrawn)
+            .saturating_sub(self.aborted)
+            .saturating_sub(self.restarted)
     }
 
     /// How many calls closed a cycle of waits.
@@ -324,6 +324,6 @@ impl Tally {
         ensures { (history : List EntryValue) → IsTallyOf history self.now → result ≡ deadlocks history }
     {
         let own = self.requests_replied(ReplyKind::Deadlock);
-        self.dooming.wrapping_add(own)
+        self.dooming.saturating_add(own)
     }
 }

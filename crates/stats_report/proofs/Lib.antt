@@ -1,2 +1,3 @@
 pub mod CountedParts
 pub mod Served
+pub mod Sessions
