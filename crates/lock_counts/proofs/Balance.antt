@@ -58,6 +58,11 @@ split-behind true false = refl
 split-behind false true = refl
 split-behind false false = refl
 
+-- a conjunction with a true right side
+and-true : (b : Bool) → (b && true) ≡ b
+and-true true = refl
+and-true false = refl
+
 -- how many requests a session has that has one at most
 times-one : (s : ℕ) (qs : List Claim) → times s qs ≤ 1 → times s qs ≡ one_if (is_some (request_of s qs))
 times-one s qs few = go (request_of s qs) refl (times s qs) refl
@@ -116,10 +121,6 @@ module _ (s : ℕ) (before after : State) (more : List Claim) where
             | inr n ↦ ap (λ (b : Bool). b && not (is_waiting after q.session)) n ∙ sym n
           ])
           ∙ sym (times-count s there) ∙ times-one s there few ∙ ap one_if (sym (and-true (is_some (request_of s there))))
-
-      and-true : (b : Bool) → (b && true) ≡ b
-      and-true true = refl
-      and-true false = refl
 
   -- those that were there before the call and those that it added wait still, or their waits have ended
   waits-kept : IsThinned there after.table.requests → times s there ≤ 1 → ((q : Claim) → Member q more → q.session ≡ s)

@@ -19,7 +19,7 @@ count-le-length p (x ∷ xs) = omega (arith, one_if-le (p x), count-le-length p 
 
 -- two lists together
 pub count-append : {X : Type 0} (p : X → Bool) (xs ys : List X) → count_if p (xs ++ ys) ≡ count_if p xs + count_if p ys
-count-append p [] ys = refl
+count-append p [] ys = omega arith
 count-append p (x ∷ xs) ys = omega (arith, count-append p xs ys)
 
 -- if each item passes a test exactly if it passes one of two others, and never both, the counts add up
@@ -44,13 +44,13 @@ count-filtered p [] = refl
 count-filtered p (x ∷ xs) = go (p x) (count-filtered p xs)
   where
     go : (b : Bool) → length xs ≡ length (filter p xs) + count_if (λ y. not (p y)) xs
-        → 1 + length xs ≡ length (cond b (x ∷ filter p xs) (filter p xs)) + (one_if (not b) + count_if (λ y. not (p y)) xs)
+        → length (x ∷ xs) ≡ length (cond b (x ∷ filter p xs) (filter p xs)) + (one_if (not b) + count_if (λ y. not (p y)) xs)
     go true e = omega (arith, e)
     go false e = omega (arith, e)
 
 -- a sum over two lists of entries
 pub total-append : (amount : State → Entry → State → ℕ) (st : State) (es fs : List Entry) → total_from amount st (es ++ fs) ≡ total_from amount st es + total_from amount (state_after st es) fs
-total-append amount st [] fs = refl
+total-append amount st [] fs = omega arith
 total-append amount st (e ∷ es) fs = omega (arith, total-append amount (step st e.session e.call).state es fs)
 
 -- a sum of amounts of which each is at most that of another sum

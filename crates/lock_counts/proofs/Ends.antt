@@ -67,25 +67,26 @@ without-apart x (y ∷ ys) a = go (eqb y x) (without-apart x ys a.1)
 
 -- a list without a number that it doesn't have
 without-same : (x : ℕ) (xs : List ℕ) → (Member x xs → ⊥) → without x xs ≡ xs
-without-same x [] no = refl
-without-same x (y ∷ ys) no = go (eqb y x) refl (without-same x ys (λ k. no (inr k)))
+without-same x [] never = refl
+without-same x (y ∷ ys) never = go (eqb y x) refl (without-same x ys (λ k. never (inr k)))
   where
     go : (b : Bool) → eqb y x ≡ b → without x ys ≡ ys → cond (not b) (y ∷ without x ys) (without x ys) ≡ y ∷ ys
-    go true e r = absurd (no (inl ((Decides-eqb y x).0 e)))
+    go true e r = absurd (never (inl ((Decides-eqb y x).0 e)))
     go false e r = ap (λ (zs : List ℕ). y ∷ zs) r
 
 -- a member counts once
 count-without : (p : ℕ → Bool) (x : ℕ) (xs : List ℕ) → IsApart xs → Member x xs → count_if p xs ≡ one_if (p x) + count_if p (without x xs)
 count-without p x [] a k = absurd k
-count-without p x (y ∷ ys) a k = go (eqb y x) refl k
+count-without p x (y ∷ ys) a k = go (eqb y x) refl k (count-without p x ys a.1)
   where
-    go : (b : Bool) → eqb y x ≡ b → Member x (y ∷ ys) → one_if (p y) + count_if p ys ≡ one_if (p x) + count_if p (cond (not b) (y ∷ without x ys) (without x ys))
-    go true e k =
+    go : (b : Bool) → eqb y x ≡ b → Member x (y ∷ ys) → (Member x ys → count_if p ys ≡ one_if (p x) + count_if p (without x ys))
+        → one_if (p y) + count_if p ys ≡ one_if (p x) + count_if p (cond (not b) (y ∷ without x ys) (without x ys))
+    go true e k next =
         let same : y ≡ x = (Decides-eqb y x).0 e in
         let gone : Member x ys → ⊥ = λ j. a.0 (subst (λ (z : ℕ). Member z ys) (sym same) j) in
         ap (λ (z : ℕ). one_if (p z) + count_if p ys) same ∙ ap (λ (zs : List ℕ). one_if (p x) + count_if p zs) (sym (without-same x ys gone))
-    go false e (inl f) = absurd (apart x y e f)
-    go false e (inr j) = omega (arith, count-without p x ys a.1 j)
+    go false e (inl f) next = absurd (apart x y e f)
+    go false e (inr j) next = omega (arith, next j)
 
 -- two lists with the same members, each there once, count alike
 pub same-count : (p : ℕ → Bool) (xs ys : List ℕ) → IsApart xs → IsApart ys → ((u : ℕ) → Member u xs ↔ Member u ys) → count_if p xs ≡ count_if p ys
@@ -121,13 +122,13 @@ sessions-apart : (qs : List Claim) → IsOnce qs → IsApart (map (λ (q : Claim
 sessions-apart [] once = tt
 sessions-apart (q ∷ qs) once = (
   λ m. let some = session-times q.session qs m in let few = once q.session in
-      omega (arith, few, some, ap (λ (b : Bool). cond b 1 0) (eqb-refl q.session)),
+      omega (arith, few, some, ap (λ (b : Bool). one_if b) (eqb-refl q.session)),
   sessions-apart qs (λ s. let few = once s in omega (arith, few)),
 )
   where
     session-times : (s : ℕ) (qs : List Claim) → Member s (map (λ (q : Claim). q.session) qs) → 1 ≤ times s qs
     session-times s [] m = absurd m
-    session-times s (p ∷ ps) (inl e) = omega (arith, ap (λ (b : Bool). cond b 1 0) ((Decides-eqb p.session s).1 e))
+    session-times s (p ∷ ps) (inl e) = omega (arith, ap (λ (b : Bool). one_if b) ((Decides-eqb p.session s).1 e))
     session-times s (p ∷ ps) (inr m) = omega (arith, session-times s ps m)
 
 -- a session of requests has one of them

@@ -189,11 +189,11 @@ fresh t replies refusals granted doomed dooming aborted restarted = record {
   restarted = restarted;
 }
 
--- a list of zeros
-pub zeros : (n i : ℕ) → get_or (replicate n 0) i 0 ≡ 0
-zeros zero i = refl
-zeros (suc n) zero = refl
-zeros (suc n) (suc i) = zeros n i
+-- a list of one number
+pub zeros : (n z i : ℕ) → get_or (replicate n z) i z ≡ z
+zeros zero z i = refl
+zeros (suc n) z zero = refl
+zeros (suc n) z (suc i) = zeros n z i
 
 -- what a tally tells
 
@@ -225,9 +225,9 @@ waits-told e = go (is_request e) (number_of_kind (kind_of_reply e.reply))
     go true n = told (eqb n 3) (eqb n 4) (λ a b. let x = (Decides-eqb n 3).0 a in let y = (Decides-eqb n 4).0 b in omega (arith, x, y))
       where
         told : (a b : Bool) → (a ≡ true → b ≡ true → ⊥) → one_if (a || b) ≡ one_if a + one_if b
-        told true true no = absurd (no refl refl)
-        told true false no = refl
-        told false b no = omega arith
+        told true true never = absurd (never refl refl)
+        told true false never = refl
+        told false b never = omega arith
 
 -- the waits that began
 pub begun-with : (h : List Entry)
@@ -290,9 +290,14 @@ called-all o h = count-alike (below o 12) (is_op o) h (λ e k. all (is_op o e) (
     all true b e = e
     all false b e = refl
 
+-- no number is below 0
+not-below : (k : ℕ) (b : Bool) → ltb k 0 ≡ b → ltb k 0 ≡ false
+not-below k true e = let l = (Decides-ltb k 0).0 e in absurd (omega (arith, l))
+not-below k false e = e
+
 -- no numbers
 pub called-none : (o : Op) (h : List Entry) → 0 ≡ count_if (below o 0) h
-called-none o h = sym (count-none (below o 0) h (λ e k. none (is_op o e) (ltb (number_of_kind (kind_of_reply e.reply)) 0) refl))
+called-none o h = sym (count-none (below o 0) h (λ e k. none (is_op o e) (ltb (number_of_kind (kind_of_reply e.reply)) 0) (not-below (number_of_kind (kind_of_reply e.reply)) (ltb (number_of_kind (kind_of_reply e.reply)) 0) refl)))
   where
     none : (a b : Bool) → b ≡ false → (a && b) ≡ false
     none true b e = e

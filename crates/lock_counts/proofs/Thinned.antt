@@ -137,12 +137,12 @@ pub member-waits : (q : Claim) (qs : List Claim) → Member q qs → is_some (re
 member-waits q [] k = absurd k
 member-waits q (x ∷ qs) k = elim (cases_Bool (eqb x.session q.session)) [
   | inl y ↦ ap (λ (b : Bool). is_some (cond b (Some x) (request_of q.session qs))) y
-  | inr n ↦ ap (λ (b : Bool). is_some (cond b (Some x) (request_of q.session qs))) n ∙ behind n k
+  | inr n ↦ ap (λ (b : Bool). is_some (cond b (Some x) (request_of q.session qs))) n ∙ behind n k (member-waits q qs)
 ]
   where
-    behind : eqb x.session q.session ≡ false → Member q (x ∷ qs) → is_some (request_of q.session qs) ≡ true
-    behind n (inl e) = let f : eqb x.session q.session ≡ true = ap (λ (y : Claim). eqb y.session q.session) e ∙ eqb-refl q.session in absurd (cc)
-    behind n (inr j) = member-waits q qs j
+    behind : eqb x.session q.session ≡ false → Member q (x ∷ qs) → (Member q qs → is_some (request_of q.session qs) ≡ true) → is_some (request_of q.session qs) ≡ true
+    behind n (inl e) next = let f : eqb x.session q.session ≡ true = ap (λ (y : Claim). eqb y.session q.session) e ∙ eqb-refl q.session in absurd (cc)
+    behind n (inr j) next = next j
 
 -- how many requests a session has, by two ways to count
 pub times-count : (s : ℕ) (qs : List Claim) → times s qs ≡ count_if (λ (q : Claim). eqb q.session s) qs

@@ -7,4 +7,4 @@ use Rattle.lock_counts.proofs.tally.Tally.called.Given as goal
 
 -- the calls whose replies have the numbers so far are counted
 abbrev pub invariant-loop-number : goal.invariant-loop-number
-invariant-loop-number l = (h : List Entry) → IsTallyOf h l.fn.self.now → l.total ≡ count_if (below l.fn.op l.number) h
+invariant-loop-number l = (h : List Entry) → IsTallyOf h l.fn.self → l.total ≡ count_if (below l.fn.op l.number) h
