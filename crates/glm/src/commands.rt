@@ -33,7 +33,7 @@ use replay_commands::{ToolFault, replay, replay_in_pieces, write_text};
 use row_comments::SkipComments;
 use row_hints::{Kept, KeptRows};
 use run_commands::{Gate, run, run_in_pieces};
-use stats_report::stats;
+use stats_command::stats;
 use std::alloc::Global;
 use std::fs::Files;
 use std::io::{Read, Write};

@@ -1,3 +1,2 @@
-pub mod CountedParts
 pub mod Served
 pub mod Sessions

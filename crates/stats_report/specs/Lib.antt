@@ -1,2 +1,1 @@
 pub mod StatsText
-pub mod Stats

@@ -1,16 +1,19 @@
 //! The counters of a tally and the gauges of a lock table, a line for each.
 
-ghost use Rattle.std.specs.Prelude.{◌≡◌, ◌-◌, ◌++◌, List, OnOk, IfOk, string_bytes};
+ghost use Rattle.std.specs.Prelude.{◌≡◌, ◌<◌, ◌≤◌, ◌++◌, List, All, OnOk, IfOk, string_bytes};
 ghost use Rattle.lock_rules.specs.Entries.{Entry as EntryValue};
-ghost use Rattle.lock_rules.specs.Legal.{state_of};
+ghost use Rattle.lock_rules.specs.declared.calls.TheConstants.{MAX_SESSIONS};
+ghost use Rattle.lock_rules.specs.Legal.{state_of, IsLegal};
+ghost use Rattle.lock_trace.specs.Entries.{IsEntry};
 ghost use Rattle.lock_trace.specs.Words.{word_of};
 ghost use Rattle.lock_counts.specs.Tallies.{IsTallyOf};
 ghost use Rattle.stats_report.specs.StatsText.{padded, line_of, lines_of_calls, lines_of_requests, lines_of_waits, lines_of_deadlocks, lines_of_refusals, lines_of_gauges, text_of_stats};
 
+use crate::counting::counted;
 use crate::gauges::{count_locks, count_open, longest_queue};
 use command_line::Form;
 use lock_counts::Tally;
-use lock_desk::{Book, NoMemory};
+use lock_desk::{Book, Entry, NoMemory};
 use lock_rules::{OPS, Op, REFUSALS};
 use std::alloc::Global;
 use std::fmt::Write;
@@ -152,12 +155,7 @@ fn put_gauges(
 }
 
 /// The counters of the tally of the lock table's history, and its gauges. Fails if memory is refused.
-pub(crate) fn stats_text(
-    alloc: Global,
-    book: &Book,
-    tally: &Tally,
-    form: Form,
-) -> Result<String, NoMemory>
+fn text_of(alloc: Global, book: &Book, tally: &Tally, form: Form) -> Result<String, NoMemory>
     requires { IsTallyOf book.now.history tally.now }
     ensures { IfOk result (λ text. string_bytes text ≡ text_of_stats form book.now.sessions book.now.history) }
 {
@@ -169,4 +167,24 @@ pub(crate) fn stats_text(
     put_refusals(&mut out, form, tally)?;
     put_gauges(alloc, &mut out, form, book, tally)?;
     Ok(out)
+}
+
+/// The counters of a legal history of sessions 1 to `sessions`, at most `MAX_SESSIONS`, and what the lock table has at its end. `form` is
+/// `Lines` for columns and `Rows` for rows of three fields; the other forms are written as `Lines`. Fails only if memory is refused.
+///
+/// Its cost is that of serving the calls once, and of a listing of the lock table.
+pub fn stats_text(
+    alloc: Global,
+    entries: &[Entry],
+    sessions: u16,
+    form: Form,
+) -> Result<String, NoMemory>
+    requires some { 0 < sessions }
+    requires few { sessions ≤ MAX_SESSIONS }
+    requires within { All (IsEntry sessions) entries.now }
+    requires legal { IsLegal entries.now }
+    ensures { IfOk result (λ text. string_bytes text ≡ text_of_stats form sessions entries.now) }
+{
+    let counted = counted(alloc, entries, sessions)?;
+    text_of(alloc, &counted.book, &counted.tally, form)
 }

@@ -3,20 +3,17 @@
 ghost use Rattle.std.specs.Prelude.{◌≡◌, ◌≢◌, ◌×◌, ℕ, ◌<◌, ◌≤◌, List, Some, All, IfOk, IfErr, string_bytes};
 ghost use Rattle.std.specs.Io.KnownBytes.{Keeps};
 ghost use Rattle.lock_rules.specs.declared.calls.TheConstants.{MAX_SESSIONS};
-ghost use Rattle.lock_rules.specs.Legal.{IsLegal};
 ghost use Rattle.lock_trace.specs.Entries.{IsEntry};
 ghost use Rattle.history_commands.specs.Verdicts.{IsVerdict};
 ghost use Rattle.replay_commands.specs.Replays.{IsFaultOfOneThread};
-ghost use Rattle.stats_report.specs.Stats.{Counts, HasCounted, HasCountedPart, text_counted};
-ghost use Rattle.stats_report.specs.StatsText.{text_of_stats};
+ghost use Rattle.stats_command.specs.Stats.{Counts, HasCounted, HasCountedPart, text_counted};
 
-use crate::counting::counted;
-use crate::text::stats_text;
 use command_line::Form;
 use history_commands::{Finding, Verdict, finding_on, verdict_line};
 use lock_desk::{Entry, NoMemory};
 use lock_trace::read_history;
 use replay_commands::{ToolFault, write_text};
+use stats_report::stats_text;
 use std::alloc::Global;
 use std::io::{Read, Write};
 
@@ -27,23 +24,6 @@ struct Told {
     verdict: Verdict,
     /// The counters, or the line of the verdict.
     text: String,
-}
-
-/// The counters of a legal history. Fails if memory is refused.
-fn text_of_legal(
-    alloc: Global,
-    entries: &[Entry],
-    sessions: u16,
-    form: Form,
-) -> Result<String, NoMemory>
-    requires some { 0 < sessions }
-    requires few { sessions ≤ MAX_SESSIONS }
-    requires within { All (IsEntry sessions) entries.now }
-    requires legal { IsLegal entries.now }
-    ensures { IfOk result (λ text. string_bytes text ≡ text_of_stats form sessions entries.now) }
-{
-    let counted = counted(alloc, entries, sessions)?;
-    stats_text(alloc, &counted.book, &counted.tally, form)
 }
 
 /// The counters of a history if it is legal, else the line of its verdict. Fails if memory is refused.
@@ -60,7 +40,7 @@ fn told(alloc: Global, entries: &[Entry], sessions: u16, form: Form) -> Result<T
             Ok(Told { verdict, text })
         }
         Finding::Legal(count) => {
-            let text = text_of_legal(alloc, entries, sessions, form)?;
+            let text = stats_text(alloc, entries, sessions, form)?;
             Ok(Told {
                 verdict: Verdict::Legal(count),
                 text,
