@@ -27,7 +27,7 @@ struct Told {
 }
 
 /// The counters of a history if it is legal, else the line of its verdict. Fails if memory is refused.
-fn told(alloc: Global, entries: &[Entry], sessions: u16, form: Form) -> Result<Told, NoMemory>
+fn told_text(alloc: Global, entries: &[Entry], sessions: u16, form: Form) -> Result<Told, NoMemory>
     requires some { 0 < sessions }
     requires few { sessions ≤ MAX_SESSIONS }
     requires within { All (IsEntry sessions) entries.now }
@@ -81,7 +81,7 @@ pub fn stats<R: Read + Drop, W: Write>(
         Ok(entries) => entries,
         Err(fault) => return Err(ToolFault::Trace(fault)),
     };
-    let Ok(told) = told(alloc, &entries, sessions, form) else {
+    let Ok(told) = told_text(alloc, &entries, sessions, form) else {
         return Err(ToolFault::NoMemory);
     };
     if write_text(output, told.text.as_bytes()).is_err() {

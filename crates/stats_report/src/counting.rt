@@ -11,6 +11,7 @@ ghost use Rattle.lock_trace.specs.Entries.{IsEntry};
 ghost use Rattle.lock_counts.specs.Counts.{count_if};
 ghost use Rattle.lock_counts.specs.Tallies.{IsTallyOf, AreEndsOf};
 
+use crate::gauges::one_if;
 use lock_counts::{Tally, WaitEnds};
 use lock_desk::{Book, Call, Entry, NoMemory, Reply};
 use std::alloc::Global;
@@ -41,9 +42,7 @@ fn count_victims(book: &Book, sessions: &[u16]) -> u64
 {
     let mut victims: u64 = 0;
     for index in 0..sessions.len() {
-        if is_victim(book, sessions[index]) {
-            victims += 1;
-        }
+        victims += one_if(is_victim(book, sessions[index]));
     }
     victims
 }

@@ -4,11 +4,18 @@ ghost use Rattle.std.specs.Prelude.{◌≡◌, ◌+◌, ◌<◌, ◌^◌, length
 ghost use Rattle.std.specs.List.{range_with_len};
 ghost use Rattle.lock_rules.specs.State.{is_open};
 ghost use Rattle.lock_rules.specs.Legal.{state_of};
-ghost use Rattle.lock_counts.specs.Counts.{count_if};
+ghost use Rattle.lock_counts.specs.Counts.{count_if, one_if};
 ghost use Rattle.stats_report.specs.StatsText.{greater, is_lock, longest_from, queue_up_to};
 
 use lock_desk::Book;
 use lock_rules::{Claim, ClaimKind};
+
+/// 1 if the test holds, else 0.
+pub(crate) fn one_if(test: bool) -> u64
+    ensures { result ≡ one_if test }
+{
+    if test { 1 } else { 0 }
+}
 
 /// Whether the line of a listing is a lock.
 fn is_lock(claim: &Claim) -> bool
@@ -26,9 +33,7 @@ pub(crate) fn count_locks(claims: &[Claim]) -> u64
 {
     let mut locks: u64 = 0;
     for index in 0..claims.len() {
-        if is_lock(&claims[index]) {
-            locks += 1;
-        }
+        locks += one_if(is_lock(&claims[index]));
     }
     locks
 }
@@ -68,9 +73,7 @@ pub(crate) fn count_open(book: &Book) -> u64
     let mut open: u64 = 0;
     let sessions = book.sessions();
     for before in 0..sessions {
-        if book.transaction(before + 1).is_some() {
-            open += 1;
-        }
+        open += one_if(book.transaction(before + 1).is_some());
     }
     open
 }
