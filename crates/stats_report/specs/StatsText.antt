@@ -1,7 +1,7 @@
 -- The counters of a history as text: a line for each, with its group, its name and its number. The format is this project's own
 -- choice.
-use Rattle.std.specs.Prelude.{ℕ, ◌+◌, ◌-◌, Bool, true, false, if◌then◌else◌, nat_lt, List, [], ◌∷◌, ◌++◌, length, codes, decimal}
-use Rattle.std.specs.List.{flat_map, range_with_len, replicate}
+use Rattle.std.specs.Prelude.{ℕ, ◌+◌, ◌-◌, Bool, true, false, if◌then◌else◌, nat_lt, List, [], ◌∷◌, ◌++◌, length, replicate, codes, decimal}
+use Rattle.std.specs.List.{flat_map, range_with_len}
 use Rattle.lock_rules.specs.declared.kinds.TheConstants.{OPS, REFUSALS}
 use Rattle.lock_rules.specs.declared.listing.Claim.{Claim}
 use Rattle.lock_rules.specs.declared.listing.ClaimKind.{ClaimKind}
@@ -57,14 +57,15 @@ lines_of_deadlocks form h =
 abbrev pub lines_of_refusals : Form → List Entry → List ℕ
 lines_of_refusals form h = flat_map (λ w. line_of form (codes "refusals") (name_of_why w) (refusals w h)) REFUSALS
 
+-- a lock, and no waiting request
+abbrev pub is_held : ClaimKind → Bool
+is_held Held = true
+is_held Conversion = false
+is_held Fresh = false
+
 -- the line of a listing is a lock
 abbrev pub is_lock : Claim → Bool
 is_lock l = is_held l.kind
-  where
-    is_held : ClaimKind → Bool
-    is_held Held = true
-    is_held Conversion = false
-    is_held Fresh = false
 
 -- how many requests wait in the queue of a resource, up to this line of a listing; in front of it there were so many
 abbrev pub queue_up_to : ℕ → Claim → ℕ

@@ -116,7 +116,11 @@ fn serve_all(book: &mut Book, tally: &mut Tally, entries: &[Entry]) -> Result<()
 
 /// Serves the calls of a legal history on a fresh lock table, which keeps no history in memory, and counts them. Fails if memory is
 /// refused.
-pub(crate) fn counted(alloc: Global, entries: &[Entry], sessions: u16) -> Result<Counted, NoMemory>
+pub(crate) fn count_history(
+    alloc: Global,
+    entries: &[Entry],
+    sessions: u16,
+) -> Result<Counted, NoMemory>
     requires some { 0 < sessions }
     requires few { sessions ≤ MAX_SESSIONS }
     requires within { All (IsEntry sessions) entries.now }

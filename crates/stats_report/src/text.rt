@@ -9,7 +9,7 @@ ghost use Rattle.lock_trace.specs.Words.{word_of};
 ghost use Rattle.lock_counts.specs.Tallies.{IsTallyOf};
 ghost use Rattle.stats_report.specs.StatsText.{padded, line_of, lines_of_calls, lines_of_requests, lines_of_waits, lines_of_deadlocks, lines_of_refusals, lines_of_gauges, text_of_stats};
 
-use crate::counting::counted;
+use crate::counting::count_history;
 use crate::gauges::{count_locks, count_open, longest_queue};
 use command_line::Form;
 use lock_counts::Tally;
@@ -185,6 +185,6 @@ pub fn stats_text(
     requires legal { IsLegal entries.now }
     ensures { IfOk result (λ text. string_bytes text ≡ text_of_stats form sessions entries.now) }
 {
-    let counted = counted(alloc, entries, sessions)?;
+    let counted = count_history(alloc, entries, sessions)?;
     text_of(alloc, &counted.book, &counted.tally, form)
 }

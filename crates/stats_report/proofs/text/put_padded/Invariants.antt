@@ -2,5 +2,5 @@ use Rattle.std.proofs.Common.{◌≡◌, ◌-◌, ◌++◌, length, replicate, s
 use Rattle.stats_report.proofs.text.put_padded.Given as goal
 
 -- the word is written, and spaces up to this column
-abbrev pub invariant-loop-_column : goal.invariant-loop-_column
-invariant-loop-_column l = string_bytes l.out ≡ string_bytes l.fn.out ++ l.word ++ replicate (l._column - length l.word) 32
+abbrev pub invariant-loop-column : goal.invariant-loop-column
+invariant-loop-column l = string_bytes l.out ≡ string_bytes l.fn.out ++ l.word ++ replicate (l._column - length l.word) 32
