@@ -81,13 +81,18 @@ abbrev pub longest_from : ℕ → ℕ → List Claim → ℕ
 longest_from before longest [] = longest
 longest_from before longest (l ∷ ls) = longest_from (queue_up_to before l) (greater longest (queue_up_to before l)) ls
 
+-- the lines of these gauges: open transactions, locks, waiting requests, and the length of the longest queue
+abbrev pub gauge_lines : Form → ℕ → ℕ → ℕ → ℕ → List ℕ
+gauge_lines form transactions locks waiting longest =
+    line_of form (codes "now") (codes "transactions") transactions
+    ++ line_of form (codes "now") (codes "locks") locks
+    ++ line_of form (codes "now") (codes "waiting") waiting
+    ++ line_of form (codes "now") (codes "longest queue") longest
+
 -- the open transactions of the sessions 1 to n, the locks and the waiting requests of all resources, and the longest queue
 abbrev pub lines_of_gauges : Form → ℕ → State → List ℕ
 lines_of_gauges form n st =
-    line_of form (codes "now") (codes "transactions") (count_if (is_open st) (range_with_len 1 n))
-    ++ line_of form (codes "now") (codes "locks") (count_if is_lock (listing_of st))
-    ++ line_of form (codes "now") (codes "waiting") (length st.table.requests)
-    ++ line_of form (codes "now") (codes "longest queue") (longest_from 0 0 (listing_of st))
+    gauge_lines form (count_if (is_open st) (range_with_len 1 n)) (count_if is_lock (listing_of st)) (length st.table.requests) (longest_from 0 0 (listing_of st))
 
 -- the counters of a history of the sessions 1 to n, and the gauges of the state that it leads to
 abbrev pub text_of_stats : Form → ℕ → List Entry → List ℕ

@@ -1,7 +1,9 @@
 //! Serves a history, and counts its calls and its waits on the way.
 
-ghost use Rattle.std.specs.Prelude.{◌≡◌, ◌+◌, ◌<◌, ◌≤◌, ◌&&◌, List, [], ◌∷◌, ◌++◌, length, All, IfOk};
+ghost use Rattle.std.specs.Prelude.{◌≡◌, ◌+◌, ◌<◌, ◌≤◌, ◌&&◌, not, List, [], ◌∷◌, ◌++◌, length, All, IfOk};
 ghost use Rattle.lock_rules.specs.declared.calls.TheConstants.{MAX_SESSIONS};
+ghost use Rattle.lock_rules.specs.declared.calls.Call.{Call as CallValue};
+ghost use Rattle.lock_rules.specs.declared.calls.Reply.{Reply as ReplyValue};
 ghost use Rattle.lock_rules.specs.Entries.{Entry as EntryValue};
 ghost use Rattle.lock_rules.specs.State.{is_doomed, is_waiting};
 ghost use Rattle.lock_rules.specs.Step.{step};
@@ -54,21 +56,30 @@ fn waits(book: &Book, session: u16) -> bool
     book.request(session).is_some()
 }
 
+/// Whether a session that waited, or not, waits no more.
+fn is_over(waited: bool, waits: bool) -> bool
+    ensures { result ≡ (waited && not waits) }
+{
+    waited && !waits
+}
+
 /// The waits that the last call has ended, which was one of `session`. `waited` says whether that session waited before it.
 fn ends_of_call(book: &Book, session: u16, waited: bool) -> WaitEnds
-    ensures { (front : List EntryValue) (e : EntryValue) → book.now.history ≡ front ++ e ∷ [] → e.session ≡ session
+    ensures { (front : List EntryValue) (call : CallValue) (reply : ReplyValue)
+        → book.now.history ≡ front ++ record { session = session; call = call; reply = reply } ∷ []
         → waited ≡ is_waiting (state_of front) session
-        → book.now.ended ≡ ended_waits book.now.sessions session (state_of front) (step (state_of front) session e.call).state
-        → AreEndsOf (state_of front) e (step (state_of front) session e.call).state result }
+        → book.now.ended ≡ ended_waits book.now.sessions session (state_of front) (step (state_of front) session call).state
+        → AreEndsOf (state_of front) (record { session = session; call = call; reply = reply }) (step (state_of front) session call).state result }
 {
+    let _history = book.history();
     let ended = book.ended();
     let doomed = count_victims(book, ended);
     let granted = ended.len() as u64 - doomed;
-    let own = waited && !waits(book, session);
+    let still = waits(book, session);
     WaitEnds {
         granted,
         doomed,
-        own,
+        own: is_over(waited, still),
     }
 }
 
@@ -90,7 +101,7 @@ fn serve_counted(
     let waited = waits(book, session);
     let reply = book.serve(session, call)?;
     let _served = book.served();
-    let _legal = book.history();
+    let _history = book.history();
     let ends = ends_of_call(book, session, waited);
     tally.note(&asked, &reply, ends);
     Ok(reply)

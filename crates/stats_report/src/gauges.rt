@@ -66,6 +66,13 @@ pub(crate) fn longest_queue(claims: &[Claim]) -> u64
     longest
 }
 
+/// Whether `session` has an open transaction.
+fn is_open(book: &Book, session: u16) -> bool
+    ensures { result ≡ is_open (state_of book.now.history) session }
+{
+    book.transaction(session).is_some()
+}
+
 /// How many sessions of the lock table have an open transaction.
 pub(crate) fn count_open(book: &Book) -> u64
     ensures { result ≡ count_if (is_open (state_of book.now.history)) (range_with_len 1 book.now.sessions) }
@@ -73,7 +80,7 @@ pub(crate) fn count_open(book: &Book) -> u64
     let mut open: u64 = 0;
     let sessions = book.sessions();
     for before in 0..sessions {
-        open += one_if(book.transaction(before + 1).is_some());
+        open += one_if(is_open(book, before + 1));
     }
     open
 }

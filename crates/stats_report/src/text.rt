@@ -1,20 +1,22 @@
 //! The counters of a tally and the gauges of a lock table, a line for each.
 
-ghost use Rattle.std.specs.Prelude.{◌≡◌, ◌<◌, ◌≤◌, ◌++◌, List, All, OnOk, IfOk, string_bytes};
+ghost use Rattle.std.specs.Prelude.{◌≡◌, ◌<◌, ◌≤◌, ◌++◌, List, All, OnOk, codes, IfOk, string_bytes};
 ghost use Rattle.lock_rules.specs.Entries.{Entry as EntryValue};
 ghost use Rattle.lock_rules.specs.declared.calls.TheConstants.{MAX_SESSIONS};
 ghost use Rattle.lock_rules.specs.Legal.{state_of, IsLegal};
 ghost use Rattle.lock_trace.specs.Entries.{IsEntry};
 ghost use Rattle.lock_trace.specs.Words.{word_of};
+ghost use Rattle.lock_rules.specs.Names.{name_of_why};
+ghost use Rattle.lock_counts.specs.Counts.{calls, refusals};
 ghost use Rattle.lock_counts.specs.Tallies.{IsTallyOf};
-ghost use Rattle.stats_report.specs.StatsText.{padded, line_of, lines_of_calls, lines_of_requests, lines_of_waits, lines_of_deadlocks, lines_of_refusals, lines_of_gauges, text_of_stats};
+ghost use Rattle.stats_report.specs.StatsText.{padded, line_of, lines_of_calls, lines_of_requests, lines_of_waits, lines_of_deadlocks, lines_of_refusals, gauge_lines, lines_of_gauges, text_of_stats};
 
 use crate::counting::count_history;
 use crate::gauges::{count_locks, count_open, longest_queue};
 use command_line::Form;
 use lock_counts::Tally;
 use lock_desk::{Book, Entry, NoMemory};
-use lock_rules::{OPS, Op, REFUSALS};
+use lock_rules::{OPS, Op, REFUSALS, Why};
 use std::alloc::Global;
 use std::fmt::Write;
 
@@ -47,7 +49,8 @@ fn put_padded(out: &mut String, word: &str, width: usize) -> Result<(), NoMemory
     ensures { OnOk result (string_bytes out.new ≡ string_bytes out.old ++ padded width word.now) }
 {
     out.push_str(word)?;
-    for _column in word.len()..width {
+    let gap = width.saturating_sub(word.len());
+    for _space in 0..gap {
         out.push_str(" ")?;
     }
     Ok(())
@@ -85,12 +88,20 @@ fn put_counter(
     }
 }
 
+/// Writes how many calls of this operation there were.
+fn put_call(out: &mut String, form: Form, tally: &Tally, op: Op) -> Result<(), NoMemory>
+    ensures { OnOk result ((history : List EntryValue) → IsTallyOf history tally.now
+        → string_bytes out.new ≡ string_bytes out.old ++ line_of form (codes "calls") (word_of op) (calls op history)) }
+{
+    put_counter(out, form, "calls", op_word(op), tally.called(op))
+}
+
 /// Writes how many calls of each operation there were.
 fn put_calls(out: &mut String, form: Form, tally: &Tally) -> Result<(), NoMemory>
     ensures { (history : List EntryValue) → IsTallyOf history tally.now → OnOk result (string_bytes out.new ≡ string_bytes out.old ++ lines_of_calls form history) }
 {
     for op in OPS {
-        put_counter(out, form, "calls", op_word(op), tally.called(op))?;
+        put_call(out, form, tally, op)?;
     }
     Ok(())
 }
@@ -126,14 +137,39 @@ fn put_deadlocks(out: &mut String, form: Form, tally: &Tally) -> Result<(), NoMe
     put_counter(out, form, "deadlocks", "victims", tally.waits_doomed())
 }
 
+/// Writes how many calls were refused for this reason.
+fn put_refusal(out: &mut String, form: Form, tally: &Tally, why: Why) -> Result<(), NoMemory>
+    ensures { OnOk result ((history : List EntryValue) → IsTallyOf history tally.now
+        → string_bytes out.new ≡ string_bytes out.old ++ line_of form (codes "refusals") (name_of_why why) (refusals why history)) }
+{
+    put_counter(out, form, "refusals", why.name(), tally.refused(why))
+}
+
 /// Writes how many calls were refused, by reason.
 fn put_refusals(out: &mut String, form: Form, tally: &Tally) -> Result<(), NoMemory>
     ensures { (history : List EntryValue) → IsTallyOf history tally.now → OnOk result (string_bytes out.new ≡ string_bytes out.old ++ lines_of_refusals form history) }
 {
     for why in REFUSALS {
-        put_counter(out, form, "refusals", why.name(), tally.refused(why))?;
+        put_refusal(out, form, tally, why)?;
     }
     Ok(())
+}
+
+/// Writes these gauges: open transactions, locks, waiting requests, and the length of the longest queue.
+fn put_gauge_lines(
+    out: &mut String,
+    form: Form,
+    transactions: u64,
+    locks: u64,
+    waiting: u64,
+    longest: u64,
+) -> Result<(), NoMemory>
+    ensures { OnOk result (string_bytes out.new ≡ string_bytes out.old ++ gauge_lines form transactions locks waiting longest) }
+{
+    put_counter(out, form, "now", "transactions", transactions)?;
+    put_counter(out, form, "now", "locks", locks)?;
+    put_counter(out, form, "now", "waiting", waiting)?;
+    put_counter(out, form, "now", "longest queue", longest)
 }
 
 /// Writes what the lock table has now.
@@ -144,14 +180,16 @@ fn put_gauges(
     book: &Book,
     tally: &Tally,
 ) -> Result<(), NoMemory>
-    ensures { IsTallyOf book.now.history tally.now → OnOk result (string_bytes out.new ≡ string_bytes out.old ++ lines_of_gauges form book.now.sessions (state_of book.now.history)) }
+    requires counted { IsTallyOf book.now.history tally.now }
+    ensures { OnOk result (string_bytes out.new ≡ string_bytes out.old ++ lines_of_gauges form book.now.sessions (state_of book.now.history)) }
 {
     let mut claims = Vec::new(alloc);
     book.locks(alloc, &mut claims)?;
-    put_counter(out, form, "now", "transactions", count_open(book))?;
-    put_counter(out, form, "now", "locks", count_locks(&claims))?;
-    put_counter(out, form, "now", "waiting", tally.still_waiting())?;
-    put_counter(out, form, "now", "longest queue", longest_queue(&claims))
+    let transactions = count_open(book);
+    let locks = count_locks(&claims);
+    let waiting = tally.still_waiting();
+    let longest = longest_queue(&claims);
+    put_gauge_lines(out, form, transactions, locks, waiting, longest)
 }
 
 /// The counters of the tally of the lock table's history, and its gauges. Fails if memory is refused.
