@@ -17,7 +17,7 @@ returns-clause-counted c = λ t.
     let grown = ap (λ (b : BookView). b.history) is in
     let same = ap (λ (b : BookView). b.sessions) is in
     let told = ap (λ (b : BookView). b.ended) is ∙ ap (λ (n : ℕ). ended_waits n session (state_of old.history) (step (state_of old.history) session c.args.call).state) (sym same) in
-    let few : length old.history + 1 < 2 ^ 64 = omega (arith, ap (λ (h : List Entry). length h) grown, length-append old.history (e ∷ []), c.served-_served.ensures.count) in
-    let legal = subst IsLegal grown c.history-_history.ensures.legal in
+    let few : length old.history + 1 < 2 ^ 64 = omega (arith, ap (λ (h : List Entry). length h) grown, length-append old.history (e ∷ []), c.served-served.ensures.count) in
+    let legal = subst IsLegal grown c.history-history.ensures.legal in
     subst (λ (h : List Entry). IsTallyOf h c.note.new.self) (sym grown)
     (c.note.ensures old.history session t few legal (c.ends_of_call-ends.ensures old.history c.args.call c.in_ok-reply.reply grown c.waits-waited.ensures told))

@@ -11,7 +11,7 @@ returns c =
     let h = c.args.book.now.history in
     let form = c.args.form in
     let locks = c.count_locks-locks.ensures ∙ ap (λ (cs : List Claim). count_if is_lock cs) (c.deref.ensures.value ∙ c.in_ok-locks.ensures.ok) in
-    let waiting = c.still_waiting-waiting.ensures h c.requires in
+    let waiting = c.still_waiting-waiting.ensures h c.requires.counted in
     let longest = c.longest_queue-longest.ensures ∙ ap (λ (cs : List Claim). longest_from 0 0 cs) (c.deref-2.ensures.value ∙ c.in_ok-locks.ensures.ok) in
     let lines : gauge_lines form c.count_open-transactions.result c.count_locks-locks.result c.still_waiting-waiting.result c.longest_queue-longest.result
     ≡ lines_of_gauges form c.args.book.now.sessions (state_of h) =
