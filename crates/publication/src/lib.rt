@@ -30,6 +30,7 @@ mod piece;
 pub mod piece_laws;
 mod roll;
 mod slot;
+mod sleep_steps;
 mod steps;
 mod view;
 mod words;
