@@ -31,6 +31,7 @@ pub mod ChangedViews
 pub mod SplitsAndJoins
 pub mod Learning
 pub mod SleepKinds
+pub mod SleepLaws
 pub mod Closed
 pub mod Gathering
 pub mod Collected

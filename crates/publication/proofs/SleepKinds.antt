@@ -20,7 +20,7 @@ use Rattle.publication.specs.declared.slot.SlotValue.{SlotValue}
 use Rattle.publication.proofs.Lists.{at_there, each_set}
 use Rattle.publication.proofs.SeatViews.{front_of, heard_few, whole_of, pieces_of_seat}
 use Rattle.publication.proofs.Others.{StaysGone}
-use Rattle.publication.proofs.Sleepers.{lies_down, tells_so, sees_held, is_up, has_looked, sweeps_all, passes_by, rouses, wakes_all, knows_same}
+use Rattle.publication.proofs.Sleepers.{lies_down, tells_so, sees_held, is_up, has_looked, sweeps_all, passes_by, rouses, wakes_one, knows_same}
 use Rattle.publication.proofs.SleepRule.{was_here, is_here, elsewhere}
 use Rattle.publication.proofs.UnchangedList.{aside, same_walk}
 use Rattle.publication.proofs.SessionKinds.{named}
@@ -182,7 +182,7 @@ module _ {O C R : Type 0} {obj : Ghosts O C R} where
     wake_goes = let z = waking v.sleep in let t = looked 0 z in let ws = set s.words 0 (word s 0) in (
       z,
       looked_ruled 0 z,
-      as_heeded 0 (word s 0) z (word_read 0 (word_of 0)) (wakes_all (word s 0) (length s.homes) (sleep_word s) (sleep_word t) (sleep_at s) (sleep_at t) i v.sleep (was_here s i v (with_sleep v z) ws s.homes me)
+      as_heeded 0 (word s 0) z (word_read 0 (word_of 0)) (wakes_one (word s 0) (length s.homes) (sleep_word s) (sleep_word t) (sleep_at s) (sleep_at t) i v.sleep (was_here s i v (with_sleep v z) ws s.homes me)
           (elsewhere s i v (with_sleep v z) ws s.homes me) (is_here s i v (with_sleep v z) ws s.homes me) (λ j. word_read 0 (sleep_of j)) h.heeded),
       refl,
     )

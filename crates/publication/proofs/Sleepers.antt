@@ -3,7 +3,7 @@ use Rattle.std.proofs.Common.{◌≡◌, ◌≢◌, ◌⊎◌, inl, inr, ⊎_eli
 use mathlib.Core.Logic.{dite}
 use native.Mathlib.Decide.{ℕ_discrete}
 use Rattle.publication.specs.Words.{FREE, AWAKE, ASLEEP}
-use Rattle.publication.specs.Sleep.{Sleep, awake, IsAmong, HasEnded, lain, having_told, having_seen, risen, having_freed, having_looked, sweeping, passing, rousing, waking, taking_over}
+use Rattle.publication.specs.Sleep.{Sleep, awake, IsAmong, HasEnded, IsSameSleep, but_latest, with_latest, lain, having_told, having_seen, risen, having_freed, having_looked, sweeping, passing, rousing, waking, taking_over}
 use Rattle.publication.specs.Sleepers.{SomeSeat, IsNoted, IsAwaited, IsDown, AreHeeded}
 
 -- lists of sleeps
@@ -11,6 +11,10 @@ use Rattle.publication.specs.Sleepers.{SomeSeat, IsNoted, IsAwaited, IsDown, Are
 among_left : (j n : ℕ) (xs ys : List (ℕ × ℕ)) → IsAmong j n xs → IsAmong j n (xs ++ ys)
 among_left j n [] ys there = absurd there
 among_left j n (x ∷ xs) ys there = ⊎_elim (λ here. inl here) (λ later. inr (among_left j n xs ys later)) there
+
+among_woken : (j n : ℕ) (xs ys : List (ℕ × ℕ)) → IsAmong j n xs ⊎ IsAmong j n ys → IsAmong j n (but_latest xs) ⊎ IsAmong j n (with_latest xs ys)
+among_woken j n [] ys there = there
+among_woken j n (x ∷ xs) ys there = ⊎_elim (⊎_elim (λ here. inr (inl here)) (λ later. inl later)) (λ woken. inr (inr woken)) there
 
 among_right : (j n : ℕ) (xs ys : List (ℕ × ℕ)) → IsAmong j n ys → IsAmong j n (xs ++ ys)
 among_right j n [] ys there = there
@@ -34,13 +38,6 @@ module _ (lock lock' slots slots' : ℕ) (words words' : ℕ → ℕ) (zs zs' : 
     awaited = λ now saw. k.awaited now (d.noted (k.was now) (d.in_order saw)) (d.awaited (k.was now) saw);
     in_order = d.in_order;
   }
-
-  -- The session knows the same of its own sleep.
-  pub record IsSameSleep (z u : Sleep) : Type 0 where
-    pub down : u.down ≡ z.down
-    pub told : u.told ≡ z.told
-    pub saw : u.saw ≡ z.saw
-    pub sleeps : u.sleeps ≡ z.sleeps
 
   as_before : (j : ℕ) (z u : Sleep) → IsSameSleep z u → IsDown lock' slots' words' zs' j z → IsDown lock' slots' words' zs' j u
   as_before j z u e d = record {
@@ -191,10 +188,10 @@ module _ (lock slots : ℕ) (words words' : ℕ → ℕ) (zs zs' : ℕ → Sleep
         awaited = λ e _. ⊎_elim (λ held. inl held) (λ t. inr (kept (λ (x : Sleep). (x.looks ≡ true) ⊎ (j < x.sweeps)) (⊎_elim (λ l. inl l) (λ few. inr (fewer j e few))) t));
       })
 
-  -- The seat makes the wake-ups that it owes.
-  pub wakes_all : zs' i ≡ waking z → ((j : ℕ) → words' j ≡ words j) → AreHeeded lock slots words zs → AreHeeded lock slots words' zs'
-  wakes_all now word = same_words lock lock slots slots words words' zs zs' i z (waking z) me now else refl (record { down = refl; told = refl; saw = refl; sleeps = refl })
-      (record { ended = λ j n. ⊎_elim (λ e. inr (among_left j n z.owes z.woken e)) (λ e. inr (among_right j n z.owes z.woken e)); sweeps = λ j e. e; looks = λ e. e }) word (λ held. held)
+  -- The seat makes the latest wake-up that it owes.
+  pub wakes_one : zs' i ≡ waking z → ((j : ℕ) → words' j ≡ words j) → AreHeeded lock slots words zs → AreHeeded lock slots words' zs'
+  wakes_one now word = same_words lock lock slots slots words words' zs zs' i z (waking z) me now else refl (record { down = refl; told = refl; saw = refl; sleeps = refl })
+      (record { ended = λ j n. among_woken j n z.owes z.woken; sweeps = λ j e. e; looks = λ e. e }) word (λ held. held)
 
   -- The seat frees the lock word, and is to look whether a session may sleep.
   pub has_freed : (lock' slots' : ℕ) → slots' ≡ slots → zs' i ≡ having_freed z → ((j : ℕ) → words' j ≡ words j) → AreHeeded lock slots words zs → AreHeeded lock' slots' words' zs'

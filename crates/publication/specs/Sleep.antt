@@ -33,11 +33,29 @@ IsAmong j n (x ∷ xs) = ((x.0 ≡ j) × (x.1 ≡ n)) ⊎ IsAmong j n xs
 abbrev pub HasEnded : ℕ → ℕ → Sleep → Type 0
 HasEnded j n z = IsAmong j n z.owes ⊎ IsAmong j n z.woken
 
--- The seat has neither a look at sleepers nor a wake-up left to make.
-pub record IsAtRest (z : Sleep) : Type 0 where
-  pub looks : z.looks ≡ false
+-- The seat has neither a record to look at nor a wake-up to make.
+pub record HasNoDebts (z : Sleep) : Type 0 where
   pub sweeps : z.sweeps ≤ 1
   pub owes : z.owes ≡ []
+
+-- It need not look for sleepers, either.
+pub record IsAtRest (z : Sleep) : Type 0 where
+  pub looks : z.looks ≡ false
+  pub debts : HasNoDebts z
+
+-- The seat owes what it owed, whatever its session's own sleep is.
+pub record IsSameDebts (z y : Sleep) : Type 0 where
+  pub looks : y.looks ≡ z.looks
+  pub sweeps : y.sweeps ≡ z.sweeps
+  pub owes : y.owes ≡ z.owes
+  pub woken : y.woken ≡ z.woken
+
+-- The session knows the same of its own sleep.
+pub record IsSameSleep (z y : Sleep) : Type 0 where
+  pub down : y.down ≡ z.down
+  pub told : y.told ≡ z.told
+  pub saw : y.saw ≡ z.saw
+  pub sleeps : y.sleeps ≡ z.sleeps
 
 -- What each step leaves.
 
@@ -77,9 +95,19 @@ passing j z = record { down = z.down; told = z.told; saw = z.saw; sleeps = z.sle
 abbrev pub rousing : ℕ → ℕ → Sleep → Sleep
 rousing j n z = record { down = z.down; told = z.told; saw = z.saw; sleeps = z.sleeps; looks = z.looks; sweeps = min z.sweeps j; owes = (j, n) ∷ z.owes; woken = z.woken }
 
--- The wake-up for each sleep that the seat has ended is made.
+-- The sleeps without the latest.
+abbrev pub but_latest : List (ℕ × ℕ) → List (ℕ × ℕ)
+but_latest [] = []
+but_latest (x ∷ xs) = xs
+
+-- The latest of some sleeps in front of others.
+abbrev pub with_latest : List (ℕ × ℕ) → List (ℕ × ℕ) → List (ℕ × ℕ)
+with_latest [] others = others
+with_latest (x ∷ xs) others = x ∷ others
+
+-- The wake-up for the sleep that the seat has ended last is made.
 abbrev pub waking : Sleep → Sleep
-waking z = record { down = z.down; told = z.told; saw = z.saw; sleeps = z.sleeps; looks = z.looks; sweeps = z.sweeps; owes = []; woken = z.owes ++ z.woken }
+waking z = record { down = z.down; told = z.told; saw = z.saw; sleeps = z.sleeps; looks = z.looks; sweeps = z.sweeps; owes = but_latest z.owes; woken = with_latest z.owes z.woken }
 
 -- The seat takes over what another seat, which ends, owes and has done.
 abbrev pub taking_over : Sleep → Sleep → Sleep

@@ -1,7 +1,7 @@
 -- What holds of sessions that may sleep, between any two atomic steps: none of them is forgotten.
 use Rattle.std.specs.Prelude.{◌≡◌, ◌≢◌, ◌⊎◌, ℕ, ◌<◌, true, length, slice_index}
 use Rattle.publication.specs.Words.{sleep_of, FREE, ASLEEP}
-use Rattle.publication.specs.Sleep.{Sleep, HasEnded}
+use Rattle.publication.specs.Sleep.{Sleep, HasEnded, IsAtRest}
 use Rattle.publication.specs.Rule.{BoardState, word, seat}
 
 -- Some seat's sleep is such.
@@ -46,3 +46,20 @@ module _ {O C R : Type 0} where
   -- The rule of the sleepers.
   pub record HasHeededSleepers (s : BoardState O C R) : Type 0 where
     pub heeded : AreHeeded (word s 0) (length s.homes) (sleep_word s) (sleep_at s)
+
+module _ {O C R : Type 0} where
+  -- Some seat has the object.
+  abbrev pub IsObjectTaken : BoardState O C R → Type 0
+  IsObjectTaken s = (k : ℕ) × ((seat s k).combiner.has_object ≡ true)
+
+  -- Session j, which knows z of its sleep, is heeded: its sleep word is ASLEEP while some seat has the object, or is about to look whether a
+  -- session may sleep, or to look at this record; or some seat has ended this very sleep, and owes the wake-up for it or has made it.
+  abbrev pub IsHeeded : BoardState O C R → ℕ → Sleep → Type 0
+  IsHeeded s j z =
+      ((sleep_word s j ≡ ASLEEP) × (IsObjectTaken s ⊎ SomeSeat (λ y. (y.looks ≡ true) ⊎ (j < y.sweeps)) (sleep_at s)))
+      ⊎ SomeSeat (HasEnded j z.sleeps) (sleep_at s)
+
+  -- Nobody has the object, and no seat has a look or a wake-up to make.
+  pub record IsQuiet (s : BoardState O C R) : Type 0 where
+    pub none : IsObjectTaken s → ⊥
+    pub rest : (k : ℕ) → IsAtRest (sleep_at s k)

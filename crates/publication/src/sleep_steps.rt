@@ -4,7 +4,7 @@
 //! A record's sleep word lies in the cache line of its state word, the board's in that of the lock word.
 ghost use Rattle.std.specs.Prelude.{◌≡◌, ◌+◌, ◌≤◌, ◌≢◌, ℕ, ◌∷◌, [], true, false};
 ghost use Rattle.publication.specs.Kinds.{with_sleep};
-ghost use Rattle.publication.specs.Sleep.{lain, having_told, having_seen, risen, having_looked, sweeping, passing, rousing, waking};
+ghost use Rattle.publication.specs.Sleep.{lain, having_told, having_seen, risen, having_looked, sweeping, passing, rousing, waking, but_latest, HasNoDebts, IsAtRest, IsSameDebts, IsSameSleep};
 ghost use Rattle.publication.specs.inner.Tickets.{IsBoard, IsAt};
 
 use crate::kinds::{
@@ -41,7 +41,7 @@ fn tell_sleepers<O: Sequential>(shared: &Shared<O>, seat: &mut Seat<O>)
 }
 
 /// Whether the lock word is held, for a session that has told that it may sleep.
-pub(crate) fn sees_held<O: Sequential>(shared: &Shared<O>, seat: &mut Seat<O>) -> bool
+fn sees_held<O: Sequential>(shared: &Shared<O>, seat: &mut Seat<O>) -> bool
     requires ours { seat.old.table_id ≡ shared.now.table_id }
     requires board { IsBoard shared.now.table_id }
     requires mine { seat.old.me.0.number ≢ 0 }
@@ -55,11 +55,7 @@ pub(crate) fn sees_held<O: Sequential>(shared: &Shared<O>, seat: &mut Seat<O>) -
 }
 
 /// Begins a sleep of the session, and tells so. Returns whether the lock word was held since: only then the session's thread may sleep.
-pub(crate) fn begin_sleep<O: Sequential>(
-    shared: &Shared<O>,
-    seat: &mut Seat<O>,
-    at: usize,
-) -> bool
+pub(crate) fn begin_sleep<O: Sequential>(shared: &Shared<O>, seat: &mut Seat<O>, at: usize) -> bool
     requires ours { seat.old.table_id ≡ shared.now.table_id }
     requires board { IsBoard shared.now.table_id }
     requires at { IsAt shared.now.table_id at }
@@ -102,12 +98,7 @@ pub(crate) fn get_up<O: Sequential>(shared: &Shared<O>, seat: &mut Seat<O>, at: 
 }
 
 /// Sleeps until the session's sleep word is AWAKE, or for no reason. The session has begun a sleep and seen the lock word held since.
-pub(crate) fn sleep<O: Sequential, R: Wait>(
-    rt: &R,
-    shared: &Shared<O>,
-    seat: &Seat<O>,
-    at: usize,
-)
+fn park<O: Sequential, R: Wait>(rt: &R, shared: &Shared<O>, seat: &Seat<O>, at: usize)
     requires ours { seat.now.table_id ≡ shared.now.table_id }
     requires board { IsBoard shared.now.table_id }
     requires at { IsAt shared.now.table_id at }
@@ -119,7 +110,7 @@ pub(crate) fn sleep<O: Sequential, R: Wait>(
 }
 
 /// Whether a session may sleep: reads the board's sleep word, and writes AWAKE if it is ASLEEP. Then all records are to be looked at.
-pub(crate) fn look_for_sleepers<O: Sequential>(shared: &Shared<O>, seat: &mut Seat<O>) -> bool
+fn look_for_sleepers<O: Sequential>(shared: &Shared<O>, seat: &mut Seat<O>) -> bool
     requires ours { seat.old.table_id ≡ shared.now.table_id }
     requires board { IsBoard shared.now.table_id }
     requires mine { seat.old.me.0.number ≢ 0 }
@@ -137,7 +128,7 @@ pub(crate) fn look_for_sleepers<O: Sequential>(shared: &Shared<O>, seat: &mut Se
 
 /// Ends the sleep of the session of record `at`, if its sleep word is ASLEEP, and returns whether it was. The seat then owes a wake-up.
 /// Needs all records above to be looked at.
-pub(crate) fn rouse<O: Sequential>(shared: &Shared<O>, seat: &mut Seat<O>, at: usize) -> bool
+fn rouse<O: Sequential>(shared: &Shared<O>, seat: &mut Seat<O>, at: usize) -> bool
     requires ours { seat.old.table_id ≡ shared.now.table_id }
     requires board { IsBoard shared.now.table_id }
     requires at { IsAt shared.now.table_id at }
@@ -151,17 +142,127 @@ pub(crate) fn rouse<O: Sequential>(shared: &Shared<O>, seat: &mut Seat<O>, at: u
     shared.compare_exchange::<Rouse>(seat, at * WORDS_APART + SLEEP, ASLEEP, AWAKE) == ASLEEP
 }
 
-/// Wakes the thread that sleeps on the sleep word of record `at`, whose sleep is the one that the seat has ended and owes a wake-up for.
-pub(crate) fn wake<O: Sequential>(shared: &Shared<O>, seat: &mut Seat<O>, at: usize)
+/// Wakes the thread that sleeps on the sleep word of record `at`, whose sleep is the latest that the seat has
+/// ended and owes a wake-up for.
+fn wake<O: Sequential>(shared: &Shared<O>, seat: &mut Seat<O>, at: usize)
     requires ours { seat.old.table_id ≡ shared.now.table_id }
     requires board { IsBoard shared.now.table_id }
     requires at { IsAt shared.now.table_id at }
     requires mine { seat.old.me.0.number ≢ 0 }
-    requires one { (n : ℕ) × (seat.old.me.0.sleep.owes ≡ (at, n) ∷ []) }
+    requires latest { (n : ℕ) × (seat.old.me.0.sleep.owes ≡ (at, n) ∷ but_latest seat.old.me.0.sleep.owes) }
     ensures ours { seat.new.table_id ≡ seat.old.table_id }
     ensures step { seat.new.me ≡ (with_sleep seat.old.me.0 seat.new.me.0.sleep, seat.old.me.1) }
     ensures sleep { seat.new.me.0.sleep ≡ waking seat.old.me.0.sleep }
 {
     shared.wake_one(at * WORDS_APART + SLEEP);
     shared.load::<WakeUp>(seat, 0);
+}
+
+/// Looks at the record `at`, all records above being looked at: ends its session's sleep if it sleeps, and wakes its thread. Returns
+/// whether it did.
+fn rouse_and_wake<O: Sequential>(shared: &Shared<O>, seat: &mut Seat<O>, at: usize) -> bool
+    requires ours { seat.old.table_id ≡ shared.now.table_id }
+    requires board { IsBoard shared.now.table_id }
+    requires at { IsAt shared.now.table_id at }
+    requires mine { seat.old.me.0.number ≢ 0 }
+    requires above { seat.old.me.0.sleep.sweeps ≤ at + 1 }
+    ensures ours { seat.new.table_id ≡ seat.old.table_id }
+    ensures step { seat.new.me ≡ (with_sleep seat.old.me.0 seat.new.me.0.sleep, seat.old.me.1) }
+    ensures own { IsSameSleep seat.old.me.0.sleep seat.new.me.0.sleep }
+    ensures looks { seat.new.me.0.sleep.looks ≡ seat.old.me.0.sleep.looks }
+    ensures looked { seat.new.me.0.sleep.sweeps ≤ at }
+    ensures owes { seat.new.me.0.sleep.owes ≡ seat.old.me.0.sleep.owes }
+    ensures woken { result ≡ true → (n : ℕ) × (seat.new.me.0.sleep.woken ≡ (at, n) ∷ seat.old.me.0.sleep.woken) }
+    ensures none { result ≡ false → seat.new.me.0.sleep.woken ≡ seat.old.me.0.sleep.woken }
+{
+    if !rouse(shared, seat, at) {
+        return false;
+    }
+    wake(shared, seat, at);
+    true
+}
+
+/// The look behind a release: if a session may sleep, looks at each record and wakes the threads of all sessions that sleep. Reads one
+/// word if none does. Returns how many it woke. A seat that had no record to look at and no wake-up to make has neither afterwards.
+pub(crate) fn wake_sleepers<O: Sequential>(
+    shared: &Shared<O>,
+    seat: &mut Seat<O>,
+    sessions: u16,
+) -> u16
+    requires ours { seat.old.table_id ≡ shared.now.table_id }
+    requires board { IsBoard shared.now.table_id }
+    requires slots { shared.now.table_id.slots ≡ sessions + 1 }
+    requires mine { seat.old.me.0.number ≢ 0 }
+    ensures ours { seat.new.table_id ≡ seat.old.table_id }
+    ensures step { seat.new.me ≡ (with_sleep seat.old.me.0 seat.new.me.0.sleep, seat.old.me.1) }
+    ensures own { IsSameSleep seat.old.me.0.sleep seat.new.me.0.sleep }
+    ensures rest { HasNoDebts seat.old.me.0.sleep → IsAtRest seat.new.me.0.sleep }
+    ensures few { result ≤ sessions }
+{
+    let mut woken = 0;
+    if !look_for_sleepers(shared, seat) {
+        return woken;
+    }
+    let mut whose = sessions;
+    while whose > 0 {
+        if rouse_and_wake(shared, seat, usize::from(whose)) {
+            woken += 1;
+        }
+        whose -= 1;
+    }
+    woken
+}
+
+/// Sleeps, as a session that has begun a sleep, until some seat has ended the sleep, or the lock word is free. It returns for no other
+/// reason, and the session is up then.
+fn sleep_until_roused<O: Sequential, R: Wait>(
+    rt: &R,
+    shared: &Shared<O>,
+    seat: &mut Seat<O>,
+    at: usize,
+)
+    requires ours { seat.old.table_id ≡ shared.now.table_id }
+    requires board { IsBoard shared.now.table_id }
+    requires at { IsAt shared.now.table_id at }
+    requires mine { seat.old.me.0.number ≡ at }
+    requires down { (seat.old.me.0.sleep.down ≡ true) × (seat.old.me.0.sleep.told ≡ true) }
+    ensures ours { seat.new.table_id ≡ seat.old.table_id }
+    ensures step { seat.new.me ≡ (with_sleep seat.old.me.0 seat.new.me.0.sleep, seat.old.me.1) }
+    ensures up { seat.new.me.0.sleep.down ≡ false }
+    ensures debts { IsSameDebts seat.old.me.0.sleep seat.new.me.0.sleep }
+{
+    for _ in rt.forever() {
+        if !sees_held(shared, seat) {
+            get_up(shared, seat, at);
+            return;
+        }
+        park(rt, shared, seat, at);
+        if is_roused(shared, seat, at) {
+            return;
+        }
+    }
+    unreachable!()
+}
+
+/// Sleeps, as the session's thread, until some seat ends the sleep, or the lock word is free. Returns at once if it is free.
+pub(crate) fn sleep<O: Sequential, R: Wait>(
+    rt: &R,
+    shared: &Shared<O>,
+    seat: &mut Seat<O>,
+    at: usize,
+)
+    requires ours { seat.old.table_id ≡ shared.now.table_id }
+    requires board { IsBoard shared.now.table_id }
+    requires at { IsAt shared.now.table_id at }
+    requires mine { seat.old.me.0.number ≡ at }
+    ensures ours { seat.new.table_id ≡ seat.old.table_id }
+    ensures step { seat.new.me ≡ (with_sleep seat.old.me.0 seat.new.me.0.sleep, seat.old.me.1) }
+    ensures up { seat.new.me.0.sleep.down ≡ false }
+    ensures debts { IsSameDebts seat.old.me.0.sleep seat.new.me.0.sleep }
+{
+    if begin_sleep(shared, seat, at) {
+        sleep_until_roused(rt, shared, seat, at);
+    } else {
+        get_up(shared, seat, at);
+    }
 }
