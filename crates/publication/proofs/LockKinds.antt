@@ -18,7 +18,7 @@ use Rattle.publication.specs.Pieces.{pieces_of, HasAdded, added}
 use Rattle.publication.specs.Views.{Combiner, Taken, IsAccountedIn}
 use Rattle.publication.specs.declared.piece.Piece.{Piece}
 use Rattle.publication.specs.Sleep.{Sleep, having_freed}
-use Rattle.publication.specs.Kinds.{combiner, as_combiner, with_pieces, with_sleep, no_walk, HasOthers, looks_at_lock, seizing, Seized, seizes_within, releasing, releases}
+use Rattle.publication.specs.Kinds.{Seated, combiner, as_combiner, with_pieces, with_sleep, no_walk, HasOthers, looks_at_lock, seizing, Seized, seizes_within, releasing, releases}
 use Rattle.publication.specs.declared.view.View.{View}
 use Rattle.publication.specs.declared.slot.Load.{Load}
 use Rattle.publication.specs.declared.slot.SlotValue.{SlotValue}
@@ -261,7 +261,7 @@ module _ {C R : Type 0} where
             record {
               ruled = subst (λ (k : ℕ). IsRuled obj (stepped s 0 FREE k ((0, ObjectLoad load) ∷ more) g.0 gives)) (sym t.0) g.1;
               within = λ other there. subst (λ (x : Box (Load O C R)). obj.bound x.value.object ≡ bound) (laid_down s.homes load other there (omega (arith, wide, slots_are, t.1))) kept;
-              sleepers = sleepers_freed s id v g.0 (set s.words 0 FREE) (set s.homes 0 (opt.some (ObjectLoad load))) me b.sleepers refl (length-set s.homes 0 (opt.some (ObjectLoad load))) (λ j. get_or-set_other s.words 0 (sleep_of j) FREE 0 (λ e. omega (arith, e)));
+              sleepers = sleepers_freed s id v g.0 (set s.words 0 FREE) (set s.homes 0 (opt.some (ObjectLoad load))) me b.sleepers (ap (λ (x : Seated O C R). x.0.sleep) g.2) (length-set s.homes 0 (opt.some (ObjectLoad load))) (λ j. get_or-set_other s.words 0 (sleep_of j) FREE 0 (λ e. omega (arith, e)));
             },
             subst (λ (n : ℕ). releases (step n 0 FREE 0 opt.none) (v, (0, ObjectLoad load) ∷ more) FREE (g.0, more)) slots_are g.2,
           )

@@ -14,7 +14,7 @@ use Rattle.publication.specs.Sleep.SleepStep.{lie_down, tell_sleepers, look_if_h
 use Rattle.publication.specs.Rule.{blank, BoardState, word, seat, AreTrue, IsOrderly}
 use Rattle.publication.specs.Sleepers.{sleep_word, sleep_at, AreHeeded, HasHeededSleepers}
 use Rattle.publication.specs.List.{link, belongs, IsLinked, IsRuled, IsBounded}
-use Rattle.publication.specs.Kinds.{with_sleep, sleeps_so, drowses}
+use Rattle.publication.specs.Kinds.{Seated, with_sleep, sleeps_so, drowses}
 use Rattle.publication.specs.declared.view.View.{View}
 use Rattle.publication.specs.declared.slot.SlotValue.{SlotValue}
 use Rattle.publication.proofs.Lists.{at_there, each_set}
@@ -28,6 +28,11 @@ use Rattle.publication.proofs.ListKinds.{reworded}
 use Rattle.publication.proofs.ChangedViews.{viewed, sits-others}
 use Rattle.publication.proofs.SplitsAndJoins.{learned}
 use Rattle.sequential.specs.declared.object.Sequential.{Ghosts}
+
+module _ {O C R : Type 0} where
+  -- Two steps of sleep change what the seat knows of sleep alone.
+  pub slept_twice : (m x y : Seated O C R) (a b : Sleep) → x ≡ (with_sleep m.0 a, m.1) → y ≡ (with_sleep x.0 b, x.1) → y ≡ (with_sleep m.0 b, m.1)
+  slept_twice m x y a b first second = second ∙ ap (λ (z : Seated O C R). (with_sleep z.0 b, z.1)) first
 
 -- No two sleep words are one.
 pub session_of_its_sleep : (number : ℕ) → session_of_word (sleep_of number) ≡ number
