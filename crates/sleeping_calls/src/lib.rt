@@ -16,8 +16,8 @@ use combining::{Called, LOOKS_PER_TRY, Next, Office, Session, Told, Wait as Paus
 use sequential::Batching;
 use std::sync::Wait;
 
-/// The turns that a session makes before it sleeps: `TRIES_AT_ONCE` tries to perform its call, and looks at its record. A pass of 8
-/// sessions is done within a few of these, and a sleep with its wake-up costs more than all.
+/// The turns that a session makes before it sleeps: `TRIES_AT_ONCE` tries to perform its call, and then looks at its record. The number
+/// was not measured yet.
 pub const TURNS_AWAKE: u64 = 128;
 
 /// Waits so before the next turn of a call, of which `made` came before; or sleeps, behind `TURNS_AWAKE` turns. Returns how many turns
