@@ -533,8 +533,8 @@ pelgaisti_status pelgaisti_book_take_history(pelgaisti_book *book, uint64_t *fir
                                              size_t *count);
 
 /* ---- Deadlocks of a book: the newest ones, as many as were asked for before its first call. The memory for them is taken then, so that no
-   call lacks memory for a deadlock. A call that makes one pays for a search: among all sessions, for each of those that wait for the victim,
-   directly or through others. One that makes none costs what it costs in a book that keeps none. ---- */
+   call lacks memory for a deadlock. A call that makes one pays for a search: of the sessions that the victim waits for, directly or through
+   others, each with its row of a bit for each session. One that makes none costs what it costs in a book that keeps none. ---- */
 
 /* Keeps the newest `most` deadlocks from now on. A book keeps none unless it is asked to. Takes memory for a cycle of all sessions for each:
    some 56 bytes a session.

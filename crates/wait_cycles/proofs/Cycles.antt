@@ -1,6 +1,5 @@
 -- A cycle that was found: its positions are sessions, and no more than there are.
-use Rattle.std.proofs.Common.{◌≡◌, ℕ, suc, ◌+◌, ◌<◌, ◌≤◌, inl, inr, Bool, true, eqb, List, [], ◌∷◌, length, get_or, arith, subst}
-use Rattle.std.specs.List.{list_any}
+use Rattle.std.proofs.Common.{◌≡◌, ℕ, zero, suc, ◌+◌, ◌<◌, ◌≤◌, inl, inr, Bool, true, List, [], ◌∷◌, length, get_or, arith, subst}
 use Rattle.std.proofs.lemmas.Bool.{cases_lt}
 use Rattle.std.proofs.lemmas.Map.Steps.{length-le_from_distinct_below}
 use Rattle.waits_for.specs.Pairs.{Pairs, pairs_of}
@@ -35,3 +34,24 @@ walk-from pairs t x (y ∷ xs) waits closed = (
 pub cycle-reaches : (pairs : ℕ → ℕ → Bool) (t : ℕ) (cycle : List ℕ) → IsCycle pairs t cycle → Reaches pairs t t
 cycle-reaches pairs t [] h = absurd (let some = h.some in omega (arith, some))
 cycle-reaches pairs t (x ∷ xs) h = record { others = xs; walk = subst (λ (u : ℕ). IsWalk pairs u xs t) h.first (walk-from pairs t x xs h.waits h.closed) }
+
+module _ (pairs : ℕ → ℕ → Bool) where
+  -- Of the positions of a walk, with the one that it leads from, each waits for the next.
+  pub walk-waits : (x : ℕ) (xs : List ℕ) (t : ℕ) → IsWalk pairs x xs t → (k : ℕ) → k + 1 < length (x ∷ xs) → pairs (get_or (x ∷ xs) k 0) (get_or (x ∷ xs) (k + 1) 0) ≡ true
+  walk-waits x [] t walk k lt = absurd (omega (arith, lt))
+  walk-waits x (y ∷ xs) t walk zero lt = walk.0
+  walk-waits x (y ∷ xs) t walk (suc k) lt = let e : suc (k + 1) ≡ suc k + 1 = omega arith in subst (λ (n : ℕ). pairs (get_or (y ∷ xs) k 0) (get_or (x ∷ y ∷ xs) n 0) ≡ true) e (walk-waits y xs t walk.1 k (omega (arith, lt)))
+
+  -- And the last for the one that it leads to.
+  pub walk-closed : (x : ℕ) (xs : List ℕ) (t : ℕ) → IsWalk pairs x xs t → (k : ℕ) → k + 1 ≡ length (x ∷ xs) → pairs (get_or (x ∷ xs) k 0) t ≡ true
+  walk-closed x [] t walk zero e = walk
+  walk-closed x [] t walk (suc k) e = absurd (omega (arith, e))
+  walk-closed x (y ∷ xs) t walk zero e = absurd (omega (arith, e))
+  walk-closed x (y ∷ xs) t walk (suc k) e = walk-closed y xs t walk.1 k (omega (arith, e))
+
+  -- If each walk from t to itself leads through so many others, each cycle through t has them besides t.
+  pub cycle-long : (t n : ℕ) → ((others : List ℕ) → IsWalk pairs t others t → n ≤ length others) → (cycle : List ℕ) → IsCycle pairs t cycle → n + 1 ≤ length cycle
+  cycle-long t n all [] h = absurd (let some = h.some in omega (arith, some))
+  cycle-long t n all (x ∷ xs) h =
+      let others = all xs (subst (λ (u : ℕ). IsWalk pairs u xs t) h.first (walk-from pairs t x xs h.waits h.closed)) in
+      omega (arith, others)

@@ -1,12 +1,12 @@
 //! The search for a cycle through a session, nearest sessions first.
 
-ghost use Rattle.std.specs.Prelude.{◌≡◌, ◌<◌, ◌≤◌, ◌↔◌, ℕ, true, false, [], length, slice_index_or, nat_eq, vec_capacity, IfOk, IfNone, IfSome, IsTrue};
+ghost use Rattle.std.specs.Prelude.{◌≡◌, ◌<◌, ◌≤◌, ◌↔◌, ℕ, true, false, List, [], length, slice_index_or, nat_eq, vec_capacity, IfOk, IfNone, IfSome, IsTrue};
 ghost use Rattle.std.specs.List.{list_any};
 ghost use Rattle.waits_for.specs.Pairs.{pairs_of};
 ghost use Rattle.waits_for.specs.Marks.{Marking};
 ghost use Rattle.waits_for.specs.Walks.{Reaches};
 ghost use Rattle.wait_cycles.specs.Cycles.{IsCycle};
-ghost use Rattle.wait_cycles.specs.inner.Meeting.{IsMeeting, HasMet};
+ghost use Rattle.wait_cycles.specs.inner.Meeting.{IsMeeting, IsLookedAt, HasKept};
 
 use crate::NoMemory;
 use std::alloc::Global;
@@ -21,10 +21,10 @@ use waits_for::{MAX_SESSIONS, Marks, Rows};
 pub struct CycleSearch {
     /// The number of sessions.
     sessions: u16,
-    /// Scratch: the positions that are met: first the one asked for, then those that reach it, nearest first.
+    /// Scratch: the positions that are met: first the one asked for, then those that it reaches, nearest first.
     met: Vec<usize>,
-    /// Scratch: for each of them but the first, the index in `met` of one that it waits for directly.
-    nexts: Vec<usize>,
+    /// Scratch: for each of them but the first, the index in `met` of one that waits for it directly.
+    parents: Vec<usize>,
     /// Scratch: the positions that are met, as a set.
     marks: Marks,
     /// The positions on the cycle that was found last, in order.
@@ -42,121 +42,100 @@ impl Model for CycleSearch {
     ghost invariant = { HasRoom };
 }
 
-/// Adds position `u` to those met if it isn't among them and waits directly for `met[at]`.
-#[inline(always)]
-fn meet(
-    rows: &Rows,
-    u: usize,
-    at: usize,
-    met: &mut Vec<usize>,
-    nexts: &mut Vec<usize>,
-    marks: &mut Marks,
-)
-    requires u_below { u < rows.now.sessions }
-    requires at_below { at < length met.old.items }
-    requires sessions { marks.old.sessions ≡ rows.now.sessions }
-    requires met_room { rows.now.sessions ≤ vec_capacity met.old }
-    requires nexts_room { rows.now.sessions ≤ vec_capacity nexts.old }
-    requires meeting { IsMeeting rows.now met.old.items nexts.old.items marks.old }
-    ensures meeting { IsMeeting rows.now met.new.items nexts.new.items marks.new }
-    ensures met { HasMet met.old.items met.new.items }
-    ensures one { pairs_of rows.now u (slice_index_or met.old.items at 0) ≡ true → list_any (nat_eq u) met.new.items ≡ true }
-    ensures sessions { marks.new.sessions ≡ marks.old.sessions }
-    ensures met_room { vec_capacity met.new ≡ vec_capacity met.old }
-    ensures nexts_room { vec_capacity nexts.new ≡ vec_capacity nexts.old }
-{
-    if !rows.waits(u, met[at]) {
-        return;
-    }
-    if !marks.mark(u) {
-        return;
-    }
-    met.push_reserved(u);
-    nexts.push_reserved(at);
-}
-
-/// Adds the positions that wait directly for `met[at]` to those met.
-fn meet_waiting(
+/// Adds the positions that `met[at]` waits for directly to those met.
+fn meet_waited_for(
     rows: &Rows,
     at: usize,
     met: &mut Vec<usize>,
-    nexts: &mut Vec<usize>,
+    parents: &mut Vec<usize>,
     marks: &mut Marks,
 )
     requires at_below { at < length met.old.items }
     requires sessions { marks.old.sessions ≡ rows.now.sessions }
     requires met_room { rows.now.sessions ≤ vec_capacity met.old }
-    requires nexts_room { rows.now.sessions ≤ vec_capacity nexts.old }
-    requires meeting { IsMeeting rows.now met.old.items nexts.old.items marks.old }
-    ensures meeting { IsMeeting rows.now met.new.items nexts.new.items marks.new }
-    ensures met { HasMet met.old.items met.new.items }
-    ensures all { (u : ℕ) → pairs_of rows.now u (slice_index_or met.old.items at 0) ≡ true → list_any (nat_eq u) met.new.items ≡ true }
+    requires parents_room { rows.now.sessions ≤ vec_capacity parents.old }
+    requires meeting { IsMeeting rows.now met.old.items parents.old.items marks.old }
+    requires behind { (j : ℕ) → j < length met.old.items → slice_index_or parents.old.items j 0 ≤ at }
+    ensures meeting { IsMeeting rows.now met.new.items parents.new.items marks.new }
+    ensures behind { (j : ℕ) → j < length met.new.items → slice_index_or parents.new.items j 0 ≤ at }
+    ensures met { HasKept met.old.items met.new.items }
+    ensures parents { HasKept parents.old.items parents.new.items }
+    ensures all { (u : ℕ) → pairs_of rows.now (slice_index_or met.old.items at 0) u ≡ true → list_any (nat_eq u) met.new.items ≡ true }
     ensures sessions { marks.new.sessions ≡ marks.old.sessions }
     ensures met_room { vec_capacity met.new ≡ vec_capacity met.old }
-    ensures nexts_room { vec_capacity nexts.new ≡ vec_capacity nexts.old }
+    ensures parents_room { vec_capacity parents.new ≡ vec_capacity parents.old }
 {
-    let sessions = rows.sessions() as usize;
-    for u in 0..sessions {
-        meet(rows, u, at, met, nexts, marks);
+    let position = met[at];
+    let mut from = 0;
+    while let Some(u) = rows.first_unmarked(position, from, marks) {
+        marks.mark(u);
+        met.push_reserved(u);
+        parents.push_reserved(at);
+        from = u + 1;
     }
 }
 
-/// Meets the positions that reach position `t`, nearest first, until `t` waits directly for one of them, and returns the
+/// Meets the positions that position `t` reaches, nearest first, until one of them waits directly for `t`, and returns the
 /// index of this one in `met`. `None` if `t` is on no cycle.
 fn search(
     rows: &Rows,
     t: usize,
     met: &mut Vec<usize>,
-    nexts: &mut Vec<usize>,
+    parents: &mut Vec<usize>,
     marks: &mut Marks,
 ) -> Option<usize>
     requires t_below { t < rows.now.sessions }
     requires sessions { marks.old.sessions ≡ rows.now.sessions }
     requires met_room { rows.now.sessions ≤ vec_capacity met.old }
-    requires nexts_room { rows.now.sessions ≤ vec_capacity nexts.old }
-    ensures meeting { IsMeeting rows.now met.new.items nexts.new.items marks.new }
+    requires parents_room { rows.now.sessions ≤ vec_capacity parents.old }
+    ensures meeting { IsMeeting rows.now met.new.items parents.new.items marks.new }
     ensures first { slice_index_or met.new.items 0 0 ≡ t }
     ensures within { IfSome result (λ at. at < length met.new.items) }
-    ensures closed { IfSome result (λ at. pairs_of rows.now t (slice_index_or met.new.items at 0) ≡ true) }
+    ensures closed { IfSome result (λ at. pairs_of rows.now (slice_index_or met.new.items at 0) t ≡ true) }
+    ensures looked { IfSome result (λ at. IsLookedAt rows.now t met.new.items parents.new.items at) }
     ensures none { IfNone result (Reaches (pairs_of rows.now) t t → ⊥) }
     ensures sessions { marks.new.sessions ≡ marks.old.sessions }
     ensures met_room { vec_capacity met.new ≡ vec_capacity met.old }
-    ensures nexts_room { vec_capacity nexts.new ≡ vec_capacity nexts.old }
+    ensures parents_room { vec_capacity parents.new ≡ vec_capacity parents.old }
 {
     met.clear();
-    nexts.clear();
+    parents.clear();
     marks.clear();
     marks.mark(t);
     met.push_reserved(t);
-    nexts.push_reserved(0);
+    parents.push_reserved(0);
     let mut at = 0;
     while at < met.len() {
-        if rows.waits(t, met[at]) {
+        if rows.waits(met[at], t) {
             return Some(at);
         }
-        meet_waiting(rows, at, met, nexts, marks);
+        meet_waited_for(rows, at, met, parents, marks);
         at += 1;
     }
     None
 }
 
-/// Replaces the contents of `cycle` by the first position that is met, `found`-th that is met, the one that this waits for, and so
-/// on, up to the one that waits for the first.
-fn follow(rows: &Rows, found: usize, met: &[usize], nexts: &[usize], cycle: &mut Vec<usize>)
+/// Replaces the contents of `cycle` by the first position that is met, then those by which the search came to `met[found]`,
+/// and this one last.
+fn follow(rows: &Rows, found: usize, met: &[usize], parents: &[usize], cycle: &mut Vec<usize>)
     requires found { found < length met.now }
-    requires closed { pairs_of rows.now (slice_index_or met.now 0 0) (slice_index_or met.now found 0) ≡ true }
+    requires closed { pairs_of rows.now (slice_index_or met.now found 0) (slice_index_or met.now 0 0) ≡ true }
     requires room { rows.now.sessions ≤ vec_capacity cycle.old }
-    requires meeting { (marks : Marking) × IsMeeting rows.now met.now nexts.now marks }
+    requires meeting { (marks : Marking) × IsMeeting rows.now met.now parents.now marks }
+    requires looked { IsLookedAt rows.now (slice_index_or met.now 0 0) met.now parents.now found }
     ensures cycle { IsCycle (pairs_of rows.now) (slice_index_or met.now 0 0) cycle.new.items }
+    ensures shortest { (other : List ℕ) → IsCycle (pairs_of rows.now) (slice_index_or met.now 0 0) other
+        → length cycle.new.items ≤ length other }
     ensures room { vec_capacity cycle.new ≡ vec_capacity cycle.old }
 {
     cycle.clear();
-    cycle.push_reserved(met[0]);
     let mut at = found;
     while at > 0 {
         cycle.push_reserved(met[at]);
-        at = nexts[at];
+        at = parents[at];
     }
+    cycle.push_reserved(met[0]);
+    cycle.reverse();
 }
 
 impl CycleSearch {
@@ -167,31 +146,34 @@ impl CycleSearch {
         ensures none { IfOk result (λ search. search.cycle ≡ []) }
     {
         let met = Vec::with_capacity(alloc, sessions as usize)?;
-        let nexts = Vec::with_capacity(alloc, sessions as usize)?;
+        let parents = Vec::with_capacity(alloc, sessions as usize)?;
         let marks = Marks::new(alloc, sessions)?;
         let cycle = Vec::with_capacity(alloc, sessions as usize)?;
         Ok(CycleSearch {
             sessions,
             met,
-            nexts,
+            parents,
             marks,
             cycle,
         })
     }
 
     /// Looks for a cycle through the session at position `t`, which `cycle` then has. Returns whether there is one.
+    ///
+    /// Reads the row of `t`, and of each session that `t` reaches, at most once.
     pub fn find(&mut self, rows: &Rows, t: usize) -> bool
         requires t_below { t < rows.now.sessions }
         requires sessions { rows.now.sessions ≡ self.old.sessions }
         ensures found { IsTrue result ↔ Reaches (pairs_of rows.now) t t }
         ensures cycle { result ≡ true → IsCycle (pairs_of rows.now) t self.new.cycle }
+        ensures shortest { result ≡ true → (other : List ℕ) → IsCycle (pairs_of rows.now) t other → length self.new.cycle ≤ length other }
         ensures sessions { self.new.sessions ≡ self.old.sessions }
     {
-        let found = search(rows, t, &mut self.met, &mut self.nexts, &mut self.marks);
+        let found = search(rows, t, &mut self.met, &mut self.parents, &mut self.marks);
         let Some(at) = found else {
             return false;
         };
-        follow(rows, at, &self.met, &self.nexts, &mut self.cycle);
+        follow(rows, at, &self.met, &self.parents, &mut self.cycle);
         true
     }
 

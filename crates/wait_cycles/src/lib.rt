@@ -1,10 +1,11 @@
 //! A cycle of the waits-for graph through a session, written out in order.
 //!
-//! [`CycleSearch::find`] looks for a shortest cycle through a session: first for those that wait for it directly, then for
-//! those that wait for these, until the session itself waits for one of them.
+//! [`CycleSearch::find`] looks for a shortest cycle through a session: it meets those for whom the session waits directly, then
+//! those for whom these wait, until one of them waits for the session itself.
 //!
 //! Proved: a cycle is found exactly if the session is on one, each session of it waits for the next and the last for the first,
-//! and none is there twice. Not said by any clause: that no cycle is shorter. Memory is taken by [`CycleSearch::new`] alone.
+//! none is there twice, and no cycle through the session is shorter. Not said by any clause: the time of a search, which reads
+//! the row of each session that it meets at most once. Memory is taken by [`CycleSearch::new`] alone.
 #![tactic(auto)]
 
 mod cycle_search;

@@ -12,6 +12,6 @@ view_of a = record { sessions = a.sessions; cycle = a.cycle.items }
 pub record HasRoom (a : Inside) : Type 0 where
   pub few : a.sessions ≤ MAX_SESSIONS
   pub met : a.sessions ≤ vec_capacity a.met
-  pub nexts : a.sessions ≤ vec_capacity a.nexts
+  pub parents : a.sessions ≤ vec_capacity a.parents
   pub marks : a.marks.sessions ≡ a.sessions
   pub cycle : a.sessions ≤ vec_capacity a.cycle
