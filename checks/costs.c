@@ -9,6 +9,7 @@
        own        locks of the calling transaction beside those of the row
        holders    other holders of the resource at hand
        queue      waiting requests of others for this resource
+       kept       deadlocks that the book keeps
        n          what else the row doubles: its comment says what it is
    Before the call there is room for what it adds, but of the rows that say otherwise. All lock tables have one seed, so that the counts are
    the same each time. */
@@ -23,7 +24,7 @@ enum { SEED = 7, MOST = 8192, CALLER = 1, BIG = 2, THIRD = 3, BLOCKER = 4, FIRST
 static struct quantity {
     const char *name;
     uint32_t number;
-} quantities[] = {{"sessions", 0}, {"resources", 0}, {"others", 0}, {"elsewhere", 0}, {"history", 0}, {"own", 0}, {"holders", 0}, {"queue", 0}, {"n", 0}};
+} quantities[] = {{"sessions", 0}, {"resources", 0}, {"others", 0}, {"elsewhere", 0}, {"history", 0}, {"own", 0}, {"holders", 0}, {"queue", 0}, {"kept", 0}, {"n", 0}};
 
 enum { QUANTITIES = sizeof quantities / sizeof *quantities };
 
@@ -38,6 +39,8 @@ static pelgaisti_entry entries[MOST];
 static pelgaisti_claim claims[MOST];
 static pelgaisti_holder holders[PELGAISTI_MAX_SESSIONS];
 static uint32_t list[PELGAISTI_MAX_SESSIONS];
+static pelgaisti_deadlock deadlocks[MOST];
+static pelgaisti_member members[2 * MOST];
 /* The next session that the set-up uses. */
 static uint32_t next_session;
 
@@ -368,6 +371,35 @@ static void call_idle_cells(void) {
 
 static void call_close(void) { check(pelgaisti_book_close(&book)); }
 
+/* Twice as many deadlocks of two sessions as the book keeps. */
+static void deadlocked(void) {
+    uint32_t one = next_session++, two = next_session++;
+    for (uint32_t k = 0; k < 2 * quantity("kept"); k++) {
+        begin(one);
+        begin(two);
+        take(one, PELGAISTI_X, RING);
+        take(two, PELGAISTI_X, RING + 1);
+        wait(one, PELGAISTI_X, RING + 1);
+        serve(two, call_on(PELGAISTI_LOCK, PELGAISTI_X, RING), PELGAISTI_DEADLOCK);
+        serve(two, call_on(PELGAISTI_ABORT, 0, 1), PELGAISTI_ABORTED);
+        serve(one, call_on(PELGAISTI_ABORT, 0, 1), PELGAISTI_ABORTED);
+    }
+}
+
+static void call_deadlocks(void) {
+    size_t count, member_count;
+    check(pelgaisti_book_deadlocks(&book, deadlocks, MOST, &count, members, 2 * MOST, &member_count));
+    if (count != quantity("kept") || member_count != 2 * count) exit(22);
+}
+
+static void open_anew(void) {
+    check(pelgaisti_book_close(&book));
+    check(pelgaisti_book_open_seeded(&book, quantity("sessions"), SEED));
+}
+
+/* `n` deadlocks. */
+static void call_keep_deadlocks(void) { check(pelgaisti_book_keep_deadlocks(&book, quantity("n"))); }
+
 static void call_open(void) { check(pelgaisti_book_open_seeded(&book, quantity("sessions"), SEED)); }
 
 static void close_it(void) { check(pelgaisti_book_close(&book)); }
@@ -386,6 +418,8 @@ static const struct row {
     {"lock, that waits behind requests for other modes", readers_and_queue, call_lock_announce, 0},
     {"lock, that closes a cycle", ring, call_close_ring, 0},
     {"lock, that closes many cycles", fan, call_close_fan, 0},
+    {"lock, that closes a cycle that is kept", ring, call_close_ring, 0},
+    {"lock, that closes many cycles that are kept", fan, call_close_fan, 0},
     {"convert, of a single holder", own_reader, call_convert, 0},
     {"convert, beside other holders", announcers, call_convert_among, 0},
     {"convert, before a queue", announcer_before_writers, call_convert_among, 0},
@@ -425,6 +459,8 @@ static const struct row {
     {"reserve, resources", nothing, call_reserve_resources, 1},
     {"shrink", idle, call_shrink, 1},
     {"idle_cells", idle, call_idle_cells, 1},
+    {"deadlocks", deadlocked, call_deadlocks, 0},
+    {"keep_deadlocks", open_anew, call_keep_deadlocks, 1},
     {"open", close_it, call_open, 1},
     {"close", idle, call_close, 1},
 };
@@ -439,6 +475,7 @@ __attribute__((noinline)) void measured_call(void (*call)(void)) {
 
 static void measure(const struct row *row) {
     check(pelgaisti_book_open_seeded(&book, quantity("sessions"), SEED));
+    if (quantity("kept") > 0) check(pelgaisti_book_keep_deadlocks(&book, quantity("kept")));
     next_session = FIRST;
     begin(BIG);
     for (uint32_t k = 0; k < quantity("resources"); k++) take(BIG, PELGAISTI_S, MANY + k);

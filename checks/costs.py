@@ -75,6 +75,8 @@ ROWS = [
     Row("convert, that waits", BOTH, grows=["queue", "holders", "elsewhere"], words=["sessions"]),
     Row("lock, that closes a cycle", grows=["n"], partly=["sessions"], words=["elsewhere"], n=100),
     Row("lock, that closes many cycles", square=["n"], partly=["sessions"], words=["elsewhere"], n=100),
+    Row("lock, that closes a cycle that is kept", ["kept"], grows=["n", "sessions"], words=["elsewhere"], n=100),
+    Row("lock, that closes many cycles that are kept", ["kept"], square=["n"], grows=["sessions"], words=["elsewhere"], n=100),
     Row("release, the first", grows=["own"]),
     Row("release, the next"),
     Row("release, that frees requests", ["queue"], grows=["queue", "own"], words=["sessions"]),
@@ -107,6 +109,8 @@ ROWS = [
     Row("take_history", grows=["n"], n=200),
     Row("reserve, resources", grows=["resources"], partly=["n"], n=3000),
     Row("shrink", grows=["n"], partly=["resources", "sessions", "history", "others"], n=2000),
+    Row("deadlocks", grows=["kept"], usual={"sessions": 512, "kept": 600}),
+    Row("keep_deadlocks", grows=["n"], partly=["sessions"], usual={"sessions": 512}, n=100),
     Row("open", grows=["sessions"], usual={"sessions": 512}),
     Row("close", grows=["elsewhere", "sessions"], partly=["resources", "others", "own", "n"], n=600),
 ]

@@ -18,7 +18,8 @@ static pelgaisti_pass unwritten;
 static pelgaisti_answer unanswered = {99, {77, 88}};
 
 /* What a session's questions, and its calls on the memory of the lock table, return at that allocation. */
-static uint32_t asked[10], unasked = 99;
+enum { QUESTIONS = 11 };
+static uint32_t asked[QUESTIONS], unasked = 99;
 static uint64_t unseen = 99;
 static const pelgaisti_call begin = {PELGAISTI_BEGIN, 0, {0, {0}}};
 
@@ -28,6 +29,9 @@ static void ask_each(pelgaisti_session *session) {
     pelgaisti_transaction open;
     pelgaisti_holder holder;
     pelgaisti_claim claim;
+    pelgaisti_deadlock deadlock;
+    pelgaisti_member member;
+    size_t unlisted = 99;
     asked[0] = pelgaisti_session_held(session, 1, &place, &unasked, &unseen);
     asked[1] = pelgaisti_session_transaction(session, 1, &open, &unseen);
     asked[2] = pelgaisti_session_request(session, 1, &claim, &unseen);
@@ -38,6 +42,8 @@ static void ask_each(pelgaisti_session *session) {
     asked[7] = pelgaisti_session_reserve(session, 1, 1, &unseen);
     asked[8] = pelgaisti_session_shrink(session, &unseen);
     asked[9] = pelgaisti_session_idle_cells(session, &uncounted, &unseen);
+    asked[10] = pelgaisti_session_deadlocks(session, &deadlock, 1, &uncounted, &member, 1, &unlisted, &unseen);
+    if (unlisted != 99) asked[10] = PELGAISTI_OK;
 }
 
 /* At the next allocation, `meanwhile` tries to serve and `other` to perform a call and to ask, once. */
@@ -62,14 +68,16 @@ static void try_meanwhile(void) {
 /* The calls that may lack memory, and how often memory was refused to each. */
 enum { BOOK_OPEN, BOOK_SERVE, BOOK_SERVE_BATCH, BOOK_LOCK_PATH, BOOK_RUN, BOOK_HOLDERS, BOOK_LOCKS, OFFICE_OPEN, SESSION_SERVE, AT_ONCE, TELLING,
        SESSION_HOLDERS, SESSION_BLOCKERS, SESSION_LOCKS, HAND_IN, OFFICE_CLOSE, OPEN_WAKING, WAKING_SERVE, WAKING_SERVE_TELLING,
-       WAKING_AT_ONCE, WAKING_TELLING, WAKING_PERFORM, WAKING_PATH, SESSION_RUN, BOOK_RESERVE, SESSION_RESERVE, LACKING };
+       WAKING_AT_ONCE, WAKING_TELLING, WAKING_PERFORM, WAKING_PATH, SESSION_RUN, BOOK_RESERVE, SESSION_RESERVE,
+       KEEP_DEADLOCKS, BOOK_DEADLOCKS, OPEN_TELLING, SESSION_DEADLOCKS, LACKING };
 static const char *const lacking[LACKING] = {"book_open", "book_serve", "book_serve_batch", "book_lock_path", "book_run",
                                              "book_holders", "book_locks", "office_open", "session_serve", "session_perform_at_once",
                                              "session_perform_telling", "session_holders", "session_blockers", "session_locks",
                                              "session_hand_in", "office_close", "office_open_waking", "session_serve, which wakes",
                                              "session_serve_telling, which wakes", "session_perform_at_once, which wakes",
                                              "session_perform_telling, which wakes", "session_perform, which wakes",
-                                             "session_lock_path, which wakes", "session_run", "book_reserve", "session_reserve"};
+                                             "session_lock_path, which wakes", "session_run", "book_reserve", "session_reserve",
+                                             "book_keep_deadlocks", "book_deadlocks", "office_open_telling", "session_deadlocks"};
 static long lacked[LACKING];
 
 /* How many batches were refused memory behind the calls that they served. */
@@ -675,6 +683,79 @@ static void session_programs(void) {
     CHECK(pelgaisti_book_close(&book) == PELGAISTI_OK);
 }
 
+/* What a call tells of deadlocks; nothing is written where memory is refused to it. */
+static struct told {
+    pelgaisti_deadlock list[2];
+    pelgaisti_member members[4];
+    size_t count, member_count;
+    uint64_t seen;
+} told_of, untold_of;
+
+/* The newest of the deadlocks is that of these databases of sessions 1 and 2, each of which holds one in X and waits for the other. Session 2
+   is its victim. */
+static int are_told(size_t count, uint32_t first) {
+    const pelgaisti_member *last = &told_of.members[2 * count - 2];
+    return told_of.count == count && told_of.member_count == 2 * count && told_of.list[count - 1].members == 2 &&
+           told_of.list[count - 1].session == 2 && last[0].request.session == 2 && last[0].held == PELGAISTI_X &&
+           last[0].request.resource.numbers[0] == first && last[1].request.session == 1 && last[1].held == PELGAISTI_X &&
+           last[1].request.resource.numbers[0] == first + 1;
+}
+
+/* A book asks to keep one deadlock, and then two, once: where memory is refused, it keeps one. It makes two, and tells what it keeps. */
+static void deadlocks_of_a_book(void) {
+    pelgaisti_book book = PELGAISTI_EMPTY;
+    uint32_t status;
+    size_t kept;
+    while (is_lacking(BOOK_OPEN, pelgaisti_book_open(&book, 2))) continue;
+    while (is_lacking(KEEP_DEADLOCKS, pelgaisti_book_keep_deadlocks(&book, 1))) continue;
+    status = pelgaisti_book_keep_deadlocks(&book, 2);
+    kept = is_lacking(KEEP_DEADLOCKS, status) ? 1 : 2;
+    for (uint32_t first = 10; first < 30; first += 10) {
+        for (uint32_t s = 1; s <= 2; s++) {
+            serve_surely(&book, s, begin, PELGAISTI_BEGAN);
+            serve_surely(&book, s, call_of(PELGAISTI_LOCK, PELGAISTI_X, first + s - 1), PELGAISTI_GRANTED);
+        }
+        serve_surely(&book, 1, call_of(PELGAISTI_LOCK, PELGAISTI_X, first + 1), PELGAISTI_WAITING);
+        serve_surely(&book, 2, call_of(PELGAISTI_LOCK, PELGAISTI_X, first), PELGAISTI_DEADLOCK);
+        serve_surely(&book, 2, call_of(PELGAISTI_ABORT, 0, 0), PELGAISTI_ABORTED);
+        serve_surely(&book, 1, call_of(PELGAISTI_COMMIT, 0, 0), PELGAISTI_COMMITTED);
+    }
+    memset(&told_of, 0x55, sizeof told_of);
+    while (is_lacking(BOOK_DEADLOCKS, pelgaisti_book_deadlocks(&book, told_of.list, 2, &told_of.count, told_of.members, 4,
+                                                               &told_of.member_count)))
+        CHECK(!memcmp(&told_of, &untold_of, sizeof told_of));
+    CHECK(are_told(kept, 20));
+    CHECK(pelgaisti_book_close(&book) == PELGAISTI_OK);
+}
+
+/* The same of an office, which keeps two or isn't opened. */
+static void deadlocks_of_an_office(void) {
+    pelgaisti_session sessions[2] = {PELGAISTI_EMPTY, PELGAISTI_EMPTY};
+    pelgaisti_book book = PELGAISTI_EMPTY;
+    while (is_lacking(OPEN_TELLING, pelgaisti_office_open_telling(sessions, 2, UINT64_MAX, NULL, 2)))
+        for (int k = 0; k < 2; k++) CHECK(sessions[k].is_open_ == 0 && sessions[k].at_ == NULL);
+    for (uint32_t s = 0; s < 2; s++) {
+        perform_surely(&sessions[s], begin, PELGAISTI_BEGAN);
+        perform_surely(&sessions[s], call_of(PELGAISTI_LOCK, PELGAISTI_X, 10 + s), PELGAISTI_GRANTED);
+    }
+    perform_surely(&sessions[0], call_of(PELGAISTI_LOCK, PELGAISTI_X, 11), PELGAISTI_WAITING);
+    perform_surely(&sessions[1], call_of(PELGAISTI_LOCK, PELGAISTI_X, 10), PELGAISTI_DEADLOCK);
+    memset(&told_of, 0x55, sizeof told_of);
+    while (is_lacking(SESSION_DEADLOCKS, pelgaisti_session_deadlocks(&sessions[0], told_of.list, 2, &told_of.count, told_of.members, 4,
+                                                                     &told_of.member_count, &told_of.seen)))
+        CHECK(!memcmp(&told_of, &untold_of, sizeof told_of));
+    CHECK(are_told(1, 10) && told_of.seen == 6);
+    while (is_lacking(HAND_IN, pelgaisti_session_hand_in(&sessions[1], &sessions[0]))) continue;
+    while (is_lacking(OFFICE_CLOSE, pelgaisti_office_close(&sessions[0], &book))) continue;
+    CHECK(pelgaisti_book_close(&book) == PELGAISTI_OK);
+}
+
+static void deadlocks(void) {
+    memset(&untold_of, 0x55, sizeof untold_of);
+    deadlocks_of_a_book();
+    deadlocks_of_an_office();
+}
+
 /* While one session makes a pass, which allocates, a serve of another session returns ELSEWHERE and writes nothing, and so do the
    calls that a third performs at once. The calls of both sessions are answered afterwards. */
 static void elsewhere(void) {
@@ -690,8 +771,8 @@ static void elsewhere(void) {
     CHECK(pelgaisti_session_serve(&sessions[0], NULL) == PELGAISTI_OK);
     CHECK(!meanwhile && told == PELGAISTI_ELSEWHERE && unwritten.served == 99 && unwritten.starved == 99);
     CHECK(at_once == PELGAISTI_ELSEWHERE && telling == PELGAISTI_ELSEWHERE && unanswered.place == 99 && untold[0] == 77 && uncounted == 99);
-    for (int k = 0; k < 10; k++) CHECK(asked[k] == PELGAISTI_ELSEWHERE);
-    CHECK(unasked == 99 && unseen == 99);
+    for (int k = 0; k < QUESTIONS; k++) CHECK(asked[k] == PELGAISTI_ELSEWHERE);
+    CHECK(unasked == 99 && unseen == 99 && uncounted == 99);
     CHECK(pelgaisti_session_collect(&sessions[2], &answer) == PELGAISTI_NOTHING_PENDING);
     CHECK(pelgaisti_session_serve(&sessions[1], NULL) == PELGAISTI_OK);
     for (int k = 0; k < 2; k++) CHECK(pelgaisti_session_collect(&sessions[k], &answer) == PELGAISTI_OK && answer.reply.kind == PELGAISTI_BEGAN);
@@ -727,6 +808,7 @@ int main(void) {
     each_in_turn("wakers", wakers, 1);
     each_in_turn("wakers, two in a row", wakers, 2); /* a path tries once more before its call is left pending */
     each_in_turn("programs of sessions", session_programs, 1);
+    each_in_turn("deadlocks", deadlocks, 1);
     for (int call = 0; call < LACKING; call++)
         if (!lacked[call]) {
             failed++;

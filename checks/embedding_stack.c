@@ -13,13 +13,16 @@ static pelgaisti_claim claims[SESSIONS * LOCKS];
 static pelgaisti_holder holders[SESSIONS];
 static pelgaisti_entry entries[SESSIONS * LOCKS];
 static uint32_t list[PELGAISTI_MAX_SESSIONS];
+static pelgaisti_deadlock deadlocks[2];
+static pelgaisti_member members[SESSIONS];
+static char text[SESSIONS * 100];
 static pelgaisti_answer answer;
 static pelgaisti_reply reply;
 static const pelgaisti_program program = {PELGAISTI_ABORTS, 0, 0, {PELGAISTI_POLL, 0, {0, {0}}}};
 static const pelgaisti_program starts = {PELGAISTI_BEGINS, 0, 0, {PELGAISTI_POLL, 0, {0, {0}}}};
 static pelgaisti_program_answer made;
 static uint32_t level;
-static size_t count;
+static size_t count, member_count;
 static uint64_t place;
 
 #define MUST(condition) \
@@ -38,7 +41,7 @@ static void perform(int session, uint32_t op, uint32_t mode, uint32_t database) 
 static void *work(void *unused) {
     static pelgaisti_resource path = {5, {1, 2, 3, 4, 5}}, last = {1, {0}};
     int k, n;
-    MUST(pelgaisti_office_open_keeping(sessions, SESSIONS, 1000) == PELGAISTI_OK);
+    MUST(pelgaisti_office_open_telling(sessions, SESSIONS, 1000, NULL, 2) == PELGAISTI_OK);
     for (k = 0; k < SESSIONS; k++) {
         MUST(pelgaisti_session_run(&sessions[k], &starts, UINT64_MAX, &made) == PELGAISTI_OK && made.served == 2);
         for (n = 0; n < LOCKS; n++) perform(k, PELGAISTI_LOCK, PELGAISTI_X, 10 + (uint32_t)(k * LOCKS + n));
@@ -52,6 +55,9 @@ static void *work(void *unused) {
     MUST(pelgaisti_session_holders(&sessions[0], &last, holders, SESSIONS, &count, &place) == PELGAISTI_OK && count == 1);
     MUST(pelgaisti_session_blockers(&sessions[0], 1, list, SESSIONS, &count, &place) == PELGAISTI_OK);
     MUST(pelgaisti_session_locks(&sessions[0], 0, claims, SESSIONS * LOCKS, &count, &place) == PELGAISTI_OK);
+    MUST(pelgaisti_session_deadlocks(&sessions[0], deadlocks, 2, &count, members, SESSIONS, &member_count, &place) == PELGAISTI_OK);
+    MUST(count == 1 && member_count == SESSIONS && deadlocks[0].members == SESSIONS);
+    MUST(pelgaisti_deadlock_text(deadlocks, members, text, sizeof text) < sizeof text);
     MUST(pelgaisti_session_reserve(&sessions[0], 100, 100, &place) == PELGAISTI_OK);
     MUST(pelgaisti_session_shrink(&sessions[0], &place) == PELGAISTI_OK);
     MUST(pelgaisti_session_idle_cells(&sessions[0], &count, &place) == PELGAISTI_OK);
@@ -60,6 +66,7 @@ static void *work(void *unused) {
     MUST(pelgaisti_office_close(&sessions[0], &book) == PELGAISTI_OK);
     MUST(pelgaisti_book_locks(&book, 0, claims, SESSIONS * LOCKS, &count) == PELGAISTI_OK);
     MUST(pelgaisti_book_blockers(&book, 2, list, PELGAISTI_MAX_SESSIONS, &count) == PELGAISTI_OK);
+    MUST(pelgaisti_book_deadlocks(&book, deadlocks, 2, &count, members, SESSIONS, &member_count) == PELGAISTI_OK && count == 1);
     memset(entries, 0, sizeof entries);
     for (k = 1; k <= SESSIONS; k++) {
         entries[k - 1].session = (uint32_t)k;
@@ -75,7 +82,8 @@ static void *work(void *unused) {
     MUST(pelgaisti_book_idle_cells(&book, &count) == PELGAISTI_OK && count == 0);
     MUST(pelgaisti_book_take_history(&book, &place, entries, 10, &count) == PELGAISTI_OK);
     MUST(pelgaisti_book_close(&book) == PELGAISTI_OK);
-    MUST(pelgaisti_book_open(&book, 1) == PELGAISTI_OK && pelgaisti_book_close(&book) == PELGAISTI_OK);
+    MUST(pelgaisti_book_open(&book, 1) == PELGAISTI_OK && pelgaisti_book_keep_deadlocks(&book, 9) == PELGAISTI_OK);
+    MUST(pelgaisti_book_close(&book) == PELGAISTI_OK);
     return unused;
 }
 

@@ -51,7 +51,8 @@ static const struct {
     const char *arguments;
 } all_calls[] = {
     {ANY(book_open), "pn"}, {ANY(book_open_seeded), "pnn"}, {ANY(book_reserve), "pnn"}, {ANY(book_shrink), "p"},
-    {ANY(book_idle_cells), "pp"}, {ANY(office_open_seeded), "pnnon"}, {ANY(session_reserve), "pnnp"}, {ANY(session_shrink), "pp"},
+    {ANY(book_keep_deadlocks), "pn"}, {ANY(book_deadlocks), "plrplrp"}, {ANY(session_deadlocks), "plrplrpp"},
+    {ANY(office_open_telling), "pnnon"}, {ANY(book_idle_cells), "pp"}, {ANY(office_open_seeded), "pnnon"}, {ANY(session_reserve), "pnnp"}, {ANY(session_shrink), "pp"},
     {ANY(session_idle_cells), "ppp"}, {ANY(book_close), "p"}, {ANY(book_serve), "pnpp"}, {ANY(book_serve_batch), "plrp"}, {ANY(book_held), "pnpp"},
     {ANY(book_holders), "pplrp"}, {ANY(book_waits_for), "pnnp"}, {ANY(book_blockers), "pnlrp"}, {ANY(book_transaction), "pnp"},
     {ANY(book_request), "pnp"}, {ANY(book_locks), "pnlrp"}, {ANY(book_ended), "plrp"}, {ANY(book_length), "pp"},
@@ -402,7 +403,7 @@ static void numbers_have_names(void) {
     static const char *const statuses[] = {"OK", "NO_MEMORY", "CLOSED", "NO_SUCH_SESSION", "NO_SUCH_OP", "NO_SUCH_LEVEL",
                                            "NO_SUCH_MODE", "OPEN", "NO_SUCH_COUNT", "PENDING", "NOTHING_PENDING", "NOT_SERVED",
                                            "RETIRED", "ELSEWHERE", "OTHER_OFFICE", "MISSING", "COPIED", "NULL", "SAME", "LET_GO",
-                                           "NO_ROOM", "NO_SUCH_START", "NOT_ON_PATH", "NO_SUCH_ABOVE"};
+                                           "NO_ROOM", "NO_SUCH_START", "NOT_ON_PATH", "NO_SUCH_ABOVE", "SERVED"};
     static const char *const modes[] = {"NL", "IS", "unknown", "IX", "unknown", "S", "unknown", "SIX", "unknown", "unknown",
                                         "unknown", "unknown", "unknown", "U", "unknown", "X", "unknown"};
     static const char *const ops[] = {"unknown", "begin", "lock", "convert", "poll", "release", "commit", "abort", "try", "withdraw",
@@ -412,7 +413,7 @@ static void numbers_have_names(void) {
     static const char *const refusals[] = {"unknown", "AlreadyOpen", "NoTransaction", "IsWaiting", "IsDoomed", "NothingAsked",
                                            "NotHeld", "ParentNotHeld", "ChildHeld", "TooManyLocks", "unknown", "WouldWait",
                                            "NotWaiting", "unknown"};
-    static const uint64_t off[] = {24, 255, 256, 65536, UINT32_MAX, (uint64_t)1 << 32, ((uint64_t)1 << 32) + 1, UINT64_MAX};
+    static const uint64_t off[] = {25, 255, 256, 65536, UINT32_MAX, (uint64_t)1 << 32, ((uint64_t)1 << 32) + 1, UINT64_MAX};
 
     for (size_t k = 0; k < COUNT(statuses); k++) CHECK(!strcmp(pelgaisti_status_name(k), statuses[k]));
     for (size_t k = 0; k < COUNT(modes); k++) CHECK(!strcmp(pelgaisti_mode_name(k), modes[k]));

@@ -11,6 +11,7 @@
 #include <memory>
 #include <mutex>
 #include <new>
+#include <sstream>
 #include <stdexcept>
 #include <string>
 #include <thread>
@@ -277,6 +278,90 @@ static void offices() {
     piece = pieces[0].take_history(9, first);
     CHECK(piece && piece->size() == 1 && first == 1 && piece->front().session == 2);
     CHECK(pieces.close()->first_kept() == 2);
+}
+
+// The header's example: transaction 1 of session 1 holds 1 in X, transaction 2 of session 2 holds 2 in S, and each asks for the other's.
+static const char cross_text[] = "deadlock at place 5: session 2 closed a cycle, session 2 is its victim\n"
+                                 "  session 2, transaction 2, waits for 1 in S, which session 1 holds in X\n"
+                                 "  session 1, transaction 1, waits for 2 in X, which session 2 holds in S\n";
+
+static void want_cross(const std::vector<pelgaisti::deadlock> &told) {
+    CHECK(told.size() == 1 && told[0].place == 5 && told[0].session == 2 && told[0].cycle.size() == 2);
+    const pelgaisti::member &victim = told[0].cycle[0], &next = told[0].cycle[1];
+    CHECK(victim.request.session == 2 && victim.request.transaction == 2 && victim.request.mode == PELGAISTI_S && victim.held == PELGAISTI_X);
+    CHECK(next.request.session == 1 && next.request.transaction == 1 && next.request.mode == PELGAISTI_X && next.held == PELGAISTI_S);
+    std::ostringstream text;
+    text << told[0] << told[0].cycle.size();
+    CHECK(to_string(told[0]) == cross_text && text.str() == std::string(cross_text) + "2");
+}
+
+// Books that keep none, few and many, of which what is told outgrows the room of the first question. Each of 20 rounds has the eight calls
+// of the example and its end.
+static void books_tell_deadlocks() {
+    for (const std::size_t most : {0u, 1u, 9u, 30u}) {
+        pelgaisti::book book{2};
+        book.keep_deadlocks(most);
+        CHECK(book.deadlocks().empty());
+        for (std::uint32_t round = 0; round < 20; ++round) {
+            for (std::uint32_t k = 1; k <= 2; ++k) {
+                CHECK(book.serve(k, {op::begin}).value == 2 * round + k);
+                CHECK(book.serve(k, {op::lock, k == 1 ? mode::X : mode::S, {k}}).kind == kind::granted);
+            }
+            CHECK(book.serve(1, {op::lock, mode::X, {2}}).kind == kind::waiting && book.serve(2, {op::lock, mode::S, {1}}).kind == kind::deadlock);
+            if (round == 0 && most > 0) want_cross(book.deadlocks());
+            CHECK(book.serve(2, {op::abort}).value == 1 && book.serve(1, {op::commit}).value == 2);
+        }
+        const auto told = book.deadlocks();
+        const std::size_t kept = std::min(most, std::size_t{20});
+        CHECK(told.size() == kept);
+        for (std::size_t k = 0; k < told.size(); ++k) {
+            const std::uint64_t round = 20 - kept + k;
+            CHECK(told[k].place == 8 * round + 5 && told[k].session == 2 && told[k].cycle.size() == 2);
+            CHECK(told[k].cycle[0].request.transaction == 2 * round + 2 && told[k].cycle[1].request.transaction == 2 * round + 1);
+            CHECK(told[k].cycle[0].request.resource.numbers[0] == 1 && told[k].cycle[1].request.resource.numbers[0] == 2);
+        }
+        CHECK(throws(PELGAISTI_SERVED, [&] { book.keep_deadlocks(40); }) && book.deadlocks().size() == kept);
+    }
+    pelgaisti::book unasked{2};
+    CHECK(throws(PELGAISTI_NO_MEMORY, [&] { unasked.keep_deadlocks(SIZE_MAX); }) && unasked.deadlocks().empty());
+    // one cycle has more members than there is room for at first: each session waits for the next one
+    constexpr std::uint32_t many = 40;
+    pelgaisti::book ring{many};
+    ring.keep_deadlocks(1);
+    for (std::uint32_t k = 1; k <= many; ++k)
+        CHECK(ring.serve(k, {op::begin}).value == k && ring.serve(k, {op::lock, mode::X, {k}}).kind == kind::granted);
+    for (std::uint32_t k = 1; k <= many; ++k)
+        CHECK(ring.serve(k, {op::lock, mode::X, {k % many + 1}}).kind == (k == many ? kind::deadlock : kind::waiting));
+    const auto told = ring.deadlocks();
+    CHECK(told.size() == 1 && told[0].place == 3 * many - 1 && told[0].cycle.size() == many);
+    for (std::uint32_t k = 0; k < many; ++k)  // the victim is the last session, which waits for the first
+        CHECK(told[0].cycle[k].request.session == (k == 0 ? many : k) && told[0].cycle[k].request.resource.numbers[0] == k + 1);
+}
+
+// An office tells of deadlocks if it was told to keep some when it was opened, with a waker or without one.
+static void offices_tell_deadlocks() {
+    std::vector<std::uint32_t> woken;
+    const auto note = [](void *engine, std::uint32_t session) noexcept {
+        static_cast<std::vector<std::uint32_t> *>(engine)->push_back(session);
+    };
+    pelgaisti::office silent{2}, telling{2, pelgaisti::telling{4}}, waking{2, pelgaisti::telling{4}, {note, &woken}, 3};
+    for (auto *office : {&silent, &telling, &waking}) {
+        for (std::uint32_t k = 0; k < 2; ++k) CHECK((*office)[k].perform({op::begin})->reply.value == k + 1);
+        CHECK((*office)[0].perform({op::lock, mode::X, {1}}) && (*office)[1].perform({op::lock, mode::S, {2}}));
+        CHECK((*office)[0].deadlocks()->found.empty() && (*office)[0].deadlocks()->length == 4);
+        CHECK((*office)[0].perform({op::lock, mode::X, {2}})->reply.kind == kind::waiting);
+        CHECK((*office)[1].perform({op::lock, mode::S, {1}})->reply.kind == kind::deadlock);
+        const auto seen = (*office)[0].deadlocks();
+        CHECK(seen && seen->length == 6 && (office != &silent || seen->found.empty()));
+        if (office != &silent) want_cross(seen->found);
+        CHECK((*office)[1].perform({op::abort})->reply.value == 1 && (*office)[0].perform({op::commit})->reply.value == 2);
+    }
+    CHECK(woken == std::vector<std::uint32_t>{1});
+    auto book = waking.close();
+    CHECK(book->first_kept() == 5 && silent.close()->deadlocks().empty());
+    want_cross(book->deadlocks());
+    CHECK(throws(PELGAISTI_NO_SUCH_COUNT, [] { pelgaisti::office none(0, pelgaisti::telling{4}); }));
+    CHECK(throws(PELGAISTI_NO_MEMORY, [] { pelgaisti::office none(2, pelgaisti::telling{SIZE_MAX}); }));
 }
 
 // A function that may throw is no waker: the others that a pass has told would sleep on.
@@ -593,7 +678,7 @@ static void names() {
 }
 
 int main() {
-    for (const auto test : {books, seeds_and_memory, paths_tell, programs, session_programs, tries, offices, wakers, a_task_throws,
+    for (const auto test : {books, seeds_and_memory, paths_tell, programs, session_programs, tries, offices, books_tell_deadlocks, offices_tell_deadlocks, wakers, a_task_throws,
                             sessions_have_owners, orphans_wait, threads_share_the_orphans, marks_are_of_transactions, asked_sessions_obey, offices_are_left, sizes, names}) {
         try {
             test();

@@ -22,6 +22,8 @@ static const pelgaisti_resource page = {2, {1, 2}};
 static void of_a_book(void) {
     pelgaisti_book book = pelgaisti_empty_book();
     pelgaisti_call begin = {PELGAISTI_BEGIN, 0, {0}}, lock = {PELGAISTI_LOCK, PELGAISTI_X, {1, {9}}};
+    pelgaisti_call other = {PELGAISTI_LOCK, PELGAISTI_X, {1, {8}}}, withdraw = {PELGAISTI_WITHDRAW, 0, {0}};
+    char text[100]; /* less than the deadlock's */
     pelgaisti_program program = {PELGAISTI_NOTHING, 0, 0, {PELGAISTI_POLL, 0, {0}}};
     pelgaisti_program_answer answer;
     pelgaisti_reply reply, path_reply;
@@ -29,10 +31,13 @@ static void of_a_book(void) {
     pelgaisti_holder holders[1];
     pelgaisti_transaction open;
     pelgaisti_claim waiting, locks[1];
+    pelgaisti_deadlock deadlocks[1];
+    pelgaisti_member members[2];
     uint32_t mode, edge, level = 0, blockers[1], told[2];
     uint64_t length, first_kept, first;
-    size_t count;
+    size_t count, member_count;
     OK(pelgaisti_book_open(&book, 2));
+    OK(pelgaisti_book_keep_deadlocks(&book, 1));
     WRITES_1(reply, pelgaisti_book_serve(&book, 1, &begin, &reply));
     memset(batch, 0, sizeof batch);
     batch[0].session = 2;
@@ -54,6 +59,18 @@ static void of_a_book(void) {
     WRITES_2(count, history, pelgaisti_book_history(&book, 0, history, 2, &count));
     WRITES_1(first_kept, pelgaisti_book_first_kept(&book, &first_kept));
     WRITES_1(count, pelgaisti_book_idle_cells(&book, &count));
+    OK(pelgaisti_book_serve(&book, 2, &withdraw, &reply));
+    OK(pelgaisti_book_serve(&book, 2, &other, &reply));
+    OK(pelgaisti_book_serve(&book, 1, &other, &reply));
+    OK(pelgaisti_book_serve(&book, 2, &lock, &reply));
+    FORGET(members);
+    FORGET(member_count);
+    WRITES_2(count, deadlocks, pelgaisti_book_deadlocks(&book, deadlocks, 1, &count, members, 2, &member_count));
+    READ(members);
+    READ(member_count);
+    FORGET(text);
+    if (pelgaisti_deadlock_text(&deadlocks[0], members, text, sizeof text) < sizeof text) faults++;
+    READ(text);
     WRITES_3(first, count, taken, pelgaisti_book_take_history(&book, &first, taken, 2, &count));
     OK(pelgaisti_book_close(&book));
 }
@@ -70,10 +87,12 @@ static void of_an_office(void) {
     pelgaisti_holder holders[1];
     pelgaisti_transaction open;
     pelgaisti_claim waiting, locks[1];
+    pelgaisti_deadlock deadlocks[1];
+    pelgaisti_member members[1];
     uint32_t mode, edge, posted, level = 0, blockers[1], told[2];
     uint64_t seen, mark, first;
-    size_t count;
-    OK(pelgaisti_office_open(sessions, 2));
+    size_t count, member_count;
+    OK(pelgaisti_office_open_telling(sessions, 2, UINT64_MAX, NULL, 1));
     WRITES_1(performed, pelgaisti_session_perform(&sessions[0], &begin, 1, &performed));
     WRITES_2(made, at_once, pelgaisti_session_perform_at_once(&sessions[1], &begin, &at_once, &made));
     WRITES_3(told_of, telling, count, pelgaisti_session_perform_telling(&sessions[0], &lock, &telling, &told_of, told, 2, &count));
@@ -90,6 +109,7 @@ static void of_an_office(void) {
     WRITES_3(holders, count, seen, pelgaisti_session_holders(&sessions[0], &lock.resource, holders, 1, &count, &seen));
     WRITES_3(blockers, count, seen, pelgaisti_session_blockers(&sessions[0], 2, blockers, 1, &count, &seen));
     WRITES_3(locks, count, seen, pelgaisti_session_locks(&sessions[0], 0, locks, 1, &count, &seen));
+    WRITES_3(member_count, count, seen, pelgaisti_session_deadlocks(&sessions[0], deadlocks, 1, &count, members, 1, &member_count, &seen));
     WRITES_1(seen, pelgaisti_session_reserve(&sessions[0], 1, 1, &seen));
     WRITES_1(seen, pelgaisti_session_shrink(&sessions[0], &seen));
     WRITES_2(count, seen, pelgaisti_session_idle_cells(&sessions[0], &count, &seen));

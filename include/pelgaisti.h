@@ -32,7 +32,8 @@
  * - A handle (pelgaisti_book, pelgaisti_session) is a struct in the caller's memory. Set it to PELGAISTI_EMPTY, or all its bytes
  *   to zero, before its first use. From then on never copy, move, read or write it, and keep its memory until it is closed.
  * - Every pointer is aligned and points to memory of its type. No two arguments of a call overlap. A call returns PELGAISTI_NULL
- *   for a NULL pointer, unless its comment allows it, or it is an array's whose `room` is 0. pelgaisti_path_call tests none.
+ *   for a NULL pointer, unless its comment allows it, or it is an array's whose `room` is 0. pelgaisti_path_call and
+ *   pelgaisti_deadlock_text test none.
  * - A process that has two copies of the library uses each handle with the copy that opened it.
  * - At most one call at a time uses a handle. To pass a handle to another thread, synchronize: by a mutex, by the start or the
  *   join of a thread, or by a sequentially consistent atomic. Different sessions of one office may be used at the same time.
@@ -69,7 +70,7 @@
  * (pelgaisti_session_perform, .._run, .._lock_path).
  *
  * WHAT IS PROVED. Each call leads to an export of crates/pelgaisti_c, which states and proves its contract: what PELGAISTI_OK means,
- * which other statuses the call can return, and what each of these implies. What stands between is in bindings/c, some 500 lines of C,
+ * which other statuses the call can return, and what each of these implies. What stands between is in bindings/c, some 600 lines of C,
  * and is tested: that calls are made and turns follow as their comments say, that SAME is refused, that threads pause and are woken,
  * names. So are three sentences:
  * - NOT_SERVED. Proved: the session has a pending call, and that call is not in the part of the history that the session knows
@@ -128,7 +129,8 @@ typedef enum pelgaisti_status {
     PELGAISTI_NO_ROOM = 20,        /* the array has room for fewer sessions than the office, or the book, has [room, exactly then] */
     PELGAISTI_NO_SUCH_START = 21,  /* the program's `start` is not a pelgaisti_start [program] */
     PELGAISTI_NOT_ON_PATH = 22,    /* the program's `from` is not in 1 to the level of its last call's resource [program] */
-    PELGAISTI_NO_SUCH_ABOVE = 23   /* the program's `above` is not a pelgaisti_mode [program] */
+    PELGAISTI_NO_SUCH_ABOVE = 23,  /* the program's `above` is not a pelgaisti_mode [program] */
+    PELGAISTI_SERVED = 24          /* calls were served already [called, exactly then] */
 } pelgaisti_status;
 
 /* The lock modes of Gray, Lorie, Putzolu and Traiger (1976), and U. The or of two codes is their least upper bound's code. */
@@ -272,6 +274,21 @@ typedef struct pelgaisti_claim {
     pelgaisti_resource resource;
 } pelgaisti_claim;
 
+/* A session on the cycle of a deadlock. */
+typedef struct pelgaisti_member {
+    pelgaisti_claim request; /* the request that the session waited with. `doomed` is 0: the victim isn't chosen yet */
+    uint32_t held;           /* the pelgaisti_mode in which the next session of the cycle held the requested resource; PELGAISTI_NL if it
+                                didn't hold it. If this mode doesn't conflict with the request, the next one's request was ahead */
+} pelgaisti_member;
+
+/* A deadlock, as it was before its victim was doomed. Its members stand in a list of their own: the victim first, each of which waits for
+   the next one, and the last for the victim. */
+typedef struct pelgaisti_deadlock {
+    uint64_t place;   /* the index in the history of the entry of the call that made it, from 0 */
+    uint32_t session; /* the session of that call */
+    size_t members;   /* how many sessions are on the cycle, at least 2 */
+} pelgaisti_deadlock;
+
 /* An entry of the history: a call of a session and its reply. The resource's numbers past its level are 0. */
 typedef struct pelgaisti_entry {
     uint32_t session;
@@ -374,6 +391,9 @@ PELGAISTI_ASSERT_(holder, sizeof(pelgaisti_holder) == 8 && offsetof(pelgaisti_ho
 PELGAISTI_ASSERT_(transaction, sizeof(pelgaisti_transaction) == 16 && offsetof(pelgaisti_transaction, doomed) == 8);
 PELGAISTI_ASSERT_(claim, sizeof(pelgaisti_claim) == 48 && offsetof(pelgaisti_claim, kind) == 4);
 PELGAISTI_ASSERT_(claim_fields, offsetof(pelgaisti_claim, transaction) == 16 && offsetof(pelgaisti_claim, resource) == 24);
+PELGAISTI_ASSERT_(member, sizeof(pelgaisti_member) == 56 && offsetof(pelgaisti_member, held) == 48);
+PELGAISTI_ASSERT_(deadlock, sizeof(pelgaisti_deadlock) == 24 && offsetof(pelgaisti_deadlock, session) == 8);
+PELGAISTI_ASSERT_(deadlock_members, offsetof(pelgaisti_deadlock, members) == 16);
 PELGAISTI_ASSERT_(entry, sizeof(pelgaisti_entry) == 56);
 PELGAISTI_ASSERT_(entry_fields, offsetof(pelgaisti_entry, call) == 4 && offsetof(pelgaisti_entry, reply) == 40);
 PELGAISTI_ASSERT_(answer, sizeof(pelgaisti_answer) == 24 && offsetof(pelgaisti_answer, reply) == 8);
@@ -396,6 +416,15 @@ const char *pelgaisti_reply_name(uint64_t kind);
 
 /* The name of the value of a REFUSED reply. */
 const char *pelgaisti_refusal_name(uint64_t why);
+
+/* Writes a deadlock as lines of text, as a char array with a final 0, and returns the length of the whole text without that 0. `members` are
+   the deadlock's own. At most `room` characters are written, the 0 among them, so that the text is cut if the length isn't less than
+   `room`, as by snprintf. Modes and resources are written as in traces. Of the deadlock that pelgaisti_book_deadlocks has for its example:
+       deadlock at place 5: session 2 closed a cycle, session 2 is its victim
+         session 2, transaction 2, waits for 1 in S, which session 1 holds in X
+         session 1, transaction 1, waits for 2 in X, which session 2 holds in S
+   `text` may be NULL if `room` is 0. Requires `room` characters at `text`, and as many elements at `members` as the deadlock says. */
+size_t pelgaisti_deadlock_text(const pelgaisti_deadlock *deadlock, const pelgaisti_member *members, char *text, size_t room);
 
 /* Returns the version of the header that the library was built with. A program that may meet a library of another version compares
    it with PELGAISTI_HEADER_VERSION before any other call. */
@@ -502,6 +531,29 @@ pelgaisti_status pelgaisti_book_keep_at_most(pelgaisti_book *book, uint64_t boun
    NULL, CLOSED. */
 pelgaisti_status pelgaisti_book_take_history(pelgaisti_book *book, uint64_t *first, pelgaisti_entry *entries, size_t room,
                                              size_t *count);
+
+/* ---- Deadlocks of a book: the newest ones, as many as were asked for before its first call. The memory for them is taken then, so that no
+   call lacks memory for a deadlock. A call that makes one pays for a search: of the sessions that the victim waits for, directly or through
+   others, each with its row of a bit for each session. One that makes none costs what it costs in a book that keeps none. ---- */
+
+/* Keeps the newest `most` deadlocks from now on. A book keeps none unless it is asked to. Takes memory for a cycle of all sessions for each:
+   some 56 bytes a session.
+   NULL, CLOSED, SERVED, NO_MEMORY. */
+pelgaisti_status pelgaisti_book_keep_deadlocks(pelgaisti_book *book, size_t most);
+
+/* Writes the first `room` of the deadlocks that are kept, oldest first, to `list`, and the number of all of them to `count`; and the first
+   `member_room` of the members of all of them, deadlock by deadlock, to `members`, and the number of all members to `member_count`. So the
+   members of the first deadlock are the first list[0].members, those of the second follow them.
+   A call makes a deadlock for each victim that it dooms; those of one call have the same place, in the order in which their victims were
+   doomed. Of several cycles that go through the victim one is told, a shortest one [tested: that it is a shortest one].
+   An example: transaction 1 of session 1 holds database 1 in X, transaction 2 of session 2 database 2 in S. Session 1 asks for database 2
+   in X and waits; then session 2, by the call at place 5, asks for database 1 in S. The deadlock has place 5, session 2 and 2 members:
+   session 2 with a request for database 1 in S, `held` X; and session 1 with a request for database 2 in X, `held` S.
+   `list` may be NULL if `room` is 0, and `members` if `member_room` is. Requires `room` elements at `list`, and `member_room` at
+   `members`. As many as pelgaisti_book_keep_deadlocks was told, and this number times the book's sessions, suffice always.
+   NULL, CLOSED, NO_MEMORY. */
+pelgaisti_status pelgaisti_book_deadlocks(pelgaisti_book *book, pelgaisti_deadlock *list, size_t room, size_t *count,
+                                          pelgaisti_member *members, size_t member_room, size_t *member_count);
 
 /* ---- Memory of a book. It grows by doubling, and what has grown is moved then, in one call. It gives nothing back by itself: a resource
    that nobody holds or waits for any more leaves an idle cell, whose memory the next new resource takes. These three calls change nothing
@@ -622,6 +674,13 @@ pelgaisti_status pelgaisti_office_open_waking(pelgaisti_session *sessions, size_
 pelgaisti_status pelgaisti_office_open_seeded(pelgaisti_session *sessions, size_t count, uint64_t bound,
                                               const pelgaisti_waker *waker, uint64_t seed);
 
+/* Opens an office as pelgaisti_office_open_waking does, or with NULL for `waker` as .._open_keeping does, whose lock table keeps the newest
+   `deadlocks` deadlocks, for pelgaisti_session_deadlocks to tell, and takes the memory for them, as pelgaisti_book_keep_deadlocks does.
+   An office that is opened otherwise keeps none.
+   NULL (`sessions`, or the `wake` of a waker), NO_SUCH_COUNT, OPEN (one of the handles), NO_MEMORY. */
+pelgaisti_status pelgaisti_office_open_telling(pelgaisti_session *sessions, size_t count, uint64_t bound,
+                                               const pelgaisti_waker *waker, size_t deadlocks);
+
 /* Publishes a call. The call is pending until the session collects its answer. Writes a pelgaisti_posted to `posted`, which may
    be NULL.
    NULL, CLOSED, NO_SUCH_OP, NO_SUCH_LEVEL, NO_SUCH_MODE, RETIRED, PENDING. */
@@ -719,6 +778,12 @@ pelgaisti_status pelgaisti_session_blockers(pelgaisti_session *session, uint32_t
    NULL, CLOSED, NO_MEMORY or ELSEWHERE. */
 pelgaisti_status pelgaisti_session_locks(pelgaisti_session *session, size_t first, pelgaisti_claim *list, size_t room,
                                          size_t *count, uint64_t *seen);
+
+/* Writes the newest deadlocks, as many as pelgaisti_office_open_telling was told, to `list`, and their members to `members`, as
+   pelgaisti_book_deadlocks does. NO_MEMORY: the session knows the history up to there all the same.
+   NULL, CLOSED, NO_MEMORY or ELSEWHERE. */
+pelgaisti_status pelgaisti_session_deadlocks(pelgaisti_session *session, pelgaisti_deadlock *list, size_t room, size_t *count,
+                                             pelgaisti_member *members, size_t member_room, size_t *member_count, uint64_t *seen);
 
 /* ---- Memory of the lock table of an open office. Each of these calls tries once to take the lock table, and writes `seen`, as the
    questions do; and as with a book, nothing changes that another call tells. While it works, no other session can take the lock table.

@@ -22,10 +22,12 @@
 #include <cstdlib>
 #include <exception>
 #include <initializer_list>
+#include <iosfwd>
 #include <iterator>
 #include <memory>
 #include <mutex>
 #include <optional>
+#include <string>
 #include <type_traits>
 #include <utility>
 #include <vector>
@@ -35,6 +37,7 @@ using std::size_t, std::uint32_t, std::uint64_t;
 using entry = pelgaisti_entry;
 using waker = pelgaisti_waker;  // {wake, engine}: a function that may throw is no waker
 enum class seed : uint64_t {};  // seed{7}: of the hash of resources, in place of one that is drawn; no reply depends on it
+enum class telling : size_t {};  // telling{16}: how many of its newest deadlocks an office keeps, to tell of them
 enum class mode : uint32_t { NL = 0, IS = 1, IX = 3, S = 5, SIX = 7, X = 15, U = 13 };
 enum class op : uint32_t { begin = 1, lock, convert, poll, release, commit, abort, try_lock, withdraw, restart };
 enum class kind : uint32_t { began = 1, granted, waiting, deadlock, clear, released, committed, aborted, refused, withdrawn,
@@ -126,6 +129,33 @@ public:
     bool stopped() const { return it_.stop != 0; }
     bool starved() const { return it_.starved != 0; }
 };
+// A deadlock, as it was before its victim was doomed: the place in the history of the call that made it, the session of that call, and
+// the sessions on the cycle: the victim first, each of which waits for the next one, and the last for the victim. A member's `held` is the
+// code of the mode in which the next one held what it waited for, 0 if it didn't hold it, but had a request ahead in the queue.
+using member = pelgaisti_member;
+struct deadlock { uint64_t place; uint32_t session; std::vector<member> cycle; };
+// A deadlock as lines of text, each with its line break, in the words of `glm explain`.
+inline std::string to_string(const deadlock &it) {
+    const pelgaisti_deadlock told{it.place, it.session, it.cycle.size()};
+    std::string text(pelgaisti_deadlock_text(&told, it.cycle.data(), nullptr, 0), ' ');
+    return static_cast<void>(pelgaisti_deadlock_text(&told, it.cycle.data(), &text[0], text.size() + 1)), text;
+}
+template <class Traits> std::basic_ostream<char, Traits> &operator<<(std::basic_ostream<char, Traits> &out, const deadlock &it) {
+    return out << to_string(it).c_str();
+}
+// The deadlocks that a call writes, with their members: it is made again with more room until all fit. `call` returns whether it wrote.
+template <class Call> bool tell_deadlocks(std::vector<deadlock> &told, Call call) {
+    std::vector<pelgaisti_deadlock> list(8);
+    std::vector<member> members(32);
+    for (size_t count = 0, all = 0;; list.resize(count), members.resize(all)) {
+        if (!call(list.data(), list.size(), &count, members.data(), members.size(), &all)) return false;
+        if (count > list.size() || all > members.size()) continue;
+        const member *next = members.data();
+        for (size_t k = 0; k < count; next += list[k++].members)
+            told.push_back({list[k].place, list[k].session, {next, next + list[k].members}});
+        return true;
+    }
+}
 // The answer to a question about the lock table of an open office: what the state had behind the first `length` calls.
 template <class T> struct seen { T found; uint64_t length; };
 struct pinned { pinned() = default; pinned(const pinned &) = delete; pinned &operator=(const pinned &) = delete; };
@@ -201,6 +231,15 @@ public:
             check(pelgaisti_book_locks(&handle_, 0, list.data(), list.size(), &count));
             if (count <= list.size()) return list.resize(count), list;
         }
+    }
+    // Keeps the newest `most` deadlocks from now on, and takes the memory for them; else a book keeps none. SERVED: it has served calls.
+    void keep_deadlocks(size_t most) { check(pelgaisti_book_keep_deadlocks(&handle_, most)); }
+    // The deadlocks that are kept, oldest first.
+    std::vector<deadlock> deadlocks() {
+        std::vector<deadlock> told;
+        static_cast<void>(tell_deadlocks(told, [&](auto *at, size_t room, auto *n, auto *members, size_t member_room, auto *all_members) {
+            return check(pelgaisti_book_deadlocks(&handle_, at, room, n, members, member_room, all_members)), true; }));
+        return told;
     }
     // Makes room, so that neither the table nor the history grows in a call until so many more resources and entries have come; gives back
     // memory that isn't in use; counts the cells that are kept and serve no resource.
@@ -301,6 +340,13 @@ public:
         return listed<pelgaisti_claim>([&](auto *at, size_t room, auto *count, auto *n) {
             return pelgaisti_session_locks(&handle_, 0, at, room, count, n); });
     }
+    // The newest deadlocks, oldest first, as many as the office was told to keep.
+    std::optional<seen<std::vector<deadlock>>> deadlocks() {
+        seen<std::vector<deadlock>> made{{}, 0};
+        const bool is_told = tell_deadlocks(made.found, [&](auto *at, size_t room, auto *n, auto *members, size_t member_room, auto *all) {
+            return !elsewhere(pelgaisti_session_deadlocks(&handle_, at, room, n, members, member_room, all, &made.length)); });
+        return is_told ? std::optional(std::move(made)) : std::nullopt;
+    }
     // What a book's do with the memory of the lock table, each by one try for it; how many calls the history had, or nothing if another
     // session has the table.
     std::optional<uint64_t> reserve(size_t resources, size_t entries) {
@@ -386,6 +432,12 @@ public:
         : waker_(wakes), sessions_(closed(sessions)), count_(sessions) {
         const pelgaisti::waker *const used = waker_.wake != nullptr ? &waker_ : nullptr;
         check(pelgaisti_office_open_seeded(&sessions_[0].handle_, sessions, bound, used, static_cast<uint64_t>(by)));
+    }
+    // An office that keeps its newest deadlocks, for its sessions' deadlocks() to tell; a waker whose function is null is none.
+    office(size_t sessions, telling deadlocks, const pelgaisti::waker &wakes = {nullptr, nullptr}, uint64_t bound = UINT64_MAX)
+        : waker_(wakes), sessions_(closed(sessions)), count_(sessions) {
+        const pelgaisti::waker *const used = waker_.wake != nullptr ? &waker_ : nullptr;
+        check(pelgaisti_office_open_telling(&sessions_[0].handle_, sessions, bound, used, static_cast<size_t>(deadlocks)));
     }
     ~office() {
         pelgaisti_session *const first = &sessions_[0].handle_;

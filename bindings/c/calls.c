@@ -178,6 +178,17 @@ pelgaisti_status pelgaisti_book_take_history(pelgaisti_book *book, uint64_t *fir
                    CALL(book, pelgaisti_raw_book_take_history(&book, &first, LIST(entries, room), &count))));
 }
 
+pelgaisti_status pelgaisti_book_keep_deadlocks(pelgaisti_book *book, size_t most) {
+    return CALL(book, pelgaisti_raw_book_keep_deadlocks(&book, most));
+}
+
+pelgaisti_status pelgaisti_book_deadlocks(pelgaisti_book *book, pelgaisti_deadlock *list, size_t room, size_t *count,
+                                          pelgaisti_member *members, size_t member_room, size_t *member_count) {
+    return LISTING(list, room, count, LISTING(members, member_room, member_count,
+                   CALL(book, pelgaisti_raw_book_deadlocks(&book, LIST(list, room), &count, LIST(members, member_room),
+                        &member_count))));
+}
+
 pelgaisti_status pelgaisti_book_reserve(pelgaisti_book *book, size_t resources, size_t entries) {
     return CALL(book, pelgaisti_raw_book_reserve(&book, resources, entries));
 }
@@ -207,30 +218,35 @@ pelgaisti_status pelgaisti_book_run(pelgaisti_book *book, uint32_t session, cons
 
 /* Opens an office with a mark of its own. */
 static pelgaisti_status open_office(pelgaisti_session *sessions, size_t count, uint64_t bound, const pelgaisti_waker *waker,
-                                    uint64_t seed) {
+                                    uint64_t seed, size_t deadlocks) {
     const uint64_t at = (uint64_t)(uintptr_t)waker;
     size_t k;
     if (IS_WATCHED && sessions)
         for (k = 1; k < count && k < PELGAISTI_MAX_SESSIONS; k++) note_use(&sessions[k]);
-    return CALL(sessions, pelgaisti_raw_office_open(LIST(sessions, count), draw_mark(), bound, at, seed));
+    return CALL(sessions, pelgaisti_raw_office_open(LIST(sessions, count), draw_mark(), bound, at, seed, deadlocks));
 }
 
 pelgaisti_status pelgaisti_office_open(pelgaisti_session *sessions, size_t count) {
-    return open_office(sessions, count, UINT64_MAX, NULL, draw_seed());
+    return open_office(sessions, count, UINT64_MAX, NULL, draw_seed(), 0);
 }
 
 pelgaisti_status pelgaisti_office_open_keeping(pelgaisti_session *sessions, size_t count, uint64_t bound) {
-    return open_office(sessions, count, bound, NULL, draw_seed());
+    return open_office(sessions, count, bound, NULL, draw_seed(), 0);
 }
 
 pelgaisti_status pelgaisti_office_open_waking(pelgaisti_session *sessions, size_t count, uint64_t bound,
                                               const pelgaisti_waker *waker) {
-    return waker && waker->wake ? open_office(sessions, count, bound, waker, draw_seed()) : PELGAISTI_NULL;
+    return waker && waker->wake ? open_office(sessions, count, bound, waker, draw_seed(), 0) : PELGAISTI_NULL;
 }
 
 pelgaisti_status pelgaisti_office_open_seeded(pelgaisti_session *sessions, size_t count, uint64_t bound,
                                               const pelgaisti_waker *waker, uint64_t seed) {
-    return !waker || waker->wake ? open_office(sessions, count, bound, waker, seed) : PELGAISTI_NULL;
+    return !waker || waker->wake ? open_office(sessions, count, bound, waker, seed, 0) : PELGAISTI_NULL;
+}
+
+pelgaisti_status pelgaisti_office_open_telling(pelgaisti_session *sessions, size_t count, uint64_t bound,
+                                               const pelgaisti_waker *waker, size_t deadlocks) {
+    return !waker || waker->wake ? open_office(sessions, count, bound, waker, draw_seed(), deadlocks) : PELGAISTI_NULL;
 }
 
 /* The waker of the session's office, or NULL. */
@@ -432,6 +448,14 @@ pelgaisti_status pelgaisti_session_locks(pelgaisti_session *session, size_t firs
                                          size_t *count, uint64_t *seen) {
     return LISTING(list, room, count, WRITING(seen,
                    CALL(session, pelgaisti_raw_session_locks(&session, first, LIST(list, room), &count, &seen))));
+}
+
+pelgaisti_status pelgaisti_session_deadlocks(pelgaisti_session *session, pelgaisti_deadlock *list, size_t room, size_t *count,
+                                             pelgaisti_member *members, size_t member_room, size_t *member_count,
+                                             uint64_t *seen) {
+    return LISTING(list, room, count, LISTING(members, member_room, member_count, WRITING(seen,
+                   CALL(session, pelgaisti_raw_session_deadlocks(&session, LIST(list, room), &count, LIST(members, member_room),
+                        &member_count, &seen)))));
 }
 
 pelgaisti_status pelgaisti_session_reserve(pelgaisti_session *session, size_t resources, size_t entries, uint64_t *seen) {

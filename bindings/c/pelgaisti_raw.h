@@ -41,6 +41,9 @@ uint32_t pelgaisti_raw_book_take_history(pelgaisti_book **book, uint64_t **first
 uint32_t pelgaisti_raw_book_reserve(pelgaisti_book **book, size_t resources, size_t entries);
 uint32_t pelgaisti_raw_book_shrink(pelgaisti_book **book);
 uint32_t pelgaisti_raw_book_idle_cells(pelgaisti_book **book, size_t **cells);
+uint32_t pelgaisti_raw_book_keep_deadlocks(pelgaisti_book **book, size_t most);
+uint32_t pelgaisti_raw_book_deadlocks(pelgaisti_book **book, pelgaisti_raw_list *list, size_t **count, pelgaisti_raw_list *members,
+                                      size_t **member_count);
 uint32_t pelgaisti_raw_book_blockers(pelgaisti_book **book, uint32_t session, pelgaisti_raw_list *list, size_t **count);
 uint32_t pelgaisti_raw_book_lock_path(pelgaisti_book **book, uint32_t session, const pelgaisti_resource **resource,
                                       uint32_t mode, uint32_t **level, pelgaisti_reply **reply, pelgaisti_raw_list *list,
@@ -49,8 +52,9 @@ uint32_t pelgaisti_raw_book_run(pelgaisti_book **book, uint32_t session, const p
                                 pelgaisti_program_answer **answer, pelgaisti_raw_list *list, size_t **count);
 /* `mark` is the number by which pelgaisti_raw_session_hear and pelgaisti_raw_session_hand_in tell offices apart: one that no other
    open office has. `bound` is that of pelgaisti_office_open_keeping. `waker` is what pelgaisti_raw_session_waker tells, 0 for none: the
-   address of the waker, which the archive doesn't read. */
-uint32_t pelgaisti_raw_office_open(pelgaisti_raw_list *sessions, uint64_t mark, uint64_t bound, uint64_t waker, uint64_t seed);
+   address of the waker, which the archive doesn't read. `deadlocks` is that of pelgaisti_office_open_telling, 0 for none. */
+uint32_t pelgaisti_raw_office_open(pelgaisti_raw_list *sessions, uint64_t mark, uint64_t bound, uint64_t waker, uint64_t seed,
+                                   size_t deadlocks);
 uint32_t pelgaisti_raw_session_publish(pelgaisti_session **session, const pelgaisti_call **call, uint32_t **posted);
 /* `told` gets how many sessions the waker is to wake after the pass, 0 in an office without one: it is written with OK, with NO_MEMORY,
    and with ELSEWHERE, which is 0. pelgaisti_raw_session_told tells which they are, until the session's next try to make a pass. */
@@ -97,6 +101,8 @@ uint32_t pelgaisti_raw_session_blockers(pelgaisti_session **session, uint32_t wh
                                         uint64_t **seen);
 uint32_t pelgaisti_raw_session_locks(pelgaisti_session **session, size_t first, pelgaisti_raw_list *list, size_t **count,
                                      uint64_t **seen);
+uint32_t pelgaisti_raw_session_deadlocks(pelgaisti_session **session, pelgaisti_raw_list *list, size_t **count,
+                                         pelgaisti_raw_list *members, size_t **member_count, uint64_t **seen);
 uint32_t pelgaisti_raw_session_reserve(pelgaisti_session **session, size_t resources, size_t entries, uint64_t **seen);
 uint32_t pelgaisti_raw_session_shrink(pelgaisti_session **session, uint64_t **seen);
 uint32_t pelgaisti_raw_session_idle_cells(pelgaisti_session **session, size_t **cells, uint64_t **seen);

@@ -32,6 +32,8 @@ pub enum Error {
     Missing,
     /// The entry at this place of the history was let go.
     LetGo,
+    /// Calls were served already.
+    Served,
     /// The library is of another version than this crate.
     OtherVersion,
 }
@@ -51,6 +53,7 @@ impl fmt::Display for Error {
             Error::OtherOffice => "the sessions are of different offices",
             Error::Missing => "a session of the office wasn't handed in",
             Error::LetGo => "the entry at this place was let go",
+            Error::Served => "calls were served already",
             Error::OtherVersion => "the library is of another version",
         })
     }
@@ -74,6 +77,7 @@ pub(crate) fn done(status: u32) -> Result<(), Error> {
         ffi::OTHER_OFFICE => Error::OtherOffice,
         ffi::MISSING => Error::Missing,
         ffi::LET_GO => Error::LetGo,
+        ffi::SERVED => Error::Served,
         other => unreachable!("status {other}, which the types of this crate rule out"),
     })
 }

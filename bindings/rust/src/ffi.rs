@@ -77,6 +77,21 @@ pub(crate) struct RawClaim {
 
 #[repr(C)]
 #[derive(Clone, Copy, Default)]
+pub(crate) struct RawMember {
+    pub(crate) request: RawClaim,
+    pub(crate) held: u32,
+}
+
+#[repr(C)]
+#[derive(Clone, Copy, Default)]
+pub(crate) struct RawDeadlock {
+    pub(crate) place: u64,
+    pub(crate) session: u32,
+    pub(crate) members: usize,
+}
+
+#[repr(C)]
+#[derive(Clone, Copy, Default)]
 pub(crate) struct RawAnswer {
     pub(crate) place: u64,
     pub(crate) reply: RawReply,
@@ -133,6 +148,7 @@ impl RawHandle {
 const _: () = assert!(size_of::<*mut c_void>() == 8 && size_of::<RawHandle>() == 16 && size_of::<RawWaker>() == 16);
 const _: () = assert!(size_of::<RawResource>() == 24 && size_of::<RawCall>() == 32 && size_of::<RawReply>() == 16);
 const _: () = assert!(size_of::<RawHolder>() == 8 && size_of::<RawTransaction>() == 16 && size_of::<RawClaim>() == 48);
+const _: () = assert!(size_of::<RawMember>() == 56 && size_of::<RawDeadlock>() == 24);
 const _: () = assert!(size_of::<RawEntry>() == 56 && size_of::<RawAnswer>() == 24 && size_of::<RawPass>() == 8);
 const _: () = assert!(size_of::<RawProgram>() == 44 && size_of::<RawProgramAnswer>() == 136);
 
@@ -151,6 +167,7 @@ pub(crate) const ELSEWHERE: u32 = 13;
 pub(crate) const OTHER_OFFICE: u32 = 14;
 pub(crate) const MISSING: u32 = 15;
 pub(crate) const LET_GO: u32 = 19;
+pub(crate) const SERVED: u32 = 24;
 
 extern "C" {
     pub(crate) fn pelgaisti_version() -> u32;
@@ -224,6 +241,16 @@ extern "C" {
         room: usize,
         count: *mut usize,
     ) -> u32;
+    pub(crate) fn pelgaisti_book_keep_deadlocks(book: *mut RawHandle, most: usize) -> u32;
+    pub(crate) fn pelgaisti_book_deadlocks(
+        book: *mut RawHandle,
+        list: *mut RawDeadlock,
+        room: usize,
+        count: *mut usize,
+        members: *mut RawMember,
+        member_room: usize,
+        member_count: *mut usize,
+    ) -> u32;
     pub(crate) fn pelgaisti_book_reserve(book: *mut RawHandle, resources: usize, entries: usize) -> u32;
     pub(crate) fn pelgaisti_book_shrink(book: *mut RawHandle) -> u32;
     pub(crate) fn pelgaisti_book_idle_cells(book: *mut RawHandle, cells: *mut usize) -> u32;
@@ -240,6 +267,13 @@ extern "C" {
         bound: u64,
         waker: *const RawWaker,
         seed: u64,
+    ) -> u32;
+    pub(crate) fn pelgaisti_office_open_telling(
+        sessions: *mut RawHandle,
+        count: usize,
+        bound: u64,
+        waker: *const RawWaker,
+        deadlocks: usize,
     ) -> u32;
     pub(crate) fn pelgaisti_session_publish(session: *mut RawHandle, call: *const RawCall, posted: *mut u32) -> u32;
     pub(crate) fn pelgaisti_session_serve(session: *mut RawHandle, pass: *mut RawPass) -> u32;
@@ -314,6 +348,16 @@ extern "C" {
         list: *mut RawClaim,
         room: usize,
         count: *mut usize,
+        seen: *mut u64,
+    ) -> u32;
+    pub(crate) fn pelgaisti_session_deadlocks(
+        session: *mut RawHandle,
+        list: *mut RawDeadlock,
+        room: usize,
+        count: *mut usize,
+        members: *mut RawMember,
+        member_room: usize,
+        member_count: *mut usize,
         seen: *mut u64,
     ) -> u32;
     pub(crate) fn pelgaisti_session_reserve(session: *mut RawHandle, resources: usize, entries: usize, seen: *mut u64) -> u32;

@@ -17,6 +17,17 @@ pub(crate) fn closed(count: usize) -> Result<Box<[UnsafeCell<RawHandle>]>, Error
     Ok(handles.into_boxed_slice())
 }
 
+/// How an office is opened.
+#[derive(Clone, Copy)]
+pub(crate) enum Opening {
+    /// With a seed of its own.
+    Plain,
+    /// With this seed.
+    Seeded(u64),
+    /// With a seed of its own, keeping so many of the newest deadlocks.
+    Telling(usize),
+}
+
 /// The handles of an office's sessions.
 pub(crate) struct Handles {
     all: Box<[UnsafeCell<RawHandle>]>,
@@ -35,12 +46,12 @@ unsafe impl Send for Handles {}
 unsafe impl Sync for Handles {}
 
 impl Handles {
-    /// Opens an office, with a seed of its own or this one.
+    /// Opens an office.
     pub(crate) fn open(
         sessions: usize,
         bound: u64,
         waker: Option<Arc<AnyWaker>>,
-        seed: Option<u64>,
+        opening: Opening,
     ) -> Result<Arc<Handles>, Error> {
         if sessions == 0 || sessions > MAX_SESSIONS {
             return Err(Error::NoSuchCount);
@@ -56,14 +67,18 @@ impl Handles {
         // of the whole slice, not of its first handle
         let first = UnsafeCell::raw_get(handles.all.as_ptr());
         let waker = handles.waker.as_deref().map(AnyWaker::raw);
-        done(match (waker, seed) {
+        done(match (waker, opening) {
             // SAFETY: there are so many handles, empty, at places that they keep while these `Handles` live
-            (None, None) => unsafe { ffi::pelgaisti_office_open_keeping(first, sessions, bound) },
+            (None, Opening::Plain) => unsafe { ffi::pelgaisti_office_open_keeping(first, sessions, bound) },
             // SAFETY: likewise; the waker keeps its place and its fields as long, and `wake` returns whatever the closure does
-            (Some(waker), None) => unsafe { ffi::pelgaisti_office_open_waking(first, sessions, bound, waker) },
+            (Some(waker), Opening::Plain) => unsafe { ffi::pelgaisti_office_open_waking(first, sessions, bound, waker) },
             // SAFETY: likewise; the waker may be null
-            (_, Some(seed)) => unsafe {
+            (_, Opening::Seeded(seed)) => unsafe {
                 ffi::pelgaisti_office_open_seeded(first, sessions, bound, waker.unwrap_or(ptr::null()), seed)
+            },
+            // SAFETY: likewise
+            (_, Opening::Telling(deadlocks)) => unsafe {
+                ffi::pelgaisti_office_open_telling(first, sessions, bound, waker.unwrap_or(ptr::null()), deadlocks)
             },
         })?;
         Ok(handles)

@@ -28,6 +28,7 @@
 mod book;
 mod calls;
 mod claims;
+mod deadlocks;
 mod error;
 mod ffi;
 mod handles;
@@ -43,6 +44,7 @@ mod waker;
 pub use book::{Book, Entry};
 pub use calls::{Call, Mode, Refusal, Reply, Resource};
 pub use claims::{Claim, ClaimKind, Holder, Transaction};
+pub use deadlocks::{Deadlock, Member};
 pub use error::Error;
 pub use looks::Seen;
 pub use office::{Answer, NotClosed, Office, Pass, Posted, Session};

@@ -4,7 +4,7 @@ use crate::book::{entries_by, Book, Entry};
 use crate::calls::{Call, Mode, Reply, Resource};
 use crate::error::{done, same_version, Error};
 use crate::ffi::{self, RawAnswer, RawHandle, RawPass, RawProgramAnswer};
-use crate::handles::Handles;
+use crate::handles::{Handles, Opening};
 use crate::lists::{blank, list_for};
 use crate::programs::{Program, ProgramAnswer};
 use crate::waker::{AnyWaker, Waker};
@@ -89,7 +89,7 @@ impl Office {
     ///     assert_eq!((book.length(), book.first_kept()), (3, 1));
     ///     # Ok::<(), pelgaisti::Error>(())
     pub fn open_keeping(sessions: usize, bound: u64) -> Result<Vec<Session>, Error> {
-        Office::open_by(sessions, bound, None, None)
+        Office::open_by(sessions, bound, None, Opening::Plain)
     }
 
     /// Opens an office as [`Office::open_keeping`] does, whose lock table has this seed, as [`Book::open_seeded`] says.
@@ -97,7 +97,17 @@ impl Office {
     ///     assert_eq!(pelgaisti::Office::open_seeded(2, u64::MAX, 7)?.len(), 2);
     ///     # Ok::<(), pelgaisti::Error>(())
     pub fn open_seeded(sessions: usize, bound: u64, seed: u64) -> Result<Vec<Session>, Error> {
-        Office::open_by(sessions, bound, None, Some(seed))
+        Office::open_by(sessions, bound, None, Opening::Seeded(seed))
+    }
+
+    /// Opens an office as [`Office::open_keeping`] does, whose lock table keeps the newest `deadlocks` deadlocks, for
+    /// [`Session::deadlocks`] to tell, and takes the memory for them, as [`Book::keep_deadlocks`] does. An office that is opened otherwise
+    /// keeps none.
+    ///
+    ///     assert_eq!(pelgaisti::Office::open_telling(2, u64::MAX, 16)?.len(), 2);
+    ///     # Ok::<(), pelgaisti::Error>(())
+    pub fn open_telling(sessions: usize, bound: u64, deadlocks: usize) -> Result<Vec<Session>, Error> {
+        Office::open_by(sessions, bound, None, Opening::Telling(deadlocks))
     }
 
     /// Opens an office as [`Office::open_keeping`] does, whose threads sleep while they wait for a lock. A thread that was told
@@ -135,7 +145,7 @@ impl Office {
         bound: u64,
         wake: impl Fn(usize) + Send + Sync + 'static,
     ) -> Result<Vec<Session>, Error> {
-        Office::open_by(sessions, bound, Some(Waker::new(wake)), None)
+        Office::open_by(sessions, bound, Some(Waker::new(wake)), Opening::Plain)
     }
 
     /// Opens an office as [`Office::open_waking`] does, whose lock table has this seed, as [`Book::open_seeded`] says.
@@ -148,17 +158,31 @@ impl Office {
         seed: u64,
         wake: impl Fn(usize) + Send + Sync + 'static,
     ) -> Result<Vec<Session>, Error> {
-        Office::open_by(sessions, bound, Some(Waker::new(wake)), Some(seed))
+        Office::open_by(sessions, bound, Some(Waker::new(wake)), Opening::Seeded(seed))
+    }
+
+    /// Opens an office as [`Office::open_waking`] does, whose lock table keeps the newest `deadlocks` deadlocks, as
+    /// [`Office::open_telling`] says.
+    ///
+    ///     assert_eq!(pelgaisti::Office::open_waking_telling(2, u64::MAX, 16, |_| ())?.len(), 2);
+    ///     # Ok::<(), pelgaisti::Error>(())
+    pub fn open_waking_telling(
+        sessions: usize,
+        bound: u64,
+        deadlocks: usize,
+        wake: impl Fn(usize) + Send + Sync + 'static,
+    ) -> Result<Vec<Session>, Error> {
+        Office::open_by(sessions, bound, Some(Waker::new(wake)), Opening::Telling(deadlocks))
     }
 
     fn open_by(
         sessions: usize,
         bound: u64,
         waker: Option<Arc<AnyWaker>>,
-        seed: Option<u64>,
+        opening: Opening,
     ) -> Result<Vec<Session>, Error> {
         same_version()?;
-        let handles = Handles::open(sessions, bound, waker, seed)?;
+        let handles = Handles::open(sessions, bound, waker, opening)?;
         let mut opened = list_for(sessions)?;
         opened.extend((0..sessions).map(|index| Session::of(&handles, index)));
         Ok(opened)

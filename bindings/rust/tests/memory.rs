@@ -108,6 +108,31 @@ fn a_book_goes_on_where_memory_is_refused() {
     assert_eq!(book.take_history(usize::MAX).unwrap().1.len(), 701);
 }
 
+/// The deadlock of 20 sessions, each of which waits for the next one.
+#[test]
+fn deadlocks_are_told_where_memory_was_refused() {
+    let mut book = Book::open(20).unwrap();
+    book.keep_deadlocks(4).unwrap();
+    let mut sessions = Office::open_telling(20, u64::MAX, 4).unwrap();
+    let lock = |number| Call::Lock(Resource::new(&[number]).unwrap(), Mode::X);
+    let mut serve = |number: u32, call| {
+        let _ = book.serve(number, &call).unwrap();
+        let _ = reply(&mut sessions[number as usize - 1], call);
+    };
+    for number in 1..=20 {
+        serve(number, Call::Begin);
+        serve(number, lock(number));
+    }
+    for number in 1..=20 {
+        serve(number, lock(number % 20 + 1));
+    }
+    assert_eq!(refused(|| book.deadlocks()), Err(Error::NoMemory));
+    assert_eq!(refused(|| sessions[0].deadlocks()), Err(Error::NoMemory));
+    let told = book.deadlocks().unwrap();
+    assert_eq!((told.len(), told[0].cycle.len()), (1, 20));
+    assert_eq!(sessions[0].deadlocks().unwrap().found, told);
+}
+
 #[test]
 fn an_office_goes_on_where_memory_is_refused() {
     let owned = Arc::new(());

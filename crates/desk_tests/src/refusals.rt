@@ -2,13 +2,17 @@
 //! and also if none is; it prints a line if one was, for the check that refuses each allocation in turn. Longer histories are in
 //! `checks/scripts/refusals.txt`.
 
+ghost use Rattle.std.specs.Prelude.{◌≡◌, [], IfOk};
+
 use lock_desk::{Book, Call, Mode, NoMemory, PathLocked, Reply, Resource};
 use std::alloc::Global;
 use std::process::Abort;
 use std::test::Fail;
 
 /// Makes a book of 1,024 sessions, a second time if memory is refused. Returns whether it was.
-fn made_book(alloc: Global) -> Result<(Book, bool), NoMemory> {
+fn made_book(alloc: Global) -> Result<(Book, bool), NoMemory>
+    ensures empty { IfOk result (λ made. made.0.history ≡ []) }
+{
     match Book::new(alloc, 1024) {
         Ok(book) => Ok((book, false)),
         Err(NoMemory) => match Book::new(alloc, 1024) {
@@ -83,6 +87,30 @@ fn a_refused_path_goes_on_at_the_second_try(rt: HostRuntime) -> Result<(), Fail>
     want_reply(&rt, &mut book, Call::Begin, Reply::Began(1));
     if was_path_refused(&rt, &mut book, file) {
         println!(&rt; "refused path")?;
+    }
+    Ok(())
+}
+
+/// Asks the book to keep two deadlocks, a second time if memory is refused. Returns whether it was.
+fn was_keeping_refused(rt: &impl Abort, alloc: Global, book: &mut Book) -> bool
+    requires fresh { book.old.history ≡ [] }
+{
+    if book.keep_deadlocks(alloc, 2).is_ok() {
+        return false;
+    }
+    assert_eq!(rt; book.deadlocks_kept(), 0);
+    assert!(rt; book.keep_deadlocks(alloc, 2).is_ok());
+    true
+}
+
+/// Each allocation for deadlocks may be refused, and the next try makes them.
+#[test]
+fn refused_deadlocks_are_kept_at_the_second_try(rt: HostRuntime) -> Result<(), Fail> {
+    let (mut book, _) = made_book(rt.alloc())?;
+    let was_refused = was_keeping_refused(&rt, rt.alloc(), &mut book);
+    assert_eq!(&rt; book.deadlocks_kept(), 2);
+    if was_refused {
+        println!(&rt; "refused")?;
     }
     Ok(())
 }

@@ -2,3 +2,4 @@
 pub mod ExplanationText
 pub mod ExplanationRows
 pub mod ExplanationDot
+pub mod DeadlockText

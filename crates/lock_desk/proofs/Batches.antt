@@ -107,17 +107,18 @@ pub served-start : (b : BookView) (items : List Item) → b.ended ≡ [] → Are
 served-start b items none = subst (λ (xs : List ℕ). AreServed b.sessions 0 items b.history xs b.history items) (sym none) (served-none b.sessions items b.history)
 
 -- what a book has after a batch, before which its list of ended waits was emptied
-pub served-book : (b c d : BookView) (k : ℕ) (batch items : List Item) → c ≡ record b { ended = [] } → d.sessions ≡ c.sessions → d.cut ≡ c.cut → d.bound ≡ c.bound → AreServed c.sessions k batch c.history d.ended d.history items
+pub served-book : (b c d : BookView) (k : ℕ) (batch items : List Item) → c ≡ record b { ended = [] } → d.sessions ≡ c.sessions → d.cut ≡ c.cut → d.bound ≡ c.bound → d.deadlocks ≡ c.deadlocks → AreServed c.sessions k batch c.history d.ended d.history items
     → d ≡ record b { history = b.history ++ entries_from (state_of b.history) (take k batch); ended = ended_waits_in b.sessions (state_of b.history) (take k batch) }
-served-book b c d k batch items e sessions cut bound s =
+served-book b c d k batch items e sessions cut bound deadlocks s =
     let h = ap (λ (t : BookView). t.history) e in
     let n = ap (λ (t : BookView). t.sessions) e in
     let all = sessions ∙ n in
     let history = s.entries ∙ (λ i. h i ++ entries_from (state_of (h i)) (take k batch)) in
     let cuts = cut ∙ ap (λ (t : BookView). t.cut) e in
     let bounds = bound ∙ ap (λ (t : BookView). t.bound) e in
+    let most = deadlocks ∙ ap (λ (t : BookView). t.deadlocks) e in
     let ends = s.waits ∙ (λ i. ended_waits_in (n i) (state_of (h i)) (take k batch)) in
-    λ i. record { sessions = all i; history = history i; cut = cuts i; bound = bounds i; ended = ends i }
+    λ i. record { sessions = all i; history = history i; cut = cuts i; bound = bounds i; ended = ends i; deadlocks = most i }
 
 -- and what its items are
 pub served-items : (b c : BookView) (k : ℕ) (batch : List Item) (ended : List ℕ) (after : List Entry) (items : List Item) → c ≡ record b { ended = [] } → AreServed c.sessions k batch c.history ended after items

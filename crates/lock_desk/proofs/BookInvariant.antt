@@ -20,6 +20,8 @@ use Rattle.lock_desk.specs.inner.Ready.{IsReadyTable}
 use Rattle.lock_desk.specs.inner.Shows.{Shows}
 use Rattle.lock_desk.specs.inner.Runs.{AreKept}
 use Rattle.lock_desk.specs.BookView.{BookView}
+use Rattle.lock_desk.specs.Deadlocks.{AreDeadlocksTold, deadlocks_in, newest}
+use Rattle.lock_desk.specs.inner.Noting.{IsLogFor}
 use Rattle.lock_desk.specs.Batches.{ended_waits_beside}
 use Rattle.sequential.specs.Histories.{IsEntryWithin}
 use Rattle.lock_desk.specs.inner.Invariant.{book_view_of, IsKept}
@@ -87,8 +89,9 @@ kept-of a k = record {
   counted = k.counted;
 }
 
-pub of-kept : (a : Inside) → 1 ≤ a.sessions → a.sessions ≤ MAX_SESSIONS → AreKept a.lock_table a.history.items → vec_len a.lock_table.lockers ≡ a.sessions → a.marks.sessions ≡ a.sessions → IsKept a
-of-kept a some few k lockers marked = record {
+pub of-kept : (a : Inside) → 1 ≤ a.sessions → a.sessions ≤ MAX_SESSIONS → AreKept a.lock_table a.history.items → vec_len a.lock_table.lockers ≡ a.sessions → a.marks.sessions ≡ a.sessions
+    → IsLogFor (vec_len a.lock_table.lockers) a.deadlocks → AreDeadlocksTold (newest a.deadlocks.most (deadlocks_in a.history.items)) a.deadlocks.told → IsKept a
+of-kept a some few k lockers marked log told = record {
   some = some;
   few = few;
   legal = k.legal;
@@ -99,6 +102,8 @@ of-kept a some few k lockers marked = record {
   lockers = lockers;
   counted = k.counted;
   marked = marked;
+  log = log;
+  told = told;
 }
 
 -- another list of ended waits makes no difference
@@ -129,41 +134,42 @@ waits_ended-beside n s before after v w long still adds =
     ∙ ap (λ (told : List ℕ). ended_waits_beside n told s before after) (sym listed))
 
 -- the invariant, when as many sessions are listed as `n`
-pub relisted-kept : (a : Inside) (n : ℕ) (e : LockTable) → e ≡ with_ended_count n a.lock_table → IsKept a → IsKept (record { sessions = a.sessions; lock_table = e; history = a.history; marks = a.marks })
+pub relisted-kept : (a : Inside) (n : ℕ) (e : LockTable) → e ≡ with_ended_count n a.lock_table → IsKept a → IsKept (record { sessions = a.sessions; lock_table = e; history = a.history; marks = a.marks; deadlocks = a.deadlocks })
 relisted-kept a n e is k =
-    subst (λ (d : LockTable). IsKept (record { sessions = a.sessions; lock_table = d; history = a.history; marks = a.marks })) (sym is)
-    (of-kept _ k.some k.few (kept-relisted a.lock_table _ a.history.items refl (kept-of a k)) k.lockers k.marked)
+    subst (λ (d : LockTable). IsKept (record { sessions = a.sessions; lock_table = d; history = a.history; marks = a.marks; deadlocks = a.deadlocks })) (sym is)
+    (of-kept _ k.some k.few (kept-relisted a.lock_table _ a.history.items refl (kept-of a k)) k.lockers k.marked k.log k.told)
 
 -- what contracts see of a book after a call, when these sessions are listed
-pub listed-view : (a : Inside) (b : BookView) → book_view_of a ≡ b → (e : Entry) (es : List Entry) (cut bound : ℕ) (ended told : List ℕ)
-    → es ≡ a.history.items ++ e ∷ [] → cut ≡ a.history.cut → bound ≡ a.history.bound → ended ≡ told
-    → record { sessions = a.sessions; history = es; cut = cut; bound = bound; ended = ended } ≡ record b { history = b.history ++ e ∷ []; ended = told }
-listed-view a b is e es cut bound ended told entries cuts bounds ends =
+pub listed-view : (a : Inside) (b : BookView) → book_view_of a ≡ b → (e : Entry) (es : List Entry) (cut bound : ℕ) (ended told : List ℕ) (deadlocks : ℕ)
+    → es ≡ a.history.items ++ e ∷ [] → cut ≡ a.history.cut → bound ≡ a.history.bound → ended ≡ told → deadlocks ≡ a.deadlocks.most
+    → record { sessions = a.sessions; history = es; cut = cut; bound = bound; ended = ended; deadlocks = deadlocks } ≡ record b { history = b.history ++ e ∷ []; ended = told }
+listed-view a b is e es cut bound ended told deadlocks entries cuts bounds ends most =
     let n = ap (λ (t : BookView). t.sessions) is in
     let history = entries ∙ ap (λ (t : BookView). t.history ++ e ∷ []) is in
     let all_cut = cuts ∙ ap (λ (t : BookView). t.cut) is in
     let all_bound = bounds ∙ ap (λ (t : BookView). t.bound) is in
-    λ i. record { sessions = n i; history = history i; cut = all_cut i; bound = all_bound i; ended = ends i }
+    let all_most = most ∙ ap (λ (t : BookView). t.deadlocks) is in
+    λ i. record { sessions = n i; history = history i; cut = all_cut i; bound = all_bound i; ended = ends i; deadlocks = all_most i }
 
 -- when exactly those are listed whose wait it has ended
-pub entry-view : (a : Inside) (b : BookView) → book_view_of a ≡ b → (s : ℕ) (call : Call) (reply : Reply) (es : List Entry) (cut bound : ℕ) (ended : List ℕ)
+pub entry-view : (a : Inside) (b : BookView) → book_view_of a ≡ b → (s : ℕ) (call : Call) (reply : Reply) (es : List Entry) (cut bound : ℕ) (ended : List ℕ) (deadlocks : ℕ)
     → es ≡ a.history.items ++ record { session = s; call = call; reply = reply } ∷ [] → cut ≡ a.history.cut → bound ≡ a.history.bound
-    → ended ≡ ended_waits a.sessions s (state_of a.history.items) (step (state_of a.history.items) s call).state
-    → record { sessions = a.sessions; history = es; cut = cut; bound = bound; ended = ended } ≡ record b { history = b.history ++ record { session = s; call = call; reply = reply } ∷ []; ended = ended_waits b.sessions s (state_of b.history) (step (state_of b.history) s call).state }
-entry-view a b is s call reply es cut bound ended entries cuts bounds ends =
+    → ended ≡ ended_waits a.sessions s (state_of a.history.items) (step (state_of a.history.items) s call).state → deadlocks ≡ a.deadlocks.most
+    → record { sessions = a.sessions; history = es; cut = cut; bound = bound; ended = ended; deadlocks = deadlocks } ≡ record b { history = b.history ++ record { session = s; call = call; reply = reply } ∷ []; ended = ended_waits b.sessions s (state_of b.history) (step (state_of b.history) s call).state }
+entry-view a b is s call reply es cut bound ended deadlocks entries cuts bounds ends most =
     let e : Entry = record { session = s; call = call; reply = reply } in
-    listed-view a b is e es cut bound ended _ entries cuts bounds
-    (ends ∙ ap (λ (t : BookView). ended_waits t.sessions s (state_of t.history) (step (state_of t.history) s call).state) is)
+    listed-view a b is e es cut bound ended _ deadlocks entries cuts bounds
+    (ends ∙ ap (λ (t : BookView). ended_waits t.sessions s (state_of t.history) (step (state_of t.history) s call).state) is) most
 
 -- when they are listed beside those that were
-pub beside-view : (a : Inside) (b : BookView) → book_view_of a ≡ b → (s : ℕ) (call : Call) (reply : Reply) (es : List Entry) (cut bound : ℕ) (w : EndedView)
+pub beside-view : (a : Inside) (b : BookView) → book_view_of a ≡ b → (s : ℕ) (call : Call) (reply : Reply) (es : List Entry) (cut bound : ℕ) (w : EndedView) (deadlocks : ℕ)
     → es ≡ a.history.items ++ record { session = s; call = call; reply = reply } ∷ [] → cut ≡ a.history.cut → bound ≡ a.history.bound
     → length a.lock_table.ended.places ≡ a.sessions → length w.places ≡ a.sessions
-    → ((u : ℕ) → is_ended w u ≡ (is_ended a.lock_table.ended u || has_ended s (state_of a.history.items) (step (state_of a.history.items) s call).state u))
-    → record { sessions = a.sessions; history = es; cut = cut; bound = bound; ended = ended_in w } ≡ record b { history = b.history ++ record { session = s; call = call; reply = reply } ∷ []; ended = ended_waits_beside b.sessions b.ended s (state_of b.history) (step (state_of b.history) s call).state }
-beside-view a b is s call reply es cut bound w entries cuts bounds long still adds =
+    → ((u : ℕ) → is_ended w u ≡ (is_ended a.lock_table.ended u || has_ended s (state_of a.history.items) (step (state_of a.history.items) s call).state u)) → deadlocks ≡ a.deadlocks.most
+    → record { sessions = a.sessions; history = es; cut = cut; bound = bound; ended = ended_in w; deadlocks = deadlocks } ≡ record b { history = b.history ++ record { session = s; call = call; reply = reply } ∷ []; ended = ended_waits_beside b.sessions b.ended s (state_of b.history) (step (state_of b.history) s call).state }
+beside-view a b is s call reply es cut bound w deadlocks entries cuts bounds long still adds most =
     let e : Entry = record { session = s; call = call; reply = reply } in
     let st = state_of a.history.items in
-    listed-view a b is e es cut bound (ended_in w) _ entries cuts bounds
+    listed-view a b is e es cut bound (ended_in w) _ deadlocks entries cuts bounds
     (waits_ended-beside a.sessions s st (step st s call).state a.lock_table.ended w long still adds
-    ∙ ap (λ (t : BookView). ended_waits_beside t.sessions t.ended s (state_of t.history) (step (state_of t.history) s call).state) is)
+    ∙ ap (λ (t : BookView). ended_waits_beside t.sessions t.ended s (state_of t.history) (step (state_of t.history) s call).state) is) most

@@ -79,6 +79,12 @@ pub mod WaitsOfTheState
 pub mod VictimRounds
 -- no more requests wait than there are sessions
 pub mod FewRequests
+-- what a log tells
+pub mod DeadlocksTold
+-- the deadlocks that are noted while victims are chosen
+pub mod DeadlockRounds
+-- the cycle that is told of a deadlock
+pub mod CyclesTold
 -- what a lock table tells of its locks and requests is what the state has
 pub mod Listings
 -- the book
@@ -88,6 +94,8 @@ pub mod BookInvariant
 pub mod RunItems
 -- one lock of a run is granted: the others can still be granted, and the lock table represents the next state
 pub mod Granting
+-- the deadlocks of a call, and those of a history with one more entry
+pub mod DeadlocksOfCalls
 -- a batch, one item further
 pub mod Batches
 -- the sessions for which one waits, by number

@@ -150,21 +150,22 @@ pub short : (level whole : ℕ) (stopped : Bool) → level < whole → stopped �
 short level whole stopped lt h = grind (arith, lt, h)
 
 -- the book after the calls down to this level, before which its list of ended waits was emptied
-pub told-book : (b c d : BookView) (s : ℕ) (r : List ℕ) (m : Mode) (from upto : ℕ) (p : PathLocked) (reply : Option Reply) → c ≡ record b { ended = [] } → d.sessions ≡ c.sessions → d.cut ≡ c.cut → d.bound ≡ c.bound
+pub told-book : (b c d : BookView) (s : ℕ) (r : List ℕ) (m : Mode) (from upto : ℕ) (p : PathLocked) (reply : Option Reply) → c ≡ record b { ended = [] } → d.sessions ≡ c.sessions → d.cut ≡ c.cut → d.bound ≡ c.bound → d.deadlocks ≡ c.deadlocks
     → last_level p ≡ upto → AreEntered d.sessions (path_calls s r m from upto) c.history d.ended reply d.history
     → d ≡ record b {
       history = b.history ++ entries_from (state_of b.history) (path_calls s r m from (last_level p));
       ended = ended_waits_in b.sessions (state_of b.history) (path_calls s r m from (last_level p));
     }
-told-book b c d s r m from upto p reply same sessions cut bound last k =
+told-book b c d s r m from upto p reply same sessions cut bound deadlocks last k =
     let calls = ap (λ (j : ℕ). path_calls s r m from j) (sym last) in
     let n = sessions ∙ ap (λ (t : BookView). t.sessions) same in
     let h = ap (λ (t : BookView). t.history) same in
     let cuts = cut ∙ ap (λ (t : BookView). t.cut) same in
     let bounds = bound ∙ ap (λ (t : BookView). t.bound) same in
+    let most = deadlocks ∙ ap (λ (t : BookView). t.deadlocks) same in
     let history = k.entries ∙ (λ i. h i ++ entries_from (state_of (h i)) (calls i)) in
     let ended = k.waits ∙ (λ i. ended_waits_in (n i) (state_of (h i)) (calls i)) in
-    λ i. record { sessions = n i; history = history i; cut = cuts i; bound = bounds i; ended = ended i }
+    λ i. record { sessions = n i; history = history i; cut = cuts i; bound = bounds i; ended = ended i; deadlocks = most i }
 
 -- the last reply
 pub told-reply : (b c d : BookView) (s : ℕ) (r : List ℕ) (m : Mode) (from upto : ℕ) (p : PathLocked) (reply : Option Reply) → c ≡ record b { ended = [] } → last_level p ≡ upto

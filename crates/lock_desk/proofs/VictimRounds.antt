@@ -159,7 +159,7 @@ doomed-shown d e st v i k h = record {
     go u false e = h.transactions u
 
 -- one more round
-pub next-round : (n k s v : ℕ) (st : rules.State) (d e : LockTable) (r : IsRound n k s st d) → k < n → reaches r.state.table s s ≡ true → victim_of r.state s ≡ v → HasDoomed v d e → IsRound n (k + 1) s st e
+abbrev pub next-round : (n k s v : ℕ) (st : rules.State) (d e : LockTable) (r : IsRound n k s st d) → k < n → reaches r.state.table s s ≡ true → victim_of r.state s ≡ v → HasDoomed v d e → IsRound n (k + 1) s st e
 next-round n k s v st d e r lt on is k2 = record {
   state = after_victim v r.state;
   shows = doomed-shown d e r.state v r.sound k2 r.shows;

@@ -4,13 +4,15 @@ use Rattle.trimmed_list.specs.Kept.{first_kept, kept}
 use Rattle.lock_rules.specs.Entries.{Entry}
 
 -- a book: its number of sessions; the calls that it has served with their replies, oldest first; the place up to which
--- entries were let go; how many are kept at most; and the sessions whose wait the last call or batch has ended, by number
+-- entries were let go; how many are kept at most; the sessions whose wait the last call or batch has ended, by number; and how
+-- many of the newest deadlocks are kept at most
 pub record BookView : Type 0 where
   pub sessions : ℕ
   pub history : List Entry
   pub cut : ℕ
   pub bound : ℕ
   pub ended : List ℕ
+  pub deadlocks : ℕ
 
 -- the place of the first entry of the history that is kept
 abbrev pub first_kept_by : BookView → ℕ

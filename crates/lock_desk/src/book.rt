@@ -18,9 +18,11 @@ ghost use Rattle.sequential.specs.Histories.{IsEntryWithin};
 ghost use Rattle.lock_desk.specs.inner.Runs.{AreServed};
 
 mod blockers;
+mod deadlocks;
 mod memory;
 mod paths;
 
+use crate::deadlock_log::DeadlockLog;
 use crate::lock_table::LockTable;
 use crate::lock_table::runs::{grant_run, resource_shared};
 use crate::recording::serve_recorded;
@@ -36,7 +38,7 @@ use waits_for::Marks;
 /// A lock table with the history of the calls that it has served.
 ///
 /// Contracts see a book as its number of sessions, its history, which entries of the history are kept in memory: those
-/// behind a cut, and of these the newest up to a bound, and the sessions whose wait the last call has ended. The history is always legal: each reply is the one that the
+/// behind a cut, and of these the newest up to a bound, the sessions whose wait the last call has ended, and how many deadlocks are kept. The history is always legal: each reply is the one that the
 /// sequential lock manager of `lock_rules` gives in the state that the earlier entries lead to. Entries that are let go stay
 /// in the history that contracts see.
 #[derive(Drop)]
@@ -49,6 +51,8 @@ pub struct Book {
     history: TrimmedList<Entry>,
     /// Scratch space of `serve_batch`: a mark for each session, to find a session that occurs twice.
     marks: Marks,
+    /// The newest deadlocks, none unless they are asked for.
+    deadlocks: DeadlockLog,
 }
 
 /// One call of a batch, with its reply once it is served.
@@ -90,6 +94,7 @@ impl Book {
         ensures cut { IfOk result (λ book. book.cut ≡ 0) }
         ensures bound { IfOk result (λ book. book.bound ≡ NO_BOUND) }
         ensures ended { IfOk result (λ book. book.ended ≡ []) }
+        ensures deadlocks { IfOk result (λ book. book.deadlocks ≡ 0) }
     {
         Book::with_seed(alloc, sessions, 0)
     }
@@ -105,14 +110,17 @@ impl Book {
         ensures cut { IfOk result (λ book. book.cut ≡ 0) }
         ensures bound { IfOk result (λ book. book.bound ≡ NO_BOUND) }
         ensures ended { IfOk result (λ book. book.ended ≡ []) }
+        ensures deadlocks { IfOk result (λ book. book.deadlocks ≡ 0) }
     {
         let lock_table = LockTable::new(alloc, sessions, seed)?;
         let marks = Marks::new(alloc, sessions)?;
+        let deadlocks = DeadlockLog::none(alloc)?;
         Ok(Book {
             sessions,
             lock_table,
             history: TrimmedList::new(alloc),
             marks,
+            deadlocks,
         })
     }
 
@@ -301,7 +309,13 @@ impl Book {
         ensures err { OnErr result (self.new ≡ self.old) }
     {
         let waits_ended = self.lock_table.clear_ended();
-        match serve_recorded(&mut self.lock_table, &mut self.history, session, call) {
+        match serve_recorded(
+            &mut self.lock_table,
+            &mut self.history,
+            &mut self.deadlocks,
+            session,
+            call,
+        ) {
             Ok(reply) => Ok(reply),
             Err(refused) => {
                 self.lock_table.restore_ended(waits_ended);
@@ -326,7 +340,13 @@ impl Book {
         }) }
         ensures err { OnErr result (self.new ≡ self.old) }
     {
-        let reply = serve_recorded(&mut self.lock_table, &mut self.history, session, call)?;
+        let reply = serve_recorded(
+            &mut self.lock_table,
+            &mut self.history,
+            &mut self.deadlocks,
+            session,
+            call,
+        )?;
         Ok(reply)
     }
 
@@ -370,6 +390,7 @@ impl Book {
         ensures sessions { self.new.sessions ≡ self.old.sessions }
         ensures cut { self.new.cut ≡ self.old.cut }
         ensures bound { self.new.bound ≡ self.old.bound }
+        ensures deadlocks { self.new.deadlocks ≡ self.old.deadlocks }
         ensures served { AreServed self.old.sessions result items.old self.old.history self.new.ended self.new.history items.new }
     {
         let mut served = 0;
@@ -401,6 +422,7 @@ impl Book {
         ensures sessions { self.new.sessions ≡ self.old.sessions }
         ensures cut { self.new.cut ≡ self.old.cut }
         ensures bound { self.new.bound ≡ self.old.bound }
+        ensures deadlocks { self.new.deadlocks ≡ self.old.deadlocks }
         ensures within { All (IsItemWithin self.new.sessions) items.new }
         ensures len { length items.new ≡ length items.old }
         ensures served { (batch : List ItemValue) (start : List EntryValue) → AreServed self.old.sessions at batch start self.old.ended self.old.history items.old
@@ -410,6 +432,7 @@ impl Book {
         let Ok(reply) = serve_recorded(
             &mut self.lock_table,
             &mut self.history,
+            &mut self.deadlocks,
             asked.session,
             asked.call,
         ) else {
@@ -427,6 +450,7 @@ impl Book {
         ensures sessions { self.new.sessions ≡ self.old.sessions }
         ensures cut { self.new.cut ≡ self.old.cut }
         ensures bound { self.new.bound ≡ self.old.bound }
+        ensures deadlocks { self.new.deadlocks ≡ self.old.deadlocks }
         ensures within { All (IsItemWithin self.new.sessions) items.new }
         ensures further { result.out_of_memory ≡ false → from < result.served }
         ensures served { (batch : List ItemValue) (start : List EntryValue) → AreServed self.old.sessions from batch start self.old.ended self.old.history items.old
@@ -457,6 +481,7 @@ impl Book {
         ensures sessions { self.new.sessions ≡ self.old.sessions }
         ensures cut { self.new.cut ≡ self.old.cut }
         ensures bound { self.new.bound ≡ self.old.bound }
+        ensures deadlocks { self.new.deadlocks ≡ self.old.deadlocks }
         ensures within { All (IsItemWithin self.new.sessions) items.new }
         ensures further { result.out_of_memory ≡ false → from < result.served }
         ensures served { (batch : List ItemValue) (start : List EntryValue) → AreServed self.old.sessions from batch start self.old.ended self.old.history items.old

@@ -250,9 +250,6 @@ impl CellTable {
     {
         same_path_is_equality();
         drop_provisional(&mut self.resources, &mut self.has_provisional);
-        if self.resources.len() == self.resources.capacity() {
-            return self.place_of(resource);
-        }
         let Ok((place, added)) = self.resources.insert_full(resource) else {
             return None;
         };

@@ -15,13 +15,15 @@
 //!      graph, `ended.rt` lists the sessions whose wait has ended, `positions.rt` maps session numbers to list indices.
 //! 2. The lock table: all cells, all lockers and the waits-for graph (`lock_table.rt`). `lock_table/calls.rt` serves
 //!    each kind of call: first the tests that can refuse it (`refusals.rt`), then its effect. `requests.rt` has the
-//!    effect of a lock or a conversion, `deadlocks.rt` resolves the deadlocks that a wait closes. `runs.rt` grants
+//!    effect of a lock or a conversion, `restarts.rt` that of a restart. `deadlocks.rt` resolves the deadlocks that a
+//!    wait closes, and notes them in a log of the newest (`deadlock_log.rt`), if one was asked for. `runs.rt` grants
 //!    several locks on one resource together, by the operations of `grants.rt`. `listing.rt` lists all locks and
-//!    requests.
+//!    requests, `lock_table/memory.rt` makes room and gives memory back.
 //! 3. The book: the lock table with its history (`book.rt`). It is all that callers see. `book/paths.rt` locks a path,
-//!    `book/blockers.rt` lists whom a session waits for, `book/memory.rt` makes room and gives memory back. `recording.rt` serves one call and adds it to the history.
-//!    `object.rt` makes the book a sequential object, which threads can share; `tending.rt` has what is done with the memory of one that
-//!    is shared.
+//!    `book/blockers.rt` lists whom a session waits for, `book/deadlocks.rt` tells the newest deadlocks,
+//!    `book/memory.rt` does for callers what `lock_table/memory.rt` does. `recording.rt` serves one call and adds it to
+//!    the history. `object.rt` makes the book a sequential object, which threads can share; `tending.rt` has what is
+//!    done with the memory of one that is shared.
 //!
 //! Proved: each reply is that of the sequential lock manager of `lock_rules` in the state that the history leads to,
 //! and a call for which memory is refused changes nothing that callers see. Only tested: that memory follows the
@@ -32,6 +34,7 @@
 mod book;
 mod cell_table;
 mod cells;
+mod deadlock_log;
 mod ended;
 mod holder_columns;
 mod holders;
@@ -48,6 +51,7 @@ mod tending;
 mod waits;
 
 pub use book::{Book, Item, PathLocked, grants, lock_of_level};
+pub use deadlock_log::{Deadlock, Member};
 pub use lock_modes::Mode;
 pub use lock_rules::{
     Call, Claim, ClaimKind, Entry, MAX_LOCKS, MAX_SESSIONS, Reply, Transaction, Why,

@@ -28,11 +28,12 @@ use crate::cells::GivenUp;
 use crate::ended::EndedWaits;
 use crate::lockers::Locker;
 use crate::positions::position_of;
-use crate::waits::{Waits, has_edge, new_waits, set_number};
+use crate::waits::{Waits, edges, has_edge, new_waits, set_number};
 use lock_modes::Mode;
 use lock_rules::{MAX_LOCKS, MAX_SESSIONS, Reply};
 use lock_tree::Resource;
 use std::alloc::{AllocError, Global};
+use waits_for::Rows;
 
 /// The lock table: a cell for each resource that is held or waited for, a locker for each session, and the waits-for
 /// graph.
@@ -129,6 +130,13 @@ impl LockTable {
         ensures { result ≡ (nat_le 1 session && (nat_le 1 other && pairs_of self.now.waits.rows (session - 1) (other - 1))) }
     {
         has_edge(&self.waits, session, other)
+    }
+
+    /// The edges of the waits-for graph.
+    pub(crate) fn edges(&self) -> &Rows
+        ensures { result.now ≡ self.now.waits.rows }
+    {
+        edges(&self.waits)
     }
 
     /// The place of the cell of `parent`, the parent of `resource`. Looks first at the place that the session's

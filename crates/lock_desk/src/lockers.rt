@@ -12,7 +12,7 @@ ghost use Rattle.lock_desk.specs.inner.Requests.{resource_asked, is_fresh, wante
 
 use crate::locks::{HeldLock, Locks};
 use lock_rules::{MAX_LOCKS, Transaction};
-use lock_tree::Resource;
+use lock_tree::{LEVELS, Resource};
 use std::alloc::{AllocError, Global};
 
 /// A waiting request.
@@ -46,17 +46,12 @@ pub struct Locker {
     ghost under: { IsComingUnder wanted held.items } by { IsComingUnder-prop wanted held.items },
 }
 
-/// The places of the cells of the lock last granted at once and of the lock above it. Sessions lock down the tree and
-/// then along its leaves, so one of the two is likely the parent of the next lock. A place is only a guess: the cell
-/// table tests it.
+/// For each level the place of the cell of the lock there that was last granted at once. Sessions lock down the tree, so the
+/// parent of a lock or a conversion is likely the last lock of the level above. A place is only a guess: the cell table tests it.
 #[derive(Clone, Copy, Debug, PartialEq, Eq)]
 pub struct ParentHint {
-    /// The level of the lock last granted at once, 0 if there was none.
-    level: u8,
-    /// The place of its cell.
-    latest: usize,
-    /// The place of the cell of its likely parent.
-    above: usize,
+    /// At index `level - 1` the place of the level, 0 if there was none.
+    places: [usize; LEVELS],
 }
 
 /// The resource of the request.
@@ -133,9 +128,7 @@ impl Locker {
             held: Locks::new(alloc, seed),
             wanted: None,
             parent_hint: ParentHint {
-                level: 0,
-                latest: 0,
-                above: 0,
+                places: [0; LEVELS],
             },
         }
     }
@@ -250,10 +243,11 @@ impl Locker {
 
     /// The likely place of the cell of the parent of `resource`: a guess.
     pub(crate) fn likely_parent(&self, resource: Resource) -> usize {
-        if resource.level() > self.parent_hint.level {
-            self.parent_hint.latest
+        let above = (resource.level() as usize).wrapping_sub(2);
+        if above < LEVELS {
+            self.parent_hint.places[above]
         } else {
-            self.parent_hint.above
+            0
         }
     }
 
@@ -274,11 +268,10 @@ impl Locker {
         requires room { 0 < self.old.held.room }
         ensures { standing_of self.new ≡ standing_after_asking true resource (standing_of self.old) }
     {
-        self.parent_hint = ParentHint {
-            level: resource.level(),
-            latest: place,
-            above: self.likely_parent(resource),
-        };
+        let own = (resource.level() as usize).wrapping_sub(1);
+        if own < LEVELS {
+            self.parent_hint.places[own] = place;
+        }
         self.held.push(resource, place);
     }
 

@@ -4,26 +4,33 @@ ghost use Rattle.std.specs.Prelude.{◌≡◌, ℕ, ◌≤◌, ◌||◌, [], ◌
 ghost use Rattle.lock_rules.specs.Step.{step};
 ghost use Rattle.lock_rules.specs.Ended.{has_ended};
 ghost use Rattle.lock_rules.specs.Legal.{state_of};
+ghost use Rattle.lock_desk.specs.Deadlocks.{AreDeadlocksTold, deadlocks_in, newest};
 ghost use Rattle.lock_desk.specs.inner.Ended.{is_ended};
+ghost use Rattle.lock_desk.specs.inner.Noting.{IsLogFor};
 ghost use Rattle.lock_desk.specs.inner.Runs.{AreKept};
 
+use crate::deadlock_log::DeadlockLog;
 use crate::lock_table::LockTable;
 use lock_rules::{Call, Entry, Reply};
 use std::alloc::AllocError;
 use trimmed_list::TrimmedList;
 
 /// Serves one call of `session`, adds the call with its reply to the history, and lists the other sessions whose wait it has
-/// ended. If memory is refused, the history and the list are unchanged, and nothing that contracts see of the table changes.
+/// ended, and notes the deadlocks that it made. If memory is refused, history, list and log are unchanged, and nothing that
+/// contracts see of the table changes.
 #[inline(always)]
 pub(crate) fn serve_recorded(
     table: &mut LockTable,
     history: &mut TrimmedList<Entry>,
+    log: &mut DeadlockLog,
     session: u16,
     call: Call,
 ) -> Result<Reply, AllocError>
     requires some { 1 ≤ session }
     requires within { session ≤ vec_len table.old.lockers }
     requires kept { AreKept table.old history.old.items }
+    requires log { IsLogFor (vec_len table.old.lockers) log.old }
+    requires told { AreDeadlocksTold (newest log.old.most (deadlocks_in history.old.items)) log.old.told }
     ensures kept { AreKept table.new history.new.items }
     ensures lockers { vec_len table.new.lockers ≡ vec_len table.old.lockers }
     ensures cut { history.new.cut ≡ history.old.cut }
@@ -37,10 +44,14 @@ pub(crate) fn serve_recorded(
         ≡ (is_ended table.old.ended u || has_ended session (state_of history.old.items) outcome.state u)) }
     ensures err { OnErr result (history.new.items ≡ history.old.items) }
     ensures ended_kept { OnErr result (table.new.ended ≡ table.old.ended) }
+    ensures most { log.new.most ≡ log.old.most }
+    ensures log { IsLogFor (vec_len table.new.lockers) log.new }
+    ensures told { AreDeadlocksTold (newest log.new.most (deadlocks_in history.new.items)) log.new.told }
 {
     history.reserve(1)?;
     let asked = call;
-    let reply = table.serve(session, call)?;
+    let served = history.count();
+    let reply = table.serve(session, call, served, log)?;
     history.push_reserved(Entry {
         session,
         call: asked,

@@ -339,6 +339,13 @@ pub(crate) fn follow_grants(waits: &mut Waits, granted: &[SessionMode], behind: 
     }
 }
 
+/// The edges of the graph.
+pub(crate) fn edges(waits: &Waits) -> &Rows
+    ensures { result.now ≡ waits.now.rows }
+{
+    &waits.rows
+}
+
 /// Whether the graph has an edge from `session` to `other`. False if there is no such session.
 pub(crate) fn has_edge(waits: &Waits, session: u16, other: u16) -> bool
     ensures { result ≡ (nat_le 1 session && (nat_le 1 other && pairs_of waits.now.rows (session - 1) (other - 1))) }

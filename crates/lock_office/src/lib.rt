@@ -24,7 +24,9 @@ pub use combining::{
 pub use has_book::HasBook;
 pub use lock_board::{Knowledge, Ticket as Session};
 use lock_desk::{Book, Entry, Reply};
-pub use opening::{book_keeping, book_seeded, open_keeping, open_seeded};
+pub use opening::{
+    book_keeping, book_seeded, book_telling, open_keeping, open_seeded, open_telling,
+};
 pub use paths::{NextOfPath, PathPerformed, WhileGranted, lock_path, path_turn};
 
 /// A lock table that threads share by reference, each with sessions of its own.

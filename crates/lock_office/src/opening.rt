@@ -45,6 +45,28 @@ pub fn book_seeded(alloc: Global, sessions: u16, bound: u64, seed: u64) -> Resul
     Ok(book)
 }
 
+/// A book as `book_seeded` makes it, which keeps the newest `deadlocks` deadlocks, as `Book::keep_deadlocks` says.
+pub fn book_telling(
+    alloc: Global,
+    sessions: u16,
+    bound: u64,
+    seed: u64,
+    deadlocks: usize,
+) -> Result<Book, OpenFault>
+    ensures none { (result ≡ Err OpenFault.NoSessions) ↔ (sessions ≡ 0) }
+    ensures many { (result ≡ Err OpenFault.TooManySessions) ↔ (MAX_SESSIONS < sessions) }
+    ensures sessions { IfOk result (λ book. book.sessions ≡ sessions) }
+    ensures bound { IfOk result (λ book. book.bound ≡ bound) }
+    ensures empty { IfOk result (λ book. book.history ≡ []) }
+    ensures deadlocks { IfOk result (λ book. book.deadlocks ≡ deadlocks) }
+{
+    let mut book = book_seeded(alloc, sessions, bound, seed)?;
+    match book.keep_deadlocks(alloc, deadlocks) {
+        Ok(()) => Ok(book),
+        Err(NoMemory) => Err(OpenFault::NoMemory),
+    }
+}
+
 /// Opens an office as `Office::open` does, whose lock table keeps at most the newest `bound` entries of its history in memory.
 /// Older ones are let go as calls are served, so that the memory of an office follows what is held and waited for. Contracts go
 /// on to see the whole history. With `NO_BOUND` all entries are kept.
@@ -79,6 +101,28 @@ pub fn open_seeded(
     ensures ready { IfOk result (λ made. All (λ session. IsSessionOf made.0 session × IsIdle session) made.1.items) }
 {
     let book = book_seeded(alloc, sessions, bound, seed)?;
+    match Office::share(alloc, book) {
+        Ok(made) => Ok(made),
+        Err(NoMemory) => Err(OpenFault::NoMemory),
+    }
+}
+
+/// Opens an office as `open_seeded` does, whose lock table keeps the newest `deadlocks` deadlocks, which `queries::deadlocks` tells.
+pub fn open_telling(
+    alloc: Global,
+    sessions: u16,
+    bound: u64,
+    seed: u64,
+    deadlocks: usize,
+) -> Result<(Office, Vec<Session>), OpenFault>
+    ensures none { (result ≡ Err OpenFault.NoSessions) ↔ (sessions ≡ 0) }
+    ensures many { (result ≡ Err OpenFault.TooManySessions) ↔ (MAX_SESSIONS < sessions) }
+    ensures office { IfOk result (λ made. made.0.sessions ≡ sessions) }
+    ensures bound { IfOk result (λ made. made.0.bound ≡ bound) }
+    ensures sessions { IfOk result (λ made. made.1.items ≡ new_tickets made.0.id sessions sessions) }
+    ensures ready { IfOk result (λ made. All (λ session. IsSessionOf made.0 session × IsIdle session) made.1.items) }
+{
+    let book = book_telling(alloc, sessions, bound, seed, deadlocks)?;
     match Office::share(alloc, book) {
         Ok(made) => Ok(made),
         Err(NoMemory) => Err(OpenFault::NoMemory),

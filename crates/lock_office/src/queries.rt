@@ -13,12 +13,13 @@ ghost use Rattle.lock_rules.specs.Legal.{state_of};
 ghost use Rattle.lock_rules.specs.Listing.{listing_of, waiting_line};
 ghost use Rattle.publication.specs.Boards.{HasCallsOf};
 ghost use Rattle.combining.specs.Sessions.{IsSessionOf};
+ghost use Rattle.lock_desk.specs.Deadlocks.{AreDeadlocksTold, deadlocks_in, newest};
 ghost use Rattle.lock_desk.specs.Queries.{blockers_among};
 ghost use Rattle.combining.specs.Looks.{IsLooking, HasBegunToLook, HasLooked};
 
 use crate::has_book::HasBook;
 use combining::Office;
-use lock_desk::{Book, Claim, Mode, NoMemory, Resource, Transaction};
+use lock_desk::{Book, Claim, Deadlock, Mode, NoMemory, Resource, Transaction};
 use publication::{Load, Ticket as Session};
 use std::alloc::Global;
 
@@ -285,4 +286,42 @@ pub fn locks<O: HasBook>(
         Ok(()) => Ok(Some(listed.length)),
         Err(refused) => Err(refused),
     }
+}
+
+/// Replaces the contents of `list` by the deadlocks that the book tells, and returns how many it keeps at most. Fails with `NoMemory` if
+/// memory is refused; the contents of `list` are unchanged then.
+fn copy_deadlocks(book: &Book, alloc: Global, list: &mut Vec<Deadlock>) -> Result<usize, NoMemory>
+    ensures ok { IfOk result (λ most. AreDeadlocksTold (newest most (deadlocks_in book.now.history)) list.new.items) }
+    ensures most { IfOk result (λ most. most ≡ book.now.deadlocks) }
+    ensures err { IfErr result (λ _. list.new.items ≡ list.old.items) }
+{
+    book.copy_deadlocks(alloc, list)?;
+    Ok(book.deadlocks_kept())
+}
+
+/// Replaces the contents of `list` by the newest deadlocks, oldest first, as `Book::copy_deadlocks` does. The answer is how many the lock
+/// table keeps at most: if `list` has fewer, it has all deadlocks of the history. `None` in place of an answer is as with `held`.
+///
+/// Says how many calls the history had also where memory is refused: the contents of `list` are unchanged then. While it copies the
+/// deadlocks, no other session can become the combiner. Its cost grows with the number of deadlocks kept and of sessions on their
+/// cycles. That the lock table keeps as many as its office was opened with is only tested, since no contract sees that of an office.
+pub fn deadlocks<O: HasBook>(
+    office: &Office<O>,
+    alloc: Global,
+    session: &mut Session<O>,
+    list: &mut Vec<Deadlock>,
+) -> Option<Snapshot<Result<usize, NoMemory>>>
+    requires ours { IsSessionOf office.now session.old }
+    ensures ours { IsSessionOf office.now session.new }
+    ensures looked { IfSome result (λ _. HasLooked O.Sequential session.old session.new) }
+    ensures length { IfSome result (λ seen. seen.length ≡ length (O.calls session.new.front)) }
+    ensures found { IfSome result (λ seen. IfOk seen.found (λ most. AreDeadlocksTold (newest most (deadlocks_in (O.calls session.new.front))) list.new.items)) }
+    ensures err { IfSome result (λ seen. IfErr seen.found (λ _. list.new.items ≡ list.old.items)) }
+    ensures none { IfNone result ((session.new ≡ session.old) × (list.new.items ≡ list.old.items) × (1 < office.now.sessions)) }
+    ensures calls { HasCallsOf session.new.front session.new }
+{
+    let load = office.look(session)?;
+    let found = copy_deadlocks(load.object.book(), alloc, list);
+    let length = end_look(office, session, load);
+    Some(Snapshot { length, found })
 }

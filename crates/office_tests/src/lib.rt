@@ -9,6 +9,8 @@ mod calls;
 #[cfg(test)]
 mod closing;
 #[cfg(test)]
+mod deadlocks;
+#[cfg(test)]
 mod hearing;
 #[cfg(test)]
 mod offices;

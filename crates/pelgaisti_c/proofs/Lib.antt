@@ -7,6 +7,7 @@ pub mod Batches
 pub mod Programs
 pub mod Starved
 pub mod Blockers
+pub mod Members
 pub mod SameOffice
 pub mod PathTurns
 pub mod Behind

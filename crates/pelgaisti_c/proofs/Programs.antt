@@ -74,12 +74,12 @@ stop_last (q ∷ []) (suc k) r h n = absurd (omega (arith, n))
 stop_last (q ∷ x ∷ rs) zero r h n = absurd (omega (arith, n))
 stop_last (q ∷ x ∷ rs) (suc k) r h n = stop_last (x ∷ rs) k r h (omega (arith, n))
 
-abbrev as_book : ℕ → List Entry → ℕ → ℕ → List ℕ → BookView
-as_book n h c b e = record { sessions = n; history = h; cut = c; bound = b; ended = e }
+abbrev as_book : ℕ → List Entry → ℕ → ℕ → List ℕ → ℕ → BookView
+as_book n h c b e t = record { sessions = n; history = h; cut = c; bound = b; ended = e; deadlocks = t }
 
 -- a book with other entries, and the same sessions and the same bounds of its history
-same_book : (n m c d b a : ℕ) (h l : List Entry) (e : List ℕ) → n ≡ m → c ≡ d → b ≡ a → h ≡ l → as_book n h c b e ≡ as_book m l d a e
-same_book n m c d b a h l e i j k g = cc
+same_book : (n m c d b a t : ℕ) (h l : List Entry) (e : List ℕ) → n ≡ m → c ≡ d → b ≡ a → h ≡ l → as_book n h c b e t ≡ as_book m l d a e t
+same_book n m c d b a t h l e i j k g = cc
 
 -- a program that was run on a history was run on the book
 pub run_on_book : (before after : BookView) (s : ℕ) (p : Program) (a : Answer) → RunOn program_form s p before.history after.history a
@@ -89,7 +89,7 @@ run_on_book before after s p a h i j k legal told = record {
   place = h.first;
   run = h.run;
   history =
-      same_book after.sessions before.sessions after.cut before.cut after.bound before.bound after.history (before.history ++ entries s (calls_of p) (replies_of p a)) after.ended i j k h.history;
+      same_book after.sessions before.sessions after.cut before.cut after.bound before.bound after.deadlocks after.history (before.history ++ entries s (calls_of p) (replies_of p a)) after.ended i j k h.history;
   legal = legal;
   ended = told;
 }

@@ -16,6 +16,10 @@ use Rattle.pelgaisti_c.specs.declared.numbers.AnswerNumbers.{AnswerNumbers}
 use Rattle.pelgaisti_c.specs.contracts.numbers.AnswerNumbers.{the_row as answer_row}
 use Rattle.pelgaisti_c.specs.declared.claims.ClaimNumbers.{ClaimNumbers}
 use Rattle.pelgaisti_c.specs.contracts.claims.ClaimNumbers.{the_row as claim_row}
+use Rattle.pelgaisti_c.specs.declared.deadlock_numbers.DeadlockNumbers.{DeadlockNumbers}
+use Rattle.pelgaisti_c.specs.contracts.deadlock_numbers.DeadlockNumbers.{the_row as deadlock_row}
+use Rattle.pelgaisti_c.specs.declared.deadlock_numbers.MemberNumbers.{MemberNumbers}
+use Rattle.pelgaisti_c.specs.contracts.deadlock_numbers.MemberNumbers.{the_row as member_row}
 use Rattle.pelgaisti_c.specs.declared.numbers.PassNumbers.{PassNumbers}
 use Rattle.pelgaisti_c.specs.contracts.numbers.PassNumbers.{the_row as pass_row}
 use Rattle.pelgaisti_c.specs.declared.program_numbers.ProgramNumbers.{ProgramNumbers}
@@ -104,6 +108,9 @@ resource_shared = maybe_shared resource_row
 abbrev pub claims_behind : ℕ → Ptr → List ClaimNumbers → Fml
 claims_behind = list_at claim_row
 
+abbrev pub deadlocks_behind : ℕ → Ptr → List DeadlockNumbers → Fml
+deadlocks_behind = list_at deadlock_row
+
 abbrev pub entries_behind : ℕ → Ptr → List EntryNumbers → Fml
 entries_behind = list_at entry_row
 
@@ -112,6 +119,9 @@ handles_behind = list_at session_handle_row
 
 abbrev pub holders_behind : ℕ → Ptr → List HolderNumbers → Fml
 holders_behind = list_at holder_row
+
+abbrev pub members_behind : ℕ → Ptr → List MemberNumbers → Fml
+members_behind = list_at member_row
 
 abbrev pub sessions_behind : ℕ → Ptr → List ℕ → Fml
 sessions_behind = list_at u32
@@ -144,6 +154,9 @@ transaction_coded = transaction_row.coded
 abbrev pub claims_coded : Coded (List ClaimNumbers)
 claims_coded = coded_list claim_row.coded
 
+abbrev pub deadlocks_coded : Coded (List DeadlockNumbers)
+deadlocks_coded = coded_list deadlock_row.coded
+
 abbrev pub entries_coded : Coded (List EntryNumbers)
 entries_coded = coded_list entry_row.coded
 
@@ -152,6 +165,9 @@ handles_coded = coded_list session_handle_row.coded
 
 abbrev pub holders_coded : Coded (List HolderNumbers)
 holders_coded = coded_list holder_row.coded
+
+abbrev pub members_coded : Coded (List MemberNumbers)
+members_coded = coded_list member_row.coded
 
 abbrev pub sessions_coded : Coded (List ℕ)
 sessions_coded = coded_list u32.coded

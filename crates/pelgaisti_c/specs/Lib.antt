@@ -10,6 +10,7 @@ pub mod Turns
 pub mod PathTurns
 pub mod ProgramTurns
 pub mod Queries
+pub mod Deadlocks
 pub mod EndedLists
 pub mod Offices
 pub mod Behind

@@ -127,7 +127,8 @@ numbers_of_answer p a = record {
 pub record HasRun (before after : BookView) (s : ℕ) (p : Program) (a : Answer) : Type 0 where
   pub place : a.first ≡ length before.history
   pub run : IsAnswer program_form p a
-  pub history : after ≡ record before { history = before.history ++ entries s (calls_of p) (replies_of p a); ended = after.ended }
+  -- how many deadlocks the book keeps is said neither to change nor to stay
+  pub history : after ≡ record before { history = before.history ++ entries s (calls_of p) (replies_of p a); ended = after.ended; deadlocks = after.deadlocks }
   pub legal : IsLegal after.history
   pub ended : TellsFrom after (length before.history)
 

@@ -36,7 +36,7 @@ pub extern "C" fn pelgaisti_raw_book_open(
     seed: u64,
 ) -> u32
     ensures null { result ≡ NULL_POINTER ↔ (book.old.at ≡ null_ptr) }
-    ensures ok { result ≡ OK → (book.new.behind.is_open ≡ 1) × (book.new.behind.held.book ≡ Some (record { sessions = sessions; history = []; cut = 0; bound = NO_BOUND; ended = [] })) }
+    ensures ok { result ≡ OK → (book.new.behind.is_open ≡ 1) × (book.new.behind.held.book ≡ Some (record { sessions = sessions; history = []; cut = 0; bound = NO_BOUND; ended = []; deadlocks = 0 })) }
     ensures failed { result ≢ OK → book.new.behind ≡ book.old.behind }
     ensures open { result ≢ NULL_POINTER → (result ≡ OPEN ↔ (book.old.behind.is_open ≡ 1)) }
     ensures count { result ≡ NO_SUCH_COUNT → (book.old.behind.is_open ≢ 1) × ¬ ((1 ≤ sessions) × (sessions ≤ MAX_SESSIONS)) }

@@ -13,7 +13,7 @@ use crate::session_handle::SessionHandle;
 use crate::session_share::SessionShare;
 use crate::status::{NO_MEMORY, NO_SUCH_COUNT, NULL_POINTER, OK, OPEN};
 use lock_rules::MAX_SESSIONS;
-use program_office::{CallSession, Counted, Ended, Office, Session, open_keeping};
+use program_office::{CallSession, Counted, Ended, Office, Session, open_telling};
 use std::alloc::{AllocError, Global};
 use std::sync::Arc;
 
@@ -114,7 +114,8 @@ fn open_handles(handles: &mut [SessionHandle], shares: Vec<Box<SessionShare>>)
 
 /// Opens the handles as the sessions of a new office, in their order. The handles must be closed. No other open office
 /// should have this mark. Its lock table keeps at most the newest `bound` entries of its history in memory. `waker` is the address of
-/// what wakes threads, which is the caller's alone to use; 0 means that there is none. The lock table hashes resources with the seed.
+/// what wakes threads, which is the caller's alone to use; 0 means that there is none. The lock table hashes resources with the seed, and
+/// keeps the newest `deadlocks` deadlocks: how many it keeps is only tested, since no contract sees that of an office.
 #[unsafe(no_mangle)]
 pub extern "C" fn pelgaisti_raw_office_open(
     alloc: Global,
@@ -123,6 +124,7 @@ pub extern "C" fn pelgaisti_raw_office_open(
     bound: u64,
     waker: u64,
     seed: u64,
+    deadlocks: usize,
 ) -> u32
     ensures null { result ≡ NULL_POINTER ↔ (sessions.old.at ≡ null_ptr) }
     ensures ok { result ≡ OK → (office : BoardView) × (office.sessions ≡ length sessions.old.behind) × AreSessionsOf office mark waker sessions.new.behind }
@@ -143,7 +145,7 @@ pub extern "C" fn pelgaisti_raw_office_open(
     if has_open(sessions) {
         return OPEN;
     }
-    let Ok((office, made)) = open_keeping(alloc, count as u16, bound, seed) else {
+    let Ok((office, made)) = open_telling(alloc, count as u16, bound, seed, deadlocks) else {
         return NO_MEMORY;
     };
     let Ok(shares) = shares_of(alloc, office, made, count as u16, mark, waker) else {

@@ -16,7 +16,9 @@ mod structs;
 pub use constants::{CallPointer, ProgramPointer, ResourcePointer};
 pub use handles::{BookPointer, SessionPointer};
 pub use integers::{SizePointer, U32Pointer, U64Pointer};
-pub use lists::{ClaimList, EntryList, HandleList, HolderList, SessionList};
+pub use lists::{
+    ClaimList, DeadlockList, EntryList, HandleList, HolderList, MemberList, SessionList,
+};
 pub use structs::{
     AnswerPointer, ClaimPointer, PassPointer, ProgramAnswerPointer, ReplyPointer,
     TransactionPointer,

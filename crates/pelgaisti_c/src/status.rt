@@ -71,3 +71,6 @@ pub const NOT_ON_PATH: u32 = 22;
 
 /// No mode has the code that a program has for the ancestors.
 pub const NO_SUCH_ABOVE: u32 = 23;
+
+/// The book has served calls already.
+pub const SERVED: u32 = 24;

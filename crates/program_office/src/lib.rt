@@ -25,7 +25,7 @@ pub use combining::{
 };
 use lock_desk::{Book, Entry};
 pub use lock_programs::{Answer as ProgramAnswer, CALLS, Last, Program, Start, Stop};
-pub use opening::open_keeping;
+pub use opening::{open_keeping, open_telling};
 pub use paths::{levels_granted, path_program};
 use programs::Programs;
 pub use single::reply_of_one;

@@ -1,7 +1,8 @@
 //! Sets of sessions, a bit for each session.
 
-ghost use Rattle.std.specs.Prelude.{◌≡◌, ℕ, ◌<◌, ◌||◌, not, ◌==◌, false, IfOk};
+ghost use Rattle.std.specs.Prelude.{◌≡◌, ℕ, ◌<◌, ◌||◌, not, ◌==◌, false, IfOk, length};
 ghost use Rattle.waits_for.specs.Marks.{is_marked};
+ghost use Rattle.waits_for.specs.inner.Bits.{has_bit, words_for};
 
 use crate::NoMemory;
 use crate::bits::{clear, has, set, words_for};
@@ -59,5 +60,13 @@ impl Marks {
         ensures none { (t : ℕ) → is_marked self.new t ≡ false }
     {
         clear(&mut self.words, 0, words_for(self.sessions));
+    }
+
+    /// The set as bits.
+    pub(crate) fn words(&self) -> &[u64]
+        ensures room { length result.now ≡ words_for self.now.sessions }
+        ensures bits { (t : ℕ) → t < self.now.sessions → has_bit result.now t ≡ is_marked self.now t }
+    {
+        &self.words
     }
 }

@@ -1,10 +1,12 @@
 //! The waits-for graph, its updates and its queries.
 
-ghost use Rattle.std.specs.Prelude.{◌≡◌, ℕ, ◌<◌, ◌≤◌, ◌↔◌, ◌&&◌, ◌||◌, not, ◌==◌, false, true, IfOk, IfSome, IsSome, IsTrue, EachIndex, slice_index, length};
+ghost use Rattle.std.specs.Prelude.{◌≡◌, ℕ, ◌<◌, ◌≤◌, ◌↔◌, ◌&&◌, ◌||◌, not, ◌==◌, false, true, IfOk, IfNone, IfSome, IsSome, IsTrue, EachIndex, slice_index, length};
 ghost use Rattle.waits_for.specs.Pairs.{is_met, pairs_of};
+ghost use Rattle.waits_for.specs.Marks.{is_marked};
 ghost use Rattle.waits_for.specs.Walks.{Reaches, IsYoungestOnCircle};
 
-use crate::bits::{has, have_common, set, unset, words_for};
+use crate::bits::{has, have_common, next_new, set, unset, words_for};
+use crate::marks::Marks;
 use crate::matrix::Matrix;
 use crate::search::{find_reached, find_youngest, is_waited_for};
 use crate::{MAX_SESSIONS, NoMemory};
@@ -171,6 +173,25 @@ impl Rows {
         ensures pairs { result ≡ pairs_of self.now t u }
     {
         has(self.matrix.row(t), u)
+    }
+
+    /// The least position, `from` or behind it, of a session that the session at position `t` waits for directly and that isn't
+    /// marked. `None` if there is none.
+    ///
+    /// Reads a word for each 64 sessions from `from` up to the one that is found.
+    pub fn first_unmarked(&self, t: usize, from: usize, marks: &Marks) -> Option<usize>
+        requires t_below { t < self.now.sessions }
+        requires sessions { marks.now.sessions ≡ self.now.sessions }
+        ensures some { IfSome result (λ u. (from ≤ u) × (pairs_of self.now t u ≡ true) × (is_marked marks.now u ≡ false)) }
+        ensures least { IfSome result (λ u. (j : ℕ) → from ≤ j → j < u → pairs_of self.now t j ≡ true → is_marked marks.now j ≡ true) }
+        ensures none { IfNone result ((j : ℕ) → from ≤ j → pairs_of self.now t j ≡ true → is_marked marks.now j ≡ true) }
+    {
+        let sessions = self.matrix.sessions() as usize;
+        if from >= sessions {
+            return None;
+        }
+        let u = next_new(self.matrix.row(t), marks.words(), from, sessions);
+        if u < sessions { Some(u) } else { None }
     }
 
     /// Whether the session at position `t` waits for the session at position `u`, directly or through others. A

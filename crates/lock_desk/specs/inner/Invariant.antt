@@ -4,14 +4,17 @@ use Rattle.std.specs.List.{All}
 use Rattle.waits_for.specs.declared.TheConstants.{MAX_SESSIONS}
 use Rattle.lock_rules.specs.Legal.{state_of, IsLegal}
 use Rattle.lock_desk.specs.BookView.{BookView}
+use Rattle.lock_desk.specs.Deadlocks.{AreDeadlocksTold, deadlocks_in, newest}
 use Rattle.sequential.specs.Histories.{IsEntryWithin}
 use Rattle.lock_desk.specs.inner.Ended.{ended_in}
 use Rattle.lock_desk.specs.inner.Changes.{IsWhole}
+use Rattle.lock_desk.specs.inner.Noting.{IsLogFor}
 use Rattle.lock_desk.specs.inner.Ready.{IsReadyTable}
 use Rattle.lock_desk.specs.inner.Shows.{Shows}
 use Rattle.lock_desk.specs.declared.book.Book.TheInside.{Inside}
 
--- what contracts see of a book: its number of sessions, its history, which entries are kept, and whose wait has ended
+-- what contracts see of a book: its number of sessions, its history, which entries are kept, whose wait has ended, and how many
+-- deadlocks are kept
 abbrev pub book_view_of : Inside → BookView
 book_view_of a = record {
   sessions = a.sessions;
@@ -19,10 +22,11 @@ book_view_of a = record {
   cut = a.history.cut;
   bound = a.history.bound;
   ended = ended_in a.lock_table.ended;
+  deadlocks = a.deadlocks.most;
 }
 
--- the history is legal, the lock table represents the state that the history leads to, and there is a locker and a mark
--- for each session
+-- the history is legal, the lock table represents the state that the history leads to, there is a locker and a mark for each
+-- session, and the log tells the newest deadlocks
 pub record IsKept (a : Inside) : Type 0 where
   pub some : 1 ≤ a.sessions
   pub few : a.sessions ≤ MAX_SESSIONS
@@ -34,3 +38,5 @@ pub record IsKept (a : Inside) : Type 0 where
   pub lockers : vec_len a.lock_table.lockers ≡ a.sessions
   pub counted : a.lock_table.count ≤ length a.history.items
   pub marked : a.marks.sessions ≡ a.sessions
+  pub log : IsLogFor (vec_len a.lock_table.lockers) a.deadlocks
+  pub told : AreDeadlocksTold (newest a.deadlocks.most (deadlocks_in a.history.items)) a.deadlocks.told

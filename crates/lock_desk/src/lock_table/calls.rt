@@ -6,11 +6,14 @@ ghost use Rattle.lock_rules.specs.declared.calls.Call.TheVariants.{Begin, Lock, 
 ghost use Rattle.lock_rules.specs.State.{State};
 ghost use Rattle.lock_rules.specs.Step.{step};
 ghost use Rattle.lock_rules.specs.Sound.{IsNumbered, IsSound};
+ghost use Rattle.lock_desk.specs.Deadlocks.{deadlocks_of, moments_at};
 ghost use Rattle.lock_desk.specs.inner.Cells.{IsPlace};
 ghost use Rattle.lock_desk.specs.inner.Changes.{IsWhole, DoesKeep, IsSameSeen, HasNotedEnded};
+ghost use Rattle.lock_desk.specs.inner.Noting.{HasNoted, IsLogFor};
 ghost use Rattle.lock_desk.specs.inner.Ready.{IsReadyTable};
 ghost use Rattle.lock_desk.specs.inner.Shows.{Shows, DoesAnswer};
 
+use crate::deadlock_log::DeadlockLog;
 use crate::lock_table::LockTable;
 use crate::positions::position_of;
 use lock_modes::Mode;
@@ -82,17 +85,24 @@ impl LockTable {
         session: u16,
         resource: Resource,
         mode: Mode,
+        served: u64,
+        log: &mut DeadlockLog,
     ) -> Result<Reply, AllocError>
         requires some { 1 ≤ session }
         requires within { session ≤ vec_len self.old.lockers }
         requires whole { IsWhole self.old }
         requires ready { IsReadyTable self.old }
+        requires log { IsLogFor (vec_len self.old.lockers) log.old }
         ensures step { (st : State) → IsSound st.table → IsNumbered st → Shows self.old st
             → IfOk result (DoesAnswer (step st session (Lock resource mode)) self.new) }
         ensures err { OnErr result (IsSameSeen self.old self.new) }
         ensures waits_ended { HasNotedEnded session self.old self.new }
         ensures count { self.new.count ≤ self.old.count + 1 }
         ensures kept { DoesKeep self.old self.new }
+        ensures log { IsLogFor (vec_len self.old.lockers) log.new }
+        ensures noted { (st : State) → IsSound st.table → IsNumbered st → Shows self.old st
+            → IfOk result (λ _. HasNoted (moments_at served session (deadlocks_of st session (Lock resource mode))) log.old log.new) }
+        ensures unnoted { OnErr result (log.new ≡ log.old) }
     {
         if let Some(why) = self.idle_refusal(session) {
             return Ok(Reply::Refused(why));
@@ -102,7 +112,7 @@ impl LockTable {
         if let Some(why) = self.lock_refusal(session, held, resource, mode) {
             return Ok(Reply::Refused(why));
         }
-        self.ask(session, place, resource, held, mode)
+        self.ask(session, place, resource, held, mode, served, log)
     }
 
     /// Requests the conversion of a lock on `resource`, to the least mode at or above `mode` and what the session
@@ -112,17 +122,24 @@ impl LockTable {
         session: u16,
         resource: Resource,
         mode: Mode,
+        served: u64,
+        log: &mut DeadlockLog,
     ) -> Result<Reply, AllocError>
         requires some { 1 ≤ session }
         requires within { session ≤ vec_len self.old.lockers }
         requires whole { IsWhole self.old }
         requires ready { IsReadyTable self.old }
+        requires log { IsLogFor (vec_len self.old.lockers) log.old }
         ensures step { (st : State) → IsSound st.table → IsNumbered st → Shows self.old st
             → IfOk result (DoesAnswer (step st session (Convert resource mode)) self.new) }
         ensures err { OnErr result (IsSameSeen self.old self.new) }
         ensures waits_ended { HasNotedEnded session self.old self.new }
         ensures count { self.new.count ≤ self.old.count + 1 }
         ensures kept { DoesKeep self.old self.new }
+        ensures log { IsLogFor (vec_len self.old.lockers) log.new }
+        ensures noted { (st : State) → IsSound st.table → IsNumbered st → Shows self.old st
+            → IfOk result (λ _. HasNoted (moments_at served session (deadlocks_of st session (Convert resource mode))) log.old log.new) }
+        ensures unnoted { OnErr result (log.new ≡ log.old) }
     {
         let likely = self.likely_converted(session, resource);
         if let Some(why) = self.idle_refusal(session) {
@@ -136,7 +153,7 @@ impl LockTable {
         if let Some(why) = self.convert_refusal(session, held, resource, mode) {
             return Ok(Reply::Refused(why));
         }
-        self.ask(session, place, resource, held, mode)
+        self.ask(session, place, resource, held, mode, served, log)
     }
 
     /// Requests a lock as `serve_lock` does, but is refused if the request would wait. If memory is refused, nothing that
@@ -147,17 +164,24 @@ impl LockTable {
         session: u16,
         resource: Resource,
         mode: Mode,
+        served: u64,
+        log: &mut DeadlockLog,
     ) -> Result<Reply, AllocError>
         requires some { 1 ≤ session }
         requires within { session ≤ vec_len self.old.lockers }
         requires whole { IsWhole self.old }
         requires ready { IsReadyTable self.old }
+        requires log { IsLogFor (vec_len self.old.lockers) log.old }
         ensures step { (st : State) → IsSound st.table → IsNumbered st → Shows self.old st
             → IfOk result (DoesAnswer (step st session (Try resource mode)) self.new) }
         ensures err { OnErr result (IsSameSeen self.old self.new) }
         ensures waits_ended { HasNotedEnded session self.old self.new }
         ensures count { self.new.count ≤ self.old.count + 1 }
         ensures kept { DoesKeep self.old self.new }
+        ensures log { IsLogFor (vec_len self.old.lockers) log.new }
+        ensures noted { (st : State) → IsSound st.table → IsNumbered st → Shows self.old st
+            → IfOk result (λ _. HasNoted (moments_at served session (deadlocks_of st session (Try resource mode))) log.old log.new) }
+        ensures unnoted { OnErr result (log.new ≡ log.old) }
     {
         if let Some(why) = self.idle_refusal(session) {
             return Ok(Reply::Refused(why));
@@ -167,7 +191,7 @@ impl LockTable {
         if let Some(why) = self.try_refusal(session, place, held, resource, mode) {
             return Ok(Reply::Refused(why));
         }
-        self.ask(session, place, resource, held, mode)
+        self.ask(session, place, resource, held, mode, served, log)
     }
 
     /// Takes the session's waiting request back.
@@ -285,12 +309,20 @@ impl LockTable {
         Reply::Restarted(self.restart(session) as u32)
     }
 
-    /// Serves one call of `session`. If memory is refused, nothing that contracts see changes.
-    pub(crate) fn serve(&mut self, session: u16, call: Call) -> Result<Reply, AllocError>
+    /// Serves one call of `session`, and notes the deadlocks that it makes in `log`; `served` is the place of the call in the
+    /// history. If memory is refused, nothing that contracts see changes.
+    pub(crate) fn serve(
+        &mut self,
+        session: u16,
+        call: Call,
+        served: u64,
+        log: &mut DeadlockLog,
+    ) -> Result<Reply, AllocError>
         requires some { 1 ≤ session }
         requires within { session ≤ vec_len self.old.lockers }
         requires whole { IsWhole self.old }
         requires ready { IsReadyTable self.old }
+        requires log { IsLogFor (vec_len self.old.lockers) log.old }
         requires room { self.old.count < 18446744073709551615 }
         ensures step { (st : State) → IsSound st.table → IsNumbered st → Shows self.old st
             → IfOk result (DoesAnswer (step st session call) self.new) }
@@ -301,16 +333,22 @@ impl LockTable {
         ensures whole { IsWhole self.new }
         ensures ready { IsReadyTable self.new }
         ensures len { vec_len self.new.lockers ≡ vec_len self.old.lockers }
+        ensures log { IsLogFor (vec_len self.old.lockers) log.new }
+        ensures noted { (st : State) → IsSound st.table → IsNumbered st → Shows self.old st
+            → IfOk result (λ _. HasNoted (moments_at served session (deadlocks_of st session call)) log.old log.new) }
+        ensures unnoted { OnErr result (log.new ≡ log.old) }
     {
         match call {
             Call::Begin => Ok(self.serve_begin(session)),
-            Call::Lock(resource, mode) => self.serve_lock(session, resource, mode),
-            Call::Convert(resource, mode) => self.serve_convert(session, resource, mode),
+            Call::Lock(resource, mode) => self.serve_lock(session, resource, mode, served, log),
+            Call::Convert(resource, mode) => self.serve_convert(
+                session, resource, mode, served, log,
+            ),
             Call::Poll => Ok(self.serve_poll(session)),
             Call::Release(resource) => Ok(self.serve_release(session, resource)),
             Call::Commit => Ok(self.serve_commit(session)),
             Call::Abort => Ok(self.serve_abort(session)),
-            Call::Try(resource, mode) => self.serve_try(session, resource, mode),
+            Call::Try(resource, mode) => self.serve_try(session, resource, mode, served, log),
             Call::Withdraw => Ok(self.serve_withdraw(session)),
             Call::Restart => Ok(self.serve_restart(session)),
         }

@@ -4,10 +4,13 @@ ghost use Rattle.std.specs.Prelude.{◌≡◌, ◌+◌, ◌≤◌, vec_len};
 ghost use Rattle.lock_rules.specs.State.{State};
 ghost use Rattle.lock_rules.specs.Waits.{after_victims};
 ghost use Rattle.lock_rules.specs.Sound.{IsNumbered, IsSound};
+ghost use Rattle.lock_desk.specs.Deadlocks.{deadlocked_states, moments_at};
 ghost use Rattle.lock_desk.specs.inner.Changes.{IsWhole, DoesKeep, HasCancelled, HasDoomed, HasNotedEnded};
+ghost use Rattle.lock_desk.specs.inner.Noting.{HasNoted, IsLogFor};
 ghost use Rattle.lock_desk.specs.inner.Ready.{IsReadyTable};
 ghost use Rattle.lock_desk.specs.inner.Shows.{Shows};
 
+use crate::deadlock_log::DeadlockLog;
 use crate::lock_table::LockTable;
 use crate::positions::position_of;
 use crate::waits::victim;
@@ -47,12 +50,14 @@ impl LockTable {
     /// Dooms victims until `session` is on no cycle of the waits-for graph.
     ///
     /// Each victim is the youngest transaction on a cycle with `session`. A victim waited before and doesn't wait
-    /// any more, so there are at most as many victims as sessions, and the last round finds no cycle.
-    fn resolve_deadlocks(&mut self, session: u16)
+    /// any more, so there are at most as many victims as sessions, and the last round finds no cycle. Notes the deadlock of
+    /// each victim in `log`; `place` is the place of the call in the history.
+    fn resolve_deadlocks(&mut self, session: u16, place: u64, log: &mut DeadlockLog)
         requires some { 1 ≤ session }
         requires within { session ≤ vec_len self.old.lockers }
         requires whole { IsWhole self.old }
         requires ready { IsReadyTable self.old }
+        requires log { IsLogFor (vec_len self.old.lockers) log.old }
         ensures settled { (st : State) → IsSound st.table → IsNumbered st → Shows self.old st
             → Shows self.new (after_victims (vec_len self.old.lockers + 1) session st) }
         ensures whole { IsWhole self.new }
@@ -60,22 +65,27 @@ impl LockTable {
         ensures count { self.new.count ≡ self.old.count }
         ensures len { vec_len self.new.lockers ≡ vec_len self.old.lockers }
         ensures waits_ended { HasNotedEnded 0 self.old self.new }
+        ensures log { IsLogFor (vec_len self.old.lockers) log.new }
+        ensures noted { (st : State) → IsSound st.table → IsNumbered st → Shows self.old st
+            → HasNoted (moments_at place session (deadlocked_states (vec_len self.old.lockers + 1) session st)) log.old log.new }
     {
         for _round in 0..self.lockers.len() + 1 {
             let Some(chosen) = victim(&mut self.waits, session) else {
                 return;
             };
+            log.note(self, place, session, chosen);
             self.doom(chosen);
         }
     }
 
     /// Resolves the deadlocks of `session`, which calls: its own wait isn't noted, if it ends.
     #[inline(never)]
-    pub(super) fn resolve_for(&mut self, session: u16)
+    pub(super) fn resolve_for(&mut self, session: u16, place: u64, log: &mut DeadlockLog)
         requires some { 1 ≤ session }
         requires within { session ≤ vec_len self.old.lockers }
         requires whole { IsWhole self.old }
         requires ready { IsReadyTable self.old }
+        requires log { IsLogFor (vec_len self.old.lockers) log.old }
         ensures settled { (st : State) → IsSound st.table → IsNumbered st → Shows self.old st
             → Shows self.new (after_victims (vec_len self.old.lockers + 1) session st) }
         ensures waits_ended { HasNotedEnded session self.old self.new }
@@ -83,9 +93,12 @@ impl LockTable {
         ensures ready { IsReadyTable self.new }
         ensures count { self.new.count ≡ self.old.count }
         ensures len { vec_len self.new.lockers ≡ vec_len self.old.lockers }
+        ensures log { IsLogFor (vec_len self.old.lockers) log.new }
+        ensures noted { (st : State) → IsSound st.table → IsNumbered st → Shows self.old st
+            → HasNoted (moments_at place session (deadlocked_states (vec_len self.old.lockers + 1) session st)) log.old log.new }
     {
         let was_ended = self.ended.has(session);
-        self.resolve_deadlocks(session);
+        self.resolve_deadlocks(session, place, log);
         if !was_ended {
             self.ended.remove(session);
         }

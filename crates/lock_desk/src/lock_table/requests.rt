@@ -4,12 +4,15 @@ ghost use Rattle.std.specs.Prelude.{◌≡◌, ◌≤◌, true, false, if◌then
 ghost use Rattle.lock_rules.specs.State.{State, held_mode};
 ghost use Rattle.lock_rules.specs.Step.{target_of, is_held, ask};
 ghost use Rattle.lock_rules.specs.Sound.{IsNumbered, IsSound};
+ghost use Rattle.lock_desk.specs.Deadlocks.{deadlocks_of_request, moments_at};
 ghost use Rattle.lock_desk.specs.inner.Cells.{is_granted, IsPlace};
 ghost use Rattle.lock_desk.specs.inner.Changes.{IsWhole, DoesKeep, mode_held, IsSameSeen, CanAsk, MayAsk, CanLock, CanConvert, HasAsked, HasNotedEnded};
+ghost use Rattle.lock_desk.specs.inner.Noting.{HasNoted, IsLogFor};
 ghost use Rattle.lock_desk.specs.inner.Ready.{IsReadyTable};
 ghost use Rattle.lock_desk.specs.inner.Shows.{Shows, DoesAnswer};
 
 use crate::cells::{RequestStatus, SessionMode};
+use crate::deadlock_log::DeadlockLog;
 use crate::lock_table::LockTable;
 use crate::lock_table::refusals::target_of;
 use crate::lockers::Request;
@@ -131,8 +134,8 @@ impl LockTable {
 
     /// Requests `resource` in the least mode at or above `mode` and `held`, and returns the reply.
     ///
-    /// If the request waits, resolves the deadlocks that it closes. So the reply can be `Deadlock`, or `Granted` if
-    /// the end of a victim's request has freed the resource.
+    /// If the request waits, resolves the deadlocks that it closes, and notes them in `log`; `served` is the place of the call in the
+    /// history. So the reply can be `Deadlock`, or `Granted` if the end of a victim's request has freed the resource.
     #[inline(always)]
     pub(super) fn ask(
         &mut self,
@@ -141,6 +144,8 @@ impl LockTable {
         resource: Resource,
         held: Option<Mode>,
         mode: Mode,
+        served: u64,
+        log: &mut DeadlockLog,
     ) -> Result<Reply, AllocError>
         requires some { 1 ≤ session }
         requires within { session ≤ vec_len self.old.lockers }
@@ -149,6 +154,7 @@ impl LockTable {
         requires place { IsPlace resource self.old.cells.entries place }
         requires held { held ≡ mode_held self.old session resource }
         requires may { MayAsk session resource mode self.old }
+        requires log { IsLogFor (vec_len self.old.lockers) log.old }
         ensures ask { (st : State) → IsSound st.table → IsNumbered st → Shows self.old st
             → let held = held_mode st.table session resource in
             IfOk result (DoesAnswer (ask st session resource (target_of held mode)) self.new) }
@@ -158,12 +164,17 @@ impl LockTable {
         ensures whole { IsWhole self.new }
         ensures ready { IsReadyTable self.new }
         ensures len { vec_len self.new.lockers ≡ vec_len self.old.lockers }
+        ensures log { IsLogFor (vec_len self.old.lockers) log.new }
+        ensures noted { (st : State) → IsSound st.table → IsNumbered st → Shows self.old st
+            → let held = held_mode st.table session resource in
+            IfOk result (λ _. HasNoted (moments_at served session (deadlocks_of_request st session resource (target_of held mode))) log.old log.new) }
+        ensures unnoted { OnErr result (log.new ≡ log.old) }
     {
         let target = target_of(held, mode);
         match self.request(session, place, resource, held, target)? {
             RequestStatus::Granted => Ok(Reply::Granted(target)),
             RequestStatus::Waiting => {
-                self.resolve_for(session);
+                self.resolve_for(session, served, log);
                 Ok(self.standing_reply(session, Reply::Granted(target)))
             }
         }

@@ -10,6 +10,7 @@ ghost use Rattle.lock_rules.specs.Entries.{Entry as EntryValue};
 ghost use Rattle.lock_rules.specs.Step.{first_failing};
 ghost use Rattle.lock_desk.specs.Batches.{Item as ItemValue};
 ghost use Rattle.sequential.specs.Batches.{IsItemWithin};
+ghost use Rattle.lock_desk.specs.Deadlocks.{deadlocks_in};
 ghost use Rattle.lock_desk.specs.inner.Ended.{ended_in};
 ghost use Rattle.lock_desk.specs.inner.Changes.{mode_held, lacks_need, call_tests, IsWhole, DoesKeep, IsSameSeen};
 ghost use Rattle.lock_desk.specs.inner.Ready.{IsReadyTable};
@@ -285,6 +286,7 @@ fn grant_item(
     ensures cut { history.new.cut ≡ history.old.cut }
     ensures bound { history.new.bound ≡ history.old.bound }
     ensures room { history.new.room + 1 ≡ history.old.room }
+    ensures deadlocks { deadlocks_in history.new.items ≡ deadlocks_in history.old.items }
     ensures served { (n : ℕ) (batch : List ItemValue) (start : List EntryValue) → AreServed n index batch start (ended_in table.old.ended) history.old.items items.old
         → AreServed n (index + 1) batch start (ended_in table.new.ended) history.new.items items.new }
 {
@@ -320,6 +322,7 @@ fn grant_items(
     ensures bound { history.new.bound ≡ history.old.bound }
     ensures kept { AreKept table.new history.new.items }
     ensures lockers { vec_len table.new.lockers ≡ vec_len table.old.lockers }
+    ensures deadlocks { deadlocks_in history.new.items ≡ deadlocks_in history.old.items }
     ensures served { (n : ℕ) (batch : List ItemValue) (start : List EntryValue) → AreServed n from batch start (ended_in table.old.ended) history.old.items items.old
         → AreServed n run.now.upto batch start (ended_in table.new.ended) history.new.items items.new }
 {
@@ -346,6 +349,7 @@ pub(crate) fn grant_run(
     ensures bound { history.new.bound ≡ history.old.bound }
     ensures kept { AreKept table.new history.new.items }
     ensures lockers { vec_len table.new.lockers ≡ vec_len table.old.lockers }
+    ensures deadlocks { deadlocks_in history.new.items ≡ deadlocks_in history.old.items }
     ensures served { (n : ℕ) (batch : List ItemValue) (start : List EntryValue) → AreServed n from batch start (ended_in table.old.ended) history.old.items items.old
         → AreServed n (if result then run.now.upto else from) batch start (ended_in table.new.ended) history.new.items items.new }
 {

@@ -9,6 +9,10 @@ use Rattle.pelgaisti_c.specs.declared.numbers.AnswerNumbers.{AnswerNumbers}
 use Rattle.pelgaisti_c.specs.contracts.numbers.AnswerNumbers.{the_row as answer_row}
 use Rattle.pelgaisti_c.specs.declared.claims.ClaimNumbers.{ClaimNumbers}
 use Rattle.pelgaisti_c.specs.contracts.claims.ClaimNumbers.{the_row as claim_row}
+use Rattle.pelgaisti_c.specs.declared.deadlock_numbers.DeadlockNumbers.{DeadlockNumbers}
+use Rattle.pelgaisti_c.specs.contracts.deadlock_numbers.DeadlockNumbers.{the_row as deadlock_row}
+use Rattle.pelgaisti_c.specs.declared.deadlock_numbers.MemberNumbers.{MemberNumbers}
+use Rattle.pelgaisti_c.specs.contracts.deadlock_numbers.MemberNumbers.{the_row as member_row}
 use Rattle.pelgaisti_c.specs.declared.numbers.PassNumbers.{PassNumbers}
 use Rattle.pelgaisti_c.specs.contracts.numbers.PassNumbers.{the_row as pass_row}
 use Rattle.pelgaisti_c.specs.declared.program_numbers.ProgramAnswerNumbers.{ProgramAnswerNumbers}
@@ -45,12 +49,16 @@ use Rattle.pelgaisti_c.specs.declared.numbers.HolderNumbers.{HolderNumbers}
 use Rattle.pelgaisti_c.specs.contracts.numbers.HolderNumbers.{the_row as holder_row}
 use Rattle.pelgaisti_c.specs.declared.pointers.lists.ClaimList.{ClaimList}
 use Rattle.pelgaisti_c.specs.contracts.pointers.lists.ClaimList.{the_row as claim_list_row}
+use Rattle.pelgaisti_c.specs.declared.pointers.lists.DeadlockList.{DeadlockList}
+use Rattle.pelgaisti_c.specs.contracts.pointers.lists.DeadlockList.{the_row as deadlock_list_row}
 use Rattle.pelgaisti_c.specs.declared.pointers.lists.EntryList.{EntryList}
 use Rattle.pelgaisti_c.specs.contracts.pointers.lists.EntryList.{the_row as entry_list_row}
 use Rattle.pelgaisti_c.specs.declared.pointers.lists.HandleList.{HandleList}
 use Rattle.pelgaisti_c.specs.contracts.pointers.lists.HandleList.{the_row as handle_list_row}
 use Rattle.pelgaisti_c.specs.declared.pointers.lists.HolderList.{HolderList}
 use Rattle.pelgaisti_c.specs.contracts.pointers.lists.HolderList.{the_row as holder_list_row}
+use Rattle.pelgaisti_c.specs.declared.pointers.lists.MemberList.{MemberList}
+use Rattle.pelgaisti_c.specs.contracts.pointers.lists.MemberList.{the_row as member_list_row}
 use Rattle.pelgaisti_c.specs.declared.pointers.lists.SessionList.{SessionList}
 use Rattle.pelgaisti_c.specs.contracts.pointers.lists.SessionList.{the_row as session_list_row}
 
@@ -92,6 +100,9 @@ lends_of_u64_pointer p r = LendsIf u64_pointer_row u64 p r (λ x. record p.now {
 abbrev pub lends_of_claim_list : MutBor ClaimList → MutBor (List ClaimNumbers) → Fml
 lends_of_claim_list p r = Lends claim_list_row (Array claim_row 0) p r (λ xs. record p.now { behind = xs })
 
+abbrev pub lends_of_deadlock_list : MutBor DeadlockList → MutBor (List DeadlockNumbers) → Fml
+lends_of_deadlock_list p r = Lends deadlock_list_row (Array deadlock_row 0) p r (λ xs. record p.now { behind = xs })
+
 abbrev pub lends_of_entry_list : MutBor EntryList → MutBor (List EntryNumbers) → Fml
 lends_of_entry_list p r = Lends entry_list_row (Array entry_row 0) p r (λ xs. record p.now { behind = xs })
 
@@ -100,6 +111,9 @@ lends_of_handle_list p r = Lends handle_list_row (Array session_handle_row 0) p 
 
 abbrev pub lends_of_holder_list : MutBor HolderList → MutBor (List HolderNumbers) → Fml
 lends_of_holder_list p r = Lends holder_list_row (Array holder_row 0) p r (λ xs. record p.now { behind = xs })
+
+abbrev pub lends_of_member_list : MutBor MemberList → MutBor (List MemberNumbers) → Fml
+lends_of_member_list p r = Lends member_list_row (Array member_row 0) p r (λ xs. record p.now { behind = xs })
 
 abbrev pub lends_of_session_list : MutBor SessionList → MutBor (List ℕ) → Fml
 lends_of_session_list p r = Lends session_list_row (Array u32 0) p r (λ xs. record p.now { behind = xs })

@@ -3,12 +3,15 @@
 ghost use Rattle.std.specs.Prelude.{◌≡◌, ◌≢◌, ◌↔◌, ℕ, IsTrue, List};
 ghost use denote.RawPtr.{Testable, null_ptr};
 ghost use Rattle.pelgaisti_c.specs.declared.claims.ClaimNumbers.{ClaimNumbers};
+ghost use Rattle.pelgaisti_c.specs.declared.deadlock_numbers.DeadlockNumbers.{DeadlockNumbers};
+ghost use Rattle.pelgaisti_c.specs.declared.deadlock_numbers.MemberNumbers.{MemberNumbers};
 ghost use Rattle.pelgaisti_c.specs.declared.numbers.EntryNumbers.{EntryNumbers};
 ghost use Rattle.pelgaisti_c.specs.declared.session_handle.SessionHandle.{SessionHandle};
 ghost use Rattle.pelgaisti_c.specs.declared.numbers.HolderNumbers.{HolderNumbers};
-ghost use Rattle.pelgaisti_c.specs.Behind.{IsNullList, claims_coded, entries_coded, handles_coded, holders_coded, sessions_coded};
+ghost use Rattle.pelgaisti_c.specs.Behind.{IsNullList, claims_coded, deadlocks_coded, entries_coded, handles_coded, holders_coded, members_coded, sessions_coded};
 
 use crate::claims::ClaimNumbers;
+use crate::deadlock_numbers::{DeadlockNumbers, MemberNumbers};
 use crate::numbers::{EntryNumbers, HolderNumbers};
 use crate::session_handle::SessionHandle;
 use std::marker::Model;
@@ -56,6 +59,53 @@ impl ClaimList {
         if room == 0 {
             // A slice of no items must not begin at null either.
             at = self as *mut ClaimList as *mut ClaimNumbers;
+        }
+        unsafe { slice::from_raw_parts_mut(at, room) }
+    }
+}
+
+/// A pointer of C to `room` deadlocks, or null.
+#[repr(C)]
+pub struct DeadlockList {
+    pub at: *mut DeadlockNumbers,
+    pub room: usize,
+    ghost testable: { Testable at },
+    pub ghost behind: { List DeadlockNumbers } by { deadlocks_coded },
+}
+
+impl Model for DeadlockList {
+    ghost use Rattle.pelgaisti_c.specs.Behind.{deadlocks_behind};
+
+    ghost also_owns = { λ p. deadlocks_behind p.room p.at p.behind };
+}
+
+impl DeadlockList {
+    ghost use Rattle.std.specs.Borrow.{sem};
+    ghost use Rattle.pelgaisti_c.specs.inner.Lending.{lends_of_deadlock_list};
+
+    /// Whether the pointer is null and `room` is not 0.
+    pub(crate) fn is_null(&mut self) -> bool
+        ensures value { IsTrue result ↔ IsNullList self.old.at self.old.room }
+        ensures same { self.new ≡ self.old }
+    {
+        if self.room == 0 {
+            return false;
+        }
+        let at = self.at;
+        at == std::ptr::null_mut()
+    }
+
+    /// The `room` deadlocks. If `room` is not 0, the pointer must not be null.
+    pub(crate) fn items(&mut self) -> &mut [DeadlockNumbers]
+        requires not_null { ¬ (IsNullList self.old.at self.old.room) }
+        ensures* lends { sem 𝓛 (lends_of_deadlock_list self.entry result) }
+        ensures value { result.now ≡ self.old.behind }
+    {
+        let room = self.room;
+        let mut at = self.at;
+        if room == 0 {
+            // A slice of no items must not begin at null either.
+            at = self as *mut DeadlockList as *mut DeadlockNumbers;
         }
         unsafe { slice::from_raw_parts_mut(at, room) }
     }
@@ -194,6 +244,53 @@ impl HolderList {
         if room == 0 {
             // A slice of no items must not begin at null either.
             at = self as *mut HolderList as *mut HolderNumbers;
+        }
+        unsafe { slice::from_raw_parts_mut(at, room) }
+    }
+}
+
+/// A pointer of C to `room` members of cycles, or null.
+#[repr(C)]
+pub struct MemberList {
+    pub at: *mut MemberNumbers,
+    pub room: usize,
+    ghost testable: { Testable at },
+    pub ghost behind: { List MemberNumbers } by { members_coded },
+}
+
+impl Model for MemberList {
+    ghost use Rattle.pelgaisti_c.specs.Behind.{members_behind};
+
+    ghost also_owns = { λ p. members_behind p.room p.at p.behind };
+}
+
+impl MemberList {
+    ghost use Rattle.std.specs.Borrow.{sem};
+    ghost use Rattle.pelgaisti_c.specs.inner.Lending.{lends_of_member_list};
+
+    /// Whether the pointer is null and `room` is not 0.
+    pub(crate) fn is_null(&mut self) -> bool
+        ensures value { IsTrue result ↔ IsNullList self.old.at self.old.room }
+        ensures same { self.new ≡ self.old }
+    {
+        if self.room == 0 {
+            return false;
+        }
+        let at = self.at;
+        at == std::ptr::null_mut()
+    }
+
+    /// The `room` members of cycles. If `room` is not 0, the pointer must not be null.
+    pub(crate) fn items(&mut self) -> &mut [MemberNumbers]
+        requires not_null { ¬ (IsNullList self.old.at self.old.room) }
+        ensures* lends { sem 𝓛 (lends_of_member_list self.entry result) }
+        ensures value { result.now ≡ self.old.behind }
+    {
+        let room = self.room;
+        let mut at = self.at;
+        if room == 0 {
+            // A slice of no items must not begin at null either.
+            at = self as *mut MemberList as *mut MemberNumbers;
         }
         unsafe { slice::from_raw_parts_mut(at, room) }
     }

@@ -6,6 +6,7 @@ ghost use Rattle.lock_rules.specs.State.{held_mode, holders};
 ghost use Rattle.lock_rules.specs.Waits.{waits_for};
 ghost use Rattle.lock_rules.specs.Legal.{state_of};
 ghost use Rattle.lock_rules.specs.Listing.{listing_of, waiting_line};
+ghost use Rattle.lock_desk.specs.Deadlocks.{AreDeadlocksTold, deadlocks_in, newest};
 ghost use Rattle.lock_desk.specs.Queries.{blockers_among};
 ghost use Rattle.publication.specs.Boards.{HasCallsOf};
 ghost use Rattle.program_office.specs.ProgramBoards.{flat_history};
@@ -13,7 +14,7 @@ ghost use Rattle.program_office.specs.Sessions.{IsSessionOf, HasLooked};
 
 use crate::Office;
 use crate::call_session::CallSession;
-use lock_desk::{Book, Claim, Mode, NoMemory, Resource, Transaction};
+use lock_desk::{Book, Claim, Deadlock, Mode, NoMemory, Resource, Transaction};
 use lock_office::queries::Snapshot;
 use lock_office::{memory, queries};
 use sequential::Tends;
@@ -161,6 +162,34 @@ impl CallSession {
         self.seen = listed.length;
         match listed.found {
             Ok(()) => Ok(Some(listed.length)),
+            Err(refused) => Err(refused),
+        }
+    }
+
+    /// Replaces the contents of `list` by the newest deadlocks, oldest first, as `queries::deadlocks` does. Returns how many calls the history
+    /// had, and how many deadlocks the lock table keeps at most.
+    pub fn deadlocks(
+        &mut self,
+        office: &Office,
+        alloc: Global,
+        list: &mut Vec<Deadlock>,
+    ) -> Result<Option<Snapshot<usize>>, NoMemory>
+        requires ours { IsSessionOf office.now self.old }
+        ensures ours { IsSessionOf office.now self.new }
+        ensures looked { (seen : _) → result ≡ Ok (Some seen) → HasLooked self.old self.new }
+        ensures length { (seen : _) → result ≡ Ok (Some seen) → seen.length ≡ length (flat_history self.new.front) }
+        ensures found { (seen : _) → result ≡ Ok (Some seen) → AreDeadlocksTold (newest seen.found (deadlocks_in (flat_history self.new.front))) list.new.items }
+        ensures none { result ≡ Ok None → (self.new ≡ self.old) × (list.new.items ≡ list.old.items) × (1 < office.now.sessions) }
+        ensures err { IfErr result (λ _. HasLooked self.old self.new × (list.new.items ≡ list.old.items)) }
+        ensures calls { HasCallsOf self.new.front self.new }
+    {
+        let Some(told) = queries::deadlocks(office, alloc, &mut self.session, list) else {
+            return Ok(None);
+        };
+        let length = told.length;
+        self.seen = length;
+        match told.found {
+            Ok(found) => Ok(Some(Snapshot { length, found })),
             Err(refused) => Err(refused),
         }
     }

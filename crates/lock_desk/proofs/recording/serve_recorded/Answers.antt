@@ -1,9 +1,12 @@
-use Rattle.std.proofs.Common.{◌++◌, ◌∷◌, [], List, ◌∙◌, ap}
+use Rattle.std.proofs.Common.{◌++◌, ◌∷◌, [], List, length, ◌∙◌, sym, ap, subst}
 use Rattle.lock_rules.specs.Entries.{Entry}
 use Rattle.lock_rules.specs.Step.{step}
 use Rattle.lock_rules.specs.Legal.{state_of}
 use Rattle.lock_rules.proofs.Steps.{state-lawful}
 use Rattle.lock_rules.proofs.Owners.{state-numbered}
+use Rattle.lock_desk.specs.Deadlocks.{AreDeadlocksTold, deadlocks_in, newest}
+use Rattle.lock_desk.specs.inner.Noting.{LogView}
+use Rattle.lock_desk.proofs.DeadlocksOfCalls.{told-more}
 use Rattle.lock_desk.proofs.BookInvariant.{kept-more, kept-same, waits_ended-ends}
 use Rattle.lock_desk.proofs.recording.serve_recorded.Goals as goal
 
@@ -36,3 +39,28 @@ returns-clause-ended c = λ u.
     let e = c.in_ok-reply.ensures in
     let s = e.step (state_of es) (state-lawful es).sound (state-numbered es) k.shows in
     waits_ended-ends c.args.session c.args.table.now c.serve.new.self (state_of es) (step (state_of es) c.args.session c.args.call).state k.whole e.whole k.shows s.1 c.serve.ensures.waits_ended u
+
+pub returns-in_err-reply-clause-told : goal.returns-in_err-reply-clause-told
+returns-in_err-reply-clause-told c =
+    let same = c.in_err-reply.ensures.unnoted in
+    subst (λ (l : LogView). AreDeadlocksTold (newest l.most (deadlocks_in c.reserve.new.self.items)) l.told) (sym same)
+    (subst (λ (es : List Entry). AreDeadlocksTold (newest c.args.log.now.most (deadlocks_in es)) c.args.log.now.told) (sym c.reserve.ensures.items) c.requires.told)
+
+pub returns-clause-told : goal.returns-clause-told
+returns-clause-told c =
+    let es = c.args.history.now.items in
+    let noted = c.in_ok-reply.ensures.noted (state_of es) (state-lawful es).sound (state-numbered es) c.requires.kept.shows in
+    told-more es c.push_reserved.new.self.items (record { session = c.args.session; call = c.args.call; reply = c.in_ok-reply.reply }) c.count-served.result c.args.log.now c.serve.new.log
+    (c.push_reserved.ensures.items ∙ ap (λ (xs : List Entry). xs ++ record { session = c.args.session; call = c.args.call; reply = c.in_ok-reply.reply } ∷ []) c.in_ok-reserve.ensures.items)
+    (c.count-served.ensures.count ∙ ap length c.in_ok-reserve.ensures.items) noted c.requires.told
+
+pub returns-clause-most : goal.returns-clause-most
+returns-clause-most c =
+    let es = c.args.history.now.items in
+    (c.in_ok-reply.ensures.noted (state_of es) (state-lawful es).sound (state-numbered es) c.requires.kept.shows).most
+
+pub returns-clause-log : goal.returns-clause-log
+returns-clause-log c = λ some. c.serve.ensures.log some ∙ sym c.serve.ensures.len
+
+pub returns-in_err-reply-clause-log : goal.returns-in_err-reply-clause-log
+returns-in_err-reply-clause-log c = λ some. c.serve.ensures.log some ∙ sym c.serve.ensures.len

@@ -19,6 +19,7 @@ loop-level-init c =
       sessions = refl;
       cut = refl;
       bound = refl;
+      deadlocks = refl;
       entered = subst (λ (calls : List Item). AreEntered d.sessions calls d.history d.ended None d.history) (sym none) (entered-none d.sessions d.history d.history d.ended refl (ap (λ (t : BookView). t.ended) c.forget_ended.ensures));
       granted = subst (λ (calls : List Item). All (λ (x : Entry). grants x.reply ≡ true) (entries_from (state_of d.history) calls)) (sym none) (λ k x lt. absurd (omega (arith, lt)));
       going = refl;
@@ -35,7 +36,7 @@ returns-in_default-clause-history c =
     let same = c.in_default.ensures.err in
     let d = c.serve_on.new.self in
     told-book a.self.now c.forget_ended.new.self d a.session a.resource a.mode a.locked c.loop-level.level told c.loop-level.reply c.forget_ended.ensures
-    (ap (λ (t : BookView). t.sessions) same ∙ i.sessions) (ap (λ (t : BookView). t.cut) same ∙ i.cut) (ap (λ (t : BookView). t.bound) same ∙ i.bound)
+    (ap (λ (t : BookView). t.sessions) same ∙ i.sessions) (ap (λ (t : BookView). t.cut) same ∙ i.cut) (ap (λ (t : BookView). t.bound) same ∙ i.bound) (ap (λ (t : BookView). t.deadlocks) same ∙ i.deadlocks)
     (last-going told i.going)
     (subst (λ (t : BookView). AreEntered t.sessions (path_calls a.session a.resource a.mode a.locked c.loop-level.level) c.forget_ended.new.self.history t.ended c.loop-level.reply t.history) (sym same) i.entered)
 
@@ -64,7 +65,7 @@ returns-then-not-grants-clause-history c =
     let d = c.serve_on.new.self in
     let start = c.forget_ended.new.self.history in
     told-book a.self.now c.forget_ended.new.self d a.session a.resource a.mode a.locked (level + 1) told (Some given) c.forget_ended.ensures
-    (ap (λ (t : BookView). t.sessions) k.entry ∙ i.sessions) (ap (λ (t : BookView). t.cut) k.entry ∙ i.cut) (ap (λ (t : BookView). t.bound) k.entry ∙ i.bound)
+    (ap (λ (t : BookView). t.sessions) k.entry ∙ i.sessions) (ap (λ (t : BookView). t.cut) k.entry ∙ i.cut) (ap (λ (t : BookView). t.bound) k.entry ∙ i.bound) (ap (λ (t : BookView). t.deadlocks) k.entry ∙ i.deadlocks)
     (last-stopped told (ap not (sym c.grants.ensures ∙ c.if-not-grants.true)))
     (next-level a.session a.resource a.mode a.locked level c.lock_of_level-call.result start c.loop-level.self d given (search rules) c.lock_of_level-call.ensures (ap (λ (t : BookView). t.sessions) k.entry)
     (entered-beside c.loop-level.self d (path_calls a.session a.resource a.mode a.locked level) start c.loop-level.reply (record { session = a.session; call = c.lock_of_level-call.result; reply = None }) given i.entered k.reply k.entry))
@@ -105,6 +106,7 @@ loop-level-preserved c =
       sessions = ap (λ (t : BookView). t.sessions) k.entry ∙ i.sessions;
       cut = ap (λ (t : BookView). t.cut) k.entry ∙ i.cut;
       bound = ap (λ (t : BookView). t.bound) k.entry ∙ i.bound;
+      deadlocks = ap (λ (t : BookView). t.deadlocks) k.entry ∙ i.deadlocks;
       entered = entered;
       granted = next-granted d.sessions a.session a.resource a.mode a.locked level start d.ended given d.history down i.granted entered yes;
       going = ap not yes;
@@ -121,7 +123,7 @@ returns-clause-history c =
     let i = c.loop-level.invariant in
     let told : PathLocked = record { level = c.level.result; reply = c.loop-level.reply; out_of_memory = false } in
     told-book a.self.now c.forget_ended.new.self c.loop-level.self a.session a.resource a.mode a.locked c.loop-level.level told c.loop-level.reply c.forget_ended.ensures
-    i.sessions i.cut i.bound (last-going told i.going ∙ omega (arith, c.level.ensures, c.level-level-end.ensures, c.loop-level-test.false, c.loop-level.auto.level-end, c.requires.rest)) i.entered
+    i.sessions i.cut i.bound i.deadlocks (last-going told i.going ∙ omega (arith, c.level.ensures, c.level-level-end.ensures, c.loop-level-test.false, c.loop-level.auto.level-end, c.requires.rest)) i.entered
 
 pub returns-clause-reply : goal.returns-clause-reply
 returns-clause-reply c =

@@ -13,6 +13,7 @@ invariant-loop-level l = record {
   sessions : l.self.sessions ≡ l.initial.self.sessions;
   cut : l.self.cut ≡ l.initial.self.cut;
   bound : l.self.bound ≡ l.initial.self.bound;
+  deadlocks : l.self.deadlocks ≡ l.initial.self.deadlocks;
   entered : AreEntered l.self.sessions (path_calls l.session l.resource l.mode l.locked l.level) l.initial.self.history l.self.ended l.reply l.self.history;
   granted : All (λ (e : Entry). grants e.reply ≡ true) (entries_from (state_of l.initial.self.history) (path_calls l.session l.resource l.mode l.locked l.level));
   going : stops l.reply ≡ false;

@@ -17,6 +17,9 @@ serve_recorded-requires-clause-kept c =
     let a = c.self.inside in
     subst (λ (d : LockTable). AreKept d a.history.items) (sym c.clear_ended-waits_ended.ensures.cleared) (kept-relisted a.lock_table _ a.history.items refl (kept-of a c.self.invariant))
 
+pub serve_recorded-requires-clause-log : goal.serve_recorded-requires-clause-log
+serve_recorded-requires-clause-log c = λ some. c.self.invariant.log some ∙ sym (ap (λ (d : LockTable). vec_len d.lockers) c.clear_ended-waits_ended.ensures.cleared)
+
 pub returns-in-Ok-clause-entry : goal.returns-in-Ok-clause-entry
 returns-in-Ok-clause-entry c =
     let a = c.self.inside in
@@ -28,12 +31,12 @@ returns-in-Ok-clause-entry c =
     = done.kept.ready.waits_ended ∙ (done.lockers ∙ (ap (λ (d : LockTable). vec_len d.lockers) c.clear_ended-waits_ended.ensures.cleared ∙ k.lockers)) in
     let st = state_of a.history.items in
     let ends = waits_ended-alone a.sessions c.args.session st (step st c.args.session c.args.call).state f.ended e.ended sized (ap (λ (d : LockTable). d.ended.count) c.clear_ended-waits_ended.ensures.cleared) done.ended in
-    entry-view a c.args.self.now c.self.view_is c.args.session c.args.call c.in-Ok.reply c.serve_recorded.new.history.items _ _ _ done.entry done.cut done.bound ends
+    entry-view a c.args.self.now c.self.view_is c.args.session c.args.call c.in-Ok.reply c.serve_recorded.new.history.items _ _ _ _ done.entry done.cut done.bound ends c.in-Ok.ensures.most
 
 pub invariant_of-self-in-Err : goal.invariant_of-self-in-Err
 invariant_of-self-in-Err c =
     let k = c.self.invariant in
     let e = c.serve_recorded.new.table in
     let done = c.in-Err.ensures in
-    subst (λ (d : LockTable). IsKept (record { sessions = c.self.inside.sessions; lock_table = d; history = c.serve_recorded.new.history; marks = c.self.inside.marks })) (sym c.restore_ended.ensures)
-    (of-kept _ k.some k.few (kept-relisted e _ c.serve_recorded.new.history.items refl done.kept) (done.lockers ∙ (ap (λ (d : LockTable). vec_len d.lockers) c.clear_ended-waits_ended.ensures.cleared ∙ k.lockers)) k.marked)
+    subst (λ (d : LockTable). IsKept (record { sessions = c.self.inside.sessions; lock_table = d; history = c.serve_recorded.new.history; marks = c.self.inside.marks; deadlocks = c.serve_recorded.new.log })) (sym c.restore_ended.ensures)
+    (of-kept _ k.some k.few (kept-relisted e _ c.serve_recorded.new.history.items refl done.kept) (done.lockers ∙ (ap (λ (d : LockTable). vec_len d.lockers) c.clear_ended-waits_ended.ensures.cleared ∙ k.lockers)) k.marked done.log done.told)

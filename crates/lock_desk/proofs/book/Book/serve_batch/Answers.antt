@@ -9,7 +9,7 @@ returns-then-serve_item-clause-history c =
     let b = c.forget_ended.new.self in
     let k = c.if-serve_item.ensures in
     let e = c.forget_ended.ensures in
-    served-book c.args.self.now b c.serve_item.new.self 1 items c.serve_item.new.items e k.sessions k.cut k.bound (k.served items b.history (served-start b items (ap (λ (t : BookView). t.ended) e)))
+    served-book c.args.self.now b c.serve_item.new.self 1 items c.serve_item.new.items e k.sessions k.cut k.bound k.deadlocks (k.served items b.history (served-start b items (ap (λ (t : BookView). t.ended) e)))
 
 pub returns-then-serve_item-clause-items : goal.returns-then-serve_item-clause-items
 returns-then-serve_item-clause-items c =
@@ -25,7 +25,7 @@ returns-else-serve_item-clause-history c =
     let b = c.forget_ended.new.self in
     let k = c.if-serve_item.ensures in
     let e = c.forget_ended.ensures in
-    served-book c.args.self.now b c.serve_item.new.self 0 items c.serve_item.new.items e k.sessions k.cut k.bound (k.served items b.history (served-start b items (ap (λ (t : BookView). t.ended) e)))
+    served-book c.args.self.now b c.serve_item.new.self 0 items c.serve_item.new.items e k.sessions k.cut k.bound k.deadlocks (k.served items b.history (served-start b items (ap (λ (t : BookView). t.ended) e)))
 
 pub returns-else-serve_item-clause-items : goal.returns-else-serve_item-clause-items
 returns-else-serve_item-clause-items c =
@@ -41,7 +41,7 @@ serve_several-requires-clause-none c = ap (λ (t : BookView). t.ended) c.forget_
 pub returns-clause-history : goal.returns-clause-history
 returns-clause-history c =
     let k = c.serve_several.ensures in
-    served-book c.args.self.now c.forget_ended.new.self c.serve_several.new.self c.serve_several.result c.args.items.now c.serve_several.new.items c.forget_ended.ensures k.sessions k.cut k.bound k.served
+    served-book c.args.self.now c.forget_ended.new.self c.serve_several.new.self c.serve_several.result c.args.items.now c.serve_several.new.items c.forget_ended.ensures k.sessions k.cut k.bound k.deadlocks k.served
 
 pub returns-clause-items : goal.returns-clause-items
 returns-clause-items c =

@@ -10,4 +10,4 @@ returns-clause-entry c =
     let k = c.self.invariant in
     let before : length a.lock_table.ended.places ≡ a.sessions = k.ready.waits_ended ∙ k.lockers in
     let after : length e.ended.places ≡ a.sessions = done.kept.ready.waits_ended ∙ (done.lockers ∙ k.lockers) in
-    beside-view a c.args.self.now c.self.view_is c.args.session c.args.call c.in_ok-reply.reply c.serve_recorded.new.history.items _ _ e.ended done.entry done.cut done.bound before after done.ended
+    beside-view a c.args.self.now c.self.view_is c.args.session c.args.call c.in_ok-reply.reply c.serve_recorded.new.history.items _ _ e.ended _ done.entry done.cut done.bound before after done.ended done.most

@@ -7,6 +7,7 @@ loop-served-init c = record {
   sessions = refl;
   cut = refl;
   bound = refl;
+  deadlocks = refl;
   within = c.requires.within;
   served = served-start c.args.self.now c.args.items.now c.requires.none;
 }

@@ -9,6 +9,7 @@ invariant-loop-served l = record {
   sessions : l.self.sessions ≡ l.initial.self.sessions;
   cut : l.self.cut ≡ l.initial.self.cut;
   bound : l.self.bound ≡ l.initial.self.bound;
+  deadlocks : l.self.deadlocks ≡ l.initial.self.deadlocks;
   within : All (IsItemWithin l.self.sessions) l.items;
   served : AreServed l.initial.self.sessions l.served l.initial.items l.initial.self.history l.self.ended l.self.history l.items;
 }

@@ -1,5 +1,7 @@
-use Rattle.std.proofs.Common.{◌∙◌}
+use Rattle.std.proofs.Common.{◌∙◌, List, sym, subst}
+use Rattle.lock_rules.specs.Entries.{Entry}
 use Rattle.lock_rules.specs.Legal.{state_of}
+use Rattle.lock_desk.specs.Deadlocks.{AreDeadlocksTold, deadlocks_in, newest}
 use Rattle.lock_desk.proofs.BookInvariant.{kept-of, kept-same, of-kept}
 use Rattle.lock_desk.proofs.Simulation.{same-shown}
 use Rattle.lock_desk.proofs.book.Book.shrink.Goals as goal
@@ -12,4 +14,5 @@ invariant_of-self c =
     of-kept _ k.some k.few
     (kept-same a.lock_table c.shrink.new.self a.history.items c.shrink-2.new.self.items c.shrink-2.ensures.items (kept-of a k)
     (same-shown a.lock_table c.shrink.new.self (state_of a.history.items) c.shrink.ensures.same k.shows) kept.whole kept.ready kept.lockers)
-    (kept.lockers ∙ k.lockers) k.marked
+    (kept.lockers ∙ k.lockers) k.marked (λ some. k.log some ∙ sym kept.lockers)
+    (subst (λ (es : List Entry). AreDeadlocksTold (newest a.deadlocks.most (deadlocks_in es)) a.deadlocks.told) (sym c.shrink-2.ensures.items) k.told)

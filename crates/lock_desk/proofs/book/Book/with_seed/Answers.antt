@@ -1,9 +1,10 @@
-use Rattle.std.proofs.Common.{sym, subst, arith, ◌≤◌, length, List}
+use Rattle.std.proofs.Common.{ℕ, sym, subst, arith, ◌≤◌, length, List, []}
 use Rattle.std.specs.List.{All}
 use Rattle.sequential.specs.Histories.{IsEntryWithin}
 use Rattle.lock_rules.specs.Entries.{Entry}
 use Rattle.lock_rules.specs.Legal.{IsLegal, state_of}
 use Rattle.lock_desk.specs.inner.Shows.{Shows}
+use Rattle.lock_desk.specs.Deadlocks.{AreDeadlocksTold, deadlocks_in, newest}
 use Rattle.lock_desk.proofs.EndedList.{none-in}
 use Rattle.lock_desk.proofs.book.Book.with_seed.Goals as goal
 
@@ -23,6 +24,9 @@ invariant_of-result c =
       lockers = lock_table.lockers;
       counted = subst (λ (es : List Entry). c.in_ok-lock_table.lock_table.count ≤ length es) none (omega (arith, lock_table.shows.count));
       marked = marks.sessions;
+      log = λ some. absurd (omega (arith, some, c.in_ok-deadlocks.ensures.most));
+      told = subst (λ (es : List Entry). AreDeadlocksTold (newest c.in_ok-deadlocks.deadlocks.most (deadlocks_in es)) c.in_ok-deadlocks.deadlocks.told) none
+          (subst (AreDeadlocksTold (newest c.in_ok-deadlocks.deadlocks.most [])) (sym c.in_ok-deadlocks.ensures.told) (subst (λ (n : ℕ). AreDeadlocksTold (newest n []) []) (sym c.in_ok-deadlocks.ensures.most) tt));
     }
 
 pub returns-clause-ended : goal.returns-clause-ended

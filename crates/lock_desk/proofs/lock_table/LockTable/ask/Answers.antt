@@ -1,12 +1,17 @@
-use Rattle.std.proofs.Common.{◌+◌, ◌∙◌, Bool, false, inl, inr, vec_len, ap, arith, subst}
+use Rattle.std.proofs.Common.{◌+◌, ◌∙◌, Bool, false, inl, inr, vec_len, sym, ap, arith, subst, List}
 use Rattle.std.proofs.lemmas.Bool.{cases_Bool}
+use Rattle.lock_rules.specs.State.{State}
 use Rattle.lock_rules.specs.Step.{target_of, is_held}
+use Rattle.lock_desk.specs.Deadlocks.{moments_at}
 use Rattle.lock_desk.specs.inner.Cells.{is_granted}
 use Rattle.lock_desk.specs.inner.Changes.{mode_held, HasAsked}
+use Rattle.lock_desk.specs.inner.Noting.{HasNoted}
 use Rattle.lock_desk.proofs.AfterStep.{first_state}
 use Rattle.lock_desk.proofs.Simulation.{granted-answer, waits-shown_first, waits-sound, waits-numbered, waits-answer}
 use Rattle.lock_desk.proofs.FewRequests.{few-waits}
 use Rattle.lock_desk.proofs.EndedWaits.{waits_ended-on}
+use Rattle.lock_desk.proofs.DeadlocksTold.{noted-none}
+use Rattle.lock_desk.proofs.DeadlocksOfCalls.{none-if-granted, those-if-waits}
 use Rattle.lock_desk.proofs.lock_table.LockTable.ask.Goals as goal
 
 pub returns-in-Granted-clause-ask : goal.returns-in-Granted-clause-ask
@@ -41,3 +46,42 @@ returns-in-Waiting-clause-ask c = λ st i j h.
 
 pub returns-in-Waiting-clause-waits_ended : goal.returns-in-Waiting-clause-waits_ended
 returns-in-Waiting-clause-waits_ended c = waits_ended-on c.args.session c.args.self.now c.request.new.self c.resolve_for.new.self c.request.ensures.waits_ended c.resolve_for.ensures.waits_ended
+
+pub returns-in-Granted-clause-noted : goal.returns-in-Granted-clause-noted
+returns-in-Granted-clause-noted c = λ st i j h.
+    let d = c.args.self.now in
+    let s = c.args.session in
+    let r = c.args.resource in
+    let m = c.target_of-target.result in
+    let target = c.target_of-target.ensures ∙ ap (λ o. target_of o c.args.mode) c.requires.held in
+    let none = none-if-granted d c.request.new.self st s r c.args.mode m h target
+    (λ n. subst (λ (b : Bool). HasAsked s r m b d c.request.new.self) (ap is_granted c.in-Granted.is) (c.in_ok-request.ensures.asked n)) in
+    subst (λ (sts : List State). HasNoted (moments_at c.args.served s sts) c.args.log.now c.args.log.now) (sym none) (noted-none c.args.log.now)
+
+pub returns-in-Waiting-clause-noted : goal.returns-in-Waiting-clause-noted
+returns-in-Waiting-clause-noted c = λ st i j h.
+    let d = c.args.self.now in
+    let s = c.args.session in
+    let r = c.args.resource in
+    let m = c.target_of-target.result in
+    let target = c.target_of-target.ensures ∙ ap (λ o. target_of o c.args.mode) c.requires.held in
+    elim (cases_Bool (is_held (mode_held c.args.self.now c.args.session c.args.resource) c.target_of-target.result)) [
+      | inl y ↦ absurd (let a = (c.in_ok-request.ensures.held y).0 in let b = ap is_granted c.in-Waiting.is in cc)
+      | inr n ↦
+          let e = c.request.new.self in
+          let k = subst (λ (b : Bool). HasAsked s r m b d e) (ap is_granted c.in-Waiting.is) (c.in_ok-request.ensures.asked n) in
+          let sound = waits-sound d e st s r c.args.mode m c.requires.whole i h c.requires.may target n k in
+          let first = waits-shown_first d e st s r c.args.mode m c.requires.whole i h c.requires.may target n k in
+          let numbered = waits-numbered d e st s r c.args.mode m c.requires.whole i h c.requires.may target n k j in
+          let long = c.requires.ready.long in
+          let few = few-waits e (first_state st s r m false) c.request.ensures.kept.whole sound first d.waits.rows.sessions (omega (arith, long, c.request.ensures.kept.lockers, e.lockers.ok.0)) in
+          let those = those-if-waits d e st s r c.args.mode m h target n k sound (vec_len e.lockers + 1) (omega (arith, few, long, c.request.ensures.kept.lockers)) in
+          subst (λ (sts : List State). HasNoted (moments_at c.args.served s sts) c.args.log.now c.resolve_for.new.log) (sym those)
+          (c.resolve_for.ensures.noted (first_state st s r m false) sound numbered first)
+    ]
+
+pub resolve_for-requires-clause-log : goal.resolve_for-requires-clause-log
+resolve_for-requires-clause-log c = λ some. c.requires.log some ∙ sym c.request.ensures.kept.lockers
+
+pub returns-in-Waiting-clause-log : goal.returns-in-Waiting-clause-log
+returns-in-Waiting-clause-log c = λ some. c.resolve_for.ensures.log some ∙ c.request.ensures.kept.lockers

@@ -1,22 +1,49 @@
-use Rattle.std.proofs.Common.{rules, refl, ◌+◌, vec_len, sym, ◌∙◌, arith, subst}
+use Rattle.std.proofs.Common.{◌≡◌, ℕ, ◌<◌, ◌≤◌, refl, ◌+◌, ◌-◌, vec_len, sym, ◌∙◌, ap, arith, subst}
+use Rattle.lock_rules.specs.Waits.{after_victims}
+use Rattle.waits_for.specs.Pairs.{pairs_of}
+use Rattle.waits_for.specs.Walks.{Reaches}
+use Rattle.waits_for.proofs.Walks.{reaches-trans}
 use Rattle.lock_desk.specs.declared.waits.Waits.{Waits}
 use Rattle.lock_desk.specs.inner.Ready.{IsReadyTable}
 use Rattle.lock_desk.proofs.EndedWaits.{waits_ended-on, waits_ended-none}
 use Rattle.lock_desk.proofs.VictimRounds.{rewaited, none-found, found, next-round, last-round}
+use Rattle.lock_desk.proofs.DeadlockRounds.{noted-begun, noted-round, noted-last, noted-end, shown-end}
 use Rattle.lock_desk.proofs.lock_table.LockTable.resolve_deadlocks.Goals as goal
 
 pub returns-in_default-clause-settled : goal.returns-in_default-clause-settled
 returns-in_default-clause-settled c = λ st i j h.
     let d = c.loop-round.self in
     let k = c.loop-round.invariant in
-    let r = k.rounds st i j (record { count = h.count; transactions = h.transactions; views = h.views }) in
+    let r = (k.rounds st i j (record { count = h.count; transactions = h.transactions; views = h.views })).round in
     last-round (vec_len c.args.self.now.lockers + 1) c.loop-round._round c.args.session st _ (rewaited (vec_len c.args.self.now.lockers + 1) c.loop-round._round c.args.session st d c.victim.new.waits r)
+    (none-found d k.whole d.waits k.ready.filled r.state r.shows r.sound r.numbered c.args.session c.requires.some c.in_default.ensures.none)
+
+pub returns-in_default-clause-noted : goal.returns-in_default-clause-noted
+returns-in_default-clause-noted c = λ st i j h.
+    let d = c.loop-round.self in
+    let k = c.loop-round.invariant in
+    let n = k.rounds st i j (record { count = h.count; transactions = h.transactions; views = h.views }) in
+    let r = n.round in
+    noted-last (vec_len c.args.self.now.lockers + 1) c.loop-round._round c.args.session c.args.place st d c.args.log.now c.loop-round.log n
     (none-found d k.whole d.waits k.ready.filled r.state r.shows r.sound r.numbered c.args.session c.requires.some c.in_default.ensures.none)
 
 pub returns-in_default-clause-ready : goal.returns-in_default-clause-ready
 returns-in_default-clause-ready c =
     let d = c.loop-round.self in
     subst (λ (w : Waits). IsReadyTable (record { count = d.count; lockers = d.lockers; cells = d.cells; waits = w; ended = d.ended })) (sym c.in_default.ensures.same) c.loop-round.invariant.ready
+
+pub note-requires-clause-ready : goal.note-requires-clause-ready
+note-requires-clause-ready c =
+    let d = c.loop-round.self in
+    subst (λ (w : Waits). IsReadyTable (record { count = d.count; lockers = d.lockers; cells = d.cells; waits = w; ended = d.ended })) (sym c.in-Some.ensures.same) c.loop-round.invariant.ready
+
+pub note-requires-clause-cycle : goal.note-requires-clause-cycle
+note-requires-clause-cycle c =
+    let y = c.in-Some.ensures.some.2.on_circle in
+    let v = c.in-Some.chosen in
+    let s = c.args.session in
+    subst (λ (w : Waits). Reaches (pairs_of w.rows) (v - 1) (v - 1)) (sym c.in-Some.ensures.same)
+    (reaches-trans (pairs_of c.loop-round.self.waits.rows) (v - 1) (s - 1) (v - 1) y.back y.there)
 
 pub doom-requires-clause-ready : goal.doom-requires-clause-ready
 doom-requires-clause-ready c =
@@ -33,12 +60,17 @@ loop-round-preserved c =
       count = c.doom.ensures.doomed.count ∙ k.count;
       len = c.doom.ensures.kept.lockers ∙ k.len;
       waits_ended = waits_ended-on 0 c.args.self.now d c.doom.new.self k.waits_ended c.doom.ensures.waits_ended;
+      log = λ some. c.note.ensures.log some ∙ k.len;
       rounds = λ st i j h.
-          let r = k.rounds st i j h in
+          let n = k.rounds st i j h in
+          let r = n.round in
           let y = c.in-Some.ensures.some in
           let f = found d k.whole d.waits k.ready.filled r.state r.shows r.sound r.numbered c.args.session c.in-Some.chosen c.requires.some y.0 y.2 in
-          next-round (vec_len c.args.self.now.lockers + 1) c.loop-round._round c.args.session c.in-Some.chosen st _ c.doom.new.self
-          (rewaited (vec_len c.args.self.now.lockers + 1) c.loop-round._round c.args.session st d c.victim.new.waits r) (omega (arith, c.loop-round-test.true, c.len-round-end.ensures)) f.0 f.1 c.doom.ensures.doomed;
+          let lt : c.loop-round._round < vec_len c.args.self.now.lockers + 1 = omega (arith, c.loop-round-test.true, c.len-round-end.ensures) in
+          let again = rewaited (vec_len c.args.self.now.lockers + 1) c.loop-round._round c.args.session st d c.victim.new.waits r in
+          noted-round (vec_len c.args.self.now.lockers + 1) c.loop-round._round c.args.session c.in-Some.chosen c.args.place st d c.doom.new.self c.args.log.now c.loop-round.log c.note.new.self n
+          (next-round (vec_len c.args.self.now.lockers + 1) c.loop-round._round c.args.session c.in-Some.chosen st _ c.doom.new.self again lt f.0 f.1 c.doom.ensures.doomed)
+          refl lt f.0 f.1 (c.note.ensures.noted r.state r.sound again.shows f.1);
     }
 
 pub loop-round-init : goal.loop-round-init
@@ -48,5 +80,22 @@ loop-round-init c = record {
   count = refl;
   len = refl;
   waits_ended = waits_ended-none 0 c.args.self.now;
-  rounds = λ st i j h. search rules;
+  log = c.requires.log;
+  rounds = λ st i j h.
+      let n = vec_len c.args.self.now.lockers + 1 in
+      let all : vec_len c.args.self.now.lockers + 1 ≡ vec_len c.args.self.now.lockers + 1 - 0 = omega arith in
+      noted-begun n c.args.session c.args.place st c.args.self.now c.args.log.now
+      (record { state = st; shows = h; sound = i; numbered = j; same = ap (λ (m : ℕ). after_victims m c.args.session st) all }) refl;
 }
+
+pub returns-clause-settled : goal.returns-clause-settled
+returns-clause-settled c = λ st i j h.
+    let k = c.loop-round.invariant in
+    let le : vec_len c.args.self.now.lockers + 1 ≤ c.loop-round._round = omega (arith, c.loop-round-test.false, c.len-round-end.ensures) in
+    shown-end (vec_len c.args.self.now.lockers + 1) c.loop-round._round c.args.session st c.loop-round.self (k.rounds st i j h).round le
+
+pub returns-clause-noted : goal.returns-clause-noted
+returns-clause-noted c = λ st i j h.
+    let k = c.loop-round.invariant in
+    let le : vec_len c.args.self.now.lockers + 1 ≤ c.loop-round._round = omega (arith, c.loop-round-test.false, c.len-round-end.ensures) in
+    noted-end (vec_len c.args.self.now.lockers + 1) c.loop-round._round c.args.session c.args.place st c.loop-round.self c.args.log.now c.loop-round.log (k.rounds st i j h) le

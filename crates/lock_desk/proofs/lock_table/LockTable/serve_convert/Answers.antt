@@ -3,6 +3,7 @@ use Rattle.lock_rules.specs.declared.calls.Call.TheVariants.{Convert}
 use Rattle.lock_desk.specs.inner.Changes.{idle_tests, convert_tests}
 use Rattle.lock_desk.proofs.Results.{first-some, first-none}
 use Rattle.lock_desk.proofs.Simulation.{convert-may, refused-step, passed-steps, same-shown}
+use Rattle.lock_desk.proofs.DeadlocksOfCalls.{refused-noted, passed-noted}
 use Rattle.lock_desk.proofs.EndedWaits.{waits_ended-same}
 use Rattle.lock_desk.proofs.lock_table.LockTable.serve_convert.Goals as goal
 
@@ -35,3 +36,30 @@ returns-clause-step c = λ st i j h.
     let shown = same-shown c.args.self.now d st c.likely_converted-likely.ensures.same h in
     let none = first-none (idle_tests d s) (convert_tests d s c.args.resource c.args.mode) c.in_default.ensures in
     passed-steps d c.ask.new.self st s (Convert c.args.resource c.args.mode) c.ask.result c.likely_converted-likely.ensures.kept.whole i shown (c.in_default-convert_refusal.ensures ∙ sym none) (c.ask.ensures.ask st i j shown)
+
+pub returns-in-Some-clause-noted : goal.returns-in-Some-clause-noted
+returns-in-Some-clause-noted c = λ st i j h.
+    let d = c.likely_converted-likely.new.self in
+    let s = c.args.session in
+    refused-noted d st s c.args.resource c.args.mode c.in-Some.why c.args.served c.args.log.now (Convert c.args.resource c.args.mode) c.likely_converted-likely.ensures.kept.whole i (same-shown c.args.self.now d st c.likely_converted-likely.ensures.same h) (first-some (idle_tests d s) (convert_tests d s c.args.resource c.args.mode) c.in-Some.why c.in-Some.ensures)
+
+pub returns-in-Some-convert_refusal-clause-noted : goal.returns-in-Some-convert_refusal-clause-noted
+returns-in-Some-convert_refusal-clause-noted c = λ st i j h.
+    let d = c.likely_converted-likely.new.self in
+    let s = c.args.session in
+    let none = first-none (idle_tests d s) (convert_tests d s c.args.resource c.args.mode) c.in_default.ensures in
+    refused-noted d st s c.args.resource c.args.mode c.in-Some-convert_refusal.why c.args.served c.args.log.now (Convert c.args.resource c.args.mode) c.likely_converted-likely.ensures.kept.whole i (same-shown c.args.self.now d st c.likely_converted-likely.ensures.same h) (c.in-Some-convert_refusal.ensures ∙ sym none)
+
+pub returns-clause-noted : goal.returns-clause-noted
+returns-clause-noted c = λ st i j h.
+    let d = c.likely_converted-likely.new.self in
+    let s = c.args.session in
+    let shown = same-shown c.args.self.now d st c.likely_converted-likely.ensures.same h in
+    let none = first-none (idle_tests d s) (convert_tests d s c.args.resource c.args.mode) c.in_default.ensures in
+    passed-noted d st s c.args.resource c.args.mode c.args.served c.args.log.now c.ask.new.log (Convert c.args.resource c.args.mode) c.ask.result c.likely_converted-likely.ensures.kept.whole i shown (c.in_default-convert_refusal.ensures ∙ sym none) (c.ask.ensures.noted st i j shown)
+
+pub ask-requires-clause-log : goal.ask-requires-clause-log
+ask-requires-clause-log c = λ some. c.requires.log some ∙ sym c.likely_converted-likely.ensures.kept.lockers
+
+pub returns-clause-log : goal.returns-clause-log
+returns-clause-log c = λ some. c.ask.ensures.log some ∙ c.likely_converted-likely.ensures.kept.lockers

@@ -9,8 +9,10 @@ use Rattle.sequential.specs.Batches.{IsItemWithin}
 use Rattle.lock_desk.specs.inner.Cells.{HasRoomAt}
 use Rattle.lock_rules.specs.Legal.{state_of}
 use Rattle.lock_desk.specs.inner.Ended.{ended_in}
+use Rattle.lock_desk.specs.Deadlocks.{deadlocks_in}
 use Rattle.lock_desk.specs.inner.Runs.{mode_asked, CanGrant, GoesBeside, AreKept, AreServed}
 use Rattle.lock_desk.proofs.Batches.{entry_of, with_reply, ends-none, served-next}
+use Rattle.lock_desk.proofs.DeadlocksOfCalls.{granted-none}
 use Rattle.lock_desk.proofs.RunItems.{each-written, pairs-written, join-can}
 use Rattle.lock_desk.proofs.Granting.{quiet-still, grant-still, grant-answer, grant-kept, grant-ends-none}
 use Rattle.lock_desk.proofs.lock_table.runs.grant_item.Goals as goal
@@ -89,3 +91,14 @@ returns-clause-served c = λ n batch start s.
     subst (λ (ls : List ℕ). AreServed n (k + 1) batch start ls c.push_reserved.new.self.items (set items k (with_reply (get_or items k c.index-items-index-2.result) reply))) (sym same)
     (subst (λ (es : List Entry). AreServed n (k + 1) batch start ended es (set items k (with_reply (get_or items k c.index-items-index-2.result) reply))) (sym c.push_reserved.ensures.items)
     (subst (λ (is : List Item). AreServed n (k + 1) batch start ended (c.args.history.now.items ++ entry_of item reply ∷ []) is) written next))
+
+pub returns-clause-deadlocks : goal.returns-clause-deadlocks
+returns-clause-deadlocks c =
+    let d = c.args.table.now in
+    let items = c.args.items.now in
+    let item = c.index-items-index.result in
+    let r = c.args.run.now.resource in
+    let at : item ≡ get_or items c.args.index item = search rules in
+    let can = subst (CanGrant d r) (sym at) (c.requires.granting.grant c.args.index item (omega arith) c.requires.index) in
+    let call : item.call ≡ Lock r c.in-Lock.mode = can.join.call ∙ ap (Lock r) (ap mode_asked c.in-Lock.is) in
+    ap deadlocks_in c.push_reserved.ensures.items ∙ granted-none d c.grant.new.self c.args.history.now.items item r c.in-Lock.mode c.requires.kept can.join call c.grant.ensures.asked

@@ -3,6 +3,7 @@ use Rattle.std.specs.List.{All}
 use Rattle.lock_rules.specs.Entries.{Entry}
 use Rattle.lock_desk.specs.Batches.{Item}
 use Rattle.sequential.specs.Batches.{IsItemWithin}
+use Rattle.lock_desk.specs.Deadlocks.{deadlocks_in}
 use Rattle.lock_desk.specs.inner.Ended.{ended_in}
 use Rattle.lock_desk.specs.inner.Runs.{IsGranting, AreKept, AreServed}
 use Rattle.lock_desk.proofs.lock_table.runs.grant_items.Given as goal
@@ -15,6 +16,7 @@ invariant-loop-index l = record {
   lockers : vec_len l.table.lockers ≡ vec_len l.initial.table.lockers;
   cut : l.history.cut ≡ l.initial.history.cut;
   bound : l.history.bound ≡ l.initial.history.bound;
+  deadlocks : deadlocks_in l.history.items ≡ deadlocks_in l.initial.history.items;
   room : l.run.upto - l.index ≤ l.history.room;
   served : (n : ℕ) (batch : List Item) (start : List Entry) → AreServed n l.from batch start (ended_in l.initial.table.ended) l.initial.history.items l.initial.items → AreServed n l.index batch start (ended_in l.table.ended) l.history.items l.items;
 }

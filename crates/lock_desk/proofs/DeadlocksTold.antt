@@ -1,0 +1,141 @@
+-- What a log tells: the newest deadlocks, and one more.
+use Rattle.std.proofs.Common.{◌≡◌, ℕ, ◌+◌, ◌-◌, ◌<◌, ◌≤◌, List, [], ◌∷◌, ◌++◌, length, drop, refl, sym, ◌∙◌, ap, arith, subst, append_assoc, append-nil, length-append, length-drop}
+use Rattle.std.proofs.lemmas.List.{drop-append-le, drop-drop}
+use Rattle.lock_desk.specs.Deadlocks.{Moment, IsCycleTold, IsDeadlockTold, AreDeadlocksTold, newest}
+use Rattle.lock_desk.specs.declared.deadlock_log.Deadlock.{Deadlock}
+use Rattle.lock_desk.specs.inner.Noting.{LogView, HasNoted, IsAlike, AreAlike}
+
+-- lists of deadlocks told
+
+-- as many are told as there are
+pub told-length : (ms : List Moment) (ds : List Deadlock) → AreDeadlocksTold ms ds → length ms ≡ length ds
+told-length [] [] h = refl
+told-length [] (d ∷ ds) h = absurd h
+told-length (m ∷ ms) [] h = absurd h
+told-length (m ∷ ms) (d ∷ ds) h = omega (arith, told-length ms ds h.1)
+
+-- one more is told
+pub told-push : (ms : List Moment) (ds : List Deadlock) (m : Moment) (d : Deadlock) → AreDeadlocksTold ms ds → IsDeadlockTold m d → AreDeadlocksTold (ms ++ m ∷ []) (ds ++ d ∷ [])
+told-push [] [] m d h t = (t, tt)
+told-push [] (x ∷ ds) m d h t = absurd h
+told-push (x ∷ ms) [] m d h t = absurd h
+told-push (x ∷ ms) (y ∷ ds) m d h t = (h.0, told-push ms ds m d h.1 t)
+
+-- the oldest is told no more
+pub told-rest : (ms : List Moment) (ds : List Deadlock) → AreDeadlocksTold ms ds → AreDeadlocksTold (drop 1 ms) (drop 1 ds)
+told-rest [] [] h = tt
+told-rest [] (d ∷ ds) h = absurd h
+told-rest (m ∷ ms) [] h = absurd h
+told-rest (m ∷ ms) (d ∷ ds) h = h.1
+
+-- the newest of a list
+
+-- if there are no more, they are all
+pub newest-all : {X : Type 0} (n : ℕ) (xs : List X) → length xs ≤ n → newest n xs ≡ xs
+newest-all n xs le = let none : length xs - n ≡ 0 = omega (arith, le) in ap (λ (k : ℕ). drop k xs) none
+
+-- if there are as many, each new one takes the place of the oldest
+pub newest-push : {X : Type 0} (n : ℕ) (xs : List X) (x : X) → 0 < n → n ≤ length xs → newest n (xs ++ x ∷ []) ≡ drop 1 (newest n xs) ++ x ∷ []
+newest-push {X = X} n xs x some full =
+    let more : length (xs ++ x ∷ []) - n ≡ length xs - n + 1 = omega (arith, length-append xs (x ∷ []), full) in
+    ap (λ (k : ℕ). drop k (xs ++ x ∷ [])) more
+    ∙ (drop-append-le (length xs - n + 1) xs (x ∷ []) (omega (arith, some, full))
+    ∙ ap (λ (ys : List X). ys ++ x ∷ []) (sym (drop-drop 1 (length xs - n) xs)))
+
+-- how many there are
+pub newest-length : {X : Type 0} (n : ℕ) (xs : List X) → length (newest n xs) ≡ length xs - (length xs - n)
+newest-length n xs = length-drop (length xs - n) xs
+
+-- what a log notes
+
+-- nothing
+pub noted-none : (l : LogView) → HasNoted [] l l
+noted-none l = record {
+  most = refl;
+  told = λ before h. subst (λ (ms : List Moment). AreDeadlocksTold (newest l.most ms) l.told) (sym (append-nil before)) h;
+}
+
+-- some deadlocks, and then more
+pub noted-on : (a b c : LogView) (ms ns : List Moment) → HasNoted ms a b → HasNoted ns b c → HasNoted (ms ++ ns) a c
+noted-on a b c ms ns h k = record {
+  most = k.most ∙ h.most;
+  told = λ before told.
+      let one = subst (λ (n : ℕ). AreDeadlocksTold (newest n (before ++ ms)) b.told) (sym h.most) (h.told before told) in
+      let two = subst (λ (n : ℕ). AreDeadlocksTold (newest n (before ++ ms ++ ns)) c.told) h.most (k.told (before ++ ms) one) in
+      subst (λ (all : List Moment). AreDeadlocksTold (newest a.most all) c.told) (append_assoc before ms ns) two;
+}
+
+-- nothing is kept
+pub noted-nowhere : (a : LogView) (ms : List Moment) → a.most ≡ 0 → a.told ≡ [] → HasNoted ms a a
+noted-nowhere a ms none empty = record {
+  most = refl;
+  told = λ before h. subst (λ (n : ℕ). AreDeadlocksTold (newest n (before ++ ms)) a.told) (sym none) (subst (AreDeadlocksTold (newest 0 (before ++ ms))) (sym empty) (at (before ++ ms)));
+}
+  where
+    -- the newest 0 are none
+    gone : (ms : List Moment) → newest 0 ms ≡ []
+    gone ms = ap (λ (k : ℕ). drop k ms) (omega arith) ∙ all ms
+      where
+        all : (xs : List Moment) → drop (length xs) xs ≡ []
+        all [] = refl
+        all (x ∷ xs) = all xs
+
+    at : (ms : List Moment) → AreDeadlocksTold (newest 0 ms) []
+    at ms = subst (λ (xs : List Moment). AreDeadlocksTold xs []) (sym (gone ms)) tt
+
+-- one deadlock, while there is room
+pub noted-more : (a b : LogView) (m : Moment) (d : Deadlock) → IsDeadlockTold m d → b.most ≡ a.most → length a.told < a.most → b.told ≡ a.told ++ d ∷ [] → HasNoted (m ∷ []) a b
+noted-more a b m d t same room more = record {
+  most = same;
+  told = λ before h.
+      let few : length before < a.most = omega (arith, newest-length a.most before, told-length (newest a.most before) a.told h, room) in
+      let all = subst (λ (ms : List Moment). AreDeadlocksTold ms a.told) (newest-all a.most before (omega (arith, few))) h in
+      subst (AreDeadlocksTold (newest a.most (before ++ m ∷ []))) (sym more)
+      (subst (λ (ms : List Moment). AreDeadlocksTold ms (a.told ++ d ∷ [])) (sym (newest-all a.most (before ++ m ∷ []) (omega (arith, few, length-append before (m ∷ [])))))
+      (told-push before a.told m d all t));
+}
+
+-- one deadlock, in the place of the oldest
+pub noted-instead : (a b : LogView) (m : Moment) (d : Deadlock) → IsDeadlockTold m d → b.most ≡ a.most → 0 < a.most → length a.told ≡ a.most → b.told ≡ drop 1 a.told ++ d ∷ [] → HasNoted (m ∷ []) a b
+noted-instead a b m d t same some full more = record {
+  most = same;
+  told = λ before h.
+      let many : a.most ≤ length before = omega (arith, newest-length a.most before, told-length (newest a.most before) a.told h, full) in
+      subst (AreDeadlocksTold (newest a.most (before ++ m ∷ []))) (sym more)
+      (subst (λ (ms : List Moment). AreDeadlocksTold ms (drop 1 a.told ++ d ∷ [])) (sym (newest-push a.most before m some many))
+      (told-push (drop 1 (newest a.most before)) (drop 1 a.told) m d (told-rest (newest a.most before) a.told h) t));
+}
+
+-- copies
+
+-- one more copy
+pub alike-push : (ds es : List Deadlock) (d e : Deadlock) → AreAlike ds es → IsAlike d e → AreAlike (ds ++ d ∷ []) (es ++ e ∷ [])
+alike-push [] [] d e h k = (k, tt)
+alike-push [] (y ∷ es) d e h k = absurd h
+alike-push (x ∷ ds) [] d e h k = absurd h
+alike-push (x ∷ ds) (y ∷ es) d e h k = (h.0, alike-push ds es d e h.1 k)
+
+-- copies tell what the originals tell
+pub told-alike : (ms : List Moment) (ds es : List Deadlock) → AreDeadlocksTold ms ds → AreAlike ds es → AreDeadlocksTold ms es
+told-alike [] [] [] h k = tt
+told-alike [] [] (e ∷ es) h k = absurd k
+told-alike [] (d ∷ ds) es h k = absurd h
+told-alike (m ∷ ms) [] es h k = absurd h
+told-alike (m ∷ ms) (d ∷ ds) [] h k = absurd k
+told-alike (m ∷ ms) (d ∷ ds) (e ∷ es) h k = (
+  record {
+    place = k.0.place ∙ h.0.place;
+    session = k.0.session ∙ h.0.session;
+    cycle = subst (IsCycleTold m.state m.session) (sym k.0.cycle) h.0.cycle;
+  },
+  told-alike ms ds es h.1 k.1,
+)
+
+-- nothing is told of nothing
+pub newest-none : {X : Type 0} (n : ℕ) → newest {X = X} n [] ≡ []
+newest-none {X = X} n = let none : 0 - n ≡ 0 = omega arith in ap (λ (k : ℕ). drop {A = X} k []) none
+
+pub told-none : (n : ℕ) (ms : List Moment) (ds : List Deadlock) → ms ≡ [] → ds ≡ [] → AreDeadlocksTold (newest n ms) ds
+told-none n ms ds e f =
+    subst (λ (xs : List Moment). AreDeadlocksTold (newest n xs) ds) (sym e)
+    (subst (AreDeadlocksTold (newest n [])) (sym f) (subst (λ (xs : List Moment). AreDeadlocksTold xs []) (sym (newest-none n)) tt))

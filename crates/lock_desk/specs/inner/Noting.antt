@@ -1,0 +1,47 @@
+-- Internal to this crate, cited by no public contract: the log of deadlocks.
+use Rattle.std.specs.Prelude.{◌≡◌, ℕ, ◌-◌, ◌<◌, ◌≤◌, List, [], ◌∷◌, ◌++◌, length, drop, vec_capacity}
+use Rattle.std.specs.List.{All}
+use Rattle.lock_desk.specs.Deadlocks.{Moment, AreDeadlocksTold, newest}
+use Rattle.lock_desk.specs.declared.deadlock_log.Deadlock.{Deadlock}
+use Rattle.lock_desk.specs.declared.deadlock_log.DeadlockLog.TheInside.{Inside}
+
+-- a log: how many deadlocks it keeps at most, for how many sessions, and those that it tells, oldest first
+pub record LogView : Type 0 where
+  pub most : ℕ
+  pub sessions : ℕ
+  pub told : List Deadlock
+
+-- what contracts see of a log
+abbrev pub log_view_of : Inside → LogView
+log_view_of a = record {
+  most = length a.slots.items;
+  sessions = a.search.sessions;
+  told = drop (length a.slots.items - a.count) a.slots.items;
+}
+
+-- no more slots are in use than there are, and each has room for a cycle of all sessions
+pub record HasSlots (a : Inside) : Type 0 where
+  pub few : a.count ≤ length a.slots.items
+  pub room : All (λ (d : Deadlock). a.search.sessions ≤ vec_capacity d.cycle) a.slots.items
+
+-- a log that keeps deadlocks is for n sessions
+abbrev pub IsLogFor : ℕ → LogView → Type 0
+IsLogFor n log = 0 < log.most → log.sessions ≡ n
+
+-- these deadlocks are noted: if the log told the newest of those before, it tells the newest of all
+pub record HasNoted (ms : List Moment) (old new : LogView) : Type 0 where
+  pub most : new.most ≡ old.most
+  pub told : (before : List Moment) → AreDeadlocksTold (newest old.most before) old.told → AreDeadlocksTold (newest old.most (before ++ ms)) new.told
+
+-- two deadlocks tell the same
+pub record IsAlike (d e : Deadlock) : Type 0 where
+  pub place : e.place ≡ d.place
+  pub session : e.session ≡ d.session
+  pub cycle : e.cycle.items ≡ d.cycle.items
+
+-- so do two lists of them
+abbrev pub AreAlike : List Deadlock → List Deadlock → Type 0
+AreAlike [] [] = Unit {0}
+AreAlike [] (e ∷ es) = ⊥
+AreAlike (d ∷ ds) [] = ⊥
+AreAlike (d ∷ ds) (e ∷ es) = IsAlike d e × AreAlike ds es

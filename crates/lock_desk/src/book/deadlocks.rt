@@ -1,0 +1,53 @@
+//! The deadlocks that a book tells.
+
+ghost use Rattle.std.specs.Prelude.{◌≡◌, [], OnOk, OnErr};
+ghost use Rattle.lock_desk.specs.Deadlocks.{AreDeadlocksTold, deadlocks_in, newest};
+
+use crate::book::Book;
+use crate::deadlock_log::{Deadlock, DeadlockLog, copies_of};
+use std::alloc::{AllocError as NoMemory, Global};
+
+impl Book {
+    /// Keeps the newest `most` deadlocks from now on, for `deadlocks` to tell. No call may have been served yet.
+    ///
+    /// Takes all memory for them at once: for each deadlock that of a cycle of all sessions, some 56 bytes a session. So no call takes
+    /// memory for a deadlock, and a call that makes none costs the same with and without. A book keeps none unless it is asked for.
+    /// Fails with `NoMemory` if memory is refused; the book is unchanged then.
+    pub fn keep_deadlocks(&mut self, alloc: Global, most: usize) -> Result<(), NoMemory>
+        requires fresh { self.old.history ≡ [] }
+        ensures ok { OnOk result (self.new ≡ record self.old { deadlocks = most }) }
+        ensures err { OnErr result (self.new ≡ self.old) }
+    {
+        self.deadlocks = DeadlockLog::keeping(alloc, self.sessions, most)?;
+        Ok(())
+    }
+
+    /// How many deadlocks are kept at most, 0 unless `keep_deadlocks` was called.
+    pub fn deadlocks_kept(&self) -> usize
+        ensures { result ≡ self.now.deadlocks }
+    {
+        self.deadlocks.most()
+    }
+
+    /// The newest deadlocks, oldest first, as many as are kept: of each the call that made it, and the cycle as it was before the
+    /// victim was doomed, with what each member waited for.
+    ///
+    /// A call makes a deadlock for each victim that it dooms; those of one call have the same place, and come in the order in which
+    /// their victims were doomed. Of several cycles that go through the victim one is told. That a book keeps them is this project's
+    /// own.
+    pub fn deadlocks(&self) -> &[Deadlock]
+        ensures { AreDeadlocksTold (newest self.now.deadlocks (deadlocks_in self.now.history)) result.now }
+    {
+        self.deadlocks.told()
+    }
+
+    /// Replaces the contents of `list` by copies of the deadlocks that `deadlocks` tells. Fails with `NoMemory` if memory is refused; the
+    /// contents of `list` are unchanged then.
+    pub fn copy_deadlocks(&self, alloc: Global, list: &mut Vec<Deadlock>) -> Result<(), NoMemory>
+        ensures ok { OnOk result (AreDeadlocksTold (newest self.now.deadlocks (deadlocks_in self.now.history)) list.new.items) }
+        ensures err { OnErr result (list.new.items ≡ list.old.items) }
+    {
+        *list = copies_of(alloc, self.deadlocks())?;
+        Ok(())
+    }
+}

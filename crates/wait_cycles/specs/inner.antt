@@ -1,0 +1,3 @@
+-- what only private contracts cite
+pub mod Meeting
+pub mod Room
