@@ -318,6 +318,20 @@ static void call_locks(void) {
     check(pelgaisti_book_locks(&book, 10, claims, quantity("n"), &count));
 }
 
+static void call_locks_held(void) {
+    size_t count;
+    check(pelgaisti_book_locks_held(&book, CALLER, &count));
+    if (count < quantity("own")) exit(22);
+}
+
+/* A page of `n` of the caller's own locks. */
+static void call_locks_of(void) {
+    static const pelgaisti_resource first = {0, {0}};
+    size_t count;
+    check(pelgaisti_book_locks_of(&book, CALLER, &first, claims, quantity("n"), &count));
+    if (count != quantity("n") && count < quantity("own")) exit(23);
+}
+
 static void freed(void) {
     writer_before_readers();
     call_commit();
@@ -451,6 +465,9 @@ static const struct row {
     {"transaction", nothing, call_transaction, 0},
     {"request", request_behind, call_request, 0},
     {"locks", readers_and_queue, call_locks, 0},
+    {"locks_held", readers_and_queue, call_locks_held, 0},
+    {"locks_of, of few", readers_and_queue, call_locks_of, 0},
+    {"locks_of, of many", readers_and_queue, call_locks_of, 0},
     {"ended", freed, call_ended, 0},
     {"history", nothing, call_history, 0},
     {"take_history", nothing, call_take_history, 0},

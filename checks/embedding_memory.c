@@ -18,7 +18,7 @@ static pelgaisti_pass unwritten;
 static pelgaisti_answer unanswered = {99, {77, 88}};
 
 /* What a session's questions, and its calls on the memory of the lock table, return at that allocation. */
-enum { QUESTIONS = 11 };
+enum { QUESTIONS = 13 };
 static uint32_t asked[QUESTIONS], unasked = 99;
 static uint64_t unseen = 99;
 static const pelgaisti_call begin = {PELGAISTI_BEGIN, 0, {0, {0}}};
@@ -44,6 +44,8 @@ static void ask_each(pelgaisti_session *session) {
     asked[9] = pelgaisti_session_idle_cells(session, &uncounted, &unseen);
     asked[10] = pelgaisti_session_deadlocks(session, &deadlock, 1, &uncounted, &member, 1, &unlisted, &unseen);
     if (unlisted != 99) asked[10] = PELGAISTI_OK;
+    asked[11] = pelgaisti_session_locks_held(session, 1, &uncounted, &unseen);
+    asked[12] = pelgaisti_session_locks_of(session, 1, &place, &claim, 1, &uncounted, &unseen);
 }
 
 /* At the next allocation, `meanwhile` tries to serve and `other` to perform a call and to ask, once. */
@@ -69,7 +71,8 @@ static void try_meanwhile(void) {
 enum { BOOK_OPEN, BOOK_SERVE, BOOK_SERVE_BATCH, BOOK_LOCK_PATH, BOOK_RUN, BOOK_HOLDERS, BOOK_LOCKS, OFFICE_OPEN, SESSION_SERVE, AT_ONCE, TELLING,
        SESSION_HOLDERS, SESSION_BLOCKERS, SESSION_LOCKS, HAND_IN, OFFICE_CLOSE, OPEN_WAKING, WAKING_SERVE, WAKING_SERVE_TELLING,
        WAKING_AT_ONCE, WAKING_TELLING, WAKING_PERFORM, WAKING_PATH, SESSION_RUN, BOOK_RESERVE, SESSION_RESERVE,
-       KEEP_DEADLOCKS, BOOK_DEADLOCKS, OPEN_TELLING, SESSION_DEADLOCKS, LACKING };
+       KEEP_DEADLOCKS, BOOK_DEADLOCKS, OPEN_TELLING, SESSION_DEADLOCKS, BOOK_LOCKS_OF,
+       SESSION_LOCKS_OF, LACKING };
 static const char *const lacking[LACKING] = {"book_open", "book_serve", "book_serve_batch", "book_lock_path", "book_run",
                                              "book_holders", "book_locks", "office_open", "session_serve", "session_perform_at_once",
                                              "session_perform_telling", "session_holders", "session_blockers", "session_locks",
@@ -77,7 +80,8 @@ static const char *const lacking[LACKING] = {"book_open", "book_serve", "book_se
                                              "session_serve_telling, which wakes", "session_perform_at_once, which wakes",
                                              "session_perform_telling, which wakes", "session_perform, which wakes",
                                              "session_lock_path, which wakes", "session_run", "book_reserve", "session_reserve",
-                                             "book_keep_deadlocks", "book_deadlocks", "office_open_telling", "session_deadlocks"};
+                                             "book_keep_deadlocks", "book_deadlocks", "office_open_telling", "session_deadlocks", "book_locks_of",
+                                             "session_locks_of"};
 static long lacked[LACKING];
 
 /* How many batches were refused memory behind the calls that they served. */
@@ -213,6 +217,16 @@ static void books(void) {
     }
     CHECK(status == PELGAISTI_OK && count == 45 && claims[0].session == SESSIONS && claims[0].resource.numbers[0] == 7);
     CHECK(claims[1].session == 1 && claims[1].resource.numbers[0] == 9);
+    static const pelgaisti_resource nowhere = {0, {0}};
+    memset(claims, 0x55, sizeof claims);
+    count = 99;
+    status = pelgaisti_book_locks_of(&book, 1, &nowhere, claims, 2, &count);
+    if (is_lacking(BOOK_LOCKS_OF, status)) {
+        CHECK(count == 99 && claims[0].kind == 0x55555555);
+        status = pelgaisti_book_locks_of(&book, 1, &nowhere, claims, 2, &count);
+    }
+    CHECK(status == PELGAISTI_OK && count == 2 && claims[0].session == 1 && claims[1].session == 1);
+    CHECK(claims[0].resource.numbers[0] == 7 && claims[1].resource.numbers[0] == 9);
     for (uint32_t k = 60; k < CALLS; k++) serve_nth(&book, k);
     CHECK(ample[66].kind == PELGAISTI_GRANTED && ample[71].kind == PELGAISTI_WITHDRAWN);
     pelgaisti_call end = call_of(PELGAISTI_ABORT, 0, 0);
@@ -420,6 +434,16 @@ static void ask_lists(pelgaisti_session *session, size_t locks, uint64_t length)
         status = pelgaisti_session_locks(session, 0, claims, 64, &count, &seen);
     }
     CHECK(status == PELGAISTI_OK && count == locks && seen == length && claims[0].kind == PELGAISTI_HELD);
+    static const pelgaisti_resource nowhere = {0, {0}};
+    const uint32_t whose = claims[0].session;
+    count = 99;
+    seen = 99;
+    status = pelgaisti_session_locks_of(session, whose, &nowhere, claims, 64, &count, &seen);
+    if (is_lacking(SESSION_LOCKS_OF, status)) {
+        CHECK(count == 99 && seen == 99);
+        status = pelgaisti_session_locks_of(session, whose, &nowhere, claims, 64, &count, &seen);
+    }
+    CHECK(status == PELGAISTI_OK && 0 < count && count <= locks && seen == length && claims[0].session == whose);
 }
 
 /* Makes room by a session, again if memory is refused: then nothing is written. */

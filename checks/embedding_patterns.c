@@ -1,5 +1,5 @@
-/* What docs/EMBEDDING.md tells an engine to do with names of bytes, with savepoints, and with transactions that move from thread to
-   thread. Prints the line of each check that fails. Status 0: none does. */
+/* What docs/EMBEDDING.md tells an engine to do with names of bytes, with savepoints, with many locks, and with transactions that move from
+   thread to thread. Prints the line of each check that fails. Status 0: none does. */
 #define _XOPEN_SOURCE 600
 #include "pelgaisti.h"
 #include <pthread.h>
@@ -140,6 +140,66 @@ static void savepoints_give_locks_back(void) {
     close_all(s, 2);
 }
 
+static int is_below(const pelgaisti_resource *parent, const pelgaisti_resource *resource) {
+    return resource->level > parent->level && memcmp(parent->numbers, resource->numbers, parent->level * 4) == 0;
+}
+
+/* Locks the parent in place of what the session holds below it, unless it would wait. Returns how many locks it has given back. */
+static size_t escalate(pelgaisti_session *session, uint32_t number, const pelgaisti_resource *parent) {
+    static pelgaisti_claim held[PELGAISTI_MAX_LOCKS];
+    uint32_t mode = PELGAISTI_S;
+    size_t count = 0, below = 0;
+    uint64_t seen;
+    CHECK(pelgaisti_session_locks_of(session, number, parent, held, PELGAISTI_MAX_LOCKS, &count, &seen) == PELGAISTI_OK);
+    while (below < count && is_below(parent, &held[below].resource))
+        if (held[below++].mode & ~(uint32_t)PELGAISTI_S) mode = PELGAISTI_X; /* more than S, or an intention to write */
+    if (ask(session, PELGAISTI_TRY, parent, mode) != PELGAISTI_GRANTED) return 0;
+    for (size_t k = below; k > 0; k--) CHECK(ask(session, PELGAISTI_RELEASE, &held[k - 1].resource, 0) == PELGAISTI_RELEASED);
+    return below;
+}
+
+static size_t locks_held(pelgaisti_session *session, uint32_t number) {
+    size_t count = 0;
+    uint64_t seen;
+    CHECK(pelgaisti_session_locks_held(session, number, &count, &seen) == PELGAISTI_OK);
+    return count;
+}
+
+/* A session locks rows until it holds 1000 locks: two tables, rows of one in S and X, and a field of one of them. While another reads in that
+   table, the table isn't to be had; then it stands for its rows. Rows that are read alone become S. */
+static void locks_are_escalated(void) {
+    static pelgaisti_session s[2];
+    const pelgaisti_resource database = {1, {1}}, table = {2, {1, 7}}, other = {2, {1, 8}};
+    pelgaisti_resource row = {3, {1, 7, 1}}, field = {4, {1, 7, 0, 3}}, mine = {3, {1, 7, 5000}};
+    CHECK(pelgaisti_office_open(s, 2) == PELGAISTI_OK);
+    for (int k = 0; k < 2; k++) {
+        CHECK(ask(&s[k], PELGAISTI_BEGIN, NULL, 0) == PELGAISTI_BEGAN && ask(&s[k], PELGAISTI_LOCK, &database, PELGAISTI_IX) == PELGAISTI_GRANTED);
+        CHECK(ask(&s[k], PELGAISTI_LOCK, &table, k == 0 ? PELGAISTI_IX : PELGAISTI_IS) == PELGAISTI_GRANTED);
+    }
+    CHECK(ask(&s[1], PELGAISTI_LOCK, &mine, PELGAISTI_S) == PELGAISTI_GRANTED);
+    CHECK(ask(&s[0], PELGAISTI_LOCK, &other, PELGAISTI_IX) == PELGAISTI_GRANTED);
+    row.numbers[2] = 0;
+    CHECK(ask(&s[0], PELGAISTI_LOCK, &row, PELGAISTI_IX) == PELGAISTI_GRANTED && ask(&s[0], PELGAISTI_LOCK, &field, PELGAISTI_X) == PELGAISTI_GRANTED);
+    while (locks_held(&s[0], 1) < 1000) {
+        row.numbers[2]++;
+        CHECK(ask(&s[0], PELGAISTI_LOCK, &row, row.numbers[2] % 2 ? PELGAISTI_S : PELGAISTI_X) == PELGAISTI_GRANTED);
+    }
+    CHECK(row.numbers[2] == 995 && escalate(&s[0], 1, &table) == 0 && locks_held(&s[0], 1) == 1000 && holds(&s[0], &table, PELGAISTI_IX));
+    CHECK(ask(&s[1], PELGAISTI_COMMIT, NULL, 0) == PELGAISTI_COMMITTED);
+    CHECK(escalate(&s[0], 1, &table) == 997 && locks_held(&s[0], 1) == 3 && holds(&s[0], &table, PELGAISTI_X));
+    CHECK(holds(&s[0], &row, PELGAISTI_NL) && holds(&s[0], &other, PELGAISTI_IX));
+
+    /* whoever reads a row waits for the table; the readers of rows share it */
+    CHECK(ask(&s[1], PELGAISTI_BEGIN, NULL, 0) == PELGAISTI_BEGAN && ask(&s[1], PELGAISTI_LOCK, &database, PELGAISTI_IS) == PELGAISTI_GRANTED);
+    CHECK(ask(&s[1], PELGAISTI_LOCK, &table, PELGAISTI_IS) == PELGAISTI_WAITING);
+    CHECK(ask(&s[0], PELGAISTI_COMMIT, NULL, 0) == PELGAISTI_COMMITTED && ask(&s[1], PELGAISTI_POLL, NULL, 0) == PELGAISTI_CLEAR);
+    CHECK(ask(&s[1], PELGAISTI_LOCK, &mine, PELGAISTI_S) == PELGAISTI_GRANTED && escalate(&s[1], 2, &table) == 1);
+    CHECK(ask(&s[0], PELGAISTI_BEGIN, NULL, 0) == PELGAISTI_BEGAN && ask(&s[0], PELGAISTI_LOCK, &database, PELGAISTI_IX) == PELGAISTI_GRANTED);
+    CHECK(ask(&s[0], PELGAISTI_TRY, &table, PELGAISTI_S) == PELGAISTI_GRANTED && ask(&s[0], PELGAISTI_TRY, &table, PELGAISTI_IX) == PELGAISTI_REFUSED);
+    for (int k = 0; k < 2; k++) CHECK(ask(&s[k], PELGAISTI_COMMIT, NULL, 0) == PELGAISTI_COMMITTED);
+    close_all(s, 2);
+}
+
 enum { STAGES = 3, MOVING = 4, ROUNDS = 200 };
 
 /* A transaction on its way: its session's number, and what its threads tell one another, which is plain memory. */
@@ -231,6 +291,7 @@ static void transactions_move(void) {
 int main(void) {
     names_share_a_lock();
     savepoints_give_locks_back();
+    locks_are_escalated();
     transactions_move();
     return failed != 0;
 }

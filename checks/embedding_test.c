@@ -56,6 +56,7 @@ static const struct {
     {ANY(session_idle_cells), "ppp"}, {ANY(book_close), "p"}, {ANY(book_serve), "pnpp"}, {ANY(book_serve_batch), "plrp"}, {ANY(book_held), "pnpp"},
     {ANY(book_holders), "pplrp"}, {ANY(book_waits_for), "pnnp"}, {ANY(book_blockers), "pnlrp"}, {ANY(book_transaction), "pnp"},
     {ANY(book_request), "pnp"}, {ANY(book_locks), "pnlrp"}, {ANY(book_ended), "plrp"}, {ANY(book_length), "pp"},
+    {ANY(book_locks_held), "pnp"}, {ANY(book_locks_of), "pnplrp"}, {ANY(session_locks_held), "pnpp"}, {ANY(session_locks_of), "pnplrpp"},
     {ANY(book_history), "pnlrp"}, {ANY(book_first_kept), "pp"}, {ANY(book_keep_at_most), "pn"}, {ANY(book_take_history), "pplrp"},
     {ANY(book_lock_path), "pnpnpplrp"}, {ANY(book_run), "pnpplrp"}, {ANY(office_open), "pn"}, {ANY(office_open_keeping), "pnn"}, {ANY(office_open_waking), "pnnp"},
     {ANY(session_publish), "ppo"}, {ANY(session_serve), "po"}, {ANY(session_serve_telling), "polrp"},
@@ -1750,6 +1751,122 @@ static void claims_of_a_book(void) {
     CHECK(pelgaisti_book_close(&book) == PELGAISTI_OK);
 }
 
+/* Session 1 locks the database 1 in IX, the files 1/3, 1/1 and 1/2 in IX, X and X, and the page 1/3/0 in X, in this order; session 2 the
+   database in IX. In the order of paths session 1 holds 1, 1/1, 1/2, 1/3, 1/3/0. */
+static const uint32_t paged[6][5] = {{1, PELGAISTI_IX, 1, 1, 0}, {1, PELGAISTI_IX, 2, 1, 3}, {1, PELGAISTI_X, 2, 1, 1}, {1, PELGAISTI_X, 2, 1, 2},
+                                     {1, PELGAISTI_X, 3, 1, 3}, {2, PELGAISTI_IX, 1, 1, 0}};
+
+/* Whether this is the lock of session 1 on a resource of this level, below 1 the child of that number. */
+static int is_paged(const pelgaisti_claim *claim, uint32_t mode, uint32_t level, uint32_t child) {
+    return claim->session == 1 && claim->kind == PELGAISTI_HELD && claim->mode == mode && claim->resource.level == level &&
+           claim->resource.numbers[0] == 1 && claim->resource.numbers[1] == child && claim->transaction == 1 && claim->doomed == 0;
+}
+
+/* How many locks a session of a book holds, and pages of them. */
+static void pages_of_a_book(void) {
+    pelgaisti_book book = PELGAISTI_EMPTY;
+    pelgaisti_call begin = call_of(PELGAISTI_BEGIN, 0, 0, 0, 0), release = call_of(PELGAISTI_RELEASE, 0, 2, 1, 1);
+    pelgaisti_call weaker = call_of(PELGAISTI_LOCK, PELGAISTI_S, 2, 1, 0), stronger = call_of(PELGAISTI_CONVERT, PELGAISTI_X, 2, 1, 3);
+    pelgaisti_resource first = {0, {9, 9}}, after;
+    pelgaisti_claim list[6];
+    pelgaisti_reply reply;
+    size_t count = 99;
+
+    memset(list, 0x55, sizeof list);
+    CHECK(pelgaisti_book_locks_held(&book, 1, &count) == PELGAISTI_CLOSED);
+    CHECK(pelgaisti_book_locks_of(&book, 1, &first, list, 6, &count) == PELGAISTI_CLOSED);
+    CHECK(pelgaisti_book_open(&book, 3) == PELGAISTI_OK);
+    CHECK(pelgaisti_book_locks_held(NULL, 1, &count) == PELGAISTI_NULL && pelgaisti_book_locks_held(&book, 1, NULL) == PELGAISTI_NULL);
+    CHECK(pelgaisti_book_locks_of(NULL, 1, &first, list, 6, &count) == PELGAISTI_NULL);
+    CHECK(pelgaisti_book_locks_of(&book, 1, NULL, list, 6, &count) == PELGAISTI_NULL);
+    CHECK(pelgaisti_book_locks_of(&book, 1, &first, NULL, 6, &count) == PELGAISTI_NULL);
+    CHECK(pelgaisti_book_locks_of(&book, 1, &first, list, 6, NULL) == PELGAISTI_NULL);
+    for (size_t k = 0; k < COUNT(off_sessions); k++) {
+        CHECK(pelgaisti_book_locks_held(&book, off_sessions[k], &count) == PELGAISTI_NO_SUCH_SESSION);
+        CHECK(pelgaisti_book_locks_of(&book, off_sessions[k], &first, list, 6, &count) == PELGAISTI_NO_SUCH_SESSION);
+    }
+    for (size_t k = 0; k < COUNT(off_levels); k++) {
+        after = first;
+        after.level = off_levels[k];
+        if (after.level == 0) continue;
+        CHECK(pelgaisti_book_locks_of(&book, 0, &after, list, 6, &count) == PELGAISTI_NO_SUCH_SESSION);
+        CHECK(pelgaisti_book_locks_of(&book, 1, &after, list, 6, &count) == PELGAISTI_NO_SUCH_LEVEL);
+    }
+    CHECK(list[0].kind == 0x55555555 && count == 99);
+    CHECK(pelgaisti_book_locks_held(&book, 1, &count) == PELGAISTI_OK && count == 0);
+    CHECK(pelgaisti_book_locks_of(&book, 1, &first, list, 6, &count) == PELGAISTI_OK && count == 0 && list[0].kind == 0x55555555);
+    for (uint32_t s = 1; s <= 2; s++) CHECK(pelgaisti_book_serve(&book, s, &begin, &reply) == PELGAISTI_OK);
+    for (size_t k = 0; k < COUNT(paged); k++) {
+        pelgaisti_call call = call_of(PELGAISTI_LOCK, paged[k][1], paged[k][2], paged[k][3], paged[k][4]);
+        CHECK(pelgaisti_book_serve(&book, paged[k][0], &call, &reply) == PELGAISTI_OK && reply.kind == PELGAISTI_GRANTED);
+    }
+    CHECK(pelgaisti_book_locks_held(&book, 1, &count) == PELGAISTI_OK && count == 5);
+    CHECK(pelgaisti_book_locks_held(&book, 2, &count) == PELGAISTI_OK && count == 1);
+    CHECK(pelgaisti_book_locks_held(&book, 3, &count) == PELGAISTI_OK && count == 0);
+
+    /* a page of two, and from behind its last lock the other three; a page with room for none */
+    CHECK(pelgaisti_book_locks_of(&book, 1, &first, list, 2, &count) == PELGAISTI_OK && count == 2 && list[2].kind == 0x55555555);
+    CHECK(is_paged(&list[0], PELGAISTI_IX, 1, 0) && is_paged(&list[1], PELGAISTI_X, 2, 1));
+    after = list[1].resource;
+    CHECK(pelgaisti_book_locks_of(&book, 1, &after, list, 6, &count) == PELGAISTI_OK && count == 3 && list[3].kind == 0x55555555);
+    CHECK(is_paged(&list[0], PELGAISTI_X, 2, 2) && is_paged(&list[1], PELGAISTI_IX, 2, 3) && is_paged(&list[2], PELGAISTI_X, 3, 3));
+    CHECK(pelgaisti_book_locks_of(&book, 1, &first, NULL, 0, &count) == PELGAISTI_OK && count == 0);
+
+    /* between two pages a lock that was told goes, one that is to come is converted, and one comes before the place */
+    CHECK(pelgaisti_book_serve(&book, 1, &release, &reply) == PELGAISTI_OK && reply.kind == PELGAISTI_RELEASED);
+    CHECK(pelgaisti_book_serve(&book, 1, &stronger, &reply) == PELGAISTI_OK && reply.kind == PELGAISTI_GRANTED);
+    CHECK(pelgaisti_book_serve(&book, 1, &weaker, &reply) == PELGAISTI_OK && reply.kind == PELGAISTI_GRANTED);
+    CHECK(pelgaisti_book_locks_of(&book, 1, &after, list, 3, &count) == PELGAISTI_OK && count == 3);
+    CHECK(is_paged(&list[0], PELGAISTI_X, 2, 2) && is_paged(&list[1], PELGAISTI_X, 2, 3) && is_paged(&list[2], PELGAISTI_X, 3, 3));
+    after = list[2].resource;
+    CHECK(pelgaisti_book_locks_of(&book, 1, &after, list, 3, &count) == PELGAISTI_OK && count == 0);
+
+    /* a page may begin behind a resource that nobody holds, and behind that of another */
+    after.level = 5;
+    after.numbers[0] = 0;
+    CHECK(pelgaisti_book_locks_of(&book, 2, &after, list, 6, &count) == PELGAISTI_OK && count == 1 && list[0].session == 2);
+    after.numbers[0] = 2;
+    CHECK(pelgaisti_book_locks_of(&book, 2, &after, list, 6, &count) == PELGAISTI_OK && count == 0);
+    CHECK(pelgaisti_book_close(&book) == PELGAISTI_OK);
+}
+
+/* Pages that are gathered and pages that are sorted tell the same: of 200 locks, taken from the last to the first and some of them released. */
+static void pages_of_many_locks(void) {
+    enum { LOCKS = 200 };
+    pelgaisti_book book = PELGAISTI_EMPTY;
+    pelgaisti_call begin = call_of(PELGAISTI_BEGIN, 0, 0, 0, 0), root = call_of(PELGAISTI_LOCK, PELGAISTI_IX, 1, 1, 0);
+    static pelgaisti_claim all[LOCKS + 1], list[LOCKS + 1];
+    pelgaisti_reply reply;
+    size_t count = 99, room, at;
+
+    CHECK(pelgaisti_book_open(&book, 1) == PELGAISTI_OK && pelgaisti_book_serve(&book, 1, &begin, &reply) == PELGAISTI_OK);
+    CHECK(pelgaisti_book_serve(&book, 1, &root, &reply) == PELGAISTI_OK);
+    for (uint32_t k = LOCKS; k > 0; k--) {
+        pelgaisti_call call = call_of(PELGAISTI_LOCK, PELGAISTI_X, 2, 1, k);
+        CHECK(pelgaisti_book_serve(&book, 1, &call, &reply) == PELGAISTI_OK && reply.kind == PELGAISTI_GRANTED);
+    }
+    for (uint32_t k = 3; k <= LOCKS; k += 3) { /* 66 of them: the others are indexed then */
+        pelgaisti_call call = call_of(PELGAISTI_RELEASE, 0, 2, 1, k);
+        CHECK(pelgaisti_book_serve(&book, 1, &call, &reply) == PELGAISTI_OK && reply.kind == PELGAISTI_RELEASED);
+    }
+    for (uint32_t k = 6; k <= LOCKS; k += 6) { /* 33 of them again, which are recent */
+        pelgaisti_call call = call_of(PELGAISTI_LOCK, PELGAISTI_X, 2, 1, k);
+        CHECK(pelgaisti_book_serve(&book, 1, &call, &reply) == PELGAISTI_OK && reply.kind == PELGAISTI_GRANTED);
+    }
+    CHECK(pelgaisti_book_locks_held(&book, 1, &count) == PELGAISTI_OK && count == 168);
+    CHECK(pelgaisti_book_locks(&book, 0, all, LOCKS + 1, &count) == PELGAISTI_OK && count == 168);
+    for (room = 1; room <= LOCKS; room++) {
+        pelgaisti_resource after = {0, {0}};
+        for (at = 0, count = room; count == room; at += count) {
+            CHECK(pelgaisti_book_locks_of(&book, 1, &after, list, room, &count) == PELGAISTI_OK && at + count <= 168);
+            CHECK(!memcmp(list, all + at, count * sizeof list[0]));
+            if (count > 0) after = list[count - 1].resource;
+        }
+        CHECK(at == 168);
+    }
+    CHECK(pelgaisti_book_close(&book) == PELGAISTI_OK);
+}
+
 /* The questions of a session refuse as those of a book do, and then nothing is written. */
 static void questions_refuse(pelgaisti_session *asker, pelgaisti_session *closed) {
     pelgaisti_resource place = {1, {1}};
@@ -1768,6 +1885,8 @@ static void questions_refuse(pelgaisti_session *asker, pelgaisti_session *closed
     CHECK(pelgaisti_session_holders(closed, &place, holders, 2, &count, &seen) == PELGAISTI_CLOSED);
     CHECK(pelgaisti_session_blockers(closed, 1, list, 2, &count, &seen) == PELGAISTI_CLOSED);
     CHECK(pelgaisti_session_locks(closed, 0, &claim, 1, &count, &seen) == PELGAISTI_CLOSED);
+    CHECK(pelgaisti_session_locks_held(closed, 1, &count, &seen) == PELGAISTI_CLOSED);
+    CHECK(pelgaisti_session_locks_of(closed, 1, &place, &claim, 1, &count, &seen) == PELGAISTI_CLOSED);
     CHECK(pelgaisti_session_held(NULL, 1, &place, &mode, &seen) == PELGAISTI_NULL);
     CHECK(pelgaisti_session_held(asker, 1, NULL, &mode, &seen) == PELGAISTI_NULL);
     CHECK(pelgaisti_session_held(asker, 1, &place, NULL, &seen) == PELGAISTI_NULL);
@@ -1794,6 +1913,14 @@ static void questions_refuse(pelgaisti_session *asker, pelgaisti_session *closed
     CHECK(pelgaisti_session_locks(asker, 0, NULL, 1, &count, &seen) == PELGAISTI_NULL);
     CHECK(pelgaisti_session_locks(asker, 0, &claim, 1, NULL, &seen) == PELGAISTI_NULL);
     CHECK(pelgaisti_session_locks(asker, 0, &claim, 1, &count, NULL) == PELGAISTI_NULL);
+    CHECK(pelgaisti_session_locks_held(NULL, 1, &count, &seen) == PELGAISTI_NULL);
+    CHECK(pelgaisti_session_locks_held(asker, 1, NULL, &seen) == PELGAISTI_NULL);
+    CHECK(pelgaisti_session_locks_held(asker, 1, &count, NULL) == PELGAISTI_NULL);
+    CHECK(pelgaisti_session_locks_of(NULL, 1, &place, &claim, 1, &count, &seen) == PELGAISTI_NULL);
+    CHECK(pelgaisti_session_locks_of(asker, 1, NULL, &claim, 1, &count, &seen) == PELGAISTI_NULL);
+    CHECK(pelgaisti_session_locks_of(asker, 1, &place, NULL, 1, &count, &seen) == PELGAISTI_NULL);
+    CHECK(pelgaisti_session_locks_of(asker, 1, &place, &claim, 1, NULL, &seen) == PELGAISTI_NULL);
+    CHECK(pelgaisti_session_locks_of(asker, 1, &place, &claim, 1, &count, NULL) == PELGAISTI_NULL);
     for (size_t k = 0; k < COUNT(off_sessions); k++) {
         CHECK(pelgaisti_session_held(asker, off_sessions[k], &place, &mode, &seen) == PELGAISTI_NO_SUCH_SESSION);
         CHECK(pelgaisti_session_transaction(asker, off_sessions[k], &open, &seen) == PELGAISTI_NO_SUCH_SESSION);
@@ -1801,12 +1928,16 @@ static void questions_refuse(pelgaisti_session *asker, pelgaisti_session *closed
         CHECK(pelgaisti_session_waits_for(asker, off_sessions[k], 1, &edge, &seen) == PELGAISTI_NO_SUCH_SESSION);
         CHECK(pelgaisti_session_waits_for(asker, 1, off_sessions[k], &edge, &seen) == PELGAISTI_NO_SUCH_SESSION);
         CHECK(pelgaisti_session_blockers(asker, off_sessions[k], list, 2, &count, &seen) == PELGAISTI_NO_SUCH_SESSION);
+        CHECK(pelgaisti_session_locks_held(asker, off_sessions[k], &count, &seen) == PELGAISTI_NO_SUCH_SESSION);
+        CHECK(pelgaisti_session_locks_of(asker, off_sessions[k], &place, &claim, 1, &count, &seen) == PELGAISTI_NO_SUCH_SESSION);
     }
     for (size_t k = 0; k < COUNT(off_levels); k++) {
         place.level = off_levels[k];
         CHECK(pelgaisti_session_held(asker, 1, &place, &mode, &seen) == PELGAISTI_NO_SUCH_LEVEL);
         CHECK(pelgaisti_session_held(asker, 4, &place, &mode, &seen) == PELGAISTI_NO_SUCH_SESSION);
         CHECK(pelgaisti_session_holders(asker, &place, holders, 2, &count, &seen) == PELGAISTI_NO_SUCH_LEVEL);
+        CHECK(pelgaisti_session_locks_of(asker, 4, &place, &claim, 1, &count, &seen) == PELGAISTI_NO_SUCH_SESSION);
+        if (place.level > 0) CHECK(pelgaisti_session_locks_of(asker, 1, &place, &claim, 1, &count, &seen) == PELGAISTI_NO_SUCH_LEVEL);
     }
     CHECK(mode == 99 && edge == 99 && open.number == 77 && open.doomed == 88 && holders[0].session == 77 && list[0] == 77);
     CHECK(claim.kind == 0x55555555 && seen == 99 && count == 99);
@@ -1858,6 +1989,19 @@ static void sessions_ask(void) {
     CHECK(pelgaisti_session_locks(&sessions[1], 4, claims, 6, &count, &seen) == PELGAISTI_OK && count == 5 && seen == 9);
     CHECK(is_claim(&claims[0], 1, PELGAISTI_HELD, PELGAISTI_S, 2, 0) && is_claim(&claims[1], 2, PELGAISTI_HELD, PELGAISTI_S, 1, 0));
     CHECK(pelgaisti_session_locks(&sessions[1], 0, NULL, 0, &count, &seen) == PELGAISTI_OK && count == 5);
+    /* session 1 holds the database and a file; a page may begin behind either */
+    {
+        pelgaisti_resource first = {0, {0}};
+        CHECK(pelgaisti_session_locks_held(&sessions[1], 1, &count, &seen) == PELGAISTI_OK && count == 2 && seen == 9);
+        CHECK(pelgaisti_session_locks_held(&sessions[1], 3, &count, &seen) == PELGAISTI_OK && count == 0 && seen == 9);
+        memset(claims, 0x55, sizeof claims);
+        CHECK(pelgaisti_session_locks_of(&sessions[1], 1, &first, claims, 1, &count, &seen) == PELGAISTI_OK && count == 1 && seen == 9);
+        CHECK(is_claim(&claims[0], 1, PELGAISTI_HELD, PELGAISTI_S, 1, 0) && claims[1].kind == 0x55555555);
+        CHECK(pelgaisti_session_locks_of(&sessions[1], 1, &claims[0].resource, claims, 6, &count, &seen) == PELGAISTI_OK && count == 1 && seen == 9);
+        CHECK(is_claim(&claims[0], 1, PELGAISTI_HELD, PELGAISTI_S, 2, 0));
+        CHECK(pelgaisti_session_locks_of(&sessions[1], 1, &claims[0].resource, claims, 6, &count, &seen) == PELGAISTI_OK && count == 0);
+        CHECK(pelgaisti_session_locks_of(&sessions[1], 3, &first, NULL, 0, &count, &seen) == PELGAISTI_OK && count == 0);
+    }
     CHECK(pelgaisti_session_collect(&sessions[1], &answer) == PELGAISTI_NOT_SERVED);
     CHECK(pelgaisti_session_serve(&sessions[2], NULL) == PELGAISTI_OK);
     CHECK(pelgaisti_session_collect(&sessions[1], &answer) == PELGAISTI_OK && answer.place == 9);
@@ -2707,6 +2851,8 @@ int main(int argc, char **argv) {
     tries_and_withdrawals();
     restarts();
     claims_of_a_book();
+    pages_of_a_book();
+    pages_of_many_locks();
     sessions_ask();
     memory_of_a_book();
     memory_of_an_office();

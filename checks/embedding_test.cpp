@@ -96,6 +96,12 @@ static void books() {
     CHECK(holders.size() == 2 && holders[0].session == 1 && holders[0].mode == PELGAISTI_IX && holders[1].mode == PELGAISTI_IS);
     const auto locks = book.locks();
     CHECK(locks.size() == 5 && locks[0].session == 1 && locks[3].kind == PELGAISTI_FRESH && locks[3].resource.level == 2);
+    CHECK(book.locks_held(1) == 3 && book.locks_held(2) == 1 && book.locks_held(3) == 0);
+    const auto page = book.locks_of(1, 2), behind = book.locks_behind(page.back(), 2);
+    CHECK(page.size() == 2 && page[0].resource.level == 1 && page[1].resource.level == 2);
+    CHECK(behind.size() == 1 && behind[0].mode == PELGAISTI_X && book.locks_behind(behind[0], 2).empty());
+    CHECK(book.locks_of(1, {1, 1}, 9).size() == 2 && book.locks_of(1, {1, 2}, 9).size() == 1 && book.locks_of(2, 0).empty());
+    CHECK(throws(PELGAISTI_NO_SUCH_SESSION, [&] { book.locks_of(4, 1); }));
     CHECK(book.request(2).mode == PELGAISTI_S && book.request(1).kind == 0 && book.transaction(1).number == 3);
     std::vector<pelgaisti_entry> batch(2);
     batch[0].session = 1;
@@ -260,6 +266,9 @@ static void offices() {
     CHECK(office[0].transaction(2)->found.number == 2 && office[0].request(2)->found.kind == 0);
     CHECK(office[0].holders({7})->found.size() == 1 && office[0].blockers(2)->found.empty());
     CHECK(office[0].locks()->found.size() == 1 && office[0].locks()->found[0].kind == PELGAISTI_HELD);
+    CHECK(office[0].locks_held(2)->found == 1 && office[0].locks_held(1)->found == 0 && office[0].locks_held(2)->length == 7);
+    CHECK(office[0].locks_of(2, 8)->found.at(0).mode == PELGAISTI_IX && office[0].locks_of(2, {7}, 8)->found.empty());
+    CHECK(office[0].locks_behind(office[0].locks_of(2, 1)->found.at(0), 8)->found.empty());
     CHECK(throws(PELGAISTI_NO_SUCH_SESSION, [&] { office[0].blockers(3); }));
     CHECK(office[1].lock_path({7, 8}, mode::X, level)->reply.kind == kind::granted && level == 2);
     office[0].hear(office[1]);

@@ -496,6 +496,19 @@ pelgaisti_status pelgaisti_book_request(pelgaisti_book *book, uint32_t session, 
    NULL, CLOSED, NO_MEMORY. */
 pelgaisti_status pelgaisti_book_locks(pelgaisti_book *book, size_t first, pelgaisti_claim *list, size_t room, size_t *count);
 
+/* Writes how many locks the session holds to `count`, at most 4096: an engine escalates before it is refused a lock. Its cost is constant.
+   NULL, CLOSED, NO_SUCH_SESSION. */
+pelgaisti_status pelgaisti_book_locks_held(pelgaisti_book *book, uint32_t session, size_t *count);
+
+/* Writes a page of the session's locks to `list`: the first ones on resources behind `after` in the order of paths, up to `room`; with
+   level 0 of `after`, the first of all. Writes to `count` how many they are; fewer than `room` are the last page. The next page begins
+   behind the resource of the last lock of this one. Pages that are read so tell no resource twice, whatever was called between them,
+   and each lock that the session held at all of them is told by the time a page is the last one. Waiting requests aren't told. Its
+   cost grows with the locks of that session alone. `list` may be NULL if `room` is 0. Requires `room` elements at `list`.
+   NULL, CLOSED, NO_SUCH_SESSION, NO_SUCH_LEVEL (above PELGAISTI_LEVELS), NO_MEMORY. */
+pelgaisti_status pelgaisti_book_locks_of(pelgaisti_book *book, uint32_t session, const pelgaisti_resource *after,
+                                         pelgaisti_claim *list, size_t room, size_t *count);
+
 /* Writes the first `room` of the sessions whose wait the last call, batch, path or program has ended to `list`, each once, in no
    particular order, and the number of all of them to `count`: a request of the session that waited was granted, or its transaction
    became a deadlock's victim. A poll of each tells which. The session of the call itself isn't among them: its reply tells. After a
@@ -784,6 +797,17 @@ pelgaisti_status pelgaisti_session_locks(pelgaisti_session *session, size_t firs
    NULL, CLOSED, NO_MEMORY or ELSEWHERE. */
 pelgaisti_status pelgaisti_session_deadlocks(pelgaisti_session *session, pelgaisti_deadlock *list, size_t room, size_t *count,
                                              pelgaisti_member *members, size_t member_room, size_t *member_count, uint64_t *seen);
+
+/* Writes how many locks session `whose` holds, as pelgaisti_book_locks_held does.
+   NULL, CLOSED, NO_SUCH_SESSION, ELSEWHERE. */
+pelgaisti_status pelgaisti_session_locks_held(pelgaisti_session *session, uint32_t whose, size_t *count, uint64_t *seen);
+
+/* Writes a page of the locks of session `whose`, as pelgaisti_book_locks_of does. Pages may be read at different moments, and other
+   sessions may call between them. While it reads a page, no other session can take the lock table. NO_MEMORY: the session knows the
+   history up to there all the same.
+   NULL, CLOSED, NO_SUCH_SESSION, NO_SUCH_LEVEL (above PELGAISTI_LEVELS), NO_MEMORY or ELSEWHERE. */
+pelgaisti_status pelgaisti_session_locks_of(pelgaisti_session *session, uint32_t whose, const pelgaisti_resource *after,
+                                            pelgaisti_claim *list, size_t room, size_t *count, uint64_t *seen);
 
 /* ---- Memory of the lock table of an open office. Each of these calls tries once to take the lock table, and writes `seen`, as the
    questions do; and as with a book, nothing changes that another call tells. While it works, no other session can take the lock table.

@@ -241,6 +241,16 @@ public:
             return check(pelgaisti_book_deadlocks(&handle_, at, room, n, members, member_room, all_members)), true; }));
         return told;
     }
+    // How many locks the session holds; and a page of them, up to `most`: the first ones, those on resources behind `after`, or those behind the
+    // last lock of another page of the same session. Fewer than `most` are the last page.
+    size_t locks_held(uint32_t session) {
+        return made_by<size_t>([&](auto *count) { return pelgaisti_book_locks_held(&handle_, session, count); });
+    }
+    std::vector<pelgaisti_claim> locks_of(uint32_t session, size_t most) { return page_of(session, pelgaisti_resource{}, most); }
+    std::vector<pelgaisti_claim> locks_of(uint32_t session, const pelgaisti::resource &after, size_t most) {
+        return page_of(session, after, most);
+    }
+    std::vector<pelgaisti_claim> locks_behind(const pelgaisti_claim &last, size_t most) { return page_of(last.session, last.resource, most); }
     // Makes room, so that neither the table nor the history grows in a call until so many more resources and entries have come; gives back
     // memory that isn't in use; counts the cells that are kept and serve no resource.
     void reserve(size_t resources, size_t entries) { check(pelgaisti_book_reserve(&handle_, resources, entries)); }
@@ -266,6 +276,11 @@ private:
     size_t room_for(uint64_t first, size_t room) {
         const uint64_t end = length();
         return first >= end ? 0 : end - first < room ? end - first : room;
+    }
+    std::vector<pelgaisti_claim> page_of(uint32_t session, const pelgaisti_resource &after, size_t most) {
+        std::vector<pelgaisti_claim> list(most);
+        check(pelgaisti_book_locks_of(&handle_, session, &after, list.data(), most, &most));
+        return list.resize(most), list;
     }
     enum : size_t { all = PELGAISTI_MAX_SESSIONS };
     pelgaisti_book handle_ = PELGAISTI_EMPTY;
@@ -347,6 +362,18 @@ public:
             return !elsewhere(pelgaisti_session_deadlocks(&handle_, at, room, n, members, member_room, all, &made.length)); });
         return is_told ? std::optional(std::move(made)) : std::nullopt;
     }
+    std::optional<seen<size_t>> locks_held(uint32_t whose) {
+        return asked<size_t>([&](auto *count, auto *n) { return pelgaisti_session_locks_held(&handle_, whose, count, n); });
+    }
+    std::optional<seen<std::vector<pelgaisti_claim>>> locks_of(uint32_t whose, size_t most) {
+        return page_of(whose, pelgaisti_resource{}, most);
+    }
+    std::optional<seen<std::vector<pelgaisti_claim>>> locks_of(uint32_t whose, const resource &after, size_t most) {
+        return page_of(whose, after, most);
+    }
+    std::optional<seen<std::vector<pelgaisti_claim>>> locks_behind(const pelgaisti_claim &last, size_t most) {
+        return page_of(last.session, last.resource, most);
+    }
     // What a book's do with the memory of the lock table, each by one try for it; how many calls the history had, or nothing if another
     // session has the table.
     std::optional<uint64_t> reserve(size_t resources, size_t entries) {
@@ -376,6 +403,11 @@ private:
             if (elsewhere(call(made.found.data(), made.found.size(), &count, &made.length))) return std::nullopt;
             if (count <= made.found.size()) return made.found.resize(count), made;
         }
+    }
+    std::optional<seen<std::vector<pelgaisti_claim>>> page_of(uint32_t whose, const pelgaisti_resource &after, size_t most) {
+        seen<std::vector<pelgaisti_claim>> made{std::vector<pelgaisti_claim>(most), 0};
+        if (elsewhere(pelgaisti_session_locks_of(&handle_, whose, &after, made.found.data(), most, &most, &made.length))) return std::nullopt;
+        return made.found.resize(most), made;
     }
     template <class Call> static std::optional<answer> told(Call call) {
         pelgaisti_answer found{};

@@ -151,6 +151,15 @@ pelgaisti_status pelgaisti_book_locks(pelgaisti_book *book, size_t first, pelgai
     return LISTING(list, room, count, CALL(book, pelgaisti_raw_book_locks(&book, first, LIST(list, room), &count)));
 }
 
+pelgaisti_status pelgaisti_book_locks_held(pelgaisti_book *book, uint32_t session, size_t *count) {
+    return WRITING(count, CALL(book, pelgaisti_raw_book_locks_held(&book, session, &count)));
+}
+
+pelgaisti_status pelgaisti_book_locks_of(pelgaisti_book *book, uint32_t session, const pelgaisti_resource *after,
+                                         pelgaisti_claim *list, size_t room, size_t *count) {
+    return LISTING(list, room, count, CALL(book, pelgaisti_raw_book_locks_of(&book, session, &after, LIST(list, room), &count)));
+}
+
 pelgaisti_status pelgaisti_book_ended(pelgaisti_book *book, uint32_t *list, size_t room, size_t *count) {
     return LISTING(list, room, count, CALL(book, pelgaisti_raw_book_ended(&book, LIST(list, room), &count)));
 }
@@ -456,6 +465,16 @@ pelgaisti_status pelgaisti_session_deadlocks(pelgaisti_session *session, pelgais
     return LISTING(list, room, count, LISTING(members, member_room, member_count, WRITING(seen,
                    CALL(session, pelgaisti_raw_session_deadlocks(&session, LIST(list, room), &count, LIST(members, member_room),
                         &member_count, &seen)))));
+}
+
+pelgaisti_status pelgaisti_session_locks_held(pelgaisti_session *session, uint32_t whose, size_t *count, uint64_t *seen) {
+    return WRITING(count, WRITING(seen, CALL(session, pelgaisti_raw_session_locks_held(&session, whose, &count, &seen))));
+}
+
+pelgaisti_status pelgaisti_session_locks_of(pelgaisti_session *session, uint32_t whose, const pelgaisti_resource *after,
+                                            pelgaisti_claim *list, size_t room, size_t *count, uint64_t *seen) {
+    return LISTING(list, room, count, WRITING(seen,
+                   CALL(session, pelgaisti_raw_session_locks_of(&session, whose, &after, LIST(list, room), &count, &seen))));
 }
 
 pelgaisti_status pelgaisti_session_reserve(pelgaisti_session *session, size_t resources, size_t entries, uint64_t *seen) {

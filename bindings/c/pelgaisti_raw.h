@@ -32,6 +32,9 @@ uint32_t pelgaisti_raw_book_holders(pelgaisti_book **book, const pelgaisti_resou
 uint32_t pelgaisti_raw_book_transaction(pelgaisti_book **book, uint32_t session, pelgaisti_transaction **open);
 uint32_t pelgaisti_raw_book_request(pelgaisti_book **book, uint32_t session, pelgaisti_claim **waiting);
 uint32_t pelgaisti_raw_book_locks(pelgaisti_book **book, size_t first, pelgaisti_raw_list *list, size_t **count);
+uint32_t pelgaisti_raw_book_locks_held(pelgaisti_book **book, uint32_t session, size_t **count);
+uint32_t pelgaisti_raw_book_locks_of(pelgaisti_book **book, uint32_t session, const pelgaisti_resource **after,
+                                     pelgaisti_raw_list *list, size_t **count);
 uint32_t pelgaisti_raw_book_ended(pelgaisti_book **book, pelgaisti_raw_list *list, size_t **count);
 uint32_t pelgaisti_raw_book_length(pelgaisti_book **book, uint64_t **count);
 uint32_t pelgaisti_raw_book_history(pelgaisti_book **book, uint64_t first, pelgaisti_raw_list *entries, size_t **count);
@@ -103,6 +106,9 @@ uint32_t pelgaisti_raw_session_locks(pelgaisti_session **session, size_t first, 
                                      uint64_t **seen);
 uint32_t pelgaisti_raw_session_deadlocks(pelgaisti_session **session, pelgaisti_raw_list *list, size_t **count,
                                          pelgaisti_raw_list *members, size_t **member_count, uint64_t **seen);
+uint32_t pelgaisti_raw_session_locks_held(pelgaisti_session **session, uint32_t whose, size_t **count, uint64_t **seen);
+uint32_t pelgaisti_raw_session_locks_of(pelgaisti_session **session, uint32_t whose, const pelgaisti_resource **after,
+                                        pelgaisti_raw_list *list, size_t **count, uint64_t **seen);
 uint32_t pelgaisti_raw_session_reserve(pelgaisti_session **session, size_t resources, size_t entries, uint64_t **seen);
 uint32_t pelgaisti_raw_session_shrink(pelgaisti_session **session, uint64_t **seen);
 uint32_t pelgaisti_raw_session_idle_cells(pelgaisti_session **session, size_t **cells, uint64_t **seen);

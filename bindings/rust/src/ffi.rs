@@ -223,6 +223,15 @@ extern "C" {
         room: usize,
         count: *mut usize,
     ) -> u32;
+    pub(crate) fn pelgaisti_book_locks_held(book: *mut RawHandle, session: u32, count: *mut usize) -> u32;
+    pub(crate) fn pelgaisti_book_locks_of(
+        book: *mut RawHandle,
+        session: u32,
+        after: *const RawResource,
+        list: *mut RawClaim,
+        room: usize,
+        count: *mut usize,
+    ) -> u32;
     pub(crate) fn pelgaisti_book_ended(book: *mut RawHandle, list: *mut u32, room: usize, count: *mut usize) -> u32;
     pub(crate) fn pelgaisti_book_length(book: *mut RawHandle, length: *mut u64) -> u32;
     pub(crate) fn pelgaisti_book_first_kept(book: *mut RawHandle, first: *mut u64) -> u32;
@@ -358,6 +367,16 @@ extern "C" {
         members: *mut RawMember,
         member_room: usize,
         member_count: *mut usize,
+        seen: *mut u64,
+    ) -> u32;
+    pub(crate) fn pelgaisti_session_locks_held(session: *mut RawHandle, whose: u32, count: *mut usize, seen: *mut u64) -> u32;
+    pub(crate) fn pelgaisti_session_locks_of(
+        session: *mut RawHandle,
+        whose: u32,
+        after: *const RawResource,
+        list: *mut RawClaim,
+        room: usize,
+        count: *mut usize,
         seen: *mut u64,
     ) -> u32;
     pub(crate) fn pelgaisti_session_reserve(session: *mut RawHandle, resources: usize, entries: usize, seen: *mut u64) -> u32;

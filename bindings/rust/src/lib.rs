@@ -38,6 +38,7 @@ mod memory;
 mod office;
 mod operator;
 mod orphans;
+mod pages;
 mod programs;
 mod waker;
 

@@ -17,6 +17,8 @@ pub mod Codes
 pub mod CellGivesUp
 -- resources brought into their order
 pub mod InOrder
+-- the resources of a list that pass a test
+pub mod FilteredResources
 -- lockers
 -- a grant in the lockers; lists of resources
 pub mod LockerStandings
@@ -87,6 +89,10 @@ pub mod DeadlockRounds
 pub mod CyclesTold
 -- what a lock table tells of its locks and requests is what the state has
 pub mod Listings
+-- a page of the locks of a session is that of the state, and what it tells
+pub mod Pages
+-- what pages that are read one after another tell together
+pub mod SeveralPages
 -- the book
 -- the invariant of a book
 pub mod BookInvariant

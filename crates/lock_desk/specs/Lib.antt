@@ -3,6 +3,7 @@ pub mod BookView
 pub mod Batches
 pub mod Paths
 pub mod Queries
+pub mod Pages
 pub mod Deadlocks
 pub mod BookLaws
 -- what only private contracts cite

@@ -14,6 +14,7 @@ pub mod Blocking
 pub mod Ready
 pub mod Changes
 pub mod Listing
+pub mod Pages
 pub mod Shows
 pub mod Runs
 pub mod Paths

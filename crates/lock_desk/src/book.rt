@@ -2,7 +2,7 @@
 
 ghost use Rattle.std.specs.Prelude.{◌≡◌, ◌≢◌, ℕ, ◌↔◌, false, ◌+◌, ◌-◌, ◌<◌, ◌≤◌, List, [], ◌∷◌, ◌++◌, if◌then◌else◌, length, map, take, drop, min, Contains, slice_index, IfOk, OnOk, OnErr};
 ghost use Rattle.std.specs.List.{All};
-ghost use Rattle.lock_rules.specs.State.{held_mode, holders};
+ghost use Rattle.lock_rules.specs.State.{held_mode, holders, is_waiting};
 ghost use Rattle.lock_rules.specs.Step.{step};
 ghost use Rattle.lock_rules.specs.Ended.{ended_waits};
 ghost use Rattle.lock_rules.specs.Waits.{waits_for};
@@ -20,6 +20,7 @@ ghost use Rattle.lock_desk.specs.inner.Runs.{AreServed};
 mod blockers;
 mod deadlocks;
 mod memory;
+mod pages;
 mod paths;
 
 use crate::deadlock_log::DeadlockLog;
@@ -29,6 +30,7 @@ use crate::recording::serve_recorded;
 use lock_modes::Mode;
 use lock_rules::{Call, Claim, Entry, MAX_SESSIONS, Reply, Transaction, laws};
 use lock_tree::Resource;
+pub use pages::pages_tell_each_lock_once;
 pub use paths::{PathLocked, grants, lock_of_level};
 use std::alloc::{AllocError as NoMemory, Global};
 use std::marker::Model;
@@ -285,6 +287,13 @@ impl Book {
         ensures { result ≡ waiting_line (state_of self.now.history) session }
     {
         self.lock_table.waiting_request(session)
+    }
+
+    /// Whether a request of `session` waits. A session that the book doesn't have doesn't wait.
+    pub fn is_waiting(&self, session: u16) -> bool
+        ensures { result ≡ is_waiting (state_of self.now.history) session }
+    {
+        self.lock_table.is_waiting(session)
     }
 
     /// Serves one call of `session`, and adds the call with its reply to the history.

@@ -18,10 +18,12 @@
 //!    effect of a lock or a conversion, `restarts.rt` that of a restart. `deadlocks.rt` resolves the deadlocks that a
 //!    wait closes, and notes them in a log of the newest (`deadlock_log.rt`), if one was asked for. `runs.rt` grants
 //!    several locks on one resource together, by the operations of `grants.rt`. `listing.rt` lists all locks and
-//!    requests, `lock_table/memory.rt` makes room and gives memory back.
+//!    requests, `lock_table/pages.rt` the locks of one session by pages (`lockers/pages.rt`, `locks/pages.rt`),
+//!    `lock_table/memory.rt` makes room and gives memory back.
 //! 3. The book: the lock table with its history (`book.rt`). It is all that callers see. `book/paths.rt` locks a path,
 //!    `book/blockers.rt` lists whom a session waits for, `book/deadlocks.rt` tells the newest deadlocks,
-//!    `book/memory.rt` does for callers what `lock_table/memory.rt` does. `recording.rt` serves one call and adds it to
+//!    `book/pages.rt` tells the locks of a session by pages and says what several pages tell together, `book/memory.rt`
+//!    does for callers what `lock_table/memory.rt` does. `recording.rt` serves one call and adds it to
 //!    the history. `object.rt` makes the book a sequential object, which threads can share; `tending.rt` has what is
 //!    done with the memory of one that is shared.
 //!
@@ -50,7 +52,7 @@ mod seeded;
 mod tending;
 mod waits;
 
-pub use book::{Book, Item, PathLocked, grants, lock_of_level};
+pub use book::{Book, Item, PathLocked, grants, lock_of_level, pages_tell_each_lock_once};
 pub use deadlock_log::{Deadlock, Member};
 pub use lock_modes::Mode;
 pub use lock_rules::{

@@ -18,6 +18,7 @@ mod deadlocks;
 mod grants;
 mod listing;
 mod memory;
+mod pages;
 mod refusals;
 mod requests;
 mod restarts;

@@ -10,6 +10,8 @@ ghost use Rattle.lock_desk.specs.inner.Cells.{has_path, AreApart, AreApart-prop}
 ghost use Rattle.lock_desk.specs.inner.ChildCounts.{has_child, IsUnder};
 ghost use Rattle.lock_desk.specs.inner.Requests.{resource_asked, is_fresh, wanted_in, locks_to_come, IsOfKind, IsOfKind-prop, IsComingUnder, IsComingUnder-prop};
 
+mod pages;
+
 use crate::locks::{HeldLock, Locks};
 use lock_rules::{MAX_LOCKS, Transaction};
 use lock_tree::{LEVELS, Resource};

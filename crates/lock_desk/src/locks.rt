@@ -6,6 +6,8 @@ ghost use Rattle.lock_tree.specs.Paths.{same_path};
 ghost use Rattle.lock_desk.specs.inner.Cells.{has_path, AreApart};
 ghost use Rattle.lock_desk.specs.inner.ChildCounts.{is_child, has_child, IsUnder, AreUnder, DoCount, resources_of, IsWithout};
 
+mod pages;
+
 use crate::cells::is_same;
 use crate::seeded::Seeded;
 use indexmap::IndexMap;

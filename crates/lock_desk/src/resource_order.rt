@@ -1,11 +1,13 @@
 //! Resources in their order: number by number, a prefix before what continues it.
 
-ghost use Rattle.std.specs.Prelude.{◌≡◌};
+ghost use Rattle.std.specs.Prelude.{◌≡◌, take};
 ghost use Rattle.std.specs.List.{All, IsDistinct};
 ghost use Rattle.lock_tree.specs.Paths.{IsResource, same_path};
+ghost use Rattle.lock_desk.specs.Pages.{is_behind};
 ghost use Rattle.lock_desk.specs.inner.Listing.{in_order};
 
 use lock_tree::{Resource, order_is_by_numbers};
+use std::cmp::Ordering;
 
 /// Called for its contract: each of them is a resource.
 fn are_resources(list: &[Resource])
@@ -24,4 +26,27 @@ pub(crate) fn sort_resources(list: &mut Vec<Resource>)
     order_is_by_numbers();
     list.sort_unstable();
     are_resources(list);
+}
+
+/// Whether `resource` comes behind `after`. If that is `None`, each resource does.
+#[inline]
+pub(crate) fn is_behind(after: &Option<Resource>, resource: &Resource) -> bool
+    ensures { result ≡ is_behind after.now resource.now }
+{
+    let Some(last) = after else {
+        return true;
+    };
+    order_is_by_numbers();
+    let _last = last.numbers();
+    let _numbers = resource.numbers();
+    matches!(last.cmp(resource), Ordering::Less)
+}
+
+/// Brings different resources into the order of resources, and keeps the first `most` of them.
+pub(crate) fn keep_first(list: &mut Vec<Resource>, most: usize)
+    requires { IsDistinct same_path list.old.items }
+    ensures { list.new.items ≡ take most (in_order list.old.items) }
+{
+    sort_resources(list);
+    list.truncate(most);
 }

@@ -82,12 +82,15 @@ fn add_granted(
 ) -> Result<(), NoMemory>
     ensures { OnOk result (granted.new.items ≡ granted.old.items ++ granted_request caller (state_of before.now.history) (state_of after.now.history) session) }
 {
+    if !before.is_waiting(session) || after.is_waiting(session) {
+        return Ok(());
+    }
+    if session == caller || is_doomed(after, session) {
+        return Ok(());
+    }
     let Some(request) = before.request(session) else {
         return Ok(());
     };
-    if session == caller || after.request(session).is_some() || is_doomed(after, session) {
-        return Ok(());
-    }
     granted.push(request)?;
     Ok(())
 }

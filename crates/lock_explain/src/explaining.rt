@@ -72,7 +72,7 @@ fn wait_begun(before: &Book, entry: &Entry, victims: &[Party]) -> Option<Asked>
 fn is_clear(after: &Book, session: u16) -> bool
     ensures { result ≡ (not (is_waiting (state_of after.now.history) session) && not (is_doomed (state_of after.now.history) session)) }
 {
-    after.request(session).is_none() && !is_doomed(after, session)
+    !after.is_waiting(session) && !is_doomed(after, session)
 }
 
 /// The cycles that the request of the call closed, none if the call made no victim. Fails if memory is refused.

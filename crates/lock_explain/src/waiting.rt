@@ -33,13 +33,17 @@ pub(crate) fn party_of(book: &Book, session: u16) -> Party
 pub(crate) fn held_in_conflict(before: &Book, asked: Asked, other: u16) -> Option<Mode>
     ensures { result ≡ held_in_conflict asked.target (held_mode (state_of before.now.history).table other asked.resource) }
 {
-    let Some(held) = before.held(other, asked.resource) else {
-        return None;
-    };
-    if Mode::compatible(asked.target, held) {
-        return None;
+    conflicting(asked.target, before.held(other, asked.resource))
+}
+
+/// The mode that is held, if it conflicts with the target.
+fn conflicting(target: Mode, held: Option<Mode>) -> Option<Mode>
+    ensures { result ≡ held_in_conflict target held }
+{
+    match held {
+        Some(held) if !Mode::compatible(target, held) => Some(held),
+        _ => None,
     }
-    Some(held)
 }
 
 /// The target of the waiting request in `line`, if a new request for `resource` waits behind it: a fresh request waits behind all
@@ -65,6 +69,9 @@ pub(crate) fn request_ahead(before: &Book, asked: Asked, other: u16) -> Option<M
     requires asked { IsAskedIn before.now.sessions (state_of before.now.history) asked }
     ensures { result ≡ request_ahead (waiting_state (state_of before.now.history) (claim_of asked)).table (claim_of asked) other }
 {
+    if !before.is_waiting(other) {
+        return None;
+    }
     ahead_by(asked.converts, asked.resource, before.request(other))
 }
 
@@ -75,20 +82,31 @@ fn is_blocker(held: Option<Mode>, ahead: Option<Mode>) -> bool
     held.is_some() || ahead.is_some()
 }
 
-/// Adds `other` to the list, with what it blocks the request through, if the request waits for it. Fails if memory is refused.
+/// The mode of the holder at `next`, if it is the session's.
+fn held_next(holders: &[(u16, Mode)], next: usize, session: u16) -> Option<Mode> {
+    if next >= holders.len() {
+        return None;
+    }
+    let (holder, mode) = holders[next];
+    if holder == session { Some(mode) } else { None }
+}
+
+/// Adds `other` to the list, with what it blocks the request through, if the request waits for it. `held` is what it holds. Fails if memory is refused.
 fn add_blocker(
     before: &Book,
     request: &Asked,
     other: u16,
+    held: Option<Mode>,
     blockers: &mut Vec<Blocker>,
 ) -> Result<(), NoMemory>
+    requires held { held ≡ held_mode (state_of before.now.history).table other request.now.resource }
     requires asked { IsAskedIn before.now.sessions (state_of before.now.history) request.now }
     ensures { OnOk result (blockers.new.items ≡ blockers.old.items ++ blocker_of (waiting_state (state_of before.now.history) (claim_of request.now)) (claim_of request.now) other) }
 {
     if other == request.session {
         return Ok(());
     }
-    let held = held_in_conflict(before, *request, other);
+    let held = conflicting(request.target, held);
     let ahead = request_ahead(before, *request, other);
     if !is_blocker(held, ahead) {
         return Ok(());
@@ -112,8 +130,16 @@ pub(crate) fn blockers_of(
 {
     let mut blockers = Vec::new(alloc);
     let sessions = before.sessions();
+    let mut holders = Vec::new(alloc);
+    before.holders(asked.resource, &mut holders)?;
+    let mut next = 0;
     for position in 0..sessions {
-        add_blocker(before, &asked, position + 1, &mut blockers)?;
+        let other = position + 1;
+        let held = held_next(&holders, next, other);
+        if held.is_some() {
+            next += 1;
+        }
+        add_blocker(before, &asked, other, held, &mut blockers)?;
     }
     Ok(blockers)
 }

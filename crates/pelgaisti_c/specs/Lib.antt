@@ -11,6 +11,7 @@ pub mod PathTurns
 pub mod ProgramTurns
 pub mod Queries
 pub mod Deadlocks
+pub mod Pages
 pub mod EndedLists
 pub mod Offices
 pub mod Behind

@@ -14,7 +14,7 @@ use crate::status::{ELSEWHERE, NO_MEMORY, NO_SUCH_LEVEL, NO_SUCH_SESSION, OK};
 use std::alloc::Global;
 
 /// The session number as the office takes it. Returns `None` if the office has no such session.
-fn session_of(share: &SessionShare, session: u32) -> Option<u16>
+pub(crate) fn session_of(share: &SessionShare, session: u32) -> Option<u16>
     ensures some { IfSome result (λ number. (number ≡ session) × IsOfOffice share.now session) }
     ensures none { IfNone result (¬ (IsOfOffice share.now session)) }
 {

@@ -26,6 +26,7 @@ mod counting;
 mod descending;
 mod knowing;
 mod looking;
+mod paging;
 mod performing;
 mod running;
 mod turning;

@@ -28,7 +28,7 @@ fn kind_in(cell: &Cell, session: u16) -> ClaimKind
 
 impl LockTable {
     /// The locker of `session`, if there is such a session.
-    fn locker_if_any(&self, session: u16) -> Option<&Locker>
+    pub(crate) fn locker_if_any(&self, session: u16) -> Option<&Locker>
         ensures { standing_in (option_copied result) ≡ standing session self.now }
     {
         if session == 0 || session as usize > self.lockers.len() {
@@ -61,7 +61,7 @@ impl LockTable {
     }
 
     /// A lock on `resource` or a request for it, as a line of the listing.
-    fn line(&self, resource: Resource, kind: ClaimKind, claim: SessionMode) -> Claim
+    pub(crate) fn line(&self, resource: Resource, kind: ClaimKind, claim: SessionMode) -> Claim
         ensures { result ≡ line self.now resource kind claim }
     {
         Claim {

@@ -1,0 +1,31 @@
+-- Internal to this crate, cited by no public contract: the lines that a lock table gives for a page of a session's locks.
+use Rattle.std.specs.Prelude.{ℕ, List, [], ◌∷◌, filter, take, Option, Some, None}
+use Rattle.std.specs.List.{flat_map}
+use Rattle.lock_modes.specs.declared.Mode.{Mode}
+use Rattle.lock_rules.specs.declared.listing.Claim.{Claim}
+use Rattle.lock_rules.specs.declared.listing.ClaimKind.TheVariants.{Held}
+use Rattle.lock_desk.specs.declared.lock_table.LockTable.{LockTable}
+use Rattle.lock_desk.specs.Pages.{is_behind}
+use Rattle.lock_desk.specs.inner.Changes.{standing, mode_held}
+use Rattle.lock_desk.specs.inner.Listing.{in_order, line}
+
+-- those of the resources that come behind `after`
+abbrev pub those_behind : Option (List ℕ) → List (List ℕ) → List (List ℕ)
+those_behind after rs = filter (is_behind after) rs
+
+-- the first `n` of the resources that come behind `after`, in the order of resources
+abbrev pub first_behind : ℕ → Option (List ℕ) → List (List ℕ) → List (List ℕ)
+first_behind n after rs = take n (in_order (those_behind after rs))
+
+-- the line of session `s`, which holds resource `r` in this mode, and none if it doesn't hold it
+abbrev pub lock_lines : LockTable → ℕ → List ℕ → Option Mode → List Claim
+lock_lines d s r None = []
+lock_lines d s r (Some m) = line d r Held (record { session = s; mode = m }) ∷ []
+
+-- the line of session `s` on resource `r`
+abbrev pub lock_lines_at : LockTable → ℕ → List ℕ → List Claim
+lock_lines_at d s r = lock_lines d s r (mode_held d s r)
+
+-- the first `n` locks of session `s` behind `after`
+abbrev pub page_of : LockTable → ℕ → Option (List ℕ) → ℕ → List Claim
+page_of d s after n = flat_map (lock_lines_at d s) (first_behind n after (standing s d).held)
