@@ -1,5 +1,6 @@
 -- The object of the board: the counter of `counter`, of which each call adds one.
 use Rattle.std.specs.Prelude.{◌≡◌, ℕ}
+use Rattle.sequential.specs.Bounds.{keeping_nothing}
 use Rattle.sequential.specs.declared.object.Sequential.{Ghosts}
 use Rattle.counter.specs.Counting.{CounterView, IsLegal}
 
@@ -9,7 +10,7 @@ counter_object = record {
   sessions = λ counter. counter.sessions;
   history = λ counter. counter.history;
   cut = λ _. 0;
-  bound = λ _. 0;
+  bound = λ _. keeping_nothing;
   is_legal = IsLegal;
   agree = λ _ reply other. reply ≡ other;
   any_call = 0;

@@ -1,6 +1,7 @@
 //! The counter.
 
 ghost use Rattle.std.specs.Prelude.{◌≡◌, ◌≤◌, []};
+ghost use Rattle.sequential.specs.Bounds.{keeping_nothing};
 
 use ghost_list::GhostList;
 use sequential::{Batching, Entry, Fresh, Item, MAX_SESSIONS, Sequential, Serving, serve_each};
@@ -63,7 +64,7 @@ impl Sequential for Counter {
 
     ghost cut = { λ c. 0 };
 
-    ghost bound = { λ c. 0 };
+    ghost bound = { λ c. keeping_nothing };
 
     ghost is_legal = { IsLegal };
 

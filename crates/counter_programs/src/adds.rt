@@ -1,6 +1,7 @@
 //! A counter whose additions may be made in programs.
 
 ghost use Rattle.std.specs.Prelude.{◌≡◌, ◌≤◌, []};
+ghost use Rattle.sequential.specs.Bounds.{keeping_nothing};
 ghost use Rattle.counter_programs.specs.Blocks.{goes_on_behind};
 
 use counter::Counter;
@@ -56,7 +57,7 @@ impl Sequential for AddsCounter {
 
     ghost cut = { λ _. 0 };
 
-    ghost bound = { λ _. 0 };
+    ghost bound = { λ _. keeping_nothing };
 
     ghost is_legal = { IsLegal };
 

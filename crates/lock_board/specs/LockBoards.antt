@@ -23,7 +23,7 @@ book_object = record {
   sessions = λ book. book.sessions;
   history = λ book. book.history;
   cut = λ book. book.cut;
-  bound = λ book. book.bound;
+  bound = λ book. record { lines = book.bound; notes = book.deadlocks };
   is_legal = IsLegal;
   agree = λ _ reply other. reply ≡ other;
   any_call = Poll;

@@ -26,7 +26,7 @@ impl Sequential for Book {
 
     ghost cut = { λ book. book.cut };
 
-    ghost bound = { λ book. book.bound };
+    ghost bound = { λ book. record { lines = book.bound; notes = book.deadlocks } };
 
     ghost is_legal = { IsLegal };
 

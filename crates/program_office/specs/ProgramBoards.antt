@@ -44,7 +44,7 @@ program_object = record {
   sessions = λ programs. programs.object.sessions;
   history = λ programs. programs.history;
   cut = λ programs. programs.object.cut;
-  bound = λ programs. programs.object.bound;
+  bound = λ programs. record { lines = programs.object.bound; notes = programs.object.deadlocks };
   is_legal = IsLegal;
   agree = AnswersAgree program_form (λ _ reply other. reply ≡ other);
   any_call = no_calls;

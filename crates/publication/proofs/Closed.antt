@@ -1,6 +1,7 @@
 -- A closed board: once each session was handed in, the object is at home, and each session's calls in the history are
 -- those that it collected.
 use Rattle.std.proofs.Common.{◌≡◌, ℕ, ◌^◌, ◌<◌, true, List, length, get_or, sym, refl, ap, ◌∙◌, subst, arith}
+use Rattle.sequential.specs.Bounds.{Bounds}
 use mathlib.Core.Option as opt
 use mathlib.Core.Logic.{dite}
 use mathlib.Core.List.{IsPrefix}
@@ -43,7 +44,7 @@ module _ {O C R : Type 0} (obj : Ghosts O C R) where
 
 module _ {O C R : Type 0} (obj : Ghosts O C R) where
   -- The same, and its object keeps so many entries at most.
-  pub record IsLastWithin (bound slots : ℕ) (v : View C R) (l : Load O C R) : Type 0 where
+  pub record IsLastWithin (bound : Bounds) (slots : ℕ) (v : View C R) (l : Load O C R) : Type 0 where
     pub last : IsLast obj slots v l
     pub within : obj.bound l.object ≡ bound
 
@@ -74,7 +75,7 @@ module _ {O C R : Type 0} {obj : Ghosts O C R} where
       not_gone : (s : BoardState O C R) (o : IsOrderly obj s) (k : ℕ) → (seat s k).combiner.has_object ≡ true → (seat s k).number ≡ 0 → ⊥
       not_gone s o k has none = let b = o.combiners k has in absurd (omega (arith, b.session, b.named))
 
-module _ {O C R : Type 0} {obj : Ghosts O C R} {bound : ℕ} where
+module _ {O C R : Type 0} {obj : Ghosts O C R} {bound : Bounds} where
   -- A closed table has such a load in the lock's slot.
   pub ended : (ws : List ℕ) (xs : List (SlotValue O C R)) (id slots : ℕ) (v : View C R) → Final (Seen (IsBounded obj bound) id v) ws xs → length xs ≡ slots → HasAll slots v
       → (l : Box (Load O C R)) × (get_elem? xs 0 ≡ opt.some (ObjectLoad l)) × IsLastWithin obj bound slots v l.value

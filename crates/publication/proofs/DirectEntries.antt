@@ -1,6 +1,7 @@
 -- A direct entry keeps the rule: the history, what its session knows of it and the answers that the session collected grow
 -- by the same entry.
 use Rattle.std.proofs.Common.{false, ◌≡◌, ◌≢◌, inl, inr, ℕ, ◌+◌, ◌^◌, ◌<◌, ◌≤◌, true, Option, Some, None, List, [], ◌∷◌, ◌++◌, length, map, get_or, set, sym, refl, ap, ◌∙◌, subst, arith, length-set, length-append, get_or-set_other, get_or-set_same}
+use Rattle.sequential.specs.Bounds.{Bounds}
 use Rattle.std.proofs.lemmas.List.{append_assoc, map-append, set-get_or}
 use mathlib.Core.Option as opt
 use mathlib.Core.Logic.{dite}
@@ -294,6 +295,6 @@ module _ {O C R : Type 0} {obj : Ghosts O C R} where
   module _ (slots id : ℕ) (v : View C R) (more : List (ℕ × SlotValue O C R)) (some_number : 0 < v.number) (has : v.combiner.has_object ≡ true) (none : v.own.pending ≡ None) (live : v.own.retired ≡ false)
       (call : C) (reply : R) (legal : obj.is_legal (v.front ++ entry v.number call reply ∷ [])) (short : length v.front + 1 < 2 ^ 64) where
     -- Enter keeps the rule, for a combiner with no call pending and an entry that makes a longer legal history.
-    pub enter_kept : {bound : ℕ} → Allows (IsBounded obj bound) slots id (v, more) 0 (λ n. n) (enters call reply (step slots 0 0 0 opt.none) (v, more))
+    pub enter_kept : {bound : Bounds} → Allows (IsBounded obj bound) slots id (v, more) 0 (λ n. n) (enters call reply (step slots 0 0 0 opt.none) (v, more))
     enter_kept = seated slots id v.number 0 v more (λ n. n) (enters call reply (step slots 0 0 0 opt.none) (v, more)) refl some_number
         (λ s o l me small wide e. subst (λ (n : ℕ). Goes obj s 0 v.number (v, more) (enters call reply (step n 0 0 0 opt.none) (v, more)) (word s 0)) e (enter_goes v some_number s o l me small has none live call reply legal short more))

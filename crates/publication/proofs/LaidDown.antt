@@ -1,5 +1,6 @@
 -- Steps that lay down no load: an object that is at home afterwards was at home before.
 use Rattle.std.proofs.Common.{◌≡◌, ◌≢◌, ℕ, zero, suc, List, [], ◌∷◌, get_or, set, sym, subst}
+use Rattle.sequential.specs.Bounds.{Bounds}
 use mathlib.Core.Option as opt
 use lib.ListN.{get_elem?}
 use Rattle.std.specs.Global.{Box}
@@ -61,7 +62,7 @@ module _ {O C R : Type 0} where
   stays_home hs (x ∷ xs) gives fits load there = laid hs x.0 x.1 fits load there
   stays_home hs c (chain a b) fits load there = absurd fits
 
-module _ {O C R : Type 0} {obj : Ghosts O C R} {bound : ℕ} where
+module _ {O C R : Type 0} {obj : Ghosts O C R} {bound : Bounds} where
   -- A split or a join of seats moves no value.
 
   pub splits_bounded : {id : ℕ} {v left right : View C R} → Splits (IsRuled obj) id v left right → Splits (IsBounded obj bound) id v left right

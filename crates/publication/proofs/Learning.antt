@@ -1,6 +1,7 @@
 -- A load after a join keeps the rule: the seat learns that the longer of two fronts is a front of the history, or which of
 -- its session's calls that front has.
 use Rattle.std.proofs.Common.{◌≡◌, ℕ, ◌<◌, ◌≤◌, List, length, get_or, set, refl, sym, ap, ◌∙◌, subst, arith, length-set}
+use Rattle.sequential.specs.Bounds.{Bounds}
 use Rattle.std.proofs.lemmas.List.{set-get_or}
 use mathlib.Core.Option as opt
 use mathlib.Core.List.{IsPrefix}
@@ -79,7 +80,7 @@ module _ {O C R : Type 0} {obj : Ghosts O C R} where
 
 module _ {O C R : Type 0} where
   module _ (slots id : ℕ) (v : View C R) (more : List (ℕ × SlotValue O C R)) (some_number : 0 < v.number) where
-    module _ {obj : Ghosts O C R} {bound : ℕ} where
+    module _ {obj : Ghosts O C R} {bound : Bounds} where
       -- Compare keeps the rule.
       pub compare_kept : Allows (IsBounded obj bound) slots id (v, more) 0 (λ n. n) (compares (step slots 0 0 0 opt.none) (v, more))
       compare_kept = seated slots id v.number 0 v more (λ n. n) (compares (step slots 0 0 0 opt.none) (v, more)) refl some_number

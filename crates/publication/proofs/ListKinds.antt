@@ -1,5 +1,6 @@
 -- The kinds of step on the publication list keep the rule: look at head, link, enlist, walk and walk on.
 use Rattle.std.proofs.Common.{◌≡◌, ◌≢◌, ◌⊎◌, inl, inr, ⊎_elim, ℕ, zero, suc, ◌+◌, ◌<◌, ◌≤◌, Bool, true, false, Some, None, List, [], ◌∷◌, length, get_or, set, eqb, sym, refl, ap, ◌∙◌, subst, arith, length-set, get_or-set_other, get_or-set_same}
+use Rattle.sequential.specs.Bounds.{Bounds}
 use Rattle.std.proofs.lemmas.List.{set-get_or}
 use Rattle.std.proofs.lemmas.Option.{same_Some}
 use mathlib.Core.Option as opt
@@ -344,7 +345,7 @@ session_of_its_link number = omega arith
 module _ {O C R : Type 0} where
   -- What the table demands of each of these steps.
   module _ (slots id i : ℕ) (v : View C R) (more : List (ℕ × SlotValue O C R)) (is : v.number ≡ i) (some_number : 0 < i) where
-    module _ {obj : Ghosts O C R} {bound : ℕ} where
+    module _ {obj : Ghosts O C R} {bound : Bounds} where
       -- Look at head keeps the rule, for a session with an unlisted pending call.
       pub look_at_head_kept : v.own.pending ≢ None → v.own.listed ≡ false
           → Allows (IsBounded obj bound) slots id (v, more) (link_of 0) (λ n. n) (looks_at_head (step slots (link_of 0) 0 0 opt.none) (v, more))
@@ -366,7 +367,7 @@ module _ {O C R : Type 0} where
           (enlist_goes i v is some_number s o l me small head waits noted more))
 
   module _ (slots id : ℕ) (v : View C R) (more : List (ℕ × SlotValue O C R)) (is : v.number ≢ 0) (has : v.combiner.has_object ≡ true) where
-    module _ {obj : Ghosts O C R} {bound : ℕ} where
+    module _ {obj : Ghosts O C R} {bound : Bounds} where
       -- Walk keeps the rule, for a combiner with no unlinked record.
       pub walk_kept : v.listing.off ≡ 0 → Allows (IsBounded obj bound) slots id (v, more) (link_of 0) (λ n. n) (walks (step slots (link_of 0) 0 0 opt.none) (v, more))
       walk_kept none_off = seated_at slots id v.number (link_of 0) v more (λ n. n) (walks (step slots (link_of 0) 0 0 opt.none) (v, more)) refl (omega arith)

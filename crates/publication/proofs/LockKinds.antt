@@ -1,5 +1,6 @@
 -- The kinds of step on the lock word keep the rule: look at lock, seize and release.
 use Rattle.std.proofs.Common.{◌≡◌, ◌≢◌, ℕ, zero, suc, ◌<◌, true, false, eqb, Some, None, List, [], ◌∷◌, ◌++◌, get_or, length, length-set, get_or-set_other, set, sym, refl, ap, ◌∙◌, subst, arith, append-nil}
+use Rattle.sequential.specs.Bounds.{Bounds}
 use Rattle.std.proofs.lemmas.Bool.{false_from_ne_true}
 use mathlib.Core.Option as opt
 use mathlib.Core.Logic.{dite}
@@ -50,7 +51,7 @@ module _ {O C R : Type 0} where
 
 module _ {O C R : Type 0} (obj : Ghosts O C R) where
   -- The load at this place, if one is there, is of an object that keeps so many entries at most.
-  abbrev IsBoundAt : ℕ → opt.Option (SlotValue O C R) → Type 0
+  abbrev IsBoundAt : Bounds → opt.Option (SlotValue O C R) → Type 0
   IsBoundAt bound at = (load : Box (Load O C R)) → at ≡ opt.some (ObjectLoad load) → obj.bound load.value.object ≡ bound
 
 module _ {O C R : Type 0} {obj : Ghosts O C R} where
@@ -124,7 +125,7 @@ module _ {O C R : Type 0} {obj : Ghosts O C R} where
         pieces = own_now ∙ (ap (λ (j : ℕ). pieces_of j o.pieces.all) (sym is) ∙ ap (pieces_of v.number) (sym noted_all));
       }
 
-      seize_won : (bound : ℕ) → IsBoundAt obj bound (home s 0) → (more : List (ℕ × SlotValue O C R)) → Goes obj s 0 i (v, more) (seizes_within obj bound (step o.slots 0 FREE i opt.none) (v, more)) i
+      seize_won : (bound : Bounds) → IsBoundAt obj bound (home s 0) → (more : List (ℕ × SlotValue O C R)) → Goes obj s 0 i (v, more) (seizes_within obj bound (step o.slots 0 FREE i opt.none) (v, more)) i
       seize_won bound within more = let t = o.free hit in let load = t.0 in let noted_all : load.value.pieces.items ≡ o.pieces.all = ap pieces_in (sym t.1) ∙ o.pieces.home hit in (
         seizing v (obj.history load.value.object) load.value.pieces.items,
         takes 0 (ObjectLoad load),
@@ -137,10 +138,10 @@ module _ {O C R : Type 0} {obj : Ghosts O C R} where
         (((λ _. (load, refl, seized load.value t.2 noted_all)), λ miss. absurd (miss hit)), λ _ other rest carried. subst (λ (b : Box (Load O C R)). obj.bound b.value.object ≡ bound) (first_load carried) (within load t.1)),
       )
 
-    seize_lost : (bound : ℕ) (more : List (ℕ × SlotValue O C R)) → word s 0 ≢ FREE → Goes obj s 0 i (v, more) (seizes_within obj bound (step o.slots 0 FREE i opt.none) (v, more)) (word s 0)
+    seize_lost : (bound : Bounds) (more : List (ℕ × SlotValue O C R)) → word s 0 ≢ FREE → Goes obj s 0 i (v, more) (seizes_within obj bound (step o.slots 0 FREE i opt.none) (v, more)) (word s 0)
     seize_lost bound more miss = (v, keeps, tt, unmoved s o l 0 i v me, (((λ hit. absurd (miss hit)), λ _. (refl, another miss)), λ hit. absurd (miss hit)))
 
-    seize_goes : (bound : ℕ) → IsBoundAt obj bound (home s 0) → (more : List (ℕ × SlotValue O C R)) → Goes obj s 0 i (v, more) (seizes_within obj bound (step o.slots 0 FREE i opt.none) (v, more)) (either (eqb (word s 0) FREE) i (word s 0))
+    seize_goes : (bound : Bounds) → IsBoundAt obj bound (home s 0) → (more : List (ℕ × SlotValue O C R)) → Goes obj s 0 i (v, more) (seizes_within obj bound (step o.slots 0 FREE i opt.none) (v, more)) (either (eqb (word s 0) FREE) i (word s 0))
     seize_goes bound within more = exchanged (word s 0) FREE i (Goes obj s 0 i (v, more) (seizes_within obj bound (step o.slots 0 FREE i opt.none) (v, more))) (λ hit. seize_won hit bound within more) (seize_lost bound more)
 
     -- release
@@ -209,7 +210,7 @@ module _ {O C R : Type 0} where
   -- what the table demands of each of these steps
 
   module _ (slots id i : ℕ) (v : View C R) (more : List (ℕ × SlotValue O C R)) (is : v.number ≡ i) (some_number : 0 < i) where
-    module _ {obj : Ghosts O C R} {bound : ℕ} where
+    module _ {obj : Ghosts O C R} {bound : Bounds} where
       -- Look at lock keeps the rule.
       pub look_at_lock_kept : Allows (IsBounded obj bound) slots id (v, more) 0 (λ n. n) (looks_at_lock (step slots 0 0 0 opt.none) (v, more))
       look_at_lock_kept = seated slots id i 0 v more (λ n. n) (looks_at_lock (step slots 0 0 0 opt.none) (v, more)) is some_number
@@ -234,7 +235,7 @@ module _ {C R : Type 0} where
     some_number : 0 < v.number
     some_number = omega arith
 
-    module _ {O : Type 0} {obj : Ghosts O C R} {bound : ℕ} where
+    module _ {O : Type 0} {obj : Ghosts O C R} {bound : Bounds} where
       -- Release keeps the rule, for a combiner with no record opened or unlinked and a load fit to go home.
       pub release_kept : (load : Box (Load O C R)) (more : List (ℕ × SlotValue O C R)) → IsHome obj v.front slots load.value → obj.bound load.value.object ≡ bound → HasAdded v.number v.pieces.all load.value.pieces.items → IsNothingOpened v.combiner → v.listing.off ≡ 0
           → Allows (IsBounded obj bound) slots id (v, (0, ObjectLoad load) ∷ more) 0 (λ _. FREE) (λ _. releases (step slots 0 FREE 0 opt.none) (v, (0, ObjectLoad load) ∷ more) FREE)

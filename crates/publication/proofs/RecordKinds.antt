@@ -1,5 +1,6 @@
 -- The kinds of step of a combiner on a record keep the rule: look at record, open, lay, pick, answer and put back.
 use Rattle.std.proofs.Common.{◌≡◌, ◌≢◌, inl, inr, ℕ, ◌+◌, ◌^◌, ◌<◌, ◌≤◌, Bool, true, eqb, Option, Some, None, List, [], ◌∷◌, ◌++◌, length, get_or, set, sym, refl, ap, ◌∙◌, subst, arith, length-append, length-set, get_or-set_other, get_or-set_same}
+use Rattle.sequential.specs.Bounds.{Bounds}
 use mathlib.Core.Option as opt
 use mathlib.Core.Logic.{dite}
 use native.Mathlib.Decide.{ℕ_discrete}
@@ -337,7 +338,7 @@ module _ {C R : Type 0} where
     some_number : 0 < v.number
     some_number = omega arith
 
-    module _ {O : Type 0} {obj : Ghosts O C R} {bound : ℕ} where
+    module _ {O : Type 0} {obj : Ghosts O C R} {bound : Bounds} where
       -- Look at record keeps the rule.
       pub look_at_record_kept : (more : List (ℕ × SlotValue O C R)) → Allows (IsBounded obj bound) slots id (v, more) (word_of j) (λ n. n) (looks_at_record (step slots (word_of j) 0 0 opt.none) (v, more))
       look_at_record_kept more = subst (λ (k : ℕ). Allows (IsBounded obj bound) slots id (v, more) (word_of j) (λ n. n) (looks_at k (v, more))) (sym (session_of_its_word j))
@@ -353,7 +354,7 @@ module _ {C R : Type 0} where
 
     module _ {O : Type 0} where
       module _ (call : C) (shown : get_elem? v.combiner.opened j ≡ opt.some (Some call)) (more : List (ℕ × SlotValue O C R)) where
-        module _ {obj : Ghosts O C R} {bound : ℕ} where
+        module _ {obj : Ghosts O C R} {bound : Bounds} where
           -- Lay keeps the rule, with record j's slot in hand and empty.
           pub lay_kept : v.combiner.hand ≡ j → Allows (IsBounded obj bound) slots id (v, (j, Empty) ∷ more) (word_of j) (λ n. n) (lays (step slots (word_of j) 0 0 opt.none) (v, (j, Empty) ∷ more))
           lay_kept held = seated slots id v.number j v ((j, Empty) ∷ more) (λ n. n) (lays (step slots (word_of j) 0 0 opt.none) (v, (j, Empty) ∷ more)) refl some_number

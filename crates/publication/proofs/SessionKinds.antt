@@ -1,6 +1,7 @@
 -- The kinds of step of a session on its own record keep the rule: start, post, look for reply, take, retire and
 -- leave.
 use Rattle.std.proofs.Common.{◌≡◌, ◌≢◌, ◌⊎◌, inl, inr, ⊎_elim, ℕ, zero, suc, ◌+◌, ◌<◌, ◌≤◌, ◌==◌, max, cond, Bool, true, false, Option, Some, None, List, [], ◌∷◌, ◌++◌, length, get_or, set, take, sym, refl, ap, ◌∙◌, subst, arith, length-append, length-set, eqb, is_some, get_or-set_other, get_or-set_same}
+use Rattle.sequential.specs.Bounds.{Bounds}
 use Rattle.std.proofs.lemmas.List.{set-get_or}
 use Rattle.std.proofs.Math.Seq.{take-length}
 use mathlib.Core.Option as opt
@@ -55,7 +56,7 @@ module _ {O C R : Type 0} (obj : Ghosts O C R) where
   abbrev pub GoesAt : BoardState O C R → ℕ → ℕ → Seated O C R → (ℕ → Seated O C R → Type 0) → ℕ → Type 0
   GoesAt s p id m then k = (w : View C R) × (a : Act (SlotValue O C R)) × Fits s.homes m.1 a × IsRuled obj (stepped s p k id m.1 w a) × then (get_or s.words p 0) (w, carried_after m.1 a)
 
-module _ {O C R : Type 0} {obj : Ghosts O C R} {bound : ℕ} where
+module _ {O C R : Type 0} {obj : Ghosts O C R} {bound : Bounds} where
   -- A step that lays down no load leaves an object at home that was there.
   bounded : (s : BoardState O C R) (p id : ℕ) (m : Seated O C R) (then : Seated O C R → Type 0) (k : ℕ) → IsBounded obj bound s
       → (w : View C R) × (a : Act (SlotValue O C R)) × Fits s.homes m.1 a × IsRuled obj (stepped s p k id m.1 w a) × then (w, carried_after m.1 a)
@@ -401,7 +402,7 @@ module _ {O C R : Type 0} {obj : Ghosts O C R} where
 module _ {O C R : Type 0} where
   -- What the table demands of each of these steps.
   module _ (slots id i : ℕ) (v : View C R) (more : List (ℕ × SlotValue O C R)) (is : v.number ≡ i) (some_number : 0 < i) where
-    module _ {obj : Ghosts O C R} {bound : ℕ} where
+    module _ {obj : Ghosts O C R} {bound : Bounds} where
       -- Start keeps the rule, for a session that hasn't started.
       pub start_kept : v.own.started ≡ false → v.own.pending ≡ None → v.own.retired ≡ false
           → Allows (IsBounded obj bound) slots id (v, more) (word_of i) (λ n. n) (starts (step slots (word_of i) 0 0 opt.none) (v, more))

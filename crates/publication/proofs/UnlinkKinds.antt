@@ -1,6 +1,7 @@
 -- The kinds of step that take a record off the publication list or link it again keep the rule: unlink, mark out and
 -- relink.
 use Rattle.std.proofs.Common.{◌≡◌, ◌≢◌, ◌⊎◌, inl, inr, ⊎_elim, ℕ, ◌<◌, true, false, Some, None, List, ◌∷◌, ◌++◌, length, get_or, set, eqb, sym, refl, ap, ◌∙◌, subst, arith, append_assoc, length-set, get_or-set_other, get_or-set_same}
+use Rattle.sequential.specs.Bounds.{Bounds}
 use Rattle.std.proofs.lemmas.List.{set-get_or}
 use mathlib.Core.Option as opt
 use mathlib.Core.Logic.{dite}
@@ -388,7 +389,7 @@ module _ {O C R : Type 0} {obj : Ghosts O C R} where
 module _ {O C R : Type 0} where
   -- What the table demands of each of these steps.
   module _ (slots id : ℕ) (v : View C R) (more : List (ℕ × SlotValue O C R)) (is : v.number ≢ 0) (has : v.combiner.has_object ≡ true) where
-    module _ {obj : Ghosts O C R} {bound : ℕ} where
+    module _ {obj : Ghosts O C R} {bound : Bounds} where
       -- Unlink keeps the rule, for a combiner with no unlinked record and b on its route.
       pub unlink_kept : (b w n : ℕ) → v.listing.off ≡ 0 → IsOn b v.listing.route → first_of (behind b v.listing.route) ≡ Some w → n ≡ head_of (behind w v.listing.route)
           → Allows (IsBounded obj bound) slots id (v, more) (link_of b) (λ _. n) (λ _. unlinks (step slots (link_of b) n 0 opt.none) (v, more) n)

@@ -33,6 +33,7 @@
 --   leave           the session's   its record's state word is read; its slot goes home for good
 --   gather          the closing's   the lock word is read; the seat of a session that left is joined into it, and ends
 use Rattle.std.specs.Prelude.{◌≡◌, ◌≢◌, ℕ, ◌+◌, ◌^◌, ◌<◌, ◌≤◌, max, nat_lt, ◌==◌, ◌||◌, cond, Bool, true, false, Option, Some, None, List, [], ◌∷◌, ◌++◌, length, slice_set, slice_index_or}
+use Rattle.sequential.specs.Bounds.{Bounds}
 use mathlib.Core.Option as opt
 use mathlib.Core.List.{IsPrefix}
 use lib.ListN.{get_elem?}
@@ -257,12 +258,12 @@ module _ {O C R : Type 0} (obj : Ghosts O C R) where
       × (found ≢ FREE → (n ≡ m) × HasOthers st.slots m.0)
 
 module _ {O C R : Type 0} (obj : Ghosts O C R) where
-  -- The object in the slot taken last keeps so many entries at most.
-  abbrev pub CarriesBounded : ℕ → List (ℕ × SlotValue O C R) → Type 0
+  -- The object in the slot taken last keeps so much at most.
+  abbrev pub CarriesBounded : Bounds → List (ℕ × SlotValue O C R) → Type 0
   CarriesBounded bound carried = (load : Box (Load O C R)) (more : List (ℕ × SlotValue O C R)) → carried ≡ (0, ObjectLoad load) ∷ more → obj.bound load.value.object ≡ bound
 
-  -- Seize, on a board whose object keeps so many entries at most.
-  abbrev pub seizes_within : ℕ → Kind O C R
+  -- Seize, on a board whose object keeps so much at most.
+  abbrev pub seizes_within : Bounds → Kind O C R
   seizes_within bound st m found n = seizes obj st m found n × (found ≡ FREE → CarriesBounded bound n.1)
 
 module _ {C R : Type 0} where

@@ -1,6 +1,7 @@
 -- The publication list: the records met from the head word by the links up to the end mark, and what holds of the
 -- list between any two atomic steps.
 use Rattle.std.specs.Prelude.{◌≡◌, ◌≢◌, ℕ, ◌<◌, ◌⊎◌, ◌==◌, cond, Bool, true, false, Option, Some, None, List, [], ◌∷◌, ◌++◌, length, drop, slice_index}
+use Rattle.sequential.specs.Bounds.{Bounds, keeping_nothing}
 use mathlib.Core.Option as opt
 use Rattle.std.specs.Global.{Box}
 use Rattle.publication.specs.Words.{link_of, END, FREE, OUT, CLOSED, EMPTY}
@@ -114,14 +115,14 @@ module _ {O C R : Type 0} (obj : Ghosts O C R) where
     pub records : IsOrderly obj s
     pub list : IsLinked s
 
-module _ {O C R : Type 0} (obj : Ghosts O C R) (bound : ℕ) where
-  -- The rule of a board whose object keeps so many entries at most, whenever it is at home.
+module _ {O C R : Type 0} (obj : Ghosts O C R) (bound : Bounds) where
+  -- The rule of a board whose object keeps so much at most, whenever it is at home.
   pub record IsBounded (s : BoardState O C R) : Type 0 where
     pub ruled : IsRuled obj s
     pub within : (load : Box (Load O C R)) → home s 0 ≡ opt.some (ObjectLoad load) → obj.bound load.value.object ≡ bound
 
-module _ {O : Type 0} (bound : O → ℕ) where
-  -- How many entries the first of these objects keeps at most.
-  abbrev pub bound_of : List O → ℕ
-  bound_of [] = 0
+module _ {O : Type 0} (bound : O → Bounds) where
+  -- How much the first of these objects keeps at most.
+  abbrev pub bound_of : List O → Bounds
+  bound_of [] = keeping_nothing
   bound_of (object ∷ objects) = bound object

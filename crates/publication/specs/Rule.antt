@@ -159,7 +159,7 @@ module _ {O C R : Type 0} (obj : Ghosts O C R) where
   -- A load that may go back into the lock's slot: the object has this history and one session fewer than there are slots,
   -- the row is empty and has room for one item a session, there is one age a session, none of them beyond the number of
   -- passes, and the pieces of the history that were taken follow one another up to the place before which entries were let go:
-  -- without a gap if the object has no bound, since then nothing is let go but what is taken.
+  -- without a gap if the object has no bound of lines, since then nothing is let go but what is taken.
   pub record IsHome (h : List (Entry C R)) (slots : ℕ) (l : Load O C R) : Type 0 where
     pub history : (obj.history l.object) ≡ h
     pub sessions : (obj.sessions l.object) + 1 ≡ slots
@@ -168,7 +168,7 @@ module _ {O C R : Type 0} (obj : Ghosts O C R) where
     pub ages : vec_len l.ages ≡ (obj.sessions l.object)
     pub past : (i : ℕ) → slice_index l.ages.items i ≤ l.passes
     pub pieces : AreInOrder 0 l.pieces.items (obj.cut l.object)
-    pub in_a_row : (obj.bound l.object) ≡ NO_BOUND → AreInARow 0 l.pieces.items (obj.cut l.object)
+    pub in_a_row : (obj.bound l.object).lines ≡ NO_BOUND → AreInARow 0 l.pieces.items (obj.cut l.object)
 
 module _ {C R : Type 0} where
   -- Session k is the combiner: the lock word is its number, and it knows the whole history.

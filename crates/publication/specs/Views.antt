@@ -3,6 +3,7 @@
 -- what the seat's steps have shown. A view exists in proofs only and takes no memory. BoardView and TicketView are
 -- what contracts see of a board and of a ticket.
 use Rattle.std.specs.Prelude.{◌≡◌, ◌⊎◌, ℕ, ◌≤◌, Bool, Option, Some, List, [], ◌∷◌, ◌++◌}
+use Rattle.sequential.specs.Bounds.{Bounds}
 use Rattle.atomic_table.specs.Seated.{TableId}
 use Rattle.sequential.specs.declared.entry.Entry.{Entry}
 use Rattle.sequential.specs.Histories.{Answered, calls_of}
@@ -95,8 +96,8 @@ pub record BoardView : Type 0 where
   pub id : TableId
   -- its number of sessions
   pub sessions : ℕ
-  -- how many entries of what it has written down its object keeps in memory at most
-  pub bound : ℕ
+  -- how much its object keeps in memory at most
+  pub bound : Bounds
 
 -- What contracts see of a ticket.
 pub record TicketView (C R : Type 0) : Type 0 where

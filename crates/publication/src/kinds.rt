@@ -1,6 +1,9 @@
 //! The rule of the board's table, and the kinds of its atomic steps. Each kind names its definition in
 //! `specs/Kinds.antt`, or in `specs/Runs.antt` if it requires something of its word and its seat: then its step tells that
 //! this was met. A `Play` is a step on a word; a `Split` makes a new seat out of one, and a `Join` makes one seat of two.
+
+ghost use Rattle.sequential.specs.Bounds.{Bounds, keeping_nothing};
+
 use crate::slot::SlotValue;
 use crate::view::View;
 use atomic_table::{Join, Play, Split, TableRule};
@@ -170,12 +173,12 @@ impl<O: Sequential> Play<SlotValue<O>, View<O::Call, O::Reply>> for LookAtLock {
 pub trait Keeping {
     ghost use Rattle.std.specs.Prelude.{ℕ};
 
-    ghost bound: { ℕ };
+    ghost bound: { Bounds };
 }
 
 /// Stands for any number: whoever makes the step names it.
 impl Keeping for Brand {
-    ghost bound = { 0 };
+    ghost bound = { keeping_nothing };
 }
 
 /// A session tries to become the combiner. No value of this type is made.

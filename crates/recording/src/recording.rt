@@ -77,7 +77,7 @@ impl<S: Stepping> Sequential for Recording<S> {
 
     ghost cut = { λ r. r.cut };
 
-    ghost bound = { λ r. r.bound };
+    ghost bound = { λ r. record { lines = r.bound; notes = 0 } };
 
     ghost is_legal = { AreRepliesOf S.reply_to };
 

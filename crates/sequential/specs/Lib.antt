@@ -1,3 +1,4 @@
+pub mod Bounds
 pub mod Histories
 pub mod Meaning
 pub mod Batches

@@ -3,6 +3,7 @@
 ghost use Rattle.std.specs.Prelude.{◌≡◌, ℕ, ◌≤◌, List, [], ◌∷◌, ◌++◌, length, All};
 ghost use Rattle.sequential.specs.declared.entry.Entry.{Entry as EntryValue};
 ghost use Rattle.sequential.specs.Histories.{IsEntryWithin};
+ghost use Rattle.sequential.specs.Bounds.{Bounds};
 
 use crate::entry::MAX_SESSIONS;
 
@@ -25,8 +26,8 @@ pub trait Sequential: Drop {
     // How much of what it has kept in memory the object was made to let go.
     ghost cut: { Self → ℕ };
 
-    // How much it keeps in memory at most.
-    ghost bound: { Self → ℕ };
+    // How much it keeps in memory at most: of the lines of its history, and of notes beside it. No call changes it.
+    ghost bound: { Self → Bounds };
 
     // The history is one that the object can have.
     ghost is_legal: { List (EntryValue Self.Call Self.Reply) → Type 0 };

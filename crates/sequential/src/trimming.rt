@@ -22,19 +22,19 @@ pub trait Trimming: Batching {
 
     /// The place of the first line that is kept.
     fn kept_from(&self) -> u64
-        ensures place { result ≡ first_kept (Self.cut self.now) (Self.bound self.now) (length (lines (Self.history self.now))) }
+        ensures place { result ≡ first_kept (Self.cut self.now) (Self.bound self.now).lines (length (lines (Self.history self.now))) }
         ensures within { result ≤ length (lines (Self.history self.now)) }
         ensures few { length (lines (Self.history self.now)) < 2 ^ 64 };
 
     /// The lines that are kept, oldest first.
     fn kept(&self) -> &[Self::Line]
-        ensures { result.now ≡ kept (Self.cut self.now) (Self.bound self.now) (lines (Self.history self.now)) };
+        ensures { result.now ≡ kept (Self.cut self.now) (Self.bound self.now).lines (lines (Self.history self.now)) };
 
     /// Lets go of the oldest `count` lines that are kept, or of all that are if these are fewer, and returns how many they
     /// were.
     fn let_go(&mut self, count: u64) -> u64
-        ensures count { result ≡ min count (length (lines (Self.history self.old)) - first_kept (Self.cut self.old) (Self.bound self.old) (length (lines (Self.history self.old)))) }
-        ensures cut { Self.cut self.new ≡ first_kept (Self.cut self.old) (Self.bound self.old) (length (lines (Self.history self.old))) + result }
+        ensures count { result ≡ min count (length (lines (Self.history self.old)) - first_kept (Self.cut self.old) (Self.bound self.old).lines (length (lines (Self.history self.old)))) }
+        ensures cut { Self.cut self.new ≡ first_kept (Self.cut self.old) (Self.bound self.old).lines (length (lines (Self.history self.old))) + result }
         ensures history { Self.history self.new ≡ Self.history self.old }
         ensures sessions { Self.sessions self.new ≡ Self.sessions self.old }
         ensures bound { Self.bound self.new ≡ Self.bound self.old };
@@ -42,8 +42,8 @@ pub trait Trimming: Batching {
     /// Hands out the lines that are kept, and lets go of them. Hands out none if the object has written down more than
     /// `MOST_DROPPED`. Takes no memory.
     fn take_kept(&mut self, alloc: Global) -> Vec<Self::Line>
-        ensures cut { Self.cut self.new ≡ first_kept (Self.cut self.old) (Self.bound self.old) (length (lines (Self.history self.old))) + length result.items }
-        ensures all { length (lines (Self.history self.old)) ≤ MOST_DROPPED → result.items ≡ kept (Self.cut self.old) (Self.bound self.old) (lines (Self.history self.old)) }
+        ensures cut { Self.cut self.new ≡ first_kept (Self.cut self.old) (Self.bound self.old).lines (length (lines (Self.history self.old))) + length result.items }
+        ensures all { length (lines (Self.history self.old)) ≤ MOST_DROPPED → result.items ≡ kept (Self.cut self.old) (Self.bound self.old).lines (lines (Self.history self.old)) }
         ensures none { MOST_DROPPED < length (lines (Self.history self.old)) → result.items ≡ [] }
         ensures history { Self.history self.new ≡ Self.history self.old }
         ensures sessions { Self.sessions self.new ≡ Self.sessions self.old }

@@ -42,4 +42,4 @@ module _ {O C R : Type 0} (obj : Ghosts O C R) where
     pub within : All (λ p. (1 ≤ p.session) × (p.session ≤ obj.sessions object)) all
     pub each : (p : ℕ) (x : Handed C R) → get_elem? handed p ≡ opt.some x → x.pieces ≡ pieces_of x.number all
     pub in_order : AreInOrder 0 all (obj.cut object)
-    pub in_a_row : obj.bound object ≡ NO_BOUND → AreInARow 0 all (obj.cut object)
+    pub in_a_row : (obj.bound object).lines ≡ NO_BOUND → AreInARow 0 all (obj.cut object)

@@ -1,6 +1,7 @@
 -- How the private fields of a board, of a ticket and of a knowledge give what contracts see, and the invariants of the
 -- three types.
 use Rattle.std.specs.Prelude.{◌≡◌, ℕ, ◌+◌, ◌<◌, ◌≤◌, [], length}
+use Rattle.sequential.specs.Bounds.{Bounds}
 use Rattle.sequential.specs.declared.entry.TheConstants.{MAX_SESSIONS}
 use Rattle.publication.specs.Views.{BoardView, TicketView, KnowledgeView}
 use Rattle.publication.specs.Kinds.{copy_of}
@@ -10,7 +11,7 @@ use Rattle.publication.specs.declared.board.Board.TheInside.{Inside as BoardInsi
 use Rattle.publication.specs.declared.board.Ticket.TheInside.{Inside as TicketInside}
 use Rattle.publication.specs.declared.board.knowledge.Knowledge.TheInside.{Inside as KnowledgeInside}
 
-module _ {O C R : Type 0} (bound : O → ℕ) where
+module _ {O C R : Type 0} (bound : O → Bounds) where
   -- What contracts see of the board.
   abbrev pub board_view_of : BoardInside O C R → BoardView
   board_view_of b = record { id = b.table.shared.table_id; sessions = b.sessions; bound = bound_of bound b.table.shared.key.object.items }

@@ -18,7 +18,7 @@ release-requires-clause-home g c =
     let now = c.deref_mut-2.result.now in
     let items : c.push.new.self.items ≡ old.pieces.items ++ p ∷ [] = search rules in
     let cut : (g.O.Sequential.cut now.object) ≡ first + count = search rules in
-    let place : first ≡ max (g.O.Sequential.cut old.object) (length (g.O.Trimming.lines (g.O.Sequential.history old.object)) - (g.O.Sequential.bound old.object)) = search rules in
+    let place : first ≡ max (g.O.Sequential.cut old.object) (length (g.O.Trimming.lines (g.O.Sequential.history old.object)) - (g.O.Sequential.bound old.object).lines) = search rules in
     let short : length (g.O.Trimming.lines (g.O.Sequential.history old.object)) < 2 ^ 64 = search rules in
     let ages_same : now.ages.items ≡ old.ages.items = search rules in
     let passes_same : now.passes ≡ old.passes = search rules in
@@ -30,7 +30,7 @@ release-requires-clause-home g c =
       ages = search rules;
       past = λ i. rw (ages_same, passes_same) (home.past i);
       pieces = rw (items, cut) (one_more_in_order 0 (g.O.Sequential.cut old.object) old.pieces.items p home.pieces (omega (arith, place)));
-      in_a_row = λ unbound. let none : (g.O.Sequential.bound old.object) ≡ NO_BOUND = search rules in
+      in_a_row = λ unbound. let none : (g.O.Sequential.bound old.object).lines ≡ NO_BOUND = search rules in
           rw (items, cut) (one_more_in_a_row 0 (g.O.Sequential.cut old.object) old.pieces.items p (home.in_a_row none) (omega (arith, place, none, short)));
     }
 
