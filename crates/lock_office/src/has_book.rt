@@ -17,7 +17,8 @@ pub trait HasBook: Batching {
     /// The book.
     fn book(&self) -> &Book
         ensures history { result.now.history ≡ calls (Self.history self.now) }
-        ensures sessions { result.now.sessions ≡ Self.sessions self.now };
+        ensures sessions { result.now.sessions ≡ Self.sessions self.now }
+        ensures deadlocks { result.now.deadlocks ≡ (Self.bound self.now).notes };
 
     /// Works on the book, and changes nothing that contracts see.
     fn tend<T: Tends<Book>>(&mut self, how: &mut T) -> Result<(), NoMemory>

@@ -20,6 +20,7 @@ pub fn book_keeping(alloc: Global, sessions: u16, bound: u64) -> Result<Book, Op
     ensures sessions { IfOk result (λ book. book.sessions ≡ sessions) }
     ensures bound { IfOk result (λ book. book.bound ≡ bound) }
     ensures empty { IfOk result (λ book. book.history ≡ []) }
+    ensures deadlocks { IfOk result (λ book. book.deadlocks ≡ 0) }
 {
     book_seeded(alloc, sessions, bound, 0)
 }
@@ -31,6 +32,7 @@ pub fn book_seeded(alloc: Global, sessions: u16, bound: u64, seed: u64) -> Resul
     ensures sessions { IfOk result (λ book. book.sessions ≡ sessions) }
     ensures bound { IfOk result (λ book. book.bound ≡ bound) }
     ensures empty { IfOk result (λ book. book.history ≡ []) }
+    ensures deadlocks { IfOk result (λ book. book.deadlocks ≡ 0) }
 {
     if sessions == 0 {
         return Err(OpenFault::NoSessions);
@@ -78,7 +80,7 @@ pub fn open_keeping(
     ensures none { (result ≡ Err OpenFault.NoSessions) ↔ (sessions ≡ 0) }
     ensures many { (result ≡ Err OpenFault.TooManySessions) ↔ (MAX_SESSIONS < sessions) }
     ensures office { IfOk result (λ made. made.0.sessions ≡ sessions) }
-    ensures bound { IfOk result (λ made. made.0.bound ≡ bound) }
+    ensures bound { IfOk result (λ made. made.0.bound ≡ record { lines = bound; notes = 0 }) }
     ensures sessions { IfOk result (λ made. made.1.items ≡ new_tickets made.0.id sessions sessions) }
     ensures ready { IfOk result (λ made. All (λ session. IsSessionOf made.0 session × IsIdle session) made.1.items) }
 {
@@ -96,7 +98,7 @@ pub fn open_seeded(
     ensures none { (result ≡ Err OpenFault.NoSessions) ↔ (sessions ≡ 0) }
     ensures many { (result ≡ Err OpenFault.TooManySessions) ↔ (MAX_SESSIONS < sessions) }
     ensures office { IfOk result (λ made. made.0.sessions ≡ sessions) }
-    ensures bound { IfOk result (λ made. made.0.bound ≡ bound) }
+    ensures bound { IfOk result (λ made. made.0.bound ≡ record { lines = bound; notes = 0 }) }
     ensures sessions { IfOk result (λ made. made.1.items ≡ new_tickets made.0.id sessions sessions) }
     ensures ready { IfOk result (λ made. All (λ session. IsSessionOf made.0 session × IsIdle session) made.1.items) }
 {
@@ -118,7 +120,7 @@ pub fn open_telling(
     ensures none { (result ≡ Err OpenFault.NoSessions) ↔ (sessions ≡ 0) }
     ensures many { (result ≡ Err OpenFault.TooManySessions) ↔ (MAX_SESSIONS < sessions) }
     ensures office { IfOk result (λ made. made.0.sessions ≡ sessions) }
-    ensures bound { IfOk result (λ made. made.0.bound ≡ bound) }
+    ensures bound { IfOk result (λ made. made.0.bound ≡ record { lines = bound; notes = deadlocks }) }
     ensures sessions { IfOk result (λ made. made.1.items ≡ new_tickets made.0.id sessions sessions) }
     ensures ready { IfOk result (λ made. All (λ session. IsSessionOf made.0 session × IsIdle session) made.1.items) }
 {

@@ -304,7 +304,7 @@ fn copy_deadlocks(book: &Book, alloc: Global, list: &mut Vec<Deadlock>) -> Resul
 ///
 /// Says how many calls the history had also where memory is refused: the contents of `list` are unchanged then. While it copies the
 /// deadlocks, no other session can become the combiner. Its cost grows with the number of deadlocks kept and of sessions on their
-/// cycles. That the lock table keeps as many as its office was opened with is only tested, since no contract sees that of an office.
+/// cycles.
 pub fn deadlocks<O: HasBook>(
     office: &Office<O>,
     alloc: Global,
@@ -316,6 +316,7 @@ pub fn deadlocks<O: HasBook>(
     ensures looked { IfSome result (λ _. HasLooked O.Sequential session.old session.new) }
     ensures length { IfSome result (λ seen. seen.length ≡ length (O.calls session.new.front)) }
     ensures found { IfSome result (λ seen. IfOk seen.found (λ most. AreDeadlocksTold (newest most (deadlocks_in (O.calls session.new.front))) list.new.items)) }
+    ensures most { IfSome result (λ seen. IfOk seen.found (λ most. most ≡ office.now.bound.notes)) }
     ensures err { IfSome result (λ seen. IfErr seen.found (λ _. list.new.items ≡ list.old.items)) }
     ensures none { IfNone result ((session.new ≡ session.old) × (list.new.items ≡ list.old.items) × (1 < office.now.sessions)) }
     ensures calls { HasCallsOf session.new.front session.new }

@@ -63,7 +63,7 @@ fn serve(
       entered = ticket.new.entered;
     }) }
     ensures home { IfOk result (λ _. IsHome ticket.new.front (board.now.sessions + 1) load.new) }
-    ensures bound { IfOk result (λ _. load.new.object.bound ≡ load.old.object.bound) }
+    ensures bound { IfOk result (λ _. (load.new.object.bound ≡ load.old.object.bound) × (load.new.object.deadlocks ≡ load.old.object.deadlocks)) }
     ensures taken { IfOk result (λ _. load.new.pieces.items ≡ load.old.pieces.items) }
 {
     laws::histories_are_legal_by_steps();
@@ -112,7 +112,7 @@ fn serve_the_first(
     ensures has { IfOk result (λ _. second.new.has_object ≡ true) }
     ensures opened { IfOk result (λ _. second.new.opened ≡ replicate 3 None) }
     ensures home { IfOk result (λ _. IsHome second.new.front (board.now.sessions + 1) load.new) }
-    ensures bound { IfOk result (λ _. load.new.object.bound ≡ load.old.object.bound) }
+    ensures bound { IfOk result (λ _. (load.new.object.bound ≡ load.old.object.bound) × (load.new.object.deadlocks ≡ load.old.object.deadlocks)) }
     ensures taken { IfOk result (λ _. (second.new.taken ≡ second.old.taken) × (load.new.pieces.items ≡ load.old.pieces.items)) }
 {
     let call = board.open(second, 1).expect(rt, "the call");
@@ -130,7 +130,7 @@ fn give_back(board: &Board, ticket: &mut Ticket, load: Box<Load>)
     requires has { ticket.old.has_object ≡ true }
     requires none { OpensNone ticket.old }
     requires home { IsHome ticket.old.front (board.now.sessions + 1) load.value }
-    requires bound { load.value.object.bound ≡ board.now.bound }
+    requires bound { record { lines = load.value.object.bound; notes = load.value.object.deadlocks } ≡ board.now.bound }
     requires taken { ticket.old.taken ≡ load.value.pieces.items }
     ensures ours { IsOf board.now ticket.new }
 {

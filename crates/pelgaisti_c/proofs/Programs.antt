@@ -5,6 +5,7 @@ use Rattle.lock_rules.specs.declared.calls.Call.TheVariants.{Lock, Convert, Try,
 use Rattle.lock_rules.specs.declared.calls.Reply.{Reply}
 use Rattle.lock_rules.specs.Entries.{Entry}
 use Rattle.lock_rules.specs.Legal.{IsLegal}
+use Rattle.sequential.specs.Bounds.{Bounds}
 use Rattle.programs.specs.Flat.{entries}
 use Rattle.programs.specs.Runs.{HasRun as RunOn}
 use Rattle.lock_programs.specs.declared.program.Program.{Program}
@@ -77,19 +78,24 @@ stop_last (q ∷ x ∷ rs) (suc k) r h n = stop_last (x ∷ rs) k r h (omega (ar
 abbrev as_book : ℕ → List Entry → ℕ → ℕ → List ℕ → ℕ → BookView
 as_book n h c b e t = record { sessions = n; history = h; cut = c; bound = b; ended = e; deadlocks = t }
 
--- a book with other entries, and the same sessions and the same bounds of its history
-same_book : (n m c d b a t : ℕ) (h l : List Entry) (e : List ℕ) → n ≡ m → c ≡ d → b ≡ a → h ≡ l → as_book n h c b e t ≡ as_book m l d a e t
-same_book n m c d b a t h l e i j k g = cc
+-- a book with other entries, and the same sessions and the same bounds
+same_book : (n m c d b a t s : ℕ) (h l : List Entry) (e : List ℕ) → n ≡ m → c ≡ d → b ≡ a → t ≡ s → h ≡ l → as_book n h c b e t ≡ as_book m l d a e s
+same_book n m c d b a t s h l e i j k f g = cc
+
+-- what a book keeps at most
+abbrev pub bounds : BookView → Bounds
+bounds b = record { lines = b.bound; notes = b.deadlocks }
 
 -- a program that was run on a history was run on the book
 pub run_on_book : (before after : BookView) (s : ℕ) (p : Program) (a : Answer) → RunOn program_form s p before.history after.history a
-    → after.sessions ≡ before.sessions → after.cut ≡ before.cut → after.bound ≡ before.bound → IsLegal after.history → TellsFrom after (length before.history)
+    → after.sessions ≡ before.sessions → after.cut ≡ before.cut → bounds after ≡ bounds before → IsLegal after.history → TellsFrom after (length before.history)
     → HasRun before after s p a
 run_on_book before after s p a h i j k legal told = record {
   place = h.first;
   run = h.run;
   history =
-      same_book after.sessions before.sessions after.cut before.cut after.bound before.bound after.deadlocks after.history (before.history ++ entries s (calls_of p) (replies_of p a)) after.ended i j k h.history;
+      same_book after.sessions before.sessions after.cut before.cut after.bound before.bound after.deadlocks before.deadlocks after.history (before.history ++ entries s (calls_of p) (replies_of p a)) after.ended i j
+      (ap (λ (b : Bounds). b.lines) k) (ap (λ (b : Bounds). b.notes) k) h.history;
   legal = legal;
   ended = told;
 }

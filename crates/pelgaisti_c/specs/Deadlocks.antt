@@ -34,8 +34,7 @@ AreDeadlocksWritten moments places written count member_places members member_co
     × (written ≡ are_written numbers_of_deadlock ds places) × (count ≡ length ds)
     × (members ≡ are_written numbers_of_member (members_of ds) member_places) × (member_count ≡ length (members_of ds))
 
--- the newest deadlocks of the history that the session knows, for some number of them: how many an office keeps is nothing that contracts
--- see of it
+-- the newest deadlocks of the history that the session knows, as many as the office keeps
 abbrev pub AreDeadlocksSeen : SessionShare → SessionShare → List DeadlockNumbers → List DeadlockNumbers → ℕ → List MemberNumbers → List MemberNumbers → ℕ → ℕ → Type 0
-AreDeadlocksSeen before after places written count member_places members member_count seen = IsSeen before after seen × ((most : ℕ)
-    × AreDeadlocksWritten (newest most (deadlocks_in (flat_history after.session.front))) places written count member_places members member_count)
+AreDeadlocksSeen before after places written count member_places members member_count seen = IsSeen before after seen
+    × AreDeadlocksWritten (newest before.office.value.bound.notes (deadlocks_in (flat_history after.session.front))) places written count member_places members member_count

@@ -127,8 +127,7 @@ numbers_of_answer p a = record {
 pub record HasRun (before after : BookView) (s : ℕ) (p : Program) (a : Answer) : Type 0 where
   pub place : a.first ≡ length before.history
   pub run : IsAnswer program_form p a
-  -- how many deadlocks the book keeps is said neither to change nor to stay
-  pub history : after ≡ record before { history = before.history ++ entries s (calls_of p) (replies_of p a); ended = after.ended; deadlocks = after.deadlocks }
+  pub history : after ≡ record before { history = before.history ++ entries s (calls_of p) (replies_of p a); ended = after.ended }
   pub legal : IsLegal after.history
   pub ended : TellsFrom after (length before.history)
 

@@ -24,7 +24,7 @@ pub fn open_keeping(
     ensures none { (result ≡ Err OpenFault.NoSessions) ↔ (sessions ≡ 0) }
     ensures many { (result ≡ Err OpenFault.TooManySessions) ↔ (MAX_SESSIONS < sessions) }
     ensures office { IfOk result (λ made. made.0.sessions ≡ sessions) }
-    ensures bound { IfOk result (λ made. made.0.bound ≡ bound) }
+    ensures bound { IfOk result (λ made. made.0.bound ≡ record { lines = bound; notes = 0 }) }
     ensures sessions { IfOk result (λ made. made.1.items ≡ new_tickets made.0.id sessions sessions) }
     ensures ready { IfOk result (λ made. All (λ session. IsSessionOf made.0 session × IsIdle session) made.1.items) }
 {
@@ -46,7 +46,7 @@ pub fn open_telling(
     ensures none { (result ≡ Err OpenFault.NoSessions) ↔ (sessions ≡ 0) }
     ensures many { (result ≡ Err OpenFault.TooManySessions) ↔ (MAX_SESSIONS < sessions) }
     ensures office { IfOk result (λ made. made.0.sessions ≡ sessions) }
-    ensures bound { IfOk result (λ made. made.0.bound ≡ bound) }
+    ensures bound { IfOk result (λ made. made.0.bound ≡ record { lines = bound; notes = deadlocks }) }
     ensures sessions { IfOk result (λ made. made.1.items ≡ new_tickets made.0.id sessions sessions) }
     ensures ready { IfOk result (λ made. All (λ session. IsSessionOf made.0 session × IsIdle session) made.1.items) }
 {

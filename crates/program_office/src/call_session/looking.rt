@@ -179,6 +179,7 @@ impl CallSession {
         ensures looked { (seen : _) → result ≡ Ok (Some seen) → HasLooked self.old self.new }
         ensures length { (seen : _) → result ≡ Ok (Some seen) → seen.length ≡ length (flat_history self.new.front) }
         ensures found { (seen : _) → result ≡ Ok (Some seen) → AreDeadlocksTold (newest seen.found (deadlocks_in (flat_history self.new.front))) list.new.items }
+        ensures most { (seen : _) → result ≡ Ok (Some seen) → seen.found ≡ office.now.bound.notes }
         ensures none { result ≡ Ok None → (self.new ≡ self.old) × (list.new.items ≡ list.old.items) × (1 < office.now.sessions) }
         ensures err { IfErr result (λ _. HasLooked self.old self.new × (list.new.items ≡ list.old.items)) }
         ensures calls { HasCallsOf self.new.front self.new }

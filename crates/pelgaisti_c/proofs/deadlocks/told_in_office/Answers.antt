@@ -1,4 +1,4 @@
-use Rattle.std.proofs.Common.{rules}
+use Rattle.std.proofs.Common.{◌≡◌, ℕ, subst, rules}
 use Rattle.lock_desk.specs.Deadlocks.{AreDeadlocksTold, deadlocks_in, newest}
 use Rattle.program_office.specs.ProgramBoards.{flat_history}
 use Rattle.pelgaisti_c.proofs.deadlocks.told_in_office.Goals as goal
@@ -7,7 +7,8 @@ pub returns-clause-ok : goal.returns-clause-ok
 returns-clause-ok c = λ e.
     let w = c.write_told-status.ensures in
     let ok = c.if-status-ne-OK.false in
-    let most = c.in-Some.answer.found in
     let history = flat_history c.deadlocks.new.self.front in
-    let told : AreDeadlocksTold (newest most (deadlocks_in history)) c.as_slice.result.now = search rules in
-    (search rules, (most, (c.as_slice.result.now, told, w.list ok, w.count ok, w.members ok, w.member_count ok)))
+    let most : c.in-Some.answer.found ≡ c.args.share.now.office.value.bound.notes = search rules in
+    let found : AreDeadlocksTold (newest c.in-Some.answer.found (deadlocks_in history)) c.as_slice.result.now = search rules in
+    let told = subst (λ (k : ℕ). AreDeadlocksTold (newest k (deadlocks_in history)) c.as_slice.result.now) most found in
+    (search rules, (c.as_slice.result.now, told, w.list ok, w.count ok, w.members ok, w.member_count ok))
