@@ -115,7 +115,7 @@ fn open_handles(handles: &mut [SessionHandle], shares: Vec<Box<SessionShare>>)
 /// Opens the handles as the sessions of a new office, in their order. The handles must be closed. No other open office
 /// should have this mark. Its lock table keeps at most the newest `bound` entries of its history in memory. `waker` is the address of
 /// what wakes threads, which is the caller's alone to use; 0 means that there is none. The lock table hashes resources with the seed, and
-/// keeps the newest `deadlocks` deadlocks: how many it keeps is only tested, since no contract sees that of an office.
+/// keeps the newest `deadlocks` deadlocks.
 #[unsafe(no_mangle)]
 pub extern "C" fn pelgaisti_raw_office_open(
     alloc: Global,
@@ -127,7 +127,8 @@ pub extern "C" fn pelgaisti_raw_office_open(
     deadlocks: usize,
 ) -> u32
     ensures null { result ≡ NULL_POINTER ↔ (sessions.old.at ≡ null_ptr) }
-    ensures ok { result ≡ OK → (office : BoardView) × (office.sessions ≡ length sessions.old.behind) × AreSessionsOf office mark waker sessions.new.behind }
+    ensures ok { result ≡ OK → (office : BoardView) × (office.sessions ≡ length sessions.old.behind)
+        × (office.bound ≡ record { lines = bound; notes = deadlocks }) × AreSessionsOf office mark waker sessions.new.behind }
     ensures failed { result ≢ OK → sessions.new.behind ≡ sessions.old.behind }
     ensures count { result ≢ NULL_POINTER → (result ≡ NO_SUCH_COUNT ↔ ¬ ((1 ≤ length sessions.old.behind) × (length sessions.old.behind ≤ MAX_SESSIONS))) }
     ensures open { result ≡ OPEN → Any (λ handle. handle.is_open ≡ 1) sessions.old.behind }
