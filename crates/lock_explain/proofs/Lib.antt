@@ -1,4 +1,5 @@
 pub mod ForSessions
+pub mod HoldersInTurn
 pub mod Ahead
 pub mod Parents
 pub mod WaitingGraph

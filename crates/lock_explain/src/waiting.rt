@@ -1,11 +1,12 @@
 //! The sessions that a request waits for, and through what.
 
-ghost use Rattle.std.specs.Prelude.{◌≡◌, ◌++◌, ◌||◌, is_some, IfOk, OnOk};
+ghost use Rattle.std.specs.Prelude.{◌≡◌, ◌+◌, ◌<◌, ◌^◌, ◌++◌, ◌||◌, if◌then◌else◌, drop, is_some, IfOk, OnOk};
 ghost use Rattle.lock_rules.specs.State.{held_mode};
 ghost use Rattle.lock_rules.specs.Legal.{state_of};
 ghost use Rattle.lock_explain.specs.Waiting.{blocker_of, blockers_of, held_in_conflict, party_of, request_ahead, waiting_state};
 ghost use Rattle.lock_explain.specs.inner.Ahead.{ahead_by};
 ghost use Rattle.lock_explain.specs.inner.Asked.{IsAskedIn, claim_of};
+ghost use Rattle.lock_explain.specs.inner.Holders.{mode_of_first};
 
 use crate::asked::Asked;
 use crate::explanation::{Blocker, Party};
@@ -82,8 +83,10 @@ fn is_blocker(held: Option<Mode>, ahead: Option<Mode>) -> bool
     held.is_some() || ahead.is_some()
 }
 
-/// The mode of the holder at `next`, if it is the session's.
-fn held_next(holders: &[(u16, Mode)], next: usize, session: u16) -> Option<Mode> {
+/// The mode of the holder at `next`, if there is one and it is the session.
+fn held_next(holders: &[(u16, Mode)], next: usize, session: u16) -> Option<Mode>
+    ensures { result ≡ mode_of_first session (drop next holders.now) }
+{
     if next >= holders.len() {
         return None;
     }
@@ -91,7 +94,16 @@ fn held_next(holders: &[(u16, Mode)], next: usize, session: u16) -> Option<Mode>
     if holder == session { Some(mode) } else { None }
 }
 
-/// Adds `other` to the list, with what it blocks the request through, if the request waits for it. `held` is what it holds. Fails if memory is refused.
+/// The index of the holder behind, if the one at `next` was found.
+fn behind_found(next: usize, held: Option<Mode>) -> usize
+    requires few { next < 2 ^ 16 }
+    ensures { result ≡ (if is_some held then next + 1 else next) }
+{
+    if held.is_some() { next + 1 } else { next }
+}
+
+/// Adds `other` to the list, with what it blocks the request through, if the request waits for it. `held` is the mode in which it holds the
+/// requested resource. Fails if memory is refused.
 fn add_blocker(
     before: &Book,
     request: &Asked,
@@ -136,9 +148,7 @@ pub(crate) fn blockers_of(
     for position in 0..sessions {
         let other = position + 1;
         let held = held_next(&holders, next, other);
-        if held.is_some() {
-            next += 1;
-        }
+        next = behind_found(next, held);
         add_blocker(before, &asked, other, held, &mut blockers)?;
     }
     Ok(blockers)
