@@ -243,15 +243,18 @@ impl CellTable {
         }
     }
 
-    /// Like `place_of`, for a lock. If `resource` has no cell and the set has room, it becomes the provisional key.
+    /// Like `place_of`, for a lock. If `resource` has no cell, it becomes the provisional key, for which the set may grow. Where memory is
+    /// refused for that, it doesn't.
     pub(crate) fn find_or_insert_key(&mut self, resource: Resource) -> Option<usize>
         ensures place { IsPlace resource self.old.entries result }
         ensures same { self.new ≡ self.old }
     {
         same_path_is_equality();
         drop_provisional(&mut self.resources, &mut self.has_provisional);
+        // Called for its contract: no key is in the set twice.
+        let _len = self.resources.len();
         let Ok((place, added)) = self.resources.insert_full(resource) else {
-            return None;
+            return self.place_of(resource);
         };
         if added {
             self.has_provisional = true;

@@ -1,5 +1,5 @@
 -- The holders of a resource, read beside the sessions one after another: both come by number.
-use Rattle.std.proofs.Common.{◌≡◌, ℕ, zero, suc, ◌+◌, ◌<◌, Bool, true, false, cond, eqb, ◌&&◌, List, [], ◌∷◌, drop, Option, Some, None, is_some, refl, sym, ap, subst, ◌∙◌, arith}
+use Rattle.std.proofs.Common.{◌≡◌, ℕ, zero, suc, ◌+◌, ◌<◌, ◌≤◌, Bool, true, false, cond, eqb, ◌&&◌, List, [], ◌∷◌, drop, Option, Some, None, is_some, refl, sym, ap, subst, ◌∙◌, arith}
 use Rattle.std.proofs.lemmas.Bool.{and_parts, cases_Bool}
 use Rattle.std.proofs.lemmas.Bool.Decides.{nat_tests}
 use Rattle.lock_modes.specs.declared.Mode.{Mode}
@@ -12,6 +12,18 @@ pub record AreBehind (hs : List (ℕ × Mode)) (p : ℕ) (rest : List (ℕ × Mo
   pub later : after p rest ≡ true
   pub rising : ascend rest ≡ true
   pub same : (u : ℕ) → p < u → seek u hs ≡ seek u rest
+
+-- the holders in order, of sessions from 1 on, are those behind 0
+pub from-first : (hs : List (ℕ × Mode)) → ascend hs ≡ true → ((u : ℕ) (m : Mode) → seek u hs ≡ Some m → 1 ≤ u) → AreBehind hs 0 hs
+from-first hs rising some = record { later = go hs rising some; rising = rising; same = λ u k. refl }
+  where
+    go : (hs : List (ℕ × Mode)) → ascend hs ≡ true → ((u : ℕ) (m : Mode) → seek u hs ≡ Some m → 1 ≤ u) → after 0 hs ≡ true
+    go [] rising some = refl
+    go (h ∷ hs) rising some =
+        let one : 1 ≤ h.0 = some h.0 h.1 (grind (nat_tests)) in
+        let r = and_parts (after h.0 hs) (ascend hs) rising in
+        let t = after-trans 0 h.0 hs (omega (arith, one)) r.0 in
+        grind (arith, nat_tests, one, t)
 
 -- a first holder that isn't the next session comes behind it
 first-later : (p : ℕ) (h : ℕ × Mode) (hs : List (ℕ × Mode)) → after p (h ∷ hs) ≡ true → ascend (h ∷ hs) ≡ true → eqb h.0 (p + 1) ≡ false → after (p + 1) (h ∷ hs) ≡ true

@@ -142,6 +142,8 @@ pub(crate) fn blockers_of(
 {
     let mut blockers = Vec::new(alloc);
     let sessions = before.sessions();
+    // holders are of sessions of the book
+    let _history = before.history();
     let mut holders = Vec::new(alloc);
     before.holders(asked.resource, &mut holders)?;
     let mut next = 0;

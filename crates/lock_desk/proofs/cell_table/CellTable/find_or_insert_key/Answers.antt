@@ -28,7 +28,7 @@ returns-clause-place c =
     let same = c.in-Ok.ensures.keys ∙ ap (λ (b : Bool). cond b ks (ks ++ r ∷ [])) has ∙ c.drop_provisional.ensures.keys in
     let at = ap (λ (qs : List (List ℕ)). slice_get qs c.in-Ok.place) (sym same) ∙ stored.1 ∙ ap Some (sym (same_path-true r stored.0 (sym (eq-is r stored.0) ∙ stored.2))) in
     subst (λ (t : Table). IsCellAt r t.entries c.in-Ok.place) c.self.view_is
-    (found-place rs c.self.inside.cells.items r c.in-Ok.place (subst (IsDistinct same_path) c.drop_provisional.ensures.keys (apart-in_use _ eq-is ks false c.len.ensures.unique)) c.self.invariant.long at)
+    (found-place rs c.self.inside.cells.items r c.in-Ok.place (subst (IsDistinct same_path) c.drop_provisional.ensures.keys (apart-in_use _ eq-is ks false c.len-len.ensures.unique)) c.self.invariant.long at)
 
 pub invariant_of-self-then-added : goal.invariant_of-self-then-added
 invariant_of-self-then-added c = record { long = search rules; idle = search rules }
