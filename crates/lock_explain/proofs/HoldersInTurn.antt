@@ -20,7 +20,7 @@ from-first hs rising some = record { later = go hs rising some; rising = rising;
     go : (hs : List (ℕ × Mode)) → ascend hs ≡ true → ((u : ℕ) (m : Mode) → seek u hs ≡ Some m → 1 ≤ u) → after 0 hs ≡ true
     go [] rising some = refl
     go (h ∷ hs) rising some =
-        let one : 1 ≤ h.0 = some h.0 h.1 (grind (nat_tests)) in
+        let one : 1 ≤ h.0 = some h.0 h.1 (grind (arith, nat_tests)) in
         let r = and_parts (after h.0 hs) (ascend hs) rising in
         let t = after-trans 0 h.0 hs (omega (arith, one)) r.0 in
         grind (arith, nat_tests, one, t)
@@ -38,7 +38,7 @@ first-told hs p [] b = sym (b.same (p + 1) (omega arith))
 first-told hs p (h ∷ rest) b = go (eqb h.0 (p + 1)) refl ∙ sym (b.same (p + 1) (omega arith))
   where
     go : (x : Bool) → eqb h.0 (p + 1) ≡ x → mode_of_first (p + 1) (h ∷ rest) ≡ seek (p + 1) (h ∷ rest)
-    go true e = grind (nat_tests, e)
+    go true e = grind (arith, nat_tests, e)
     go false e = let none = seek-after (p + 1) (h ∷ rest) (first-later p h rest b.later b.rising e) in ap (λ (x : Bool). cond x (Some h.1) None) e ∙ sym none
 
 -- behind the next session are these holders without the first, if that is it
@@ -46,11 +46,14 @@ pub behind-next : (hs : List (ℕ × Mode)) (p n : ℕ) (all : List (ℕ × Mode
     → AreBehind hs (p + 1) (drop (cond (is_some (mode_of_first (p + 1) (drop n all))) (n + 1) n) all)
 behind-next hs p n all b = go (drop n all) refl b
   where
+    behind : (n : ℕ) (all : List (ℕ × Mode)) (h : ℕ × Mode) (rest : List (ℕ × Mode)) → drop n all ≡ h ∷ rest → drop (suc n) all ≡ rest
+    behind zero [] h rest e = absurd (cc)
+    behind zero (x ∷ xs) h rest e = cc
+    behind (suc n) [] h rest e = absurd (cc)
+    behind (suc n) (x ∷ xs) h rest e = behind n xs h rest e
+
     without : (n : ℕ) (all : List (ℕ × Mode)) (h : ℕ × Mode) (rest : List (ℕ × Mode)) → drop n all ≡ h ∷ rest → drop (n + 1) all ≡ rest
-    without zero [] h rest e = absurd (cc)
-    without zero (x ∷ xs) h rest e = cc
-    without (suc n) [] h rest e = absurd (cc)
-    without (suc n) (x ∷ xs) h rest e = without n xs h rest e
+    without n all h rest e = let one : n + 1 ≡ suc n = omega arith in ap (λ (k : ℕ). drop k all) one ∙ behind n all h rest e
 
     found : (h : ℕ × Mode) (rest : List (ℕ × Mode)) → AreBehind hs p (h ∷ rest) → eqb h.0 (p + 1) ≡ true → AreBehind hs (p + 1) rest
     found h rest b e =
