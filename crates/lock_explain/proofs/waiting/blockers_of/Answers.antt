@@ -22,9 +22,9 @@ loop-position-init c =
     let hs = holders r t.held in
     let all : c.holders.new.list.items ≡ hs = search rules in
     let some : (u : ℕ) (m : Mode) → seek u hs ≡ Some m → 1 ≤ u = λ u m e.
-        let inside : (leb 1 u && leb u c.args.before.now.sessions) ≡ true = (all-inside c.args.before.now.sessions es c.history-history.ensures.within).holding u r m (mode_in-seek u r t.held ∙ e) in
-        let one : leb 1 u ≡ true = (and_parts (leb 1 u) (leb u c.args.before.now.sessions) inside).0 in
-        grind (arith, nat_tests, one) in
+    let inside : (leb 1 u && leb u c.args.before.now.sessions) ≡ true = (all-inside c.args.before.now.sessions es c.history-history.ensures.within).holding u r m (mode_in-seek u r t.held ∙ e) in
+    let one : leb 1 u ≡ true = (and_parts (leb 1 u) (leb u c.args.before.now.sessions) inside).0 in
+    grind (arith, nat_tests, one) in
     record {
       told = c.new-blockers.ensures.items;
       all = all;
