@@ -1,0 +1,3 @@
+pub mod Served
+pub mod Sessions
+pub mod Ends

@@ -1,0 +1,86 @@
+//! The gauges of a lock table, as its listing and its transactions tell them.
+
+ghost use Rattle.std.specs.Prelude.{◌≡◌, ◌+◌, ◌<◌, ◌^◌, length};
+ghost use Rattle.std.specs.List.{range_with_len};
+ghost use Rattle.lock_rules.specs.State.{is_open};
+ghost use Rattle.lock_rules.specs.Legal.{state_of};
+ghost use Rattle.lock_counts.specs.Counts.{count_if, one_if};
+ghost use Rattle.stats_report.specs.StatsText.{greater, is_lock, longest_from, queue_up_to};
+
+use lock_desk::Book;
+use lock_rules::{Claim, ClaimKind};
+
+/// 1 if the test holds, else 0.
+pub(crate) fn one_if(test: bool) -> u64
+    ensures { result ≡ one_if test }
+{
+    if test { 1 } else { 0 }
+}
+
+/// Whether the line of a listing is a lock.
+fn is_lock(claim: &Claim) -> bool
+    ensures { result ≡ is_lock claim.now }
+{
+    match claim.kind {
+        ClaimKind::Held => true,
+        ClaimKind::Conversion | ClaimKind::Fresh => false,
+    }
+}
+
+/// How many lines of a listing are locks.
+pub(crate) fn count_locks(claims: &[Claim]) -> u64
+    ensures { result ≡ count_if is_lock claims.now }
+{
+    let mut locks: u64 = 0;
+    for index in 0..claims.len() {
+        locks += one_if(is_lock(&claims[index]));
+    }
+    locks
+}
+
+/// The number of requests in a queue up to the line `claim`, in front of which there were `before`.
+fn queue_up_to(before: u64, claim: &Claim) -> u64
+    requires few { before + 1 < 2 ^ 64 }
+    ensures { result ≡ queue_up_to before claim.now }
+{
+    if is_lock(claim) { 0 } else { before + 1 }
+}
+
+/// The greater number.
+fn greater(a: u64, b: u64) -> u64
+    ensures { result ≡ greater a b }
+{
+    if a < b { b } else { a }
+}
+
+/// The length of the longest queue of a listing.
+pub(crate) fn longest_queue(claims: &[Claim]) -> u64
+    ensures { result ≡ longest_from 0 0 claims.now }
+{
+    let mut queue: u64 = 0;
+    let mut longest: u64 = 0;
+    for index in 0..claims.len() {
+        queue = queue_up_to(queue, &claims[index]);
+        longest = greater(longest, queue);
+    }
+    longest
+}
+
+/// Whether `session` has an open transaction.
+fn is_open(book: &Book, session: u16) -> bool
+    ensures { result ≡ is_open (state_of book.now.history) session }
+{
+    book.transaction(session).is_some()
+}
+
+/// How many sessions of the lock table have an open transaction.
+pub(crate) fn count_open(book: &Book) -> u64
+    ensures { result ≡ count_if (is_open (state_of book.now.history)) (range_with_len 1 book.now.sessions) }
+{
+    let mut open: u64 = 0;
+    let sessions = book.sessions();
+    for before in 0..sessions {
+        open += one_if(is_open(book, before + 1));
+    }
+    open
+}
