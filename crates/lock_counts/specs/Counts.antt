@@ -138,6 +138,6 @@ still_waiting h = length (state_of h).table.requests
 
 -- deadlocks
 
--- the calls that closed a cycle of waits, and so made victims
+-- the calls that closed a cycle of waits, or several, and so made victims; a call counts once, however many it made
 abbrev pub deadlocks : List Entry → ℕ
 deadlocks h = total_from (λ before e after. one_if (not (victims_of before e after == 0))) empty h

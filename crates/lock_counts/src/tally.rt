@@ -53,7 +53,7 @@ pub struct Tally {
     replies: [u64; CELLS],
     /// How many calls were refused for each reason.
     refusals: [u64; REASONS],
-    /// How many waits ended since a call of another session made room.
+    /// How many waits ended because a call of another session made room.
     granted: u64,
     /// How many sessions that waited were made victims by calls of others.
     doomed: u64,
@@ -91,7 +91,7 @@ fn dooms_itself(op: Op, kind: ReplyKind) -> bool
     is_requesting(op) && kind.number() == ReplyKind::Deadlock.number()
 }
 
-/// Whether a call of this operation with a reply of this kind, which made so many other sessions victims, made others alone victims.
+/// Whether a call with a reply of this kind made other sessions victims, and not its own; `doomed` is how many others.
 #[inline(always)]
 fn dooms_others_alone(op: Op, kind: ReplyKind, doomed: u64) -> bool
     ensures { result ≡ (not (is_requesting op && (number_of_kind kind == number_of_kind kinds.Deadlock)) && not (doomed == 0)) }
@@ -107,7 +107,7 @@ fn gives_up(op: Op, by: Op, own: bool) -> bool
     op.number() == by.number() && own
 }
 
-/// One more, if the test holds.
+/// The counter, with one more if the test holds.
 #[inline(always)]
 fn one_more(count: u64, test: bool) -> u64
     ensures { result ≡ (if test then (count + 1) % 2 ^ 64 else count) }
@@ -182,10 +182,10 @@ impl Tally {
         self.restarted = one_more(self.restarted, restarting);
     }
 
-    /// Counts one call more, with its reply and the waits that it has ended.
+    /// Counts one more call, with its reply and the waits that it has ended.
     ///
-    /// If the tally has counted a legal history that this call and reply continue legally, and `ends` are the waits that the call
-    /// has ended, it has counted the longer history then.
+    /// The tally must have counted the calls before it, `reply` must be the lock manager's, and `ends` the waits that the call has
+    /// ended. Otherwise the counters say nothing.
     #[inline(always)]
     pub fn note(&mut self, call: &Call, reply: &Reply, ends: WaitEnds)
         ensures { (history : List EntryValue) (session : ℕ) → IsTallyOf history self.old → length history + 1 < 2 ^ 64
@@ -269,7 +269,7 @@ impl Tally {
         waiting.saturating_add(doomed)
     }
 
-    /// How many waits ended since a call of another session made room.
+    /// How many waits ended because a call of another session made room.
     pub fn waits_granted(&self) -> u64
         ensures { (history : List EntryValue) → IsTallyOf history self.now → result ≡ waits_granted history }
     {
@@ -319,7 +319,7 @@ impl Tally {
             .saturating_sub(self.restarted)
     }
 
-    /// How many calls closed a cycle of waits.
+    /// How many calls closed a cycle of waits, or several, and so made victims. Each counts once, however many it made.
     pub fn deadlocks(&self) -> u64
         ensures { (history : List EntryValue) → IsTallyOf history self.now → result ≡ deadlocks history }
     {
