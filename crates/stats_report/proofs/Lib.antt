@@ -1,3 +1,4 @@
 pub mod Served
 pub mod Sessions
 pub mod Ends
+pub mod Queues

@@ -1,6 +1,6 @@
 -- The counters of a history as text: a line for each, with its group, its name and its number. The format is this project's own
 -- choice.
-use Rattle.std.specs.Prelude.{ℕ, ◌+◌, ◌-◌, Bool, true, false, if◌then◌else◌, nat_lt, List, [], ◌∷◌, ◌++◌, length, replicate, codes, decimal}
+use Rattle.std.specs.Prelude.{ℕ, ◌-◌, max, Bool, true, false, List, [], ◌∷◌, ◌++◌, length, replicate, codes, decimal}
 use Rattle.std.specs.List.{flat_map, range_with_len}
 use Rattle.lock_rules.specs.declared.kinds.TheConstants.{OPS, REFUSALS}
 use Rattle.lock_rules.specs.declared.listing.Claim.{Claim}
@@ -8,9 +8,10 @@ use Rattle.lock_rules.specs.declared.listing.ClaimKind.{ClaimKind}
 use Rattle.lock_rules.specs.declared.listing.ClaimKind.TheVariants.{Held, Conversion, Fresh}
 use Rattle.lock_rules.specs.Names.{name_of_why}
 use Rattle.lock_rules.specs.Entries.{Entry}
-use Rattle.lock_rules.specs.State.{State, is_open}
+use Rattle.lock_rules.specs.State.{Table, State, is_open}
+use Rattle.lock_rules.specs.Queue.{queue}
 use Rattle.lock_rules.specs.Legal.{state_of}
-use Rattle.lock_rules.specs.Listing.{listing_of}
+use Rattle.lock_rules.specs.Listing.{listed_resources, listing_of}
 use Rattle.lock_trace.specs.Words.{word_of}
 use Rattle.lock_counts.specs.Counts.{count_if, calls, refusals, requests, granted_at_once, requests_refused, waits_begun, waits_granted, waits_doomed, waits_withdrawn, waits_aborted, waits_restarted, still_waiting, deadlocks}
 use Rattle.command_line.specs.declared.args.Form.{Form}
@@ -67,19 +68,14 @@ is_held Fresh = false
 abbrev pub is_lock : Claim → Bool
 is_lock l = is_held l.kind
 
--- how many requests wait in the queue of a resource, up to this line of a listing; in front of it there were so many
-abbrev pub queue_up_to : ℕ → Claim → ℕ
-queue_up_to before l = if is_lock l then 0 else before + 1
+-- the length of the longest of the queues of these resources
+abbrev pub longest_of : Table → List (List ℕ) → ℕ
+longest_of t [] = 0
+longest_of t (r ∷ rs) = max (length (queue t r)) (longest_of t rs)
 
--- the greatest of two numbers
-abbrev pub greater : ℕ → ℕ → ℕ
-greater a b = if nat_lt a b then b else a
-
--- the length of the longest queue of a listing, whose first lines go on with a queue of so many; the longest in front of them had
--- `longest`. In a listing the holders of a resource, of which each queue has some, are in front of its queue
-abbrev pub longest_from : ℕ → ℕ → List Claim → ℕ
-longest_from before longest [] = longest
-longest_from before longest (l ∷ ls) = longest_from (queue_up_to before l) (greater longest (queue_up_to before l)) ls
+-- the length of the longest queue: the most requests that wait for one resource
+abbrev pub longest_queue : State → ℕ
+longest_queue st = longest_of st.table (listed_resources st)
 
 -- the lines of these gauges: open transactions, locks, waiting requests, and the length of the longest queue
 abbrev pub gauge_lines : Form → ℕ → ℕ → ℕ → ℕ → List ℕ
@@ -87,12 +83,12 @@ gauge_lines form transactions locks waiting longest =
     line_of form (codes "now") (codes "transactions") transactions
     ++ line_of form (codes "now") (codes "locks") locks
     ++ line_of form (codes "now") (codes "waiting") waiting
-    ++ line_of form (codes "now") (codes "longest queue") longest
+    ++ line_of form (codes "now") (codes "longest_queue") longest
 
 -- the open transactions of the sessions 1 to n, the locks and the waiting requests of all resources, and the longest queue
 abbrev pub lines_of_gauges : Form → ℕ → State → List ℕ
 lines_of_gauges form n st =
-    gauge_lines form (count_if (is_open st) (range_with_len 1 n)) (count_if is_lock (listing_of st)) (length st.table.requests) (longest_from 0 0 (listing_of st))
+    gauge_lines form (count_if (is_open st) (range_with_len 1 n)) (count_if is_lock (listing_of st)) (length st.table.requests) (longest_queue st)
 
 -- the counters of a history of the sessions 1 to n, and the gauges of the state that it leads to
 abbrev pub text_of_stats : Form → ℕ → List Entry → List ℕ

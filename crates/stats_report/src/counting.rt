@@ -53,7 +53,7 @@ fn count_victims(book: &Book, sessions: &[u16]) -> u64
 fn waits(book: &Book, session: u16) -> bool
     ensures { result ≡ is_waiting (state_of book.now.history) session }
 {
-    book.request(session).is_some()
+    book.is_waiting(session)
 }
 
 /// Whether a session that waited, or not, waits no more.

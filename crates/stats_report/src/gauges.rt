@@ -1,11 +1,13 @@
 //! The gauges of a lock table, as its listing and its transactions tell them.
 
-ghost use Rattle.std.specs.Prelude.{◌≡◌, ◌+◌, ◌<◌, ◌^◌, length};
+ghost use Rattle.std.specs.Prelude.{◌≡◌, ◌+◌, ◌<◌, ◌^◌, if◌then◌else◌, List, length};
 ghost use Rattle.std.specs.List.{range_with_len};
+ghost use Rattle.lock_rules.specs.Entries.{Entry as EntryValue};
 ghost use Rattle.lock_rules.specs.State.{is_open};
 ghost use Rattle.lock_rules.specs.Legal.{state_of};
+ghost use Rattle.lock_rules.specs.Listing.{listing_of};
 ghost use Rattle.lock_counts.specs.Counts.{count_if, one_if};
-ghost use Rattle.stats_report.specs.StatsText.{greater, is_lock, longest_from, queue_up_to};
+ghost use Rattle.stats_report.specs.StatsText.{is_lock, longest_queue};
 
 use lock_desk::Book;
 use lock_rules::{Claim, ClaimKind};
@@ -38,30 +40,24 @@ pub(crate) fn count_locks(claims: &[Claim]) -> u64
     locks
 }
 
-/// The number of requests in a queue up to the line `claim`, in front of which there were `before`.
+/// The number of requests in a queue up to the line `claim` of a listing, if `before` are in front of it. A lock begins the lines of
+/// another resource, or is in front of its queue.
 fn queue_up_to(before: u64, claim: &Claim) -> u64
     requires few { before + 1 < 2 ^ 64 }
-    ensures { result ≡ queue_up_to before claim.now }
+    ensures { result ≡ (if is_lock claim.now then 0 else before + 1) }
 {
     if is_lock(claim) { 0 } else { before + 1 }
 }
 
-/// The greater number.
-fn greater(a: u64, b: u64) -> u64
-    ensures { result ≡ greater a b }
-{
-    if a < b { b } else { a }
-}
-
-/// The length of the longest queue of a listing.
+/// The length of the longest queue in the listing of a lock table.
 pub(crate) fn longest_queue(claims: &[Claim]) -> u64
-    ensures { result ≡ longest_from 0 0 claims.now }
+    ensures { (history : List EntryValue) → claims.now ≡ listing_of (state_of history) → result ≡ longest_queue (state_of history) }
 {
     let mut queue: u64 = 0;
     let mut longest: u64 = 0;
     for index in 0..claims.len() {
         queue = queue_up_to(queue, &claims[index]);
-        longest = greater(longest, queue);
+        longest = longest.max(queue);
     }
     longest
 }

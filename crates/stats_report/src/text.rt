@@ -169,7 +169,7 @@ fn put_gauge_lines(
     put_counter(out, form, "now", "transactions", transactions)?;
     put_counter(out, form, "now", "locks", locks)?;
     put_counter(out, form, "now", "waiting", waiting)?;
-    put_counter(out, form, "now", "longest queue", longest)
+    put_counter(out, form, "now", "longest_queue", longest)
 }
 
 /// Writes what the lock table has now.

@@ -1,5 +1,5 @@
 use Rattle.std.proofs.Common.{◌≡◌, ◌≤◌, drop}
-use Rattle.stats_report.specs.StatsText.{longest_from}
+use Rattle.stats_report.proofs.Queues.{longest_from}
 use Rattle.stats_report.proofs.gauges.longest_queue.Given as goal
 
 -- the longest queue of the lines from this one on, behind the queue so far, is that of all
