@@ -49,14 +49,7 @@ fn count_victims(book: &Book, sessions: &[u16]) -> u64
     victims
 }
 
-/// Whether `session` has a waiting request.
-fn waits(book: &Book, session: u16) -> bool
-    ensures { result ≡ is_waiting (state_of book.now.history) session }
-{
-    book.is_waiting(session)
-}
-
-/// Whether a session that waited, or not, waits no more.
+/// Whether a wait is over: the session waited before a call, and doesn't wait now.
 fn is_over(waited: bool, waits: bool) -> bool
     ensures { result ≡ (waited && not waits) }
 {
@@ -75,7 +68,7 @@ fn ends_of_call(book: &Book, session: u16, waited: bool) -> WaitEnds
     let ended = book.ended();
     let doomed = count_victims(book, ended);
     let granted = ended.len() as u64 - doomed;
-    let still = waits(book, session);
+    let still = book.is_waiting(session);
     WaitEnds {
         granted,
         doomed,
@@ -98,7 +91,7 @@ fn serve_counted(
     ensures counted { IfOk result (λ _. IsTallyOf book.old.history tally.old → IsTallyOf book.new.history tally.new) }
 {
     let asked = call;
-    let waited = waits(book, session);
+    let waited = book.is_waiting(session);
     let reply = book.serve(session, call)?;
     let _served = book.served();
     let _history = book.history();

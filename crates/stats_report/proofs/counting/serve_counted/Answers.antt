@@ -20,4 +20,4 @@ returns-clause-counted c = λ t.
     let few : length old.history + 1 < 2 ^ 64 = omega (arith, ap (λ (h : List Entry). length h) grown, length-append old.history (e ∷ []), c.served-served.ensures.count) in
     let legal = subst IsLegal grown c.history-history.ensures.legal in
     subst (λ (h : List Entry). IsTallyOf h c.note.new.self) (sym grown)
-    (c.note.ensures old.history session t few legal (c.ends_of_call-ends.ensures old.history c.args.call c.in_ok-reply.reply grown c.waits-waited.ensures told))
+    (c.note.ensures old.history session t few legal (c.ends_of_call-ends.ensures old.history c.args.call c.in_ok-reply.reply grown c.is_waiting-waited.ensures told))
