@@ -2,4 +2,4 @@ pub mod Served
 pub mod Sessions
 pub mod Ends
 pub mod Queues
-pub mod Gauges
+pub mod GaugeLines

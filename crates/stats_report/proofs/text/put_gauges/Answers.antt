@@ -6,7 +6,7 @@ use Rattle.lock_rules.specs.Legal.{state_of}
 use Rattle.lock_rules.specs.Listing.{listing_of}
 use Rattle.lock_counts.specs.Counts.{count_if, still_waiting}
 use Rattle.stats_report.specs.StatsText.{is_lock, longest_queue}
-use Rattle.stats_report.proofs.Gauges.{gauges-alike}
+use Rattle.stats_report.proofs.GaugeLines.{gauges-alike}
 use Rattle.stats_report.proofs.text.put_gauges.Goals as goal
 
 pub returns : goal.returns
