@@ -112,7 +112,8 @@ shell_app = with_rule (new_app (codes "shell")) sessions_option
 
 -- the program `glm`, which has a version and requires one of the commands `replay [--stream]`, `run [--turns T] [--stream]`,
 -- `check [--stream]`, `show [--at P] [--csv] [--dot] [--waits]`, `explain [--at P] [--csv] [--dot]`, `timeline [--from P]
--- [--to Q]` and `stats [--csv]`, each with `[FILE] [--sessions N] [-o FILE] [--comments] [--hints]`, or of the command `shell [--sessions N]`
+-- [--to Q]` and `stats [--csv]`, each with `[FILE] [--sessions N] [-o FILE] [--comments] [--hints]`, or of the command
+-- `shell [--sessions N]`
 abbrev pub glm_command : App
 glm_command =
     with_subcommand

@@ -105,7 +105,8 @@ fn option_place(given: &ArgMatches, option: &str) -> Result<Option<u32>, ()>
     }
 }
 
-/// Returns the form in which `show`, `explain` or `stats` writes, or `None` if the options have more than one of `--csv`, `--dot` and `--waits`.
+/// Returns the form in which `show`, `explain` or `stats` writes, or `None` if the options have more than one of `--csv`, `--dot` and
+/// `--waits`.
 fn form_of(given: &ArgMatches) -> Option<Form>
     ensures some { IfSome result (WantsForm (rows_of (found_of given.now))) }
     ensures none { IfNone result ((form : FormValue) → ¬ (WantsForm (rows_of (found_of given.now)) form)) }
