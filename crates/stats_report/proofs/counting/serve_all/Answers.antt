@@ -1,4 +1,4 @@
-use Rattle.std.proofs.Common.{◌≡◌, ◌∙◌, ◌+◌, List, take, take_all, length, ap, sym, subst, arith}
+use Rattle.std.proofs.Common.{◌∙◌, List, sym, subst}
 use Rattle.lock_rules.specs.Entries.{Entry}
 use Rattle.lock_counts.specs.Tallies.{IsTallyOf}
 use Rattle.stats_report.proofs.Served.{served-next}

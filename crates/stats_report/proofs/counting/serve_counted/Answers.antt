@@ -1,5 +1,4 @@
-use Rattle.std.proofs.Common.{◌≡◌, ◌∙◌, ℕ, ◌+◌, ◌<◌, ◌^◌, List, [], ◌∷◌, ◌++◌, length, length-append, ap, sym, subst, arith}
-use Rattle.std.proofs.lemmas.Result.{IfOk-weaker}
+use Rattle.std.proofs.Common.{◌∙◌, ℕ, ◌+◌, ◌<◌, ◌^◌, List, [], ◌∷◌, length, length-append, ap, sym, subst, arith}
 use Rattle.lock_desk.specs.BookView.{BookView}
 use Rattle.lock_rules.specs.Entries.{Entry}
 use Rattle.lock_rules.specs.Step.{step}

@@ -1,4 +1,4 @@
-use Rattle.std.proofs.Common.{◌≡◌, ◌∙◌, ◌++◌, List, OnOk, string_bytes, ap, subst}
+use Rattle.std.proofs.Common.{◌≡◌, ◌∙◌, ◌++◌, ℕ, List, OnOk, string_bytes, ap, subst}
 use Rattle.std.specs.List.{range_with_len}
 use Rattle.lock_rules.specs.declared.listing.Claim.{Claim}
 use Rattle.lock_rules.specs.State.{is_open}
