@@ -278,7 +278,7 @@ def trials_of_the_program(folder):
         commands = ("show",) if rows is CROWD else ("show", "explain")
         forms = [[command, *form] for command in commands for form in ([], ["--csv"], ["--dot"])]
         drawn = [] if rows is CROWD else [["timeline"]]
-        for words in [*forms, ["show", "--waits"], *drawn]:
+        for words in [*forms, ["show", "--waits"], ["stats"], ["stats", "--csv"], *drawn]:
             whole = subprocess.run([PROGRAM, *words], input=history, capture_output=True, check=True, timeout=60).stdout
             yield Trial(f"{' '.join(words)} of {name}", [PROGRAM, *words], ends(0, whole), history)
         # a session that is alone is served at the first try

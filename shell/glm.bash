@@ -5,7 +5,7 @@ _glm() {
     [ "$before" != "=" ] || before="${COMP_WORDS[COMP_CWORD - 2]}"
     [ "$word" != "=" ] || word=""
     if [ "$COMP_CWORD" -eq 1 ]; then
-        words="replay run check show explain timeline shell help -h --help -V --version"
+        words="replay run check show explain timeline stats shell help -h --help -V --version"
     else
         case "${COMP_WORDS[1]} $before" in
             "replay --sessions") :; return ;;
@@ -25,16 +25,19 @@ _glm() {
             "timeline -o" | "timeline --output") compopt -o default 2> /dev/null; return ;;
             "timeline --from") :; return ;;
             "timeline --to") :; return ;;
+            "stats --sessions") :; return ;;
+            "stats -o" | "stats --output") compopt -o default 2> /dev/null; return ;;
             "shell --sessions") :; return ;;
         esac
         case "${COMP_WORDS[1]}" in
-            help) words="replay run check show explain timeline shell help" ;;
+            help) words="replay run check show explain timeline stats shell help" ;;
             replay) words="--sessions -o --output --comments --hints --stream -h --help" ;;
             run) words="--sessions -o --output --comments --hints --turns --stream -h --help" ;;
             check) words="--sessions -o --output --comments --hints --stream -h --help" ;;
             show) words="--sessions -o --output --comments --hints --at --csv --dot --waits -h --help" ;;
             explain) words="--sessions -o --output --comments --hints --at --csv --dot -h --help" ;;
             timeline) words="--sessions -o --output --comments --hints --from --to -h --help" ;;
+            stats) words="--sessions -o --output --comments --hints --csv -h --help" ;;
             shell) words="--sessions -h --help" ;;
             *) return ;;
         esac

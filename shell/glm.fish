@@ -6,6 +6,7 @@ complete -c glm -n __fish_use_subcommand -a check -d 'Says whether a history is 
 complete -c glm -n __fish_use_subcommand -a show -d 'Shows who holds what and who waits for whom at a place of a history'
 complete -c glm -n __fish_use_subcommand -a explain -d 'Explains what the calls of a history did, and why'
 complete -c glm -n __fish_use_subcommand -a timeline -d 'Draws a history as a timeline: when each session held, and when it waited'
+complete -c glm -n __fish_use_subcommand -a stats -d 'Counts the calls of a history, and how its waits ended'
 complete -c glm -n __fish_use_subcommand -a shell -d 'Answers calls as they are typed, and says why'
 complete -c glm -n __fish_use_subcommand -a help -d 'Print this message or the help of the given subcommand(s)'
 complete -c glm -n '__fish_use_subcommand' -s h -l help -d 'Print help'
@@ -16,6 +17,7 @@ complete -c glm -n '__fish_seen_subcommand_from help' -a check -d 'Says whether 
 complete -c glm -n '__fish_seen_subcommand_from help' -a show -d 'Shows who holds what and who waits for whom at a place of a history'
 complete -c glm -n '__fish_seen_subcommand_from help' -a explain -d 'Explains what the calls of a history did, and why'
 complete -c glm -n '__fish_seen_subcommand_from help' -a timeline -d 'Draws a history as a timeline: when each session held, and when it waited'
+complete -c glm -n '__fish_seen_subcommand_from help' -a stats -d 'Counts the calls of a history, and how its waits ended'
 complete -c glm -n '__fish_seen_subcommand_from help' -a shell -d 'Answers calls as they are typed, and says why'
 complete -c glm -n '__fish_seen_subcommand_from help' -a help -d 'Print this message or the help of the given subcommand(s)'
 complete -c glm -n '__fish_seen_subcommand_from replay; and not __fish_seen_subcommand_from help' -F
@@ -67,5 +69,12 @@ complete -c glm -n '__fish_seen_subcommand_from timeline; and not __fish_seen_su
 complete -c glm -n '__fish_seen_subcommand_from timeline; and not __fish_seen_subcommand_from help' -l from -x -d 'The first place of the history that is drawn, by default its beginning'
 complete -c glm -n '__fish_seen_subcommand_from timeline; and not __fish_seen_subcommand_from help' -l to -x -d 'The last place of the history that is drawn, by default its end'
 complete -c glm -n '__fish_seen_subcommand_from timeline; and not __fish_seen_subcommand_from help' -s h -l help -d 'Print help (see more with '\''--help'\'')'
+complete -c glm -n '__fish_seen_subcommand_from stats; and not __fish_seen_subcommand_from help' -F
+complete -c glm -n '__fish_seen_subcommand_from stats; and not __fish_seen_subcommand_from help' -l sessions -x -d 'How many sessions there are, 1 to 1024 [default: 256]'
+complete -c glm -n '__fish_seen_subcommand_from stats; and not __fish_seen_subcommand_from help' -s o -l output -r -F -d 'The file to write, whole or not at all, by default or for '\''-'\'' standard output'
+complete -c glm -n '__fish_seen_subcommand_from stats; and not __fish_seen_subcommand_from help' -l comments -d 'Skips lines that begin with '\''#'\'''
+complete -c glm -n '__fish_seen_subcommand_from stats; and not __fish_seen_subcommand_from help' -l hints -d 'Shows a row that is refused, or a wrong reply, and what would help, as on a terminal'
+complete -c glm -n '__fish_seen_subcommand_from stats; and not __fish_seen_subcommand_from help' -l csv -d 'Writes the same as rows'
+complete -c glm -n '__fish_seen_subcommand_from stats; and not __fish_seen_subcommand_from help' -s h -l help -d 'Print help (see more with '\''--help'\'')'
 complete -c glm -n '__fish_seen_subcommand_from shell; and not __fish_seen_subcommand_from help' -l sessions -x -d 'How many sessions there are, 1 to 1024 [default: 256]'
 complete -c glm -n '__fish_seen_subcommand_from shell; and not __fish_seen_subcommand_from help' -s h -l help -d 'Print help (see more with '\''--help'\'')'

@@ -163,12 +163,12 @@ fn a_faulty_row_is_reported_before_a_failed_reader(rt: HostRuntime) {
     assert!(rt; fail_everywhere(&rt, FAULTY_CASE, true));
 }
 
-/// Wherever the reader of a history fails that is to be shown, explained or drawn, nothing is written.
+/// Wherever the reader of a history fails that is to be shown, explained, drawn or counted, nothing is written.
 #[test]
-fn a_failed_reader_shows_explains_and_draws_nothing(rt: HostRuntime) {
+fn a_failed_reader_shows_explains_draws_and_counts_nothing(rt: HostRuntime) {
     let history = DEADLOCK.as_bytes();
     let mut right = true;
-    for word in ["show", "explain", "timeline"] {
+    for word in ["show", "explain", "timeline", "stats"] {
         let words = ["glm", word];
         for length in 0..=history.len() {
             let left = &history[..length];

@@ -139,6 +139,12 @@ fn a_failed_writer_leaves_the_beginning_of_a_picture(rt: HostRuntime) {
     assert!(rt; has_own_fronts(&rt, &["glm", "timeline"], DEADLOCK.as_bytes(), 500));
 }
 
+/// Wherever the writer fails, what was written is the beginning of the counters that a writer gets which doesn't fail.
+#[test]
+fn a_failed_writer_leaves_the_beginning_of_the_counters(rt: HostRuntime) {
+    assert!(rt; has_own_fronts(&rt, &["glm", "stats"], DEADLOCK.as_bytes(), usize::MAX));
+}
+
 /// Wherever the writer of a shell fails, what was written is the beginning of what a writer gets which doesn't fail.
 #[test]
 fn a_failed_writer_leaves_the_beginning_of_a_shell(rt: HostRuntime) {

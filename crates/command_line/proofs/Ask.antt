@@ -50,6 +50,16 @@ delivery-one rows delivery.Whole delivery.InPieces a b = absurd (a b)
 delivery-one rows delivery.InPieces delivery.Whole a b = absurd (b a)
 delivery-one rows delivery.InPieces delivery.InPieces a b = refl
 
+-- the two names begin with other letters, c and s
+check_or_shell : codes "check" ≢ codes "shell"
+check_or_shell same = let first : 99 ≡ 115 = ap (λ (t : Text). get_or t 0 0) same in omega (arith, first)
+
+check_or_stats : codes "check" ≢ codes "stats"
+check_or_stats same = let first : 99 ≡ 115 = ap (λ (t : Text). get_or t 0 0) same in omega (arith, first)
+
+shell_or_stats : codes "shell" ≢ codes "stats"
+shell_or_stats same = let second : 104 ≡ 116 = ap (λ (t : Text). get_or t 1 0) same in omega (arith, second)
+
 -- no request is in the options if they give no number of sessions
 pub no_sessions : (name : Text) (rows : List Row) → ((n : ℕ) → ¬ Gives (codes "sessions") MAX_SESSIONS rows n)
     → (asked : CommandRequest) → ¬ IsRequest (Some (name, rows)) asked
@@ -59,6 +69,7 @@ no_sessions name rows none (request.Check n d) is = none n is.1
 no_sessions name rows none (request.Show n p f) is = none n is.1
 no_sessions name rows none (request.Explain n p f) is = none n is.1
 no_sessions name rows none (request.Timeline n p q) is = none n is.1
+no_sessions name rows none (request.Stats n f) is = none n is.1
 no_sessions name rows none (request.Shell n) is = none n is.1
 
 -- no request is in the options of `run` if they give no number of turns
@@ -70,6 +81,7 @@ no_turns name rows run none (request.Check n d) is = let bad : codes "run" ≡ c
 no_turns name rows run none (request.Show n p f) is = let bad : codes "run" ≡ codes "show" = sym run ∙ is.0 in cc
 no_turns name rows run none (request.Explain n p f) is = let bad : codes "run" ≡ codes "explain" = sym run ∙ is.0 in cc
 no_turns name rows run none (request.Timeline n p q) is = let bad : codes "run" ≡ codes "timeline" = sym run ∙ is.0 in cc
+no_turns name rows run none (request.Stats n f) is = let bad : codes "run" ≡ codes "stats" = sym run ∙ is.0 in cc
 no_turns name rows run none (request.Shell n) is = let bad : codes "run" ≡ codes "shell" = sym run ∙ is.0 in cc
 
 -- no request is in the options of a run that want the history in pieces, and the greatest number of sessions
@@ -84,6 +96,7 @@ no_streamed name rows n run given many flag (request.Check m d) is = let bad : c
 no_streamed name rows n run given many flag (request.Show m p f) is = let bad : codes "run" ≡ codes "show" = sym run ∙ is.0 in cc
 no_streamed name rows n run given many flag (request.Explain m p f) is = let bad : codes "run" ≡ codes "explain" = sym run ∙ is.0 in cc
 no_streamed name rows n run given many flag (request.Timeline m p q) is = let bad : codes "run" ≡ codes "timeline" = sym run ∙ is.0 in cc
+no_streamed name rows n run given many flag (request.Stats m f) is = let bad : codes "run" ≡ codes "stats" = sym run ∙ is.0 in cc
 no_streamed name rows n run given many flag (request.Shell m) is = let bad : codes "run" ≡ codes "shell" = sym run ∙ is.0 in cc
 
 -- no request is in the options of `show` if they don't give both a place and a form
@@ -95,6 +108,7 @@ nothing_shown name rows show none (request.Check n d) is = let bad : codes "show
 nothing_shown name rows show none (request.Show n p f) is = none p f is.2 is.3
 nothing_shown name rows show none (request.Explain n p f) is = let bad : codes "show" ≡ codes "explain" = sym show ∙ is.0 in cc
 nothing_shown name rows show none (request.Timeline n p q) is = let bad : codes "show" ≡ codes "timeline" = sym show ∙ is.0 in cc
+nothing_shown name rows show none (request.Stats n f) is = let bad : codes "show" ≡ codes "stats" = sym show ∙ is.0 in cc
 nothing_shown name rows show none (request.Shell n) is = let bad : codes "show" ≡ codes "shell" = sym show ∙ is.0 in cc
 
 -- no request is in the options of `explain` if they don't give both a place and a form
@@ -106,6 +120,7 @@ nothing_explained name rows explain none (request.Check n d) is = let bad : code
 nothing_explained name rows explain none (request.Show n p f) is = let bad : codes "explain" ≡ codes "show" = sym explain ∙ is.0 in cc
 nothing_explained name rows explain none (request.Explain n p f) is = none p f is.2 is.3
 nothing_explained name rows explain none (request.Timeline n p q) is = let bad : codes "explain" ≡ codes "timeline" = sym explain ∙ is.0 in cc
+nothing_explained name rows explain none (request.Stats n f) is = let bad : codes "explain" ≡ codes "stats" = sym explain ∙ is.0 in cc
 nothing_explained name rows explain none (request.Shell n) is = let bad : codes "explain" ≡ codes "shell" = sym explain ∙ is.0 in cc
 
 -- no request is in the options of `show` or `explain` if they don't give both a place and a form
@@ -123,6 +138,7 @@ no_first_place name rows timeline none (request.Check n d) is = let bad : codes 
 no_first_place name rows timeline none (request.Show n p f) is = let bad : codes "timeline" ≡ codes "show" = sym timeline ∙ is.0 in cc
 no_first_place name rows timeline none (request.Explain n p f) is = let bad : codes "timeline" ≡ codes "explain" = sym timeline ∙ is.0 in cc
 no_first_place name rows timeline none (request.Timeline n p q) is = none p is.2
+no_first_place name rows timeline none (request.Stats n f) is = let bad : codes "timeline" ≡ codes "stats" = sym timeline ∙ is.0 in cc
 no_first_place name rows timeline none (request.Shell n) is = let bad : codes "timeline" ≡ codes "shell" = sym timeline ∙ is.0 in cc
 
 -- no request is in the options of `timeline` if `--to` gives no place
@@ -134,18 +150,32 @@ no_last_place name rows timeline none (request.Check n d) is = let bad : codes "
 no_last_place name rows timeline none (request.Show n p f) is = let bad : codes "timeline" ≡ codes "show" = sym timeline ∙ is.0 in cc
 no_last_place name rows timeline none (request.Explain n p f) is = let bad : codes "timeline" ≡ codes "explain" = sym timeline ∙ is.0 in cc
 no_last_place name rows timeline none (request.Timeline n p q) is = none q is.3
+no_last_place name rows timeline none (request.Stats n f) is = let bad : codes "timeline" ≡ codes "stats" = sym timeline ∙ is.0 in cc
 no_last_place name rows timeline none (request.Shell n) is = let bad : codes "timeline" ≡ codes "shell" = sym timeline ∙ is.0 in cc
+
+-- no request is in the options of `stats` if they don't give a form
+pub nothing_counted : (name : Text) (rows : List Row) → name ≡ codes "stats" → ((f : Form) → ¬ WantsForm rows f)
+    → (asked : CommandRequest) → ¬ IsRequest (Some (name, rows)) asked
+nothing_counted name rows stats none (request.Replay n d) is = let bad : codes "stats" ≡ codes "replay" = sym stats ∙ is.0 in cc
+nothing_counted name rows stats none (request.Run n t d) is = let bad : codes "stats" ≡ codes "run" = sym stats ∙ is.0 in cc
+nothing_counted name rows stats none (request.Check n d) is = check_or_stats (sym is.0 ∙ stats)
+nothing_counted name rows stats none (request.Show n p f) is = let bad : codes "stats" ≡ codes "show" = sym stats ∙ is.0 in cc
+nothing_counted name rows stats none (request.Explain n p f) is = let bad : codes "stats" ≡ codes "explain" = sym stats ∙ is.0 in cc
+nothing_counted name rows stats none (request.Timeline n p q) is = let bad : codes "stats" ≡ codes "timeline" = sym stats ∙ is.0 in cc
+nothing_counted name rows stats none (request.Stats n f) is = none f is.2
+nothing_counted name rows stats none (request.Shell n) is = shell_or_stats (sym is.0 ∙ stats)
 
 -- no request has a name other than those of the commands
 pub no_name : (name : Text) (rows : List Row) → name ≢ codes "replay" → name ≢ codes "run" → name ≢ codes "check" → name ≢ codes "show"
-    → name ≢ codes "explain" → name ≢ codes "timeline" → name ≢ codes "shell" → (asked : CommandRequest) → ¬ IsRequest (Some (name, rows)) asked
-no_name name rows replay run check show explain timeline shell (request.Replay n d) is = replay is.0
-no_name name rows replay run check show explain timeline shell (request.Run n t d) is = run is.0
-no_name name rows replay run check show explain timeline shell (request.Check n d) is = check is.0
-no_name name rows replay run check show explain timeline shell (request.Show n p f) is = show is.0
-no_name name rows replay run check show explain timeline shell (request.Explain n p f) is = explain is.0
-no_name name rows replay run check show explain timeline shell (request.Timeline n p q) is = timeline is.0
-no_name name rows replay run check show explain timeline shell (request.Shell n) is = shell is.0
+    → name ≢ codes "explain" → name ≢ codes "timeline" → name ≢ codes "stats" → name ≢ codes "shell" → (asked : CommandRequest) → ¬ IsRequest (Some (name, rows)) asked
+no_name name rows replay run check show explain timeline stats shell (request.Replay n d) is = replay is.0
+no_name name rows replay run check show explain timeline stats shell (request.Run n t d) is = run is.0
+no_name name rows replay run check show explain timeline stats shell (request.Check n d) is = check is.0
+no_name name rows replay run check show explain timeline stats shell (request.Show n p f) is = show is.0
+no_name name rows replay run check show explain timeline stats shell (request.Explain n p f) is = explain is.0
+no_name name rows replay run check show explain timeline stats shell (request.Timeline n p q) is = timeline is.0
+no_name name rows replay run check show explain timeline stats shell (request.Stats n f) is = stats is.0
+no_name name rows replay run check show explain timeline stats shell (request.Shell n) is = shell is.0
 
 -- the text of the option `--sessions` of the command that was found
 abbrev pub sessions_text : Option (Text × List Row) → Option Text
@@ -159,10 +189,6 @@ no_such_sessions None text fault is wrong asked h = h
 no_such_sessions (Some found) text fault is wrong asked h =
     no_sessions found.0 found.1 (numeral_not_given _ text MAX_SESSIONS found.1 (omega arith) is (λ m read some. let bad : Ok m ≡ Err fault = sym read ∙ wrong in cc)) asked h
 
--- the two names begin with other letters, c and s
-check_or_shell : codes "check" ≢ codes "shell"
-check_or_shell same = let first : 99 ≡ 115 = ap (λ (t : Text). get_or t 0 0) same in omega (arith, first)
-
 -- a name with its options is at most one request
 one-in : (name : Text) (rows : List Row) (r q : CommandRequest) → IsRequestIn name rows r → IsRequestIn name rows q → r ≡ q
 one-in name rows (request.Replay n d) (request.Replay m e) a b = ap₂ (λ k l. request.Replay k l) (sessions-one rows n m a.1 b.1) (delivery-one rows d e a.2 b.2)
@@ -171,6 +197,7 @@ one-in name rows (request.Replay n d) (request.Check m e) a b = let bad : codes 
 one-in name rows (request.Replay n d) (request.Show m q g) a b = let bad : codes "replay" ≡ codes "show" = sym a.0 ∙ b.0 in cc
 one-in name rows (request.Replay n d) (request.Explain m q g) a b = let bad : codes "replay" ≡ codes "explain" = sym a.0 ∙ b.0 in cc
 one-in name rows (request.Replay n d) (request.Timeline m r s) a b = let bad : codes "replay" ≡ codes "timeline" = sym a.0 ∙ b.0 in cc
+one-in name rows (request.Replay n d) (request.Stats m g) a b = let bad : codes "replay" ≡ codes "stats" = sym a.0 ∙ b.0 in cc
 one-in name rows (request.Replay n d) (request.Shell m) a b = let bad : codes "replay" ≡ codes "shell" = sym a.0 ∙ b.0 in cc
 one-in name rows (request.Run n t d) (request.Replay m e) a b = let bad : codes "run" ≡ codes "replay" = sym a.0 ∙ b.0 in cc
 one-in name rows (request.Run n t d) (request.Run m u e) a b =
@@ -182,6 +209,7 @@ one-in name rows (request.Run n t d) (request.Check m e) a b = let bad : codes "
 one-in name rows (request.Run n t d) (request.Show m q g) a b = let bad : codes "run" ≡ codes "show" = sym a.0 ∙ b.0 in cc
 one-in name rows (request.Run n t d) (request.Explain m q g) a b = let bad : codes "run" ≡ codes "explain" = sym a.0 ∙ b.0 in cc
 one-in name rows (request.Run n t d) (request.Timeline m r s) a b = let bad : codes "run" ≡ codes "timeline" = sym a.0 ∙ b.0 in cc
+one-in name rows (request.Run n t d) (request.Stats m g) a b = let bad : codes "run" ≡ codes "stats" = sym a.0 ∙ b.0 in cc
 one-in name rows (request.Run n t d) (request.Shell m) a b = let bad : codes "run" ≡ codes "shell" = sym a.0 ∙ b.0 in cc
 one-in name rows (request.Check n d) (request.Replay m e) a b = let bad : codes "check" ≡ codes "replay" = sym a.0 ∙ b.0 in cc
 one-in name rows (request.Check n d) (request.Run m u e) a b = let bad : codes "check" ≡ codes "run" = sym a.0 ∙ b.0 in cc
@@ -189,6 +217,7 @@ one-in name rows (request.Check n d) (request.Check m e) a b = ap₂ (λ k l. re
 one-in name rows (request.Check n d) (request.Show m q g) a b = let bad : codes "check" ≡ codes "show" = sym a.0 ∙ b.0 in cc
 one-in name rows (request.Check n d) (request.Explain m q g) a b = let bad : codes "check" ≡ codes "explain" = sym a.0 ∙ b.0 in cc
 one-in name rows (request.Check n d) (request.Timeline m r s) a b = let bad : codes "check" ≡ codes "timeline" = sym a.0 ∙ b.0 in cc
+one-in name rows (request.Check n d) (request.Stats m g) a b = absurd (check_or_stats (sym a.0 ∙ b.0))
 one-in name rows (request.Check n d) (request.Shell m) a b = absurd (check_or_shell (sym a.0 ∙ b.0))
 one-in name rows (request.Show n p f) (request.Replay m e) a b = let bad : codes "show" ≡ codes "replay" = sym a.0 ∙ b.0 in cc
 one-in name rows (request.Show n p f) (request.Run m u e) a b = let bad : codes "show" ≡ codes "run" = sym a.0 ∙ b.0 in cc
@@ -200,6 +229,7 @@ one-in name rows (request.Show n p f) (request.Show m q g) a b =
     cc
 one-in name rows (request.Show n p f) (request.Explain m q g) a b = let bad : codes "show" ≡ codes "explain" = sym a.0 ∙ b.0 in cc
 one-in name rows (request.Show n p f) (request.Timeline m r s) a b = let bad : codes "show" ≡ codes "timeline" = sym a.0 ∙ b.0 in cc
+one-in name rows (request.Show n p f) (request.Stats m g) a b = let bad : codes "show" ≡ codes "stats" = sym a.0 ∙ b.0 in cc
 one-in name rows (request.Show n p f) (request.Shell m) a b = let bad : codes "show" ≡ codes "shell" = sym a.0 ∙ b.0 in cc
 one-in name rows (request.Explain n p f) (request.Replay m e) a b = let bad : codes "explain" ≡ codes "replay" = sym a.0 ∙ b.0 in cc
 one-in name rows (request.Explain n p f) (request.Run m u e) a b = let bad : codes "explain" ≡ codes "run" = sym a.0 ∙ b.0 in cc
@@ -211,6 +241,7 @@ one-in name rows (request.Explain n p f) (request.Explain m q g) a b =
     let way : f ≡ g = form-one rows f g a.3 b.3 in
     cc
 one-in name rows (request.Explain n p f) (request.Timeline m r s) a b = let bad : codes "explain" ≡ codes "timeline" = sym a.0 ∙ b.0 in cc
+one-in name rows (request.Explain n p f) (request.Stats m g) a b = let bad : codes "explain" ≡ codes "stats" = sym a.0 ∙ b.0 in cc
 one-in name rows (request.Explain n p f) (request.Shell m) a b = let bad : codes "explain" ≡ codes "shell" = sym a.0 ∙ b.0 in cc
 one-in name rows (request.Timeline n p o) (request.Replay m e) a b = let bad : codes "timeline" ≡ codes "replay" = sym a.0 ∙ b.0 in cc
 one-in name rows (request.Timeline n p o) (request.Run m u e) a b = let bad : codes "timeline" ≡ codes "run" = sym a.0 ∙ b.0 in cc
@@ -222,13 +253,23 @@ one-in name rows (request.Timeline n p o) (request.Timeline m r s) a b =
     let first : p ≡ r = place-one _ rows p r a.2 b.2 in
     let last : o ≡ s = place-one _ rows o s a.3 b.3 in
     cc
+one-in name rows (request.Timeline n p o) (request.Stats m g) a b = let bad : codes "timeline" ≡ codes "stats" = sym a.0 ∙ b.0 in cc
 one-in name rows (request.Timeline n p o) (request.Shell m) a b = let bad : codes "timeline" ≡ codes "shell" = sym a.0 ∙ b.0 in cc
+one-in name rows (request.Stats n f) (request.Replay m e) a b = let bad : codes "stats" ≡ codes "replay" = sym a.0 ∙ b.0 in cc
+one-in name rows (request.Stats n f) (request.Run m u e) a b = let bad : codes "stats" ≡ codes "run" = sym a.0 ∙ b.0 in cc
+one-in name rows (request.Stats n f) (request.Check m e) a b = absurd (check_or_stats (sym b.0 ∙ a.0))
+one-in name rows (request.Stats n f) (request.Show m q g) a b = let bad : codes "stats" ≡ codes "show" = sym a.0 ∙ b.0 in cc
+one-in name rows (request.Stats n f) (request.Explain m q g) a b = let bad : codes "stats" ≡ codes "explain" = sym a.0 ∙ b.0 in cc
+one-in name rows (request.Stats n f) (request.Timeline m r s) a b = let bad : codes "stats" ≡ codes "timeline" = sym a.0 ∙ b.0 in cc
+one-in name rows (request.Stats n f) (request.Stats m g) a b = ap₂ (λ k l. request.Stats k l) (sessions-one rows n m a.1 b.1) (form-one rows f g a.2 b.2)
+one-in name rows (request.Stats n f) (request.Shell m) a b = absurd (shell_or_stats (sym b.0 ∙ a.0))
 one-in name rows (request.Shell n) (request.Replay m e) a b = let bad : codes "shell" ≡ codes "replay" = sym a.0 ∙ b.0 in cc
 one-in name rows (request.Shell n) (request.Run m u e) a b = let bad : codes "shell" ≡ codes "run" = sym a.0 ∙ b.0 in cc
 one-in name rows (request.Shell n) (request.Check m e) a b = absurd (check_or_shell (sym b.0 ∙ a.0))
 one-in name rows (request.Shell n) (request.Show m q g) a b = let bad : codes "shell" ≡ codes "show" = sym a.0 ∙ b.0 in cc
 one-in name rows (request.Shell n) (request.Explain m q g) a b = let bad : codes "shell" ≡ codes "explain" = sym a.0 ∙ b.0 in cc
 one-in name rows (request.Shell n) (request.Timeline m r s) a b = let bad : codes "shell" ≡ codes "timeline" = sym a.0 ∙ b.0 in cc
+one-in name rows (request.Shell n) (request.Stats m g) a b = absurd (shell_or_stats (sym a.0 ∙ b.0))
 one-in name rows (request.Shell n) (request.Shell m) a b = ap (λ k. request.Shell k) (sessions-one rows n m a.1 b.1)
 
 -- a command that was found is at most one request

@@ -29,6 +29,7 @@ numbers_in (Some found) (request.Check n d) is = (is.1.some, is.1.few)
 numbers_in (Some found) (request.Show n p f) is = (is.1.some, is.1.few)
 numbers_in (Some found) (request.Explain n p f) is = (is.1.some, is.1.few)
 numbers_in (Some found) (request.Timeline n p q) is = (is.1.some, is.1.few)
+numbers_in (Some found) (request.Stats n f) is = (is.1.some, is.1.few)
 numbers_in (Some found) (request.Shell n) is = (is.1.some, is.1.few)
 
 -- the numbers of the request of a command are within their bounds

@@ -102,16 +102,22 @@ show_app = with_rule (app_with_forms (codes "show")) (flag_named (codes "waits")
 abbrev pub timeline_app : App
 timeline_app = with_rule (with_rule (command_for_sessions (codes "timeline")) (place_option (codes "from"))) (place_option (codes "to"))
 
+-- the command `stats [FILE] [--sessions N] [-o FILE] [--comments] [--hints] [--csv]`
+abbrev pub stats_app : App
+stats_app = with_rule (command_for_sessions (codes "stats")) (flag_named (codes "csv"))
+
 -- the command `shell [--sessions N]`
 abbrev pub shell_app : App
 shell_app = with_rule (new_app (codes "shell")) sessions_option
 
 -- the program `glm`, which has a version and requires one of the commands `replay [--stream]`, `run [--turns T] [--stream]`,
--- `check [--stream]`, `show [--at P] [--csv] [--dot] [--waits]`, `explain [--at P] [--csv] [--dot]` and `timeline [--from P]
--- [--to Q]`, each with `[FILE] [--sessions N] [-o FILE] [--comments] [--hints]`, or of the command `shell [--sessions N]`
+-- `check [--stream]`, `show [--at P] [--csv] [--dot] [--waits]`, `explain [--at P] [--csv] [--dot]`, `timeline [--from P]
+-- [--to Q]` and `stats [--csv]`, each with `[FILE] [--sessions N] [-o FILE] [--comments] [--hints]`, or of the command
+-- `shell [--sessions N]`
 abbrev pub glm_command : App
 glm_command =
     with_subcommand
+    (with_subcommand
     (with_subcommand
     (with_subcommand
     (with_subcommand
@@ -125,6 +131,7 @@ glm_command =
     show_app.top)
     (app_with_forms (codes "explain")).top)
     timeline_app.top)
+    stats_app.top)
     shell_app.top
 
 -- the parser's errors for the words; help and the version count as errors; empty if the words are a valid command
@@ -186,6 +193,7 @@ IsRequestIn name rows (request.Explain sessions place asked) =
     (name ≡ codes "explain") × Gives (codes "sessions") MAX_SESSIONS rows sessions × GivesPlace (codes "at") rows place × WantsForm rows asked
 IsRequestIn name rows (request.Timeline sessions from to) =
     (name ≡ codes "timeline") × Gives (codes "sessions") MAX_SESSIONS rows sessions × GivesPlace (codes "from") rows from × GivesPlace (codes "to") rows to
+IsRequestIn name rows (request.Stats sessions asked) = (name ≡ codes "stats") × Gives (codes "sessions") MAX_SESSIONS rows sessions × WantsForm rows asked
 IsRequestIn name rows (request.Shell sessions) = (name ≡ codes "shell") × Gives (codes "sessions") MAX_SESSIONS rows sessions
 
 -- the numbers of a request are within their bounds
@@ -196,6 +204,7 @@ HasNumbers (request.Check sessions asked) = (0 < sessions) × (sessions ≤ MAX_
 HasNumbers (request.Show sessions place asked) = (0 < sessions) × (sessions ≤ MAX_SESSIONS)
 HasNumbers (request.Explain sessions place asked) = (0 < sessions) × (sessions ≤ MAX_SESSIONS)
 HasNumbers (request.Timeline sessions from to) = (0 < sessions) × (sessions ≤ MAX_SESSIONS)
+HasNumbers (request.Stats sessions asked) = (0 < sessions) × (sessions ≤ MAX_SESSIONS)
 HasNumbers (request.Shell sessions) = (0 < sessions) × (sessions ≤ MAX_SESSIONS)
 
 -- the parser found a command, and the command is this request
@@ -243,6 +252,10 @@ AskExplain words sessions place form = Ask words (request.Explain sessions place
 -- number of sessions
 abbrev pub AskTimeline : List Text → ℕ → Option ℕ → Option ℕ → Type 0
 AskTimeline words sessions from to = Ask words (request.Timeline sessions from to)
+
+-- the words ask to count a history with this number of sessions, in this form
+abbrev pub AskStats : List Text → ℕ → Form → Type 0
+AskStats words sessions form = Ask words (request.Stats sessions form)
 
 -- the words ask for the shell, with this number of sessions
 abbrev pub AskShell : List Text → ℕ → Type 0

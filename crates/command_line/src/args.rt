@@ -4,11 +4,11 @@ ghost use Rattle.std.specs.Prelude.{◌≡◌, true, false, codes, IfOk};
 ghost use Rattle.clap.specs.Simple.{app_of, with_rule};
 ghost use Rattle.clap.specs.Walk.{rule_of};
 ghost use Rattle.clap.specs.declared.builder.command.Command.TheViews.{out-Command as fields_of};
-ghost use Rattle.command_line.specs.CommandLine.{app_with_forms, command_for_sessions, comments_flag, file_argument, flag_named, glm_command, hints_flag, output_option, place_option, sessions_option, shell_app, show_app, stream_flag, timeline_app, turns_option, with_flags, with_forms, with_streams};
+ghost use Rattle.command_line.specs.CommandLine.{app_with_forms, command_for_sessions, comments_flag, file_argument, flag_named, glm_command, hints_flag, output_option, place_option, sessions_option, shell_app, show_app, stats_app, stream_flag, timeline_app, turns_option, with_flags, with_forms, with_streams};
 
 use crate::texts::{
-    ABOUT_CHECK, ABOUT_EXPLAIN, ABOUT_REPLAY, ABOUT_RUN, ABOUT_SHELL, ABOUT_SHOW, ABOUT_TIMELINE,
-    STATUSES, VERSION,
+    ABOUT_CHECK, ABOUT_EXPLAIN, ABOUT_REPLAY, ABOUT_RUN, ABOUT_SHELL, ABOUT_SHOW, ABOUT_STATS,
+    ABOUT_TIMELINE, STATUSES, VERSION,
 };
 use clap::{Arg, ArgAction, Command, value_parser};
 use lock_rules::MAX_SESSIONS;
@@ -34,18 +34,18 @@ pub enum Delivery {
     InPieces,
 }
 
-/// In which form `show` writes the state of the lock table, and `explain` what calls did and why.
+/// In which form `show` writes the state of the lock table, `explain` what calls did and why, and `stats` counters.
 #[derive(Clone, Copy, Debug, Drop, PartialEq, Eq)]
 pub enum Form {
     /// Lines for people.
     Lines,
-    /// Rows of seven fields, by the flag `--csv`.
+    /// Rows of seven fields, by the flag `--csv`; of `stats` of three.
     Rows,
     /// A graph in the language of Graphviz, by the flag `--dot`: of `show` the resources that are waited for, and for whom each
-    /// session waits first; of `explain` the cycles that requests closed.
+    /// session waits first; of `explain` the cycles that requests closed. `stats` has no such flag, and writes lines for this form.
     Graph,
     /// Who waits for whom, and nothing else, as a graph in the language of Graphviz, by the flag `--waits` of `show`. `explain`
-    /// has no such flag, and writes for this form what it writes for `Graph`.
+    /// has no such flag, and writes for this form what it writes for `Graph`; nor has `stats`, which writes lines.
     Waits,
 }
 
@@ -68,6 +68,8 @@ pub enum CommandRequest {
     /// Draw a history as a timeline; holds the number of sessions, the first place that is drawn, `None` for the beginning, and
     /// the last, `None` for the end.
     Timeline(u16, Option<u32>, Option<u32>),
+    /// Count the calls and the waits of a history; holds the number of sessions, and the form.
+    Stats(u16, Form),
     /// Answer calls as a person types them; holds the number of sessions.
     Shell(u16),
 }
@@ -364,6 +366,20 @@ fn timeline_command<'a>(alloc: Global) -> Result<Command<'a>, AllocError>
         ))
 }
 
+/// Defines the command `stats`. Fails if memory is refused.
+fn stats_command<'a>(alloc: Global) -> Result<Command<'a>, AllocError>
+    ensures app { IfOk result (λ command. app_of command ≡ stats_app) }
+    ensures own { IfOk result (λ command. (fields_of command).has_globals ≡ false) }
+{
+    let stats = command_of(
+        alloc,
+        "stats",
+        "Counts the calls of a history, and how its waits ended",
+        ABOUT_STATS,
+    )?;
+    stats.arg(flag_arg(alloc, "csv", "Writes the same as rows"))
+}
+
 /// Defines the command `shell`. Fails if memory is refused.
 fn shell_command<'a>(alloc: Global) -> Result<Command<'a>, AllocError>
     ensures app { IfOk result (λ command. app_of command ≡ shell_app) }
@@ -386,6 +402,7 @@ pub(crate) fn commands<'a>(alloc: Global) -> Result<Command<'a>, AllocError>
     let show = show_command(alloc)?;
     let explain = explain_command(alloc)?;
     let timeline = timeline_command(alloc)?;
+    let stats = stats_command(alloc)?;
     let shell = shell_command(alloc)?;
     Command::new(alloc, "glm")
         .about("Granular locks for databases")
@@ -398,5 +415,6 @@ pub(crate) fn commands<'a>(alloc: Global) -> Result<Command<'a>, AllocError>
         .subcommand(show)?
         .subcommand(explain)?
         .subcommand(timeline)?
+        .subcommand(stats)?
         .subcommand(shell)
 }

@@ -7,7 +7,7 @@ ghost use Rattle.command_line.specs.declared.args.CommandRequest.{CommandRequest
 ghost use Rattle.command_line.specs.declared.args.TheConstants.{MAX_STREAMED_SESSIONS, MAX_TURNS};
 ghost use Rattle.command_line.specs.declared.args.Delivery.TheVariants as Delivery;
 ghost use Rattle.command_line.specs.declared.args.Form.TheVariants as Form;
-ghost use Rattle.command_line.specs.CommandLine.{Ask, AskCheck, AskExplain, AskHelp, AskNothing, AskReplay, AskReplayInPieces, AskRun, AskRunInPieces, AskShell, AskShow, AskTimeline, AskVersion};
+ghost use Rattle.command_line.specs.CommandLine.{Ask, AskCheck, AskExplain, AskHelp, AskNothing, AskReplay, AskReplayInPieces, AskRun, AskRunInPieces, AskShell, AskShow, AskStats, AskTimeline, AskVersion};
 ghost use Rattle.command_line.specs.Streams.{SkipComments, WantHints, input_file, output_file};
 
 /// A command line asks for at most one command with its numbers. A command line that asks for a command asks neither for
@@ -75,6 +75,9 @@ pub fn words_ask_as_documented()
     ensures timeline_zeros { AskNothing (codes "glm" ∷ codes "timeline" ∷ codes "--from=02" ∷ []) }
     ensures timeline_last_zeros { AskNothing (codes "glm" ∷ codes "timeline" ∷ codes "--to=07" ∷ []) }
     ensures timeline_at { AskNothing (codes "glm" ∷ codes "timeline" ∷ codes "--at=7" ∷ []) }
+    ensures stats { AskStats (codes "glm" ∷ codes "stats" ∷ []) 256 Form.Lines }
+    ensures stats_rows { AskStats (codes "glm" ∷ codes "stats" ∷ codes "--csv" ∷ codes "--sessions=3" ∷ []) 3 Form.Rows }
+    ensures stats_graph { AskNothing (codes "glm" ∷ codes "stats" ∷ codes "--dot" ∷ []) }
     ensures shell { AskShell (codes "glm" ∷ codes "shell" ∷ []) 256 }
     ensures shell_sessions { AskShell (codes "glm" ∷ codes "shell" ∷ codes "--sessions" ∷ codes "2" ∷ []) 2 }
     ensures shell_zeros { AskNothing (codes "glm" ∷ codes "shell" ∷ codes "--sessions=02" ∷ []) }

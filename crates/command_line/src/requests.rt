@@ -105,7 +105,8 @@ fn option_place(given: &ArgMatches, option: &str) -> Result<Option<u32>, ()>
     }
 }
 
-/// Returns the form in which `show` or `explain` writes, or `None` if the options have more than one of `--csv`, `--dot` and `--waits`.
+/// Returns the form in which `show`, `explain` or `stats` writes, or `None` if the options have more than one of `--csv`, `--dot` and
+/// `--waits`.
 fn form_of(given: &ArgMatches) -> Option<Form>
     ensures some { IfSome result (WantsForm (rows_of (found_of given.now))) }
     ensures none { IfNone result ((form : FormValue) → ¬ (WantsForm (rows_of (found_of given.now)) form)) }
@@ -177,6 +178,19 @@ fn timeline_request(sessions: u16, given: &ArgMatches) -> Option<CommandRequest>
     Some(CommandRequest::Timeline(sessions, from, to))
 }
 
+/// Returns the request of `stats`, or `None` if it is asked for two forms.
+#[tactic(auto, using(crate::proofs::Ask::nothing_counted))]
+fn stats_request(sessions: u16, given: &ArgMatches) -> Option<CommandRequest>
+    requires given { Gives (codes "sessions") MAX_SESSIONS (rows_of (found_of given.now)) sessions }
+    ensures some { IfSome result (IsRequest (Some (codes "stats", rows_of (found_of given.now)))) }
+    ensures none { IfNone result ((asked : RequestValue) → ¬ (IsRequest (Some (codes "stats", rows_of (found_of given.now))) asked)) }
+{
+    let Some(form) = form_of(given) else {
+        return None;
+    };
+    Some(CommandRequest::Stats(sessions, form))
+}
+
 /// Returns the request of the command `name` with the options `given`, or `None` if there is no such command or a number
 /// isn't valid, as the greatest number of sessions isn't for a run whose history is written in pieces.
 #[tactic(auto, using(crate::proofs::Ask::no_sessions, crate::proofs::Ask::no_turns, crate::proofs::Ask::no_streamed, crate::proofs::Ask::no_name))]
@@ -210,6 +224,9 @@ fn request_named(name: &str, given: &ArgMatches) -> Option<CommandRequest>
     }
     if name == "timeline" {
         return timeline_request(sessions, given);
+    }
+    if name == "stats" {
+        return stats_request(sessions, given);
     }
     if name == "shell" {
         return Some(CommandRequest::Shell(sessions));

@@ -124,6 +124,22 @@ gives the line of 'check', and status 3.
 
 An example: glm timeline examples/deadlock.history.csv -o deadlock.svg";
 
+/// The beginning of the help of `stats`.
+pub(crate) const ABOUT_STATS: &str =
+    "Reads a history, from a file or standard input, checks it as 'check' does, and writes its counters: the calls by operation,
+how requests for locks were answered, how waits ended, the calls that closed a cycle of waits and the victims, refusals by
+reason, and what the lock table has at the end. Each line has a group, a name and a number. A history that isn't legal
+gives the line of 'check', and status 3.
+
+  glm stats examples/deadlock.history.csv
+
+  requests   all            6
+  requests   granted        3
+  requests   waiting        2
+  requests   refused        1
+
+With --csv the same is written as rows group,name,number.";
+
 /// The beginning of the help of `shell`.
 pub(crate) const ABOUT_SHELL: &str =
     "Reads calls from standard input, a line each, and answers each at once on standard output. A line is a session, its

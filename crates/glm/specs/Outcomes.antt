@@ -14,7 +14,7 @@ use Rattle.replay_commands.specs.declared.tool_fault.ToolFault.TheVariants as to
 use Rattle.glm.specs.declared.outcomes.Outcome.{Outcome}
 use Rattle.glm.specs.declared.outcomes.Outcome.TheVariants as outcome
 use Rattle.glm.specs.declared.outcomes.TheConstants.{DONE, USAGE, ILLEGAL, NO_MEMORY, DEVICE}
-use Rattle.command_line.specs.CommandLine.{AskReplay, AskReplayInPieces, AskRun, AskRunInPieces, AskCheck, AskShow, AskExplain, AskTimeline, AskShell, AskHelp, AskVersion, AskNothing}
+use Rattle.command_line.specs.CommandLine.{AskReplay, AskReplayInPieces, AskRun, AskRunInPieces, AskCheck, AskShow, AskExplain, AskTimeline, AskStats, AskShell, AskHelp, AskVersion, AskNothing}
 use Rattle.replay_commands.specs.Replays.{HasServed, HasServedFront, HasServedPart, IsFaultOfOneThread, Replays, ReplaysInPieces}
 use Rattle.run_commands.specs.Runs.{HasPerformed, HasPerformedPart, HasWrittenFront, HasWrittenPart, Runs, RunsInPieces}
 use Rattle.glm.specs.Statuses.{status_for, status_for_show}
@@ -24,6 +24,7 @@ use Rattle.history_commands.specs.Drawing.{Draws, HasDrawn, HasDrawnPart}
 use Rattle.history_commands.specs.Verdicts.{Checks, IsHistory, text_of_verdict}
 use Rattle.replay_commands.specs.Written.{AppendsPart}
 use Rattle.lock_shell.specs.Turns.{HasTalked, HasTalkedPart, IsFaultOfShell}
+use Rattle.stats_command.specs.Stats.{Counts, HasCounted, HasCountedPart}
 
 -- the exit status of an outcome
 abbrev pub status_of_outcome : Outcome → ℕ
@@ -47,6 +48,9 @@ status_of_outcome (outcome.Explain (Err fault)) = status_for_show fault
 status_of_outcome (outcome.Timeline (Ok (verdict.Legal count))) = DONE
 status_of_outcome (outcome.Timeline (Ok (verdict.Illegal place))) = ILLEGAL
 status_of_outcome (outcome.Timeline (Err fault)) = status_for_show fault
+status_of_outcome (outcome.Stats (Ok (verdict.Legal count))) = DONE
+status_of_outcome (outcome.Stats (Ok (verdict.Illegal place))) = ILLEGAL
+status_of_outcome (outcome.Stats (Err fault)) = status_for fault
 status_of_outcome (outcome.Shell (Ok count)) = DONE
 status_of_outcome (outcome.Shell (Err fault)) = status_for fault
 status_of_outcome outcome.HelpShown = DONE
@@ -162,6 +166,18 @@ pub record HasAnsweredTimeline (words : List Text) (input old new : Option (List
   pub drawn : IfOk answer (λ verdict. HasDrawn sessions from to verdict old new)
   pub draws : (bytes : List ℕ) → input ≡ Some bytes → Draws sessions from to bytes old new answer
 
+-- the words ask to count a history, and `answer` is the verdict on the history, or the fault; the output holds `old` before and `new`
+-- after
+pub record HasAnsweredStats (words : List Text) (input old new : Option (List ℕ)) (answer : Result Verdict ToolFault) : Type 0 where
+  pub sessions : ℕ
+  pub form : Form
+  pub asked : AskStats words sessions form
+  pub kept : IfErr answer (λ fault. fault ≢ tool.Device → Keeps old new)
+  pub part : IfErr answer (λ fault. fault ≡ tool.Device → HasCountedPart form sessions old new)
+  pub counted : IfOk answer (λ verdict. HasCounted form sessions verdict old new)
+  pub faults : IfErr answer (λ fault. IsFaultOfOneThread fault)
+  pub counts : (bytes : List ℕ) → input ≡ Some bytes → Counts form sessions bytes old new answer
+
 -- the words ask for the shell, and `answer` is the number of lines that were answered, or the fault; the output holds `old` before and
 -- `new` after
 pub record HasAnsweredShell (words : List Text) (old new : Option (List ℕ)) (answer : Result ℕ ToolFault) : Type 0 where
@@ -185,6 +201,7 @@ HasDone words input old new (outcome.Check answer) = HasAnsweredCheck words inpu
 HasDone words input old new (outcome.Show answer) = HasAnsweredShow words input old new answer
 HasDone words input old new (outcome.Explain answer) = HasAnsweredExplain words input old new answer
 HasDone words input old new (outcome.Timeline answer) = HasAnsweredTimeline words input old new answer
+HasDone words input old new (outcome.Stats answer) = HasAnsweredStats words input old new answer
 HasDone words input old new (outcome.Shell answer) = HasAnsweredShell words old new answer
 HasDone words input old new outcome.HelpShown = AskHelp words
 HasDone words input old new outcome.HelpFailed = AskHelp words

@@ -40,6 +40,7 @@ HasOutcome words input old new (outcome.Check answer) = HasDoneOnStreams words i
 HasOutcome words input old new (outcome.Show answer) = HasDoneOnStreams words input old new (outcome.Show answer)
 HasOutcome words input old new (outcome.Explain answer) = HasDoneOnStreams words input old new (outcome.Explain answer)
 HasOutcome words input old new (outcome.Timeline answer) = HasDoneOnStreams words input old new (outcome.Timeline answer)
+HasOutcome words input old new (outcome.Stats answer) = HasDoneOnStreams words input old new (outcome.Stats answer)
 HasOutcome words input old new (outcome.Shell answer) = HasDoneOnStreams words input old new (outcome.Shell answer)
 HasOutcome words input old new outcome.HelpShown = HasDone words input old new outcome.HelpShown
 HasOutcome words input old new outcome.HelpFailed = HasDone words input old new outcome.HelpFailed

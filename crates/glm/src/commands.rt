@@ -33,6 +33,7 @@ use replay_commands::{ToolFault, replay, replay_in_pieces, write_text};
 use row_comments::SkipComments;
 use row_hints::{Kept, KeptRows};
 use run_commands::{Gate, run, run_in_pieces};
+use stats_command::stats;
 use std::alloc::Global;
 use std::fs::Files;
 use std::io::{Read, Write};
@@ -164,6 +165,9 @@ fn perform<T: Threads + Wait + Files, R: Read + Drop, W: Write, G: Gate>(
         }
         CommandRequest::Timeline(sessions, from, to) => {
             Outcome::Timeline(timeline(alloc, input, output, sessions, from, to))
+        }
+        CommandRequest::Stats(sessions, form) => {
+            Outcome::Stats(stats(alloc, input, output, sessions, form))
         }
         CommandRequest::Shell(sessions) => {
             Outcome::Shell(shell(rt, alloc, input, output, sessions))

@@ -29,6 +29,7 @@ fn command_for(request: CommandRequest) -> (Command, u16) {
         CommandRequest::Show(sessions, _, _) => (Command::Show, sessions),
         CommandRequest::Explain(sessions, _, _) => (Command::Explain, sessions),
         CommandRequest::Timeline(sessions, _, _) => (Command::Timeline, sessions),
+        CommandRequest::Stats(sessions, _) => (Command::Stats, sessions),
     }
 }
 
@@ -39,7 +40,8 @@ fn row_fault(outcome: &Outcome) -> Option<TraceFault> {
         | Outcome::ReplayInPieces(Err(ToolFault::Trace(fault))) => Some(*fault),
         Outcome::Run(Err(ToolFault::Trace(fault)))
         | Outcome::RunInPieces(Err(ToolFault::Trace(fault))) => Some(*fault),
-        Outcome::Check(Err(ToolFault::Trace(fault))) => Some(*fault),
+        Outcome::Check(Err(ToolFault::Trace(fault)))
+        | Outcome::Stats(Err(ToolFault::Trace(fault))) => Some(*fault),
         Outcome::Show(Err(ShowFault::Trace(fault)))
         | Outcome::Explain(Err(ShowFault::Trace(fault)))
         | Outcome::Timeline(Err(ShowFault::Trace(fault))) => Some(*fault),

@@ -55,6 +55,9 @@ pub(crate) enum Outcome {
     /// The verdict on the history of which a picture was asked for, and written: the picture if the history is legal, else the
     /// verdict.
     Timeline(Result<Verdict, ShowFault>),
+    /// The verdict on the history whose counters were asked for, and written: the counters if the history is legal, else the
+    /// verdict.
+    Stats(Result<Verdict, ToolFault>),
     /// The result of the shell that was asked for. Its answers were also written to the output.
     Shell(Result<u64, ToolFault>),
     /// Help was asked for, and written.
@@ -169,6 +172,8 @@ impl Outcome {
             Outcome::Explain(Ok(Verdict::Illegal(_))) => ILLEGAL,
             Outcome::Timeline(Ok(Verdict::Legal(_))) => DONE,
             Outcome::Timeline(Ok(Verdict::Illegal(_))) => ILLEGAL,
+            Outcome::Stats(Ok(Verdict::Legal(_))) => DONE,
+            Outcome::Stats(Ok(Verdict::Illegal(_))) => ILLEGAL,
             Outcome::Replay(Err(fault)) | Outcome::ReplayInPieces(Err(fault)) => {
                 status_of_fault(fault)
             }
@@ -176,6 +181,7 @@ impl Outcome {
             Outcome::Check(Err(fault)) | Outcome::Shell(Err(fault)) => status_of_fault(fault),
             Outcome::Show(Err(fault)) | Outcome::Explain(Err(fault)) => status_of_show_fault(fault),
             Outcome::Timeline(Err(fault)) => status_of_show_fault(fault),
+            Outcome::Stats(Err(fault)) => status_of_fault(fault),
             Outcome::HelpFailed | Outcome::VersionFailed | Outcome::FileFailed => DEVICE,
             Outcome::Misused => USAGE,
             Outcome::OutOfMemory => NO_MEMORY,
@@ -196,6 +202,7 @@ impl Outcome {
                 report_show_fault(fault, errors)
             }
             Outcome::Timeline(Err(fault)) => report_show_fault(fault, errors),
+            Outcome::Stats(Err(fault)) => report_fault(fault, errors),
             Outcome::HelpFailed | Outcome::VersionFailed => report_fault(
                 &ToolFault::Device,
                 errors,
@@ -204,7 +211,7 @@ impl Outcome {
             Outcome::Replay(Ok(_)) | Outcome::ReplayInPieces(Ok(_)) => {}
             Outcome::Run(Ok(_)) | Outcome::RunInPieces(Ok(_)) | Outcome::Shell(Ok(_)) => {}
             Outcome::Check(Ok(_)) | Outcome::Show(Ok(_)) | Outcome::Explain(Ok(_)) => {}
-            Outcome::Timeline(Ok(_)) => {}
+            Outcome::Timeline(Ok(_)) | Outcome::Stats(Ok(_)) => {}
             Outcome::HelpShown | Outcome::VersionShown => {}
             Outcome::Misused | Outcome::FileFailed => {}
         }

@@ -118,13 +118,9 @@ pub(crate) fn fresh_book(alloc: Global, sessions: u16) -> Result<Book, NoMemory>
     Ok(book)
 }
 
-/// Serves the calls of the entries in order on a fresh lock table, and returns what is found. Fails if the lock table finds no
-/// memory.
-pub(crate) fn finding_on(
-    alloc: Global,
-    entries: &[Entry],
-    sessions: u16,
-) -> Result<Finding, NoMemory>
+/// Serves the calls of the entries in order on a fresh lock table of `sessions` sessions, at most `MAX_SESSIONS`, and returns what is
+/// found, as [`check_whole`] does of a history that it reads. Fails only if the lock table finds no memory.
+pub fn finding_on(alloc: Global, entries: &[Entry], sessions: u16) -> Result<Finding, NoMemory>
     requires some { 0 < sessions }
     requires few { sessions ≤ MAX_SESSIONS }
     requires within { All (IsEntry sessions) entries.now }

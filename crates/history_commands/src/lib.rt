@@ -16,7 +16,7 @@ mod finding;
 mod show_fault;
 mod showing;
 
-pub use checking::{Verdict, check, check_whole, verdict_line};
+pub use checking::{Verdict, check, check_whole, finding_on, verdict_line};
 pub use checking_by_row::check_by_row;
 pub use drawing::timeline;
 pub use explaining::{account, answer_of, doom_of, explain, explain_found};

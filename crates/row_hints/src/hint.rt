@@ -30,6 +30,8 @@ pub enum Command {
     Explain,
     /// `timeline`, which reads a history.
     Timeline,
+    /// `stats`, which reads a history.
+    Stats,
 }
 
 impl Command {
@@ -42,6 +44,7 @@ impl Command {
             Command::Show => "show",
             Command::Explain => "explain",
             Command::Timeline => "timeline",
+            Command::Stats => "stats",
         }
     }
 
@@ -49,7 +52,8 @@ impl Command {
     pub(crate) fn reads_history(self) -> bool {
         match self {
             Command::Replay | Command::Run => false,
-            Command::Check | Command::Show | Command::Explain | Command::Timeline => true,
+            Command::Check | Command::Show | Command::Explain => true,
+            Command::Timeline | Command::Stats => true,
         }
     }
 }

@@ -1,7 +1,7 @@
 use Rattle.std.proofs.Common.{ap, ap₂, ◌≡◌, ◌∙◌, codes, true}
 use Rattle.std.proofs.lemmas.Result.{IfOk-weaker}
 use Rattle.clap.specs.Simple.{App, Shape, app_of, app_of_fields, new_app, on_top, with_rule, with_subcommand}
-use Rattle.command_line.specs.CommandLine.{app_with_forms, command_for_sessions, show_app, stream_flag, timeline_app, turns_option}
+use Rattle.command_line.specs.CommandLine.{app_with_forms, command_for_sessions, show_app, stats_app, stream_flag, timeline_app, turns_option}
 use Rattle.command_line.proofs.args.commands.Goals as goal
 
 -- sets that a command is required and that there is a version
@@ -32,6 +32,10 @@ up_to_explain = with_subcommand up_to_show (app_with_forms (codes "explain")).to
 abbrev up_to_timeline : App
 up_to_timeline = with_subcommand up_to_explain timeline_app.top
 
+-- the program with the commands up to `stats`
+abbrev up_to_stats : App
+up_to_stats = with_subcommand up_to_timeline stats_app.top
+
 -- the shape of a command itself, without its subcommands
 abbrev top_of : App → Shape
 top_of a = a.top
@@ -53,5 +57,7 @@ returns c =
     c.in_ok-subcommand-5.ensures.shape c.in_ok-explain.ensures.own ∙ ap₂ with_subcommand four (ap top_of c.in_ok-explain.ensures.app) in
     let six : app_of c.in_ok-subcommand-6.field-0 ≡ up_to_timeline =
     c.in_ok-subcommand-6.ensures.shape c.in_ok-timeline.ensures.own ∙ ap₂ with_subcommand five (ap top_of c.in_ok-timeline.ensures.app) in
-    IfOk-weaker c.subcommand-7.result _ _
-    (λ command h. h.shape c.in_ok-shell.ensures.own ∙ ap₂ with_subcommand six (ap top_of c.in_ok-shell.ensures.app)) c.subcommand-7.ensures
+    let seven : app_of c.in_ok-subcommand-7.field-0 ≡ up_to_stats =
+    c.in_ok-subcommand-7.ensures.shape c.in_ok-stats.ensures.own ∙ ap₂ with_subcommand six (ap top_of c.in_ok-stats.ensures.app) in
+    IfOk-weaker c.subcommand-8.result _ _
+    (λ command h. h.shape c.in_ok-shell.ensures.own ∙ ap₂ with_subcommand seven (ap top_of c.in_ok-shell.ensures.app)) c.subcommand-8.ensures

@@ -301,6 +301,18 @@ pub returns-clause-timeline_at : goal.returns-clause-timeline_at
 unfolding clap_on_literals
 returns-clause-timeline_at c = faulty _ UnknownArgument [] refl (search rules) (search rules)
 
+pub returns-clause-stats : goal.returns-clause-stats
+unfolding clap_on_literals
+returns-clause-stats c = record { whole = refl; request_is = (refl, numeral_given (codes "sessions") (codes "256") MAX_SESSIONS 256 _ (omega arith) refl refl (search rules), (λ flag. let no : Some (codes "false") ≡ Some (codes "true") = flag in cc, λ flag. let no : None ≡ Some (codes "true") = flag in cc, λ flag. let no : None ≡ Some (codes "true") = flag in cc)) }
+
+pub returns-clause-stats_rows : goal.returns-clause-stats_rows
+unfolding clap_on_literals
+returns-clause-stats_rows c = record { whole = refl; request_is = (refl, numeral_given (codes "sessions") (codes "3") MAX_SESSIONS 3 _ (omega arith) refl refl (search rules), (refl, λ flag. let no : None ≡ Some (codes "true") = flag in cc, λ flag. let no : None ≡ Some (codes "true") = flag in cc)) }
+
+pub returns-clause-stats_graph : goal.returns-clause-stats_graph
+unfolding clap_on_literals
+returns-clause-stats_graph c = faulty _ UnknownArgument [] refl (search rules) (search rules)
+
 pub returns-clause-shell : goal.returns-clause-shell
 unfolding clap_on_literals
 returns-clause-shell c = record { whole = refl; request_is = (refl, numeral_given (codes "sessions") (codes "256") MAX_SESSIONS 256 _ (omega arith) refl refl (search rules)) }

@@ -116,6 +116,20 @@ returns-in-Timeline c c' =
       draws = done.draws;
     }
 
+pub returns-in-Stats : goal.returns-in-Stats
+returns-in-Stats c c' =
+    let done = c'.stats.ensures in
+    λ words asked. record {
+      sessions = c'.in-Stats.sessions;
+      form = c'.in-Stats.form;
+      asked = (let is : c'.args.command ≡ request.Stats c'.in-Stats.sessions c'.in-Stats.form = search rules in subst (λ (r : CommandRequest). Ask words r) is asked);
+      kept = done.kept;
+      part = done.part;
+      counted = done.counted;
+      faults = done.faults;
+      counts = done.counts;
+    }
+
 pub returns-in-Shell : goal.returns-in-Shell
 returns-in-Shell c c' =
     let done = c'.shell.ensures in

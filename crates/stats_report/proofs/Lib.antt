@@ -1,0 +1,5 @@
+pub mod Served
+pub mod Sessions
+pub mod Ends
+pub mod Queues
+pub mod GaugeLines
