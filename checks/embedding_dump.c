@@ -29,8 +29,9 @@ typedef struct dump {
 } dump;
 
 static int same_row(const pelgaisti_claim *a, const pelgaisti_claim *b) {
-    return a->session == b->session && a->kind == b->kind && a->mode == b->mode && a->doomed == b->doomed && a->transaction == b->transaction &&
-           a->resource.level == b->resource.level && !memcmp(a->resource.numbers, b->resource.numbers, sizeof a->resource.numbers);
+    return a->session == b->session && a->kind == b->kind && a->mode == b->mode && a->doomed == b->doomed &&
+           a->transaction == b->transaction && a->resource.level == b->resource.level &&
+           !memcmp(a->resource.numbers, b->resource.numbers, sizeof a->resource.numbers);
 }
 
 static void must_be_same(const dump *a, const dump *b) {

@@ -12,7 +12,8 @@ static resource_text text_of(const pelgaisti_resource *resource) {
     resource_text text = {""};
     size_t length = 0;
     for (uint32_t level = 0; level < resource->level && level < PELGAISTI_LEVELS; level++)
-        length += (size_t)snprintf(text.bytes + length, sizeof text.bytes - length, level ? "/%" PRIu32 : "%" PRIu32, resource->numbers[level]);
+        length += (size_t)snprintf(text.bytes + length, sizeof text.bytes - length, level ? "/%" PRIu32 : "%" PRIu32,
+                                   resource->numbers[level]);
     return text;
 }
 
@@ -74,12 +75,12 @@ pelgaisti_dumping pelgaisti_dump_begin(void) {
 
 uint32_t pelgaisti_dump_line(const pelgaisti_claim *rows, size_t count, pelgaisti_dumping *at, char *text, size_t room) {
     static const char *const kinds[] = {"transaction", "held", "conversion", "fresh"};
-    const pelgaisti_claim *row = &rows[at->row];
-    if (at->row >= count)
-        return next_wait(rows, count, at)
-                   ? (uint32_t)snprintf(text, room, "waits,%" PRIu32 ",,,,,%" PRIu32 "\n", rows[at->wait].session, at->other)
-                   : 0;
-    at->row++;
-    return (uint32_t)snprintf(text, room, "%s,%" PRIu32 ",%" PRIu64 ",%s,%s,%s,\n", kinds[row->kind & 3], row->session, row->transaction,
-                    row->doomed ? "victim" : "", text_of(&row->resource).bytes, row->kind ? pelgaisti_mode_name(row->mode) : "");
+    if (at->row < count) {
+        const pelgaisti_claim *row = &rows[at->row++];
+        const char *mode = row->kind ? pelgaisti_mode_name(row->mode) : "";
+        return (uint32_t)snprintf(text, room, "%s,%" PRIu32 ",%" PRIu64 ",%s,%s,%s,\n", kinds[row->kind & 3], row->session,
+                                  row->transaction, row->doomed ? "victim" : "", text_of(&row->resource).bytes, mode);
+    }
+    if (!next_wait(rows, count, at)) return 0;
+    return (uint32_t)snprintf(text, room, "waits,%" PRIu32 ",,,,,%" PRIu32 "\n", rows[at->wait].session, at->other);
 }

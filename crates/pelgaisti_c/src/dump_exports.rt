@@ -14,8 +14,8 @@ use crate::pointers::{BookPointer, ClaimList, SessionPointer, SizePointer, U64Po
 use crate::status::{CLOSED, ELSEWHERE, NO_MEMORY, NULL_POINTER, OK};
 use std::alloc::Global;
 
-/// Writes the rows of a dump of the book: of each open transaction, and then of each lock and waiting request, resource by resource, as many
-/// as `list` has room for. Writes the number of all rows to `count`, and how many calls the history has to `place`.
+/// Writes the rows of a dump of the book: of each open transaction, and then of each lock and waiting request, resource by resource, as
+/// many as `list` has room for. Writes the number of all rows to `count`, and how many calls the history has to `place`.
 #[unsafe(no_mangle)]
 pub extern "C" fn pelgaisti_raw_book_dump(
     alloc: Global,
