@@ -56,7 +56,7 @@ static dump dump_of_office(pelgaisti_session *session, pelgaisti_claim *room) {
 
 static void write_dump(const dump *made) {
     pelgaisti_dumping at = pelgaisti_dump_begin();
-    char line[96];
+    char line[100];
     uint32_t length;
     printf("at %" PRIu64 "\n", made->place);
     while ((length = pelgaisti_dump_line(made->rows, made->count, &at, line, sizeof line)) > 0) {

@@ -1761,7 +1761,7 @@ static int is_transaction(const pelgaisti_claim *row, uint32_t session, uint32_t
 /* Expects these lines to be the text of the dump, each written whole, and also where there is little room for it. */
 static void want_text(const pelgaisti_claim *rows, size_t count, const char *const *lines, size_t line_count) {
     pelgaisti_dumping at = pelgaisti_dump_begin(), again = at;
-    char line[96], short_line[8];
+    char line[100], short_line[8];
     for (size_t k = 0; k < line_count; k++) {
         const size_t length = strlen(lines[k]);
         CHECK(pelgaisti_dump_line(rows, count, &at, line, sizeof line) == length && !strcmp(line, lines[k]));
@@ -1769,6 +1769,24 @@ static void want_text(const pelgaisti_claim *rows, size_t count, const char *con
         CHECK(strlen(short_line) == 7);
     }
     for (int k = 0; k < 2; k++) CHECK(pelgaisti_dump_line(rows, count, &at, line, sizeof line) == 0);
+}
+
+/* The longest lines have 98 bytes, for which 100 are room enough. */
+static void long_lines(void) {
+    static const char *const told[] = {
+        "held,1024,18446744073709551615,victim,4294967295/4294967295/4294967295/4294967295/4294967295,SIX,\n",
+        "conversion,1024,18446744073709551615,,4294967295/4294967295/4294967295/4294967295/4294967295,SIX,\n"};
+    pelgaisti_claim rows[2];
+    for (uint32_t k = 0; k < 2; k++) {
+        memset(&rows[k], 0xff, sizeof rows[k]);
+        rows[k].session = 1024;
+        rows[k].kind = k ? PELGAISTI_CONVERSION : PELGAISTI_HELD;
+        rows[k].mode = PELGAISTI_SIX;
+        rows[k].doomed = 1 - k;
+        rows[k].resource.level = 5;
+        CHECK(strlen(told[k]) == 98);
+    }
+    want_text(rows, 2, told, 2);
 }
 
 /* A dump of a book: its open transactions, and then what `pelgaisti_book_locks` lists, with the place in the history. */
@@ -2932,6 +2950,7 @@ int main(int argc, char **argv) {
     tries_and_withdrawals();
     restarts();
     claims_of_a_book();
+    long_lines();
     dumps_of_a_book();
     pages_of_a_book();
     pages_of_many_locks();

@@ -531,7 +531,7 @@ typedef struct pelgaisti_dumping {
 /* The place in front of a dump's first line. */
 pelgaisti_dumping pelgaisti_dump_begin(void);
 
-/* Writes the next line of a whole dump to `text`, as snprintf does: at most `room` bytes with the 0 at the end; 96 are enough. Returns
+/* Writes the next line of a whole dump to `text`, as snprintf does: at most `room` bytes with the 0 at the end; 100 are enough. Returns
    the length of the line without the 0, and 0 behind the last one. The lines are those of `glm show --csv` of the state: of the `count`
    rows of the dump, and then of who waits for whom, which follows from these rows. A line of a wait costs a look at the rows of its
    resource, and each session that waits a look at all rows. No handle is needed. `rows` may be NULL if `count` is 0. Requires `count`
