@@ -138,9 +138,9 @@ joined-feedless (f ∷ g ∷ gs) h = feedless-both f (44 ∷ join_with_byte 44 (
 
 -- The line of a row has no line feed.
 line-feedless : (n : ℕ) (r : StateRow) → n < 2 ^ 16 → IsRow n r → feedless (line_of_row r) ≡ true
-line-feedless n (row.Transaction o) lt h = joined-feedless _ (row-plain n (row.Transaction o) lt h)
-line-feedless n (row.Claim c) lt h = joined-feedless _ (row-plain n (row.Claim c) lt h)
-line-feedless n (row.Wait w) lt h = joined-feedless _ (row-plain n (row.Wait w) lt h)
+line-feedless n (row.Transaction o) lt h = joined-feedless (fields_of_row (row.Transaction o)) (row-plain n (row.Transaction o) lt h)
+line-feedless n (row.Claim c) lt h = joined-feedless (fields_of_row (row.Claim c)) (row-plain n (row.Claim c) lt h)
+line-feedless n (row.Wait w) lt h = joined-feedless (fields_of_row (row.Wait w)) (row-plain n (row.Wait w) lt h)
 
 no-feeds : (bs : List ℕ) → feedless bs ≡ true → AllByRecursion (λ b. is_line_feed b ≡ false) bs
 no-feeds [] h = tt
@@ -183,4 +183,6 @@ both-texts xs ys = ap (flat_map with_feed) (map-append line_of_row xs ys) ∙ fl
 pub rows-text : (os : List OpenTransaction) (cs : List Claim) (ws : List Wait) → flat_map with_feed (map line_of_row (rows_in os cs ws)) ≡ rows_of_state os cs ws
 rows-text os cs ws =
     both-texts (map row.Transaction os) (map row.Claim cs ++ map row.Wait ws)
-    ∙ ((λ i. opens-text os i ++ both-texts (map row.Claim cs) (map row.Wait ws) i) ∙ (λ i. flat_map row_of_transaction os ++ (claims-text cs i ++ waits-text ws i)))
+    ∙ ((λ i. opens-text os i ++ both-texts (map row.Claim cs) (map row.Wait ws) i)
+    ∙ ((λ i. flat_map row_of_transaction os ++ (claims-text cs i ++ waits-text ws i))
+    ∙ sym (append_assoc (flat_map row_of_transaction os) (flat_map row_of_claim cs) (flat_map row_of_wait ws))))

@@ -18,9 +18,9 @@ no-others : (others : List StateRow) → map line_of_row others ≡ [] → other
 no-others [] e = refl
 no-others (r ∷ rs) e = absurd cc
 
-pub none-at-first : (n : ℕ) (lists : StateLists) → lists.opens.items ≡ [] → lists.claims.items ≡ [] → lists.waits.items ≡ [] → AreOnlyRows n [] (rows_of lists)
-none-at-first n lists o c w =
-    let none : rows_of lists ≡ [] = λ i. rows_in (o i) (c i) (w i) in
+pub none-at-first : (n : ℕ) (os : List OpenTransaction) (cs : List Claim) (ws : List Wait) → os ≡ [] → cs ≡ [] → ws ≡ [] → AreOnlyRows n [] (rows_in os cs ws)
+none-at-first n os cs ws o c w =
+    let none : rows_in os cs ws ≡ [] = λ i. rows_in (o i) (c i) (w i) in
     subst (AreOnlyRows n []) (sym none) (record { valid = tt; lines_are = refl; only = λ others valid is. no-others others is })
 
 -- Rows whose lines are some lines, one more and others: they are rows of each part.

@@ -7,7 +7,7 @@ ghost use Rattle.state_rows.specs.Rows.{line_of_row};
 ghost use Rattle.state_rows.specs.inner.Prefixes.{AreOnlyRows};
 ghost use Rattle.state_rows.specs.States.{AreLists, BeginNoState, IsFaulty, IsFirstBad, IsLate, IsNoState, lines_of, rows_of, text_of};
 
-use crate::row::{StateRow, row_of};
+use crate::row::{StateRow, is_blank, row_of};
 use lock_report::{OpenTransaction, Wait};
 use lock_rules::Claim;
 use std::alloc::{AllocError as NoMemory, Global};
@@ -145,7 +145,7 @@ pub fn read_state(alloc: Global, text: &[u8], sessions: u16) -> Result<StateList
         return Err(StateFault::NoMemory);
     };
     let lists = rows_in_lines(alloc, sessions, &lines)?;
-    if !last.is_empty() {
+    if !is_blank(last) {
         return Err(StateFault::Line(lines.len() as u64 + 1));
     }
     Ok(lists)

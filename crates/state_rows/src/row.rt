@@ -85,7 +85,7 @@ fn wait_of(sessions: u16, session: &[u8], other: &[u8]) -> Option<Wait>
 }
 
 /// Whether the field is empty.
-fn is_blank(field: &[u8]) -> bool
+pub(crate) fn is_blank(field: &[u8]) -> bool
     ensures { (result ≡ true) ↔ (field.now ≡ []) }
 {
     field.is_empty()

@@ -4,11 +4,12 @@ use Rattle.std.proofs.lemmas.List.Elements.{All-from_recursion}
 use Rattle.state_rows.specs.Rows.{IsRow}
 use Rattle.state_rows.specs.States.{rows_of, IsFirstBad}
 use Rattle.state_rows.specs.inner.Prefixes.{AreOnlyRows}
-use Rattle.state_rows.proofs.Prefixes.{none-at-first, line-at, lines-so-far, first-bad, one-line-more, all-lines}
+use Rattle.state_rows.proofs.Prefixes.{none-at-first, lines-so-far, first-bad, one-line-more, all-lines}
 use Rattle.state_rows.proofs.reading.rows_in_lines.Goals as goal
 
 pub loop-index-init : goal.loop-index-init
-loop-index-init c = none-at-first c.args.sessions _ c.new.ensures.items c.new-2.ensures.items c.new-3.ensures.items
+loop-index-init c =
+    none-at-first c.args.sessions c.new.result.items c.new-2.result.items c.new-3.result.items c.new.ensures.items c.new-2.ensures.items c.new-3.ensures.items
 
 pub returns-then-not-added-clause-bad : goal.returns-then-not-added-clause-bad
 returns-then-not-added-clause-bad c = λ k e.
@@ -19,14 +20,14 @@ returns-then-not-added-clause-bad c = λ k e.
     let same : i + 1 ≡ k = cc in
     let no = c.in-Ok.ensures.bad (take i all) (search rules) c.loop-index.invariant in
     subst (IsFirstBad c.args.sessions all) same
-    (first-bad c.args.sessions xs i c.index-lines-index.result c.loop-index-test.true (lines-so-far c.args.sessions (take i all) lists.opens.items lists.claims.items lists.waits.items c.loop-index.invariant) no)
+    (first-bad c.args.sessions xs i _ c.loop-index-test.true (lines-so-far c.args.sessions (take i all) lists.opens.items lists.claims.items lists.waits.items c.loop-index.invariant) no)
 
 pub loop-index-preserved : goal.loop-index-preserved
 loop-index-preserved c =
     let xs = c.args.lines.now in
     let i = c.loop-index.index in
     let all = map (λ (line : Bor (List ℕ)). line.now) xs in
-    one-line-more c.args.sessions xs i c.index-lines-index.result _ c.loop-index-test.true (c.in-Ok.ensures.added (take i all) (search rules) c.loop-index.invariant)
+    one-line-more c.args.sessions xs i _ _ c.loop-index-test.true (c.in-Ok.ensures.added (take i all) (search rules) c.loop-index.invariant)
 
 pub returns-clause-ok : goal.returns-clause-ok
-returns-clause-ok c = all-lines c.args.sessions c.args.lines.now c.loop-index.index _ c.loop-index-test.false c.loop-index.invariant
+returns-clause-ok c = all-lines c.args.sessions c.args.lines.now c.loop-index.index c.loop-index.lists c.loop-index-test.false c.loop-index.invariant
