@@ -5,7 +5,7 @@ use Rattle.std.specs.List.{All, AllByRecursion, list_all, flat_map, slice_split,
 use Rattle.std.proofs.lemmas.Fmt.{decimal_by_steps}
 use Rattle.std.proofs.lemmas.Grind.{flat_map-append}
 use Rattle.std.proofs.lemmas.List.{map-append}
-use Rattle.std.proofs.lemmas.Bool.{and_parts, and_from}
+use Rattle.std.proofs.lemmas.Bool.{and_parts, and_from, not-true}
 use Rattle.std.proofs.lemmas.List.Elements.{All-from_recursion, recursion_from_All}
 use Rattle.std.proofs.lemmas.List.Folds.{list_all-append}
 use Rattle.std.proofs.lemmas.List.Splits.{slice_split_none, slice_split_at}
@@ -90,11 +90,6 @@ row-plain n (row.Claim c) lt h =
     (kind-plain c.kind, (number-plain c.session (omega (arith, lt, h.0.1)), (number-plain c.transaction.number h.1, (victim-plain c.transaction.doomed, (resource-plain c.resource h.2, (mode-plain c.mode, (refl, tt)))))))
 row-plain n (row.Wait w) lt h =
     (refl, (number-plain w.session (omega (arith, lt, h.0.1)), (refl, (refl, (refl, (refl, (number-plain w.other (omega (arith, lt, h.1.1)), tt)))))))
-
--- What isn't true is false.
-not-true : (x : Bool) → not x ≡ true → x ≡ false
-not-true true e = absurd cc
-not-true false e = refl
 
 -- A plain text has no comma.
 no-commas : (bs : List ℕ) → plain bs ≡ true → AllByRecursion (λ b. is_comma b ≡ false) bs

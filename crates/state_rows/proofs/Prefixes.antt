@@ -83,12 +83,8 @@ one-more n lines line rows new r read h is =
           let front = h.only p.front p.front_valid p.front_lines in
           let one : Some r ≡ Some p.one = (read p.one).1 (p.one_valid, sym p.one_line) in
           let last : r ≡ p.one = cc in
-          p.rows_are ∙ ((λ i. front i ++ sym last i ∷ p.back) ∙ (ap (λ (l : List StateRow). rows ++ r ∷ l) (nothing p.back p.back_lines) ∙ sym is));
+          p.rows_are ∙ ((λ i. front i ++ sym last i ∷ p.back) ∙ (ap (λ (l : List StateRow). rows ++ r ∷ l) (no-others p.back p.back_lines) ∙ sym is));
     }
-  where
-    nothing : (l : List StateRow) → map line_of_row l ≡ [] → l ≡ []
-    nothing [] e = refl
-    nothing (x ∷ xs) e = absurd cc
 
 -- The lines so far are those of a state.
 pub lines-so-far : (n : ℕ) (lines : List (List ℕ)) (os : List OpenTransaction) (cs : List Claim) (ws : List Wait) → AreOnlyRows n lines (rows_in os cs ws) → AreLinesOfState n lines
