@@ -1,7 +1,7 @@
 -- Fields and lines have neither commas nor line feeds in them, so they are found again.
-use Rattle.std.proofs.Common.{◌≡◌, ℕ, ◌+◌, ◌<◌, ◌≤◌, ◌%◌, ◌^◌, Bool, true, false, not, ◌&&◌, List, [], ◌∷◌, ◌++◌, map, refl, sym, ap, ◌∙◌, arith, ne_eqb, append_assoc, append-nil}
-use Rattle.std.specs.Prelude.{◌==◌, decimal, codes}
-use Rattle.std.specs.List.{All, AllByRecursion, list_all, flat_map, slice_split, join_with_byte}
+use Rattle.std.proofs.Common.{◌≡◌, ℕ, ◌+◌, ◌<◌, ◌%◌, ◌^◌, Bool, true, false, not, ◌&&◌, List, [], ◌∷◌, ◌++◌, map, refl, sym, ap, ◌∙◌, arith, ne_eqb, append_assoc, append-nil}
+use Rattle.std.specs.Prelude.{◌==◌, decimal}
+use Rattle.std.specs.List.{AllByRecursion, list_all, flat_map, slice_split, join_with_byte}
 use Rattle.std.proofs.lemmas.Fmt.{decimal_by_steps}
 use Rattle.std.proofs.lemmas.Grind.{flat_map-append}
 use Rattle.std.proofs.lemmas.List.{map-append}

@@ -11,7 +11,7 @@ use Rattle.lock_rules.specs.declared.listing.ClaimKind.{ClaimKind}
 use Rattle.lock_report.specs.declared.snapshot.OpenTransaction.{OpenTransaction}
 use Rattle.lock_report.specs.declared.snapshot.Wait.{Wait}
 use Rattle.lock_rules.specs.declared.listing.ClaimKind.TheVariants.{Held, Conversion, Fresh}
-use Rattle.lock_report.specs.StateRows.{fields_of_claim, fields_of_transaction, fields_of_wait, victim_field, word_of_kind}
+use Rattle.lock_report.specs.StateRows.{fields_of_transaction, fields_of_wait, victim_field, word_of_kind}
 use Rattle.state_rows.specs.declared.row.StateRow.{StateRow}
 use Rattle.state_rows.specs.declared.row.StateRow.TheVariants as row
 use Rattle.state_rows.specs.Rows.{IsClaim, IsNumbered, IsOpen, IsRow, IsSession, IsWait, fields_of_row}

@@ -1,14 +1,14 @@
 -- A whole text of rows, from its lines.
-use Rattle.std.proofs.Common.{◌≡◌, ◌⊎◌, ℕ, ◌+◌, ◌-◌, ◌<◌, ◌≤◌, ◌^◌, List, [], ◌∷◌, ◌++◌, length, map, take, drop, refl, sym, ap, ◌∙◌, arith, subst, Bor}
+use Rattle.std.proofs.Common.{◌≡◌, ℕ, ◌+◌, ◌-◌, ◌<◌, ◌^◌, List, [], ◌∷◌, ◌++◌, length, map, drop, refl, sym, ap, ◌∙◌, arith, subst, Bor}
 use lib.ListN.{take-append-drop}
-use Rattle.std.specs.List.{All, flat_map, join_with_byte}
+use Rattle.std.specs.List.{All, join_with_byte}
 use Rattle.std.proofs.lemmas.List.{length-append, length-map, map-append, take-append-le}
 use Rattle.std.proofs.lemmas.List.Elements.{recursion_from_All}
 use Rattle.std.proofs.lemmas.List.Splits.{join_with_byte-slice_split}
 use Rattle.state_rows.specs.declared.reading.StateLists.{StateLists}
 use Rattle.state_rows.specs.Rows.{IsRow, line_of_row}
 use Rattle.state_rows.specs.States.{rows_in, rows_of, text_of, lines_of, AreLists, AreLinesOfState, BeginNoState, IsNoState, IsFirstBad, IsOpenEnd}
-use Rattle.state_rows.proofs.Lines.{with_feed, lines-again, feeds-joined, rows-text}
+use Rattle.state_rows.proofs.Lines.{lines-again, feeds-joined, rows-text}
 
 -- Two lists with one item more are equal in both parts.
 same-parts : {A : Type 0} (xs ys : List A) (x y : A) → xs ++ x ∷ [] ≡ ys ++ y ∷ [] → (xs ≡ ys) × (x ≡ y)

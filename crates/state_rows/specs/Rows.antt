@@ -1,5 +1,5 @@
 -- A row of a state, and its text without the line feed.
-use Rattle.std.specs.Prelude.{◌≡◌, ◌<◌, ◌≤◌, ◌^◌, ℕ, Bool, if◌then◌else◌, ◌==◌, List, [], ◌∷◌, codes}
+use Rattle.std.specs.Prelude.{◌<◌, ◌≤◌, ◌^◌, ℕ, Bool, if◌then◌else◌, ◌==◌, List, [], codes}
 use Rattle.std.specs.List.{join_with_byte}
 use Rattle.lock_tree.specs.Paths.{IsResource}
 use Rattle.lock_rules.specs.declared.calls.Transaction.{Transaction}

@@ -1,4 +1,4 @@
-use Rattle.std.proofs.Common.{rules, ◌≡◌, Bool, true, false, List, ℕ, ap, sym, ◌∙◌}
+use Rattle.std.proofs.Common.{rules, ◌≡◌, true, false, ap, ◌∙◌}
 use Rattle.std.specs.Str.{is_utf8}
 use Rattle.state_rows.proofs.Texts.{mode-utf8}
 use Rattle.state_rows.proofs.fields.mode_of.Goals as goal

@@ -1,6 +1,5 @@
-use Rattle.std.proofs.Common.{rules, ◌≡◌, Bool, true, false, List, ℕ, ap, sym, ◌∙◌}
+use Rattle.std.proofs.Common.{rules, ◌≡◌, true, false, ap, ◌∙◌}
 use Rattle.std.specs.Str.{is_utf8}
-use Rattle.lock_tree.specs.Text.{text_of}
 use Rattle.state_rows.proofs.Texts.{resource-utf8}
 use Rattle.state_rows.proofs.fields.resource_of.Goals as goal
 

@@ -1,4 +1,4 @@
-use Rattle.std.proofs.Common.{rules, tests, ◌≡◌, List, []}
+use Rattle.std.proofs.Common.{rules, tests, ◌≡◌, []}
 use Rattle.state_rows.proofs.Order.{late-claim}
 use Rattle.state_rows.proofs.reading.add_claim.Goals as goal
 

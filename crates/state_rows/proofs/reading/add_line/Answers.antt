@@ -1,4 +1,4 @@
-use Rattle.std.proofs.Common.{rules, ◌≡◌, ◌↔◌, Option, Some, None, Result, Ok, true, false, List, ℕ, subst, sym, ◌∙◌}
+use Rattle.std.proofs.Common.{rules, ◌≡◌, ◌↔◌, Option, Some, None, subst}
 use Rattle.state_rows.specs.declared.row.StateRow.{StateRow}
 use Rattle.state_rows.specs.Rows.{IsRow, line_of_row}
 use Rattle.state_rows.specs.States.{rows_of}

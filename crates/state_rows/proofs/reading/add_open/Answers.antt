@@ -1,4 +1,4 @@
-use Rattle.std.proofs.Common.{rules, tests, ◌≡◌, List, []}
+use Rattle.std.proofs.Common.{rules, tests, ◌≡◌, []}
 use Rattle.state_rows.proofs.Order.{late-open}
 use Rattle.state_rows.proofs.reading.add_open.Goals as goal
 

@@ -1,7 +1,4 @@
-use Rattle.std.proofs.Common.{rules, tests, ◌≡◌, ◌<◌, ◌^◌, ◌+◌, ℕ, List, [], ◌∷◌, ◌++◌, length, map, Bor, ap, sym, ◌∙◌, subst, inl, inr}
-use Rattle.std.proofs.lemmas.List.{length-map}
-use Rattle.state_rows.specs.Rows.{line_of_row}
-use Rattle.state_rows.specs.States.{IsFaulty, lines_of, rows_of}
+use Rattle.std.proofs.Common.{rules, tests, ◌≡◌, ◌<◌, ◌^◌, ◌+◌, [], length, inl, inr}
 use Rattle.state_rows.proofs.Whole.{parts-of, text-read, none-bad, none-unended, bad-in-all, open-end}
 use Rattle.state_rows.proofs.reading.read_state.Goals as goal
 

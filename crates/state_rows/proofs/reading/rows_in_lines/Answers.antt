@@ -1,9 +1,5 @@
-use Rattle.std.proofs.Common.{rules, ◌≡◌, ◌<◌, ◌≤◌, ◌+◌, ℕ, List, [], ◌∷◌, ◌++◌, map, take, length, get_or, Bor, ap, sym, ◌∙◌, subst, arith}
-use Rattle.std.proofs.lemmas.List.{get_or-map, length-map, take_all}
-use Rattle.std.proofs.lemmas.List.Elements.{All-from_recursion}
-use Rattle.state_rows.specs.Rows.{IsRow}
-use Rattle.state_rows.specs.States.{rows_of, IsFirstBad}
-use Rattle.state_rows.specs.inner.Prefixes.{AreOnlyRows}
+use Rattle.std.proofs.Common.{rules, ◌≡◌, ◌+◌, ℕ, List, map, take, Bor, subst}
+use Rattle.state_rows.specs.States.{IsFirstBad}
 use Rattle.state_rows.proofs.Prefixes.{none-at-first, lines-so-far, first-bad, one-line-more, all-lines}
 use Rattle.state_rows.proofs.reading.rows_in_lines.Goals as goal
 

@@ -1,4 +1,4 @@
-use Rattle.std.proofs.Common.{◌≡◌, List, ℕ, map, take, Bor}
+use Rattle.std.proofs.Common.{List, ℕ, map, take, Bor}
 use Rattle.state_rows.specs.States.{rows_of}
 use Rattle.state_rows.specs.inner.Prefixes.{AreOnlyRows}
 use Rattle.state_rows.proofs.reading.rows_in_lines.Given as goal

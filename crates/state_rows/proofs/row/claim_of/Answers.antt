@@ -1,4 +1,4 @@
-use Rattle.std.proofs.Common.{rules, ◌≡◌, Option, None}
+use Rattle.std.proofs.Common.{rules, ◌≡◌, None}
 use Rattle.lock_report.specs.declared.snapshot.OpenTransaction.{OpenTransaction}
 use Rattle.state_rows.proofs.Rows.{claim-iff}
 use Rattle.state_rows.proofs.row.claim_of.Goals as goal

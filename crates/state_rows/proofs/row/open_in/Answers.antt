@@ -1,6 +1,5 @@
-use Rattle.std.proofs.Common.{rules, ◌≡◌, ℕ, List, [], ◌∷◌}
+use Rattle.std.proofs.Common.{rules, ◌≡◌, [], ◌∷◌}
 use Rattle.std.specs.Prelude.{codes}
-use Rattle.lock_report.specs.StateRows.{fields_of_transaction}
 use Rattle.state_rows.proofs.Rows.{seven}
 use Rattle.state_rows.proofs.row.open_in.Goals as goal
 

@@ -1,4 +1,4 @@
-use Rattle.std.proofs.Common.{rules, ◌≡◌, Option, None}
+use Rattle.std.proofs.Common.{rules, ◌≡◌, None}
 use Rattle.state_rows.proofs.Rows.{row-of-open, row-of-wait}
 use Rattle.state_rows.proofs.row.row_in.Goals as goal
 

@@ -1,8 +1,8 @@
-use Rattle.std.proofs.Common.{rules, ◌≡◌, ◌<◌, ◌^◌, ℕ, List, length, map, ap, sym, ◌∙◌, arith, Bor}
+use Rattle.std.proofs.Common.{rules, ◌≡◌, ◌<◌, ◌^◌, ℕ, List, length, map, ap, sym, ◌∙◌, Bor}
 use Rattle.std.specs.List.{slice_split, join_with_byte}
 use Rattle.std.proofs.lemmas.List.{length-map}
 use Rattle.std.proofs.lemmas.List.Splits.{join_with_byte-slice_split}
-use Rattle.state_rows.specs.Rows.{fields_of_row, is_comma}
+use Rattle.state_rows.specs.Rows.{is_comma}
 use Rattle.state_rows.proofs.Rows.{seven-fields, seven-items}
 use Rattle.state_rows.proofs.Lines.{fields-again}
 use Rattle.state_rows.proofs.row.row_of.Goals as goal

@@ -1,4 +1,4 @@
-use Rattle.std.proofs.Common.{rules, ◌≡◌, ℕ, List, [], ◌∷◌}
+use Rattle.std.proofs.Common.{rules, ◌≡◌, [], ◌∷◌}
 use Rattle.std.specs.Prelude.{codes}
 use Rattle.state_rows.proofs.Rows.{seven}
 use Rattle.state_rows.proofs.row.wait_in.Goals as goal
