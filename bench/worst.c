@@ -9,6 +9,7 @@
        another      the same names in a book with another seed
        ordinary     the same with ordinary names
        page         a page of 8 of the `locks` of a book that holds 1,048,576; 131,072; 8,192
+       dump         a dump of a book that holds as many
        commits      in an office: a poll whose pass serves 255 commits of 4,096 locks each
        bound        in a book that keeps at most the newest 2^20 entries of its history: the dearest poll of 2^21 behind the first 2^21
        readers      a commit before 1,023 readers that wait, all of whom are granted
@@ -172,6 +173,25 @@ static void pages(uint64_t *took) {
     }
 }
 
+static void dumps(uint64_t *took) {
+    static const uint32_t counts[] = {256, 32, 2};
+    for (size_t k = 0; k < 3; k++) {
+        pelgaisti_book book;
+        uint64_t from, place;
+        size_t count, room = (size_t)counts[k] * LOCKS + SESSIONS;
+        pelgaisti_claim *rows = malloc(room * sizeof *rows);
+        if (!rows) exit(4);
+        memset(rows, 1, room * sizeof *rows);
+        open_book(&book, SESSIONS, 0);
+        hold(&book, counts[k], NULL);
+        from = now();
+        if (pelgaisti_book_dump(&book, rows, room, &count, &place) || count < counts[k] * LOCKS || count > room) exit(4);
+        took[k] = now() - from;
+        free(rows);
+        if (pelgaisti_book_close(&book)) exit(6);
+    }
+}
+
 static pelgaisti_reply perform(uint32_t session, pelgaisti_call call) {
     pelgaisti_answer answer;
     if (pelgaisti_session_perform_at_once(&sessions[session - 1], &call, NULL, &answer)) exit(4);
@@ -249,6 +269,7 @@ static const struct {
     {"another", choose, by_another, {"the dearest lock of these names with another seed", "a lock of a further one", "the mean of all"}},
     {"ordinary", name_in_order, by_the_seed, {"the dearest lock of 262,144 ordinary names", "a lock of a further one", "the mean of all"}},
     {"page", NULL, pages, {"a page of 1,048,576 locks", "of 131,072", "of 8,192"}},
+    {"dump", NULL, dumps, {"a dump of 1,048,576 locks", "of 131,072", "of 8,192"}},
     {"commits", NULL, commits, {"a poll whose pass serves 255 commits of 4,096 locks"}},
     {"bound", NULL, bound, {"the dearest poll with a bound of 2^20 entries"}},
     {"readers", NULL, readers, {"a commit before 1,023 readers"}},

@@ -318,6 +318,13 @@ static void call_locks(void) {
     check(pelgaisti_book_locks(&book, 10, claims, quantity("n"), &count));
 }
 
+/* The first `n` rows of it. */
+static void call_dump(void) {
+    uint64_t place;
+    size_t count;
+    check(pelgaisti_book_dump(&book, claims, quantity("n"), &count, &place));
+}
+
 static void call_locks_held(void) {
     size_t count;
     check(pelgaisti_book_locks_held(&book, CALLER, &count));
@@ -465,6 +472,7 @@ static const struct row {
     {"transaction", nothing, call_transaction, 0},
     {"request", request_behind, call_request, 0},
     {"locks", readers_and_queue, call_locks, 0},
+    {"dump", readers_and_queue, call_dump, 0},
     {"locks_held", readers_and_queue, call_locks_held, 0},
     {"locks_of, of few", readers_and_queue, call_locks_of, 0},
     {"locks_of, of many", readers_and_queue, call_locks_of, 0},

@@ -3,7 +3,7 @@
 import re
 import sys
 
-NUMBERS = {"uint32_t": "u32", "uint64_t": "u64", "size_t": "usize", "pelgaisti_status": "u32"}
+NUMBERS = {"uint32_t": "u32", "uint64_t": "u64", "size_t": "usize", "pelgaisti_status": "u32", "char": "c_char"}
 HANDLES = ("pelgaisti_book", "pelgaisti_session")
 
 

@@ -18,7 +18,7 @@ static pelgaisti_pass unwritten;
 static pelgaisti_answer unanswered = {99, {77, 88}};
 
 /* What a session's questions, and its calls on the memory of the lock table, return at that allocation. */
-enum { QUESTIONS = 13 };
+enum { QUESTIONS = 14 };
 static uint32_t asked[QUESTIONS], unasked = 99;
 static uint64_t unseen = 99;
 static const pelgaisti_call begin = {PELGAISTI_BEGIN, 0, {0, {0}}};
@@ -46,6 +46,7 @@ static void ask_each(pelgaisti_session *session) {
     if (unlisted != 99) asked[10] = PELGAISTI_OK;
     asked[11] = pelgaisti_session_locks_held(session, 1, &uncounted, &unseen);
     asked[12] = pelgaisti_session_locks_of(session, 1, &place, &claim, 1, &uncounted, &unseen);
+    asked[13] = pelgaisti_session_dump(session, &claim, 1, &uncounted, &unseen);
 }
 
 /* At the next allocation, `meanwhile` tries to serve and `other` to perform a call and to ask, once. */
@@ -72,7 +73,7 @@ enum { BOOK_OPEN, BOOK_SERVE, BOOK_SERVE_BATCH, BOOK_LOCK_PATH, BOOK_RUN, BOOK_H
        SESSION_HOLDERS, SESSION_BLOCKERS, SESSION_LOCKS, HAND_IN, OFFICE_CLOSE, OPEN_WAKING, WAKING_SERVE, WAKING_SERVE_TELLING,
        WAKING_AT_ONCE, WAKING_TELLING, WAKING_PERFORM, WAKING_PATH, SESSION_RUN, BOOK_RESERVE, SESSION_RESERVE,
        KEEP_DEADLOCKS, BOOK_DEADLOCKS, OPEN_TELLING, SESSION_DEADLOCKS, BOOK_LOCKS_OF,
-       SESSION_LOCKS_OF, LACKING };
+       SESSION_LOCKS_OF, BOOK_DUMP, SESSION_DUMP, LACKING };
 static const char *const lacking[LACKING] = {"book_open", "book_serve", "book_serve_batch", "book_lock_path", "book_run",
                                              "book_holders", "book_locks", "office_open", "session_serve", "session_perform_at_once",
                                              "session_perform_telling", "session_holders", "session_blockers", "session_locks",
@@ -81,7 +82,7 @@ static const char *const lacking[LACKING] = {"book_open", "book_serve", "book_se
                                              "session_perform_telling, which wakes", "session_perform, which wakes",
                                              "session_lock_path, which wakes", "session_run", "book_reserve", "session_reserve",
                                              "book_keep_deadlocks", "book_deadlocks", "office_open_telling", "session_deadlocks", "book_locks_of",
-                                             "session_locks_of"};
+                                             "session_locks_of", "book_dump", "session_dump"};
 static long lacked[LACKING];
 
 /* How many batches were refused memory behind the calls that they served. */
@@ -227,6 +228,16 @@ static void books(void) {
     }
     CHECK(status == PELGAISTI_OK && count == 2 && claims[0].session == 1 && claims[1].session == 1);
     CHECK(claims[0].resource.numbers[0] == 7 && claims[1].resource.numbers[0] == 9);
+    uint64_t length = 0, place = 99;
+    CHECK(pelgaisti_book_length(&book, &length) == PELGAISTI_OK);
+    memset(claims, 0x55, sizeof claims);
+    count = 99;
+    status = pelgaisti_book_dump(&book, claims, 2, &count, &place);
+    if (is_lacking(BOOK_DUMP, status)) {
+        CHECK(count == 99 && place == 99 && claims[0].kind == 0x55555555);
+        status = pelgaisti_book_dump(&book, claims, 2, &count, &place);
+    }
+    CHECK(status == PELGAISTI_OK && count == SESSIONS + 45 && place == length && claims[1].session == 2 && claims[1].kind == 0);
     for (uint32_t k = 60; k < CALLS; k++) serve_nth(&book, k);
     CHECK(ample[66].kind == PELGAISTI_GRANTED && ample[71].kind == PELGAISTI_WITHDRAWN);
     pelgaisti_call end = call_of(PELGAISTI_ABORT, 0, 0);
@@ -444,6 +455,15 @@ static void ask_lists(pelgaisti_session *session, size_t locks, uint64_t length)
         status = pelgaisti_session_locks_of(session, whose, &nowhere, claims, 64, &count, &seen);
     }
     CHECK(status == PELGAISTI_OK && 0 < count && count <= locks && seen == length && claims[0].session == whose);
+    count = 99;
+    seen = 99;
+    status = pelgaisti_session_dump(session, claims, 64, &count, &seen);
+    if (is_lacking(SESSION_DUMP, status)) {
+        CHECK(count == 99 && seen == 99);
+        status = pelgaisti_session_dump(session, claims, 64, &count, &seen);
+    }
+    CHECK(status == PELGAISTI_OK && count == locks + CLERKS && seen == length);
+    CHECK(claims[0].kind == PELGAISTI_TRANSACTION_ROW && claims[CLERKS].kind == PELGAISTI_HELD);
 }
 
 /* Makes room by a session, again if memory is refused: then nothing is written. */

@@ -57,6 +57,7 @@ static const struct {
     {ANY(book_holders), "pplrp"}, {ANY(book_waits_for), "pnnp"}, {ANY(book_blockers), "pnlrp"}, {ANY(book_transaction), "pnp"},
     {ANY(book_request), "pnp"}, {ANY(book_locks), "pnlrp"}, {ANY(book_ended), "plrp"}, {ANY(book_length), "pp"},
     {ANY(book_locks_held), "pnp"}, {ANY(book_locks_of), "pnplrp"}, {ANY(session_locks_held), "pnpp"}, {ANY(session_locks_of), "pnplrpp"},
+    {ANY(book_dump), "plrpp"}, {ANY(session_dump), "plrpp"},
     {ANY(book_history), "pnlrp"}, {ANY(book_first_kept), "pp"}, {ANY(book_keep_at_most), "pn"}, {ANY(book_take_history), "pplrp"},
     {ANY(book_lock_path), "pnpnpplrp"}, {ANY(book_run), "pnpplrp"}, {ANY(office_open), "pn"}, {ANY(office_open_keeping), "pnn"}, {ANY(office_open_waking), "pnnp"},
     {ANY(session_publish), "ppo"}, {ANY(session_serve), "po"}, {ANY(session_serve_telling), "polrp"},
@@ -1751,6 +1752,93 @@ static void claims_of_a_book(void) {
     CHECK(pelgaisti_book_close(&book) == PELGAISTI_OK);
 }
 
+/* Whether the row tells the open transaction of the session, whose number is the session's. */
+static int is_transaction(const pelgaisti_claim *row, uint32_t session, uint32_t doomed) {
+    return row->session == session && row->kind == PELGAISTI_TRANSACTION_ROW && row->mode == 0 && row->transaction == session &&
+           row->doomed == doomed && row->resource.level == 0 && row->resource.numbers[0] == 0 && row->resource.numbers[4] == 0;
+}
+
+/* Expects these lines to be the text of the dump, each written whole, and also where there is little room for it. */
+static void want_text(const pelgaisti_claim *rows, size_t count, const char *const *lines, size_t line_count) {
+    pelgaisti_dumping at = pelgaisti_dump_begin(), again = at;
+    char line[100], short_line[8];
+    for (size_t k = 0; k < line_count; k++) {
+        const size_t length = strlen(lines[k]);
+        CHECK(pelgaisti_dump_line(rows, count, &at, line, sizeof line) == length && !strcmp(line, lines[k]));
+        CHECK(pelgaisti_dump_line(rows, count, &again, short_line, sizeof short_line) == length && !strncmp(short_line, lines[k], 7));
+        CHECK(strlen(short_line) == 7);
+    }
+    for (int k = 0; k < 2; k++) CHECK(pelgaisti_dump_line(rows, count, &at, line, sizeof line) == 0);
+}
+
+/* The longest lines have 98 bytes, for which 100 are room enough. */
+static void long_lines(void) {
+    static const char *const told[] = {
+        "held,1024,18446744073709551615,victim,4294967295/4294967295/4294967295/4294967295/4294967295,SIX,\n",
+        "conversion,1024,18446744073709551615,,4294967295/4294967295/4294967295/4294967295/4294967295,SIX,\n"};
+    pelgaisti_claim rows[2];
+    for (uint32_t k = 0; k < 2; k++) {
+        memset(&rows[k], 0xff, sizeof rows[k]);
+        rows[k].session = 1024;
+        rows[k].kind = k ? PELGAISTI_CONVERSION : PELGAISTI_HELD;
+        rows[k].mode = PELGAISTI_SIX;
+        rows[k].doomed = 1 - k;
+        rows[k].resource.level = 5;
+        CHECK(strlen(told[k]) == 98);
+    }
+    want_text(rows, 2, told, 2);
+}
+
+/* A dump of a book: its open transactions, and then what `pelgaisti_book_locks` lists, with the place in the history. */
+static void dumps_of_a_book(void) {
+    static const char *const told[] = {"transaction,1,1,,,,\n",  "transaction,2,2,,,,\n", "transaction,3,3,,,,\n", "held,1,1,,1,S,\n",
+                                       "held,2,2,,1,S,\n",       "conversion,1,1,,1,X,\n", "fresh,3,3,,1,IS,\n",   "held,1,1,,1/2,S,\n",
+                                       "waits,1,,,,,2\n",        "waits,3,,,,,1\n"};
+    static const char *const victim[] = {"transaction,1,1,,,,\n", "transaction,2,2,victim,,,\n", "transaction,3,3,,,,\n"};
+    pelgaisti_book book = PELGAISTI_EMPTY;
+    pelgaisti_call begin = call_of(PELGAISTI_BEGIN, 0, 0, 0, 0), abort = call_of(PELGAISTI_ABORT, 0, 0, 0, 0);
+    pelgaisti_call write = call_of(PELGAISTI_CONVERT, PELGAISTI_X, 1, 1, 0);
+    pelgaisti_reply reply;
+    pelgaisti_claim rows[9];
+    uint64_t place = 99;
+    size_t count = 99;
+
+    memset(rows, 0x55, sizeof rows);
+    CHECK(pelgaisti_book_dump(&book, rows, 9, &count, &place) == PELGAISTI_CLOSED);
+    CHECK(pelgaisti_book_open(&book, 3) == PELGAISTI_OK);
+    CHECK(pelgaisti_book_dump(NULL, rows, 9, &count, &place) == PELGAISTI_NULL);
+    CHECK(pelgaisti_book_dump(&book, NULL, 9, &count, &place) == PELGAISTI_NULL);
+    CHECK(pelgaisti_book_dump(&book, rows, 9, NULL, &place) == PELGAISTI_NULL);
+    CHECK(pelgaisti_book_dump(&book, rows, 9, &count, NULL) == PELGAISTI_NULL);
+    CHECK(rows[0].kind == 0x55555555 && count == 99 && place == 99);
+    CHECK(pelgaisti_book_dump(&book, NULL, 0, &count, &place) == PELGAISTI_OK && count == 0 && place == 0);
+    want_text(NULL, 0, NULL, 0);
+    for (uint32_t s = 1; s <= 3; s++) CHECK(pelgaisti_book_serve(&book, s, &begin, &reply) == PELGAISTI_OK);
+    for (size_t k = 0; k < COUNT(claimed); k++) {
+        pelgaisti_call call = call_of(claimed[k][1], claimed[k][2], claimed[k][3], 1, claimed[k][3] > 1 ? 2 : 0);
+        CHECK(pelgaisti_book_serve(&book, claimed[k][0], &call, &reply) == PELGAISTI_OK);
+    }
+    CHECK(pelgaisti_book_dump(&book, rows, 9, &count, &place) == PELGAISTI_OK && count == 8 && place == 9 && rows[8].kind == 0x55555555);
+    for (uint32_t s = 1; s <= 3; s++) CHECK(is_transaction(&rows[s - 1], s, 0));
+    want_claims(rows + 3, count - 3);
+    want_text(rows, count, told, COUNT(told));
+
+    /* with less room the first rows are written; a dump with room for none tells how many there are */
+    memset(rows, 0x55, sizeof rows);
+    CHECK(pelgaisti_book_dump(&book, rows, 4, &count, &place) == PELGAISTI_OK && count == 8 && place == 9 && rows[4].kind == 0x55555555);
+    CHECK(is_transaction(&rows[2], 3, 0) && is_claim(&rows[3], 1, PELGAISTI_HELD, PELGAISTI_S, 1, 0));
+    CHECK(pelgaisti_book_dump(&book, NULL, 0, &count, &place) == PELGAISTI_OK && count == 8 && place == 9);
+
+    /* session 2, whose transaction is the youngest of the two, wants to write as well: a deadlock */
+    CHECK(pelgaisti_book_serve(&book, 2, &write, &reply) == PELGAISTI_OK && reply.kind == PELGAISTI_DEADLOCK);
+    CHECK(pelgaisti_book_dump(&book, rows, 9, &count, &place) == PELGAISTI_OK && count == 8 && place == 10);
+    CHECK(is_transaction(&rows[1], 2, 1) && is_claim(&rows[4], 2, PELGAISTI_HELD, PELGAISTI_S, 1, 1));
+    want_text(rows, 3, victim, COUNT(victim));
+    for (uint32_t s = 1; s <= 3; s++) CHECK(pelgaisti_book_serve(&book, s, &abort, &reply) == PELGAISTI_OK);
+    CHECK(pelgaisti_book_dump(&book, rows, 9, &count, &place) == PELGAISTI_OK && count == 0 && place == 13);
+    CHECK(pelgaisti_book_close(&book) == PELGAISTI_OK);
+}
+
 /* Session 1 locks the database 1 in IX, the files 1/3, 1/1 and 1/2 in IX, X and X, and the page 1/3/0 in X, in this order; session 2 the
    database in IX. In the order of paths session 1 holds 1, 1/1, 1/2, 1/3, 1/3/0. */
 static const uint32_t paged[6][5] = {{1, PELGAISTI_IX, 1, 1, 0}, {1, PELGAISTI_IX, 2, 1, 3}, {1, PELGAISTI_X, 2, 1, 1}, {1, PELGAISTI_X, 2, 1, 2},
@@ -1887,6 +1975,7 @@ static void questions_refuse(pelgaisti_session *asker, pelgaisti_session *closed
     CHECK(pelgaisti_session_locks(closed, 0, &claim, 1, &count, &seen) == PELGAISTI_CLOSED);
     CHECK(pelgaisti_session_locks_held(closed, 1, &count, &seen) == PELGAISTI_CLOSED);
     CHECK(pelgaisti_session_locks_of(closed, 1, &place, &claim, 1, &count, &seen) == PELGAISTI_CLOSED);
+    CHECK(pelgaisti_session_dump(closed, &claim, 1, &count, &seen) == PELGAISTI_CLOSED);
     CHECK(pelgaisti_session_held(NULL, 1, &place, &mode, &seen) == PELGAISTI_NULL);
     CHECK(pelgaisti_session_held(asker, 1, NULL, &mode, &seen) == PELGAISTI_NULL);
     CHECK(pelgaisti_session_held(asker, 1, &place, NULL, &seen) == PELGAISTI_NULL);
@@ -1921,6 +2010,10 @@ static void questions_refuse(pelgaisti_session *asker, pelgaisti_session *closed
     CHECK(pelgaisti_session_locks_of(asker, 1, &place, NULL, 1, &count, &seen) == PELGAISTI_NULL);
     CHECK(pelgaisti_session_locks_of(asker, 1, &place, &claim, 1, NULL, &seen) == PELGAISTI_NULL);
     CHECK(pelgaisti_session_locks_of(asker, 1, &place, &claim, 1, &count, NULL) == PELGAISTI_NULL);
+    CHECK(pelgaisti_session_dump(NULL, &claim, 1, &count, &seen) == PELGAISTI_NULL);
+    CHECK(pelgaisti_session_dump(asker, NULL, 1, &count, &seen) == PELGAISTI_NULL);
+    CHECK(pelgaisti_session_dump(asker, &claim, 1, NULL, &seen) == PELGAISTI_NULL);
+    CHECK(pelgaisti_session_dump(asker, &claim, 1, &count, NULL) == PELGAISTI_NULL);
     for (size_t k = 0; k < COUNT(off_sessions); k++) {
         CHECK(pelgaisti_session_held(asker, off_sessions[k], &place, &mode, &seen) == PELGAISTI_NO_SUCH_SESSION);
         CHECK(pelgaisti_session_transaction(asker, off_sessions[k], &open, &seen) == PELGAISTI_NO_SUCH_SESSION);
@@ -2002,6 +2095,12 @@ static void sessions_ask(void) {
         CHECK(pelgaisti_session_locks_of(&sessions[1], 1, &claims[0].resource, claims, 6, &count, &seen) == PELGAISTI_OK && count == 0);
         CHECK(pelgaisti_session_locks_of(&sessions[1], 3, &first, NULL, 0, &count, &seen) == PELGAISTI_OK && count == 0);
     }
+    /* the three transactions come before the locks and requests */
+    memset(claims, 0x55, sizeof claims);
+    CHECK(pelgaisti_session_dump(&sessions[1], claims, 5, &count, &seen) == PELGAISTI_OK && count == 8 && seen == 9);
+    for (uint32_t s = 1; s <= 3; s++) CHECK(is_transaction(&claims[s - 1], s, 0));
+    CHECK(is_claim(&claims[4], 2, PELGAISTI_HELD, PELGAISTI_S, 1, 0) && claims[5].kind == 0x55555555);
+    CHECK(pelgaisti_session_dump(&sessions[2], NULL, 0, &count, &seen) == PELGAISTI_OK && count == 8 && seen == 9);
     CHECK(pelgaisti_session_collect(&sessions[1], &answer) == PELGAISTI_NOT_SERVED);
     CHECK(pelgaisti_session_serve(&sessions[2], NULL) == PELGAISTI_OK);
     CHECK(pelgaisti_session_collect(&sessions[1], &answer) == PELGAISTI_OK && answer.place == 9);
@@ -2851,6 +2950,8 @@ int main(int argc, char **argv) {
     tries_and_withdrawals();
     restarts();
     claims_of_a_book();
+    long_lines();
+    dumps_of_a_book();
     pages_of_a_book();
     pages_of_many_locks();
     sessions_ask();

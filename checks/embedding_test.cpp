@@ -103,6 +103,10 @@ static void books() {
     CHECK(book.locks_of(1, {1, 1}, 9).size() == 2 && book.locks_of(1, {1, 2}, 9).size() == 1 && book.locks_of(2, 0).empty());
     CHECK(throws(PELGAISTI_NO_SUCH_SESSION, [&] { book.locks_of(4, 1); }));
     CHECK(book.request(2).mode == PELGAISTI_S && book.request(1).kind == 0 && book.transaction(1).number == 3);
+    const auto dump = book.dump();
+    CHECK(dump.place == book.length() && dump.rows.size() == 7 && dump.rows[0].kind == PELGAISTI_TRANSACTION_ROW);
+    CHECK(dump.rows[2].session == 1 && dump.rows[2].mode == locks[0].mode && dump.rows[5].kind == PELGAISTI_FRESH);
+    CHECK(dump.text().find("transaction,1,3,,,,\ntransaction,2,") == 0 && dump.text().find("\nwaits,2,,,,,1\n") != std::string::npos);
     std::vector<pelgaisti_entry> batch(2);
     batch[0].session = 1;
     batch[0].call = pelgaisti::call{op::abort};
@@ -267,6 +271,7 @@ static void offices() {
     CHECK(office[0].holders({7})->found.size() == 1 && office[0].blockers(2)->found.empty());
     CHECK(office[0].locks()->found.size() == 1 && office[0].locks()->found[0].kind == PELGAISTI_HELD);
     CHECK(office[0].locks_held(2)->found == 1 && office[0].locks_held(1)->found == 0 && office[0].locks_held(2)->length == 7);
+    CHECK(office[0].dump()->place == 7 && office[0].dump()->text() == "transaction,2,2,,,,\nheld,2,2,,7,IX,\n");
     CHECK(office[0].locks_of(2, 8)->found.at(0).mode == PELGAISTI_IX && office[0].locks_of(2, {7}, 8)->found.empty());
     CHECK(office[0].locks_behind(office[0].locks_of(2, 1)->found.at(0), 8)->found.empty());
     CHECK(throws(PELGAISTI_NO_SUCH_SESSION, [&] { office[0].blockers(3); }));

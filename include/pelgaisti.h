@@ -232,6 +232,9 @@ typedef enum pelgaisti_claim_kind {
     PELGAISTI_FRESH = 3       /* a waiting request for a resource that the session doesn't hold */
 } pelgaisti_claim_kind;
 
+/* What a row of a dump is that is no claim: an open transaction of a session, without a mode and a resource. */
+#define PELGAISTI_TRANSACTION_ROW 0
+
 /* A node of the lock tree, by its path from the root: database, file, page, record, field. The first `level` numbers are the
    path. */
 typedef struct pelgaisti_resource {
@@ -508,6 +511,32 @@ pelgaisti_status pelgaisti_book_locks_held(pelgaisti_book *book, uint32_t sessio
    NULL, CLOSED, NO_SUCH_SESSION, NO_SUCH_LEVEL (above PELGAISTI_LEVELS), NO_MEMORY. */
 pelgaisti_status pelgaisti_book_locks_of(pelgaisti_book *book, uint32_t session, const pelgaisti_resource *after,
                                          pelgaisti_claim *list, size_t room, size_t *count);
+
+/* Writes a dump, which is the state of the whole lock table at one moment, in the order of the rows of `glm show --csv`: a row for
+   each open transaction, by session number, whose kind is PELGAISTI_TRANSACTION_ROW, and then the locks and waiting requests as
+   pelgaisti_book_locks lists them. Writes the first `room` rows to `rows`, the number of all rows to `count`, and to `place` how many
+   entries the history has: the state is that in front of this place. If `count` is more than `room`, the dump isn't whole: ask again
+   with more room. pelgaisti_dump_line makes text of a whole one. Its cost grows with the sessions, and with all locks and waiting
+   requests as sorting their resources does. `rows` may be NULL if `room` is 0. Requires `room` elements at `rows`.
+   NULL, CLOSED, NO_MEMORY. */
+pelgaisti_status pelgaisti_book_dump(pelgaisti_book *book, pelgaisti_claim *rows, size_t room, size_t *count, uint64_t *place);
+
+/* How far a dump has been written as text: the caller keeps it from line to line, and reads nothing of it. */
+typedef struct pelgaisti_dumping {
+    size_t row;
+    size_t wait;
+    uint32_t other;
+} pelgaisti_dumping;
+
+/* The place in front of a dump's first line. */
+pelgaisti_dumping pelgaisti_dump_begin(void);
+
+/* Writes the next line of a whole dump to `text`, as snprintf does: at most `room` bytes with the 0 at the end; 100 are enough. Returns
+   the length of the line without the 0, and 0 behind the last one. The lines are those of `glm show --csv` of the state: of the `count`
+   rows of the dump, and then of who waits for whom, which follows from these rows. A line of a wait costs a look at the rows of its
+   resource, and each session that waits a look at all rows. No handle is needed. `rows` may be NULL if `count` is 0. Requires `count`
+   elements at `rows`, all of one dump, and at `at` what pelgaisti_dump_begin or an earlier call with these rows left there. */
+uint32_t pelgaisti_dump_line(const pelgaisti_claim *rows, size_t count, pelgaisti_dumping *at, char *text, size_t room);
 
 /* Writes the first `room` of the sessions whose wait the last call, batch, path or program has ended to `list`, each once, in no
    particular order, and the number of all of them to `count`: a request of the session that waited was granted, or its transaction
@@ -808,6 +837,11 @@ pelgaisti_status pelgaisti_session_locks_held(pelgaisti_session *session, uint32
    NULL, CLOSED, NO_SUCH_SESSION, NO_SUCH_LEVEL (above PELGAISTI_LEVELS), NO_MEMORY or ELSEWHERE. */
 pelgaisti_status pelgaisti_session_locks_of(pelgaisti_session *session, uint32_t whose, const pelgaisti_resource *after,
                                             pelgaisti_claim *list, size_t room, size_t *count, uint64_t *seen);
+
+/* Writes a dump, as pelgaisti_book_dump does: all its rows are of one moment, and `seen` is the place. While the state is copied, no
+   other session can take the lock table. NO_MEMORY: the session knows the history up to there all the same.
+   NULL, CLOSED, NO_MEMORY or ELSEWHERE. */
+pelgaisti_status pelgaisti_session_dump(pelgaisti_session *session, pelgaisti_claim *rows, size_t room, size_t *count, uint64_t *seen);
 
 /* ---- Memory of the lock table of an open office. Each of these calls tries once to take the lock table, and writes `seen`, as the
    questions do; and as with a book, nothing changes that another call tells. While it works, no other session can take the lock table.

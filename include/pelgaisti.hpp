@@ -102,6 +102,20 @@ struct [[nodiscard]] reply {
 struct [[nodiscard]] answer { uint64_t place; pelgaisti::reply reply; };
 // What a program does with the session's transaction first.
 enum class start : uint32_t { nothing = 0, begins, commits, aborts, commits_and_begins, aborts_and_begins, restarts };
+// The whole state of a lock table at one moment: its place in the history, and its rows, as pelgaisti_book_dump writes them.
+struct dump {
+    uint64_t place;
+    std::vector<pelgaisti_claim> rows;
+    // The rows of `glm show --csv`, which `glm show --state` reads.
+    std::string text() const {
+        std::string all;
+        char line[128];
+        auto at = pelgaisti_dump_begin();
+        while (const uint32_t length = pelgaisti_dump_line(rows.data(), rows.size(), &at, line, sizeof line)) all.append(line, length);
+        return all;
+    }
+};
+
 // Several calls of a session that are made as one: what `first` says, and then one call or the locks of a path.
 struct program : pelgaisti_program {
     // What `first` says, and no other call.
@@ -251,6 +265,14 @@ public:
         return page_of(session, after, most);
     }
     std::vector<pelgaisti_claim> locks_behind(const pelgaisti_claim &last, size_t most) { return page_of(last.session, last.resource, most); }
+    // The whole state at one moment, with its place in the history: a row for each open transaction, lock and waiting request.
+    pelgaisti::dump dump() {
+        pelgaisti::dump made{0, std::vector<pelgaisti_claim>(8)};
+        for (size_t count = 0;; made.rows.resize(count)) {
+            check(pelgaisti_book_dump(&handle_, made.rows.data(), made.rows.size(), &count, &made.place));
+            if (count <= made.rows.size()) return made.rows.resize(count), made;
+        }
+    }
     // Makes room, so that neither the table nor the history grows in a call until so many more resources and entries have come; gives back
     // memory that isn't in use; counts the cells that are kept and serve no resource.
     void reserve(size_t resources, size_t entries) { check(pelgaisti_book_reserve(&handle_, resources, entries)); }
@@ -373,6 +395,12 @@ public:
     }
     std::optional<seen<std::vector<pelgaisti_claim>>> locks_behind(const pelgaisti_claim &last, size_t most) {
         return page_of(last.session, last.resource, most);
+    }
+    // The whole state at one moment, with its place in the history, or nothing if another session has the table.
+    std::optional<pelgaisti::dump> dump() {
+        auto made = listed<pelgaisti_claim>([&](auto *at, size_t room, auto *count, auto *n) {
+            return pelgaisti_session_dump(&handle_, at, room, count, n); });
+        return made ? std::optional(pelgaisti::dump{made->length, std::move(made->found)}) : std::nullopt;
     }
     // What a book's do with the memory of the lock table, each by one try for it; how many calls the history had, or nothing if another
     // session has the table.

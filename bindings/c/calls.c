@@ -160,6 +160,10 @@ pelgaisti_status pelgaisti_book_locks_of(pelgaisti_book *book, uint32_t session,
     return LISTING(list, room, count, CALL(book, pelgaisti_raw_book_locks_of(&book, session, &after, LIST(list, room), &count)));
 }
 
+pelgaisti_status pelgaisti_book_dump(pelgaisti_book *book, pelgaisti_claim *rows, size_t room, size_t *count, uint64_t *place) {
+    return LISTING(rows, room, count, WRITING(place, CALL(book, pelgaisti_raw_book_dump(&book, LIST(rows, room), &count, &place))));
+}
+
 pelgaisti_status pelgaisti_book_ended(pelgaisti_book *book, uint32_t *list, size_t room, size_t *count) {
     return LISTING(list, room, count, CALL(book, pelgaisti_raw_book_ended(&book, LIST(list, room), &count)));
 }
@@ -475,6 +479,11 @@ pelgaisti_status pelgaisti_session_locks_of(pelgaisti_session *session, uint32_t
                                             pelgaisti_claim *list, size_t room, size_t *count, uint64_t *seen) {
     return LISTING(list, room, count, WRITING(seen,
                    CALL(session, pelgaisti_raw_session_locks_of(&session, whose, &after, LIST(list, room), &count, &seen))));
+}
+
+pelgaisti_status pelgaisti_session_dump(pelgaisti_session *session, pelgaisti_claim *rows, size_t room, size_t *count, uint64_t *seen) {
+    return LISTING(rows, room, count, WRITING(seen,
+                   CALL(session, pelgaisti_raw_session_dump(&session, LIST(rows, room), &count, &seen))));
 }
 
 pelgaisti_status pelgaisti_session_reserve(pelgaisti_session *session, size_t resources, size_t entries, uint64_t *seen) {

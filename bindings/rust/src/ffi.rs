@@ -5,7 +5,7 @@
 //! - a pointer is to a value of its type, that of a list to `room` elements, and no two arguments overlap;
 //! - all of the process's handles are of one copy of the library, as Cargo links no second one (`links`).
 
-use std::ffi::c_void;
+use std::ffi::{c_char, c_void};
 use std::mem::size_of;
 
 /// How many numbers a resource has room for.
@@ -48,6 +48,14 @@ pub(crate) struct RawEntry {
     pub(crate) session: u32,
     pub(crate) call: RawCall,
     pub(crate) reply: RawReply,
+}
+
+#[repr(C)]
+#[derive(Clone, Copy, Default)]
+pub(crate) struct RawDumping {
+    pub(crate) row: usize,
+    pub(crate) wait: usize,
+    pub(crate) other: u32,
 }
 
 #[repr(C)]
@@ -232,6 +240,21 @@ extern "C" {
         room: usize,
         count: *mut usize,
     ) -> u32;
+    pub(crate) fn pelgaisti_book_dump(
+        book: *mut RawHandle,
+        rows: *mut RawClaim,
+        room: usize,
+        count: *mut usize,
+        place: *mut u64,
+    ) -> u32;
+    pub(crate) fn pelgaisti_dump_begin() -> RawDumping;
+    pub(crate) fn pelgaisti_dump_line(
+        rows: *const RawClaim,
+        count: usize,
+        at: *mut RawDumping,
+        text: *mut c_char,
+        room: usize,
+    ) -> u32;
     pub(crate) fn pelgaisti_book_ended(book: *mut RawHandle, list: *mut u32, room: usize, count: *mut usize) -> u32;
     pub(crate) fn pelgaisti_book_length(book: *mut RawHandle, length: *mut u64) -> u32;
     pub(crate) fn pelgaisti_book_first_kept(book: *mut RawHandle, first: *mut u64) -> u32;
@@ -375,6 +398,13 @@ extern "C" {
         whose: u32,
         after: *const RawResource,
         list: *mut RawClaim,
+        room: usize,
+        count: *mut usize,
+        seen: *mut u64,
+    ) -> u32;
+    pub(crate) fn pelgaisti_session_dump(
+        session: *mut RawHandle,
+        rows: *mut RawClaim,
         room: usize,
         count: *mut usize,
         seen: *mut u64,

@@ -96,6 +96,7 @@ fn a_book_goes_on_where_memory_is_refused() {
     assert_eq!((level, ended.len(), book.length()), (0, 0, 600));
     assert_eq!(refused(|| book.holders(database())), Err(Error::NoMemory));
     assert_eq!(refused(|| book.locks()), Err(Error::NoMemory));
+    assert_eq!(refused(|| book.dump()).err(), Some(Error::NoMemory));
     assert_eq!(refused(|| book.blockers(300)), Err(Error::NoMemory));
     assert_eq!(refused(|| book.history(0, 100)), Err(Error::NoMemory));
     assert_eq!(refused(|| book.take_history(usize::MAX)), Err(Error::NoMemory));
@@ -105,6 +106,9 @@ fn a_book_goes_on_where_memory_is_refused() {
     assert_eq!(book.lock_path(1, database(), Mode::S, &mut level, &mut ended), Ok(Some(Reply::Granted(Mode::S))));
     assert_eq!((level, book.holders(database()).unwrap().len(), book.locks().unwrap().len()), (1, 299, 300));
     assert_eq!(book.blockers(300).unwrap(), (1..300).collect::<Vec<_>>());
+    let dump = book.dump().unwrap();
+    assert_eq!((dump.place(), dump.transactions().count(), dump.claims().count()), (book.length(), 300, 300));
+    assert_eq!(dump.to_string().lines().count(), 300 + 300 + 299);
     assert_eq!(book.take_history(usize::MAX).unwrap().1.len(), 701);
 }
 

@@ -1,2 +1,3 @@
 pub mod OneHistory
 pub mod WakesTold
+pub mod Dumped

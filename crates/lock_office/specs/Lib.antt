@@ -3,3 +3,4 @@ pub mod Closed
 pub mod Ended
 pub mod Queries
 pub mod Paths
+pub mod Dump

@@ -154,6 +154,21 @@ pub(crate) fn serve_again(book: &mut Book, entries: &[Entry], upto: usize) -> Re
     Ok(())
 }
 
+/// Serves the calls of the first `upto` entries, which are of a legal history, on both books of a desk that has served none. Fails if
+/// memory is refused; the books may differ then.
+fn serve_both_again(desk: &mut Desk, entries: &[Entry], upto: usize) -> Result<(), NoMemory>
+    requires within { All (IsEntryWithin desk.old.after.sessions) entries.now }
+    requires legal { IsLegal entries.now }
+    requires alike { AreAlike desk.old.after.sessions desk.old.before desk.old.after }
+    requires empty { desk.old.after.history ≡ [] }
+    requires few { upto ≤ length entries.now }
+    ensures alike { OnOk result (AreAlike desk.old.after.sessions desk.new.before desk.new.after) }
+    ensures served { OnOk result (desk.new.after.history ≡ take upto entries.now) }
+{
+    serve_again(&mut desk.before, entries, upto)?;
+    serve_again(&mut desk.after, entries, upto)
+}
+
 /// A lock table that has served the first `kept` entries of the book's history, all of which the book keeps in memory. Costs what
 /// it costs to serve them. Fails if memory is refused.
 pub(crate) fn desk_again(alloc: Global, after: &Book, kept: usize) -> Result<Desk, NoMemory>
@@ -164,8 +179,6 @@ pub(crate) fn desk_again(alloc: Global, after: &Book, kept: usize) -> Result<Des
     ensures served { IfOk result (λ desk. desk.after.history ≡ take kept after.now.history) }
 {
     let mut desk = fresh_desk(alloc, after.sessions())?;
-    let entries = after.history();
-    serve_again(&mut desk.before, entries, kept)?;
-    serve_again(&mut desk.after, entries, kept)?;
+    serve_both_again(&mut desk, after.history(), kept)?;
     Ok(desk)
 }

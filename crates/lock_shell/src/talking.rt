@@ -1,6 +1,6 @@
 //! The loop of a shell, from line to line.
 
-ghost use Rattle.std.specs.Prelude.{◌≡◌, ◌⊎◌, ◌<◌, ◌≤◌, true, false, IfOk, IfErr, IfSome, OnOk, OnErr};
+ghost use Rattle.std.specs.Prelude.{◌≡◌, ◌⊎◌, ◌<◌, ◌≤◌, true, false, [], IfOk, IfErr, IfSome, OnOk, OnErr};
 ghost use Rattle.std.specs.Io.KnownBytes.{Appends};
 ghost use Rattle.lock_rules.specs.declared.calls.TheConstants.{MAX_SESSIONS};
 ghost use Rattle.replay_commands.specs.Written.{AppendsPart};
@@ -124,6 +124,31 @@ fn greet<W: Write>(output: &mut W) -> Result<(), ToolFault>
     write_text(output, GREETING.as_bytes())
 }
 
+/// Greets, then reads lines of `input` and answers each, on a desk that has served no call. Returns the number of lines that were answered.
+// By itself, since proofs of functions that own a desk are dear.
+fn converse<T: Files, R: Read + Drop, W: Write>(
+    files: &T,
+    alloc: Global,
+    desk: &mut Desk,
+    input: R,
+    output: &mut W,
+) -> Result<u64, ToolFault>
+    requires alike { AreAlike desk.old.after.sessions desk.old.before desk.old.after }
+    requires fresh { desk.old.after.history ≡ [] }
+    ensures talked { IfOk result (λ count. HasTalked desk.old.after.sessions count (W.contents output.old) (W.contents output.new)) }
+    ensures part { OnErr result (HasTalkedPart desk.old.after.sessions (W.contents output.old) (W.contents output.new)) }
+    ensures faults { IfErr result IsFaultOfShell }
+{
+    let Ok(mut reader) = BufReader::new(alloc, input) else {
+        return Err(ToolFault::NoMemory);
+    };
+    let mut marks = Vec::new(alloc);
+    match greet(output) {
+        Ok(()) => answer_lines(files, alloc, desk, &mut marks, &mut reader, output),
+        Err(fault) => Err(fault),
+    }
+}
+
 /// Reads lines of `input`, and answers each at once on `output`, for sessions 1 to `sessions`, at most `MAX_SESSIONS`: calls in the
 /// order in which they are typed, on one lock table, and the words of `help`. Files are saved to and loaded from `files`.
 ///
@@ -145,12 +170,5 @@ pub fn shell<T: Files, R: Read + Drop, W: Write>(
     let Ok(mut desk) = fresh_desk(alloc, sessions) else {
         return Err(ToolFault::NoMemory);
     };
-    let Ok(mut reader) = BufReader::new(alloc, input) else {
-        return Err(ToolFault::NoMemory);
-    };
-    let mut marks = Vec::new(alloc);
-    match greet(output) {
-        Ok(()) => answer_lines(files, alloc, &mut desk, &mut marks, &mut reader, output),
-        Err(fault) => Err(fault),
-    }
+    converse(files, alloc, &mut desk, input, output)
 }

@@ -12,6 +12,7 @@ pub mod ProgramTurns
 pub mod Queries
 pub mod Deadlocks
 pub mod Pages
+pub mod Dumps
 pub mod EndedLists
 pub mod Offices
 pub mod Behind

@@ -24,6 +24,7 @@ pub use combining::{
     resume, turn,
 };
 use lock_desk::{Book, Entry};
+pub use lock_office::dump::dump_book;
 pub use lock_programs::{Answer as ProgramAnswer, CALLS, Last, Program, Start, Stop};
 pub use opening::{open_keeping, open_telling};
 pub use paths::{levels_granted, path_program};

@@ -1,0 +1,86 @@
+/* The rows of a dump as text. Nothing here is proved; checks/embedding_dump compares it with what glm show --csv writes. */
+#include <inttypes.h>
+#include <stdio.h>
+#include "pelgaisti.h"
+
+/* The text of a resource: its numbers, joined by '/'. Five numbers of up to ten digits. */
+typedef struct resource_text {
+    char bytes[56];
+} resource_text;
+
+static resource_text text_of(const pelgaisti_resource *resource) {
+    resource_text text = {""};
+    size_t length = 0;
+    for (uint32_t level = 0; level < resource->level && level < PELGAISTI_LEVELS; level++)
+        length += (size_t)snprintf(text.bytes + length, sizeof text.bytes - length, level ? "/%" PRIu32 : "%" PRIu32,
+                                   resource->numbers[level]);
+    return text;
+}
+
+static int is_on(const pelgaisti_claim *row, const pelgaisti_claim *other) {
+    if (row->kind == 0 || row->resource.level != other->resource.level) return 0;
+    for (uint32_t level = 0; level < row->resource.level && level < PELGAISTI_LEVELS; level++)
+        if (row->resource.numbers[level] != other->resource.numbers[level]) return 0;
+    return 1;
+}
+
+static int is_request(const pelgaisti_claim *row) { return row->kind == PELGAISTI_CONVERSION || row->kind == PELGAISTI_FRESH; }
+
+/* Whether a lock in the mode `held` keeps a request for `asked` waiting: the conflict masks of docs/RULES.md, each for a mode. */
+static int conflicts(uint32_t asked, uint32_t held) {
+    static const uint8_t masks[16] = {[PELGAISTI_IS] = 8, [PELGAISTI_IX] = 4, [PELGAISTI_S] = 10, [PELGAISTI_SIX] = 6, [PELGAISTI_U] = 10,
+                                      [PELGAISTI_X] = 1};
+    return (masks[asked & 15] & held) != 0;
+}
+
+/* The index of the waiting request of the session with the least number above `session`, `count` if there is none. */
+static size_t request_above(const pelgaisti_claim *rows, size_t count, uint32_t session) {
+    size_t found = count;
+    for (size_t k = 0; k < count; k++)
+        if (is_request(&rows[k]) && rows[k].session > session && (found == count || rows[k].session < rows[found].session)) found = k;
+    return found;
+}
+
+/* The least number above `other` of a session for which the request at this index waits, 0 if there is none. A session may hold the
+   resource and be ahead in its queue. */
+static uint32_t blocker_above(const pelgaisti_claim *rows, size_t count, size_t request, uint32_t other) {
+    uint32_t least = 0;
+    size_t first = request;
+    while (first > 0 && is_on(&rows[first - 1], &rows[request])) first--;
+    for (size_t k = first; k < count && is_on(&rows[k], &rows[request]); k++) {
+        int blocks = is_request(&rows[k]) ? k < request : conflicts(rows[request].mode, rows[k].mode);
+        if (!blocks || rows[k].session == rows[request].session || rows[k].session <= other) continue;
+        if (least == 0 || rows[k].session < least) least = rows[k].session;
+    }
+    return least;
+}
+
+/* Moves on to the next wait behind the rows. Returns 0 if there is none. */
+static int next_wait(const pelgaisti_claim *rows, size_t count, pelgaisti_dumping *at) {
+    while (at->wait < count || at->wait == SIZE_MAX) {
+        if (at->wait != SIZE_MAX) {
+            at->other = blocker_above(rows, count, at->wait, at->other);
+            if (at->other) return 1;
+        }
+        at->wait = request_above(rows, count, at->wait == SIZE_MAX ? 0 : rows[at->wait].session);
+        at->other = 0;
+    }
+    return 0;
+}
+
+pelgaisti_dumping pelgaisti_dump_begin(void) {
+    pelgaisti_dumping at = {0, SIZE_MAX, 0};
+    return at;
+}
+
+uint32_t pelgaisti_dump_line(const pelgaisti_claim *rows, size_t count, pelgaisti_dumping *at, char *text, size_t room) {
+    static const char *const kinds[] = {"transaction", "held", "conversion", "fresh"};
+    if (at->row < count) {
+        const pelgaisti_claim *row = &rows[at->row++];
+        const char *mode = row->kind ? pelgaisti_mode_name(row->mode) : "";
+        return (uint32_t)snprintf(text, room, "%s,%" PRIu32 ",%" PRIu64 ",%s,%s,%s,\n", kinds[row->kind & 3], row->session,
+                                  row->transaction, row->doomed ? "victim" : "", text_of(&row->resource).bytes, mode);
+    }
+    if (!next_wait(rows, count, at)) return 0;
+    return (uint32_t)snprintf(text, room, "waits,%" PRIu32 ",,,,,%" PRIu32 "\n", rows[at->wait].session, at->other);
+}

@@ -1,0 +1,17 @@
+use Rattle.std.proofs.Common.{◌≡◌, ℕ, suc, ◌+◌, get_or, set, ap, ◌∙◌, arith}
+use Rattle.pelgaisti_c.specs.declared.claims.ClaimNumbers.{ClaimNumbers}
+use Rattle.pelgaisti_c.specs.Calls.{written}
+use Rattle.pelgaisti_c.proofs.Writing.{next_written}
+use Rattle.pelgaisti_c.proofs.dump.write_rows.Goals as goal
+
+pub loop-k-preserved : goal.loop-k-preserved
+loop-k-preserved c =
+    let inv = c.loop-k.invariant in
+    let k = c.loop-k.k in
+    let items = c.args.rows.now in
+    let places = c.args.places.now in
+    let d : ClaimNumbers = c.index-rows-k.result in
+    let same : ClaimNumbers → ClaimNumbers = λ row. row in
+    let next = next_written same k items places d (omega (arith, c.loop-k-test.true, inv.1)) (omega (arith, c.loop-k-test.true, inv.2)) in
+    let suc_is : suc k ≡ k + 1 = omega arith in
+    (ap (λ ys. set ys k (get_or items k d)) inv.0 ∙ (next ∙ ap (λ j. written same j items places) suc_is), inv.1, inv.2)
