@@ -76,16 +76,22 @@ resources-passed st law (r ∷ rs) before longest le =
   where
     held : List (ℕ × Mode) → List ListedClaim
     held hs = map (λ h. listed_as st Held (record { session = h.0; resource = r; mode = h.1 })) hs
+
     rest : List ListedClaim
     rest = flat_map (listed_on st) rs
+
     cs : List ListedClaim
     cs = map (listed_as st Conversion) (conversions st.table r)
+
     fs : List ListedClaim
     fs = map (listed_as st Fresh) (fresh_requests st.table r)
+
     apart : listed_on st r ++ rest ≡ held (holders r st.table.held) ++ (cs ++ (fs ++ rest))
     apart = append_assoc (held (holders r st.table.held) ++ cs) fs rest ∙ append_assoc (held (holders r st.table.held)) cs (fs ++ rest)
+
     n : ℕ
     n = length (queue st.table r)
+
     go : (hs : List (ℕ × Mode)) → holders r st.table.held ≡ hs → ((b g : ℕ) → b ≤ g → longest_from b g rest ≡ max g (longest_of st.table rs))
         → longest_from before longest (held (holders r st.table.held) ++ (cs ++ (fs ++ rest))) ≡ max longest (max n (longest_of st.table rs))
     go [] is next =
