@@ -1,4 +1,4 @@
-use Rattle.std.proofs.Common.{◌≡◌, ℕ, suc, ◌+◌, get_or, set, ap, ◌∙◌, arith}
+use Rattle.std.proofs.Common.{◌≡◌, ℕ, suc, ◌+◌, [], get_or, set, ap, ◌∙◌, arith}
 use Rattle.pelgaisti_c.specs.declared.claims.ClaimNumbers.{ClaimNumbers}
 use Rattle.pelgaisti_c.specs.Calls.{written}
 use Rattle.pelgaisti_c.proofs.Writing.{next_written}
@@ -10,7 +10,7 @@ loop-k-preserved c =
     let k = c.loop-k.k in
     let items = c.args.rows.now in
     let places = c.args.places.now in
-    let d : ClaimNumbers = c.index-rows-k.result in
+    let d : ClaimNumbers = record { session = 0; kind = 0; mode = 0; doomed = 0; transaction = 0; resource = record { level = 0; numbers = [] } } in
     let same : ClaimNumbers → ClaimNumbers = λ row. row in
     let next = next_written same k items places d (omega (arith, c.loop-k-test.true, inv.1)) (omega (arith, c.loop-k-test.true, inv.2)) in
     let suc_is : suc k ≡ k + 1 = omega arith in
