@@ -32,7 +32,7 @@ SQUARE, GROWS, PARTLY, WORDS, STAYS = 4.4, 2.2, 1.6, 1.25, 1.1
 LEAST = 1.2
 # what every row has; checks/costs.c says what each is
 USUAL = {"sessions": 512, "resources": 1500, "others": 700, "elsewhere": 50, "history": 2000, "own": 40}
-HERE = {"holders": 100, "queue": 60}
+HERE = {"holders": 100, "queue": 60, "kept": 20}
 
 
 class Row:

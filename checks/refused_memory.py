@@ -8,8 +8,9 @@ In each round one allocation is refused: the first one in the first round, the s
 round is the first one in which nothing was refused.
 
 A replay, a check, a state and an explanation have to end with status 4, their line on standard error and nothing on standard
-output, in every round but one: room for all words of the command line is only a hint, and if it is refused they end as with ample
-memory. A shell may have answered its first lines, and room for the words of each line is a hint, too. A replay in pieces may have
+output, in every round but a few, in which they end as with ample memory: room for all words of the command line is only a hint, and so
+is room for the first keys of a lock table. The look-up of the first lock makes it, in four allocations, and if one of them is refused,
+the entry of that lock asks once more. A shell may have answered its first lines, and room for the words of each line is a hint, too. A replay in pieces may have
 written whole pieces of its history, and some round has to see one piece written, and some round two. A run may also end with status
 5, if the refusal kept a thread from starting, or with status 0, if it met the refusal by serving calls one after another: what it
 writes has to be a legal history in which each session's rows stand in their order. A run of one session has one try for each call: a
@@ -43,6 +44,8 @@ REFUSED = (4, b"", b"glm: out of memory\n")
 UNSTARTED = (5, b"", b"glm: device\n")
 # how many rows a piece of a history has that `replay --stream` writes
 PIECE = 4096
+# the allocations of the room for the first keys of a lock table
+KEYS = 4
 
 # the tests whose allocations are refused, by the crate: all whose names begin so
 TESTED = {
@@ -171,14 +174,15 @@ class Trial:
                     yield number, ended
 
 
-def ends(status, output, errors=b""):
-    """Whether the program ended for want of memory, in every round but the one in which it was refused the room for its words."""
+def ends(status, output, errors=b"", tables=1, more=0):
+    """Whether the program ended for want of memory, in every round but that in which it was refused the room for its words, those in
+    which it was refused the room for the first keys of so many lock tables, and some more."""
     otherwise = []
 
     def is_right(ended):
         if ended == (status, output, errors):
             otherwise.append(ended)
-            return len(otherwise) == 1
+            return len(otherwise) <= 1 + KEYS * tables + more
         return ended == REFUSED
 
     return is_right
@@ -238,7 +242,7 @@ def runs_in_pieces(rows):
 
 def ends_in_shell(given):
     """Like `ends` with status 0, but the answers to the first lines may have been written before memory was refused, and room for the
-    words of each line is only a hint, too."""
+    words of each line and for the first keys of a lock table is only a hint, too."""
     lines = given.splitlines(keepends=True)
     answers = [
         subprocess.run([PROGRAM, "shell"], input=b"".join(lines[:count]), capture_output=True, check=True, timeout=60).stdout
@@ -249,9 +253,10 @@ def ends_in_shell(given):
     def is_right(ended):
         status, output, errors = ended
         if ended == (0, answers[-1], b""):
-            # one for each line that has words, and a few more were seen where rounds side by side save to one file
+            # one for each line that has words, a few more were seen where rounds side by side save to one file, and two tables for each
+            # time that calls are taken back or explained from the first on
             hints.append(ended)
-            return len(hints) <= 2 * len(lines)
+            return len(hints) <= 2 * len(lines) + 8 * KEYS
         return (status, errors) == (4, REFUSED[2]) and output in (b"", *answers[:-1])
 
     return is_right
@@ -259,7 +264,8 @@ def ends_in_shell(given):
 
 def ends_in_file(target, history):
     """Like `ends` with status 0, but the history is in a file, of which nothing else is ever seen."""
-    is_ended = ends(0, b"")
+    # rounds run side by side, and one more was seen where they write to one file
+    is_ended = ends(0, b"", more=1)
 
     def is_right(ended):
         return is_ended(ended) and (ended[0] != 0 or target.read_bytes() == history)
@@ -280,7 +286,8 @@ def trials_of_the_program(folder):
         drawn = [] if rows is CROWD else [["timeline"]]
         for words in [*forms, ["show", "--waits"], ["stats"], ["stats", "--csv"], *drawn]:
             whole = subprocess.run([PROGRAM, *words], input=history, capture_output=True, check=True, timeout=60).stdout
-            yield Trial(f"{' '.join(words)} of {name}", [PROGRAM, *words], ends(0, whole), history)
+            tables = {"show": 1, "explain": 2, "timeline": 3}[words[0]]
+            yield Trial(f"{' '.join(words)} of {name}", [PROGRAM, *words], ends(0, whole, tables=tables), history)
         # a session that is alone is served at the first try
         one_try = ["--turns", "1"] if len(by_session(rows)) == 1 else []
         yield Trial(f"run of {name}", [PROGRAM, "run", *one_try], runs(rows), trace, quiet=3)
@@ -313,7 +320,7 @@ def trials_of_the_program(folder):
     illegal = (TOP / "examples/illegal.csv").read_bytes()
     yield Trial("check of a history that isn't legal", [PROGRAM, "check"], ends(3, b"illegal 2\n"), illegal)
     faulty = b"1,begin,,\n1,lock,01,S\n"
-    yield Trial("replay of a faulty row", [PROGRAM, "replay"], ends(1, b"", b"glm: row 2: Path LeadingZero\n"), faulty)
+    yield Trial("replay of a faulty row", [PROGRAM, "replay"], ends(1, b"", b"glm: row 2: Path LeadingZero\n", tables=0), faulty)
 
 
     line = b"glm: row 2: Path LeadingZero\n"

@@ -80,11 +80,22 @@ fn write_members(members: &[Member], places: &mut [MemberNumbers])
     }
 }
 
+/// How many members the cycles have together.
+fn count_members(deadlocks: &[Deadlock]) -> usize {
+    let mut count: usize = 0;
+    for deadlock in deadlocks {
+        count = count.saturating_add(deadlock.cycle.len());
+    }
+    count
+}
+
 /// The members of all cycles, one deadlock's behind another's. Fails if memory is refused.
 fn all_members(alloc: Global, deadlocks: &[Deadlock]) -> Result<Vec<Member>, AllocError>
     ensures { IfOk result (λ members. members.items ≡ members_of deadlocks.now) }
 {
     let mut members = Vec::new(alloc);
+    // all at once, so that nothing is copied as the list grows
+    members.reserve(count_members(deadlocks))?;
     for deadlock in deadlocks {
         members.extend_from_slice(&deadlock.cycle)?;
     }
