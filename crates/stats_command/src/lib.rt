@@ -5,6 +5,6 @@
 //! Proved: what is written, with the result, for every input, also after a fault.
 #![tactic(auto)]
 
-mod stats;
+mod telling;
 
-pub use stats::stats;
+pub use telling::stats;
