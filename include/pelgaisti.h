@@ -233,7 +233,7 @@ typedef enum pelgaisti_claim_kind {
 } pelgaisti_claim_kind;
 
 /* What a row of a dump is that is no claim: an open transaction of a session, without a mode and a resource. */
-#define PELGAISTI_TRANSACTION_ROW 0
+enum { PELGAISTI_TRANSACTION_ROW = 0 };
 
 /* A node of the lock tree, by its path from the root: database, file, page, record, field. The first `level` numbers are the
    path. */

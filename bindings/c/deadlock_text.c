@@ -1,46 +1,5 @@
 /* A deadlock as lines of text, for people, in the words of crates/explain_report/specs/DeadlockText.antt. Nothing here is proved. */
-#include "pelgaisti.h"
-
-/* MemorySanitizer, which can't see what the archive writes. A program that is built with it has this function. */
-__attribute__((weak)) void __msan_unpoison(const volatile void *at, size_t size);
-
-/* A text of the caller's, and how long it would be with room for all. */
-struct text {
-    char *at;
-    size_t room;
-    size_t length;
-};
-
-static void put(struct text *out, char letter) {
-    if (out->length + 1 < out->room) out->at[out->length] = letter;
-    out->length++;
-}
-
-static void put_words(struct text *out, const char *words) {
-    for (; *words; words++) put(out, *words);
-}
-
-static void put_number(struct text *out, uint64_t number) {
-    char digits[20]; /* the last digit first */
-    int count = 0;
-    do {
-        digits[count++] = (char)('0' + number % 10);
-        number /= 10;
-    } while (number > 0);
-    while (count > 0) put(out, digits[--count]);
-}
-
-static void put_words_and_number(struct text *out, const char *words, uint64_t number) {
-    put_words(out, words);
-    put_number(out, number);
-}
-
-/* The numbers of the path, as traces write them. */
-static void put_resource(struct text *out, const pelgaisti_resource *resource) {
-    uint32_t level;
-    for (level = 0; level < resource->level && level < PELGAISTI_LEVELS; level++)
-        put_words_and_number(out, level == 0 ? "" : "/", resource->numbers[level]);
-}
+#include "text.h"
 
 /* What a request asks for. */
 static void put_request(struct text *out, const pelgaisti_claim *request) {
@@ -79,10 +38,5 @@ size_t pelgaisti_deadlock_text(const pelgaisti_deadlock *deadlock, const pelgais
     put_words_and_number(&out, " closed a cycle, session ", victim);
     put_words(&out, " is its victim\n");
     for (k = 0; k < count; k++) put_wait(&out, &members[k], k + 1 < count ? members[k + 1].request.session : victim);
-    if (room > 0) {
-        const size_t end = out.length < room ? out.length : room - 1;
-        text[end] = 0;
-        if (__builtin_expect(__msan_unpoison != NULL, 0)) __msan_unpoison(text, end + 1);
-    }
-    return out.length;
+    return end_text(&out);
 }

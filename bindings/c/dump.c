@@ -1,21 +1,5 @@
 /* The rows of a dump as text. Nothing here is proved; checks/embedding_dump compares it with what glm show --csv writes. */
-#include <inttypes.h>
-#include <stdio.h>
-#include "pelgaisti.h"
-
-/* The text of a resource: its numbers, joined by '/'. Five numbers of up to ten digits. */
-typedef struct resource_text {
-    char bytes[56];
-} resource_text;
-
-static resource_text text_of(const pelgaisti_resource *resource) {
-    resource_text text = {""};
-    size_t length = 0;
-    for (uint32_t level = 0; level < resource->level && level < PELGAISTI_LEVELS; level++)
-        length += (size_t)snprintf(text.bytes + length, sizeof text.bytes - length, level ? "/%" PRIu32 : "%" PRIu32,
-                                   resource->numbers[level]);
-    return text;
-}
+#include "text.h"
 
 static int is_on(const pelgaisti_claim *row, const pelgaisti_claim *other) {
     if (row->kind == 0 || row->resource.level != other->resource.level) return 0;
@@ -73,14 +57,27 @@ pelgaisti_dumping pelgaisti_dump_begin(void) {
     return at;
 }
 
+/* A row of a session, of a kind: what it has open, a lock or a request. */
+static void put_row(struct text *out, const pelgaisti_claim *row) {
+    static const char *const kinds[] = {"transaction,", "held,", "conversion,", "fresh,"};
+    put_words_and_number(out, kinds[row->kind & 3], row->session);
+    put_words_and_number(out, ",", row->transaction);
+    put_words(out, row->doomed ? ",victim," : ",,");
+    put_resource(out, &row->resource);
+    put(out, ',');
+    if (row->kind) put_words(out, pelgaisti_mode_name(row->mode));
+    put_words(out, ",\n");
+}
+
 uint32_t pelgaisti_dump_line(const pelgaisti_claim *rows, size_t count, pelgaisti_dumping *at, char *text, size_t room) {
-    static const char *const kinds[] = {"transaction", "held", "conversion", "fresh"};
+    struct text out = {text, room, 0};
     if (at->row < count) {
-        const pelgaisti_claim *row = &rows[at->row++];
-        const char *mode = row->kind ? pelgaisti_mode_name(row->mode) : "";
-        return (uint32_t)snprintf(text, room, "%s,%" PRIu32 ",%" PRIu64 ",%s,%s,%s,\n", kinds[row->kind & 3], row->session,
-                                  row->transaction, row->doomed ? "victim" : "", text_of(&row->resource).bytes, mode);
+        put_row(&out, &rows[at->row++]);
+        return (uint32_t)end_text(&out);
     }
     if (!next_wait(rows, count, at)) return 0;
-    return (uint32_t)snprintf(text, room, "waits,%" PRIu32 ",,,,,%" PRIu32 "\n", rows[at->wait].session, at->other);
+    put_words_and_number(&out, "waits,", rows[at->wait].session);
+    put_words_and_number(&out, ",,,,,", at->other);
+    put(&out, '\n');
+    return (uint32_t)end_text(&out);
 }
