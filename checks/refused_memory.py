@@ -286,7 +286,7 @@ def trials_of_the_program(folder):
         drawn = [] if rows is CROWD else [["timeline"]]
         for words in [*forms, ["show", "--waits"], ["stats"], ["stats", "--csv"], *drawn]:
             whole = subprocess.run([PROGRAM, *words], input=history, capture_output=True, check=True, timeout=60).stdout
-            tables = {"show": 1, "explain": 2, "timeline": 3}[words[0]]
+            tables = {"show": 1, "explain": 2, "stats": 2, "timeline": 3}[words[0]]
             yield Trial(f"{' '.join(words)} of {name}", [PROGRAM, *words], ends(0, whole, tables=tables), history)
         # a session that is alone is served at the first try
         one_try = ["--turns", "1"] if len(by_session(rows)) == 1 else []
