@@ -106,7 +106,7 @@ enum class start : uint32_t { nothing = 0, begins, commits, aborts, commits_and_
 struct dump {
     uint64_t place;
     std::vector<pelgaisti_claim> rows;
-    // The rows of `glm show --csv`, which `glm show --state` reads.
+    // The rows of `glm show --csv`.
     std::string text() const {
         std::string all;
         char line[128];
