@@ -37,18 +37,11 @@ mod book;
 mod cell_table;
 mod cells;
 mod deadlock_log;
-mod ended;
-mod holder_columns;
-mod holders;
 mod lock_table;
 mod lockers;
-mod locks;
 mod object;
-mod positions;
 mod promotion;
 mod recording;
-mod resource_order;
-mod seeded;
 mod tending;
 mod waits;
 
