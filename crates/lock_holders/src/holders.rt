@@ -5,8 +5,8 @@ ghost use Rattle.waits_for.specs.Pairs.{pairs_of};
 ghost use Rattle.lock_holders.specs.SessionModes.{has_session, mode_of, pair_of, with_holder, without, codes_among, fits_among, holder_blocks, AreOfSessions};
 ghost use Rattle.lock_holders.specs.Holders.{IsPlaceOf};
 
-use crate::session_mode::SessionMode;
 use crate::holder_columns::{Columns, HolderPlace};
+use crate::session_mode::SessionMode;
 use lock_modes::Mode;
 use session_sets::position_of;
 use std::alloc::{AllocError, Global};
