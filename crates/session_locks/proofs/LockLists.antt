@@ -1,5 +1,5 @@
 -- The locks of a session as two lists: the indexed locks and the recent ones.
-use Rattle.std.proofs.Common.{◌≡◌, ℕ, zero, suc, ◌-◌, ◌<◌, ◌≤◌, Bool, true, false, cond, ◌||◌, List, [], ◌∷◌, ◌++◌, length, length-append, get_or, set, take, drop, slice_get, unwrap_or, Option, None, Some, IfSome, refl, sym, ◌∙◌, ap, arith, subst, inl, inr}
+use Rattle.std.proofs.Common.{◌≡◌, ℕ, zero, suc, ◌-◌, ◌<◌, ◌≤◌, Bool, true, false, cond, ◌||◌, List, [], ◌∷◌, ◌++◌, length, length-append, get_or, set, take, drop, slice_get, unwrap_or, Option, None, Some, IfSome, Result, Ok, Err, IsOk, OnOk, refl, sym, ◌∙◌, ap, arith, subst, inl, inr}
 use Rattle.std.specs.Map.{keys_of, values_of, lookup, lookup_key}
 use Rattle.std.proofs.lemmas.Map.Made.{lookup_key_passes}
 use Rattle.std.proofs.lemmas.Option.{slice_get_within, slice_get-get_or}
@@ -286,3 +286,10 @@ module _ (ks qs : List (List ℕ)) (p : ℕ) (lt : p < length ks) (q : List ℕ)
 
   pub indexed-under : has_child q (ks ++ qs) ≡ false → AreUnder ks qs → AreUnder (swap_remove ks p []) qs
   indexed-under n u = under-less q ks (swap_remove ks p []) qs indexed-has (or_parts (has_child q ks) (has_child q qs) (sym (has_child-append q ks qs) ∙ n)).1 u
+
+-- a key is added to the index
+
+-- the fact that a success states holds of a result that is one
+pub from-ok : {T E : Type 0} (r : Result T E) (P : Type 0) → IsOk r → OnOk r P → P
+from-ok (Ok x) P i h = h
+from-ok (Err e) P i h = absurd (cc)

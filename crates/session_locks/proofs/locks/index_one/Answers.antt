@@ -3,9 +3,8 @@ use Rattle.std.specs.Map.{keys_of, values_of}
 use Rattle.indexmap.proofs.CallerLemmas.{insert_entry-new}
 use Rattle.session_locks.specs.Resources.{has_path}
 use Rattle.session_locks.specs.inner.ChildCounts.{DoCount}
-use Rattle.lock_desk.proofs.Results.{from-ok}
 use Rattle.session_locks.proofs.ChildCounts.{pushed-counts}
-use Rattle.session_locks.proofs.LockLists.{keys-push, values-push, keys-long, values-long, new-found}
+use Rattle.session_locks.proofs.LockLists.{from-ok, keys-push, values-push, keys-long, values-long, new-found}
 use Rattle.session_locks.proofs.locks.index_one.Goals as goal
 
 pub returns-clause-keys : goal.returns-clause-keys
