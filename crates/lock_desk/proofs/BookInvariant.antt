@@ -14,7 +14,7 @@ use Rattle.lock_rules.proofs.Histories.{legal-push, state_of-push}
 use Rattle.lock_desk.specs.declared.lockers.Locker.{Locker}
 use Rattle.lock_desk.specs.inner.Lockers.{no_standing, standing_of, standings_of, standing_at}
 use Rattle.lock_desk.specs.inner.Changes.{with_ended, with_ended_count, IsWhole, HasNotedEnded}
-use Rattle.lock_desk.specs.inner.Ended.{EndedView, is_ended, ended_in}
+use Rattle.session_sets.specs.Ended.{EndedView, is_ended, ended_in}
 use Rattle.lock_desk.specs.declared.lock_table.LockTable.{LockTable}
 use Rattle.lock_desk.specs.inner.Ready.{IsReadyTable}
 use Rattle.lock_desk.specs.inner.Shows.{Shows}
@@ -27,7 +27,7 @@ use Rattle.sequential.specs.Histories.{IsEntryWithin}
 use Rattle.lock_desk.specs.inner.Invariant.{book_view_of, IsKept}
 use Rattle.lock_desk.specs.declared.book.Book.TheInside.{Inside}
 use Rattle.waits_for.specs.declared.TheConstants.{MAX_SESSIONS}
-use Rattle.lock_desk.proofs.EndedList.{any-among, same-numbers, none-waits_ended}
+use Rattle.session_sets.proofs.EndedList.{any-among, same-numbers, none-waits_ended}
 use Rattle.lock_desk.proofs.EndedWaits.{whole-relisted, ready-relisted, shows-relisted}
 use Rattle.lock_desk.proofs.Simulation.{waits-shown}
 

@@ -1,11 +1,6 @@
 -- what only private contracts cite
-pub mod Holders
 pub mod Cells
-pub mod Columns
-pub mod SingleHolder
 pub mod Tables
-pub mod ChildCounts
-pub mod LockLists
 pub mod Requests
 pub mod Lockers
 pub mod Ended

@@ -17,9 +17,9 @@ ghost use Rattle.lock_desk.specs.inner.Shows.{Shows};
 ghost use Rattle.lock_desk.specs.inner.Noting.{HasNoted, IsLogFor, AreAlike};
 
 use crate::lock_table::LockTable;
-use crate::positions::{position_of, session_at};
 use lock_modes::Mode;
 use lock_rules::{Claim, MAX_SESSIONS};
+use session_sets::{position_of, session_at};
 use std::alloc::{AllocError, Global};
 use std::marker::Model;
 use wait_cycles::CycleSearch;

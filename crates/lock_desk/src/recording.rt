@@ -5,7 +5,7 @@ ghost use Rattle.lock_rules.specs.Step.{step};
 ghost use Rattle.lock_rules.specs.Ended.{has_ended};
 ghost use Rattle.lock_rules.specs.Legal.{state_of};
 ghost use Rattle.lock_desk.specs.Deadlocks.{AreDeadlocksTold, deadlocks_in, newest};
-ghost use Rattle.lock_desk.specs.inner.Ended.{is_ended};
+ghost use Rattle.session_sets.specs.Ended.{is_ended};
 ghost use Rattle.lock_desk.specs.inner.Noting.{IsLogFor};
 ghost use Rattle.lock_desk.specs.inner.Runs.{AreKept};
 

@@ -15,10 +15,10 @@ ghost use Rattle.lock_desk.specs.inner.Shows.{Shows, DoesAnswer};
 
 use crate::deadlock_log::DeadlockLog;
 use crate::lock_table::LockTable;
-use crate::positions::position_of;
 use lock_modes::Mode;
 use lock_rules::{Call, Reply, Why};
 use lock_tree::Resource;
+use session_sets::position_of;
 use std::alloc::AllocError;
 
 impl LockTable {

@@ -5,7 +5,7 @@ use Rattle.lock_rules.specs.Entries.{Entry}
 use Rattle.lock_rules.specs.Legal.{IsLegal, state_of}
 use Rattle.lock_desk.specs.inner.Shows.{Shows}
 use Rattle.lock_desk.specs.Deadlocks.{AreDeadlocksTold, deadlocks_in, newest}
-use Rattle.lock_desk.proofs.EndedList.{none-in}
+use Rattle.session_sets.proofs.EndedList.{none-in}
 use Rattle.lock_desk.proofs.book.Book.with_seed.Goals as goal
 
 pub invariant_of-result : goal.invariant_of-result

@@ -8,7 +8,7 @@ use Rattle.lock_desk.specs.Batches.{Item}
 use Rattle.sequential.specs.Batches.{IsItemWithin}
 use Rattle.lock_desk.specs.inner.Cells.{HasRoomAt}
 use Rattle.lock_rules.specs.Legal.{state_of}
-use Rattle.lock_desk.specs.inner.Ended.{ended_in}
+use Rattle.session_sets.specs.Ended.{ended_in}
 use Rattle.lock_desk.specs.Deadlocks.{deadlocks_in}
 use Rattle.lock_desk.specs.inner.Runs.{mode_asked, CanGrant, GoesBeside, AreKept, AreServed}
 use Rattle.lock_desk.proofs.Batches.{entry_of, with_reply, ends-none, served-next}

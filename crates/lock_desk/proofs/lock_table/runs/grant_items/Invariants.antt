@@ -4,7 +4,7 @@ use Rattle.lock_rules.specs.Entries.{Entry}
 use Rattle.lock_desk.specs.Batches.{Item}
 use Rattle.sequential.specs.Batches.{IsItemWithin}
 use Rattle.lock_desk.specs.Deadlocks.{deadlocks_in}
-use Rattle.lock_desk.specs.inner.Ended.{ended_in}
+use Rattle.session_sets.specs.Ended.{ended_in}
 use Rattle.lock_desk.specs.inner.Runs.{IsGranting, AreKept, AreServed}
 use Rattle.lock_desk.proofs.lock_table.runs.grant_items.Given as goal
 
