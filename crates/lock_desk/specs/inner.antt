@@ -9,6 +9,7 @@ pub mod LockLists
 pub mod Requests
 pub mod Lockers
 pub mod Ended
+pub mod Counting
 pub mod Noting
 pub mod Blocking
 pub mod Ready

@@ -34,8 +34,10 @@
 #![tactic(auto)]
 
 mod book;
+mod call_counts;
 mod cell_table;
 mod cells;
+mod counts;
 mod deadlock_log;
 mod ended;
 mod holder_columns;
@@ -50,9 +52,11 @@ mod recording;
 mod resource_order;
 mod seeded;
 mod tending;
+mod wait_counts;
 mod waits;
 
 pub use book::{Book, Item, PathLocked, grants, lock_of_level, pages_tell_each_lock_once};
+pub use counts::{Calls, Counts, Refusals};
 pub use deadlock_log::{Deadlock, Member};
 pub use lock_modes::Mode;
 pub use lock_rules::{
