@@ -1,5 +1,5 @@
 -- The calls of a history are counted, and one call more; and the waits that a session gives up.
-use Rattle.std.proofs.Common.{◌≡◌, ℕ, zero, suc, ◌+◌, ◌-◌, ◌*◌, ◌<◌, ◌≤◌, ◌%◌, ◌^◌, Bool, true, false, cond, not, eqb, ◌&&◌, List, [], ◌∷◌, ◌++◌, length, get_or, Option, Some, None, is_some, refl, sym, ◌∙◌, ap, subst, arith, length-append}
+use Rattle.std.proofs.Common.{◌≡◌, ℕ, zero, suc, ◌+◌, ◌-◌, ◌*◌, ◌<◌, ◌≤◌, ◌%◌, ◌^◌, Bool, true, false, cond, not, eqb, ◌&&◌, List, [], ◌∷◌, ◌++◌, length, map, get_or, Option, Some, None, is_some, refl, sym, ◌∙◌, ap, subst, arith, length-append}
 use Rattle.std.proofs.lemmas.Bool.{cases_Bool, true≢false}
 use Rattle.std.proofs.lemmas.Bool.Decides.{Decides-eqb}
 use Rattle.lock_modes.specs.declared.Mode.{Mode}
@@ -96,7 +96,7 @@ module _ (st : State) (n : IsNumbered st) (s : ℕ) where
   -- nor does it behind the end of its transaction
   ended-waits-not : is_some (request_of s (after_end s st.table).requests) ≡ false
   ended-waits-not =
-      thinned-waits-not s (claims_but s st.table.requests) (after_end s st.table).requests (thin-promotions _ (without_claims s st.table))
+      thinned-waits-not s (claims_but s st.table.requests) (after_end s st.table).requests (thin-promotions (resource_of_request (request_of s st.table.requests) ++ map (λ (c : Claim). c.resource) (claims_of s st.table.held)) (without_claims s st.table))
       (ap (λ (o : Option Claim). is_some o) (request_of-claims_but s st.table.requests))
 
   -- a call whose one test is that there is a transaction, and which ends the session's wait

@@ -1,9 +1,9 @@
 //! Counters of calls, by their operation and the kind of their reply, and of refusals, by their reason.
 
-ghost use Rattle.std.specs.Prelude.{◌≡◌, ℕ, ◌+◌, ◌%◌, ◌^◌, ◌<◌, ◌&&◌, ◌==◌, if◌then◌else◌, List, [], ◌∷◌, ◌++◌, length, slice_index_or};
+ghost use Rattle.std.specs.Prelude.{◌≡◌, ℕ, ◌+◌, ◌-◌, ◌%◌, ◌^◌, ◌<◌, ◌&&◌, ◌==◌, if◌then◌else◌, List, [], ◌∷◌, ◌++◌, length, slice_index_or};
 ghost use Rattle.lock_rules.specs.Kinds.{number_of_kind, op_of_call, kind_of_reply};
 ghost use Rattle.lock_rules.specs.Entries.{Entry as EntryValue};
-ghost use Rattle.lock_counts.specs.Counts.{count_if, is_kind, is_request, is_refusal_numbered, calls, replies, refusals, granted_at_once, requests_refused, waits_begun, waits_withdrawn};
+ghost use Rattle.lock_counts.specs.Counts.{count_if, is_kind, is_request, is_refusal_numbered, calls, replies, refusals};
 ghost use Rattle.lock_counts.specs.Tallies.{cell_of};
 ghost use Rattle.lock_desk.specs.inner.Counting.{AreCallsCounted};
 

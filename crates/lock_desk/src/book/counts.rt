@@ -1,8 +1,7 @@
 //! The counters of a book.
 
-ghost use Rattle.std.specs.Prelude.{◌≡◌, ℕ, ◌+◌, ◌<◌, ◌^◌, List, length};
+ghost use Rattle.std.specs.Prelude.{◌≡◌, ◌<◌, ◌^◌, List, length};
 ghost use Rattle.lock_rules.specs.Entries.{Entry as EntryValue};
-ghost use Rattle.lock_counts.specs.Counts.{requests, granted_at_once, requests_refused, waits_begun, waits_withdrawn};
 ghost use Rattle.lock_desk.specs.Counts.{calls_of, refusals_of, counts_of};
 ghost use Rattle.lock_desk.specs.inner.Counting.{AreCallsCounted};
 
@@ -68,22 +67,21 @@ impl Book {
         let withdrawn = calls.replied(Op::Withdraw, ReplyKind::Withdrawn);
         let ended = self.deadlocks.counts();
         let waiting = self.lock_table.waiting();
-        let otherwise = ended
-            .victims
-            .saturating_add(withdrawn)
-            .saturating_add(ended.aborted)
-            .saturating_add(ended.restarted)
-            .saturating_add(waiting);
+        let doomed_or_withdrawn = ended.victims.saturating_add(withdrawn);
+        let own = ended.aborted.saturating_add(ended.restarted);
+        let not_granted = doomed_or_withdrawn.saturating_add(own);
+        let otherwise = not_granted.saturating_add(waiting);
+        let waits_granted = waits_begun.saturating_sub(otherwise);
+        let not_refused = granted_at_once.saturating_add(waits_begun);
+        let requests = not_refused.saturating_add(requests_refused);
         Counts {
             calls: calls_of(calls),
             refusals: refusals_of(calls),
-            requests: granted_at_once
-                .saturating_add(waits_begun)
-                .saturating_add(requests_refused),
+            requests,
             granted_at_once,
             requests_refused,
             waits_begun,
-            waits_granted: waits_begun.saturating_sub(otherwise),
+            waits_granted,
             victims: ended.victims,
             waits_withdrawn: withdrawn,
             waits_aborted: ended.aborted,
