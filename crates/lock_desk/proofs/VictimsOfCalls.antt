@@ -220,9 +220,12 @@ module _ (st : State) (i : IsSound st.table) (calm : DoDoomedWaitForNothing st) 
       -- none is doomed yet
       none-first : doomed_among qs first ≡ 0
       none-first =
-          omega (arith, count-append (λ (q : Claim). is_doomed st q.session) st.table.requests (new s r m ∷ []),
-          count-none (λ (q : Claim). is_doomed st q.session) st.table.requests (λ q k. waiter-calm st calm s q.session (member-waits q st.table.requests k)),
-          ap one_if idle)
+          omega (
+            arith,
+            count-append (λ (q : Claim). is_doomed st q.session) st.table.requests (new s r m ∷ []),
+            count-none (λ (q : Claim). is_doomed st q.session) st.table.requests (λ q k. waiter-calm st calm s q.session (member-waits q st.table.requests k)),
+            ap one_if idle,
+          )
 
       -- of those that waited before, the doomed are others whose wait has ended
       others : doomed_by st (record { session = s; call = Lock r x; reply = told (is_doomed after s) (is_waiting after s) k }) after ≡ doomed_among st.table.requests after
@@ -331,8 +334,13 @@ victims-from [] front place st is l = refl
 victims-from (e ∷ es) front place st is l =
     let next : state_of (front ++ e ∷ []) ≡ (step st e.session e.call).state = state_of-push front e ∙ ap (λ (x : State). (step x e.session e.call).state) is in
     let sts = deadlocks_of st e.session e.call in
-    omega (arith, entry-victims e front st is l.0, length-append (moments_at place e.session sts) (deadlocks_from (place + 1) (step st e.session e.call).state es),
-    counted place e.session sts, victims-from es (front ++ e ∷ []) (place + 1) (step st e.session e.call).state next l.1)
+    omega (
+      arith,
+      entry-victims e front st is l.0,
+      length-append (moments_at place e.session sts) (deadlocks_from (place + 1) (step st e.session e.call).state es),
+      counted place e.session sts,
+      victims-from es (front ++ e ∷ []) (place + 1) (step st e.session e.call).state next l.1,
+    )
 
 -- a legal history has as many victims as deadlocks are told of it
 pub all-victims : (h : List Entry) → IsLegal h → length (deadlocks_in h) ≡ waits_doomed h

@@ -84,7 +84,7 @@ pub waiting-counted : (d : LockTable) (st : rules.State) → IsWhole d → IsSou
 waiting-counted d st w i h within =
     let n = length d.lockers.items in
     let all = count-standings (standings d) 0 st.table.requests (λ j lt.
-        let same : j ≡ 0 + j = omega arith in
-        ap one_if (waits-shown d st j w h) ∙ (sym (times-waiting j st.table.requests i.once) ∙ ap (λ (k : ℕ). times k st.table.requests) same)) in
+    let same : j ≡ 0 + j = omega arith in
+    ap one_if (waits-shown d st j w h) ∙ (sym (times-waiting j st.table.requests i.once) ∙ ap (λ (k : ℕ). times k st.table.requests) same)) in
     let long : length (standings d) ≡ suc n = omega (arith, length-standings d.lockers.items) in
     omega (arith, count-lockers d.lockers.items, all, ap (λ (m : ℕ). requests_from 0 m st.table.requests) long, requests-all n st.table.requests (λ q k. (within q k).1))
