@@ -200,3 +200,7 @@ waits-same h s c reply w r m is same a =
 -- of no calls, none are counted
 pub none-counted : AreWaitsCounted [] no_waits
 none-counted = record { victims = record { victims = refl; closing = refl; last = refl }; aborted = refl; restarted = refl }
+
+-- nor are any where there are none
+pub waits-none : (h : List Entry) (c : WaitCounts) → h ≡ [] → c ≡ no_waits → AreWaitsCounted h c
+waits-none h c none is = subst (λ (es : List Entry). AreWaitsCounted es c) (sym none) (subst (AreWaitsCounted []) (sym is) none-counted)
