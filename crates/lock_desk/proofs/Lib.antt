@@ -67,6 +67,8 @@ pub mod WaitsOfTheState
 pub mod VictimRounds
 -- no more requests wait than there are sessions
 pub mod FewRequests
+-- what is counted of victims
+pub mod VictimsCounted
 -- what a log tells
 pub mod DeadlocksTold
 -- the deadlocks that are noted while victims are chosen
@@ -88,6 +90,12 @@ pub mod RunItems
 pub mod Granting
 -- the deadlocks of a call, and those of a history with one more entry
 pub mod DeadlocksOfCalls
+-- as many victims are counted as the history has
+pub mod VictimsOfCalls
+-- as many sessions wait as there are requests
+pub mod WaitersCounted
+-- one call more is counted
+pub mod CallsCounted
 -- a batch, one item further
 pub mod Batches
 -- the sessions for which one waits, by number

@@ -4,6 +4,7 @@ pub mod Tables
 pub mod Requests
 pub mod Lockers
 pub mod Ended
+pub mod Counting
 pub mod Noting
 pub mod Blocking
 pub mod Ready

@@ -32,8 +32,10 @@
 #![tactic(auto)]
 
 mod book;
+mod call_counts;
 mod cell_table;
 mod cells;
+mod counts;
 mod deadlock_log;
 mod lock_table;
 mod lockers;
@@ -41,9 +43,11 @@ mod object;
 mod promotion;
 mod recording;
 mod tending;
+mod wait_counts;
 mod waits;
 
 pub use book::{Book, Item, PathLocked, grants, lock_of_level, pages_tell_each_lock_once};
+pub use counts::{Calls, Counts, Refusals};
 pub use deadlock_log::{Deadlock, Member};
 pub use lock_modes::Mode;
 pub use lock_rules::{

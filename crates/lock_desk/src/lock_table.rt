@@ -17,6 +17,7 @@ ghost use Rattle.lock_desk.specs.inner.Shows.{Shows};
 
 mod calls;
 mod deadlocks;
+mod gauges;
 mod grants;
 mod listing;
 mod memory;
