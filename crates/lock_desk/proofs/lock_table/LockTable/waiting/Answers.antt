@@ -1,4 +1,4 @@
-use Rattle.std.proofs.Common.{◌≡◌, ◌∙◌, ℕ, is_some, length, take, List, ap, sym, refl, arith}
+use Rattle.std.proofs.Common.{◌+◌, ◌≡◌, ◌∙◌, ℕ, is_some, length, take, List, ap, sym, refl, arith}
 use Rattle.std.proofs.Math.Seq.{take-length}
 use Rattle.lock_counts.specs.Counts.{one_if, count_if}
 use Rattle.lock_counts.proofs.Counting.{count-next, count-le}
