@@ -2,7 +2,8 @@
 use Rattle.std.proofs.Common.{◌≡◌, inl, ℕ, ◌+◌, Bool, true, false, Option, Some, None, IfSome, IfNone, [], ◌∷◌, length, refl, sym, subst, arith, length-append}
 use Rattle.sequential.specs.Histories.{calls_of}
 use Rattle.publication.specs.Views.{IsAccountedIn, entry, answer}
-use Rattle.publication.specs.Kinds.{Seated, opening, in_hand, bypassing, none_unlinked, answering, entering}
+use Rattle.publication.specs.Sleep.{Sleep}
+use Rattle.publication.specs.Kinds.{Seated, with_sleep, opening, in_hand, bypassing, none_unlinked, answering, entering}
 use Rattle.publication.specs.inner.Tickets.{IsBetweenCalls}
 
 module _ {O C R : Type 0} (m m' : Seated O C R) (number seen : ℕ) (b p l r : Bool) (t : IsBetweenCalls m number seen b p l r) (has : b ≡ true) where
@@ -117,6 +118,31 @@ module _ {O C R : Type 0} (m m' : Seated O C R) (number seen : ℕ) (b p l r : B
     wide = t.wide;
     all_made = t.all_made;
     accounted = inl (subst (λ (x : Seated O C R). calls_of m.0.number x.0.front ≡ x.0.own.collected) is calls);
+    no_head_seen = t.no_head_seen;
+    whole = t.whole;
+    routed = t.routed;
+    unknown = t.unknown;
+    carried = t.carried;
+  }
+
+module _ {O C R : Type 0} (m m' : Seated O C R) (number seen : ℕ) (b p l r : Bool) (t : IsBetweenCalls m number seen b p l r) where
+  -- After a step of sleep.
+  pub slept-between : (z : Sleep) → m' ≡ (with_sleep m.0 z, m.1) → IsBetweenCalls m' number seen b p l r
+  slept-between z is = subst (λ (x : Seated O C R). IsBetweenCalls x number seen b p l r) (sym is) record {
+    number_is = t.number_is;
+    some_number = t.some_number;
+    seen_is = t.seen_is;
+    started = t.started;
+    retired = t.retired;
+    pending = t.pending;
+    object = t.object;
+    hand = t.hand;
+    listed = t.listed;
+    heard_few = t.heard_few;
+    heard = t.heard;
+    wide = t.wide;
+    all_made = t.all_made;
+    accounted = t.accounted;
     no_head_seen = t.no_head_seen;
     whole = t.whole;
     routed = t.routed;
