@@ -76,4 +76,4 @@ module _ {O C R : Type 0} {obj : Ghosts O C R} {bound : Bounds} where
   joins_bounded {id} {v} {other} {w} {both} same none t s b me apart beside = record { ruled = t s b.ruled me apart beside; within = b.within; sleepers = sleepers_joined s id v other w both me apart beside same none b.sleepers }
 
   pub gathers_bounded : {id : ℕ} {v : View C R} {other : ℕ} {w both : View C R} → both.sleep ≡ taking_over v.sleep w.sleep → Joins (IsRuled obj) id v other w both blank → Joins (IsBounded obj bound) id v other w both blank
-  gathers_bounded {id} {v} {other} {w} {both} takes t s b me apart beside = record { ruled = t s b.ruled me apart beside; within = b.within; sleepers = sleepers_gathered s id v other w both me apart beside takes b.sleepers }
+  gathers_bounded {id} {v} {other} {w} {both} same t s b me apart beside = record { ruled = t s b.ruled me apart beside; within = b.within; sleepers = sleepers_gathered s id v other w both me apart beside same b.sleepers }

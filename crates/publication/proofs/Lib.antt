@@ -32,6 +32,7 @@ pub mod SplitsAndJoins
 pub mod Learning
 pub mod SleepKinds
 pub mod SleepLaws
+pub mod AtRest
 pub mod Closed
 pub mod Gathering
 pub mod Collected

@@ -107,8 +107,8 @@ module _ {O C R : Type 0} where
 
     -- What the seat that is taken in owes is taken over.
     pub sleepers_gathered : both.sleep ≡ taking_over v.sleep w.sleep → HasHeededSleepers s → HasHeededSleepers joint
-    sleepers_gathered takes h = record {
-      heeded = joined_on (word s 0) (length s.homes) (sleep_word s) (sleep_at s) (sleep_at joint) id other v.sleep w.sleep (taking_over v.sleep w.sleep) (was_here s id v both s.words s.homes me) its_sleep (took_here ∙ takes) it_ends the_others
+    sleepers_gathered same h = record {
+      heeded = joined_on (word s 0) (length s.homes) (sleep_word s) (sleep_at s) (sleep_at joint) id other v.sleep w.sleep (taking_over v.sleep w.sleep) (was_here s id v both s.words s.homes me) its_sleep (took_here ∙ same) it_ends the_others
           (record {
             own = (refl, refl, refl, refl);
             ended = takes_ended v.sleep w.sleep;

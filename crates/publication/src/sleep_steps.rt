@@ -4,7 +4,7 @@
 //! A record's sleep word lies in the cache line of its state word, the board's in that of the lock word.
 ghost use Rattle.std.specs.Prelude.{◌≡◌, ◌+◌, ◌≤◌, ◌≢◌, ℕ, ◌∷◌, [], true, false};
 ghost use Rattle.publication.specs.Kinds.{with_sleep};
-ghost use Rattle.publication.specs.Sleep.{lain, having_told, having_seen, risen, having_looked, sweeping, passing, rousing, waking, but_latest, HasNoDebts, IsAtRest, IsSameDebts, IsSameSleep};
+ghost use Rattle.publication.specs.Sleep.{lain, having_told, having_seen, risen, having_looked, sweeping, passing, rousing, waking, but_latest, HasNoDebts, IsAtRest, IsSameSleep};
 ghost use Rattle.publication.specs.inner.Tickets.{IsBoard, IsAt};
 
 use crate::kinds::{
@@ -97,13 +97,15 @@ pub(crate) fn get_up<O: Sequential>(shared: &Shared<O>, seat: &mut Seat<O>, at: 
     shared.store::<GetUp>(seat, at * WORDS_APART + SLEEP, AWAKE);
 }
 
-/// Sleeps until the session's sleep word is AWAKE, or for no reason. The session has begun a sleep and seen the lock word held since.
+/// Sleeps until the session's sleep word is AWAKE, or for no reason. The session has begun a sleep and seen the lock word held since. Its
+/// seat has neither a look nor a wake-up to make, so no other session waits for what this thread has to do.
 fn park<O: Sequential, R: Wait>(rt: &R, shared: &Shared<O>, seat: &Seat<O>, at: usize)
     requires ours { seat.now.table_id ≡ shared.now.table_id }
     requires board { IsBoard shared.now.table_id }
     requires at { IsAt shared.now.table_id at }
     requires mine { seat.now.me.0.number ≡ at }
     requires down { (seat.now.me.0.sleep.down ≡ true) × (seat.now.me.0.sleep.saw ≡ true) }
+    requires rest { IsAtRest seat.now.me.0.sleep }
 {
     let _seat = seat;
     shared.park(rt, at * WORDS_APART + SLEEP, ASLEEP as u32);
@@ -183,7 +185,7 @@ fn rouse_and_wake<O: Sequential>(shared: &Shared<O>, seat: &mut Seat<O>, at: usi
 }
 
 /// The look behind a release: if a session may sleep, looks at each record and wakes the threads of all sessions that sleep. Reads one
-/// word if none does. Returns how many it woke. A seat that had no record to look at and no wake-up to make has neither afterwards.
+/// word if none does. Returns how many it woke.
 pub(crate) fn wake_sleepers<O: Sequential>(
     shared: &Shared<O>,
     seat: &mut Seat<O>,
@@ -193,10 +195,11 @@ pub(crate) fn wake_sleepers<O: Sequential>(
     requires board { IsBoard shared.now.table_id }
     requires slots { shared.now.table_id.slots ≡ sessions + 1 }
     requires mine { seat.old.me.0.number ≢ 0 }
+    requires debts { HasNoDebts seat.old.me.0.sleep }
     ensures ours { seat.new.table_id ≡ seat.old.table_id }
     ensures step { seat.new.me ≡ (with_sleep seat.old.me.0 seat.new.me.0.sleep, seat.old.me.1) }
     ensures own { IsSameSleep seat.old.me.0.sleep seat.new.me.0.sleep }
-    ensures rest { HasNoDebts seat.old.me.0.sleep → IsAtRest seat.new.me.0.sleep }
+    ensures rest { IsAtRest seat.new.me.0.sleep }
     ensures few { result ≤ sessions }
 {
     let mut woken = 0;
@@ -226,10 +229,11 @@ fn sleep_until_roused<O: Sequential, R: Wait>(
     requires at { IsAt shared.now.table_id at }
     requires mine { seat.old.me.0.number ≡ at }
     requires down { (seat.old.me.0.sleep.down ≡ true) × (seat.old.me.0.sleep.told ≡ true) }
+    requires rest { IsAtRest seat.old.me.0.sleep }
     ensures ours { seat.new.table_id ≡ seat.old.table_id }
     ensures step { seat.new.me ≡ (with_sleep seat.old.me.0 seat.new.me.0.sleep, seat.old.me.1) }
     ensures up { seat.new.me.0.sleep.down ≡ false }
-    ensures debts { IsSameDebts seat.old.me.0.sleep seat.new.me.0.sleep }
+    ensures rest { IsAtRest seat.new.me.0.sleep }
 {
     for _ in rt.forever() {
         if !sees_held(shared, seat) {
@@ -244,22 +248,28 @@ fn sleep_until_roused<O: Sequential, R: Wait>(
     unreachable!()
 }
 
-/// Sleeps, as the session's thread, until some seat ends the sleep, or the lock word is free. Returns at once if it is free.
+/// Makes the look that the seat may have to make, and sleeps, as the session's thread, until some seat ends the sleep, or the lock word is
+/// free. Returns at once if it is free.
 pub(crate) fn sleep<O: Sequential, R: Wait>(
     rt: &R,
     shared: &Shared<O>,
     seat: &mut Seat<O>,
-    at: usize,
+    at: u16,
+    sessions: u16,
 )
     requires ours { seat.old.table_id ≡ shared.now.table_id }
     requires board { IsBoard shared.now.table_id }
     requires at { IsAt shared.now.table_id at }
+    requires slots { shared.now.table_id.slots ≡ sessions + 1 }
     requires mine { seat.old.me.0.number ≡ at }
+    requires debts { HasNoDebts seat.old.me.0.sleep }
     ensures ours { seat.new.table_id ≡ seat.old.table_id }
     ensures step { seat.new.me ≡ (with_sleep seat.old.me.0 seat.new.me.0.sleep, seat.old.me.1) }
     ensures up { seat.new.me.0.sleep.down ≡ false }
-    ensures debts { IsSameDebts seat.old.me.0.sleep seat.new.me.0.sleep }
+    ensures rest { IsAtRest seat.new.me.0.sleep }
 {
+    let _woken = wake_sleepers(shared, seat, sessions);
+    let at = usize::from(at);
     if begin_sleep(shared, seat, at) {
         sleep_until_roused(rt, shared, seat, at);
     } else {

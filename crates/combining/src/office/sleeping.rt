@@ -10,7 +10,8 @@ use std::sync::Wait;
 
 impl<O: Batching> Office<O> {
     /// Begins a sleep of the session, and returns whether its thread may sleep: another session had the object since the sleep began.
-    /// Whoever had it ends the sleep by `wake_sleepers`. If the thread may not sleep, the session gets up, and tries to serve.
+    /// Whoever had it ends the sleep by `wake_sleepers`. If the thread may not sleep, the session gets up, and tries to serve. Behind a
+    /// call by which the session had the object, it calls `wake_sleepers` first.
     pub fn begin_sleep(&self, session: &mut Session<O>) -> bool
         requires ours { IsSessionOf self.now session.old }
         ensures ours { IsSessionOf self.now session.new }
@@ -38,7 +39,7 @@ impl<O: Batching> Office<O> {
     }
 
     /// Sleeps, as the session's thread, until another session that had the object ends the sleep by `wake_sleepers`, or the object is
-    /// free. Returns at once if it is free. The session need not be pending.
+    /// free. Returns at once if it is free. The session need not be pending. It makes the look of `wake_sleepers` first.
     pub fn sleep<R: Wait>(&self, rt: &R, session: &mut Session<O>)
         requires ours { IsSessionOf self.now session.old }
         ensures ours { IsSessionOf self.now session.new }

@@ -14,7 +14,7 @@ use std::sync::Wait;
 impl<O: Sequential> Board<O> {
     /// Begins a sleep of the ticket's session, and returns whether its thread may sleep: another session had the object since the sleep
     /// began. Some seat then ends the sleep, or the session by `get_up`. If it may not sleep, the lock word was free, and the
-    /// session tries `seize`. The session may have a call pending or not.
+    /// session tries `seize`. The session may have a call pending or not. Behind a `release`, it calls `wake_sleepers` first.
     pub fn begin_sleep(&self, ticket: &mut Ticket<O>) -> bool
         requires ours { IsOf self.now ticket.old }
         ensures same { ticket.new ≡ ticket.old }
@@ -51,7 +51,8 @@ impl<O: Sequential> Board<O> {
     }
 
     /// Sleeps, as the thread of the ticket's session, until who has released the object ends the sleep by `wake_sleepers`, or the lock
-    /// word is free. Returns at once if it is free. That a wake-up reaches the thread is the system's.
+    /// word is free. Returns at once if it is free. First it makes the look of `wake_sleepers`, so that no other session waits for a
+    /// thread that sleeps. That a wake-up reaches the thread is the system's.
     pub fn sleep<R: Wait>(&self, rt: &R, ticket: &mut Ticket<O>)
         requires ours { IsOf self.now ticket.old }
         ensures same { ticket.new ≡ ticket.old }
@@ -60,7 +61,8 @@ impl<O: Sequential> Board<O> {
             rt,
             &self.table.shared,
             &mut ticket.seat,
-            usize::from(ticket.number),
+            ticket.number,
+            self.sessions,
         );
     }
 

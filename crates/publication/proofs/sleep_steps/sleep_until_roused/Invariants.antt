@@ -1,6 +1,6 @@
 use Rattle.std.proofs.Common.{◌≡◌, true}
 use Rattle.publication.specs.Kinds.{with_sleep}
-use Rattle.publication.specs.Sleep.{IsSameDebts}
+use Rattle.publication.specs.Sleep.{IsAtRest}
 use Rattle.publication.proofs.sleep_steps.sleep_until_roused.Given as goal
 
 abbrev pub invariant-loop : goal.invariant-loop
@@ -11,5 +11,5 @@ invariant-loop g l = record {
   step : l.seat.me ≡ (with_sleep l.initial.seat.me.0 l.seat.me.0.sleep, l.initial.seat.me.1);
   down : l.seat.me.0.sleep.down ≡ true;
   told : l.seat.me.0.sleep.told ≡ true;
-  debts : IsSameDebts l.initial.seat.me.0.sleep l.seat.me.0.sleep;
+  rest : IsAtRest l.seat.me.0.sleep;
 }
