@@ -12,7 +12,9 @@ ghost use Rattle.combining.specs.Sessions.{IsSessionOf, IsIdle};
 ghost use Rattle.combining.specs.Calls.{IsCalled, IsCalling, HasStarvedCalling};
 ghost use Rattle.combining.specs.Ended.{AreToldBy, HasRoom, IsNotedUpTo, entered_since};
 
-use combining::{Called, LOOKS_PER_TRY, Next, Office, Session, Told, Wait as Pause, back_off, turn};
+use combining::{
+    Called, LOOKS_PER_TRY, Next, Office, Session, Told, Wait as Pause, back_off, turn,
+};
 use sequential::Batching;
 use std::sync::Wait;
 

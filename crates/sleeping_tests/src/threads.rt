@@ -8,23 +8,25 @@ use counter::Counter;
 use sequential::Sequential;
 use sleeping_calls::call;
 use std::alloc::{AllocError, Global};
-use std::hint;
 use std::sync::Wait;
 use std::test::Fail;
-use std::thread;
 use std::thread::Threads;
+use std::{hint, thread};
 
 /// How many sessions make calls. One more holds the counter again and again.
 const CALLERS: u16 = 4;
 
 /// How many calls each of them makes.
-const CALLS: u64 = 100;
+const CALLS: u64 = 10;
 
 /// How many calls they make together.
 const ALL_CALLS: u64 = CALLERS as u64 * CALLS;
 
-/// How many pause instructions the counter is held, and then left: longer than the turns that a session makes before it sleeps.
-const PAUSES: u32 = 200_000;
+/// The pause instructions of a hold: ten times those of the turns that a session makes before it sleeps.
+const HELD: u32 = 1_000_000;
+
+/// The pause instructions between two holds, and between two calls, so that most calls are made while the counter is held.
+const LEFT: u32 = 50_000;
 
 /// The greatest number of holds.
 const HOLDS: u64 = 1_000_000_000;
@@ -40,9 +42,9 @@ struct Worked {
     woken: u64,
 }
 
-/// Makes pause instructions.
-fn pause() {
-    for _pause in 0..PAUSES {
+/// Makes so many pause instructions.
+fn pause(pauses: u32) {
+    for _pause in 0..pauses {
         hint::spin_loop();
     }
 }
@@ -58,6 +60,7 @@ fn call_often<R: Wait>(rt: &R, office: &Office<Counter>, session: Session<Counte
         woken: 0,
     };
     for made in 0..CALLS {
+        pause(LEFT);
         let called = call(rt, office, &mut worked.session, 1, &mut Nobody);
         if !matches!(called, Called::Answered(_)) {
             break;
@@ -75,7 +78,7 @@ fn hold(office: &Office<Counter>, session: &mut Session<Counter>) -> u64
     let Some(load) = office.look(session) else {
         return 0;
     };
-    pause();
+    pause(HELD);
     let _known = office.end_look(session, load);
     u64::from(office.wake_sleepers(session))
 }
@@ -94,7 +97,7 @@ fn hold_often(office: &Office<Counter>, session: Session<Counter>) -> Worked
         if worked.session.seen() >= ALL_CALLS {
             break;
         }
-        pause();
+        pause(LEFT);
         let woken = hold(office, &mut worked.session);
         worked.woken = worked.woken.saturating_add(woken);
     }

@@ -1,4 +1,5 @@
 use Rattle.std.proofs.Common.{rules, ◌≡◌, ◌∷◌, ◌∙◌, ℕ, List, eqb, refl, sym, ap, subst}
+use Rattle.sequential.specs.Bounds.{Bounds}
 use mathlib.Core.Option as opt
 use prog.Atomic.{either}
 use Rattle.atomic_table.specs.Table.{Allows, step, rest}
@@ -18,7 +19,7 @@ compare_exchange-found-requires g c =
     let bound = bound_of g.O.Sequential.bound c.args.shared.now.key.object.items in (
       search rules,
       search rules,
-      (λ state rule many seated short. let r = (subst (λ (b : ℕ). Allows (IsBounded g.O.Sequential bound) n seat.id seat.me 0 (λ k. either (eqb k FREE) c.args.number k) (seizes_within g.O.Sequential b (step n 0 FREE c.args.number opt.none) seat.me)) (sym c.requires.named)
+      (λ state rule many seated short. let r = (subst (λ (b : Bounds). Allows (IsBounded g.O.Sequential bound) n seat.id seat.me 0 (λ k. either (eqb k FREE) c.args.number k) (seizes_within g.O.Sequential b (step n 0 FREE c.args.number opt.none) seat.me)) (sym c.requires.named)
           (seize_kept n seat.id c.args.number seat.me.0 seat.me.1 mine c.requires.mine.1)) state rule many seated short in (r.0, r.1, r.2, r.3, (r.4, refl))),
     )
 
