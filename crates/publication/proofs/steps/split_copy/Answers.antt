@@ -1,4 +1,4 @@
-use Rattle.std.proofs.Common.{rules}
+use Rattle.std.proofs.Common.{rules, refl}
 use Rattle.publication.proofs.LaidDown.{splits_bounded}
 use Rattle.publication.proofs.SplitsAndJoins.{splits_copy}
 use Rattle.publication.proofs.steps.split_copy.Goals as goal
