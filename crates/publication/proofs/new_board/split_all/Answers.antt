@@ -1,4 +1,4 @@
-use Rattle.std.proofs.Common.{rules, ◌≡◌, ◌∷◌, ◌++◌, ◌∙◌, ◌+◌, ℕ, List, [], length, length-append, sym, ap, subst, arith}
+use Rattle.std.proofs.Common.{rules, ◌≡◌, ◌∷◌, ◌++◌, ◌∙◌, ◌+◌, ℕ, List, [], length, length-append, sym, ap, subst, arith, refl}
 use Rattle.atomic_table.specs.Table.{Splits}
 use Rattle.atomic_table.specs.declared.shared.Seat.{Seat}
 use Rattle.publication.specs.Rule.{maker, new_session}
