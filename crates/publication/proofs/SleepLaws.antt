@@ -1,14 +1,11 @@
 -- What the rule of the sleepers means.
 use Rattle.sequential.specs.Bounds.{Bounds}
-use Rattle.std.proofs.Common.{◌≡◌, ◌⊎◌, inl, inr, ⊎_elim, ℕ, ◌<◌, true, [], length, sym, ap, ◌∙◌, subst, arith}
+use Rattle.std.proofs.Common.{◌≡◌, inl, inr, ⊎_elim, ℕ, true, length, ap, subst, arith}
 use mathlib.Core.Option as opt
-use mathlib.Core.Logic.{dite}
-use native.Mathlib.Decide.{ℕ_discrete}
 use lib.ListN.{get_elem?}
-use Rattle.publication.specs.Words.{FREE, ASLEEP}
-use Rattle.publication.specs.Sleep.{Sleep, IsAmong, HasEnded}
-use Rattle.publication.specs.Rule.{blank, BoardState, word, seat}
-use Rattle.publication.specs.Sleepers.{SomeSeat, IsAwaited, IsDown, sleep_word, sleep_at, IsHeeded, IsQuiet}
+use Rattle.publication.specs.Sleep.{Sleep, IsAmong}
+use Rattle.publication.specs.Rule.{blank, BoardState, word}
+use Rattle.publication.specs.Sleepers.{SomeSeat, IsDown, sleep_word, sleep_at, IsHeeded, IsQuiet}
 use Rattle.publication.specs.List.{IsBounded}
 use Rattle.publication.specs.declared.view.View.{View}
 use Rattle.publication.proofs.Lists.{at_there}

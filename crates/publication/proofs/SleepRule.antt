@@ -1,18 +1,18 @@
 -- The rule of the sleepers, when a step changes one word and one seat's view, and when seats are split or joined.
-use Rattle.std.proofs.Common.{◌≡◌, ◌≢◌, ◌⊎◌, ⊎_elim, ℕ, ◌<◌, List, [], ◌∷◌, ◌++◌, length, get_or, set, refl, sym, ap, ◌∙◌, subst, arith, length-set, get_or-set_other, get_or-set_same}
+use Rattle.std.proofs.Common.{◌≡◌, ◌≢◌, ⊎_elim, ℕ, ◌<◌, List, [], ◌∷◌, ◌++◌, length, get_or, set, refl, sym, ap, ◌∙◌, arith, length-set, get_or-set_other, get_or-set_same}
 use mathlib.Core.Option as opt
 use mathlib.Core.Logic.{dite}
 use native.Mathlib.Decide.{ℕ_discrete}
 use lib.ListN.{get_elem?}
 use Rattle.atomic_table.specs.Table.{Act, keeps, takes, gives, chain, carried_after, homes_after}
-use Rattle.publication.specs.Words.{word_of, sleep_of, FREE}
-use Rattle.publication.specs.Sleep.{Sleep, awake, having_freed, taking_over}
-use Rattle.publication.specs.Rule.{blank, BoardState, word, seat}
-use Rattle.publication.specs.Sleepers.{sleep_word, sleep_at, AreHeeded, HasHeededSleepers}
+use Rattle.publication.specs.Words.{FREE}
+use Rattle.publication.specs.Sleep.{awake, having_freed, taking_over}
+use Rattle.publication.specs.Rule.{blank, BoardState, word}
+use Rattle.publication.specs.Sleepers.{sleep_word, sleep_at, HasHeededSleepers}
 use Rattle.publication.specs.declared.view.View.{View}
 use Rattle.publication.specs.declared.slot.SlotValue.{SlotValue}
 use Rattle.publication.proofs.Lists.{at_there, each_set, each_snoc, past_end}
-use Rattle.publication.proofs.Sleepers.{TakesOver, joined_on, knows_same, has_freed, takes_none, takes_ended, takes_looks}
+use Rattle.publication.proofs.Sleepers.{joined_on, knows_same, has_freed, takes_none, takes_ended, takes_looks}
 
 -- No act changes the number of slots.
 pub homes_long : {A : Type 0} (hs : List (opt.Option A)) (c : List (ℕ × A)) (a : Act A) → length (homes_after hs c a) ≡ length hs

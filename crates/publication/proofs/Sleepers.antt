@@ -1,8 +1,8 @@
 -- What one step leaves of what holds of sessions that may sleep.
-use Rattle.std.proofs.Common.{◌≡◌, ◌≢◌, ◌⊎◌, inl, inr, ⊎_elim, ℕ, ◌+◌, ◌<◌, ◌≤◌, ◌||◌, min, max, Bool, true, false, List, [], ◌∷◌, ◌++◌, refl, sym, ap, ◌∙◌, subst, arith}
+use Rattle.std.proofs.Common.{◌≡◌, ◌≢◌, ◌⊎◌, inl, inr, ⊎_elim, ℕ, ◌+◌, ◌<◌, ◌≤◌, ◌||◌, min, Bool, true, false, List, [], ◌∷◌, ◌++◌, refl, sym, ap, ◌∙◌, subst, arith}
 use mathlib.Core.Logic.{dite}
 use native.Mathlib.Decide.{ℕ_discrete}
-use Rattle.publication.specs.Words.{FREE, AWAKE, ASLEEP}
+use Rattle.publication.specs.Words.{FREE, ASLEEP}
 use Rattle.publication.specs.Sleep.{Sleep, awake, IsAmong, HasEnded, IsSameSleep, but_latest, with_latest, lain, having_told, having_seen, risen, having_freed, having_looked, sweeping, passing, rousing, waking, taking_over}
 use Rattle.publication.specs.Sleepers.{SomeSeat, IsNoted, IsAwaited, IsDown, AreHeeded}
 

@@ -1,4 +1,4 @@
-use Rattle.std.proofs.Common.{rules, refl, arith}
+use Rattle.std.proofs.Common.{rules}
 use Rattle.publication.proofs.SleepKinds.{get_up_kept}
 use Rattle.publication.proofs.sleep_steps.get_up.Goals as goal
 

@@ -1,4 +1,4 @@
-use Rattle.std.proofs.Common.{rules, refl, arith}
+use Rattle.std.proofs.Common.{rules}
 use Rattle.publication.proofs.SleepKinds.{look_if_roused_kept}
 use Rattle.publication.proofs.sleep_steps.is_roused.Goals as goal
 

@@ -1,4 +1,4 @@
-use Rattle.std.proofs.Common.{rules, refl, arith}
+use Rattle.std.proofs.Common.{rules}
 use Rattle.publication.proofs.SleepKinds.{lie_down_kept}
 use Rattle.publication.proofs.sleep_steps.lie_down.Goals as goal
 

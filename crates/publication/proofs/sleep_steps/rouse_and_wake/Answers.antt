@@ -1,4 +1,4 @@
-use Rattle.std.proofs.Common.{rules, ◌≡◌, ◌∷◌, ◌∙◌, sym, ap}
+use Rattle.std.proofs.Common.{rules, ◌∷◌, ◌∙◌, sym, ap}
 use Rattle.publication.specs.Sleep.{Sleep, but_latest, with_latest}
 use Rattle.publication.proofs.sleep_steps.rouse_and_wake.Goals as goal
 

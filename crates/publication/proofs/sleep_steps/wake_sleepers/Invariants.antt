@@ -1,4 +1,4 @@
-use Rattle.std.proofs.Common.{◌≡◌, ◌≤◌, ◌+◌, ◌-◌, false}
+use Rattle.std.proofs.Common.{◌≡◌, ◌≤◌, ◌+◌, false}
 use Rattle.publication.specs.Kinds.{with_sleep}
 use Rattle.publication.specs.Sleep.{IsSameSleep}
 use Rattle.publication.proofs.sleep_steps.wake_sleepers.Given as goal
