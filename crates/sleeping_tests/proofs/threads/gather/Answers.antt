@@ -1,4 +1,4 @@
-use Rattle.std.proofs.Common.{◌≡◌, ◌∷◌, ◌++◌, List, [], sym}
+use Rattle.std.proofs.Common.{◌≡◌, ◌∷◌, ◌++◌, ℕ, List, [], sym}
 use Rattle.std.specs.Prelude.{All}
 use Rattle.std.proofs.lemmas.List.Elements.{All-push, All-head, All-rest, All-same}
 use Rattle.publication.specs.Views.{TicketView}
@@ -14,9 +14,9 @@ gathered P Q old new s come w rest came pushed ours olds all =
     (All-same P new (old ++ s ∷ []) pushed (All-push P old s olds first), All-rest Q w rest come came all)
 
 pub loop-worked-preserved : goal.loop-worked-preserved
-loop-worked-preserved g c =
-    let ours : TicketView g.row.O-Call.Denot g.row.O-Reply.Denot → Type 0 = IsSessionOf c.args.office.now in
-    let its : Worked g.row.O.Denot g.row.O-Call.Denot g.row.O-Reply.Denot → Type 0 = λ worked. ours worked.session in
+loop-worked-preserved c =
+    let ours : TicketView ℕ ℕ → Type 0 = IsSessionOf c.args.office.now in
+    let its : Worked → Type 0 = λ worked. ours worked.session in
     gathered ours its c.loop-worked.sessions.items c.push.new.self.items c.in-Some.worked.session c.loop-worked.worked-iterator.rest.items
     c.in-Some.worked c.next.new.self.rest.items c.in-Some.ensures.steps.0 c.in_ok-push.ensures.items (λ is. is)
     c.loop-worked.invariant.0 c.loop-worked.invariant.1
