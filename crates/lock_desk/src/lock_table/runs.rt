@@ -294,6 +294,7 @@ fn grant_item(
     ensures lockers { vec_len table.new.lockers ≡ vec_len table.old.lockers }
     ensures cut { history.new.cut ≡ history.old.cut }
     ensures bound { history.new.bound ≡ history.old.bound }
+    ensures one_more { length history.new.items ≡ length history.old.items + 1 }
     ensures room { history.new.room + 1 ≡ history.old.room }
     ensures deadlocks { deadlocks_in history.new.items ≡ deadlocks_in history.old.items }
     ensures served { (n : ℕ) (batch : List ItemValue) (start : List EntryValue) → AreServed n index batch start (ended_in table.old.ended) history.old.items items.old

@@ -1,4 +1,4 @@
-use Rattle.std.proofs.Common.{◌+◌, ◌≡◌, ◌∙◌, ℕ, is_some, length, take, List, ap, sym, refl, arith}
+use Rattle.std.proofs.Common.{rules, get_or, ◌+◌, ◌≡◌, ◌∙◌, ℕ, is_some, length, take, List, ap, sym, refl, arith}
 use Rattle.std.proofs.Math.Seq.{take-length}
 use Rattle.lock_counts.specs.Counts.{one_if, count_if}
 use Rattle.lock_counts.proofs.Counting.{count-next, count-le}
@@ -21,7 +21,9 @@ loop-index-preserved c =
     let ws = c.args.self.now.lockers.items in
     let i = c.loop-index.index in
     let p = λ (w : Locker). is_some (standing_of w).wanted in
-    goes-up c.is_waiting-waits.result c.loop-index.count (count_if p (take i ws)) c.up_if.result c.up_if.ensures c.loop-index.invariant
+    let w = c.index.result.now in
+    let at : get_or ws i w ≡ w = search rules in
+    goes-up c.is_waiting-waits.result c.loop-index.count (count_if p (take i ws)) c.up_if-count.result c.up_if-count.ensures c.loop-index.invariant
     (omega (arith, count-le p ws i, c.loop-index-test.true, c.len-index-end.ensures))
     ∙ (ap (λ b. count_if p (take i ws) + one_if b) c.is_waiting-waits.ensures
-    ∙ sym (count-next p ws i c.index-lockers-index.result (omega (arith, c.loop-index-test.true, c.len-index-end.ensures))))
+    ∙ (ap (λ (x : Locker). count_if p (take i ws) + one_if (p x)) (sym at) ∙ sym (count-next p ws i w (omega (arith, c.loop-index-test.true, c.len-index-end.ensures)))))
