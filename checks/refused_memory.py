@@ -8,16 +8,16 @@ In each round one allocation is refused: the first one in the first round, the s
 round is the first one in which nothing was refused.
 
 A replay, a check, a state and an explanation have to end with status 4, their line on standard error and nothing on standard
-output, in every round but a few, in which they end as with ample memory: room for all words of the command line is only a hint, and so
-is room for the first keys of a lock table. The look-up of the first lock makes it, in four allocations, and if one of them is refused,
-the entry of that lock asks once more. A shell may have answered its first lines, and room for the words of each line is a hint, too. A replay in pieces may have
-written whole pieces of its history, and some round has to see one piece written, and some round two. A run may also end with status
-5, if the refusal kept a thread from starting, or with status 0, if it met the refusal by serving calls one after another: what it
-writes has to be a legal history in which each session's rows stand in their order. A run of one session has one try for each call: a
-pass that found no memory for the call ends the run. A run in pieces may also end with these statuses and whole rows of a legal
-history behind it, in which each session's rows are the first ones of its own. In further rounds of runs all later allocations are
-refused too: a run that goes on after its refusal fails. Threads allocate in any order, so a run's last rounds are the first three in
-a row without a refusal.
+output, in every round but a few, in which they end as with ample memory: room for all words of the command line is only a hint, and
+so is room for the first keys of a lock table. The look-up of the first lock makes it, in four allocations, and if one of them is
+refused, the entry of that lock asks once more. A shell may have answered its first lines, and room for the words of each line is a
+hint, too. A replay in pieces may have written whole pieces of its history, and some round has to see one piece written, and some
+round two. A run may also end with status 5, if the refusal kept a thread from starting, or with status 0, if it met the refusal by
+serving calls one after another: what it writes has to be a legal history in which each session's rows stand in their order. A run
+of one session has one try for each call: a pass that found no memory for the call ends the run. A run in pieces may also end with
+these statuses and whole rows of a legal history behind it, in which each session's rows are the first ones of its own. In further
+rounds of runs all later allocations are refused too: a run that goes on after its refusal fails. Threads allocate in any order, so
+a run's last rounds are the first three in a row without a refusal.
 
 A replay with hints of a row that is refused ends with status 1 and that row's line also if memory is refused for the hint.
 
