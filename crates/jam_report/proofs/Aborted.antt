@@ -27,15 +27,17 @@ use Rattle.lock_rules.proofs.Listings.{listing-shows}
 use Rattle.lock_rules.proofs.Cuts.{ended-lawful}
 use Rattle.lock_rules.proofs.Steps.{state-lawful}
 use Rattle.lock_rules.proofs.Taken.{claims-taken}
-use Rattle.lock_desk.specs.declared.cells.SessionMode.{SessionMode}
+use Rattle.lock_holders.specs.declared.session_mode.SessionMode.{SessionMode}
 use Rattle.lock_desk.specs.declared.cells.GivenUp.TheVariants as claim
-use Rattle.lock_desk.specs.inner.Cells.{View, has_path, has_session, pair_of, times, with_holder, without, fits_among, view_after_grants, view_after_freeing}
+use Rattle.lock_desk.specs.inner.Cells.{View, view_after_grants, view_after_freeing}
+use Rattle.session_locks.specs.Resources.{has_path}
+use Rattle.lock_holders.specs.SessionModes.{has_session, pair_of, times, with_holder, without, fits_among}
 use Rattle.lock_desk.specs.inner.Changes.{view_after_unlock}
 use Rattle.lock_desk.specs.inner.Shows.{short, claims_on, view}
 use Rattle.lock_desk.proofs.AfterStep.{ended-seen}
 use Rattle.lock_desk.proofs.Children.{both-ways}
 use Rattle.lock_desk.proofs.LockCounts.{queue-has, waits_on-once}
-use Rattle.lock_desk.proofs.SessionModes.{has_tells}
+use Rattle.lock_holders.proofs.SessionModes.{has_tells}
 use Rattle.lock_desk.proofs.TableViews.{held-seen, pairs-seen}
 use Rattle.jam_report.specs.inner.Lines.{is_kind_of_request, is_request}
 use Rattle.lock_report.specs.StateText.{is_last}

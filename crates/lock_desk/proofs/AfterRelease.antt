@@ -11,7 +11,8 @@ use Rattle.lock_rules.proofs.Lists.{same_path_tells}
 use Rattle.lock_rules.proofs.Alters.{queue-alters}
 use Rattle.lock_rules.proofs.Cuts.{one_less, less-alters, less-sound}
 use Rattle.lock_desk.specs.declared.cells.GivenUp.TheVariants as claim
-use Rattle.lock_desk.specs.inner.Cells.{without, view_after_giving_up, view_after_freeing, view_after_promotion}
+use Rattle.lock_holders.specs.SessionModes.{without}
+use Rattle.lock_desk.specs.inner.Cells.{view_after_giving_up, view_after_freeing, view_after_promotion}
 use Rattle.lock_desk.specs.inner.Shows.{short, claims_on, view}
 use Rattle.lock_desk.proofs.TableViews.{queue-apart, promoted-seen}
 

@@ -16,11 +16,14 @@ use Rattle.lock_rules.proofs.Sound.{eqb-swap, altered-sound, granted-alters, no_
 use Rattle.lock_rules.proofs.Cuts.{left-alters, left-sound}
 use Rattle.lock_rules.proofs.Begins.{queue-fresh, queue-converted, queue-beside}
 use Rattle.lock_desk.specs.declared.cells.GivenUp.TheVariants as claim
-use Rattle.lock_desk.specs.inner.Cells.{View, has_session, with_holder, Ascends, is_nobody, view_after_promotion, view_after_giving_up, view_after_freeing, behind_conversions, queue_with, can_grant, view_after_asking, has_path}
+use Rattle.lock_desk.specs.inner.Cells.{View, view_after_promotion, view_after_giving_up, view_after_freeing, behind_conversions, queue_with, can_grant, view_after_asking}
+use Rattle.lock_holders.specs.SessionModes.{has_session, with_holder, Ascends, is_nobody}
+use Rattle.session_locks.specs.Resources.{has_path}
 use Rattle.lock_desk.specs.inner.Changes.{view_after_cancel, view_after_end}
 use Rattle.lock_desk.specs.inner.Shows.{short, claims_on, view}
-use Rattle.lock_desk.proofs.LockLists.{has_path-append}
-use Rattle.lock_desk.proofs.SessionModes.{AreAll, behind-between, without-none}
+use Rattle.session_locks.proofs.LockLists.{has_path-append}
+use Rattle.lock_desk.proofs.WaitQueues.{AreAll, behind-between}
+use Rattle.lock_holders.proofs.SessionModes.{without-none}
 use Rattle.lock_desk.proofs.TableViews.{in_mode, fits-seen, held-seen, pairs-seen, claims_on-with_lock, claims_on-with_lock_path, claims_on-claims_but, queue-without, queue-apart, all-seen}
 use Rattle.lock_desk.proofs.LockCounts.{queue-has, waits_on-once, locks_in, listed}
 use Rattle.lock_desk.proofs.LeavingAResource.{view_without, gone-ended}

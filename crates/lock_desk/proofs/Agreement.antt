@@ -7,15 +7,18 @@ use Rattle.std.proofs.lemmas.List.{get_or_default, get_or-set_same, get_or-set_o
 use Rattle.std.proofs.Math.Seq.{map-set_same}
 use Rattle.lock_tree.specs.Paths.{same_path}
 use Rattle.lock_rules.proofs.Lists.{same_path-refl, same_path-true, same_path_tells}
-use Rattle.lock_desk.specs.declared.cells.SessionMode.{SessionMode}
+use Rattle.lock_holders.specs.declared.session_mode.SessionMode.{SessionMode}
 use Rattle.lock_desk.specs.declared.lockers.Locker.{Locker}
 use Rattle.lock_desk.specs.declared.lock_table.LockTable.{LockTable}
 use Rattle.lock_desk.specs.declared.cells.GivenUp.{GivenUp}
 use Rattle.lock_desk.specs.declared.cells.GivenUp.TheVariants as claim
-use Rattle.lock_desk.specs.inner.Cells.{View, with_holder, has_session, view_after_giving_up, queue_with, can_grant, view_after_asking, has_path, AreApart}
+use Rattle.lock_desk.specs.inner.Cells.{View, view_after_giving_up, queue_with, can_grant, view_after_asking}
+use Rattle.lock_holders.specs.SessionModes.{with_holder, has_session}
+use Rattle.session_locks.specs.Resources.{has_path, AreApart}
 use Rattle.lock_desk.specs.inner.Lockers.{Standing, no_standing, standing_of, standings_of, standing_at, is_wanted, standing_after_asking, IsSameOrGranted, AreSameOrGranted, DoAgree}
 use Rattle.lock_desk.specs.inner.Changes.{view_at, standings, DoesKeep}
-use Rattle.lock_desk.proofs.SessionModes.{has_session-with_holder, has_session-queued, has_session-without}
+use Rattle.lock_holders.proofs.SessionModes.{has_session-with_holder, has_session-without}
+use Rattle.lock_desk.proofs.WaitQueues.{has_session-queued}
 use Rattle.lock_desk.proofs.LockerStandings.{IsPositionOf, has_path-with, has_path-with_other}
 
 -- two operations, one after the other, keep what each keeps

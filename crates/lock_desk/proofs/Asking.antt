@@ -7,15 +7,17 @@ use Rattle.std.proofs.lemmas.Bool.{cases_Bool}
 use Rattle.lock_modes.specs.declared.Mode.{Mode}
 use Rattle.lock_desk.specs.declared.lockers.Locker.{Locker}
 use Rattle.lock_desk.specs.declared.lock_table.LockTable.{LockTable}
-use Rattle.lock_desk.specs.inner.Cells.{View, has_session, has_path, can_grant, view_after_asking, CellsBecame}
+use Rattle.lock_desk.specs.inner.Cells.{View, can_grant, view_after_asking, CellsBecame}
+use Rattle.lock_holders.specs.SessionModes.{has_session}
+use Rattle.session_locks.specs.Resources.{has_path}
 use Rattle.lock_tree.specs.Paths.{parent_of}
-use Rattle.lock_desk.specs.inner.ChildCounts.{IsUnder}
+use Rattle.session_locks.specs.LockLists.{IsUnder}
 use Rattle.lock_desk.specs.inner.Lockers.{Standing, standing_of, standings_of, standing_at, is_wanted, standing_after_asking, DoAgree}
 use Rattle.lock_desk.specs.inner.Changes.{view_at, standings, standing, mode_held, IsWhole, DoesKeep, IsSameSeen, HasAsked}
 use Rattle.lock_desk.specs.inner.Blocking.{DoFollow}
 use Rattle.lock_desk.specs.inner.Ready.{IsReadyTable}
 use Rattle.lock_desk.proofs.RowsOfTheTable.{ready-follow}
-use Rattle.lock_desk.proofs.SessionModes.{mode-has}
+use Rattle.lock_holders.proofs.SessionModes.{mode-has}
 use Rattle.lock_desk.proofs.LockerStandings.{IsPositionOf, standings-set, standing-here, length-standings}
 use Rattle.lock_desk.proofs.CellTable.{same-view}
 use Rattle.lock_desk.proofs.Agreement.{own-standing, other-standing, standings-same, all-agree, asked-agree, asked-other}

@@ -11,7 +11,9 @@ use Rattle.lock_rules.specs.declared.calls.Transaction.{Transaction}
 use Rattle.lock_rules.specs.Waits.{doom}
 use Rattle.lock_desk.specs.declared.lockers.Locker.{Locker}
 use Rattle.lock_desk.specs.declared.lock_table.LockTable.{LockTable}
-use Rattle.lock_desk.specs.inner.Cells.{View, has_session, view_after_giving_up, view_after_freeing, cell_view, has_path, AreKeptCells, CellsBecame}
+use Rattle.lock_desk.specs.inner.Cells.{View, view_after_giving_up, view_after_freeing, cell_view, AreKeptCells, CellsBecame}
+use Rattle.lock_holders.specs.SessionModes.{has_session}
+use Rattle.session_locks.specs.Resources.{has_path}
 use Rattle.lock_desk.specs.inner.Requests.{wanted_in}
 use Rattle.lock_desk.specs.inner.Lockers.{Standing, standing_of, standings_of, standing_at, is_wanted, AreSameOrGranted, DoAgree}
 use Rattle.lock_desk.specs.inner.Changes.{view_at, standings, standing, view_after_unlock, view_after_cancel, IsWhole, DoesKeep, IsSameSeen, HasFreed, HasGivenBackAll, HasCancelled, HasDoomed, HasBegun, HasGivenUpAll}

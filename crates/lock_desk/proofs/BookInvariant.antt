@@ -14,20 +14,21 @@ use Rattle.lock_rules.proofs.Histories.{legal-push, state_of-push}
 use Rattle.lock_desk.specs.declared.lockers.Locker.{Locker}
 use Rattle.lock_desk.specs.inner.Lockers.{no_standing, standing_of, standings_of, standing_at}
 use Rattle.lock_desk.specs.inner.Changes.{with_ended, with_ended_count, IsWhole, HasNotedEnded}
-use Rattle.lock_desk.specs.inner.Ended.{EndedView, is_ended, ended_in}
+use Rattle.session_sets.specs.Ended.{EndedView, is_ended, ended_in}
 use Rattle.lock_desk.specs.declared.lock_table.LockTable.{LockTable}
 use Rattle.lock_desk.specs.inner.Ready.{IsReadyTable}
 use Rattle.lock_desk.specs.inner.Shows.{Shows}
 use Rattle.lock_desk.specs.inner.Runs.{AreKept}
 use Rattle.lock_desk.specs.BookView.{BookView}
 use Rattle.lock_desk.specs.Deadlocks.{AreDeadlocksTold, deadlocks_in, newest}
+use Rattle.lock_desk.specs.inner.Counting.{AreCallsCounted, AreWaitsCounted}
 use Rattle.lock_desk.specs.inner.Noting.{IsLogFor}
 use Rattle.lock_desk.specs.Batches.{ended_waits_beside}
 use Rattle.sequential.specs.Histories.{IsEntryWithin}
 use Rattle.lock_desk.specs.inner.Invariant.{book_view_of, IsKept}
 use Rattle.lock_desk.specs.declared.book.Book.TheInside.{Inside}
 use Rattle.waits_for.specs.declared.TheConstants.{MAX_SESSIONS}
-use Rattle.lock_desk.proofs.EndedList.{any-among, same-numbers, none-waits_ended}
+use Rattle.session_sets.proofs.EndedList.{any-among, same-numbers, none-waits_ended}
 use Rattle.lock_desk.proofs.EndedWaits.{whole-relisted, ready-relisted, shows-relisted}
 use Rattle.lock_desk.proofs.Simulation.{waits-shown}
 
@@ -90,8 +91,9 @@ kept-of a k = record {
 }
 
 pub of-kept : (a : Inside) → 1 ≤ a.sessions → a.sessions ≤ MAX_SESSIONS → AreKept a.lock_table a.history.items → vec_len a.lock_table.lockers ≡ a.sessions → a.marks.sessions ≡ a.sessions
-    → IsLogFor (vec_len a.lock_table.lockers) a.deadlocks → AreDeadlocksTold (newest a.deadlocks.most (deadlocks_in a.history.items)) a.deadlocks.told → IsKept a
-of-kept a some few k lockers marked log told = record {
+    → IsLogFor (vec_len a.lock_table.lockers) a.deadlocks → AreDeadlocksTold (newest a.deadlocks.most (deadlocks_in a.history.items)) a.deadlocks.told
+    → AreCallsCounted a.history.items a.counts → AreWaitsCounted a.history.items a.deadlocks.counts → IsKept a
+of-kept a some few k lockers marked log told calls waits = record {
   some = some;
   few = few;
   legal = k.legal;
@@ -104,6 +106,8 @@ of-kept a some few k lockers marked log told = record {
   marked = marked;
   log = log;
   told = told;
+  calls = calls;
+  waits = waits;
 }
 
 -- another list of ended waits makes no difference
@@ -134,10 +138,10 @@ waits_ended-beside n s before after v w long still adds =
     ∙ ap (λ (told : List ℕ). ended_waits_beside n told s before after) (sym listed))
 
 -- the invariant, when as many sessions are listed as `n`
-pub relisted-kept : (a : Inside) (n : ℕ) (e : LockTable) → e ≡ with_ended_count n a.lock_table → IsKept a → IsKept (record { sessions = a.sessions; lock_table = e; history = a.history; marks = a.marks; deadlocks = a.deadlocks })
+pub relisted-kept : (a : Inside) (n : ℕ) (e : LockTable) → e ≡ with_ended_count n a.lock_table → IsKept a → IsKept (record { sessions = a.sessions; lock_table = e; history = a.history; marks = a.marks; deadlocks = a.deadlocks; counts = a.counts })
 relisted-kept a n e is k =
-    subst (λ (d : LockTable). IsKept (record { sessions = a.sessions; lock_table = d; history = a.history; marks = a.marks; deadlocks = a.deadlocks })) (sym is)
-    (of-kept _ k.some k.few (kept-relisted a.lock_table _ a.history.items refl (kept-of a k)) k.lockers k.marked k.log k.told)
+    subst (λ (d : LockTable). IsKept (record { sessions = a.sessions; lock_table = d; history = a.history; marks = a.marks; deadlocks = a.deadlocks; counts = a.counts })) (sym is)
+    (of-kept _ k.some k.few (kept-relisted a.lock_table _ a.history.items refl (kept-of a k)) k.lockers k.marked k.log k.told k.calls k.waits)
 
 -- what contracts see of a book after a call, when these sessions are listed
 pub listed-view : (a : Inside) (b : BookView) → book_view_of a ≡ b → (e : Entry) (es : List Entry) (cut bound : ℕ) (ended told : List ℕ) (deadlocks : ℕ)

@@ -3,9 +3,10 @@ use Rattle.std.proofs.Common.{◌≡◌, ℕ, Bool, true, false, cond, not, ◌&
 use Rattle.std.specs.Map.{lookup}
 use Rattle.lock_tree.specs.Paths.{same_path}
 use Rattle.lock_rules.proofs.Lists.{same_path_tells}
-use Rattle.lock_desk.specs.declared.cells.SessionMode.{SessionMode}
+use Rattle.lock_holders.specs.declared.session_mode.SessionMode.{SessionMode}
 use Rattle.lock_desk.specs.declared.cells.Cell.{Cell}
-use Rattle.lock_desk.specs.inner.Cells.{View, no_view, Cells, cell_at, view_in, cell_view, IsKeptCell, AreKeptCells, CellsBecame, is_nobody, is_busy}
+use Rattle.lock_desk.specs.inner.Cells.{View, no_view, Cells, cell_at, view_in, cell_view, IsKeptCell, AreKeptCells, CellsBecame, is_busy}
+use Rattle.lock_holders.specs.SessionModes.{is_nobody}
 
 -- no cell has changed
 

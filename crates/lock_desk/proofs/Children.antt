@@ -10,7 +10,7 @@ use Rattle.lock_rules.specs.State as rules
 use Rattle.lock_rules.specs.Sound.{IsSound}
 use Rattle.lock_rules.proofs.Lists.{same_path-refl, same_path-true, same_path_tells}
 use Rattle.lock_rules.proofs.Children.{children-held}
-use Rattle.lock_desk.specs.inner.ChildCounts.{is_child}
+use Rattle.session_locks.specs.LockLists.{is_child}
 
 -- a resource below `r` for which `has` is true
 pub record Below (r : List ℕ) (has : List ℕ → Bool) : Type 0 where

@@ -1,5 +1,5 @@
 -- Mode codes and masks of several modes in one byte.
-use Rattle.std.proofs.Common.{◌≡◌, ℕ, Bool, true, false, ◌&&◌, ◌||◌, eqb, List, [], ◌∷◌, map, refl, sym, ◌∙◌, ap, arith, bit_and, bit_or}
+use Rattle.std.proofs.Common.{◌≡◌, ℕ, Bool, true, false, ◌&&◌, ◌||◌, eqb, List, [], ◌∷◌, refl, sym, ◌∙◌, ap, arith, bit_and, bit_or}
 use Rattle.std.proofs.lemmas.Bool.Decides.{Decides-eqb}
 use Rattle.std.proofs.lemmas.Nat.Bits.{bit_at_or, bit_at_and, bit_at-zero, same_from_bits}
 use Rattle.std.specs.Int.{bit_at}
@@ -7,16 +7,9 @@ use Rattle.lock_modes.specs.declared.Mode.{Mode}
 use Rattle.lock_modes.specs.Compatibility.{are_compatible}
 use Rattle.lock_modes.specs.Codes.{code_of, mask_of}
 use Rattle.lock_modes.proofs.Codes.{mask-same}
-use Rattle.mode_lanes.specs.Masks.{union_of}
-use Rattle.lock_desk.specs.declared.cells.SessionMode.{SessionMode}
-use Rattle.lock_desk.specs.inner.Columns.{code_at}
-use Rattle.lock_desk.specs.inner.Cells.{codes_among, fits_among}
+use Rattle.lock_holders.specs.declared.session_mode.SessionMode.{SessionMode}
+use Rattle.lock_holders.specs.SessionModes.{codes_among, fits_among}
 use Rattle.lock_desk.specs.inner.Runs.{HasBits}
-
--- the bitwise or of a column of codes is that of the modes of the holders
-pub codes-column : (hs : List SessionMode) → union_of (map code_at hs) ≡ codes_among hs
-codes-column [] = refl
-codes-column (h ∷ hs) = ap (bit_or (code_of h.mode)) (codes-column hs)
 
 -- bits of numbers
 

@@ -17,14 +17,15 @@ use Rattle.lock_rules.proofs.Lists.{request_of-session}
 use Rattle.lock_rules.proofs.Settle.{has-waits}
 use Rattle.lock_desk.specs.Deadlocks.{Moment, IsMember, AreMembers, IsCycleTold, IsDeadlockTold, first_session}
 use Rattle.lock_desk.specs.declared.deadlock_log.Deadlock.{Deadlock}
-use Rattle.lock_desk.specs.inner.Noting.{LogView, HasNoted}
+use Rattle.lock_desk.specs.declared.wait_counts.WaitCounts.{WaitCounts}
+use Rattle.lock_desk.specs.inner.Noting.{LogView, HasTold}
 use Rattle.lock_desk.specs.declared.deadlock_log.Member.{Member}
 use Rattle.lock_desk.specs.declared.lock_table.LockTable.{LockTable}
 use Rattle.lock_desk.specs.inner.Changes.{standings, IsWhole}
 use Rattle.lock_desk.specs.inner.Ready.{IsReadyTable}
 use Rattle.lock_desk.specs.inner.Shows.{Shows}
 use Rattle.lock_desk.proofs.WaitsOfTheState.{pairs-shown}
-use Rattle.lock_desk.proofs.DeadlocksTold.{noted-more, noted-instead}
+use Rattle.lock_desk.proofs.DeadlocksTold.{told-in_room, told-instead}
 
 -- the request of a session
 
@@ -160,27 +161,28 @@ slots-instead n xs x some full =
     ap (λ (k : ℕ). drop k (drop 1 xs ++ x ∷ [])) from
     ∙ ap (λ (k : ℕ). drop 1 (drop k xs) ++ x ∷ []) (sym none)
 
--- a deadlock is noted in the slot of the oldest
-pub noted-slot : (slots new : List Deadlock) (count now sessions then_sessions : ℕ) (m : Moment) (d : Deadlock) → 0 < length slots → count ≤ length slots → new ≡ drop 1 slots ++ d ∷ [] → now ≡ cond (ltb count (length new)) (count + 1) count → IsDeadlockTold m d
-    → HasNoted (m ∷ []) (record { most = length slots; sessions = sessions; told = drop (length slots - count) slots }) (record { most = length new; sessions = then_sessions; told = drop (length new - now) new })
-noted-slot slots new count now sessions then_sessions m d some few is one told =
+-- a deadlock is told in the slot of the oldest
+pub told-slot : (slots new : List Deadlock) (count now sessions then_sessions : ℕ) (counts : WaitCounts) (m : Moment) (d : Deadlock) → 0 < length slots → count ≤ length slots → new ≡ drop 1 slots ++ d ∷ [] → now ≡ cond (ltb count (length new)) (count + 1) count → IsDeadlockTold m d
+    → HasTold (m ∷ []) (record { most = length slots; sessions = sessions; told = drop (length slots - count) slots; counts = counts })
+    (record { most = length new; sessions = then_sessions; told = drop (length new - now) new; counts = counts })
+told-slot slots new count now sessions then_sessions counts m d some few is one told =
     elim (cases_lt count (length slots)) [
       | inl low ↦
           let up : now ≡ count + 1 = one ∙ ap (λ (b : Bool). cond b (count + 1) count) (lt-ltb count (length new) (omega (arith, long, low))) in
-          noted-more before after m d told long (omega (arith, length-drop (length slots - count) slots, low))
+          told-in_room before after m d told long (omega (arith, length-drop (length slots - count) slots, low))
           (ap (λ (n : ℕ). drop (length new - n) new) up ∙ (ap (λ (xs : List Deadlock). drop (length xs - (count + 1)) xs) is ∙ slots-more count slots d low))
       | inr high ↦
           let stay : now ≡ count = one ∙ ap (λ (b : Bool). cond b (count + 1) count) (le-ltb count (length new) (omega (arith, long, high))) in
           let full : length slots ≡ count = omega (arith, few, high) in
-          noted-instead before after m d told long some (omega (arith, length-drop (length slots - count) slots, full))
+          told-instead before after m d told long some (omega (arith, length-drop (length slots - count) slots, full))
           (ap (λ (n : ℕ). drop (length new - n) new) stay ∙ (ap (λ (xs : List Deadlock). drop (length xs - count) xs) is ∙ slots-instead count slots d some full))
     ]
   where
     before : LogView
-    before = record { most = length slots; sessions = sessions; told = drop (length slots - count) slots }
+    before = record { most = length slots; sessions = sessions; told = drop (length slots - count) slots; counts = counts }
 
     after : LogView
-    after = record { most = length new; sessions = then_sessions; told = drop (length new - now) new }
+    after = record { most = length new; sessions = then_sessions; told = drop (length new - now) new; counts = counts }
 
     long : length new ≡ length slots
     long = omega (arith, ap length is, length-append (drop 1 slots) (d ∷ []), length-drop 1 slots, some)

@@ -3,7 +3,8 @@ use Rattle.std.proofs.Common.{◌≡◌, ℕ, ◌+◌, ◌-◌, ◌<◌, ◌≤�
 use Rattle.std.proofs.lemmas.List.{drop-append-le, drop-drop}
 use Rattle.lock_desk.specs.Deadlocks.{Moment, IsCycleTold, IsDeadlockTold, AreDeadlocksTold, newest}
 use Rattle.lock_desk.specs.declared.deadlock_log.Deadlock.{Deadlock}
-use Rattle.lock_desk.specs.inner.Noting.{LogView, HasNoted, IsAlike, AreAlike}
+use Rattle.lock_desk.specs.inner.Noting.{LogView, HasTold, HasNoted, IsAlike, AreAlike}
+use Rattle.lock_desk.proofs.VictimsCounted.{counted-none, counted-on}
 
 -- lists of deadlocks told
 
@@ -46,13 +47,14 @@ newest-push {X = X} n xs x some full =
 pub newest-length : {X : Type 0} (n : ℕ) (xs : List X) → length (newest n xs) ≡ length xs - (length xs - n)
 newest-length n xs = length-drop (length xs - n) xs
 
--- what a log notes
+-- what a log notes and tells
 
 -- nothing
 pub noted-none : (l : LogView) → HasNoted [] l l
 noted-none l = record {
   most = refl;
   told = λ before h. subst (λ (ms : List Moment). AreDeadlocksTold (newest l.most ms) l.told) (sym (append-nil before)) h;
+  counted = counted-none l.counts;
 }
 
 -- some deadlocks, and then more
@@ -63,11 +65,12 @@ noted-on a b c ms ns h k = record {
       let one = subst (λ (n : ℕ). AreDeadlocksTold (newest n (before ++ ms)) b.told) (sym h.most) (h.told before told) in
       let two = subst (λ (n : ℕ). AreDeadlocksTold (newest n (before ++ ms ++ ns)) c.told) h.most (k.told (before ++ ms) one) in
       subst (λ (all : List Moment). AreDeadlocksTold (newest a.most all) c.told) (append_assoc before ms ns) two;
+  counted = counted-on a.counts b.counts c.counts ms ns h.counted k.counted;
 }
 
 -- nothing is kept
-pub noted-nowhere : (a : LogView) (ms : List Moment) → a.most ≡ 0 → a.told ≡ [] → HasNoted ms a a
-noted-nowhere a ms none empty = record {
+pub told-nowhere : (a : LogView) (ms : List Moment) → a.most ≡ 0 → a.told ≡ [] → HasTold ms a a
+told-nowhere a ms none empty = record {
   most = refl;
   told = λ before h. subst (λ (n : ℕ). AreDeadlocksTold (newest n (before ++ ms)) a.told) (sym none) (subst (AreDeadlocksTold (newest 0 (before ++ ms))) (sym empty) (at (before ++ ms)));
 }
@@ -84,8 +87,8 @@ noted-nowhere a ms none empty = record {
     at ms = subst (λ (xs : List Moment). AreDeadlocksTold xs []) (sym (gone ms)) tt
 
 -- one deadlock, while there is room
-pub noted-more : (a b : LogView) (m : Moment) (d : Deadlock) → IsDeadlockTold m d → b.most ≡ a.most → length a.told < a.most → b.told ≡ a.told ++ d ∷ [] → HasNoted (m ∷ []) a b
-noted-more a b m d t same room more = record {
+pub told-in_room : (a b : LogView) (m : Moment) (d : Deadlock) → IsDeadlockTold m d → b.most ≡ a.most → length a.told < a.most → b.told ≡ a.told ++ d ∷ [] → HasTold (m ∷ []) a b
+told-in_room a b m d t same room more = record {
   most = same;
   told = λ before h.
       let few : length before < a.most = omega (arith, newest-length a.most before, told-length (newest a.most before) a.told h, room) in
@@ -96,8 +99,8 @@ noted-more a b m d t same room more = record {
 }
 
 -- one deadlock, in the place of the oldest
-pub noted-instead : (a b : LogView) (m : Moment) (d : Deadlock) → IsDeadlockTold m d → b.most ≡ a.most → 0 < a.most → length a.told ≡ a.most → b.told ≡ drop 1 a.told ++ d ∷ [] → HasNoted (m ∷ []) a b
-noted-instead a b m d t same some full more = record {
+pub told-instead : (a b : LogView) (m : Moment) (d : Deadlock) → IsDeadlockTold m d → b.most ≡ a.most → 0 < a.most → length a.told ≡ a.most → b.told ≡ drop 1 a.told ++ d ∷ [] → HasTold (m ∷ []) a b
+told-instead a b m d t same some full more = record {
   most = same;
   told = λ before h.
       let many : a.most ≤ length before = omega (arith, newest-length a.most before, told-length (newest a.most before) a.told h, full) in

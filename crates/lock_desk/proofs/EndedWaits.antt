@@ -8,11 +8,12 @@ use Rattle.lock_desk.specs.declared.lockers.Locker.{Locker}
 use Rattle.lock_desk.specs.declared.lock_table.LockTable.{LockTable}
 use Rattle.lock_desk.specs.inner.Requests.{wanted_in}
 use Rattle.lock_desk.specs.inner.Lockers.{Standing, standing_of, standings_of, standing_at}
-use Rattle.lock_desk.specs.inner.Ended.{EndedView, is_ended, waits_at, DoNoteEnded}
+use Rattle.session_sets.specs.Ended.{EndedView, is_ended}
+use Rattle.lock_desk.specs.inner.Ended.{waits_at, DoNoteEnded}
 use Rattle.lock_desk.specs.inner.Changes.{with_ended, IsWhole, DoesKeep, IsSameSeen, HasNotedEnded, HasCancelled}
 use Rattle.lock_desk.specs.inner.Ready.{IsReadyTable}
 use Rattle.lock_desk.specs.inner.Shows.{Shows}
-use Rattle.lock_desk.proofs.EndedList.{eqb-apart}
+use Rattle.session_sets.proofs.EndedList.{eqb-apart}
 use Rattle.lock_desk.proofs.LockerStandings.{IsPositionOf, standings-set, standing-here, length-standings}
 use Rattle.lock_desk.proofs.Agreement.{own-standing, other-standing}
 

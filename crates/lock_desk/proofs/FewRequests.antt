@@ -7,7 +7,8 @@ use Rattle.lock_rules.specs.Sound.{IsOnce, IsSound, times}
 use Rattle.lock_rules.proofs.Lists.{same_path-refl, times-none, times-claims_but}
 use Rattle.lock_rules.proofs.Steps.{is-none}
 use Rattle.lock_desk.specs.declared.lock_table.LockTable.{LockTable}
-use Rattle.lock_desk.specs.inner.Cells.{View, has_session}
+use Rattle.lock_desk.specs.inner.Cells.{View}
+use Rattle.lock_holders.specs.SessionModes.{has_session}
 use Rattle.lock_desk.specs.inner.Lockers.{Standing, standing_at, is_wanted}
 use Rattle.lock_desk.specs.inner.Changes.{standings, standing, IsWhole}
 use Rattle.lock_desk.specs.inner.Shows.{Shows}

@@ -6,13 +6,16 @@ use Rattle.lock_rules.proofs.Lists.{same_path-refl, same_path_tells}
 use Rattle.lock_desk.specs.declared.cells.GivenUp.TheVariants as claim
 use Rattle.lock_desk.specs.declared.lockers.Locker.{Locker}
 use Rattle.lock_desk.specs.declared.lock_table.LockTable.{LockTable}
-use Rattle.lock_desk.specs.inner.Cells.{View, has_session, view_after_giving_up, view_after_freeing, has_path, AreApart, CellsBecame}
+use Rattle.lock_desk.specs.inner.Cells.{View, view_after_giving_up, view_after_freeing, CellsBecame}
+use Rattle.lock_holders.specs.SessionModes.{has_session}
+use Rattle.session_locks.specs.Resources.{has_path, AreApart}
 use Rattle.lock_desk.specs.inner.Requests.{wanted_in}
 use Rattle.lock_desk.specs.inner.Lockers.{Standing, standing_of, standings_of, AreSameOrGranted, DoAgree}
 use Rattle.lock_desk.specs.inner.Changes.{view_at, standings, standing, view_after_unlock, IsWhole, DoesKeep, HasGivenBack, HasGivenBackAll}
 use Rattle.lock_desk.specs.inner.Blocking.{DoFollow}
 use Rattle.lock_desk.specs.inner.Ready.{IsReadyTable}
-use Rattle.lock_desk.proofs.LockerStandings.{IsPositionOf, standing-here, apart-pop, has_path-push, has_path-push_other}
+use Rattle.lock_desk.proofs.LockerStandings.{IsPositionOf, standing-here}
+use Rattle.session_locks.proofs.ResourceLists.{apart-pop, has_path-push, has_path-push_other}
 use Rattle.lock_desk.proofs.Agreement.{apart-at, GivesUp}
 use Rattle.lock_desk.proofs.GivingUp.{gives-last, freed-agree, freed-own, has-freed, freed-keeps}
 

@@ -8,13 +8,15 @@ use Rattle.lock_desk.specs.declared.cells.GivenUp.{GivenUp}
 use Rattle.lock_desk.specs.declared.cells.GivenUp.TheVariants as claim
 use Rattle.lock_desk.specs.declared.lockers.Locker.{Locker}
 use Rattle.lock_desk.specs.declared.lock_table.LockTable.{LockTable}
-use Rattle.lock_desk.specs.inner.Cells.{view_after_giving_up, view_after_freeing, has_path, AreApart, CellsBecame}
+use Rattle.lock_desk.specs.inner.Cells.{view_after_giving_up, view_after_freeing, CellsBecame}
+use Rattle.session_locks.specs.Resources.{has_path, AreApart}
 use Rattle.lock_desk.specs.inner.Lockers.{Standing, standing_of, standings_of, standing_at, is_wanted, paths_but, IsSameOrGranted, AreSameOrGranted, DoAgree}
 use Rattle.lock_desk.specs.inner.Changes.{view_at, standings, standing, IsWhole, DoesKeep, HasFreed}
 use Rattle.lock_desk.specs.inner.Blocking.{DoFollow}
 use Rattle.lock_desk.specs.inner.Ready.{IsReadyTable}
 use Rattle.lock_desk.proofs.RowsOfTheTable.{ready-follow}
-use Rattle.lock_desk.proofs.LockerStandings.{IsPositionOf, standings-set, standing-here, length-standings, apart-pop, has_path-push_other}
+use Rattle.lock_desk.proofs.LockerStandings.{IsPositionOf, standings-set, standing-here, length-standings}
+use Rattle.session_locks.proofs.ResourceLists.{apart-pop, has_path-push_other}
 use Rattle.lock_desk.proofs.Agreement.{own-standing, other-standing, all-agree, GivesUp, given-agree, given-other, granted-other, not-granted}
 
 -- a grant leaves the transaction as it is

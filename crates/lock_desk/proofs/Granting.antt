@@ -22,10 +22,11 @@ use Rattle.lock_rules.proofs.Lists.{same_path_tells, same_path-refl}
 use Rattle.lock_rules.proofs.Steps.{state-lawful}
 use Rattle.lock_rules.proofs.Histories.{legal-push, state_of-push}
 use Rattle.lock_desk.specs.Batches.{Item}
-use Rattle.lock_desk.specs.declared.cells.SessionMode.{SessionMode}
+use Rattle.lock_holders.specs.declared.session_mode.SessionMode.{SessionMode}
 use Rattle.lock_desk.specs.declared.lock_table.LockTable.{LockTable}
 use Rattle.sequential.specs.Histories.{IsEntryWithin}
-use Rattle.lock_desk.specs.inner.Cells.{View, is_nobody, has_session, mode_of, with_holder, fits_among, queue_with, can_grant, view_with_holder, view_after_asking}
+use Rattle.lock_desk.specs.inner.Cells.{View, queue_with, can_grant, view_with_holder, view_after_asking}
+use Rattle.lock_holders.specs.SessionModes.{is_nobody, has_session, mode_of, with_holder, fits_among}
 use Rattle.lock_desk.specs.inner.Lockers.{Standing, standing_at, standing_after_grant}
 use Rattle.lock_desk.specs.inner.Changes.{view_at, standing, standings, mode_held, call_tests, IsWhole, DoesKeep, HasAsked}
 use Rattle.lock_desk.specs.inner.Shows.{Shows, DoesAnswer}

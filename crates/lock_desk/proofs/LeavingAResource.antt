@@ -5,12 +5,13 @@ use Rattle.std.proofs.lemmas.Bool.Decides.{nat_tests}
 use Rattle.std.proofs.lemmas.Bool.{and_parts, cases_Bool}
 use Rattle.lock_modes.specs.Compatibility.{are_compatible}
 use Rattle.lock_rules.proofs.Lists.{after-trans}
-use Rattle.lock_desk.specs.declared.cells.SessionMode.{SessionMode}
+use Rattle.lock_holders.specs.declared.session_mode.SessionMode.{SessionMode}
 use Rattle.lock_desk.specs.declared.cells.GivenUp.TheVariants as claim
-use Rattle.lock_desk.specs.inner.Cells.{View, has_session, pair_of, with_holder, without, fits_among, Ascends, view_after_grants, view_after_promotion, view_after_freeing}
+use Rattle.lock_desk.specs.inner.Cells.{View, view_after_grants, view_after_promotion, view_after_freeing}
+use Rattle.lock_holders.specs.SessionModes.{has_session, pair_of, with_holder, without, fits_among, Ascends}
 use Rattle.lock_desk.specs.inner.Changes.{view_after_unlock, view_after_end}
-use Rattle.lock_desk.proofs.SessionModes.{has_session-with_holder, has_session-without, without-none}
-use Rattle.lock_desk.proofs.Rising.{IsAfter, ascends-with, after-without}
+use Rattle.lock_holders.proofs.SessionModes.{has_session-with_holder, has_session-without, without-none}
+use Rattle.lock_holders.proofs.Rising.{IsAfter, ascends-with, after-without}
 
 -- a holder below all others is inserted first
 with-first : (c : SessionMode) (hs : List SessionMode) → IsAfter c.session hs → with_holder c hs ≡ c ∷ hs

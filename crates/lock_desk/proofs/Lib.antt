@@ -1,10 +1,6 @@
 -- cells
--- lists of sessions with modes: the holders or the queue of one resource
-pub mod SessionModes
--- holders in order of session number: places, and modes that fit
-pub mod Rising
--- holders as two columns
-pub mod Columns
+-- the queue of one resource: a request is added
+pub mod WaitQueues
 -- one resource: a grant, a request, a release
 pub mod ResourceViews
 -- the cells after a change of one of them
@@ -15,21 +11,11 @@ pub mod Places
 pub mod Codes
 -- a lock or a request is given up in its cell
 pub mod CellGivesUp
--- resources brought into their order
-pub mod InOrder
--- the resources of a list that pass a test
-pub mod FilteredResources
 -- lockers
--- a grant in the lockers; lists of resources
+-- a grant in the lockers
 pub mod LockerStandings
--- how many children of each lock are held
-pub mod ChildCounts
--- indexed locks and recent locks
-pub mod LockLists
 -- the locker of a session whose request is granted
 pub mod LockerGrant
--- the list of ended waits: places, and which sessions are listed
-pub mod EndedList
 -- the lock table: each operation keeps cells and lockers in agreement
 -- agreement of lockers and cells after a change
 pub mod Agreement
@@ -81,6 +67,8 @@ pub mod WaitsOfTheState
 pub mod VictimRounds
 -- no more requests wait than there are sessions
 pub mod FewRequests
+-- what is counted of victims
+pub mod VictimsCounted
 -- what a log tells
 pub mod DeadlocksTold
 -- the deadlocks that are noted while victims are chosen
@@ -102,6 +90,12 @@ pub mod RunItems
 pub mod Granting
 -- the deadlocks of a call, and those of a history with one more entry
 pub mod DeadlocksOfCalls
+-- as many victims are counted as the history has
+pub mod VictimsOfCalls
+-- as many sessions wait as there are requests
+pub mod WaitersCounted
+-- one call more is counted
+pub mod CallsCounted
 -- a batch, one item further
 pub mod Batches
 -- the sessions for which one waits, by number

@@ -15,17 +15,19 @@ use Rattle.lock_rules.specs.declared.listing.ClaimKind.TheVariants.{Held, Conver
 use Rattle.lock_rules.specs.Listing.{with_path, resources_of, transaction_of, listed_as, listed_on, listing_of, kind_of_request, listed_request, waiting_line}
 use Rattle.lock_rules.proofs.Lists.{same_path-true, request_of-session}
 use Rattle.lock_rules.proofs.Steps.{is-none}
-use Rattle.lock_desk.specs.declared.cells.SessionMode.{SessionMode}
+use Rattle.lock_holders.specs.declared.session_mode.SessionMode.{SessionMode}
 use Rattle.lock_desk.specs.declared.cells.Cell.{Cell}
 use Rattle.lock_desk.specs.declared.lock_table.LockTable.{LockTable}
-use Rattle.lock_desk.specs.inner.Cells.{View, Cells, view_in, cell_at, cell_view, has_path, mode_of, is_nobody, is_busy, IsKeptCell, AreKeptCells}
+use Rattle.lock_desk.specs.inner.Cells.{View, Cells, view_in, cell_at, cell_view, is_busy, IsKeptCell, AreKeptCells}
+use Rattle.session_locks.specs.Resources.{has_path, in_order}
+use Rattle.lock_holders.specs.SessionModes.{mode_of, is_nobody}
 use Rattle.lock_desk.specs.inner.Lockers.{is_wanted}
 use Rattle.lock_desk.specs.inner.Changes.{view_at, standing, IsWhole}
-use Rattle.lock_desk.specs.inner.Listing.{in_order, transaction_shown, line, kind_beside, request_line, lines_in, lines_at, lines_of, asked_line, request_at}
+use Rattle.lock_desk.specs.inner.Listing.{transaction_shown, line, kind_beside, request_line, lines_in, lines_at, lines_of, asked_line, request_at}
 use Rattle.lock_desk.specs.inner.Shows.{short, claims_on, view, Shows}
-use Rattle.lock_desk.proofs.Places.{same_path-equivalence}
-use Rattle.lock_desk.proofs.InOrder.{same-in_order}
-use Rattle.lock_desk.proofs.SessionModes.{mode-has}
+use Rattle.session_locks.proofs.ResourceLists.{same_path-equivalence}
+use Rattle.session_locks.proofs.InOrder.{same-in_order}
+use Rattle.lock_holders.proofs.SessionModes.{mode-has}
 use Rattle.lock_desk.proofs.Simulation.{waits-shown}
 use Rattle.lock_desk.proofs.TableViews.{held-seen}
 use Rattle.lock_desk.proofs.WaitsOfTheState.{mode-short, request-queued}

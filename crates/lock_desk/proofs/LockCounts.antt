@@ -12,7 +12,8 @@ use Rattle.lock_rules.specs.Queue.{queue, conversions, fresh_requests}
 use Rattle.lock_rules.specs.Waits.{resource_of_request}
 use Rattle.lock_rules.specs.Sound.{IsOrdered, IsSound, times}
 use Rattle.lock_rules.proofs.Lists.{same_path-refl, same_path_tells}
-use Rattle.lock_desk.specs.inner.Cells.{has_session, has_path, AreApart}
+use Rattle.lock_holders.specs.SessionModes.{has_session}
+use Rattle.session_locks.specs.Resources.{has_path, AreApart}
 use Rattle.lock_desk.specs.inner.Lockers.{is_wanted, paths_but}
 use Rattle.lock_desk.specs.inner.Shows.{short, claims_on}
 use Rattle.lock_desk.proofs.TableViews.{held-seen}

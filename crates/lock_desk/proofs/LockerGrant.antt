@@ -5,12 +5,12 @@ use Rattle.lock_rules.proofs.Lists.{same_path-true}
 use Rattle.lock_desk.specs.declared.lockers.Request.{Request}
 use Rattle.lock_desk.specs.declared.lockers.Request.TheVariants.{Fresh, Conversion}
 use Rattle.lock_desk.specs.declared.lockers.Locker.{Locker}
-use Rattle.lock_desk.specs.inner.Cells.{has_path, AreApart}
-use Rattle.lock_desk.specs.inner.ChildCounts.{IsUnder}
+use Rattle.session_locks.specs.Resources.{has_path, AreApart}
+use Rattle.session_locks.specs.LockLists.{IsUnder}
 use Rattle.lock_desk.specs.inner.Requests.{resource_asked, is_fresh, wanted_in, IsOfKind, IsComingUnder}
 use Rattle.lock_desk.specs.inner.Lockers.{is_wanted, with_path}
-use Rattle.lock_desk.specs.declared.locks.HeldLock.{HeldLock}
-use Rattle.lock_desk.proofs.LockerStandings.{apart-pop}
+use Rattle.session_locks.specs.declared.locks.HeldLock.{HeldLock}
+use Rattle.session_locks.proofs.ResourceLists.{apart-pop}
 
 module _ (r : List ℕ) (locker : Locker) (waits : is_wanted r (wanted_in locker.wanted) ≡ true) where
   -- a request for `r` is a conversion exactly if `r` is held

@@ -1,51 +1,22 @@
 -- What a grant does to the lockers.
 use Rattle.std.proofs.Common.{◌≡◌, ℕ, zero, suc, ◌+◌, ◌<◌, Bool, true, false, cond, eqb, ◌||◌, inl, inr, List, [], ◌∷◌, ◌++◌, length, map, get_or, set, refl, sym, ◌∙◌, ap, arith}
-use Rattle.std.proofs.Math.Bool.{or-false, or_assoc}
-use Rattle.std.proofs.lemmas.Bool.{or_right, or_parts, cases_Bool}
+use Rattle.std.proofs.lemmas.Bool.{or_right, cases_Bool}
 use Rattle.std.proofs.lemmas.Bool.Decides.{nat_tests, Decides-eqb}
 use Rattle.std.proofs.lemmas.List.{get_or-set_same, get_or-set_other}
 use Rattle.lock_tree.specs.Paths.{same_path}
-use Rattle.lock_rules.proofs.Lists.{same_path-refl, same_path_tells}
+use Rattle.lock_rules.proofs.Lists.{same_path-refl}
 use Rattle.lock_rules.proofs.Alters.{true≢false}
-use Rattle.lock_desk.specs.declared.cells.SessionMode.{SessionMode}
+use Rattle.lock_holders.specs.declared.session_mode.SessionMode.{SessionMode}
 use Rattle.lock_desk.specs.declared.lockers.Locker.{Locker}
-use Rattle.lock_desk.specs.inner.Cells.{View, has_session, times, has_path, AreApart, IsOnce}
+use Rattle.lock_desk.specs.inner.Cells.{View, IsOnce}
+use Rattle.lock_holders.specs.SessionModes.{has_session, times}
+use Rattle.session_locks.specs.Resources.{has_path}
 use Rattle.lock_desk.specs.inner.Lockers.{Standing, no_standing, standing_of, standings_of, standing_at, is_wanted, with_path, standing_after_grant, IsSameOrGranted, AreSameOrGranted, DoAgree}
-use Rattle.lock_desk.proofs.SessionModes.{has_tells, has_session-with_holder}
+use Rattle.lock_holders.proofs.SessionModes.{has_tells, has_session-with_holder}
+use Rattle.session_locks.proofs.ResourceLists.{has_path-push}
 use Rattle.lock_desk.proofs.ResourceViews.{IsNext}
 
 -- lists of resources
-
--- the resources with one more at the end
-pub has_path-push : (r q : List ℕ) (rs : List (List ℕ)) → has_path r (rs ++ q ∷ []) ≡ (has_path r rs || same_path q r)
-has_path-push r q [] = or-false (same_path q r)
-has_path-push r q (p ∷ rs) = ap (λ (b : Bool). same_path p r || b) (has_path-push r q rs) ∙ sym (or_assoc (same_path p r) (has_path r rs) (same_path q r))
-
--- a different resource at the end makes no difference
-pub has_path-push_other : (r q : List ℕ) (rs : List (List ℕ)) → same_path q r ≡ false → has_path r (rs ++ q ∷ []) ≡ has_path r rs
-has_path-push_other r q rs n = has_path-push r q rs ∙ (ap (λ (b : Bool). has_path r rs || b) n ∙ or-false (has_path r rs))
-
--- whether two resources differ doesn't depend on their order
-pub same_path-swap : (a b : List ℕ) → same_path a b ≡ false → same_path b a ≡ false
-same_path-swap a b h = elim (same_path_tells b a) [ inl k ↦ absurd (contra k.1) | inr k ↦ k ]
-  where
-    contra : b ≡ a → ⊥
-    contra e = let k : same_path a b ≡ true = rw e (same_path-refl a) in cc
-
--- a list without repetition, with a new resource at the end
-pub apart-push : (rs : List (List ℕ)) (q : List ℕ) → AreApart rs → has_path q rs ≡ false → AreApart (rs ++ q ∷ [])
-apart-push [] q a h = (refl, tt)
-apart-push (r ∷ rs) q a h =
-    let p = or_parts (same_path r q) (has_path q rs) h in
-    (has_path-push r q rs ∙ (ap (λ (b : Bool). b || same_path q r) a.0 ∙ same_path-swap r q p.0), apart-push rs q a.1 p.1)
-
--- the last resource of a list without repetition isn't in the rest
-pub apart-pop : (rs : List (List ℕ)) (q : List ℕ) → AreApart (rs ++ q ∷ []) → AreApart rs × (has_path q rs ≡ false)
-apart-pop [] q a = (tt, refl)
-apart-pop (r ∷ rs) q a =
-    let k = or_parts (has_path r rs) (same_path q r) (sym (has_path-push r q rs) ∙ a.0) in
-    let p = apart-pop rs q a.1 in
-    ((k.0, p.0), ap (λ (b : Bool). b || has_path q rs) (same_path-swap q r k.1) ∙ p.1)
 
 -- lockers
 

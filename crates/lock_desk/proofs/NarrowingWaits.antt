@@ -10,15 +10,16 @@ use Rattle.waits_for.specs.Pairs.{pairs_of}
 use Rattle.lock_modes.specs.declared.Mode.{Mode}
 use Rattle.lock_modes.specs.Compatibility.{are_compatible}
 use Rattle.lock_rules.specs.Sound.{after, ascend}
-use Rattle.lock_desk.specs.declared.cells.SessionMode.{SessionMode}
+use Rattle.lock_holders.specs.declared.session_mode.SessionMode.{SessionMode}
 use Rattle.lock_desk.specs.declared.waits.Waits.{Waits}
 use Rattle.lock_desk.specs.declared.cells.GivenUp.{GivenUp}
 use Rattle.lock_desk.specs.declared.cells.GivenUp.TheVariants as claim
-use Rattle.lock_desk.specs.inner.Cells.{View, has_session, mode_of, times, with_holder, without, view_after_giving_up, is_request, pair_of, Ascends, IsOnce}
-use Rattle.lock_desk.specs.inner.Blocking.{holder_blocks, is_ahead, target_blocks, view_blocks, fits_beside, has_fitting, has_fitting_beside, with_holders, AreWritten, HasGranted, DoFollow}
-use Rattle.lock_desk.proofs.Rising.{IsAfter, ascends-with}
+use Rattle.lock_desk.specs.inner.Cells.{View, view_after_giving_up, is_request, IsOnce}
+use Rattle.lock_holders.specs.SessionModes.{has_session, mode_of, times, with_holder, without, pair_of, Ascends, holder_blocks}
+use Rattle.lock_desk.specs.inner.Blocking.{is_ahead, target_blocks, view_blocks, fits_beside, has_fitting, has_fitting_beside, with_holders, AreWritten, HasGranted, DoFollow}
+use Rattle.lock_holders.proofs.Rising.{IsAfter, ascends-with}
 use Rattle.lock_desk.proofs.ResourceViews.{both}
-use Rattle.lock_desk.proofs.SessionModes.{mode-has, has_tells, has_session-without}
+use Rattle.lock_holders.proofs.SessionModes.{mode-has, has_tells, has_session-without}
 use Rattle.lock_desk.proofs.WritingWaits.{blocks-none}
 use Rattle.lock_desk.proofs.RequestsAlike.{not-ahead}
 

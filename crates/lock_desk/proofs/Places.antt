@@ -8,7 +8,6 @@ use Rattle.std.proofs.lemmas.List.Edits.{length-swap}
 use Rattle.std.proofs.lemmas.List.Quantifiers.{position-Some}
 use Rattle.std.proofs.lemmas.Map.Made.{is_some-lookup}
 use Rattle.std.proofs.lemmas.Map.Entries.{lookup_from_place}
-use Rattle.std.specs.Cmp.{IsEquivalence}
 use Rattle.std.specs.List.{IsDistinct, swap_remove, list_any}
 use Rattle.std.specs.Map.{keys_of, IsKeyTest}
 use Rattle.indexmap.specs.IndexMap.{set_value_at, insert_entry}
@@ -17,23 +16,11 @@ use Rattle.indexmap.proofs.RemoveLemmas.{swap_out, own_first}
 use Rattle.indexmap.proofs.ReorderLemmas.{slice_get-zip_some, zip-take}
 use Rattle.lock_tree.specs.Paths.{same_path}
 use Rattle.lock_rules.proofs.Lists.{same_path-refl, same_path-true, same_path_tells}
+use Rattle.session_locks.proofs.ResourceLists.{same_path-equivalence}
 use Rattle.lock_desk.specs.declared.cells.Cell.{Cell}
 use Rattle.lock_desk.specs.inner.Cells.{View, no_view, view_of, Cells, cell_at, CellsBecame, AreKeptCells, IsKeptCell, IsCellAt, IsPlace, HasRoomFor, HasRoomAt}
 use Rattle.lock_desk.specs.inner.Tables.{in_use, AreIdleFrom}
 use Rattle.lock_desk.proofs.CellTable.{became, became-view}
-
--- being the same path is an equivalence relation
-pub same_path-equivalence : IsEquivalence same_path
-same_path-equivalence = record { refl = same_path-refl; symm = symm; congr = λ x y z h. ap (λ (w : List ℕ). same_path w z) (same_path-true x y h) }
-  where
-    symm : (x y : List ℕ) → same_path x y ≡ same_path y x
-    symm x y = elim (same_path_tells x y) [
-      | inl h ↦ h.0 ∙ sym (ap (λ (z : List ℕ). same_path z x) (sym h.1) ∙ same_path-refl x)
-      | inr h ↦ elim (same_path_tells y x) [
-        | inl k ↦ absurd (let e : same_path x y ≡ true = ap (λ (z : List ℕ). same_path x z) k.1 ∙ same_path-refl x in cc)
-        | inr k ↦ h ∙ sym k
-      ]
-    ]
 
 -- lists
 

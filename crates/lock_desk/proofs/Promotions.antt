@@ -2,12 +2,14 @@
 use Rattle.std.proofs.Common.{◌≡◌, ℕ, suc, ◌<◌, ◌≤◌, true, eqb, ◌||◌, Option, Some, None, is_some, List, length, get_or, set, refl, sym, ◌∙◌, ap, arith, subst}
 use Rattle.std.proofs.lemmas.Bool.{or_parts}
 use Rattle.std.proofs.lemmas.Bool.Decides.{nat_tests}
-use Rattle.lock_desk.specs.declared.cells.SessionMode.{SessionMode}
+use Rattle.lock_holders.specs.declared.session_mode.SessionMode.{SessionMode}
 use Rattle.lock_desk.specs.declared.lockers.Locker.{Locker}
-use Rattle.lock_desk.specs.inner.Cells.{View, has_session, IsOnce}
+use Rattle.lock_desk.specs.inner.Cells.{View, IsOnce}
+use Rattle.lock_holders.specs.SessionModes.{has_session}
 use Rattle.lock_desk.specs.inner.Requests.{wanted_in}
 use Rattle.lock_desk.specs.inner.Lockers.{Standing, standing_of, standings_of, standing_at, is_wanted, standing_after_grant, AreSameOrGranted, DoAgree}
-use Rattle.lock_desk.specs.inner.Ended.{EndedView, is_ended, DoNoteEnded}
+use Rattle.session_sets.specs.Ended.{EndedView, is_ended}
+use Rattle.lock_desk.specs.inner.Ended.{DoNoteEnded}
 use Rattle.lock_desk.proofs.EndedWaits.{list-granted}
 use Rattle.lock_desk.proofs.ResourceViews.{IsNext, next-waits}
 use Rattle.lock_desk.proofs.LockerStandings.{IsPositionOf, standing-here, standings-set, length-standings, waits-within, agree-next, same-next}

@@ -6,9 +6,10 @@ use Rattle.std.proofs.lemmas.Bool.Decides.{nat_tests, Decides-eqb}
 use Rattle.std.proofs.lemmas.List.{get_or_default}
 use Rattle.lock_modes.specs.declared.Mode.{Mode}
 use Rattle.lock_modes.specs.Compatibility.{are_compatible}
-use Rattle.lock_desk.specs.declared.cells.SessionMode.{SessionMode}
-use Rattle.lock_desk.specs.inner.Cells.{View, has_session, mode_of, times}
-use Rattle.lock_desk.specs.inner.Blocking.{holder_blocks, target_blocks, view_blocks}
+use Rattle.lock_holders.specs.declared.session_mode.SessionMode.{SessionMode}
+use Rattle.lock_desk.specs.inner.Cells.{View}
+use Rattle.lock_holders.specs.SessionModes.{has_session, mode_of, times, holder_blocks}
+use Rattle.lock_desk.specs.inner.Blocking.{target_blocks, view_blocks}
 use Rattle.lock_desk.proofs.WritingWaits.{stands-until}
 
 -- a request at an index of the queue

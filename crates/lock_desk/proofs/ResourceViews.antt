@@ -4,13 +4,15 @@ use Rattle.std.proofs.lemmas.Bool.{and_right, or_from, or_parts}
 use Rattle.std.proofs.Math.Bool.{and-false}
 use Rattle.std.proofs.lemmas.Bool.Decides.{nat_tests, Decides-eqb}
 use Rattle.std.proofs.lemmas.List.{drop-drop}
-use Rattle.lock_desk.specs.declared.cells.SessionMode.{SessionMode}
+use Rattle.lock_holders.specs.declared.session_mode.SessionMode.{SessionMode}
 use Rattle.lock_desk.specs.declared.cells.Cell.{Cell}
 use Rattle.lock_desk.specs.declared.cells.GivenUp.{GivenUp}
 use Rattle.lock_desk.specs.declared.cells.GivenUp.TheVariants as claim
-use Rattle.lock_desk.specs.inner.Cells.{View, no_view, with_holder, has_session, times, is_nobody, fits_among, next_grant, view_after_grants, view_after_promotion, view_after_giving_up, queue_with, Ascends, IsOnce, is_busy, view_of, HasRoom, IsKeptCell}
-use Rattle.lock_desk.proofs.Rising.{ascends-with, ascends-without}
-use Rattle.lock_desk.proofs.SessionModes.{has_tells, has_session-with_holder, has_session-without, has_session-queued, times-queued, times-without, nobody-with_holder, nobody-queued}
+use Rattle.lock_desk.specs.inner.Cells.{View, no_view, next_grant, view_after_grants, view_after_promotion, view_after_giving_up, queue_with, IsOnce, is_busy, view_of, HasRoom, IsKeptCell}
+use Rattle.lock_holders.specs.SessionModes.{with_holder, has_session, times, is_nobody, fits_among, Ascends}
+use Rattle.lock_holders.proofs.Rising.{ascends-with, ascends-without}
+use Rattle.lock_holders.proofs.SessionModes.{has_tells, has_session-with_holder, has_session-without, times-without, nobody-with_holder}
+use Rattle.lock_desk.proofs.WaitQueues.{has_session-queued, times-queued, nobody-queued}
 
 -- the view with these holders and this queue
 abbrev pub both : List SessionMode → List SessionMode → View

@@ -7,12 +7,14 @@ use Rattle.std.proofs.Math.Bool.{and-true, and-false, or-false, or_comm, or_asso
 use Rattle.waits_for.specs.Pairs.{pairs_of}
 use Rattle.lock_modes.specs.declared.Mode.{Mode}
 use Rattle.lock_modes.specs.Compatibility.{are_compatible}
-use Rattle.lock_desk.specs.declared.cells.SessionMode.{SessionMode}
+use Rattle.lock_holders.specs.declared.session_mode.SessionMode.{SessionMode}
 use Rattle.lock_desk.specs.declared.waits.Waits.{Waits}
-use Rattle.lock_desk.specs.inner.Cells.{View, has_session, mode_of, times, with_holder, behind_conversions, can_grant, queue_with, view_after_asking, Ascends, IsOnce}
-use Rattle.lock_desk.specs.inner.Blocking.{holder_blocks, is_ahead, target_blocks, view_blocks, fits_beside, has_fitting, has_conflicting, IsWritten, DoFollow}
+use Rattle.lock_desk.specs.inner.Cells.{View, behind_conversions, can_grant, queue_with, view_after_asking, IsOnce}
+use Rattle.lock_holders.specs.SessionModes.{has_session, mode_of, times, with_holder, Ascends, holder_blocks}
+use Rattle.lock_desk.specs.inner.Blocking.{is_ahead, target_blocks, view_blocks, fits_beside, has_fitting, has_conflicting, IsWritten, DoFollow}
 use Rattle.lock_desk.proofs.ResourceViews.{both}
-use Rattle.lock_desk.proofs.SessionModes.{mode-has, has_session-queued, times-queued}
+use Rattle.lock_holders.proofs.SessionModes.{mode-has}
+use Rattle.lock_desk.proofs.WaitQueues.{has_session-queued, times-queued}
 use Rattle.lock_desk.proofs.WritingWaits.{blocks-none}
 use Rattle.lock_desk.proofs.NarrowingWaits.{any-none, any-some, gone, blocks-as-held, blocks-with, mode-with, none-ahead}
 

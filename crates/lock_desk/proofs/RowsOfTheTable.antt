@@ -15,12 +15,13 @@ use Rattle.lock_rules.specs.Step.{restarted}
 use Rattle.lock_rules.proofs.Lists.{same_path-refl, same_path-true, same_path_tells}
 use Rattle.lock_desk.specs.declared.lock_table.LockTable.{LockTable}
 use Rattle.lock_desk.specs.declared.waits.Waits.{Waits}
-use Rattle.lock_desk.specs.declared.cells.SessionMode.{SessionMode}
-use Rattle.lock_desk.specs.inner.Cells.{View, has_session, mode_of, is_nobody}
+use Rattle.lock_holders.specs.declared.session_mode.SessionMode.{SessionMode}
+use Rattle.lock_desk.specs.inner.Cells.{View}
+use Rattle.lock_holders.specs.SessionModes.{has_session, mode_of, is_nobody}
 use Rattle.lock_desk.specs.inner.Lockers.{Standing, standing_at, is_wanted, no_standing}
 use Rattle.lock_desk.specs.inner.Changes.{view_at, standings, standing, IsWhole, IsSameSeen}
 use Rattle.lock_desk.specs.inner.Blocking.{target_blocks, view_blocks, blocks_at, blocks, IsSizedFor, AreWritten, IsWritten, DoFollow}
-use Rattle.lock_desk.specs.inner.Ended.{EndedView}
+use Rattle.session_sets.specs.Ended.{EndedView}
 use Rattle.lock_desk.specs.inner.Ready.{IsReadyTable}
 use Rattle.lock_desk.proofs.SessionsInRange.{numbered-whole, once-at}
 use Rattle.lock_desk.proofs.WritingWaits.{blocks-none}

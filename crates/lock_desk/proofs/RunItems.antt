@@ -18,7 +18,8 @@ use Rattle.lock_rules.specs.Step.{is_nothing, target_of, first_failing}
 use Rattle.lock_desk.specs.Batches.{Item}
 use Rattle.lock_desk.specs.declared.lock_table.LockTable.{LockTable}
 use Rattle.lock_desk.specs.declared.lock_table.runs.Run.{Run}
-use Rattle.lock_desk.specs.inner.Cells.{View, is_nobody, mode_of, codes_among, codes_unless_waited, IsPlace, HasRoomAt}
+use Rattle.lock_desk.specs.inner.Cells.{View, codes_unless_waited, IsPlace, HasRoomAt}
+use Rattle.lock_holders.specs.SessionModes.{is_nobody, mode_of, codes_among}
 use Rattle.lock_desk.specs.inner.Lockers.{standing_at}
 use Rattle.lock_desk.specs.inner.Changes.{view_at, standing, mode_held, call_tests, IsWhole, IsSameSeen, CanLock, MayAsk}
 use Rattle.lock_desk.specs.inner.Runs.{HasLockRoom, mode_asked, asker_of, CanJoin, Each, EachPair, HasBits, IsRun, IsGranting}

@@ -2,16 +2,19 @@
 use Rattle.std.proofs.Common.{◌≡◌, ℕ, zero, suc, ◌<◌, ◌≤◌, Bool, true, false, eqb, ◌||◌, List, [], ◌∷◌, length, Option, Some, None, IfSome, cond, refl, sym, ◌∙◌, ap, arith, subst}
 use Rattle.std.proofs.lemmas.Bool.Decides.{nat_tests, Decides-eqb}
 use Rattle.std.proofs.lemmas.List.Elements.{All-nil, All-cons, All-head, All-tail}
-use Rattle.lock_desk.specs.declared.cells.SessionMode.{SessionMode}
+use Rattle.lock_holders.specs.declared.session_mode.SessionMode.{SessionMode}
 use Rattle.lock_desk.specs.declared.cells.Cell.{Cell}
 use Rattle.lock_desk.specs.declared.lock_table.LockTable.{LockTable}
 use Rattle.lock_desk.specs.declared.lockers.Locker.{Locker}
-use Rattle.lock_desk.specs.inner.Cells.{View, Cells, cell_at, view_in, cell_view, has_session, has_path, with_holder, can_grant, queue_with, view_after_asking, IsOnce, IsKeptCell, AreKeptCells}
+use Rattle.lock_desk.specs.inner.Cells.{View, Cells, cell_at, view_in, cell_view, can_grant, queue_with, view_after_asking, IsOnce, IsKeptCell, AreKeptCells}
+use Rattle.lock_holders.specs.SessionModes.{has_session, with_holder, AreOfSessions}
+use Rattle.session_locks.specs.Resources.{has_path}
 use Rattle.lock_desk.specs.inner.Lockers.{Standing, standings_of, standing_at, DoAgree}
 use Rattle.lock_desk.specs.inner.Changes.{view_at, IsWhole}
-use Rattle.lock_desk.specs.inner.Blocking.{AreOfSessions, IsOfSessions}
+use Rattle.lock_desk.specs.inner.Blocking.{IsOfSessions}
 use Rattle.lock_desk.proofs.ResourceViews.{both, once-nobody}
-use Rattle.lock_desk.proofs.SessionModes.{has_session-with_holder, has_session-queued}
+use Rattle.lock_holders.proofs.SessionModes.{has_session-with_holder}
+use Rattle.lock_desk.proofs.WaitQueues.{has_session-queued}
 use Rattle.lock_desk.proofs.LockerStandings.{waits-within, length-standings}
 
 -- the invariant of the cells gives that of each view

@@ -27,7 +27,8 @@ use Rattle.lock_rules.proofs.Owners.{waiting-numbered}
 use Rattle.lock_rules.proofs.Steps.{all-pass, is-none, front-passes}
 use Rattle.lock_desk.specs.declared.cells.GivenUp.TheVariants as claim
 use Rattle.lock_desk.specs.declared.lock_table.LockTable.{LockTable}
-use Rattle.lock_desk.specs.inner.Cells.{View, has_session, mode_of, pair_of, view_after_freeing, can_grant, view_after_asking}
+use Rattle.lock_desk.specs.inner.Cells.{View, view_after_freeing, can_grant, view_after_asking}
+use Rattle.lock_holders.specs.SessionModes.{has_session, mode_of, pair_of}
 use Rattle.lock_desk.specs.inner.Lockers.{Standing, standing_at}
 use Rattle.lock_desk.specs.inner.Changes.{view_at, standing, view_after_end, IsWhole, mode_held, lacks_need, lock_tests, convert_tests, release_tests, idle_tests, call_tests, IsSameSeen, MayAsk, HasAsked, CanRelease, HasFreed, HasBegun, HasGivenUpAll, HasEnded, HasRestarted, would_wait, try_tests, HasCancelled, view_after_cancel}
 use Rattle.lock_desk.specs.inner.Shows.{view, Shows, DoesAnswer}
@@ -36,8 +37,8 @@ use Rattle.lock_desk.proofs.Asking.{held-locker}
 use Rattle.lock_desk.proofs.TableViews.{in_mode, mode-seen, pairs-seen}
 use Rattle.lock_desk.proofs.LockCounts.{waits-told, locks-told}
 use Rattle.lock_rules.proofs.Sound.{under-parent}
-use Rattle.lock_desk.specs.inner.ChildCounts.{has_child, IsUnder}
-use Rattle.lock_desk.proofs.ChildCounts.{child-path, path-child}
+use Rattle.session_locks.specs.LockLists.{has_child, IsUnder}
+use Rattle.session_locks.proofs.ChildCounts.{child-path, path-child}
 use Rattle.lock_desk.proofs.Children.{child-there, there-child, child-below, held-child, both-ways}
 use Rattle.lock_desk.proofs.AfterRelease.{released-seen}
 use Rattle.lock_desk.proofs.AfterStep.{ended-seen, granted-seen, first_state, first-seen, cancelled-seen}

@@ -13,8 +13,10 @@ use Rattle.lock_rules.proofs.Lists.{same_path-refl, same_path-true, same_path_te
 use Rattle.lock_rules.proofs.Alters.{queue-alters, true≢false}
 use Rattle.lock_rules.proofs.Sound.{In-queue, head-request, queue-rest, granted-alters, granted-sound}
 use Rattle.lock_rules.proofs.Promote.{promoted-promoted}
-use Rattle.lock_desk.specs.declared.cells.SessionMode.{SessionMode}
-use Rattle.lock_desk.specs.inner.Cells.{View, has_session, mode_of, pair_of, with_holder, without, fits_among, view_after_grants, view_after_promotion, has_path}
+use Rattle.lock_holders.specs.declared.session_mode.SessionMode.{SessionMode}
+use Rattle.lock_desk.specs.inner.Cells.{View, view_after_grants, view_after_promotion}
+use Rattle.lock_holders.specs.SessionModes.{has_session, mode_of, pair_of, with_holder, without, fits_among}
+use Rattle.session_locks.specs.Resources.{has_path}
 use Rattle.lock_desk.specs.inner.Shows.{short, claims_on, view}
 use Rattle.lock_desk.proofs.ResourceViews.{promoted-again}
 

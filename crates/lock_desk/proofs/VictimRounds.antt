@@ -13,10 +13,10 @@ use Rattle.lock_rules.proofs.Cuts.{cancelled-follows}
 use Rattle.lock_rules.proofs.Settle.{reached-walk, reaches-walk}
 use Rattle.lock_rules.proofs.Victims.{victim-most, one-victim}
 use Rattle.lock_rules.proofs.Owners.{victim-numbered}
-use Rattle.lock_desk.specs.declared.cells.SessionMode.{SessionMode}
+use Rattle.lock_holders.specs.declared.session_mode.SessionMode.{SessionMode}
 use Rattle.lock_desk.specs.declared.lock_table.LockTable.{LockTable}
 use Rattle.lock_desk.specs.declared.waits.Waits.{Waits}
-use Rattle.lock_desk.specs.inner.Cells.{mode_of, has_session}
+use Rattle.lock_holders.specs.SessionModes.{mode_of, has_session}
 use Rattle.lock_desk.specs.inner.Changes.{view_at, standings, standing, view_after_cancel, IsWhole, HasDoomed}
 use Rattle.lock_desk.specs.inner.Blocking.{blocks, blocks_at, target_blocks, IsCurrent}
 use Rattle.lock_desk.specs.inner.Shows.{Shows}

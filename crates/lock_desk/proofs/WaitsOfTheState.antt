@@ -14,12 +14,14 @@ use Rattle.lock_rules.specs.Sound.{IsSound, after, ascend, times}
 use Rattle.lock_rules.proofs.Lists.{same_path-refl, same_path-true, request_of-session}
 use Rattle.lock_rules.proofs.Steps.{is-none}
 use Rattle.lock_rules.proofs.Waiting.{request_of-filter, request_of-front, request_of-rest}
-use Rattle.lock_desk.specs.declared.cells.SessionMode.{SessionMode}
+use Rattle.lock_holders.specs.declared.session_mode.SessionMode.{SessionMode}
 use Rattle.lock_desk.specs.declared.lock_table.LockTable.{LockTable}
-use Rattle.lock_desk.specs.inner.Cells.{View, has_session, mode_of, pair_of, Ascends, has_path}
+use Rattle.lock_desk.specs.inner.Cells.{View}
+use Rattle.lock_holders.specs.SessionModes.{has_session, mode_of, pair_of, Ascends, holder_blocks}
+use Rattle.session_locks.specs.Resources.{has_path}
 use Rattle.lock_desk.specs.inner.Lockers.{is_wanted}
 use Rattle.lock_desk.specs.inner.Changes.{standings, standing, IsWhole}
-use Rattle.lock_desk.specs.inner.Blocking.{holder_blocks, is_ahead, target_blocks, view_blocks, blocks_at, blocks}
+use Rattle.lock_desk.specs.inner.Blocking.{is_ahead, target_blocks, view_blocks, blocks_at, blocks}
 use Rattle.lock_desk.specs.inner.Shows.{short, claims_on, view, Shows}
 use Rattle.lock_desk.proofs.TableViews.{mode-seen}
 use Rattle.lock_desk.proofs.LockCounts.{queue-has, waits_on-once, waits-told}

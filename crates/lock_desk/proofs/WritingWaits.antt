@@ -2,10 +2,11 @@
 use Rattle.std.proofs.Common.{◌≡◌, ℕ, zero, suc, ◌<◌, Bool, true, false, cond, eqb, ◌&&◌, ◌||◌, List, [], ◌∷◌, length, get_or, take, Option, Some, None, is_some, refl, sym, ◌∙◌, ap, arith}
 use Rattle.std.proofs.lemmas.Bool.Decides.{Decides-eqb}
 use Rattle.lock_modes.specs.declared.Mode.{Mode}
-use Rattle.lock_desk.specs.declared.cells.SessionMode.{SessionMode}
-use Rattle.lock_desk.specs.inner.Cells.{View, has_session, mode_of}
+use Rattle.lock_holders.specs.declared.session_mode.SessionMode.{SessionMode}
+use Rattle.lock_desk.specs.inner.Cells.{View}
+use Rattle.lock_holders.specs.SessionModes.{has_session, mode_of}
 use Rattle.lock_desk.specs.inner.Blocking.{is_ahead, target_blocks, view_blocks}
-use Rattle.lock_desk.proofs.SessionModes.{mode-has}
+use Rattle.lock_holders.proofs.SessionModes.{mode-has}
 
 -- the requests ahead of that of a session are those before its index
 pub stands-until : (s u : ℕ) (ws : List SessionMode) (i : ℕ) (d : SessionMode) → i < length ws → (get_or ws i d).session ≡ s → has_session s (take i ws) ≡ false → is_ahead u s ws ≡ has_session u (take i ws)

@@ -5,6 +5,7 @@ pub mod Paths
 pub mod Queries
 pub mod Pages
 pub mod Deadlocks
+pub mod Counts
 pub mod BookLaws
 -- what only private contracts cite
 pub mod inner

@@ -8,12 +8,8 @@ use Rattle.lock_rules.specs.declared.listing.ClaimKind.TheVariants.{Held, Conver
 use Rattle.lock_rules.specs.Entries.{Entry}
 use Rattle.lock_rules.specs.State.{State, held_mode, claims_of}
 use Rattle.lock_rules.specs.Legal.{state_of}
-use Rattle.lock_rules.specs.Listing.{comes_before, listing_of, lock_line}
-
--- the resource comes behind `after` in the order of resources; behind None each resource comes
-abbrev pub is_behind : Option (List ℕ) → List ℕ → Bool
-is_behind None r = true
-is_behind (Some a) r = comes_before a r
+use Rattle.lock_rules.specs.Listing.{listing_of, lock_line}
+pub use Rattle.session_locks.specs.Resources.{is_behind}
 
 -- a line of this kind is a lock
 abbrev pub is_lock : ClaimKind → Bool

@@ -1,14 +1,10 @@
 -- what only private contracts cite
-pub mod Holders
 pub mod Cells
-pub mod Columns
-pub mod SingleHolder
 pub mod Tables
-pub mod ChildCounts
-pub mod LockLists
 pub mod Requests
 pub mod Lockers
 pub mod Ended
+pub mod Counting
 pub mod Noting
 pub mod Blocking
 pub mod Ready

@@ -18,11 +18,13 @@ ghost use Rattle.sequential.specs.Histories.{IsEntryWithin};
 ghost use Rattle.lock_desk.specs.inner.Runs.{AreServed};
 
 mod blockers;
+mod counts;
 mod deadlocks;
 mod memory;
 mod pages;
 mod paths;
 
+use crate::call_counts::CallCounts;
 use crate::deadlock_log::DeadlockLog;
 use crate::lock_table::LockTable;
 use crate::lock_table::runs::{grant_run, resource_shared};
@@ -53,8 +55,10 @@ pub struct Book {
     history: TrimmedList<Entry>,
     /// Scratch space of `serve_batch`: a mark for each session, to find a session that occurs twice.
     marks: Marks,
-    /// The newest deadlocks, none unless they are asked for.
+    /// The newest deadlocks, none unless they are asked for, and how waits ended.
     deadlocks: DeadlockLog,
+    /// How many calls of each kind were served, and how they were answered.
+    counts: CallCounts,
 }
 
 /// One call of a batch, with its reply once it is served.
@@ -123,6 +127,7 @@ impl Book {
             history: TrimmedList::new(alloc),
             marks,
             deadlocks,
+            counts: CallCounts::new(),
         })
     }
 
@@ -322,6 +327,7 @@ impl Book {
             &mut self.lock_table,
             &mut self.history,
             &mut self.deadlocks,
+            &mut self.counts,
             session,
             call,
         ) {
@@ -353,6 +359,7 @@ impl Book {
             &mut self.lock_table,
             &mut self.history,
             &mut self.deadlocks,
+            &mut self.counts,
             session,
             call,
         )?;
@@ -442,6 +449,7 @@ impl Book {
             &mut self.lock_table,
             &mut self.history,
             &mut self.deadlocks,
+            &mut self.counts,
             asked.session,
             asked.call,
         ) else {
@@ -503,7 +511,14 @@ impl Book {
             return self.serve_each(items, from, from + 1);
         };
         let upto = run.upto;
-        if grant_run(&mut self.lock_table, &mut self.history, items, from, &run) {
+        if grant_run(
+            &mut self.lock_table,
+            &mut self.history,
+            &mut self.counts,
+            items,
+            from,
+            &run,
+        ) {
             return Progress {
                 served: upto,
                 out_of_memory: false,

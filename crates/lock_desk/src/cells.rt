@@ -2,27 +2,15 @@
 
 ghost use Rattle.std.specs.Prelude.{◌≡◌, ℕ, ◌+◌, ◌<◌, ◌≤◌, insert, drop, true, false, not, [], ◌∷◌, ◌++◌, take, map, ◌&&◌, ◌||◌, ◌==◌, Some, IfOk, IfSome, OnOk, OnErr, length, vec_len, vec_capacity};
 ghost use Rattle.waits_for.specs.Pairs.{pairs_of};
-ghost use Rattle.lock_tree.specs.Paths.{same_path};
-ghost use Rattle.lock_desk.specs.declared.cells.SessionMode.{SessionMode as SessionModeValue};
-ghost use Rattle.lock_desk.specs.inner.Cells.{no_view, view_of, has_session, mode_of, pair_of, with_holder, view_after_giving_up, fits_among, go_with, Ascends, next_grant, can_grant, is_granted, behind_conversions, queue_with, view_after_asking, view_with_holder, codes_unless_waited, is_nobody, HasRoom, HasRoomFor, IsKeptCell, is_busy};
-ghost use Rattle.lock_desk.specs.inner.Holders.{IsPlaceOf};
-ghost use Rattle.lock_desk.specs.inner.Blocking.{holder_blocks, AreOfSessions};
+ghost use Rattle.lock_holders.specs.declared.session_mode.SessionMode.{SessionMode as SessionModeValue};
+ghost use Rattle.lock_desk.specs.inner.Cells.{no_view, view_of, view_after_giving_up, next_grant, can_grant, is_granted, behind_conversions, queue_with, view_after_asking, view_with_holder, codes_unless_waited, HasRoom, HasRoomFor, IsKeptCell, is_busy};
+ghost use Rattle.lock_holders.specs.SessionModes.{has_session, mode_of, pair_of, with_holder, fits_among, go_with, Ascends, is_nobody, holder_blocks, AreOfSessions};
+ghost use Rattle.lock_holders.specs.Holders.{IsPlaceOf};
 
-use crate::holder_columns::HolderPlace;
-use crate::holders::Holders;
+use lock_holders::{HolderPlace, Holders, SessionMode};
 use lock_modes::Mode;
-use lock_tree::{Resource, same_path_is_equality};
 use std::alloc::{AllocError, Global};
 use waits_for::Rows;
-
-/// A session with a mode: the mode that it holds, or the target of its waiting request.
-#[derive(Clone, Copy, Debug, PartialEq, Eq)]
-pub struct SessionMode {
-    /// The session, numbered from 1.
-    pub session: u16,
-    /// The held mode or the target.
-    pub mode: Mode,
-}
 
 /// What a session gives up at a resource.
 #[derive(Clone, Copy, Debug, PartialEq, Eq)]
@@ -52,14 +40,6 @@ pub struct Cell {
     holders: Holders,
     /// The queue: first the conversions, then the fresh requests, each kind in order of arrival.
     waiting: Vec<SessionMode>,
-}
-
-/// Whether both are the same resource.
-pub(crate) fn is_same(a: Resource, b: Resource) -> bool
-    ensures { result ≡ same_path a b }
-{
-    same_path_is_equality();
-    a == b
 }
 
 /// Whether `shared` is this mode.

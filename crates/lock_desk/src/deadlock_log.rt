@@ -14,12 +14,14 @@ ghost use Rattle.lock_desk.specs.declared.deadlock_log.Member.{Member as MemberV
 ghost use Rattle.lock_desk.specs.inner.Changes.{IsWhole};
 ghost use Rattle.lock_desk.specs.inner.Ready.{IsReadyTable};
 ghost use Rattle.lock_desk.specs.inner.Shows.{Shows};
-ghost use Rattle.lock_desk.specs.inner.Noting.{HasNoted, IsLogFor, AreAlike};
+ghost use Rattle.lock_desk.specs.inner.Counting.{no_waits, with_victim, with_abort, with_restart};
+ghost use Rattle.lock_desk.specs.inner.Noting.{HasTold, HasNoted, IsLogFor, AreAlike};
 
 use crate::lock_table::LockTable;
-use crate::positions::{position_of, session_at};
+use crate::wait_counts::WaitCounts;
 use lock_modes::Mode;
 use lock_rules::{Claim, MAX_SESSIONS};
+use session_sets::{position_of, session_at};
 use std::alloc::{AllocError, Global};
 use std::marker::Model;
 use wait_cycles::CycleSearch;
@@ -47,8 +49,8 @@ pub struct Deadlock {
 
 /// The newest deadlocks, as many as were asked for.
 ///
-/// Contracts see how many are kept at most, of how many sessions, and those that are kept, oldest first. Only `keep` takes
-/// memory.
+/// Contracts see how many are kept at most, of how many sessions, those that are kept, oldest first, and what is counted of all. Only
+/// `keeping` takes memory.
 #[derive(Drop)]
 pub struct DeadlockLog {
     /// A slot for each deadlock that may be kept. The newest are at the end.
@@ -57,6 +59,8 @@ pub struct DeadlockLog {
     count: usize,
     /// The search for the cycle.
     search: CycleSearch,
+    /// How many victims there were, and the waits that their own sessions gave up, also if no deadlock is kept.
+    counts: WaitCounts,
 }
 
 impl Model for DeadlockLog {
@@ -150,6 +154,7 @@ impl DeadlockLog {
     pub(crate) fn none(alloc: Global) -> Result<DeadlockLog, AllocError>
         ensures most { IfOk result (λ log. log.most ≡ 0) }
         ensures told { IfOk result (λ log. log.told ≡ []) }
+        ensures counts { IfOk result (λ log. log.counts ≡ no_waits) }
     {
         DeadlockLog::keeping(alloc, 0, 0)
     }
@@ -164,6 +169,7 @@ impl DeadlockLog {
         ensures most { IfOk result (λ log. log.most ≡ most) }
         ensures sessions { IfOk result (λ log. log.sessions ≡ sessions) }
         ensures told { IfOk result (λ log. log.told ≡ []) }
+        ensures counts { IfOk result (λ log. log.counts ≡ no_waits) }
     {
         let search = CycleSearch::new(alloc, sessions)?;
         let mut slots = Vec::with_capacity(alloc, most)?;
@@ -178,6 +184,7 @@ impl DeadlockLog {
             slots,
             count: 0,
             search,
+            counts: WaitCounts::NONE,
         })
     }
 
@@ -195,9 +202,36 @@ impl DeadlockLog {
         &self.slots[self.slots.len() - self.count..]
     }
 
-    /// Notes the deadlock of `session`, whose call has the place `place`, before `victim` is doomed, and lets go of the oldest one if
-    /// there are more than are kept. `victim` must be on a cycle.
-    #[inline(never)]
+    /// What is counted.
+    pub(crate) fn counts(&self) -> WaitCounts
+        ensures { result ≡ self.now.counts }
+    {
+        self.counts
+    }
+
+    /// Counts a victim that the call at `place` makes.
+    fn count_victim(&mut self, place: u64)
+        ensures { self.new ≡ record self.old { counts = with_victim place self.old.counts } }
+    {
+        self.counts = self.counts.with_victim(place);
+    }
+
+    /// Counts the wait of a session that aborts, if it waits.
+    pub(crate) fn count_abort(&mut self, waits: bool)
+        ensures { self.new ≡ record self.old { counts = with_abort waits self.old.counts } }
+    {
+        self.counts = self.counts.with_abort(waits);
+    }
+
+    /// Counts the wait of a session that restarts, if it waits.
+    pub(crate) fn count_restart(&mut self, waits: bool)
+        ensures { self.new ≡ record self.old { counts = with_restart waits self.old.counts } }
+    {
+        self.counts = self.counts.with_restart(waits);
+    }
+
+    /// Notes the deadlock of `session`, whose call has the place `place`, before `victim` is doomed: counts it, and keeps it in the place
+    /// of the oldest one if there are more than are kept. `victim` must be on a cycle.
     pub(crate) fn note(&mut self, table: &LockTable, place: u64, session: u16, victim: u16)
         requires whole { IsWhole table.now }
         requires ready { IsReadyTable table.now }
@@ -208,6 +242,25 @@ impl DeadlockLog {
         ensures log { IsLogFor (vec_len table.now.lockers) self.new }
         ensures noted { (st : State) → IsSound st.table → Shows table.now st → victim_of st session ≡ victim
             → HasNoted (moments_at place session (st ∷ [])) self.old self.new }
+    {
+        self.count_victim(place);
+        self.keep(table, place, session, victim);
+    }
+
+    /// Keeps the deadlock of `session`, whose call has the place `place`, before `victim` is doomed, and lets go of the oldest one if
+    /// there are more than are kept. `victim` must be on a cycle.
+    #[inline(never)]
+    fn keep(&mut self, table: &LockTable, place: u64, session: u16, victim: u16)
+        requires whole { IsWhole table.now }
+        requires ready { IsReadyTable table.now }
+        requires log { IsLogFor (vec_len table.now.lockers) self.old }
+        requires some { 1 ≤ victim }
+        requires within { victim ≤ vec_len table.now.lockers }
+        requires cycle { Reaches (pairs_of table.now.waits.rows) (victim - 1) (victim - 1) }
+        ensures log { IsLogFor (vec_len table.now.lockers) self.new }
+        ensures told { (st : State) → IsSound st.table → Shows table.now st → victim_of st session ≡ victim
+            → HasTold (moments_at place session (st ∷ [])) self.old self.new }
+        ensures counts { self.new.counts ≡ self.old.counts }
     {
         if self.slots.is_empty() {
             return;

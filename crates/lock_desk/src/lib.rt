@@ -6,19 +6,17 @@
 //!
 //! 1. The structures.
 //!    - By resource: a cell has the holders and the wait queue of one resource (`cells.rt`), and `cell_table.rt` is the
-//!      table of all cells. The holders of a cell are in `holders.rt`: a single holder by itself, several in two
-//!      columns (`holder_columns.rt`). `resource_order.rt` brings resources into their order, `seeded.rt`
-//!      hashes them.
+//!      table of all cells. The holders of a cell are those of the crate `lock_holders`.
 //!    - By session: a locker has the transaction, the waiting request and the locks of one session (`lockers.rt`). Its
-//!      list of locks counts, for each indexed lock, the children held below it (`locks.rt`).
+//!      list of locks is that of the crate `session_locks`.
 //!    - Across both: `promotion.rt` grants queued requests in a cell and in the lockers, `waits.rt` keeps the waits-for
-//!      graph, `ended.rt` lists the sessions whose wait has ended, `positions.rt` maps session numbers to list indices.
+//!      graph. The sessions whose wait has ended are listed by the crate `session_sets`.
 //! 2. The lock table: all cells, all lockers and the waits-for graph (`lock_table.rt`). `lock_table/calls.rt` serves
 //!    each kind of call: first the tests that can refuse it (`refusals.rt`), then its effect. `requests.rt` has the
 //!    effect of a lock or a conversion, `restarts.rt` that of a restart. `deadlocks.rt` resolves the deadlocks that a
 //!    wait closes, and notes them in a log of the newest (`deadlock_log.rt`), if one was asked for. `runs.rt` grants
 //!    several locks on one resource together, by the operations of `grants.rt`. `listing.rt` lists all locks and
-//!    requests, `lock_table/pages.rt` the locks of one session by pages (`lockers/pages.rt`, `locks/pages.rt`),
+//!    requests, `lock_table/pages.rt` the locks of one session by pages (`lockers/pages.rt`),
 //!    `lock_table/memory.rt` makes room and gives memory back.
 //! 3. The book: the lock table with its history (`book.rt`). It is all that callers see. `book/paths.rt` locks a path,
 //!    `book/blockers.rt` lists whom a session waits for, `book/deadlocks.rt` tells the newest deadlocks,
@@ -34,25 +32,22 @@
 #![tactic(auto)]
 
 mod book;
+mod call_counts;
 mod cell_table;
 mod cells;
+mod counts;
 mod deadlock_log;
-mod ended;
-mod holder_columns;
-mod holders;
 mod lock_table;
 mod lockers;
-mod locks;
 mod object;
-mod positions;
 mod promotion;
 mod recording;
-mod resource_order;
-mod seeded;
 mod tending;
+mod wait_counts;
 mod waits;
 
 pub use book::{Book, Item, PathLocked, grants, lock_of_level, pages_tell_each_lock_once};
+pub use counts::{Calls, Counts, Refusals};
 pub use deadlock_log::{Deadlock, Member};
 pub use lock_modes::Mode;
 pub use lock_rules::{

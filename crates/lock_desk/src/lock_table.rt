@@ -4,17 +4,20 @@ ghost use Rattle.std.specs.Prelude.{◌≡◌, ◌≢◌, ◌↔◌, ℕ, ◌+�
 ghost use Rattle.waits_for.specs.Pairs.{pairs_of};
 ghost use Rattle.lock_rules.specs.declared.calls.Reply.TheVariants.{Waiting, Deadlock};
 ghost use Rattle.lock_rules.specs.State.{empty, doomed_in};
-ghost use Rattle.lock_desk.specs.inner.Cells.{pair_of, IsPlace};
+ghost use Rattle.lock_holders.specs.SessionModes.{pair_of};
+ghost use Rattle.lock_desk.specs.inner.Cells.{IsPlace};
 ghost use Rattle.lock_desk.specs.declared.cells.GivenUp.TheVariants as claim;
-ghost use Rattle.lock_desk.specs.inner.ChildCounts.{has_child};
+ghost use Rattle.session_locks.specs.LockLists.{has_child};
 ghost use Rattle.lock_desk.specs.inner.Lockers.{standing_of};
 ghost use Rattle.lock_desk.specs.inner.Changes.{view_at, standing, with_ended_count, IsWhole, DoesKeep, mode_held, CanRelease, HasFreed, HasGivenBack, HasGivenBackAll, HasCancelled, HasBegun, HasEnded, HasNotedEnded};
-ghost use Rattle.lock_desk.specs.inner.Ended.{is_ended, waits_at};
+ghost use Rattle.session_sets.specs.Ended.{is_ended};
+ghost use Rattle.lock_desk.specs.inner.Ended.{waits_at};
 ghost use Rattle.lock_desk.specs.inner.Ready.{IsReadyTable};
 ghost use Rattle.lock_desk.specs.inner.Shows.{Shows};
 
 mod calls;
 mod deadlocks;
+mod gauges;
 mod grants;
 mod listing;
 mod memory;
@@ -26,13 +29,12 @@ pub(crate) mod runs;
 
 use crate::cell_table::CellTable;
 use crate::cells::GivenUp;
-use crate::ended::EndedWaits;
 use crate::lockers::Locker;
-use crate::positions::position_of;
 use crate::waits::{Waits, edges, has_edge, new_waits, set_number};
 use lock_modes::Mode;
 use lock_rules::{MAX_LOCKS, MAX_SESSIONS, Reply};
 use lock_tree::Resource;
+use session_sets::{EndedWaits, position_of};
 use std::alloc::{AllocError, Global};
 use waits_for::Rows;
 

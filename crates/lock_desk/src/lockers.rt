@@ -6,15 +6,15 @@ ghost use Rattle.lock_rules.specs.Waits.{doom};
 ghost use Rattle.lock_rules.specs.Step.{restarted};
 ghost use Rattle.lock_rules.specs.declared.calls.TheConstants.{MAX_LOCKS};
 ghost use Rattle.lock_tree.specs.Paths.{same_path};
-ghost use Rattle.lock_desk.specs.inner.Cells.{has_path, AreApart, AreApart-prop};
-ghost use Rattle.lock_desk.specs.inner.ChildCounts.{has_child, IsUnder};
+ghost use Rattle.session_locks.specs.Resources.{has_path, AreApart, AreApart-prop};
+ghost use Rattle.session_locks.specs.LockLists.{has_child, IsUnder};
 ghost use Rattle.lock_desk.specs.inner.Requests.{resource_asked, is_fresh, wanted_in, locks_to_come, IsOfKind, IsOfKind-prop, IsComingUnder, IsComingUnder-prop};
 
 mod pages;
 
-use crate::locks::{HeldLock, Locks};
 use lock_rules::{MAX_LOCKS, Transaction};
 use lock_tree::{LEVELS, Resource};
+use session_locks::{HeldLock, Locks};
 use std::alloc::{AllocError, Global};
 
 /// A waiting request.

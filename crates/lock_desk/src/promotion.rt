@@ -1,17 +1,17 @@
 //! Promotion: grants the requests at the front of a wait queue, in the cell and in the lockers.
 
 ghost use Rattle.std.specs.Prelude.{◌≡◌, ℕ, ◌+◌, ◌≤◌, drop, length, vec_len};
-ghost use Rattle.lock_desk.specs.inner.Cells.{view_of, times, view_after_promotion, HasRoom, IsOnce};
+ghost use Rattle.lock_desk.specs.inner.Cells.{view_of, view_after_promotion, HasRoom, IsOnce};
+ghost use Rattle.lock_holders.specs.SessionModes.{times};
 ghost use Rattle.lock_desk.specs.inner.Blocking.{IsOfSessions, AreWritten, HasGranted, DoFollow};
 ghost use Rattle.lock_desk.specs.inner.Lockers.{standings_of, AreSameOrGranted, DoAgree};
 ghost use Rattle.lock_desk.specs.inner.Ended.{DoNoteEnded};
 
 use crate::cells::Cell;
-use crate::ended::EndedWaits;
 use crate::lockers::Locker;
-use crate::positions::position_of;
 use crate::waits::{Waits, clear_queue_rows, follow_grants, write_queue_rows};
 use lock_tree::Resource;
+use session_sets::{EndedWaits, position_of};
 
 /// After more grants than this at once, the rows of all requests that are left are written anew.
 const FEW_GRANTS: usize = 8;

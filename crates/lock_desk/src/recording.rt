@@ -5,10 +5,12 @@ ghost use Rattle.lock_rules.specs.Step.{step};
 ghost use Rattle.lock_rules.specs.Ended.{has_ended};
 ghost use Rattle.lock_rules.specs.Legal.{state_of};
 ghost use Rattle.lock_desk.specs.Deadlocks.{AreDeadlocksTold, deadlocks_in, newest};
-ghost use Rattle.lock_desk.specs.inner.Ended.{is_ended};
+ghost use Rattle.session_sets.specs.Ended.{is_ended};
+ghost use Rattle.lock_desk.specs.inner.Counting.{AreCallsCounted, AreWaitsCounted};
 ghost use Rattle.lock_desk.specs.inner.Noting.{IsLogFor};
 ghost use Rattle.lock_desk.specs.inner.Runs.{AreKept};
 
+use crate::call_counts::CallCounts;
 use crate::deadlock_log::DeadlockLog;
 use crate::lock_table::LockTable;
 use lock_rules::{Call, Entry, Reply};
@@ -16,13 +18,14 @@ use std::alloc::AllocError;
 use trimmed_list::TrimmedList;
 
 /// Serves one call of `session`, adds the call with its reply to the history, and lists the other sessions whose wait it has
-/// ended, and notes the deadlocks that it made. If memory is refused, history, list and log are unchanged, and nothing that
-/// contracts see of the table changes.
+/// ended, notes the deadlocks that it made, and counts it. If memory is refused, history, list, log and counters are unchanged, and
+/// nothing that contracts see of the table changes.
 #[inline(always)]
 pub(crate) fn serve_recorded(
     table: &mut LockTable,
     history: &mut TrimmedList<Entry>,
     log: &mut DeadlockLog,
+    counts: &mut CallCounts,
     session: u16,
     call: Call,
 ) -> Result<Reply, AllocError>
@@ -31,6 +34,8 @@ pub(crate) fn serve_recorded(
     requires kept { AreKept table.old history.old.items }
     requires log { IsLogFor (vec_len table.old.lockers) log.old }
     requires told { AreDeadlocksTold (newest log.old.most (deadlocks_in history.old.items)) log.old.told }
+    requires calls { AreCallsCounted history.old.items counts.old }
+    requires waits { AreWaitsCounted history.old.items log.old.counts }
     ensures kept { AreKept table.new history.new.items }
     ensures lockers { vec_len table.new.lockers ≡ vec_len table.old.lockers }
     ensures cut { history.new.cut ≡ history.old.cut }
@@ -47,11 +52,14 @@ pub(crate) fn serve_recorded(
     ensures most { log.new.most ≡ log.old.most }
     ensures log { IsLogFor (vec_len table.new.lockers) log.new }
     ensures told { AreDeadlocksTold (newest log.new.most (deadlocks_in history.new.items)) log.new.told }
+    ensures calls { AreCallsCounted history.new.items counts.new }
+    ensures waits { AreWaitsCounted history.new.items log.new.counts }
 {
     history.reserve(1)?;
     let asked = call;
     let served = history.count();
     let reply = table.serve(session, call, served, log)?;
+    counts.note(&asked, &reply);
     history.push_reserved(Entry {
         session,
         call: asked,

@@ -3,13 +3,15 @@
 ghost use Rattle.std.specs.Prelude.{◌≡◌, ℕ, ◌+◌, ◌-◌, ◌<◌, ◌≤◌, ◌&&◌, ◌||◌, ◌==◌, if◌then◌else◌, List, not, true, false, length, take, IfOk, IfNone, IfSome, nat_le, slice_index_or, vec_len};
 ghost use Rattle.waits_for.specs.Pairs.{pairs_of};
 ghost use Rattle.waits_for.specs.Walks.{Reaches, IsYoungestOnCircle};
-ghost use Rattle.lock_desk.specs.declared.cells.SessionMode.{SessionMode as SessionModeValue};
-ghost use Rattle.lock_desk.specs.inner.Cells.{View, has_session, times, view_of, view_after_giving_up, is_request, is_granted, IsOnce};
-ghost use Rattle.lock_desk.specs.inner.Blocking.{cell_blocks, fits_beside, has_fitting, has_fitting_beside, has_conflicting, AreOfSessions, IsOfSessions, IsSizedFor, AreWritten, HasRequestedAt, DoFollow};
+ghost use Rattle.lock_holders.specs.declared.session_mode.SessionMode.{SessionMode as SessionModeValue};
+ghost use Rattle.lock_desk.specs.inner.Cells.{View, view_of, view_after_giving_up, is_request, is_granted, IsOnce};
+ghost use Rattle.lock_holders.specs.SessionModes.{has_session, times, AreOfSessions};
+ghost use Rattle.lock_desk.specs.inner.Blocking.{cell_blocks, fits_beside, has_fitting, has_fitting_beside, has_conflicting, IsOfSessions, IsSizedFor, AreWritten, HasRequestedAt, DoFollow};
 
-use crate::cells::{Cell, GivenUp, RequestStatus, SessionMode};
-use crate::positions::{position_of, session_at};
+use crate::cells::{Cell, GivenUp, RequestStatus};
+use lock_holders::SessionMode;
 use lock_modes::Mode;
+use session_sets::{position_of, session_at};
 use std::alloc::{AllocError, Global};
 use waits_for::{MAX_SESSIONS, Rows};
 

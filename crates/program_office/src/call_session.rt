@@ -22,6 +22,7 @@ ghost use Rattle.program_office.specs.Sessions.{IsSessionOf, IsIdle, IsPendingSe
 ghost use Rattle.program_office.specs.SingleCalls.{MakesOneCall, IsCollected};
 
 mod calling;
+mod counters;
 mod counting;
 mod descending;
 mod dumping;

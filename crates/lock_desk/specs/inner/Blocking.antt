@@ -1,21 +1,18 @@
 -- Internal to this crate, cited by no public contract: the waits-for graph: which edges the cells and the lockers
 -- determine, and what the rows have of them.
 use Rattle.std.specs.Prelude.{◌≡◌, ℕ, ◌+◌, ◌≤◌, Bool, true, false, not, ◌&&◌, ◌||◌, if◌then◌else◌, ◌==◌, List, [], ◌∷◌, take, Option, Some, None, slice_index_or, vec_len}
-use Rattle.std.specs.List.{All, list_any}
+use Rattle.std.specs.List.{list_any}
 use Rattle.waits_for.specs.declared.TheConstants.{MAX_SESSIONS}
 use Rattle.waits_for.specs.Pairs.{pairs_of}
 use Rattle.lock_modes.specs.declared.Mode.{Mode}
 use Rattle.lock_modes.specs.Compatibility.{are_compatible}
 use Rattle.lock_rules.specs.State.{number_in}
-use Rattle.lock_desk.specs.declared.cells.SessionMode.{SessionMode}
+use Rattle.lock_holders.specs.declared.session_mode.SessionMode.{SessionMode}
 use Rattle.lock_desk.specs.declared.cells.Cell.{Cell}
 use Rattle.lock_desk.specs.declared.waits.Waits.{Waits}
-use Rattle.lock_desk.specs.inner.Cells.{Cells, View, has_session, mode_of, with_holder, Ascends, view_of, can_grant, view_after_asking, cell_view}
+use Rattle.lock_desk.specs.inner.Cells.{Cells, View, view_of, can_grant, view_after_asking, cell_view}
+use Rattle.lock_holders.specs.SessionModes.{has_session, mode_of, with_holder, Ascends, holder_blocks, AreOfSessions}
 use Rattle.lock_desk.specs.inner.Lockers.{Standing, standing_at}
-
--- `u` is one of these holders, is not `s`, and holds a mode that conflicts with `m`
-abbrev pub holder_blocks : ℕ → Mode → ℕ → List SessionMode → Bool
-holder_blocks s m u hs = list_any (λ h. (h.session == u) && (not (h.session == s) && not (are_compatible m h.mode))) hs
 
 -- `u` has a request in this queue ahead of that of `s`, or has one and `s` has none
 abbrev pub is_ahead : ℕ → ℕ → List SessionMode → Bool
@@ -48,10 +45,6 @@ blocks cs ss s u = blocks_at s u cs (standing_at s ss).wanted
 pub record IsCurrent (cs : Cells) (ss : List Standing) (w : Waits) : Type 0 where
   pub pairs : (a b : ℕ) → pairs_of w.rows a b ≡ blocks cs ss (a + 1) (b + 1)
   pub numbers : (a : ℕ) → slice_index_or w.numbers.items a 0 ≡ number_in (standing_at (a + 1) ss).transaction
-
--- each of them is one of the sessions 1 to `n`
-abbrev pub AreOfSessions : ℕ → List SessionMode → Type 0
-AreOfSessions n cs = All (λ c. (1 ≤ c.session) × (c.session ≤ n)) cs
 
 -- each holder and each waiting session is one of the sessions 1 to `n`
 pub record IsOfSessions (n : ℕ) (v : View) : Type 0 where

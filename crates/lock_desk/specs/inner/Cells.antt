@@ -1,66 +1,15 @@
 -- Internal to this crate, cited by no public contract: the view of a resource, which is its holders and its queue, what
 -- each operation makes of a view, and the cells.
-use Rattle.std.specs.Prelude.{◌≡◌, ℕ, ◌+◌, ◌≤◌, Bool, true, false, not, ◌&&◌, ◌||◌, if◌then◌else◌, ◌==◌, nat_lt, List, [], ◌∷◌, ◌++◌, filter, map, length, slice_get, Option, Some, None, IfSome, vec_len, bit_or}
-use Rattle.std.specs.Coded.{×_prop, Unit-prop, Coded-set, coded_bool}
-use Rattle.std.specs.List.{list_any, list_all}
+use Rattle.std.specs.Prelude.{◌≡◌, ℕ, ◌+◌, ◌≤◌, Bool, true, false, not, ◌&&◌, ◌||◌, if◌then◌else◌, List, [], ◌∷◌, ◌++◌, length, slice_get, Option, Some, None, IfSome, vec_len}
 use Rattle.std.specs.Map.{lookup}
-use Rattle.lock_modes.specs.declared.Mode.{Mode}
-use Rattle.lock_modes.specs.Compatibility.{are_compatible}
-use Rattle.lock_modes.specs.Codes.{code_of}
 use Rattle.lock_tree.specs.Paths.{same_path}
-use Rattle.lock_rules.specs.Sound.{ascend}
-use Rattle.lock_desk.specs.declared.cells.SessionMode.{SessionMode}
+use Rattle.lock_holders.specs.declared.session_mode.SessionMode.{SessionMode}
+use Rattle.lock_holders.specs.SessionModes.{has_session, times, with_holder, without, is_nobody, fits_among, codes_among, Ascends}
 use Rattle.lock_desk.specs.declared.cells.GivenUp.{GivenUp}
 use Rattle.lock_desk.specs.declared.cells.GivenUp.TheVariants as claim
 use Rattle.lock_desk.specs.declared.cells.RequestStatus.{RequestStatus}
 use Rattle.lock_desk.specs.declared.cells.RequestStatus.TheVariants.{Granted, Waiting}
 use Rattle.lock_desk.specs.declared.cells.Cell.{Cell}
-
--- lists of sessions, each with its mode: the holders or the queue of one resource
-
--- session `s` is in the list
-abbrev pub has_session : ℕ → List SessionMode → Bool
-has_session s cs = list_any (λ c. c.session == s) cs
-
--- the mode of session `s` in the list, if it is there
-abbrev pub mode_of : ℕ → List SessionMode → Option Mode
-mode_of s [] = None
-mode_of s (c ∷ cs) = if c.session == s then Some c.mode else mode_of s cs
-
--- the session and its mode as a pair
-abbrev pub pair_of : SessionMode → ℕ × Mode
-pair_of c = (c.session, c.mode)
-
--- how often session `s` is in the list
-abbrev pub times : ℕ → List SessionMode → ℕ
-times s [] = 0
-times s (c ∷ cs) = (if c.session == s then 1 else 0) + times s cs
-
--- the holders after session `c.session` has got the mode `c.mode`: it replaces its own mode, or is inserted by session
--- number
-abbrev pub with_holder : SessionMode → List SessionMode → List SessionMode
-with_holder c [] = c ∷ []
-with_holder c (h ∷ hs) =
-    if h.session == c.session then c ∷ hs
-    else (if nat_lt c.session h.session then c ∷ h ∷ hs else h ∷ with_holder c hs)
-
--- the list without session `s`
-abbrev pub without : ℕ → List SessionMode → List SessionMode
-without s cs = filter (λ c. not (c.session == s)) cs
-
--- the mode of `c` is compatible with the modes of all other sessions among these holders
-abbrev pub fits_among : SessionMode → List SessionMode → Bool
-fits_among c hs = list_all (λ h. (h.session == c.session) || are_compatible c.mode h.mode) hs
-
--- mode `m` is compatible with the modes of all these holders
-abbrev pub go_with : Mode → List SessionMode → Bool
-go_with m hs = list_all (λ h. are_compatible m h.mode) hs
-
--- the session numbers are strictly increasing
-abbrev pub Ascends : List SessionMode → Type 0
-Ascends hs = ascend (map pair_of hs) ≡ true
-
--- views
 
 -- the holders and the wait queue of one resource
 pub record View : Type 0 where
@@ -98,16 +47,6 @@ is_request claim.Request = true
 -- the lock of session `s`, or its request, is removed, and the queue is promoted
 abbrev pub view_after_freeing : GivenUp → ℕ → View → View
 view_after_freeing p s v = view_after_promotion (view_after_giving_up p s v)
-
--- the list is empty
-abbrev pub is_nobody : List SessionMode → Bool
-is_nobody [] = true
-is_nobody (c ∷ cs) = false
-
--- the bitwise or of the mode codes of these holders
-abbrev pub codes_among : List SessionMode → ℕ
-codes_among [] = 0
-codes_among (h ∷ hs) = bit_or (code_of h.mode) (codes_among hs)
 
 -- the bitwise or of the mode codes of the holders, or `None` if a request waits
 abbrev pub codes_unless_waited : View → Option ℕ
@@ -189,20 +128,6 @@ view_in (Some c) = view_of c
 -- the view of resource `r`
 abbrev pub cell_view : List ℕ → Cells → View
 cell_view r cs = view_in (cell_at r cs)
-
--- resource `r` is in the list
-abbrev pub has_path : List ℕ → List (List ℕ) → Bool
-has_path r rs = list_any (λ q. same_path q r) rs
-
--- no resource is in the list twice
-abbrev pub AreApart : List (List ℕ) → Type 0
-AreApart [] = Unit {0}
-AreApart (r ∷ rs) = (has_path r rs ≡ false) × AreApart rs
-
--- it has at most one proof, which a fact that a struct keeps must have
-pub AreApart-prop : (rs : List (List ℕ)) → IsProp (AreApart rs)
-AreApart-prop [] = Unit-prop
-AreApart-prop (r ∷ rs) = ×_prop (Coded-set coded_bool (has_path r rs) false) (AreApart-prop rs)
 
 -- the invariant of each cell
 abbrev pub AreKeptCells : Cells → Type 0

@@ -16,10 +16,13 @@ use Rattle.lock_rules.specs.Waits.{doom}
 use Rattle.lock_desk.specs.declared.lock_table.LockTable.{LockTable}
 use Rattle.lock_desk.specs.declared.cells.GivenUp.{GivenUp}
 use Rattle.lock_desk.specs.declared.cells.GivenUp.TheVariants as claim
-use Rattle.lock_desk.specs.inner.Cells.{View, has_session, mode_of, cell_view, has_path, can_grant, view_after_asking, view_after_freeing, AreKeptCells}
-use Rattle.lock_desk.specs.inner.ChildCounts.{has_child, IsUnder}
+use Rattle.lock_desk.specs.inner.Cells.{View, cell_view, can_grant, view_after_asking, view_after_freeing, AreKeptCells}
+use Rattle.lock_holders.specs.SessionModes.{has_session, mode_of}
+use Rattle.session_locks.specs.Resources.{has_path}
+use Rattle.session_locks.specs.LockLists.{has_child, IsUnder}
 use Rattle.lock_desk.specs.inner.Lockers.{Standing, standings_of, standing_at, DoAgree}
-use Rattle.lock_desk.specs.inner.Ended.{EndedView, DoNoteEnded}
+use Rattle.session_sets.specs.Ended.{EndedView}
+use Rattle.lock_desk.specs.inner.Ended.{DoNoteEnded}
 use Rattle.lock_desk.specs.inner.Ready.{IsReadyTable}
 
 -- the view of resource `r` in lock table `d`: its holders and its queue

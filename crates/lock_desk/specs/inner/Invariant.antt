@@ -6,8 +6,9 @@ use Rattle.lock_rules.specs.Legal.{state_of, IsLegal}
 use Rattle.lock_desk.specs.BookView.{BookView}
 use Rattle.lock_desk.specs.Deadlocks.{AreDeadlocksTold, deadlocks_in, newest}
 use Rattle.sequential.specs.Histories.{IsEntryWithin}
-use Rattle.lock_desk.specs.inner.Ended.{ended_in}
+use Rattle.session_sets.specs.Ended.{ended_in}
 use Rattle.lock_desk.specs.inner.Changes.{IsWhole}
+use Rattle.lock_desk.specs.inner.Counting.{AreCallsCounted, AreWaitsCounted}
 use Rattle.lock_desk.specs.inner.Noting.{IsLogFor}
 use Rattle.lock_desk.specs.inner.Ready.{IsReadyTable}
 use Rattle.lock_desk.specs.inner.Shows.{Shows}
@@ -26,7 +27,7 @@ book_view_of a = record {
 }
 
 -- the history is legal, the lock table represents the state that the history leads to, there is a locker and a mark for each
--- session, and the log tells the newest deadlocks
+-- session, the log tells the newest deadlocks, and the counters are those of the history
 pub record IsKept (a : Inside) : Type 0 where
   pub some : 1 ≤ a.sessions
   pub few : a.sessions ≤ MAX_SESSIONS
@@ -40,3 +41,5 @@ pub record IsKept (a : Inside) : Type 0 where
   pub marked : a.marks.sessions ≡ a.sessions
   pub log : IsLogFor (vec_len a.lock_table.lockers) a.deadlocks
   pub told : AreDeadlocksTold (newest a.deadlocks.most (deadlocks_in a.history.items)) a.deadlocks.told
+  pub calls : AreCallsCounted a.history.items a.counts
+  pub waits : AreWaitsCounted a.history.items a.deadlocks.counts

@@ -1,5 +1,5 @@
 -- Internal to this crate, cited by no public contract: the lines that a lock table gives for a listing.
-use Rattle.std.specs.Prelude.{ℕ, List, [], ◌∷◌, ◌++◌, map, if◌then◌else◌, Option, Some, None}
+use Rattle.std.specs.Prelude.{ℕ, List, ◌++◌, map, if◌then◌else◌, Option, Some, None}
 use Rattle.std.specs.List.{flat_map}
 use Rattle.std.specs.Map.{keys_of}
 use Rattle.lock_modes.specs.declared.Mode.{Mode}
@@ -7,19 +7,15 @@ use Rattle.lock_rules.specs.declared.calls.Transaction.{Transaction}
 use Rattle.lock_rules.specs.declared.listing.Claim.{Claim}
 use Rattle.lock_rules.specs.declared.listing.ClaimKind.{ClaimKind}
 use Rattle.lock_rules.specs.declared.listing.ClaimKind.TheVariants.{Held, Conversion, Fresh}
-use Rattle.lock_rules.specs.Listing.{with_path}
 use Rattle.lock_rules.specs.State.{number_in, doomed_in}
 use Rattle.lock_desk.specs.declared.lockers.Locker.{Locker}
-use Rattle.lock_desk.specs.declared.cells.SessionMode.{SessionMode}
+use Rattle.lock_holders.specs.declared.session_mode.SessionMode.{SessionMode}
 use Rattle.lock_desk.specs.declared.lock_table.LockTable.{LockTable}
-use Rattle.lock_desk.specs.inner.Cells.{View, has_session, mode_of}
+use Rattle.lock_desk.specs.inner.Cells.{View}
+use Rattle.lock_holders.specs.SessionModes.{has_session, mode_of}
+use Rattle.session_locks.specs.Resources.{in_order}
 use Rattle.lock_desk.specs.inner.Lockers.{Standing, no_standing, standing_of}
 use Rattle.lock_desk.specs.inner.Changes.{view_at, standing}
-
--- these resources, each once, in the order of resources
-abbrev pub in_order : List (List ℕ) → List (List ℕ)
-in_order [] = []
-in_order (r ∷ rs) = with_path r (in_order rs)
 
 -- what a locker says of its session, and nothing if there is no such session
 abbrev pub standing_in : Option Locker → Standing

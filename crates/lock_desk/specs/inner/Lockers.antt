@@ -3,7 +3,9 @@ use Rattle.std.specs.Prelude.{◌≡◌, ℕ, Bool, true, false, not, if◌then�
 use Rattle.lock_tree.specs.Paths.{same_path}
 use Rattle.lock_rules.specs.declared.calls.Transaction.{Transaction}
 use Rattle.lock_desk.specs.declared.lockers.Locker.{Locker}
-use Rattle.lock_desk.specs.inner.Cells.{View, has_session, has_path}
+use Rattle.lock_desk.specs.inner.Cells.{View}
+use Rattle.lock_holders.specs.SessionModes.{has_session}
+use Rattle.session_locks.specs.Resources.{has_path}
 use Rattle.lock_desk.specs.inner.Requests.{wanted_in}
 
 -- what a locker says of its session: its open transaction, the resources that it holds, and the resource that it waits for

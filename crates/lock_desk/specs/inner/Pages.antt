@@ -1,21 +1,13 @@
 -- Internal to this crate, cited by no public contract: the lines that a lock table gives for a page of a session's locks.
-use Rattle.std.specs.Prelude.{ℕ, List, [], ◌∷◌, filter, take, Option, Some, None}
+use Rattle.std.specs.Prelude.{ℕ, List, [], ◌∷◌, Option, Some, None}
 use Rattle.std.specs.List.{flat_map}
 use Rattle.lock_modes.specs.declared.Mode.{Mode}
 use Rattle.lock_rules.specs.declared.listing.Claim.{Claim}
 use Rattle.lock_rules.specs.declared.listing.ClaimKind.TheVariants.{Held}
 use Rattle.lock_desk.specs.declared.lock_table.LockTable.{LockTable}
-use Rattle.lock_desk.specs.Pages.{is_behind}
+use Rattle.session_locks.specs.Resources.{first_behind}
 use Rattle.lock_desk.specs.inner.Changes.{standing, mode_held}
-use Rattle.lock_desk.specs.inner.Listing.{in_order, line}
-
--- those of the resources that come behind `after`
-abbrev pub those_behind : Option (List ℕ) → List (List ℕ) → List (List ℕ)
-those_behind after rs = filter (is_behind after) rs
-
--- the first `n` of the resources that come behind `after`, in the order of resources
-abbrev pub first_behind : ℕ → Option (List ℕ) → List (List ℕ) → List (List ℕ)
-first_behind n after rs = take n (in_order (those_behind after rs))
+use Rattle.lock_desk.specs.inner.Listing.{line}
 
 -- the line of session `s`, which holds resource `r` in this mode, and none if it doesn't hold it
 abbrev pub lock_lines : LockTable → ℕ → List ℕ → Option Mode → List Claim

@@ -4,9 +4,9 @@ use Rattle.std.specs.Prelude.{◌≡◌, ℕ, Bool, true, false, not, if◌then�
 use Rattle.std.specs.Coded.{Unit-prop, Coded-set, coded_bool}
 use Rattle.lock_desk.specs.declared.lockers.Request.{Request}
 use Rattle.lock_desk.specs.declared.lockers.Request.TheVariants.{Fresh, Conversion}
-use Rattle.lock_desk.specs.inner.Cells.{has_path}
+use Rattle.session_locks.specs.Resources.{has_path}
 use Rattle.lock_tree.specs.Paths.{parent_of}
-use Rattle.lock_desk.specs.inner.ChildCounts.{IsUnder}
+use Rattle.session_locks.specs.LockLists.{IsUnder}
 
 -- the resource of a request
 abbrev pub resource_asked : Request → List ℕ

@@ -12,14 +12,15 @@ use Rattle.lock_rules.specs.Entries.{Entry}
 use Rattle.lock_rules.specs.Step.{first_failing}
 use Rattle.lock_rules.specs.Legal.{state_of, IsLegal}
 use Rattle.lock_desk.specs.Batches.{Item, entries_from, ended_waits_in}
-use Rattle.lock_desk.specs.declared.cells.SessionMode.{SessionMode}
+use Rattle.lock_holders.specs.declared.session_mode.SessionMode.{SessionMode}
 use Rattle.lock_desk.specs.declared.lockers.Locker.{Locker}
 use Rattle.lock_desk.specs.declared.lock_table.LockTable.{LockTable}
 use Rattle.lock_desk.specs.declared.lock_table.runs.Run.{Run}
 use Rattle.lock_desk.specs.declared.lock_table.runs.RunTarget.{RunTarget}
 use Rattle.sequential.specs.Histories.{IsEntryWithin}
 use Rattle.sequential.specs.Batches.{item_of}
-use Rattle.lock_desk.specs.inner.Cells.{is_nobody, codes_among, codes_unless_waited, fits_among, IsPlace, HasRoomAt}
+use Rattle.lock_holders.specs.SessionModes.{is_nobody, codes_among, fits_among}
+use Rattle.lock_desk.specs.inner.Cells.{codes_unless_waited, IsPlace, HasRoomAt}
 use Rattle.lock_desk.specs.inner.Changes.{view_at, mode_held, call_tests, IsWhole}
 use Rattle.lock_desk.specs.inner.Ready.{IsReadyTable}
 use Rattle.lock_desk.specs.inner.Shows.{Shows}

@@ -6,7 +6,7 @@ use Rattle.lock_rules.specs.State as rules
 use Rattle.lock_rules.specs.declared.calls.Reply.{Reply}
 use Rattle.lock_rules.specs.Step.{Outcome}
 use Rattle.lock_rules.specs.Queue.{queue}
-use Rattle.lock_desk.specs.declared.cells.SessionMode.{SessionMode}
+use Rattle.lock_holders.specs.declared.session_mode.SessionMode.{SessionMode}
 use Rattle.lock_desk.specs.declared.lock_table.LockTable.{LockTable}
 use Rattle.lock_desk.specs.inner.Cells.{View}
 use Rattle.lock_desk.specs.inner.Changes.{view_at, standing}

@@ -3,22 +3,23 @@
 
 ghost use Rattle.std.specs.Prelude.{◌≡◌, ◌+◌, ◌<◌, ◌≤◌, IfOk, OnErr, vec_len};
 ghost use Rattle.lock_rules.specs.declared.calls.Call.TheVariants.{Begin, Lock, Convert, Poll, Release, Commit, Abort, Try, Withdraw, Restart};
-ghost use Rattle.lock_rules.specs.State.{State};
+ghost use Rattle.lock_rules.specs.State.{State, is_waiting};
 ghost use Rattle.lock_rules.specs.Step.{step};
 ghost use Rattle.lock_rules.specs.Sound.{IsNumbered, IsSound};
 ghost use Rattle.lock_desk.specs.Deadlocks.{deadlocks_of, moments_at};
 ghost use Rattle.lock_desk.specs.inner.Cells.{IsPlace};
 ghost use Rattle.lock_desk.specs.inner.Changes.{IsWhole, DoesKeep, IsSameSeen, HasNotedEnded};
+ghost use Rattle.lock_desk.specs.inner.Counting.{with_own_wait};
 ghost use Rattle.lock_desk.specs.inner.Noting.{HasNoted, IsLogFor};
 ghost use Rattle.lock_desk.specs.inner.Ready.{IsReadyTable};
 ghost use Rattle.lock_desk.specs.inner.Shows.{Shows, DoesAnswer};
 
 use crate::deadlock_log::DeadlockLog;
 use crate::lock_table::LockTable;
-use crate::positions::position_of;
 use lock_modes::Mode;
 use lock_rules::{Call, Reply, Why};
 use lock_tree::Resource;
+use session_sets::position_of;
 use std::alloc::AllocError;
 
 impl LockTable {
@@ -309,8 +310,8 @@ impl LockTable {
         Reply::Restarted(self.restart(session) as u32)
     }
 
-    /// Serves one call of `session`, and notes the deadlocks that it makes in `log`; `served` is the place of the call in the
-    /// history. If memory is refused, nothing that contracts see changes.
+    /// Serves one call of `session`, and notes the deadlocks that it makes in `log`, and counts the wait that it gives up there;
+    /// `served` is the place of the call in the history. If memory is refused, nothing that contracts see changes.
     pub(crate) fn serve(
         &mut self,
         session: u16,
@@ -335,7 +336,8 @@ impl LockTable {
         ensures len { vec_len self.new.lockers ≡ vec_len self.old.lockers }
         ensures log { IsLogFor (vec_len self.old.lockers) log.new }
         ensures noted { (st : State) → IsSound st.table → IsNumbered st → Shows self.old st
-            → IfOk result (λ _. HasNoted (moments_at served session (deadlocks_of st session call)) log.old log.new) }
+            → IfOk result (λ _. HasNoted (moments_at served session (deadlocks_of st session call))
+            (record log.old { counts = with_own_wait (is_waiting st session) call log.old.counts }) log.new) }
         ensures unnoted { OnErr result (log.new ≡ log.old) }
     {
         match call {
@@ -347,10 +349,16 @@ impl LockTable {
             Call::Poll => Ok(self.serve_poll(session)),
             Call::Release(resource) => Ok(self.serve_release(session, resource)),
             Call::Commit => Ok(self.serve_commit(session)),
-            Call::Abort => Ok(self.serve_abort(session)),
+            Call::Abort => {
+                log.count_abort(self.is_waiting(session));
+                Ok(self.serve_abort(session))
+            }
             Call::Try(resource, mode) => self.serve_try(session, resource, mode, served, log),
             Call::Withdraw => Ok(self.serve_withdraw(session)),
-            Call::Restart => Ok(self.serve_restart(session)),
+            Call::Restart => {
+                log.count_restart(self.is_waiting(session));
+                Ok(self.serve_restart(session))
+            }
         }
     }
 }

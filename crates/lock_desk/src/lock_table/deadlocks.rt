@@ -12,8 +12,8 @@ ghost use Rattle.lock_desk.specs.inner.Shows.{Shows};
 
 use crate::deadlock_log::DeadlockLog;
 use crate::lock_table::LockTable;
-use crate::positions::position_of;
 use crate::waits::victim;
+use session_sets::position_of;
 
 impl LockTable {
     /// Ends the wait of `session`, if it waits, by the call of another: removes its request, and lists the session.

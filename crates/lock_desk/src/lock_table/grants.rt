@@ -1,17 +1,18 @@
 //! The operations by which a run of locks is granted: look-ups, room for all of them, and each grant.
 
 ghost use Rattle.std.specs.Prelude.{◌≡◌, ℕ, ◌+◌, ◌≤◌, true, None, Some, List, OnOk, slice_set, vec_len};
-ghost use Rattle.lock_desk.specs.inner.Cells.{codes_unless_waited, fits_among, is_nobody, IsPlace, HasRoomAt};
+ghost use Rattle.lock_desk.specs.inner.Cells.{codes_unless_waited, IsPlace, HasRoomAt};
+ghost use Rattle.lock_holders.specs.SessionModes.{fits_among, is_nobody};
 ghost use Rattle.lock_desk.specs.inner.Lockers.{standing_after_grant};
 ghost use Rattle.lock_desk.specs.inner.Changes.{view_at, standing, standings, IsWhole, DoesKeep, IsSameSeen, CanLock, HasAsked};
 ghost use Rattle.lock_desk.specs.inner.Ready.{IsReadyTable};
 ghost use Rattle.lock_desk.specs.inner.Runs.{HasLockRoom, KeepsLockRooms};
 
-use crate::cells::SessionMode;
 use crate::lock_table::LockTable;
-use crate::positions::position_of;
+use lock_holders::SessionMode;
 use lock_modes::Mode;
 use lock_tree::Resource;
+use session_sets::position_of;
 use std::alloc::AllocError;
 
 impl LockTable {

@@ -5,7 +5,7 @@ ghost use Rattle.lock_desk.specs.inner.Changes.{IsSameSeen, IsWhole, DoesKeep};
 ghost use Rattle.lock_desk.specs.inner.Ready.{IsReadyTable};
 
 use crate::lock_table::LockTable;
-use crate::positions::position_of;
+use session_sets::position_of;
 use std::alloc::AllocError;
 
 impl LockTable {

@@ -2,10 +2,11 @@
 
 ghost use Rattle.std.specs.Prelude.{◌≡◌, ◌++◌, length, IfOk, OnOk, OnErr};
 ghost use Rattle.lock_desk.specs.inner.Changes.{standing};
-ghost use Rattle.lock_desk.specs.inner.Pages.{first_behind, lock_lines_at, page_of};
+ghost use Rattle.session_locks.specs.Resources.{first_behind};
+ghost use Rattle.lock_desk.specs.inner.Pages.{lock_lines_at, page_of};
 
-use crate::cells::SessionMode;
 use crate::lock_table::LockTable;
+use lock_holders::SessionMode;
 use lock_rules::{Claim, ClaimKind};
 use lock_tree::Resource;
 use std::alloc::{AllocError, Global};

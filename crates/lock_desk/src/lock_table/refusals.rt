@@ -6,8 +6,8 @@ ghost use Rattle.lock_rules.specs.Step.{is_nothing, target_of, first_failing};
 ghost use Rattle.lock_desk.specs.inner.Cells.{IsPlace};
 ghost use Rattle.lock_desk.specs.inner.Changes.{mode_held, lacks_need, would_wait, open_tests, idle_tests, standing_tests, lock_tests, try_tests, convert_tests, release_tests, IsWhole};
 
-use crate::cells::SessionMode;
 use crate::lock_table::LockTable;
+use lock_holders::SessionMode;
 use lock_modes::Mode;
 use lock_rules::{MAX_LOCKS, Why};
 use lock_tree::Resource;

@@ -11,15 +11,16 @@ ghost use Rattle.lock_desk.specs.inner.Noting.{HasNoted, IsLogFor};
 ghost use Rattle.lock_desk.specs.inner.Ready.{IsReadyTable};
 ghost use Rattle.lock_desk.specs.inner.Shows.{Shows, DoesAnswer};
 
-use crate::cells::{RequestStatus, SessionMode};
+use crate::cells::RequestStatus;
 use crate::deadlock_log::DeadlockLog;
 use crate::lock_table::LockTable;
 use crate::lock_table::refusals::target_of;
 use crate::lockers::Request;
-use crate::positions::position_of;
+use lock_holders::SessionMode;
 use lock_modes::Mode;
 use lock_rules::Reply;
 use lock_tree::Resource;
+use session_sets::position_of;
 use std::alloc::AllocError;
 
 impl LockTable {

@@ -5,8 +5,8 @@ ghost use Rattle.lock_desk.specs.inner.Changes.{standing, IsWhole, DoesKeep, Has
 ghost use Rattle.lock_desk.specs.inner.Ready.{IsReadyTable};
 
 use crate::lock_table::LockTable;
-use crate::positions::position_of;
 use lock_rules::MAX_LOCKS;
+use session_sets::position_of;
 
 impl LockTable {
     /// Releases all locks of `session`, begins its transaction again, and returns how many locks they were. The session

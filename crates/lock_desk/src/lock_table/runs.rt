@@ -3,7 +3,7 @@
 //! up once, one test of a mask replaces all comparisons of modes, and memory for all is reserved before the first
 //! grant.
 
-ghost use Rattle.std.specs.Prelude.{◌≡◌, ℕ, ◌+◌, ◌-◌, ◌<◌, ◌≤◌, true, false, None, Some, List, ◌==◌, if◌then◌else◌, length, IfSome, OnOk, vec_len, vec_capacity, bit_and};
+ghost use Rattle.std.specs.Prelude.{◌≡◌, ℕ, ◌+◌, ◌-◌, ◌<◌, ◌≤◌, ◌^◌, true, false, None, Some, List, ◌==◌, if◌then◌else◌, length, IfSome, OnOk, vec_len, vec_capacity, bit_and};
 ghost use Rattle.std.specs.List.{All};
 ghost use Rattle.lock_rules.specs.declared.calls.Call.TheVariants.{Lock};
 ghost use Rattle.lock_rules.specs.Entries.{Entry as EntryValue};
@@ -11,19 +11,22 @@ ghost use Rattle.lock_rules.specs.Step.{first_failing};
 ghost use Rattle.lock_desk.specs.Batches.{Item as ItemValue};
 ghost use Rattle.sequential.specs.Batches.{IsItemWithin};
 ghost use Rattle.lock_desk.specs.Deadlocks.{deadlocks_in};
-ghost use Rattle.lock_desk.specs.inner.Ended.{ended_in};
+ghost use Rattle.session_sets.specs.Ended.{ended_in};
+ghost use Rattle.lock_desk.specs.declared.wait_counts.WaitCounts.{WaitCounts as WaitCountsValue};
+ghost use Rattle.lock_desk.specs.inner.Counting.{AreCallsCounted, AreWaitsCounted};
 ghost use Rattle.lock_desk.specs.inner.Changes.{mode_held, lacks_need, call_tests, IsWhole, DoesKeep, IsSameSeen};
 ghost use Rattle.lock_desk.specs.inner.Ready.{IsReadyTable};
 ghost use Rattle.lock_desk.specs.inner.Runs.{HasLockRoom, mode_asked, Each, CanJoin, IsRunTarget, IsRun, IsGranting, AreKept, AreServed};
 
 use crate::book::Item;
-use crate::cells::is_same;
+use crate::call_counts::CallCounts;
 use crate::lock_table::LockTable;
 use crate::lock_table::refusals::is_nothing;
-use crate::positions::position_of;
 use lock_modes::Mode;
 use lock_rules::{Call, Entry, MAX_LOCKS, Reply};
 use lock_tree::Resource;
+use session_locks::is_same;
+use session_sets::position_of;
 use std::alloc::AllocError;
 use trimmed_list::TrimmedList;
 use waits_for::Marks;
@@ -258,6 +261,7 @@ fn make_rooms(
     ensures cut { history.new.cut ≡ history.old.cut }
     ensures bound { history.new.bound ≡ history.old.bound }
     ensures entries { OnOk result (run.now.upto - from ≤ history.new.room) }
+    ensures places { OnOk result (length history.new.items + (run.now.upto - from) < 2 ^ 64 - 1) }
     ensures granting { OnOk result (IsGranting table.new items.now from run.now) }
 {
     let more = run.upto - from;
@@ -266,10 +270,11 @@ fn make_rooms(
     make_lock_rooms(table, items, from, run)
 }
 
-/// Grants the lock of `items[index]`, and writes its entry and its reply.
+/// Grants the lock of `items[index]`, writes its entry and its reply, and counts it.
 fn grant_item(
     table: &mut LockTable,
     history: &mut TrimmedList<Entry>,
+    counts: &mut CallCounts,
     items: &mut [Item],
     index: usize,
     run: &Run,
@@ -278,13 +283,18 @@ fn grant_item(
     requires index { index < run.now.upto }
     requires granting { IsGranting table.old items.old index run.now }
     requires kept { AreKept table.old history.old.items }
+    requires calls { AreCallsCounted history.old.items counts.old }
     requires room { 1 ≤ history.old.room }
+    requires places { length history.old.items < 2 ^ 64 - 1 }
     ensures within { All (IsItemWithin (vec_len table.new.lockers)) items.new }
     ensures granting { IsGranting table.new items.new (index + 1) run.now }
     ensures kept { AreKept table.new history.new.items }
+    ensures calls { AreCallsCounted history.new.items counts.new }
+    ensures waits { (w : WaitCountsValue) → AreWaitsCounted history.old.items w → AreWaitsCounted history.new.items w }
     ensures lockers { vec_len table.new.lockers ≡ vec_len table.old.lockers }
     ensures cut { history.new.cut ≡ history.old.cut }
     ensures bound { history.new.bound ≡ history.old.bound }
+    ensures one_more { length history.new.items ≡ length history.old.items + 1 }
     ensures room { history.new.room + 1 ≡ history.old.room }
     ensures deadlocks { deadlocks_in history.new.items ≡ deadlocks_in history.old.items }
     ensures served { (n : ℕ) (batch : List ItemValue) (start : List EntryValue) → AreServed n index batch start (ended_in table.old.ended) history.old.items items.old
@@ -296,6 +306,7 @@ fn grant_item(
     };
     table.grant(item.session, run.place, run.resource, mode);
     let reply = Reply::Granted(mode);
+    counts.note(&item.call, &reply);
     history.push_reserved(Entry {
         session: item.session,
         call: item.call,
@@ -308,6 +319,7 @@ fn grant_item(
 fn grant_items(
     table: &mut LockTable,
     history: &mut TrimmedList<Entry>,
+    counts: &mut CallCounts,
     items: &mut [Item],
     from: usize,
     run: &Run,
@@ -316,18 +328,22 @@ fn grant_items(
     requires from { from ≤ run.now.upto }
     requires granting { IsGranting table.old items.old from run.now }
     requires kept { AreKept table.old history.old.items }
+    requires calls { AreCallsCounted history.old.items counts.old }
     requires room { run.now.upto - from ≤ history.old.room }
+    requires places { length history.old.items + (run.now.upto - from) < 2 ^ 64 - 1 }
     ensures within { All (IsItemWithin (vec_len table.new.lockers)) items.new }
     ensures cut { history.new.cut ≡ history.old.cut }
     ensures bound { history.new.bound ≡ history.old.bound }
     ensures kept { AreKept table.new history.new.items }
+    ensures calls { AreCallsCounted history.new.items counts.new }
+    ensures waits { (w : WaitCountsValue) → AreWaitsCounted history.old.items w → AreWaitsCounted history.new.items w }
     ensures lockers { vec_len table.new.lockers ≡ vec_len table.old.lockers }
     ensures deadlocks { deadlocks_in history.new.items ≡ deadlocks_in history.old.items }
     ensures served { (n : ℕ) (batch : List ItemValue) (start : List EntryValue) → AreServed n from batch start (ended_in table.old.ended) history.old.items items.old
         → AreServed n run.now.upto batch start (ended_in table.new.ended) history.new.items items.new }
 {
     for index in from..run.upto {
-        grant_item(table, history, items, index, run);
+        grant_item(table, history, counts, items, index, run);
     }
 }
 
@@ -336,6 +352,7 @@ fn grant_items(
 pub(crate) fn grant_run(
     table: &mut LockTable,
     history: &mut TrimmedList<Entry>,
+    counts: &mut CallCounts,
     items: &mut [Item],
     from: usize,
     run: &Run,
@@ -344,10 +361,13 @@ pub(crate) fn grant_run(
     requires from { from ≤ run.now.upto }
     requires run { IsRun table.old items.old from run.now }
     requires kept { AreKept table.old history.old.items }
+    requires calls { AreCallsCounted history.old.items counts.old }
     ensures within { All (IsItemWithin (vec_len table.new.lockers)) items.new }
     ensures cut { history.new.cut ≡ history.old.cut }
     ensures bound { history.new.bound ≡ history.old.bound }
     ensures kept { AreKept table.new history.new.items }
+    ensures calls { AreCallsCounted history.new.items counts.new }
+    ensures waits { (w : WaitCountsValue) → AreWaitsCounted history.old.items w → AreWaitsCounted history.new.items w }
     ensures lockers { vec_len table.new.lockers ≡ vec_len table.old.lockers }
     ensures deadlocks { deadlocks_in history.new.items ≡ deadlocks_in history.old.items }
     ensures served { (n : ℕ) (batch : List ItemValue) (start : List EntryValue) → AreServed n from batch start (ended_in table.old.ended) history.old.items items.old
@@ -359,6 +379,6 @@ pub(crate) fn grant_run(
     let Ok(()) = make_rooms(table, history, items, from, run) else {
         return false;
     };
-    grant_items(table, history, items, from, run);
+    grant_items(table, history, counts, items, from, run);
     true
 }

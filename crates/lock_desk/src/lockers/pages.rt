@@ -1,7 +1,7 @@
 //! The locks of one session by pages: the resources of a page.
 
 ghost use Rattle.std.specs.Prelude.{◌≡◌, IfOk};
-ghost use Rattle.lock_desk.specs.inner.Pages.{first_behind};
+ghost use Rattle.session_locks.specs.Resources.{first_behind};
 
 use crate::lockers::Locker;
 use lock_tree::Resource;

@@ -1,8 +1,8 @@
 use Rattle.std.proofs.Common.{◌≡◌, ◌∙◌, ◌||◌, refl, ap, Bool, cond, List, ℕ, [], ◌∷◌, ◌++◌}
 use Rattle.std.specs.List.{list_any}
 use Rattle.lock_tree.specs.Paths.{same_path}
-use Rattle.lock_desk.specs.inner.Cells.{has_path}
-use Rattle.lock_desk.proofs.Places.{same_path-equivalence}
+use Rattle.session_locks.specs.Resources.{has_path}
+use Rattle.session_locks.proofs.ResourceLists.{same_path-equivalence}
 use Rattle.lock_desk.proofs.cell_table.insert_new_key.Goals as goal
 
 -- looking for a key by `==` is looking for the path

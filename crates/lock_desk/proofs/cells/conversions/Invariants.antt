@@ -1,5 +1,5 @@
 use Rattle.std.proofs.Common.{◌≡◌, ◌++◌, take, drop}
-use Rattle.lock_desk.specs.declared.cells.SessionMode.{SessionMode}
+use Rattle.lock_holders.specs.declared.session_mode.SessionMode.{SessionMode}
 use Rattle.lock_desk.specs.inner.Cells.{behind_conversions}
 use Rattle.lock_desk.proofs.cells.conversions.Given as goal
 

@@ -1,5 +1,5 @@
 use Rattle.std.proofs.Common.{◌≡◌, drop}
-use Rattle.lock_desk.specs.inner.Cells.{mode_of}
+use Rattle.lock_holders.specs.SessionModes.{mode_of}
 use Rattle.lock_desk.proofs.cells.target_in.Given as goal
 
 abbrev pub invariant-loop-index : goal.invariant-loop-index

@@ -1,7 +1,8 @@
 use Rattle.std.proofs.Common.{◌+◌, ◌&&◌, not, take, drop, List, ap, sym, ◌∙◌, subst, ◌≤◌}
 use Rattle.waits_for.specs.Pairs.{pairs_of}
-use Rattle.lock_desk.specs.declared.cells.SessionMode.{SessionMode}
-use Rattle.lock_desk.specs.inner.Cells.{view_of, times, has_session}
+use Rattle.lock_holders.specs.declared.session_mode.SessionMode.{SessionMode}
+use Rattle.lock_desk.specs.inner.Cells.{view_of}
+use Rattle.lock_holders.specs.SessionModes.{times, has_session}
 use Rattle.lock_desk.specs.inner.Blocking.{has_fitting_beside}
 use Rattle.lock_desk.proofs.NarrowingWaits.{follows-granted, all-behind, emptied-behind, times-behind}
 use Rattle.lock_desk.proofs.promotion.dequeue_granted.Goals as goal

@@ -1,7 +1,8 @@
 use Rattle.std.proofs.Common.{◌≡◌, suc, ◌+◌, ◌≤◌, List, vec_len, take, drop, ◌∙◌, arith, ap, sym, refl, inl, subst}
-use Rattle.lock_desk.specs.declared.cells.SessionMode.{SessionMode}
-use Rattle.lock_desk.specs.inner.Cells.{view_of, times, with_holder}
-use Rattle.lock_desk.specs.inner.Blocking.{AreOfSessions, AreWritten, DoFollow, with_holders}
+use Rattle.lock_holders.specs.declared.session_mode.SessionMode.{SessionMode}
+use Rattle.lock_desk.specs.inner.Cells.{view_of}
+use Rattle.lock_holders.specs.SessionModes.{times, with_holder, AreOfSessions}
+use Rattle.lock_desk.specs.inner.Blocking.{AreWritten, DoFollow, with_holders}
 use Rattle.lock_desk.specs.inner.Lockers.{standings_of}
 use Rattle.lock_desk.proofs.ResourceViews.{both, next-passed, next-within, promoted-next, once-next}
 use Rattle.lock_desk.proofs.Promotions.{grant-some, grant-within, grant-waits_locker, grant-agree, grant-same, grant-waits_ended}

@@ -1,5 +1,6 @@
 use Rattle.std.proofs.Common.{◌≡◌, ◌+◌, ◌-◌, ◌≤◌, true, length, take, drop, vec_len, IfSome}
-use Rattle.lock_desk.specs.inner.Cells.{go_with, view_of, view_after_promotion, IsOnce}
+use Rattle.lock_holders.specs.SessionModes.{go_with}
+use Rattle.lock_desk.specs.inner.Cells.{view_of, view_after_promotion, IsOnce}
 use Rattle.lock_desk.specs.inner.Lockers.{standings_of, AreSameOrGranted, DoAgree}
 use Rattle.lock_desk.specs.inner.Ended.{DoNoteEnded}
 use Rattle.lock_desk.specs.inner.Blocking.{with_holders}

@@ -1,4 +1,4 @@
-use Rattle.std.proofs.Common.{◌++◌, ◌∷◌, [], List, length, ◌∙◌, sym, ap, subst}
+use Rattle.std.proofs.Common.{◌++◌, ◌∷◌, [], List, length, ◌∙◌, sym, ap, subst, arith}
 use Rattle.lock_rules.specs.Entries.{Entry}
 use Rattle.lock_rules.specs.Step.{step}
 use Rattle.lock_rules.specs.Legal.{state_of}
@@ -6,7 +6,10 @@ use Rattle.lock_rules.proofs.Steps.{state-lawful}
 use Rattle.lock_rules.proofs.Owners.{state-numbered}
 use Rattle.lock_desk.specs.Deadlocks.{AreDeadlocksTold, deadlocks_in, newest}
 use Rattle.lock_desk.specs.inner.Noting.{LogView}
+use Rattle.lock_rules.specs.State.{is_waiting}
+use Rattle.lock_desk.specs.inner.Counting.{with_own_wait, AreCallsCounted, AreWaitsCounted}
 use Rattle.lock_desk.proofs.DeadlocksOfCalls.{told-more}
+use Rattle.lock_desk.proofs.CallsCounted.{waits-counted}
 use Rattle.lock_desk.proofs.BookInvariant.{kept-more, kept-same, waits_ended-ends}
 use Rattle.lock_desk.proofs.recording.serve_recorded.Goals as goal
 
@@ -50,7 +53,8 @@ pub returns-clause-told : goal.returns-clause-told
 returns-clause-told c =
     let es = c.args.history.now.items in
     let noted = c.in_ok-reply.ensures.noted (state_of es) (state-lawful es).sound (state-numbered es) c.requires.kept.shows in
-    told-more es c.push_reserved.new.self.items (record { session = c.args.session; call = c.args.call; reply = c.in_ok-reply.reply }) c.count-served.result c.args.log.now c.serve.new.log
+    told-more es c.push_reserved.new.self.items (record { session = c.args.session; call = c.args.call; reply = c.in_ok-reply.reply }) c.count-served.result
+    (record c.args.log.now { counts = with_own_wait (is_waiting (state_of es) c.args.session) c.args.call c.args.log.now.counts }) c.serve.new.log
     (c.push_reserved.ensures.items ∙ ap (λ (xs : List Entry). xs ++ record { session = c.args.session; call = c.args.call; reply = c.in_ok-reply.reply } ∷ []) c.in_ok-reserve.ensures.items)
     (c.count-served.ensures.count ∙ ap length c.in_ok-reserve.ensures.items) noted c.requires.told
 
@@ -64,3 +68,30 @@ returns-clause-log c = λ some. c.serve.ensures.log some ∙ sym c.serve.ensures
 
 pub returns-in_err-reply-clause-log : goal.returns-in_err-reply-clause-log
 returns-in_err-reply-clause-log c = λ some. c.serve.ensures.log some ∙ sym c.serve.ensures.len
+
+pub returns-clause-calls : goal.returns-clause-calls
+returns-clause-calls c =
+    let es = c.args.history.now.items in
+    let entry : Entry = record { session = c.args.session; call = c.args.call; reply = c.in_ok-reply.reply } in
+    subst (λ (xs : List Entry). AreCallsCounted xs c.note.new.self) (sym (c.push_reserved.ensures.items ∙ ap (λ (xs : List Entry). xs ++ entry ∷ []) c.in_ok-reserve.ensures.items))
+    (c.note.ensures es c.args.session c.requires.calls (omega (arith, c.in_ok-reserve.ensures.places, ap length c.in_ok-reserve.ensures.items)))
+
+pub returns-clause-waits : goal.returns-clause-waits
+returns-clause-waits c =
+    let es = c.args.history.now.items in
+    let k = c.requires.kept in
+    let entry : Entry = record { session = c.args.session; call = c.args.call; reply = c.in_ok-reply.reply } in
+    let numbered = state-numbered es in
+    let s = c.in_ok-reply.ensures.step (state_of es) (state-lawful es).sound numbered k.shows in
+    let noted = c.in_ok-reply.ensures.noted (state_of es) (state-lawful es).sound numbered k.shows in
+    waits-counted es c.push_reserved.new.self.items c.args.session c.args.call c.in_ok-reply.reply c.count-served.result c.args.log.now.counts c.serve.new.log.counts
+    (c.push_reserved.ensures.items ∙ ap (λ (xs : List Entry). xs ++ entry ∷ []) c.in_ok-reserve.ensures.items) k.legal s.0 numbered
+    (c.count-served.ensures.count ∙ ap length c.in_ok-reserve.ensures.items) (omega (arith, c.in_ok-reserve.ensures.places, ap length c.in_ok-reserve.ensures.items)) noted.counted c.requires.waits
+
+pub returns-in_err-reply-clause-calls : goal.returns-in_err-reply-clause-calls
+returns-in_err-reply-clause-calls c = subst (λ (es : List Entry). AreCallsCounted es c.args.counts.now) (sym c.reserve.ensures.items) c.requires.calls
+
+pub returns-in_err-reply-clause-waits : goal.returns-in_err-reply-clause-waits
+returns-in_err-reply-clause-waits c =
+    subst (λ (l : LogView). AreWaitsCounted c.reserve.new.self.items l.counts) (sym c.in_err-reply.ensures.unnoted)
+    (subst (λ (es : List Entry). AreWaitsCounted es c.args.log.now.counts) (sym c.reserve.ensures.items) c.requires.waits)

@@ -1,6 +1,7 @@
 use Rattle.std.proofs.Common.{◌≡◌, ℕ, ◌+◌, ◌&&◌, not, take}
 use Rattle.waits_for.specs.Pairs.{pairs_of}
-use Rattle.lock_desk.specs.inner.Cells.{has_session, view_of}
+use Rattle.lock_holders.specs.SessionModes.{has_session}
+use Rattle.lock_desk.specs.inner.Cells.{view_of}
 use Rattle.lock_desk.proofs.waits.clear_queue_rows.Given as goal
 
 abbrev pub invariant-loop-request : goal.invariant-loop-request

@@ -1,8 +1,9 @@
 use Rattle.std.proofs.Common.{◌+◌, ◌<◌, ◌&&◌, not, eqb, List, None, length, get_or, drop, ap, refl, sym, ◌∙◌, arith, subst}
 use Rattle.waits_for.specs.Pairs.{pairs_of}
-use Rattle.lock_desk.specs.declared.cells.SessionMode.{SessionMode}
+use Rattle.lock_holders.specs.declared.session_mode.SessionMode.{SessionMode}
 use Rattle.lock_modes.specs.declared.Mode.TheVariants.{NL}
-use Rattle.lock_desk.specs.inner.Cells.{view_of, has_session, is_request}
+use Rattle.lock_desk.specs.inner.Cells.{view_of, is_request}
+use Rattle.lock_holders.specs.SessionModes.{has_session}
 use Rattle.lock_desk.specs.inner.Blocking.{has_fitting}
 use Rattle.lock_desk.proofs.NarrowingWaits.{follows-lock, follows-request, all-behind}
 use Rattle.lock_desk.proofs.waits.follow_give_up.Goals as goal

@@ -1,5 +1,5 @@
 use Rattle.std.proofs.Common.{◌≡◌, false, take}
-use Rattle.lock_desk.specs.inner.Cells.{has_session}
+use Rattle.lock_holders.specs.SessionModes.{has_session}
 use Rattle.lock_desk.proofs.waits.index_in.Given as goal
 
 abbrev pub invariant-loop-index : goal.invariant-loop-index

@@ -1,8 +1,9 @@
 use Rattle.std.proofs.Common.{◌≡◌, suc, ◌+◌, ◌<◌, ◌&&◌, ◌||◌, not, eqb, List, Some, get_or, length, drop, refl, sym, ◌∙◌, ap, arith, subst}
 use Rattle.waits_for.specs.Pairs.{pairs_of}
 use Rattle.lock_modes.specs.declared.Mode.TheVariants.{NL}
-use Rattle.lock_desk.specs.declared.cells.SessionMode.{SessionMode}
-use Rattle.lock_desk.specs.inner.Cells.{view_of, has_session, is_granted}
+use Rattle.lock_holders.specs.declared.session_mode.SessionMode.{SessionMode}
+use Rattle.lock_desk.specs.inner.Cells.{view_of, is_granted}
+use Rattle.lock_holders.specs.SessionModes.{has_session}
 use Rattle.lock_desk.specs.inner.Blocking.{has_fitting, has_conflicting}
 use Rattle.lock_desk.proofs.RowsAfterAsking.{asker-queued, written-ahead, follows-granted_request, follows-waiting}
 use Rattle.lock_desk.proofs.NarrowingWaits.{all-behind}

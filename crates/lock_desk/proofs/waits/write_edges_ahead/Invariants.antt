@@ -1,6 +1,6 @@
 use Rattle.std.proofs.Common.{◌≡◌, ℕ, ◌+◌, ◌||◌, ◌&&◌, eqb, take}
 use Rattle.waits_for.specs.Pairs.{pairs_of}
-use Rattle.lock_desk.specs.inner.Cells.{has_session}
+use Rattle.lock_holders.specs.SessionModes.{has_session}
 use Rattle.lock_desk.proofs.waits.write_edges_ahead.Given as goal
 
 abbrev pub invariant-loop-request : goal.invariant-loop-request

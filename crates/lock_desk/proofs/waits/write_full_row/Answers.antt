@@ -1,9 +1,9 @@
 use Rattle.std.proofs.Common.{◌+◌, ◌||◌, ◌&&◌, eqb, List, get_or, take, ◌∙◌, ap}
 use Rattle.waits_for.specs.Pairs.{pairs_of}
 use Rattle.lock_modes.specs.declared.Mode.TheVariants.{NL}
-use Rattle.lock_desk.specs.declared.cells.SessionMode.{SessionMode}
-use Rattle.lock_desk.specs.inner.Cells.{view_of, has_session}
-use Rattle.lock_desk.specs.inner.Blocking.{holder_blocks}
+use Rattle.lock_holders.specs.declared.session_mode.SessionMode.{SessionMode}
+use Rattle.lock_desk.specs.inner.Cells.{view_of}
+use Rattle.lock_holders.specs.SessionModes.{has_session, holder_blocks}
 use Rattle.lock_desk.proofs.RequestsAlike.{seen-written}
 use Rattle.lock_desk.proofs.waits.write_full_row.Goals as goal
 

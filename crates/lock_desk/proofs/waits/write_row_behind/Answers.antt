@@ -1,8 +1,9 @@
 use Rattle.std.proofs.Common.{◌≡◌, ◌+◌, ◌-◌, ◌||◌, ◌&&◌, eqb, List, get_or, take, drop, sym, ◌∙◌, ap, arith, subst}
 use Rattle.waits_for.specs.Pairs.{pairs_of}
 use Rattle.lock_modes.specs.declared.Mode.TheVariants.{NL}
-use Rattle.lock_desk.specs.declared.cells.SessionMode.{SessionMode}
-use Rattle.lock_desk.specs.inner.Cells.{view_of, has_session}
+use Rattle.lock_holders.specs.declared.session_mode.SessionMode.{SessionMode}
+use Rattle.lock_desk.specs.inner.Cells.{view_of}
+use Rattle.lock_holders.specs.SessionModes.{has_session}
 use Rattle.lock_desk.proofs.RequestsAlike.{previous_same_mode-written}
 use Rattle.lock_desk.proofs.waits.write_row_behind.Goals as goal
 

@@ -3,8 +3,9 @@ use Rattle.std.proofs.Math.Bool.{or-false}
 use Rattle.std.proofs.lemmas.List.{take_all}
 use Rattle.waits_for.specs.Pairs.{pairs_of}
 use Rattle.lock_modes.specs.declared.Mode.TheVariants.{NL}
-use Rattle.lock_desk.specs.declared.cells.SessionMode.{SessionMode}
-use Rattle.lock_desk.specs.inner.Cells.{has_session, view_of}
+use Rattle.lock_holders.specs.declared.session_mode.SessionMode.{SessionMode}
+use Rattle.lock_holders.specs.SessionModes.{has_session}
+use Rattle.lock_desk.specs.inner.Cells.{view_of}
 use Rattle.lock_desk.specs.inner.Blocking.{cell_blocks}
 use Rattle.lock_desk.proofs.WritingWaits.{blocks-waiting}
 use Rattle.lock_desk.proofs.RequestsAlike.{has-take, written-next}

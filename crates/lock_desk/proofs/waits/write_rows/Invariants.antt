@@ -1,6 +1,7 @@
 use Rattle.std.proofs.Common.{◌≡◌, ℕ, ◌+◌, ◌&&◌, ◌||◌, take}
 use Rattle.waits_for.specs.Pairs.{pairs_of}
-use Rattle.lock_desk.specs.inner.Cells.{has_session, view_of}
+use Rattle.lock_holders.specs.SessionModes.{has_session}
+use Rattle.lock_desk.specs.inner.Cells.{view_of}
 use Rattle.lock_desk.specs.inner.Blocking.{cell_blocks}
 use Rattle.lock_desk.proofs.waits.write_rows.Given as goal
 

@@ -38,5 +38,5 @@ invariant_of-self-in-Err c =
     let k = c.self.invariant in
     let e = c.serve_recorded.new.table in
     let done = c.in-Err.ensures in
-    subst (λ (d : LockTable). IsKept (record { sessions = c.self.inside.sessions; lock_table = d; history = c.serve_recorded.new.history; marks = c.self.inside.marks; deadlocks = c.serve_recorded.new.log })) (sym c.restore_ended.ensures)
-    (of-kept _ k.some k.few (kept-relisted e _ c.serve_recorded.new.history.items refl done.kept) (done.lockers ∙ (ap (λ (d : LockTable). vec_len d.lockers) c.clear_ended-waits_ended.ensures.cleared ∙ k.lockers)) k.marked done.log done.told)
+    subst (λ (d : LockTable). IsKept (record { sessions = c.self.inside.sessions; lock_table = d; history = c.serve_recorded.new.history; marks = c.self.inside.marks; deadlocks = c.serve_recorded.new.log; counts = c.serve_recorded.new.counts })) (sym c.restore_ended.ensures)
+    (of-kept _ k.some k.few (kept-relisted e _ c.serve_recorded.new.history.items refl done.kept) (done.lockers ∙ (ap (λ (d : LockTable). vec_len d.lockers) c.clear_ended-waits_ended.ensures.cleared ∙ k.lockers)) k.marked done.log done.told done.calls done.waits)

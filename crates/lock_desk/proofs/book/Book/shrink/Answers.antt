@@ -1,6 +1,7 @@
 use Rattle.std.proofs.Common.{◌∙◌, List, sym, subst}
 use Rattle.lock_rules.specs.Entries.{Entry}
 use Rattle.lock_rules.specs.Legal.{state_of}
+use Rattle.lock_desk.specs.inner.Counting.{AreCallsCounted, AreWaitsCounted}
 use Rattle.lock_desk.specs.Deadlocks.{AreDeadlocksTold, deadlocks_in, newest}
 use Rattle.lock_desk.proofs.BookInvariant.{kept-of, kept-same, of-kept}
 use Rattle.lock_desk.proofs.Simulation.{same-shown}
@@ -16,3 +17,5 @@ invariant_of-self c =
     (same-shown a.lock_table c.shrink.new.self (state_of a.history.items) c.shrink.ensures.same k.shows) kept.whole kept.ready kept.lockers)
     (kept.lockers ∙ k.lockers) k.marked (λ some. k.log some ∙ sym kept.lockers)
     (subst (λ (es : List Entry). AreDeadlocksTold (newest a.deadlocks.most (deadlocks_in es)) a.deadlocks.told) (sym c.shrink-2.ensures.items) k.told)
+    (subst (λ (es : List Entry). AreCallsCounted es a.counts) (sym c.shrink-2.ensures.items) k.calls)
+    (subst (λ (es : List Entry). AreWaitsCounted es a.deadlocks.counts) (sym c.shrink-2.ensures.items) k.waits)

@@ -5,7 +5,9 @@ use Rattle.lock_rules.specs.Entries.{Entry}
 use Rattle.lock_rules.specs.Legal.{IsLegal, state_of}
 use Rattle.lock_desk.specs.inner.Shows.{Shows}
 use Rattle.lock_desk.specs.Deadlocks.{AreDeadlocksTold, deadlocks_in, newest}
-use Rattle.lock_desk.proofs.EndedList.{none-in}
+use Rattle.session_sets.proofs.EndedList.{none-in}
+use Rattle.lock_desk.specs.inner.Counting.{AreCallsCounted, AreWaitsCounted}
+use Rattle.lock_desk.proofs.CallsCounted.{none-counted}
 use Rattle.lock_desk.proofs.book.Book.with_seed.Goals as goal
 
 pub invariant_of-result : goal.invariant_of-result
@@ -27,6 +29,9 @@ invariant_of-result c =
       log = λ some. absurd (omega (arith, some, c.in_ok-deadlocks.ensures.most));
       told = subst (λ (es : List Entry). AreDeadlocksTold (newest c.in_ok-deadlocks.deadlocks.most (deadlocks_in es)) c.in_ok-deadlocks.deadlocks.told) none
           (subst (AreDeadlocksTold (newest c.in_ok-deadlocks.deadlocks.most [])) (sym c.in_ok-deadlocks.ensures.told) (subst (λ (n : ℕ). AreDeadlocksTold (newest n []) []) (sym c.in_ok-deadlocks.ensures.most) tt));
+      calls = subst (λ (es : List Entry). AreCallsCounted es c.new-4.result) none c.new-4.ensures;
+      waits = subst (λ (es : List Entry). AreWaitsCounted es c.in_ok-deadlocks.deadlocks.counts) none
+          (subst (AreWaitsCounted []) (sym c.in_ok-deadlocks.ensures.counts) none-counted);
     }
 
 pub returns-clause-ended : goal.returns-clause-ended

@@ -5,7 +5,8 @@ use Rattle.lock_desk.specs.inner.Tables.{in_use}
 use Rattle.lock_desk.specs.inner.Cells.{Table, Cells, cell_at, view_of}
 use Rattle.lock_desk.proofs.Results.{on-err-from}
 use Rattle.lock_desk.proofs.CellTable.{became, became-view}
-use Rattle.lock_desk.proofs.Places.{same_path-equivalence, unused, provisional-unchanged, cell-come, long-come, idle-come, count-place}
+use Rattle.session_locks.proofs.ResourceLists.{same_path-equivalence}
+use Rattle.lock_desk.proofs.Places.{unused, provisional-unchanged, cell-come, long-come, idle-come, count-place}
 use Rattle.lock_desk.proofs.cell_table.CellTable.add_cell.Goals as goal
 
 pub insert_key-requires : goal.insert_key-requires

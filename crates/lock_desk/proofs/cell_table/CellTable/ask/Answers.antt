@@ -1,7 +1,8 @@
 use Rattle.std.proofs.Common.{◌∙◌, sym, ap, arith, subst, Option}
 use Rattle.lock_desk.specs.declared.cells.Cell.{Cell}
 use Rattle.lock_desk.specs.inner.Tables.{in_use}
-use Rattle.lock_desk.specs.inner.Cells.{View, Table, view_in, cell_view, has_session, view_after_asking, can_grant}
+use Rattle.lock_desk.specs.inner.Cells.{View, Table, view_in, cell_view, view_after_asking, can_grant}
+use Rattle.lock_holders.specs.SessionModes.{has_session}
 use Rattle.lock_desk.specs.inner.Blocking.{IsOfSessions, DoFollow}
 use Rattle.lock_desk.proofs.Results.{on-err-from}
 use Rattle.lock_desk.proofs.SessionsInRange.{numbered-asked}

@@ -3,7 +3,8 @@ use Rattle.std.proofs.lemmas.Bool.{not-true, not-false}
 use Rattle.lock_tree.specs.Paths.{same_path}
 use Rattle.lock_desk.specs.declared.cells.Cell.{Cell}
 use Rattle.lock_desk.specs.inner.Tables.{in_use}
-use Rattle.lock_desk.specs.inner.Cells.{View, Table, view_of, view_in, has_session, view_after_giving_up, is_busy}
+use Rattle.lock_desk.specs.inner.Cells.{View, Table, view_of, view_in, view_after_giving_up, is_busy}
+use Rattle.lock_holders.specs.SessionModes.{has_session}
 use Rattle.lock_desk.specs.inner.Blocking.{IsOfSessions, AreWritten}
 use Rattle.lock_desk.specs.inner.Lockers.{standings_of, DoAgree}
 use Rattle.lock_desk.proofs.CellTable.{kept-at, idle-view}

@@ -1,7 +1,8 @@
 use Rattle.std.proofs.Common.{Option, Some, refl, ap, ◌∙◌, arith}
 use Rattle.lock_desk.specs.declared.cells.Cell.{Cell}
 use Rattle.lock_desk.specs.inner.Tables.{in_use}
-use Rattle.lock_desk.specs.inner.Cells.{Table, view_in, is_nobody}
+use Rattle.lock_desk.specs.inner.Cells.{Table, view_in}
+use Rattle.lock_holders.specs.SessionModes.{is_nobody}
 use Rattle.lock_desk.proofs.Results.{to-ok}
 use Rattle.lock_desk.proofs.CellTable.{kept-at}
 use Rattle.lock_desk.proofs.Places.{apart-in_use, cell-within, resource-within, long-still, idle-still, there, wrote-kept, still-at, room-written}

@@ -1,7 +1,8 @@
 use Rattle.std.proofs.Common.{◌∙◌, ap, arith, Option}
 use Rattle.lock_desk.specs.declared.cells.Cell.{Cell}
 use Rattle.lock_desk.specs.inner.Tables.{in_use}
-use Rattle.lock_desk.specs.inner.Cells.{Table, mode_of, view_in}
+use Rattle.lock_desk.specs.inner.Cells.{Table, view_in}
+use Rattle.lock_holders.specs.SessionModes.{mode_of}
 use Rattle.lock_desk.proofs.Places.{cell-within, there}
 use Rattle.lock_desk.proofs.cell_table.CellTable.mode_at.Goals as goal
 

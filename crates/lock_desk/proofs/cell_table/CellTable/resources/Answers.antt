@@ -3,7 +3,7 @@ use Rattle.std.specs.List.{IsDistinct}
 use Rattle.std.specs.Map.{keys_of}
 use Rattle.lock_tree.specs.Paths.{same_path}
 use Rattle.lock_desk.specs.inner.Cells.{Table}
-use Rattle.lock_desk.specs.inner.Listing.{in_order}
+use Rattle.session_locks.specs.Resources.{in_order}
 use Rattle.lock_desk.specs.inner.Tables.{in_use}
 use Rattle.lock_desk.proofs.Places.{length-beside, keys-beside, apart-in_use, in_use-taken}
 use Rattle.lock_desk.proofs.cell_table.CellTable.resources.Goals as goal

@@ -1,6 +1,6 @@
 use Rattle.std.proofs.Common.{ap, sym, ◌∙◌}
-use Rattle.lock_desk.specs.inner.Cells.{go_with}
-use Rattle.lock_desk.proofs.Rising.{fits-go}
+use Rattle.lock_holders.specs.SessionModes.{go_with}
+use Rattle.lock_holders.proofs.Rising.{fits-go}
 use Rattle.lock_desk.proofs.cells.Cell.admit.Goals as goal
 
 pub returns-then-compatible-clause-shared : goal.returns-then-compatible-clause-shared

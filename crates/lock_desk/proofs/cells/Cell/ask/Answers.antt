@@ -1,7 +1,8 @@
 use Rattle.std.proofs.Common.{Bool, cond, List, sym, ◌∙◌, ap, arith}
-use Rattle.lock_desk.specs.declared.cells.SessionMode.{SessionMode}
-use Rattle.lock_desk.specs.inner.Cells.{view_of, with_holder, queue_with, can_grant}
-use Rattle.lock_desk.specs.inner.Holders.{HolderList}
+use Rattle.lock_holders.specs.declared.session_mode.SessionMode.{SessionMode}
+use Rattle.lock_desk.specs.inner.Cells.{view_of, queue_with, can_grant}
+use Rattle.lock_holders.specs.SessionModes.{with_holder}
+use Rattle.lock_holders.specs.Holders.{HolderList}
 use Rattle.lock_desk.proofs.ResourceViews.{both, kept-view, once-put, once-queued, busy-put, busy-queued}
 use Rattle.lock_desk.proofs.cells.Cell.ask.Goals as goal
 

@@ -1,8 +1,9 @@
 use Rattle.std.proofs.Common.{◌≡◌, List, ◌∙◌, ap, sym, rules}
 use Rattle.std.proofs.lemmas.Fn.{filter_same}
-use Rattle.lock_desk.specs.declared.cells.SessionMode.{SessionMode}
+use Rattle.lock_holders.specs.declared.session_mode.SessionMode.{SessionMode}
 use Rattle.lock_desk.specs.declared.cells.GivenUp.{GivenUp}
-use Rattle.lock_desk.specs.inner.Cells.{view_of, without, view_after_giving_up}
+use Rattle.lock_desk.specs.inner.Cells.{view_of, view_after_giving_up}
+use Rattle.lock_holders.specs.SessionModes.{without}
 use Rattle.lock_desk.proofs.cells.Cell.give_up.Goals as goal
 
 pub returns-in-Request-clause-view : goal.returns-in-Request-clause-view

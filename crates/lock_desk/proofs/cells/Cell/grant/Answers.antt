@@ -1,5 +1,6 @@
 use Rattle.std.proofs.Common.{arith}
-use Rattle.lock_desk.specs.inner.Cells.{view_of, with_holder}
+use Rattle.lock_desk.specs.inner.Cells.{view_of}
+use Rattle.lock_holders.specs.SessionModes.{with_holder}
 use Rattle.lock_desk.proofs.ResourceViews.{kept-view, once-put, busy-put}
 use Rattle.lock_desk.proofs.cells.Cell.grant.Goals as goal
 

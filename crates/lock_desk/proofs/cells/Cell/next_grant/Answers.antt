@@ -1,9 +1,10 @@
 use Rattle.std.proofs.Common.{◌≡◌, ◌+◌, ◌<◌, length, Bool, true, cond, ◌∷◌, drop, Some, None, IfSome, sym, ◌∙◌, ap, subst, arith}
 use Rattle.std.proofs.lemmas.List.{drop_more}
 use Rattle.lock_modes.specs.declared.Mode.{Mode}
-use Rattle.lock_desk.specs.declared.cells.SessionMode.{SessionMode}
-use Rattle.lock_desk.specs.inner.Cells.{fits_among, go_with, next_grant}
-use Rattle.lock_desk.proofs.Rising.{go-fits}
+use Rattle.lock_holders.specs.declared.session_mode.SessionMode.{SessionMode}
+use Rattle.lock_holders.specs.SessionModes.{fits_among, go_with}
+use Rattle.lock_desk.specs.inner.Cells.{next_grant}
+use Rattle.lock_holders.proofs.Rising.{go-fits}
 use Rattle.lock_desk.proofs.cells.Cell.next_grant.Goals as goal
 
 pub returns-then-is_mode : goal.returns-then-is_mode

@@ -1,5 +1,6 @@
 use Rattle.std.proofs.Common.{rules, ◌≡◌, refl, sym, ◌∙◌, ap, subst, Bool, set}
-use Rattle.lock_desk.specs.inner.Cells.{has_path, is_granted}
+use Rattle.session_locks.specs.Resources.{has_path}
+use Rattle.lock_desk.specs.inner.Cells.{is_granted}
 use Rattle.lock_desk.specs.inner.Lockers.{Standing, standing_of, standing_after_asking}
 use Rattle.lock_desk.specs.inner.Changes.{standing, standings}
 use Rattle.lock_desk.proofs.Results.{on-err-from}

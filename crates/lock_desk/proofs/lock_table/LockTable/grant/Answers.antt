@@ -1,7 +1,9 @@
 use Rattle.std.proofs.Common.{rules, true, refl, sym, ◌∙◌, ◌<◌, length, ap, subst}
 use Rattle.lock_tree.specs.Paths.{parent_of}
 use Rattle.lock_rules.specs.declared.calls.TheConstants.{MAX_LOCKS}
-use Rattle.lock_desk.specs.inner.Cells.{View, has_path, is_nobody, view_after_asking}
+use Rattle.lock_desk.specs.inner.Cells.{View, view_after_asking}
+use Rattle.session_locks.specs.Resources.{has_path}
+use Rattle.lock_holders.specs.SessionModes.{is_nobody}
 use Rattle.lock_desk.specs.inner.Lockers.{Standing}
 use Rattle.lock_desk.specs.inner.Changes.{view_at}
 use Rattle.lock_desk.proofs.CellTable.{became-view}

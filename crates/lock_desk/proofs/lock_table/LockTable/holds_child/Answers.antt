@@ -1,5 +1,5 @@
 use Rattle.std.proofs.Common.{sym, ◌∙◌, ap}
-use Rattle.lock_desk.specs.inner.ChildCounts.{has_child}
+use Rattle.session_locks.specs.LockLists.{has_child}
 use Rattle.lock_desk.specs.inner.Lockers.{Standing}
 use Rattle.lock_desk.proofs.LockerStandings.{standing-here}
 use Rattle.lock_desk.proofs.Asking.{within}

@@ -1,6 +1,6 @@
 use Rattle.std.proofs.Common.{rules, true, false, refl, sym, arith}
 use Rattle.std.proofs.Math.Bool.{and-true}
-use Rattle.lock_desk.specs.inner.Ended.{is_ended}
+use Rattle.session_sets.specs.Ended.{is_ended}
 use Rattle.lock_desk.proofs.EndedWaits.{list-but, shows-relisted, whole-relisted, ready-relisted}
 use Rattle.lock_desk.proofs.lock_table.LockTable.resolve_for.Goals as goal
 

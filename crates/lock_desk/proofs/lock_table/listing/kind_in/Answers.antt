@@ -1,6 +1,6 @@
 use Rattle.std.proofs.Common.{Bool, cond, is_some, sym, ◌∙◌, ap}
 use Rattle.lock_rules.specs.declared.listing.ClaimKind.TheVariants.{Conversion, Fresh}
-use Rattle.lock_desk.proofs.SessionModes.{mode-has}
+use Rattle.lock_holders.proofs.SessionModes.{mode-has}
 use Rattle.lock_desk.proofs.lock_table.listing.kind_in.Goals as goal
 
 pub returns-then-is_some : goal.returns-then-is_some

@@ -8,11 +8,13 @@ use Rattle.lock_desk.specs.Batches.{Item}
 use Rattle.sequential.specs.Batches.{IsItemWithin}
 use Rattle.lock_desk.specs.inner.Cells.{HasRoomAt}
 use Rattle.lock_rules.specs.Legal.{state_of}
-use Rattle.lock_desk.specs.inner.Ended.{ended_in}
+use Rattle.session_sets.specs.Ended.{ended_in}
 use Rattle.lock_desk.specs.Deadlocks.{deadlocks_in}
 use Rattle.lock_desk.specs.inner.Runs.{mode_asked, CanGrant, GoesBeside, AreKept, AreServed}
 use Rattle.lock_desk.proofs.Batches.{entry_of, with_reply, ends-none, served-next}
+use Rattle.lock_desk.specs.inner.Counting.{AreCallsCounted, AreWaitsCounted}
 use Rattle.lock_desk.proofs.DeadlocksOfCalls.{granted-none}
+use Rattle.lock_desk.proofs.CallsCounted.{waits-same}
 use Rattle.lock_desk.proofs.RunItems.{each-written, pairs-written, join-can}
 use Rattle.lock_desk.proofs.Granting.{quiet-still, grant-still, grant-answer, grant-kept, grant-ends-none}
 use Rattle.lock_desk.proofs.lock_table.runs.grant_item.Goals as goal
@@ -102,3 +104,22 @@ returns-clause-deadlocks c =
     let can = subst (CanGrant d r) (sym at) (c.requires.granting.grant c.args.index item (omega arith) c.requires.index) in
     let call : item.call ≡ Lock r c.in-Lock.mode = can.join.call ∙ ap (Lock r) (ap mode_asked c.in-Lock.is) in
     ap deadlocks_in c.push_reserved.ensures.items ∙ granted-none d c.grant.new.self c.args.history.now.items item r c.in-Lock.mode c.requires.kept can.join call c.grant.ensures.asked
+
+pub returns-clause-calls : goal.returns-clause-calls
+returns-clause-calls c =
+    subst (λ (es : List Entry). AreCallsCounted es c.note.new.self) (sym c.push_reserved.ensures.items)
+    (c.note.ensures c.args.history.now.items c.index-items-index.result.session c.requires.calls c.requires.places)
+
+pub returns-clause-waits : goal.returns-clause-waits
+returns-clause-waits c = λ w counted.
+    let d = c.args.table.now in
+    let h = c.args.history.now.items in
+    let items = c.args.items.now in
+    let item = c.index-items-index.result in
+    let r = c.args.run.now.resource in
+    let at : item ≡ get_or items c.args.index item = search rules in
+    let can = subst (CanGrant d r) (sym at) (c.requires.granting.grant c.args.index item (omega arith) c.requires.index) in
+    let call : item.call ≡ Lock r c.in-Lock.mode = can.join.call ∙ ap (Lock r) (ap mode_asked c.in-Lock.is) in
+    let none = granted-none d c.grant.new.self h item r c.in-Lock.mode c.requires.kept can.join call c.grant.ensures.asked in
+    subst (λ (es : List Entry). AreWaitsCounted es w) (sym c.push_reserved.ensures.items)
+    (waits-same h item.session item.call (Granted c.in-Lock.mode) w r c.in-Lock.mode call none counted)

@@ -1,6 +1,6 @@
 use Rattle.std.proofs.Common.{◌≡◌, ℕ, ◌∙◌, Bool, true, false, cond, ◌∷◌, [], length, length-append, None, refl, sym, ap, arith}
 use Rattle.lock_desk.specs.inner.Lockers.{with_path}
-use Rattle.lock_desk.proofs.LockerStandings.{apart-push}
+use Rattle.session_locks.proofs.ResourceLists.{apart-push}
 use Rattle.lock_desk.proofs.LockerGrant.{coming-under, fresh-new, granted-held}
 use Rattle.lock_desk.proofs.lockers.Locker.grant.Goals as goal
 use Rattle.lock_desk.proofs.lockers.Locker.grant.Goals.{then-is_fresh, else-is_fresh}

@@ -1,6 +1,6 @@
 use Rattle.std.proofs.Common.{◌∷◌, [], length, length-append, ap, arith}
 use Rattle.lock_desk.specs.inner.Requests.{locks_to_come}
-use Rattle.lock_desk.proofs.LockerStandings.{apart-push}
+use Rattle.session_locks.proofs.ResourceLists.{apart-push}
 use Rattle.lock_desk.proofs.lockers.Locker.hold.Goals as goal
 
 pub invariant_of-self-clause-apart : goal.invariant_of-self-clause-apart

@@ -1,5 +1,5 @@
 use Rattle.std.proofs.Common.{sym, subst}
-use Rattle.lock_desk.specs.inner.Cells.{AreApart}
+use Rattle.session_locks.specs.Resources.{AreApart}
 use Rattle.lock_desk.proofs.lockers.Locker.new.Goals as goal
 
 pub invariant_of-result-clause-apart : goal.invariant_of-result-clause-apart

@@ -1,6 +1,0 @@
-use Rattle.std.proofs.Common.{◌≡◌, ◌++◌, take}
-use Rattle.lock_desk.specs.inner.Pages.{those_behind}
-use Rattle.lock_desk.proofs.locks.pages.push_indexed.Given as goal
-
-abbrev pub invariant-loop-index : goal.invariant-loop-index
-invariant-loop-index l = l.list.items ≡ l.initial.list.items ++ those_behind l.after (take l.index l.resources)

@@ -1,0 +1,3 @@
+-- what only private contracts cite
+pub mod Columns
+pub mod SingleHolder

@@ -1,0 +1,34 @@
+//! The counters of an open office.
+//!
+//! The question is one look, as those of `queries.rt` are, and serves no calls.
+
+ghost use Rattle.std.specs.Prelude.{◌≡◌, ◌<◌, IfSome, IfNone, length};
+ghost use Rattle.publication.specs.Boards.{HasCallsOf};
+ghost use Rattle.combining.specs.Sessions.{IsSessionOf};
+ghost use Rattle.combining.specs.Looks.{HasLooked};
+ghost use Rattle.lock_desk.specs.Counts.{counts_of};
+
+use crate::has_book::HasBook;
+use crate::queries::{Snapshot, end_look};
+use combining::Office;
+use lock_desk::Counts;
+use publication::Ticket as Session;
+
+/// The counters of the office's history of calls, as `Book::counts` tells them.
+///
+/// `None` in place of an answer, with nothing changed, means that another session had the lock table, as `Turn::Elsewhere` of `serve` does.
+/// Its cost grows with the sessions of the office.
+pub fn counts<O: HasBook>(office: &Office<O>, session: &mut Session<O>) -> Option<Snapshot<Counts>>
+    requires ours { IsSessionOf office.now session.old }
+    ensures ours { IsSessionOf office.now session.new }
+    ensures looked { IfSome result (λ _. HasLooked O.Sequential session.old session.new) }
+    ensures length { IfSome result (λ seen. seen.length ≡ length (O.calls session.new.front)) }
+    ensures found { IfSome result (λ seen. seen.found ≡ counts_of (O.calls session.new.front)) }
+    ensures none { IfNone result ((session.new ≡ session.old) × (1 < office.now.sessions)) }
+    ensures calls { HasCallsOf session.new.front session.new }
+{
+    let load = office.look(session)?;
+    let found = load.object.book().counts();
+    let length = end_look(office, session, load);
+    Some(Snapshot { length, found })
+}

@@ -1,0 +1,6 @@
+use Rattle.std.proofs.Common.{◌≡◌, ◌++◌, take}
+use Rattle.session_locks.specs.Resources.{those_behind}
+use Rattle.session_locks.proofs.locks.pages.push_indexed.Given as goal
+
+abbrev pub invariant-loop-index : goal.invariant-loop-index
+invariant-loop-index l = l.list.items ≡ l.initial.list.items ++ those_behind l.after (take l.index l.resources)

@@ -1,0 +1,3 @@
+-- what only private contracts cite
+pub mod ChildCounts
+pub mod LockLists

@@ -1,0 +1,2 @@
+-- what only private contracts cite
+pub mod Places
