@@ -14,6 +14,7 @@ mod looks;
 mod passes;
 mod perform;
 mod rows;
+mod sleeping;
 mod taking;
 
 use crate::told::{Nobody, Told};

@@ -2,7 +2,8 @@
 use Rattle.std.proofs.Common.{◌≡◌, inl, ℕ, ◌+◌, Bool, true, false, Option, Some, None, IfSome, IfNone, [], ◌∷◌, length, refl, sym, subst, arith, length-append}
 use Rattle.sequential.specs.Histories.{calls_of}
 use Rattle.publication.specs.Views.{IsAccountedIn, entry, answer}
-use Rattle.publication.specs.Kinds.{Seated, opening, in_hand, bypassing, none_unlinked, answering, entering}
+use Rattle.publication.specs.Sleep.{Sleep, HasNoDebts}
+use Rattle.publication.specs.Kinds.{Seated, with_sleep, opening, in_hand, bypassing, none_unlinked, answering, entering}
 use Rattle.publication.specs.inner.Tickets.{IsBetweenCalls}
 
 module _ {O C R : Type 0} (m m' : Seated O C R) (number seen : ℕ) (b p l r : Bool) (t : IsBetweenCalls m number seen b p l r) (has : b ≡ true) where
@@ -28,6 +29,8 @@ module _ {O C R : Type 0} (m m' : Seated O C R) (number seen : ℕ) (b p l r : B
     whole = t.whole;
     routed = t.routed;
     unknown = t.unknown;
+    sweeps = t.sweeps;
+    owes = t.owes;
     carried = t.carried;
   }
 
@@ -52,6 +55,8 @@ module _ {O C R : Type 0} (m m' : Seated O C R) (number seen : ℕ) (b p l r : B
     whole = refl;
     routed = λ lacks. absurd (cc (has, lacks));
     unknown = t.unknown;
+    sweeps = t.sweeps;
+    owes = t.owes;
     carried = t.carried;
   }
   unlinked-between before false out kept = subst (λ (x : Seated O C R). IsBetweenCalls x number seen b p l r) (sym (kept refl)) record {
@@ -73,6 +78,8 @@ module _ {O C R : Type 0} (m m' : Seated O C R) (number seen : ℕ) (b p l r : B
     whole = refl;
     routed = t.routed;
     unknown = t.unknown;
+    sweeps = t.sweeps;
+    owes = t.owes;
     carried = t.carried;
   }
 
@@ -97,6 +104,8 @@ module _ {O C R : Type 0} (m m' : Seated O C R) (number seen : ℕ) (b p l r : B
     whole = t.whole;
     routed = t.routed;
     unknown = t.unknown;
+    sweeps = t.sweeps;
+    owes = t.owes;
     carried = t.carried;
   }
 
@@ -121,5 +130,34 @@ module _ {O C R : Type 0} (m m' : Seated O C R) (number seen : ℕ) (b p l r : B
     whole = t.whole;
     routed = t.routed;
     unknown = t.unknown;
+    sweeps = t.sweeps;
+    owes = t.owes;
+    carried = t.carried;
+  }
+
+module _ {O C R : Type 0} (m m' : Seated O C R) (number seen : ℕ) (b p l r : Bool) (t : IsBetweenCalls m number seen b p l r) where
+  -- After a step of sleep, behind which the seat has neither a record to look at nor a wake-up to make.
+  pub slept-between : (z : Sleep) → HasNoDebts z → m' ≡ (with_sleep m.0 z, m.1) → IsBetweenCalls m' number seen b p l r
+  slept-between z none is = subst (λ (x : Seated O C R). IsBetweenCalls x number seen b p l r) (sym is) record {
+    number_is = t.number_is;
+    some_number = t.some_number;
+    seen_is = t.seen_is;
+    started = t.started;
+    retired = t.retired;
+    pending = t.pending;
+    object = t.object;
+    hand = t.hand;
+    listed = t.listed;
+    heard_few = t.heard_few;
+    heard = t.heard;
+    wide = t.wide;
+    all_made = t.all_made;
+    accounted = t.accounted;
+    no_head_seen = t.no_head_seen;
+    whole = t.whole;
+    routed = t.routed;
+    unknown = t.unknown;
+    sweeps = none.sweeps;
+    owes = none.owes;
     carried = t.carried;
   }

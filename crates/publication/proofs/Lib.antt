@@ -1,5 +1,7 @@
 pub mod Lists
 pub mod SeatViews
+pub mod Sleepers
+pub mod SleepRule
 pub mod Histories
 pub mod Others
 pub mod Pieces
@@ -28,6 +30,9 @@ pub mod LongerFronts
 pub mod ChangedViews
 pub mod SplitsAndJoins
 pub mod Learning
+pub mod SleepKinds
+pub mod SleepLaws
+pub mod AtRest
 pub mod Closed
 pub mod Gathering
 pub mod Collected

@@ -7,6 +7,7 @@ use Rattle.std.specs.Global.{Box}
 use Rattle.publication.specs.Words.{link_of, END, FREE, OUT, CLOSED, EMPTY}
 use Rattle.publication.specs.Views.{Listing}
 use Rattle.publication.specs.Rule.{BoardState, word, home, seat, IsOrderly}
+use Rattle.publication.specs.Sleepers.{HasHeededSleepers}
 use Rattle.publication.specs.declared.slot.Load.{Load}
 use Rattle.publication.specs.declared.slot.SlotValue.TheVariants.{ObjectLoad}
 use Rattle.sequential.specs.declared.object.Sequential.{Ghosts}
@@ -116,10 +117,11 @@ module _ {O C R : Type 0} (obj : Ghosts O C R) where
     pub list : IsLinked s
 
 module _ {O C R : Type 0} (obj : Ghosts O C R) (bound : Bounds) where
-  -- The rule of a board whose object keeps so much at most, whenever it is at home.
+  -- The rule of a board whose object keeps so much at most, whenever it is at home. No session that may sleep is forgotten.
   pub record IsBounded (s : BoardState O C R) : Type 0 where
     pub ruled : IsRuled obj s
     pub within : (load : Box (Load O C R)) → home s 0 ≡ opt.some (ObjectLoad load) → obj.bound load.value.object ≡ bound
+    pub sleepers : HasHeededSleepers s
 
 module _ {O : Type 0} (bound : O → Bounds) where
   -- How much the first of these objects keeps at most.

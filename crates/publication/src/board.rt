@@ -13,6 +13,7 @@ ghost use Rattle.publication.specs.inner.Closing.{is_settled, handed_by, WereHan
 
 mod combiner;
 mod knowledge;
+mod sleeping;
 
 use crate::closing::{CloseFault, are_settled, close_table, is_each_once};
 use crate::kinds::{BoardKey, BoardRule, Start};

@@ -29,6 +29,8 @@ mod new_board;
 mod piece;
 pub mod piece_laws;
 mod roll;
+pub mod sleep_laws;
+mod sleep_steps;
 mod slot;
 mod steps;
 mod view;

@@ -1,6 +1,6 @@
 -- How the private fields of a board, of a ticket and of a knowledge give what contracts see, and the invariants of the
 -- three types.
-use Rattle.std.specs.Prelude.{◌≡◌, ℕ, ◌+◌, ◌<◌, ◌≤◌, [], length}
+use Rattle.std.specs.Prelude.{◌≡◌, ◌+◌, ◌<◌, ◌≤◌, [], length}
 use Rattle.sequential.specs.Bounds.{Bounds}
 use Rattle.sequential.specs.declared.entry.TheConstants.{MAX_SESSIONS}
 use Rattle.publication.specs.Views.{BoardView, TicketView, KnowledgeView}

@@ -31,6 +31,8 @@ module _ {O C R : Type 0} where
         whole = t.whole;
         routed = t.routed;
         unknown = t.unknown;
+        sweeps = t.sweeps;
+        owes = t.owes;
         carried = t.carried;
       }
 
@@ -55,6 +57,8 @@ module _ {O C R : Type 0} where
     whole = t.whole;
     routed = t.routed;
     unknown = t.unknown;
+    sweeps = t.sweeps;
+    owes = t.owes;
     carried = t.carried;
   }
 
