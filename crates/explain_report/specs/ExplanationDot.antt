@@ -3,17 +3,13 @@
 use Rattle.std.specs.Prelude.{ℕ, List, [], ◌++◌, Option, Some, None, codes, decimal}
 use Rattle.std.specs.List.{flat_map}
 use Rattle.lock_rules.specs.declared.listing.Claim.{Claim}
+use Rattle.report_text.specs.Nodes.{start_of_node, edge_with}
 use Rattle.lock_explain.specs.declared.explanation.Blocker.{Blocker}
 use Rattle.lock_explain.specs.declared.explanation.Edge.{Edge}
 use Rattle.lock_explain.specs.declared.explanation.Explanation.{Explanation}
 use Rattle.lock_explain.specs.declared.explanation.Party.{Party}
 use Rattle.lock_explain.specs.declared.explanation.Refusal.{Refusal}
 use Rattle.lock_explain.specs.declared.explanation.Wait.{Wait}
-
--- the node of a session with its transaction, up to the end of its label's second line
-abbrev pub start_of_node : ℕ → ℕ → List ℕ
-start_of_node s number =
-    codes "  " ++ decimal s ++ codes " [label=\"session " ++ decimal s ++ codes "\\ntransaction " ++ decimal number
 
 -- the node of the session that waits or would wait
 abbrev pub node_of_request : Claim → List ℕ
@@ -31,10 +27,6 @@ node_of_member p = start_of_node p.session p.transaction ++ codes "\", color=red
 abbrev pub node_of_victim : Party → List ℕ
 node_of_victim p =
     start_of_node p.session p.transaction ++ codes "\\nvictim\", style=filled, fillcolor=lightgray, color=red];\n"
-
--- an edge, from the session that waits to the one that it waits for, with this end
-abbrev pub edge_with : ℕ → ℕ → List ℕ → List ℕ
-edge_with s u end = codes "  " ++ decimal s ++ codes " -> " ++ decimal u ++ end
 
 -- the edge from the session that waits or would wait to a session that it waits for or would wait for
 abbrev pub edge_of_blocker : ℕ → Blocker → List ℕ

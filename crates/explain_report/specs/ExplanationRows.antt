@@ -10,6 +10,7 @@ use Rattle.lock_rules.specs.declared.calls.Why.{Why}
 use Rattle.lock_rules.specs.declared.listing.Claim.{Claim}
 use Rattle.lock_rules.specs.declared.listing.ClaimKind.{ClaimKind}
 use Rattle.lock_rules.specs.declared.listing.ClaimKind.TheVariants.{Held, Conversion, Fresh}
+use Rattle.report_text.specs.Claims.{word_of_kind}
 use Rattle.lock_explain.specs.declared.explanation.Blocker.{Blocker}
 use Rattle.lock_explain.specs.declared.explanation.Edge.{Edge}
 use Rattle.lock_explain.specs.declared.explanation.Explanation.{Explanation}
@@ -53,12 +54,6 @@ row_of_claim place word c =
 -- the row of a lock below the resource
 abbrev pub row_of_lock_below : ℕ → Claim → List ℕ
 row_of_lock_below place c = row_of_claim place (codes "held") c
-
--- the word of a request's row
-abbrev pub word_of_kind : ClaimKind → List ℕ
-word_of_kind Held = codes "held"
-word_of_kind Conversion = codes "conversion"
-word_of_kind Fresh = codes "fresh"
 
 -- the row of a request that waits or would wait
 abbrev pub row_of_request : ℕ → Claim → List ℕ

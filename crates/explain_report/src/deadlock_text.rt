@@ -5,9 +5,9 @@ ghost use Rattle.lock_desk.specs.Deadlocks.{first_session};
 ghost use Rattle.explain_report.specs.DeadlockText.{line_of_deadlock, line_of_wait, lines_of_waits, text_of_deadlock, text_with_victim, words_of_block, words_of_call, words_of_victim};
 
 use crate::request_text::{put_request, put_words_and_mode};
-use crate::words::put_words;
 use lock_desk::{Deadlock, Member};
 use lock_modes::Mode;
+use report_text::put_words;
 use std::alloc::AllocError as NoMemory;
 use std::fmt::Write;
 

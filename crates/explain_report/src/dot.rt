@@ -2,23 +2,13 @@
 
 ghost use Rattle.std.specs.Prelude.{◌≡◌, ◌++◌, IfOk, OnOk, string_bytes};
 ghost use Rattle.std.specs.List.{flat_map};
-ghost use Rattle.explain_report.specs.ExplanationDot.{start_of_node, node_of_request, node_of_blocker, node_of_member, node_of_victim, edge_with, edge_of_blocker, edge_of_cycle, nodes_of_wait, edges_of_wait, graph_of_wait, graph_part, nodes_of_asked, graph_of_asked, graph_if_asked, graph_of_refusal, dot_of_explanation};
+ghost use Rattle.explain_report.specs.ExplanationDot.{node_of_request, node_of_blocker, node_of_member, node_of_victim, edge_of_blocker, edge_of_cycle, nodes_of_wait, edges_of_wait, graph_of_wait, graph_part, nodes_of_asked, graph_of_asked, graph_if_asked, graph_of_refusal, dot_of_explanation};
 
-use crate::words::put_words;
 use lock_explain::{Blocker, Edge, Explanation, Party, Refusal, Wait};
 use lock_rules::Claim;
+use report_text::{put_edge_with, put_start_of_node, put_words};
 use std::alloc::{AllocError as NoMemory, Global};
 use std::fmt::Write;
-
-/// Writes a node up to the end of its label's second line.
-fn put_start_of_node(out: &mut String, session: u16, number: u64) -> Result<(), NoMemory>
-    ensures { OnOk result (string_bytes out.new ≡ string_bytes out.old ++ start_of_node session number) }
-{
-    write!(
-        out,
-        "  {session} [label=\"session {session}\\ntransaction {number}"
-    )
-}
 
 /// Writes the node of the session that waits or would wait.
 fn put_node_of_request(out: &mut String, request: &Claim) -> Result<(), NoMemory>
@@ -83,13 +73,6 @@ fn put_nodes_of_victims(out: &mut String, victims: &[Party]) -> Result<(), NoMem
         put_node_of_victim(out, victim)?;
     }
     Ok(())
-}
-
-/// Writes an edge with this end.
-fn put_edge_with(out: &mut String, session: u16, other: u16, end: &str) -> Result<(), NoMemory>
-    ensures { OnOk result (string_bytes out.new ≡ string_bytes out.old ++ edge_with session other end.now) }
-{
-    write!(out, "  {session} -> {other}{end}")
 }
 
 /// Writes the edge from the asker, which waits or would wait, to one of its blockers.

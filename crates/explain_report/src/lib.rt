@@ -2,7 +2,7 @@
 //! project's own choice.
 //!
 //! `text.rt` writes the lines for people, with those of a request and its blockers in `request_text.rt`; `rows.rt`
-//! writes the rows, `dot.rt` the graph, `words.rt` fixed words.
+//! writes the rows, `dot.rt` the graph.
 //!
 //! A text is written part by part, in the order of the explanation: refusal, wait, cycle, victims, grants. Each part is
 //! appended by a function of its own, to which a definition in `specs/` gives the bytes. `deadlock_text.rt` writes a deadlock that a live
@@ -17,7 +17,6 @@ mod dot;
 mod request_text;
 mod rows;
 mod text;
-mod words;
 
 pub use deadlock_text::put_deadlock;
 pub use dot::explanation_dot;

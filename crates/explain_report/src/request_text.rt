@@ -5,10 +5,10 @@ ghost use Rattle.std.specs.List.{flat_map};
 ghost use Rattle.lock_modes.specs.Codes.{name_of};
 ghost use Rattle.explain_report.specs.ExplanationText.{words_of_party, request_word, target_word, words_of_request, line_of_request, words_of_holding, link_word, words_of_ahead, line_of_blocker};
 
-use crate::words::put_words;
 use lock_explain::{Blocker, Party};
 use lock_modes::Mode;
 use lock_rules::{Claim, ClaimKind};
+use report_text::put_words;
 use std::alloc::AllocError as NoMemory;
 use std::fmt::Write;
 

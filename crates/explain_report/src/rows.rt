@@ -2,13 +2,14 @@
 
 ghost use Rattle.std.specs.Prelude.{◌≡◌, ◌++◌, IfOk, OnOk, string_bytes};
 ghost use Rattle.std.specs.List.{flat_map};
-ghost use Rattle.explain_report.specs.ExplanationRows.{row_of_why, row_of_need, row_of_parent, rows_of_missed, row_of_claim, row_of_lock_below, word_of_kind, row_of_request, row_of_block, rows_of_blocker, rows_if_asked, rows_of_refusal, refusal_rows, row_of_party, row_of_member, row_of_edge, rows_of_wait, wait_rows, row_of_victim, row_of_granted, own_row, row_of_done, rows_of_call, rows_of_explanation};
+ghost use Rattle.explain_report.specs.ExplanationRows.{row_of_why, row_of_need, row_of_parent, rows_of_missed, row_of_claim, row_of_lock_below, row_of_request, row_of_block, rows_of_blocker, rows_if_asked, rows_of_refusal, refusal_rows, row_of_party, row_of_member, row_of_edge, rows_of_wait, wait_rows, row_of_victim, row_of_granted, own_row, row_of_done, rows_of_call, rows_of_explanation};
 
 use crate::text::has_nothing_to_tell;
 use lock_explain::{Blocker, Edge, Explanation, MissedParent, Party, Refusal, Wait};
 use lock_modes::Mode;
-use lock_rules::{Claim, ClaimKind, Why};
+use lock_rules::{Claim, Why};
 use lock_tree::Resource;
+use report_text::kind_word;
 use std::alloc::{AllocError as NoMemory, Global};
 use std::fmt::Write;
 
@@ -142,17 +143,6 @@ fn put_refusal_rows(
     match refusal {
         None => Ok(()),
         Some(refusal) => put_refusal(out, place, session, refusal),
-    }
-}
-
-/// The word of a request's row.
-fn kind_word(kind: ClaimKind) -> &'static str
-    ensures { result.now ≡ word_of_kind kind }
-{
-    match kind {
-        ClaimKind::Held => "held",
-        ClaimKind::Conversion => "conversion",
-        ClaimKind::Fresh => "fresh",
     }
 }
 

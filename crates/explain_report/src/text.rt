@@ -8,10 +8,10 @@ ghost use Rattle.explain_report.specs.ExplanationText.{has_nothing_to_tell, word
 use crate::request_text::{
     put_blockers, put_line_of_request, put_party, put_request, put_words_and_mode,
 };
-use crate::words::put_words;
 use lock_explain::{Blocker, Edge, Explanation, MissedParent, Party, Refusal, Wait};
 use lock_modes::Mode;
 use lock_rules::{Claim, Why};
+use report_text::put_words;
 use std::alloc::{AllocError as NoMemory, Global};
 use std::fmt::Write;
 

@@ -39,8 +39,8 @@ use Rattle.lock_desk.proofs.Children.{both-ways}
 use Rattle.lock_desk.proofs.LockCounts.{queue-has, waits_on-once}
 use Rattle.lock_holders.proofs.SessionModes.{has_tells}
 use Rattle.lock_desk.proofs.TableViews.{held-seen, pairs-seen}
-use Rattle.jam_report.specs.inner.Lines.{is_kind_of_request, is_request}
-use Rattle.lock_report.specs.StateText.{is_last}
+use Rattle.jam_report.specs.inner.Lines.{is_request}
+use Rattle.report_text.specs.Claims.{is_last, is_request_kind}
 use Rattle.jam_report.proofs.QueueLines.{queue-targets}
 use Rattle.jam_report.specs.inner.Promotion.{fits_beside, is_granted, is_granted_on, is_marked, others, with_mode}
 
@@ -175,7 +175,7 @@ not-held : (b : Bool) → cond b Conversion Fresh ≢ Held
 not-held true e = absurd (cc)
 not-held false e = absurd (cc)
 
-request-kind : (b : Bool) → is_kind_of_request (cond b Conversion Fresh) ≡ true
+request-kind : (b : Bool) → is_request_kind (cond b Conversion Fresh) ≡ true
 request-kind true = refl
 request-kind false = refl
 

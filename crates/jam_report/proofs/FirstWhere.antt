@@ -1,7 +1,7 @@
 -- The first of a list that passes a test, looked for item by item.
 use Rattle.std.proofs.Common.{◌≡◌, ℕ, ◌+◌, ◌<◌, Bool, true, false, cond, ◌&&◌, List, [], ◌∷◌, ◌++◌, Some, None, filter, map, take, drop, get_or, length, sym, ap, refl, ◌∙◌}
 use Rattle.std.proofs.lemmas.List.{take-append-drop}
-use Rattle.lock_report.proofs.Pieces.{with_next}
+use Rattle.report_text.proofs.Pieces.{with_next}
 use Rattle.jam_report.specs.Waits.{first_passing}
 use Rattle.jam_report.specs.inner.Lines.{first_where}
 

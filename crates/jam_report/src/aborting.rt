@@ -9,17 +9,17 @@ ghost use Rattle.lock_rules.specs.State.{holders, is_open, is_waiting};
 ghost use Rattle.lock_rules.specs.Queue.{queue};
 ghost use Rattle.lock_rules.specs.Legal.{state_of};
 ghost use Rattle.lock_rules.specs.Listing.{listing_of};
-ghost use Rattle.lock_report.specs.StateText.{is_last};
+ghost use Rattle.report_text.specs.Claims.{is_last};
 ghost use Rattle.jam_report.specs.Roots.{granted_by_abort};
 ghost use Rattle.jam_report.specs.inner.Lines.{is_request};
 ghost use Rattle.jam_report.specs.inner.Promotion.{is_granted_on, is_marked, others};
 
-use crate::counting::one_if;
 use crate::promotion::{is_marked, mark_granted, none_marked, others};
 use lock_desk::Book;
 use lock_modes::Mode;
 use lock_rules::Claim;
 use lock_tree::{Resource, same_path_is_equality};
+use report_text::{is_last, one_if};
 use std::alloc::{AllocError as NoMemory, Global};
 
 /// The holders of the resource but `session`. Fails if memory is refused.
@@ -75,17 +75,6 @@ fn mark_granted_on(
     let queue = queue_of(alloc, requests, resource)?;
     mark_granted(&mut holders, &queue, marks)?;
     Ok(())
-}
-
-/// Whether this is the resource that was looked at last.
-fn is_last(last: Option<Resource>, resource: Resource) -> bool
-    ensures { result ≡ is_last last resource }
-{
-    same_path_is_equality();
-    match last {
-        None => false,
-        Some(last) => resource == last,
-    }
 }
 
 /// Like `mark_granted_on`, but does nothing if the resource is the one that was looked at last.

@@ -11,18 +11,16 @@ ghost use Rattle.jam_report.specs.inner.Lines.{first_where, is_request};
 
 use lock_desk::Book;
 use lock_modes::Mode;
-use lock_rules::{Claim, ClaimKind};
+use lock_rules::Claim;
 use lock_tree::{Resource, same_path_is_equality};
+use report_text::is_request_kind;
 use std::alloc::{AllocError as NoMemory, Global};
 
 /// Whether the line is a waiting request.
 fn is_request(claim: &Claim) -> bool
     ensures { result ≡ is_request claim.now }
 {
-    match claim.kind {
-        ClaimKind::Held => false,
-        ClaimKind::Conversion | ClaimKind::Fresh => true,
-    }
+    is_request_kind(claim.kind)
 }
 
 /// The waiting requests among the lines of a listing. Fails if memory is refused.

@@ -8,12 +8,13 @@ ghost use Rattle.jam_report.specs.Roots.{blocked_by, is_root, root_of, roots_of,
 ghost use Rattle.jam_report.specs.inner.Lines.{is_request};
 
 use crate::aborting::count_grants;
-use crate::counting::{is_waiting, one_if};
+use crate::counting::is_waiting;
 use crate::first_blocker::requests_of;
 use crate::graph::{graph_of, leads_to};
 use lock_desk::Book;
 use lock_report::{OpenTransaction, Root};
 use lock_rules::Claim;
+use report_text::one_if;
 use std::alloc::{AllocError as NoMemory, Global};
 use waits_for::Rows;
 

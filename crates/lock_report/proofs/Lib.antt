@@ -1,4 +1,3 @@
-pub mod Pieces
 pub mod Sessions
 pub mod ResourceLines
 pub mod Suffixes

@@ -2,6 +2,7 @@
 use Rattle.std.specs.Prelude.{ℕ, if◌then◌else◌, List, ◌++◌, codes, decimal}
 use Rattle.std.specs.List.{flat_map}
 use Rattle.lock_rules.specs.declared.calls.Transaction.{Transaction}
+use Rattle.report_text.specs.Nodes.{start_of_node, edge_with}
 use Rattle.lock_report.specs.declared.snapshot.OpenTransaction.{OpenTransaction}
 use Rattle.lock_report.specs.declared.snapshot.Wait.{Wait}
 
@@ -11,13 +12,11 @@ end_of_node t = if t.doomed then codes "\\nvictim\", style=filled, fillcolor=lig
 
 -- the node of a session with an open transaction
 abbrev pub node_of : OpenTransaction → List ℕ
-node_of o =
-    codes "  " ++ decimal o.session ++ codes " [label=\"session " ++ decimal o.session
-    ++ codes "\\ntransaction " ++ decimal o.transaction.number ++ end_of_node o.transaction
+node_of o = start_of_node o.session o.transaction.number ++ end_of_node o.transaction
 
 -- the edge of a wait, from the session that waits to the one that it waits for
 abbrev pub edge_of : Wait → List ℕ
-edge_of w = codes "  " ++ decimal w.session ++ codes " -> " ++ decimal w.other ++ codes ";\n"
+edge_of w = edge_with w.session w.other (codes ";\n")
 
 -- the graph: a node for each open transaction, and an edge for each wait
 abbrev pub dot_of_waits : List OpenTransaction → List Wait → List ℕ

@@ -8,23 +8,12 @@ use Rattle.lock_tree.specs.Text.{text_of}
 use Rattle.lock_rules.specs.declared.listing.Claim.{Claim}
 use Rattle.lock_rules.specs.declared.listing.ClaimKind.{ClaimKind}
 use Rattle.lock_rules.specs.declared.listing.ClaimKind.TheVariants.{Held, Conversion, Fresh}
+use Rattle.report_text.specs.Claims.{is_last, is_lock_kind, is_request_kind}
 use Rattle.lock_report.specs.declared.snapshot.OpenTransaction.{OpenTransaction}
 use Rattle.lock_report.specs.declared.snapshot.ToldWait.{ToldWait}
 use Rattle.lock_report.specs.declared.rows_of_boxes.TheConstants.{BOXES_IN_A_ROW}
-use Rattle.lock_report.specs.StateText.{is_last, resource_verb, mode_word}
+use Rattle.lock_report.specs.StateText.{resource_verb, mode_word}
 use Rattle.lock_report.specs.Dot.{node_of, edge_of}
-
--- a claim of this kind is a lock
-abbrev pub is_lock_kind : ClaimKind → Bool
-is_lock_kind Held = true
-is_lock_kind Conversion = false
-is_lock_kind Fresh = false
-
--- a claim of this kind is a waiting request
-abbrev pub is_request_kind : ClaimKind → Bool
-is_request_kind Held = false
-is_request_kind Conversion = true
-is_request_kind Fresh = true
 
 -- the claim in words, and the end of its line in a label
 abbrev pub words_of_claim : Claim → List ℕ

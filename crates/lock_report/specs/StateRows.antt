@@ -8,14 +8,9 @@ use Rattle.lock_rules.specs.declared.calls.Transaction.{Transaction}
 use Rattle.lock_rules.specs.declared.listing.Claim.{Claim}
 use Rattle.lock_rules.specs.declared.listing.ClaimKind.{ClaimKind}
 use Rattle.lock_rules.specs.declared.listing.ClaimKind.TheVariants.{Held, Conversion, Fresh}
+use Rattle.report_text.specs.Claims.{word_of_kind}
 use Rattle.lock_report.specs.declared.snapshot.OpenTransaction.{OpenTransaction}
 use Rattle.lock_report.specs.declared.snapshot.Wait.{Wait}
-
--- the word of a claim's row
-abbrev pub word_of_kind : ClaimKind → List ℕ
-word_of_kind Held = codes "held"
-word_of_kind Conversion = codes "conversion"
-word_of_kind Fresh = codes "fresh"
 
 -- the victim field: `victim`, or empty
 abbrev pub victim_field : Transaction → List ℕ

@@ -7,6 +7,7 @@ use Rattle.lock_tree.specs.Text.{text_of}
 use Rattle.lock_rules.specs.declared.listing.Claim.{Claim}
 use Rattle.lock_rules.specs.declared.listing.ClaimKind.{ClaimKind}
 use Rattle.lock_rules.specs.declared.listing.ClaimKind.TheVariants.{Held, Conversion, Fresh}
+use Rattle.report_text.specs.Claims.{is_last}
 use Rattle.lock_report.specs.declared.snapshot.OpenTransaction.{OpenTransaction}
 use Rattle.lock_report.specs.declared.snapshot.Root.{Root}
 use Rattle.lock_report.specs.declared.snapshot.ToldWait.{ToldWait}
@@ -54,11 +55,6 @@ claims_of s claims = filter (λ c. c.session == s) claims
 -- the lines of a session: its transaction, and then its claims
 abbrev pub session_lines : List Claim → OpenTransaction → List ℕ
 session_lines claims o = session_heading o ++ flat_map line_of_session (claims_of o.session claims)
-
--- this is the resource that was shown last
-abbrev pub is_last : Option (List ℕ) → List ℕ → Bool
-is_last None r = false
-is_last (Some last) r = same_path r last
 
 -- the first line of a resource, unless it was shown last
 abbrev pub resource_heading : Option (List ℕ) → List ℕ → List ℕ

@@ -2,31 +2,22 @@
 
 ghost use Rattle.std.specs.Prelude.{◌≡◌, ◌++◌, None, IfOk, OnOk, string_bytes};
 ghost use Rattle.std.specs.List.{flat_map};
-ghost use Rattle.lock_report.specs.LocksDot.{box_at, box_of, boxes_behind, dot_of_locks, edge_from, edge_if_first, is_lock_kind, line_if_lock, numbered_line, queue_lines, start_of_label, words_of_claim};
+ghost use Rattle.lock_report.specs.LocksDot.{box_at, box_of, boxes_behind, dot_of_locks, edge_from, edge_if_first, line_if_lock, numbered_line, queue_lines, start_of_label, words_of_claim};
 
 use crate::dot::{put_edge, put_nodes};
-use crate::queues::{begins_queue, claims_on, is_request_kind, waited};
+use crate::queues::{begins_queue, claims_on, waited};
 use crate::rows_of_boxes::{put_name, put_places};
 use crate::snapshot::{OpenTransaction, ToldWait};
 use crate::text::{mode_word, resource_verb};
 use lock_rules::{Claim, ClaimKind};
 use lock_tree::Resource;
+use report_text::{is_lock_kind, is_request_kind};
 use std::alloc::{AllocError as NoMemory, Global};
 use std::fmt::Write;
 
 /// The first lines of the graph.
 const START: &str =
     "digraph locks {\n  graph [rankdir=LR, pack=true, nodesep=0.1];\n  node [margin=\"0.05,0.02\"];\n";
-
-/// Whether a claim of this kind is a lock.
-fn is_lock_kind(kind: ClaimKind) -> bool
-    ensures { result ≡ is_lock_kind kind }
-{
-    match kind {
-        ClaimKind::Held => true,
-        ClaimKind::Conversion | ClaimKind::Fresh => false,
-    }
-}
 
 /// Writes the claim in words, and the end of its line in a label.
 fn put_words(out: &mut String, claim: &Claim) -> Result<(), NoMemory>

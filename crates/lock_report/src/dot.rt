@@ -6,8 +6,8 @@ ghost use Rattle.lock_report.specs.Dot.{end_of_node, node_of, edge_of, dot_of_wa
 
 use crate::snapshot::{OpenTransaction, Wait};
 use lock_rules::Transaction;
+use report_text::{put_edge_with, put_start_of_node};
 use std::alloc::{AllocError as NoMemory, Global};
-use std::fmt::Write;
 
 /// Writes the end of a node: of a victim, the mark in its label and its color.
 fn put_end_of_node(out: &mut String, transaction: Transaction) -> Result<(), NoMemory>
@@ -24,12 +24,7 @@ fn put_end_of_node(out: &mut String, transaction: Transaction) -> Result<(), NoM
 fn put_node(out: &mut String, begun: &OpenTransaction) -> Result<(), NoMemory>
     ensures { OnOk result (string_bytes out.new ≡ string_bytes out.old ++ node_of begun.now) }
 {
-    let session = begun.session;
-    let number = begun.transaction.number;
-    write!(
-        out,
-        "  {session} [label=\"session {session}\\ntransaction {number}"
-    )?;
+    put_start_of_node(out, begun.session, begun.transaction.number)?;
     put_end_of_node(out, begun.transaction)
 }
 
@@ -37,7 +32,7 @@ fn put_node(out: &mut String, begun: &OpenTransaction) -> Result<(), NoMemory>
 pub(crate) fn put_edge(out: &mut String, wait: &Wait) -> Result<(), NoMemory>
     ensures { OnOk result (string_bytes out.new ≡ string_bytes out.old ++ edge_of wait.now) }
 {
-    writeln!(out, "  {} -> {};", wait.session, wait.other)
+    put_edge_with(out, wait.session, wait.other, ";\n")
 }
 
 /// Writes the nodes.

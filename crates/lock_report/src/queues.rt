@@ -3,22 +3,13 @@
 ghost use Rattle.std.specs.Prelude.{◌≡◌, ◌++◌, ◌≤◌, length, IfOk, OnOk, None, find, option_map};
 ghost use Rattle.std.specs.List.{prefix_len};
 ghost use Rattle.lock_tree.specs.Paths.{same_path};
-ghost use Rattle.lock_report.specs.LocksDot.{begins_queue, boxed_at, boxed_behind, claims_on, has_request, is_request_kind};
+ghost use Rattle.lock_report.specs.LocksDot.{begins_queue, boxed_at, boxed_behind, claims_on, has_request};
+ghost use Rattle.report_text.specs.Claims.{is_request_kind};
 
-use crate::text::is_last;
 use lock_rules::{Claim, ClaimKind};
 use lock_tree::{Resource, same_path_is_equality};
+use report_text::{is_last, is_request_kind};
 use std::alloc::{AllocError as NoMemory, Global};
-
-/// Whether a claim of this kind is a waiting request.
-pub(crate) fn is_request_kind(kind: ClaimKind) -> bool
-    ensures { result ≡ is_request_kind kind }
-{
-    match kind {
-        ClaimKind::Held => false,
-        ClaimKind::Conversion | ClaimKind::Fresh => true,
-    }
-}
 
 /// Whether the claim is on the resource.
 fn is_on(resource: Resource, claim: &Claim) -> bool

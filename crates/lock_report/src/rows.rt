@@ -2,23 +2,13 @@
 
 ghost use Rattle.std.specs.Prelude.{◌≡◌, ◌++◌, IfOk, OnOk, string_bytes};
 ghost use Rattle.std.specs.List.{flat_map};
-ghost use Rattle.lock_report.specs.StateRows.{word_of_kind, victim_field, row_of_transaction, row_of_claim, row_of_wait, rows_of_state};
+ghost use Rattle.lock_report.specs.StateRows.{victim_field, row_of_transaction, row_of_claim, row_of_wait, rows_of_state};
 
 use crate::snapshot::{OpenTransaction, Wait};
-use lock_rules::{Claim, ClaimKind, Transaction};
+use lock_rules::{Claim, Transaction};
+use report_text::kind_word;
 use std::alloc::{AllocError as NoMemory, Global};
 use std::fmt::Write;
-
-/// The word of a claim's row.
-fn kind_word(kind: ClaimKind) -> &'static str
-    ensures { result.now ≡ word_of_kind kind }
-{
-    match kind {
-        ClaimKind::Held => "held",
-        ClaimKind::Conversion => "conversion",
-        ClaimKind::Fresh => "fresh",
-    }
-}
 
 /// The victim field.
 fn victim_word(transaction: Transaction) -> &'static str

@@ -2,14 +2,15 @@
 
 ghost use Rattle.std.specs.Prelude.{◌≡◌, ◌++◌, IfOk, OnOk, None, string_bytes};
 ghost use Rattle.std.specs.List.{flat_map};
-ghost use Rattle.lock_report.specs.StateText.{session_verb, resource_verb, mode_word, line_of_session, session_lines, line_of_resource, is_last, resource_heading, resource_lines, transactions_section, resources_section, waits_section, text_of_state};
+ghost use Rattle.lock_report.specs.StateText.{session_verb, resource_verb, mode_word, line_of_session, session_lines, line_of_resource, resource_heading, resource_lines, transactions_section, resources_section, waits_section, text_of_state};
 ghost use Rattle.lock_report.specs.inner.BySession.{Ascends};
 
 use crate::by_session::{claims_by_session, claims_of_session};
 use crate::jam::{put_jam, put_lines_of_waits, put_session_heading};
 use crate::snapshot::{OpenTransaction, Root, ToldWait};
 use lock_rules::{Claim, ClaimKind};
-use lock_tree::{Resource, same_path_is_equality};
+use lock_tree::Resource;
+use report_text::is_last;
 use std::alloc::{AllocError as NoMemory, Global};
 use std::fmt::Write;
 
@@ -78,17 +79,6 @@ fn put_line_of_resource(out: &mut String, claim: &Claim) -> Result<(), NoMemory>
     let word = mode_word(claim.kind);
     let mode = claim.mode.name();
     writeln!(out, "  session {session} {verb} {word} {mode}")
-}
-
-/// Whether this is the resource that was shown last.
-pub(crate) fn is_last(last: Option<Resource>, resource: Resource) -> bool
-    ensures { result ≡ is_last last resource }
-{
-    same_path_is_equality();
-    match last {
-        None => false,
-        Some(last) => resource == last,
-    }
 }
 
 /// Writes the first line of a resource, unless it was shown last.

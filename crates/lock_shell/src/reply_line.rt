@@ -11,15 +11,9 @@ use explain_report::{put_ahead, put_request, words_of_why};
 use lock_explain::{Blocker, Explanation, MissedParent, Party, Refusal, Wait};
 use lock_modes::Mode;
 use lock_rules::{Call, Claim, Entry, Reply, Why};
+use report_text::put_words;
 use std::alloc::AllocError as NoMemory;
 use std::fmt::Write;
-
-/// Writes the words.
-fn put_words(out: &mut String, words: &str) -> Result<(), NoMemory>
-    ensures { OnOk result (string_bytes out.new ≡ string_bytes out.old ++ words.now) }
-{
-    out.push_str(words)
-}
 
 /// The op of a call.
 pub(crate) fn op_word(call: &Call) -> &'static str

@@ -1,11 +1,9 @@
 -- The counters of a history as text: a line for each, with its group, its name and its number. The format is this project's own
 -- choice.
-use Rattle.std.specs.Prelude.{ℕ, ◌-◌, max, Bool, true, false, List, [], ◌∷◌, ◌++◌, length, replicate, codes, decimal}
+use Rattle.std.specs.Prelude.{ℕ, ◌-◌, max, Bool, List, [], ◌∷◌, ◌++◌, length, replicate, codes, decimal}
 use Rattle.std.specs.List.{flat_map, range_with_len}
 use Rattle.lock_rules.specs.declared.kinds.TheConstants.{OPS, REFUSALS}
 use Rattle.lock_rules.specs.declared.listing.Claim.{Claim}
-use Rattle.lock_rules.specs.declared.listing.ClaimKind.{ClaimKind}
-use Rattle.lock_rules.specs.declared.listing.ClaimKind.TheVariants.{Held, Conversion, Fresh}
 use Rattle.lock_rules.specs.Names.{name_of_why}
 use Rattle.lock_rules.specs.Entries.{Entry}
 use Rattle.lock_rules.specs.State.{Table, State, is_open}
@@ -14,6 +12,7 @@ use Rattle.lock_rules.specs.Legal.{state_of}
 use Rattle.lock_rules.specs.Listing.{listed_resources, listing_of}
 use Rattle.lock_trace.specs.Words.{word_of}
 use Rattle.lock_counts.specs.Counts.{count_if, calls, refusals, requests, granted_at_once, requests_refused, waits_begun, waits_granted, waits_doomed, waits_withdrawn, waits_aborted, waits_restarted, still_waiting, deadlocks}
+use Rattle.report_text.specs.Claims.{is_lock_kind}
 use Rattle.command_line.specs.declared.args.Form.{Form}
 use Rattle.command_line.specs.declared.args.Form.TheVariants as form
 
@@ -58,15 +57,9 @@ lines_of_deadlocks form h =
 abbrev pub lines_of_refusals : Form → List Entry → List ℕ
 lines_of_refusals form h = flat_map (λ w. line_of form (codes "refusals") (name_of_why w) (refusals w h)) REFUSALS
 
--- a lock, and no waiting request
-abbrev pub is_held : ClaimKind → Bool
-is_held Held = true
-is_held Conversion = false
-is_held Fresh = false
-
 -- the line of a listing is a lock
 abbrev pub is_lock : Claim → Bool
-is_lock l = is_held l.kind
+is_lock l = is_lock_kind l.kind
 
 -- the length of the longest of the queues of these resources
 abbrev pub longest_of : Table → List (List ℕ) → ℕ

@@ -13,9 +13,9 @@ ghost use Rattle.lock_trace.specs.Entries.{IsEntry};
 ghost use Rattle.lock_counts.specs.Counts.{count_if};
 ghost use Rattle.lock_counts.specs.Tallies.{IsTallyOf, AreEndsOf};
 
-use crate::gauges::one_if;
 use lock_counts::{Tally, WaitEnds};
 use lock_desk::{Book, Call, Entry, NoMemory, Reply};
+use report_text::one_if;
 use std::alloc::Global;
 
 /// A lock table that has served a history, and the tally of it.

@@ -10,23 +10,14 @@ ghost use Rattle.lock_counts.specs.Counts.{count_if, one_if};
 ghost use Rattle.stats_report.specs.StatsText.{is_lock, longest_queue};
 
 use lock_desk::Book;
-use lock_rules::{Claim, ClaimKind};
-
-/// 1 if the test holds, else 0.
-pub(crate) fn one_if(test: bool) -> u64
-    ensures { result ≡ one_if test }
-{
-    if test { 1 } else { 0 }
-}
+use lock_rules::Claim;
+use report_text::{is_lock_kind, one_if};
 
 /// Whether the line of a listing is a lock.
 fn is_lock(claim: &Claim) -> bool
     ensures { result ≡ is_lock claim.now }
 {
-    match claim.kind {
-        ClaimKind::Held => true,
-        ClaimKind::Conversion | ClaimKind::Fresh => false,
-    }
+    is_lock_kind(claim.kind)
 }
 
 /// How many lines of a listing are locks.

@@ -1,18 +1,11 @@
 -- Lines of a listing that are looked through.
 use Rattle.std.specs.Prelude.{ℕ, Bool, true, false, if◌then◌else◌, List, [], ◌∷◌, Option, Some, None}
 use Rattle.lock_rules.specs.declared.listing.Claim.{Claim}
-use Rattle.lock_rules.specs.declared.listing.ClaimKind.{ClaimKind}
-use Rattle.lock_rules.specs.declared.listing.ClaimKind.TheVariants.{Held, Conversion, Fresh}
-
--- a line of this kind is a waiting request
-abbrev pub is_kind_of_request : ClaimKind → Bool
-is_kind_of_request Held = false
-is_kind_of_request Conversion = true
-is_kind_of_request Fresh = true
+use Rattle.report_text.specs.Claims.{is_request_kind}
 
 -- the line is a waiting request
 abbrev pub is_request : Claim → Bool
-is_request c = is_kind_of_request c.kind
+is_request c = is_request_kind c.kind
 
 -- the number of the first of the list that passes the test
 abbrev pub first_where : {X : Type 0} → (X → Bool) → (X → ℕ) → List X → Option ℕ

@@ -1,5 +1,5 @@
 use Rattle.std.proofs.Common.{codes}
-use Rattle.lock_report.proofs.Pieces.{next_piece}
+use Rattle.report_text.proofs.Pieces.{next_piece}
 use Rattle.lock_trace.specs.Words.{word_of}
 use Rattle.lock_counts.specs.Counts.{calls}
 use Rattle.stats_report.specs.StatsText.{line_of}

@@ -1,5 +1,5 @@
 use Rattle.std.proofs.Common.{codes}
-use Rattle.lock_report.proofs.Pieces.{next_piece}
+use Rattle.report_text.proofs.Pieces.{next_piece}
 use Rattle.lock_rules.specs.Names.{name_of_why}
 use Rattle.lock_counts.specs.Counts.{refusals}
 use Rattle.stats_report.specs.StatsText.{line_of}

@@ -7,6 +7,10 @@ use Rattle.std.proofs.lemmas.List.{flat_map_more}
 take_more : {X : Type 0} (xs : List X) (i : ℕ) (d : X) → i < length xs → take (i + 1) xs ≡ take i xs ++ (get_or xs i d ∷ [])
 take_more {X} xs i d lt = ap (λ (k : ℕ). take k xs) (add-one i) ∙ take-suc xs i d lt
 
+-- The same for the next item by its name.
+pub with_next : {X : Type 0} (xs : List X) (i : ℕ) (x : X) → i < length xs → x ≡ get_or xs i x → take (i + 1) xs ≡ take i xs ++ (x ∷ [])
+with_next {X} xs i x lt is = take_more xs i x lt ∙ ap (λ (y : X). take i xs ++ (y ∷ [])) (sym is)
+
 -- After the piece of the next item, the text so far is that of one item more.
 pub next_piece : {X : Type 0} (f : X → List ℕ) (xs : List X) (i : ℕ) (d : X) (start out out2 : List ℕ) → i < length xs → out ≡ start ++ flat_map f (take i xs) → out2 ≡ out ++ f (get_or xs i d)
     → out2 ≡ start ++ flat_map f (take (i + 1) xs)

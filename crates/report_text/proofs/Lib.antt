@@ -1,0 +1,2 @@
+-- a text that is written piece by piece
+pub mod Pieces

@@ -1,0 +1,3 @@
+-- What public contracts speak of.
+pub mod Claims
+pub mod Nodes
