@@ -13,7 +13,7 @@ use Rattle.session_locks.specs.Resources.{has_path}
 use Rattle.lock_tree.specs.Paths.{parent_of}
 use Rattle.session_locks.specs.LockLists.{IsUnder}
 use Rattle.lock_desk.specs.inner.Lockers.{Standing, standing_of, standings_of, standing_at, is_wanted, standing_after_asking, DoAgree}
-use Rattle.lock_desk.specs.inner.Changes.{view_at, standings, standing, mode_held, IsWhole, DoesKeep, IsSameSeen, HasAsked}
+use Rattle.lock_desk.specs.inner.Changes.{view_at, standings, standing, mode_held, IsWhole, DoesKeep, IsSession, IsSameSeen, HasAsked}
 use Rattle.lock_desk.specs.inner.Blocking.{DoFollow}
 use Rattle.lock_desk.specs.inner.Ready.{IsReadyTable}
 use Rattle.lock_desk.proofs.RowsOfTheTable.{ready-follow}
@@ -30,9 +30,13 @@ idle-there s r d w idle = sym ((w.agree r).wanted s) ∙ ap (is_wanted r) idle
 pub held-locker : (s : ℕ) (r : List ℕ) (d : LockTable) → IsWhole d → has_path r (standing s d).held ≡ is_some (mode_held d s r)
 held-locker s r d w = (w.agree r).held s ∙ sym (mode-has s (view_at r d).holders)
 
--- a session within the lockers has a locker, at its index
-pub within : (d : LockTable) (s : ℕ) {i : ℕ} → i ≡ s - 1 → 1 ≤ s → s ≤ vec_len d.lockers → IsPositionOf s i d.lockers.items
-within d s is some h = record { session = omega (arith, is, some); within = omega (arith, is, some, h, d.lockers.ok.0) }
+-- a session has a locker, at its index
+pub within : (d : LockTable) (s : ℕ) {i : ℕ} → i ≡ s - 1 → IsSession s d → IsPositionOf s i d.lockers.items
+within d s is h = record { session = omega (arith, is, h.some); within = omega (arith, is, h.some, h.within, d.lockers.ok.0) }
+
+-- and still has after an operation
+pub session-on : {s : ℕ} {d e : LockTable} → DoesKeep d e → IsSession s d → IsSession s e
+session-on k h = record { some = h.some; within = omega (arith, h.within, k.lockers) }
 
 -- writing a standing that is there changes nothing
 set-there : (ss : List Standing) (s : ℕ) → set ss s (standing_at s ss) ≡ ss

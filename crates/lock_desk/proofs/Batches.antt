@@ -14,7 +14,7 @@ use Rattle.lock_desk.specs.BookView.{BookView}
 use Rattle.sequential.specs.Batches.{item_of}
 use Rattle.session_sets.specs.Ended.{EndedView, is_ended, ended_in}
 use Rattle.lock_desk.specs.inner.Runs.{AreServed}
-use Rattle.session_sets.proofs.EndedList.{same-tests, same-numbers, no-numbers}
+use Rattle.session_sets.proofs.FilteredNumbers.{same-tests, same-numbers, no-numbers}
 
 -- the entries of the first k items
 abbrev pub entries_of_first : State → ℕ → List Item → List Entry

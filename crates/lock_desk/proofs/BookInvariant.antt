@@ -28,7 +28,8 @@ use Rattle.sequential.specs.Histories.{IsEntryWithin}
 use Rattle.lock_desk.specs.inner.Invariant.{book_view_of, IsKept}
 use Rattle.lock_desk.specs.declared.book.Book.TheInside.{Inside}
 use Rattle.waits_for.specs.declared.TheConstants.{MAX_SESSIONS}
-use Rattle.session_sets.proofs.EndedList.{any-among, same-numbers, none-waits_ended}
+use Rattle.session_sets.proofs.EndedList.{none-waits_ended}
+use Rattle.session_sets.proofs.FilteredNumbers.{any-among, same-numbers}
 use Rattle.lock_desk.proofs.EndedWaits.{whole-relisted, ready-relisted, shows-relisted}
 use Rattle.lock_desk.proofs.Simulation.{waits-shown}
 

@@ -16,14 +16,12 @@ use Rattle.lock_rules.proofs.Steps.{state-lawful}
 use Rattle.lock_desk.specs.Batches.{Item}
 use Rattle.lock_desk.specs.Deadlocks.{Moment, deadlocked_states, deadlocks_of_request, deadlocks_unless_refused, deadlocks_of, moments_at, deadlocks_from, deadlocks_in, AreDeadlocksTold, newest}
 use Rattle.lock_desk.specs.declared.lock_table.LockTable.{LockTable}
-use Rattle.lock_desk.specs.inner.Cells.{can_grant}
 use Rattle.lock_desk.specs.inner.Changes.{mode_held, call_tests, IsWhole, HasAsked}
 use Rattle.lock_desk.specs.inner.Noting.{LogView, HasNoted}
 use Rattle.lock_desk.specs.inner.Shows.{Shows}
 use Rattle.lock_desk.specs.inner.Runs.{CanJoin, AreKept}
-use Rattle.lock_desk.proofs.TableViews.{in_mode}
-use Rattle.lock_desk.proofs.AfterStep.{granted-seen, first_state}
-use Rattle.lock_desk.proofs.Simulation.{mode-shown, tests-shown}
+use Rattle.lock_desk.proofs.AfterStep.{first_state}
+use Rattle.lock_desk.proofs.Simulation.{mode-shown, tests-shown, same-target, granted-is}
 use Rattle.lock_desk.proofs.Granting.{entry_of_grant}
 use Rattle.lock_desk.proofs.DeadlocksTold.{noted-none}
 use Rattle.lock_desk.proofs.DeadlockRounds.{deadlocked-enough}
@@ -34,25 +32,17 @@ module _ (d e : LockTable) (st : rules.State) (s : ℕ) (r : List ℕ) (asks m :
   abbrev found : Bool → Bool → List rules.State
   found held granted = cond held [] (cond granted [] (deadlocked_states (length st.table.requests + 2) s (first_state st s r m false)))
 
-  -- the target of the request is the one of the state
-  same-target : target_of (rules.held_mode st.table s r) asks ≡ m
-  same-target = ap (λ (o : Option Mode). target_of o asks) (sym (mode-shown d st s r h)) ∙ sym target
-
   -- so its deadlocks are these
   these : (held granted : Bool) → is_held (mode_held d s r) m ≡ held → is_granted_at_once st.table s r m ≡ granted → deadlocks_of_request st s r (target_of (rules.held_mode st.table s r) asks) ≡ found held granted
   these held granted k g =
       let f = ap (λ (o : Option Mode). is_held o m) (sym (mode-shown d st s r h)) ∙ k in
-      ap (deadlocks_of_request st s r) same-target ∙ (λ i. found (f i) (g i))
-
-  -- it is granted at once in the state exactly if it is in the lock table
-  granted-is : (b : Bool) → HasAsked s r m b d e → is_granted_at_once st.table s r m ≡ b
-  granted-is b k = granted-seen s r m st.table ∙ (sym (ap (can_grant (in_mode s m)) (h.views r)) ∙ sym k.granted_is)
+      ap (deadlocks_of_request st s r) (same-target d st s r asks m h target) ∙ (λ i. found (f i) (g i))
 
   -- a request that is granted, or whose target is held already, makes none
   pub none-if-granted : (is_held (mode_held d s r) m ≡ false → HasAsked s r m true d e) → deadlocks_of_request st s r (target_of (rules.held_mode st.table s r) asks) ≡ []
   none-if-granted more = elim (cases_Bool (is_held (mode_held d s r) m)) [
     | inl y ↦ these true (is_granted_at_once st.table s r m) y refl
-    | inr n ↦ these false true n (granted-is true (more n))
+    | inr n ↦ these false true n (granted-is d e st s r m h true (more n))
   ]
 
   -- a request that waits makes those that are found once it waits
@@ -60,7 +50,7 @@ module _ (d e : LockTable) (st : rules.State) (s : ℕ) (r : List ℕ) (asks m :
       → deadlocks_of_request st s r (target_of (rules.held_mode st.table s r) asks) ≡ deadlocked_states n s (first_state st s r m false)
   those-if-waits n k sound rounds few =
       let len = length-append st.table.requests (record { session = s; resource = r; mode = m } ∷ []) in
-      these false false n (granted-is false k) ∙ deadlocked-enough (length st.table.requests + 2) rounds s (first_state st s r m false) sound (omega (arith, len)) few
+      these false false n (granted-is d e st s r m h false k) ∙ deadlocked-enough (length st.table.requests + 2) rounds s (first_state st s r m false) sound (omega (arith, len)) few
 
 -- a call, by its tests
 

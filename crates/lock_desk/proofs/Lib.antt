@@ -5,6 +5,8 @@ pub mod WaitQueues
 pub mod ResourceViews
 -- the cells after a change of one of them
 pub mod CellTable
+-- the list of resources beside the list of cells
+pub mod CellEntries
 -- places: the index of the cell of a resource
 pub mod Places
 -- mode codes and masks of several modes in one byte
@@ -53,8 +55,12 @@ pub mod Simulation
 pub mod WritingWaits
 -- the row of a request, from that of an earlier request for the same mode
 pub mod RequestsAlike
--- the rows lose single edges: a lock or a request is given up, or requests are granted
+-- one session among the holders and in the queue
+pub mod QueuedSessions
+-- the rows lose single edges: a lock or a request is given up
 pub mod NarrowingWaits
+-- the rows lose the edges to requests that are granted
+pub mod GrantedWaits
 -- the rows after a request
 pub mod RowsAfterAsking
 -- each session that holds or waits has a locker
@@ -90,6 +96,8 @@ pub mod RunItems
 pub mod Granting
 -- the deadlocks of a call, and those of a history with one more entry
 pub mod DeadlocksOfCalls
+-- a lock or a try, by its tests
+pub mod LockCalls
 -- as many victims are counted as the history has
 pub mod VictimsOfCalls
 -- as many sessions wait as there are requests

@@ -19,7 +19,7 @@ use Rattle.lock_desk.specs.Paths.{lock_of_level, level_call, path_calls, grants,
 use Rattle.lock_desk.specs.inner.Paths.{AreEntered}
 use Rattle.lock_desk.proofs.Batches.{entry_of, item_ends, ended_also}
 use Rattle.lock_desk.proofs.Blockers.{one-behind}
-use Rattle.session_sets.proofs.EndedList.{any-among, same-numbers, no-numbers}
+use Rattle.session_sets.proofs.FilteredNumbers.{any-among, same-numbers, no-numbers}
 
 -- calls that are served one after another
 

@@ -16,7 +16,7 @@ use Rattle.lock_desk.proofs.ResourceViews.{both}
 use Rattle.lock_holders.proofs.SessionModes.{mode-has}
 use Rattle.lock_desk.proofs.WaitQueues.{has_session-queued, times-queued}
 use Rattle.lock_desk.proofs.WritingWaits.{blocks-none}
-use Rattle.lock_desk.proofs.NarrowingWaits.{any-none, any-some, gone, blocks-as-held, blocks-with, mode-with, none-ahead}
+use Rattle.lock_desk.proofs.QueuedSessions.{from-none, any-none, any-some, gone, blocks-as-held, blocks-with, mode-with, none-ahead}
 
 -- a session that is in a list, and one that isn't
 apart : (s c : ℕ) (ws : List SessionMode) → has_session s ws ≡ true → has_session c ws ≡ false → eqb c s ≡ false
@@ -25,11 +25,6 @@ apart s c ws h n = go (eqb c s) refl
     go : (b : Bool) → eqb c s ≡ b → eqb c s ≡ false
     go false e = e
     go true e = absurd (let f : has_session s ws ≡ false = ap (λ (k : ℕ). has_session k ws) (sym ((Decides-eqb c s).0 e)) ∙ n in cc)
-
--- a change to nothing changes nothing
-from-none : (p x : Bool) → x ≡ ((p && false) || x)
-from-none true x = refl
-from-none false x = refl
 
 -- the request is granted
 

@@ -25,7 +25,7 @@ use Rattle.session_sets.specs.Ended.{EndedView}
 use Rattle.lock_desk.specs.inner.Ready.{IsReadyTable}
 use Rattle.lock_desk.proofs.SessionsInRange.{numbered-whole, once-at}
 use Rattle.lock_desk.proofs.WritingWaits.{blocks-none}
-use Rattle.lock_desk.proofs.NarrowingWaits.{none-blocks, none-ahead}
+use Rattle.lock_desk.proofs.QueuedSessions.{none-blocks, none-ahead}
 
 -- for whom a session waits, by cells and lockers
 

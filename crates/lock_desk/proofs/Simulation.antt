@@ -199,6 +199,14 @@ idle-shown d st s w h idle = is-none (rules.request_of s st.table.requests) (sym
 
 -- a request
 
+-- its target is the one of the state
+pub same-target : (d : LockTable) (st : rules.State) (s : ℕ) (r : List ℕ) (asks m : Mode) → Shows d st → m ≡ target_of (mode_held d s r) asks → target_of (rules.held_mode st.table s r) asks ≡ m
+same-target d st s r asks m h target = ap (λ (o : Option Mode). target_of o asks) (sym (mode-shown d st s r h)) ∙ sym target
+
+-- it is granted in the table exactly if it is in the state
+pub granted-is : (d e : LockTable) (st : rules.State) (s : ℕ) (r : List ℕ) (m : Mode) → Shows d st → (b : Bool) → HasAsked s r m b d e → is_granted_at_once st.table s r m ≡ b
+granted-is d e st s r m h b k = granted-seen s r m st.table ∙ (sym (ap (can_grant (in_mode s m)) (h.views r)) ∙ sym k.granted_is)
+
 module _ (d e : LockTable) (st : rules.State) (s : ℕ) (r : List ℕ) (asks m : Mode) (w : IsWhole d) (i : IsSound st.table) (h : Shows d st) (may : MayAsk s r asks d) (target : m ≡ target_of (mode_held d s r) asks) where
   -- the session has no request in the state
   none-waits : rules.request_of s st.table.requests ≡ None
@@ -207,10 +215,6 @@ module _ (d e : LockTable) (st : rules.State) (s : ℕ) (r : List ℕ) (asks m :
   -- its transaction is not doomed in the state
   sound : rules.is_doomed st s ≡ false
   sound = sym (doom-shown d st s h) ∙ may.sound
-
-  -- the target of the request is the one of the state
-  same-target : target_of (rules.held_mode st.table s r) asks ≡ m
-  same-target = ap (λ (o : Option Mode). target_of o asks) (sym (mode-shown d st s r h)) ∙ sym target
 
   -- it holds the target exactly if it does in the state
   held-so : (b : Bool) → is_held (mode_held d s r) m ≡ b → is_held (rules.held_mode st.table s r) m ≡ b
@@ -232,10 +236,6 @@ module _ (d e : LockTable) (st : rules.State) (s : ℕ) (r : List ℕ) (asks m :
   reply-granted : (x : rules.State) → rules.is_doomed x s ≡ false → rules.request_of s x.table.requests ≡ None → reply-in x ≡ Granted m
   reply-granted x a b = ap (λ (c : Bool). cond c Deadlock (cond (rules.is_waiting x s) Waiting (Granted m))) a ∙ ap (λ (o : Option rules.Claim). cond (is_some o) Waiting (Granted m)) b
 
-  -- the request is granted in the table exactly if it is in the state
-  granted-is : (b : Bool) → HasAsked s r m b d e → is_granted_at_once st.table s r m ≡ b
-  granted-is b k = granted-seen s r m st.table ∙ (sym (ap (can_grant (in_mode s m)) (h.views r)) ∙ sym k.granted_is)
-
   -- the lock table represents the state after the grant, or after the request is queued
   first-shown : (b : Bool) → HasAsked s r m b d e → Shows e (first_state st s r m b)
   first-shown b k = record {
@@ -248,7 +248,7 @@ module _ (d e : LockTable) (st : rules.State) (s : ℕ) (r : List ℕ) (asks m :
 
   -- the answer of the request, by the state after it
   answered : (x : rules.State) → after_asking st s r m ≡ x → Shows e x → (reply : Reply) → reply ≡ reply-in x → DoesAnswer (ask st s r (target_of (rules.held_mode st.table s r) asks)) e reply
-  answered x is shows reply told = subst (λ (k : Mode). DoesAnswer (ask st s r k) e reply) (sym same-target) (told ∙ ap reply-in (sym is), subst (Shows e) (sym is) shows)
+  answered x is shows reply told = subst (λ (k : Mode). DoesAnswer (ask st s r k) e reply) (sym (same-target d st s r asks m h target)) (told ∙ ap reply-in (sym is), subst (Shows e) (sym is) shows)
 
   -- a request that is granted, or whose target is held already, is answered as in the state
   pub granted-answer : (is_held (mode_held d s r) m ≡ true → IsSameSeen d e) → (is_held (mode_held d s r) m ≡ false → HasAsked s r m true d e) → DoesAnswer (ask st s r (target_of (rules.held_mode st.table s r) asks)) e (Granted m)
@@ -260,7 +260,7 @@ module _ (d e : LockTable) (st : rules.State) (s : ℕ) (r : List ℕ) (asks m :
     }) (Granted m) (sym (reply-granted st sound none-waits))
     | inr n ↦
         let k = more n in
-        answered (first_state st s r m true) (asked-more n ∙ ap (λ (b : Bool). cond b (rules.with_table (after_grant s r m st.table) st) (after_wait st s r m)) (granted-is true k)) (first-shown true k) (Granted m)
+        answered (first_state st s r m true) (asked-more n ∙ ap (λ (b : Bool). cond b (rules.with_table (after_grant s r m st.table) st) (after_wait st s r m)) (granted-is d e st s r m h true k)) (first-shown true k) (Granted m)
         (sym (reply-granted (first_state st s r m true) sound (request_of-claims_but s st.table.requests)))
   ]
 
@@ -272,12 +272,12 @@ module _ (d e : LockTable) (st : rules.State) (s : ℕ) (r : List ℕ) (asks m :
 
     stands : Stands st.table s r m
     stands =
-        let under : lacks_parent st.table s r m ≡ false = ap (lacks_parent st.table s r) (sym same-target) ∙ (sym (target-shown d st s r asks h) ∙ may.under) in
-        let something : is_nothing m ≡ false = ap is_nothing (sym same-target) ∙ sup-some (rules.mode_or_nothing (rules.held_mode st.table s r)) asks may.something in
+        let under : lacks_parent st.table s r m ≡ false = ap (lacks_parent st.table s r) (sym (same-target d st s r asks m h target)) ∙ (sym (target-shown d st s r asks h) ∙ may.under) in
+        let something : is_nothing m ≡ false = ap is_nothing (sym (same-target d st s r asks m h target)) ∙ sup-some (rules.mode_or_nothing (rules.held_mode st.table s r)) asks may.something in
         (under, something)
 
     raising : at_or_below (rules.mode_or_nothing (rules.held_mode st.table s r)) m ≡ true
-    raising = ap (at_or_below (rules.mode_or_nothing (rules.held_mode st.table s r))) (sym same-target) ∙ below-sup (rules.mode_or_nothing (rules.held_mode st.table s r)) asks
+    raising = ap (at_or_below (rules.mode_or_nothing (rules.held_mode st.table s r))) (sym (same-target d st s r asks m h target)) ∙ below-sup (rules.mode_or_nothing (rules.held_mode st.table s r)) asks
 
     -- the table of the rules stays sound
     pub waits-sound : IsSound (with_request s r m st.table)
@@ -288,7 +288,7 @@ module _ (d e : LockTable) (st : rules.State) (s : ℕ) (r : List ℕ) (asks m :
     waits-numbered j = waiting-numbered st s r m j (sym (open-shown d st s h) ∙ may.opened)
 
     asked-waits : after_asking st s r m ≡ after_victims (length st.table.requests + 2) s (first_state st s r m false)
-    asked-waits = asked-more more ∙ ap (λ (b : Bool). cond b (rules.with_table (after_grant s r m st.table) st) (after_wait st s r m)) (granted-is false k)
+    asked-waits = asked-more more ∙ ap (λ (b : Bool). cond b (rules.with_table (after_grant s r m st.table) st) (after_wait st s r m)) (granted-is d e st s r m h false k)
 
     -- it is answered as in the state after deadlocks are resolved
     pub waits-answer : (n : ℕ) (last : LockTable) → length (with_request s r m st.table).requests < n → IsWhole last → Shows last (after_victims n s (first_state st s r m false)) → (reply : Reply)
@@ -299,7 +299,7 @@ module _ (d e : LockTable) (st : rules.State) (s : ℕ) (r : List ℕ) (asks m :
         let x = after_victims n s (first_state st s r m false) in
         let a = doom-shown last (after_victims n s (first_state st s r m false)) s shows in
         let b = waits-shown last (after_victims n s (first_state st s r m false)) s whole shows in
-        subst (λ (t : Mode). DoesAnswer (ask st s r t) last reply) (sym same-target)
+        subst (λ (t : Mode). DoesAnswer (ask st s r t) last reply) (sym (same-target d st s r asks m h target))
         (told ∙ ((λ j. cond (a j) Deadlock (cond (b j) Waiting (Granted m))) ∙ ap reply-in (sym is)), subst (Shows last) (sym is) shows)
 
 -- the end of a transaction, and a restart

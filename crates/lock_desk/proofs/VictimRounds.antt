@@ -17,12 +17,25 @@ use Rattle.lock_holders.specs.declared.session_mode.SessionMode.{SessionMode}
 use Rattle.lock_desk.specs.declared.lock_table.LockTable.{LockTable}
 use Rattle.lock_desk.specs.declared.waits.Waits.{Waits}
 use Rattle.lock_holders.specs.SessionModes.{mode_of, has_session}
-use Rattle.lock_desk.specs.inner.Changes.{view_at, standings, standing, view_after_cancel, IsWhole, HasDoomed}
+use Rattle.lock_desk.specs.inner.Changes.{view_at, standings, standing, view_after_cancel, IsWhole, DoesKeep, MayServe, HasDoomed}
 use Rattle.lock_desk.specs.inner.Blocking.{blocks, blocks_at, target_blocks, IsCurrent}
 use Rattle.lock_desk.specs.inner.Shows.{Shows}
 use Rattle.lock_desk.proofs.SessionsInRange.{once-at}
 use Rattle.lock_desk.proofs.WaitsOfTheState.{pairs-shown}
 use Rattle.lock_desk.proofs.AfterStep.{cancelled-seen}
+
+-- the search for a victim changes nothing, and the table may serve the one that it finds
+
+module _ (d e : LockTable) (waits : Waits) (same : waits ≡ e.waits) (kept : DoesKeep d e) where
+  pub keeps-searched : DoesKeep d (record { count = e.count; lockers = e.lockers; cells = e.cells; waits = waits; ended = e.ended })
+  keeps-searched = subst (λ (w : Waits). DoesKeep d (record { count = e.count; lockers = e.lockers; cells = e.cells; waits = w; ended = e.ended })) (sym same) kept
+
+  pub may-serve_searched : (v : ℕ) → 1 ≤ v → v ≤ e.waits.rows.sessions → MayServe v (record { count = e.count; lockers = e.lockers; cells = e.cells; waits = waits; ended = e.ended })
+  may-serve_searched v some few = record {
+    session = record { some = some; within = omega (arith, few, kept.ready.long) };
+    whole = keeps-searched.whole;
+    ready = keeps-searched.ready;
+  }
 
 -- positions and sessions: position a is that of session a + 1
 

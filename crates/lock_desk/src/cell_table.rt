@@ -1,17 +1,20 @@
 //! The table of cells: finds the cell of a resource, and keeps idle cells with their memory for other resources.
 
-ghost use Rattle.std.specs.Prelude.{◌≡◌, ℕ, ◌+◌, ◌<◌, ◌≤◌, true, false, List, [], ◌∷◌, ◌++◌, None, Some, if◌then◌else◌, length, take, slice_get, IfOk, OnOk, OnErr, vec_len};
+ghost use Rattle.std.specs.Prelude.{◌≡◌, ℕ, ◌<◌, ◌≤◌, true, false, List, [], ◌∷◌, None, Some, if◌then◌else◌, length, take, slice_get, IfOk, OnOk, OnErr, vec_len};
 ghost use Rattle.std.specs.Map.{keys_of};
 ghost use Rattle.std.specs.Option.{option_copied};
 ghost use Rattle.lock_tree.specs.Paths.{same_path};
 ghost use Rattle.lock_desk.specs.declared.cells.Cell.{Cell as CellValue};
-ghost use Rattle.lock_desk.specs.inner.Cells.{no_view, view_of, can_grant, is_granted, AreKeptCells, cell_at, cell_view, view_after_asking, view_after_giving_up, view_after_freeing, is_request, CellsBecame, ViewBecame, IsPlace, codes_unless_waited, view_with_holder, HasRoomAt};
-ghost use Rattle.lock_holders.specs.SessionModes.{has_session, mode_of, is_nobody};
-ghost use Rattle.session_locks.specs.Resources.{has_path, in_order};
-ghost use Rattle.lock_desk.specs.inner.Tables.{in_use, AreIdleFrom};
+ghost use Rattle.lock_desk.specs.inner.Cells.{no_view, view_of, can_grant, is_granted, AreKeptCells, cell_at, cell_view, view_after_asking, view_after_giving_up, view_after_freeing, is_request, CellsBecame, ViewBecame, IsPlace};
+ghost use Rattle.lock_holders.specs.SessionModes.{has_session, mode_of};
+ghost use Rattle.session_locks.specs.Resources.{in_order};
+ghost use Rattle.lock_desk.specs.inner.Tables.{AreIdleFrom};
 ghost use Rattle.lock_desk.specs.inner.Lockers.{standings_of, AreSameOrGranted, DoAgree};
 ghost use Rattle.lock_desk.specs.inner.Ended.{DoNoteEnded};
 ghost use Rattle.lock_desk.specs.inner.Blocking.{IsOfSessions, AreWritten, IsWritten, DoFollow};
+
+mod grants;
+mod resource_keys;
 
 use crate::cells::{Cell, GivenUp, RequestStatus};
 use crate::lockers::Locker;
@@ -21,7 +24,8 @@ use indexmap::IndexSet;
 use lock_holders::SessionMode;
 use lock_modes::Mode;
 use lock_tree::{Resource, same_path_is_equality};
-use session_locks::{Seeded, is_same, sort_resources};
+use resource_keys::{drop_provisional, insert_key, is_at};
+use session_locks::{Seeded, sort_resources};
 use session_sets::EndedWaits;
 use std::alloc::{AllocError, Global};
 use std::marker::Model;
@@ -57,76 +61,6 @@ impl Model for CellTable {
     ghost view = { table_of };
 
     ghost invariant = { IsKeptTable };
-}
-
-/// Removes the provisional key, if there is one.
-fn drop_provisional(resources: &mut Resources, has_provisional: &mut bool)
-    ensures keys { resources.new.keys ≡ in_use resources.old.keys has_provisional.old }
-    ensures none { has_provisional.new ≡ false }
-{
-    if *has_provisional {
-        let _gone = resources.pop();
-        *has_provisional = false;
-    }
-}
-
-/// Whether `resource` is the last key.
-#[inline(always)]
-fn is_last(resources: &Resources, resource: Resource) -> bool
-    ensures { result ≡ true → resources.now.keys ≡ in_use resources.now.keys true ++ resource ∷ [] }
-{
-    match resources.last() {
-        Some(last) => is_same(*last, resource),
-        None => false,
-    }
-}
-
-/// Whether the key at `place` is `resource`.
-fn is_at(resources: &Resources, place: usize, resource: Resource) -> bool
-    ensures { result ≡ true → slice_get resources.now.keys place ≡ Some resource }
-{
-    match resources.get_index(place) {
-        Some(here) => is_same(*here, resource),
-        None => false,
-    }
-}
-
-/// Makes `resource`, which is not in use, the provisional key, after removing the earlier one. If memory is refused,
-/// the keys in use are unchanged.
-#[inline(never)]
-fn insert_new_key(
-    resources: &mut Resources,
-    has_provisional: &mut bool,
-    resource: Resource,
-) -> Result<(), AllocError>
-    requires { has_path resource (in_use resources.old.keys has_provisional.old) ≡ false }
-    ensures ok { OnOk result (has_provisional.new ≡ true) }
-    ensures keys { OnOk result (resources.new.keys ≡ in_use resources.old.keys has_provisional.old ++ resource ∷ []) }
-    ensures err { OnErr result (in_use resources.new.keys has_provisional.new ≡ in_use resources.old.keys has_provisional.old) }
-{
-    same_path_is_equality();
-    drop_provisional(resources, has_provisional);
-    resources.insert(resource)?;
-    *has_provisional = true;
-    Ok(())
-}
-
-/// Like `insert_new_key`, but keeps the key if it is the provisional one already.
-#[inline(always)]
-fn insert_key(
-    resources: &mut Resources,
-    has_provisional: &mut bool,
-    resource: Resource,
-) -> Result<(), AllocError>
-    requires { has_path resource (in_use resources.old.keys has_provisional.old) ≡ false }
-    ensures ok { OnOk result (has_provisional.new ≡ true) }
-    ensures keys { OnOk result (resources.new.keys ≡ in_use resources.old.keys has_provisional.old ++ resource ∷ []) }
-    ensures err { OnErr result (in_use resources.new.keys has_provisional.new ≡ in_use resources.old.keys has_provisional.old) }
-{
-    if *has_provisional && is_last(resources, resource) {
-        return Ok(());
-    }
-    insert_new_key(resources, has_provisional, resource)
 }
 
 /// Adds an idle cell at `place`, behind all others.
@@ -433,53 +367,5 @@ impl CellTable {
         if cell.is_idle() {
             self.vacate(place);
         }
-    }
-
-    /// The bitwise or of the mode codes of the holders at `place`, or `None` if a request waits there.
-    pub(crate) fn codes_at(&self, place: usize) -> Option<u8>
-        ensures { (r : List ℕ) → IsPlace r self.now.entries (Some place) → result ≡ codes_unless_waited (cell_view r self.now.entries) }
-    {
-        if place < self.cells.len() {
-            return self.cells[place].codes_unless_waited();
-        }
-        None
-    }
-
-    /// Reserves room for `more` further holders of `resource`, whose cell is at `place`. No request may wait there.
-    pub(crate) fn make_room_at(
-        &mut self,
-        place: usize,
-        resource: Resource,
-        more: usize,
-    ) -> Result<(), AllocError>
-        requires kept { AreKeptCells self.old.entries }
-        requires place { IsPlace resource self.old.entries (Some place) }
-        requires quiet { is_nobody (cell_view resource self.old.entries).waiting ≡ true }
-        ensures same { ViewBecame resource (λ v. v) self.old.entries self.new.entries }
-        ensures place { IsPlace resource self.new.entries (Some place) }
-        ensures room { OnOk result (HasRoomAt self.new.entries place more) }
-    {
-        same_path_is_equality();
-        // Called for its contract: no key is in the set twice.
-        let _len = self.resources.len();
-        let cell = &mut self.cells[place];
-        cell.make_room(more)
-    }
-
-    /// Makes `holder` a holder of `resource`, whose cell is at `place`. Room must be reserved.
-    pub(crate) fn grant_at(&mut self, place: usize, resource: Resource, holder: SessionMode)
-        requires some { 1 ≤ holder.session }
-        requires kept { AreKeptCells self.old.entries }
-        requires place { IsPlace resource self.old.entries (Some place) }
-        requires room { HasRoomAt self.old.entries place 1 }
-        ensures granted { ViewBecame resource (view_with_holder holder) self.old.entries self.new.entries }
-        ensures place { IsPlace resource self.new.entries (Some place) }
-        ensures room { (n : ℕ) → HasRoomAt self.old.entries place (n + 1) → HasRoomAt self.new.entries place n }
-    {
-        same_path_is_equality();
-        // Called for its contract: no key is in the set twice.
-        let _len = self.resources.len();
-        let cell = &mut self.cells[place];
-        cell.grant(holder);
     }
 }

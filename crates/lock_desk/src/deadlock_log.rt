@@ -11,7 +11,7 @@ ghost use Rattle.lock_rules.specs.Sound.{IsSound};
 ghost use Rattle.lock_desk.specs.Deadlocks.{IsMember, IsCycleTold, IsDeadlockTold, moments_at};
 ghost use Rattle.lock_desk.specs.declared.deadlock_log.Deadlock.{Deadlock as DeadlockValue};
 ghost use Rattle.lock_desk.specs.declared.deadlock_log.Member.{Member as MemberValue};
-ghost use Rattle.lock_desk.specs.inner.Changes.{IsWhole};
+ghost use Rattle.lock_desk.specs.inner.Changes.{IsWhole, MayServe};
 ghost use Rattle.lock_desk.specs.inner.Ready.{IsReadyTable};
 ghost use Rattle.lock_desk.specs.inner.Shows.{Shows};
 ghost use Rattle.lock_desk.specs.inner.Counting.{no_waits, with_victim, with_abort, with_restart};
@@ -233,11 +233,8 @@ impl DeadlockLog {
     /// Notes the deadlock of `session`, whose call has the place `place`, before `victim` is doomed: counts it, and keeps it in the place
     /// of the oldest one if there are more than are kept. `victim` must be on a cycle.
     pub(crate) fn note(&mut self, table: &LockTable, place: u64, session: u16, victim: u16)
-        requires whole { IsWhole table.now }
-        requires ready { IsReadyTable table.now }
+        requires may_serve { MayServe victim table.now }
         requires log { IsLogFor (vec_len table.now.lockers) self.old }
-        requires some { 1 ≤ victim }
-        requires within { victim ≤ vec_len table.now.lockers }
         requires cycle { Reaches (pairs_of table.now.waits.rows) (victim - 1) (victim - 1) }
         ensures log { IsLogFor (vec_len table.now.lockers) self.new }
         ensures noted { (st : State) → IsSound st.table → Shows table.now st → victim_of st session ≡ victim
@@ -251,11 +248,8 @@ impl DeadlockLog {
     /// there are more than are kept. `victim` must be on a cycle.
     #[inline(never)]
     fn keep(&mut self, table: &LockTable, place: u64, session: u16, victim: u16)
-        requires whole { IsWhole table.now }
-        requires ready { IsReadyTable table.now }
+        requires may_serve { MayServe victim table.now }
         requires log { IsLogFor (vec_len table.now.lockers) self.old }
-        requires some { 1 ≤ victim }
-        requires within { victim ≤ vec_len table.now.lockers }
         requires cycle { Reaches (pairs_of table.now.waits.rows) (victim - 1) (victim - 1) }
         ensures log { IsLogFor (vec_len table.now.lockers) self.new }
         ensures told { (st : State) → IsSound st.table → Shows table.now st → victim_of st session ≡ victim

@@ -1,6 +1,6 @@
 //! The lock table: all cells, all lockers and the waits-for graph, and the operations that change them together.
 
-ghost use Rattle.std.specs.Prelude.{◌≡◌, ◌≢◌, ◌↔◌, ℕ, ◌+◌, ◌-◌, ◌<◌, ◌≤◌, ◌&&◌, nat_le, List, None, is_some, if◌then◌else◌, map, length, Contains, slice_index, true, IfOk, OnOk, OnErr, vec_len};
+ghost use Rattle.std.specs.Prelude.{◌≡◌, ◌≢◌, ◌↔◌, ℕ, ◌+◌, ◌-◌, ◌<◌, ◌≤◌, ◌&&◌, nat_le, None, is_some, if◌then◌else◌, map, length, Contains, slice_index, true, IfOk, OnOk, OnErr, vec_len};
 ghost use Rattle.waits_for.specs.Pairs.{pairs_of};
 ghost use Rattle.lock_rules.specs.declared.calls.Reply.TheVariants.{Waiting, Deadlock};
 ghost use Rattle.lock_rules.specs.State.{empty, doomed_in};
@@ -9,7 +9,7 @@ ghost use Rattle.lock_desk.specs.inner.Cells.{IsPlace};
 ghost use Rattle.lock_desk.specs.declared.cells.GivenUp.TheVariants as claim;
 ghost use Rattle.session_locks.specs.LockLists.{has_child};
 ghost use Rattle.lock_desk.specs.inner.Lockers.{standing_of};
-ghost use Rattle.lock_desk.specs.inner.Changes.{view_at, standing, with_ended_count, IsWhole, DoesKeep, mode_held, CanRelease, HasFreed, HasGivenBack, HasGivenBackAll, HasCancelled, HasBegun, HasEnded, HasNotedEnded};
+ghost use Rattle.lock_desk.specs.inner.Changes.{view_at, standing, with_ended_count, IsWhole, DoesKeep, MayServe, IsSession, mode_held, CanRelease, HasFreed, HasGivenBack, HasGivenBackAll, HasCancelled, HasBegun, HasEnded, HasNotedEnded};
 ghost use Rattle.session_sets.specs.Ended.{is_ended};
 ghost use Rattle.lock_desk.specs.inner.Ended.{waits_at};
 ghost use Rattle.lock_desk.specs.inner.Ready.{IsReadyTable};
@@ -111,8 +111,7 @@ impl LockTable {
 
     /// The locker of `session`.
     pub(crate) fn locker(&self, session: u16) -> &Locker
-        requires some { 1 ≤ session }
-        requires within { session ≤ vec_len self.now.lockers }
+        requires session { IsSession session self.now }
         ensures { standing_of result.now ≡ standing session self.now }
     {
         &self.lockers[position_of(session)]
@@ -150,8 +149,7 @@ impl LockTable {
         resource: Resource,
         parent: Resource,
     ) -> Option<usize>
-        requires some { 1 ≤ session }
-        requires within { session ≤ vec_len self.now.lockers }
+        requires session { IsSession session self.now }
         ensures { IsPlace parent self.now.cells.entries result }
     {
         let locker = &self.lockers[position_of(session)];
@@ -180,8 +178,7 @@ impl LockTable {
 
     /// Whether `session` holds a child of `resource`.
     pub(crate) fn holds_child(&self, session: u16, resource: Resource) -> bool
-        requires some { 1 ≤ session }
-        requires within { session ≤ vec_len self.now.lockers }
+        requires session { IsSession session self.now }
         ensures { result ≡ has_child resource (standing session self.now).held }
     {
         let locker = &self.lockers[position_of(session)];
@@ -192,10 +189,7 @@ impl LockTable {
     ///
     /// `place` is the place of the cell. The session must hold the lock, hold no child of `resource`, and not wait.
     fn release(&mut self, session: u16, place: Option<usize>, resource: Resource)
-        requires some { 1 ≤ session }
-        requires within { session ≤ vec_len self.old.lockers }
-        requires whole { IsWhole self.old }
-        requires ready { IsReadyTable self.old }
+        requires may_serve { MayServe session self.old }
         requires place { IsPlace resource self.old.cells.entries place }
         requires can { CanRelease session resource self.old }
         ensures freed { HasFreed claim.Lock session resource self.old self.new }
@@ -218,10 +212,7 @@ impl LockTable {
     /// Releases the last lock in the session's list, and promotes the queue of its resource. The session must hold a
     /// lock and not wait.
     fn give_back(&mut self, session: u16)
-        requires some { 1 ≤ session }
-        requires within { session ≤ vec_len self.old.lockers }
-        requires whole { IsWhole self.old }
-        requires ready { IsReadyTable self.old }
+        requires may_serve { MayServe session self.old }
         requires idle { (standing session self.old).wanted ≡ None }
         requires holds { 0 < length (standing session self.old).held }
         ensures back { HasGivenBack session self.old self.new }
@@ -246,10 +237,7 @@ impl LockTable {
     /// Releases all locks of `session`, the last one first, and returns how many they were. The session must not
     /// wait.
     fn give_back_all(&mut self, session: u16) -> usize
-        requires some { 1 ≤ session }
-        requires within { session ≤ vec_len self.old.lockers }
-        requires whole { IsWhole self.old }
-        requires ready { IsReadyTable self.old }
+        requires may_serve { MayServe session self.old }
         requires idle { (standing session self.old).wanted ≡ None }
         ensures locks { result ≡ length (standing session self.old).held }
         ensures none { length (standing session self.new).held ≡ 0 }
@@ -267,10 +255,7 @@ impl LockTable {
 
     /// Begins a transaction of `session`, and returns its number, which is the next one.
     fn begin(&mut self, session: u16) -> u64
-        requires some { 1 ≤ session }
-        requires within { session ≤ vec_len self.old.lockers }
-        requires whole { IsWhole self.old }
-        requires ready { IsReadyTable self.old }
+        requires may_serve { MayServe session self.old }
         requires room { self.old.count < 18446744073709551615 }
         ensures number { result ≡ self.old.count + 1 }
         ensures begun { HasBegun session self.old self.new }
@@ -287,10 +272,7 @@ impl LockTable {
     /// Removes the request of `session`, if it waits, and promotes the queue that the request was in. Returns whether it
     /// waited.
     fn cancel(&mut self, session: u16) -> bool
-        requires some { 1 ≤ session }
-        requires within { session ≤ vec_len self.old.lockers }
-        requires whole { IsWhole self.old }
-        requires ready { IsReadyTable self.old }
+        requires may_serve { MayServe session self.old }
         ensures waited { result ≡ waits_at session self.old.lockers.items }
         ensures cancelled { HasCancelled session self.old self.new }
         ensures waits_ended { HasNotedEnded session self.old self.new }
@@ -316,10 +298,7 @@ impl LockTable {
     /// Ends the transaction of `session`, releases all its locks, and returns how many they were. The session must
     /// not wait.
     fn end(&mut self, session: u16) -> usize
-        requires some { 1 ≤ session }
-        requires within { session ≤ vec_len self.old.lockers }
-        requires whole { IsWhole self.old }
-        requires ready { IsReadyTable self.old }
+        requires may_serve { MayServe session self.old }
         requires idle { (standing session self.old).wanted ≡ None }
         ensures locks { result ≡ length (standing session self.old).held }
         ensures few { result ≤ MAX_LOCKS }
@@ -337,10 +316,7 @@ impl LockTable {
     /// Aborts the transaction of `session`: removes its waiting request, releases all its locks, and returns how
     /// many they were.
     fn abort(&mut self, session: u16) -> usize
-        requires some { 1 ≤ session }
-        requires within { session ≤ vec_len self.old.lockers }
-        requires whole { IsWhole self.old }
-        requires ready { IsReadyTable self.old }
+        requires may_serve { MayServe session self.old }
         ensures locks { result ≡ length (standing session self.old).held }
         ensures few { result ≤ MAX_LOCKS }
         ensures ended { HasEnded session self.old self.new }
@@ -354,8 +330,7 @@ impl LockTable {
     /// The reply on the state of the session's transaction: `Deadlock` if it is a victim, `Waiting` if its request
     /// waits, and else `otherwise`.
     fn standing_reply(&self, session: u16, otherwise: Reply) -> Reply
-        requires some { 1 ≤ session }
-        requires within { session ≤ vec_len self.now.lockers }
+        requires session { IsSession session self.now }
         ensures { let x = standing session self.now in result ≡ (if doomed_in x.transaction then Deadlock
             else (if is_some x.wanted then Waiting else otherwise)) }
     {

@@ -7,11 +7,12 @@ ghost use Rattle.std.specs.List.{list_any};
 ghost use Rattle.mode_lanes.specs.Masks.{meets};
 ghost use Rattle.waits_for.specs.Pairs.{pairs_of};
 ghost use Rattle.lock_holders.specs.SessionModes.{has_session, mode_of, pair_of, with_holder, without, codes_among, fits_among, holder_blocks, AreOfSessions};
-ghost use Rattle.lock_holders.specs.inner.Columns.{side_by_side, DoRise, AreBelow, AreNotBelow};
+ghost use Rattle.lock_holders.specs.inner.Columns.{side_by_side};
 ghost use Rattle.lock_holders.specs.Holders.{IsPlaceOf};
 ghost use Rattle.lock_holders.specs.declared.session_mode.SessionMode.{SessionMode as SessionModeValue};
 
 use crate::session_mode::SessionMode;
+use crate::session_rank::rank;
 use lock_modes::Mode;
 use mode_lanes::{any_meets, first_meets, union};
 use session_sets::position_of;
@@ -22,7 +23,7 @@ use std::marker::Model;
 use waits_for::Rows;
 
 /// Columns of up to this length are read and shifted one by one, without a call.
-const SHORT: usize = 8;
+pub(crate) const SHORT: usize = 8;
 
 /// Columns longer than this, which is a vector's worth, are searched for a conflict in one pass.
 const CHUNK: usize = 16;
@@ -94,56 +95,6 @@ fn others_conflict(codes: &[u8], own: usize, mask: u8) -> bool
         Some(at) if at == own => conflicts(&codes[own + 1..], mask),
         Some(_) => true,
         None => false,
-    }
-}
-
-/// The number of sessions below `session`, found one by one. `sessions` increases.
-fn rank_among_few(sessions: &[u16], session: u16) -> usize
-    requires rising { DoRise sessions.now }
-    ensures within { result ≤ length sessions.now }
-    ensures below { AreBelow session result sessions.now }
-    ensures others { AreNotBelow session result sessions.now }
-{
-    for index in 0..sessions.len() {
-        let here = sessions[index];
-        if here >= session {
-            return index;
-        }
-    }
-    sessions.len()
-}
-
-/// The number of sessions below `session`, found by binary search. `sessions` increases.
-fn rank_among_many(sessions: &[u16], session: u16) -> usize
-    requires rising { DoRise sessions.now }
-    ensures within { result ≤ length sessions.now }
-    ensures below { AreBelow session result sessions.now }
-    ensures others { AreNotBelow session result sessions.now }
-{
-    let mut low = 0;
-    let mut high = sessions.len();
-    while low < high {
-        let middle = low + (high - low) / 2;
-        if sessions[middle] < session {
-            low = middle + 1;
-        } else {
-            high = middle;
-        }
-    }
-    low
-}
-
-/// The number of sessions below `session`. `sessions` increases.
-fn rank(sessions: &[u16], session: u16) -> usize
-    requires rising { DoRise sessions.now }
-    ensures within { result ≤ length sessions.now }
-    ensures below { AreBelow session result sessions.now }
-    ensures others { AreNotBelow session result sessions.now }
-{
-    if sessions.len() > SHORT {
-        rank_among_many(sessions, session)
-    } else {
-        rank_among_few(sessions, session)
     }
 }
 

@@ -12,6 +12,7 @@
 mod holder_columns;
 mod holders;
 mod session_mode;
+mod session_rank;
 
 pub use holder_columns::HolderPlace;
 pub use holders::Holders;

@@ -1,24 +1,16 @@
 -- The list of ended waits: two sessions exchange their places, and which are listed then.
-use Rattle.std.proofs.Common.{◌≡◌, ◌≢◌, ℕ, zero, suc, ◌+◌, ◌-◌, ◌<◌, ◌≤◌, ◌↔◌, Bool, true, false, cond, not, eqb, leb, ltb, ◌&&◌, ◌||◌, inl, inr, ⊎_elim, List, [], ◌∷◌, ◌++◌, length, get_or, set, take, filter, Contains, refl, sym, ◌∙◌, ap, arith, subst}
-use Rattle.std.specs.List.{range_with_len, list_any}
+use Rattle.std.proofs.Common.{◌≡◌, ◌≢◌, ℕ, zero, suc, ◌+◌, ◌-◌, ◌<◌, ◌≤◌, ◌↔◌, Bool, true, false, cond, not, eqb, leb, ltb, ◌&&◌, ◌||◌, inl, inr, List, [], ◌∷◌, ◌++◌, length, get_or, set, take, Contains, refl, sym, ◌∙◌, ap, arith, subst}
 use Rattle.std.proofs.Math.Bool.{or-false, or-true, and-false, and-true}
-use Rattle.std.proofs.lemmas.Bool.{and_parts, and_from, or_cases, or_left, or_right, cases_Bool, cases_eq, cases_lt}
-use Rattle.std.proofs.lemmas.Bool.Decides.{nat_tests, leb_tells, Decides-eqb, Decides-ltb}
+use Rattle.std.proofs.lemmas.Bool.{and_parts, and_from, cases_Bool, cases_eq, cases_lt, leb-true, le-ltb}
+use Rattle.std.proofs.lemmas.Bool.Decides.{nat_tests, Decides-eqb, Decides-ltb}
 use Rattle.std.proofs.lemmas.List.{get_or-set_same, get_or-set_other, length-set, get_or_default, get_or-take, length-take-le}
-use Rattle.sequential.proofs.Members.{Member, contains-member, member-contains}
-use Rattle.sequential.proofs.Ranges.{true≢false, member-range}
 use Rattle.session_sets.specs.Ended.{EndedView, is_ended, ended_in}
 use Rattle.session_sets.specs.inner.Places.{ArePlaced}
+use Rattle.session_sets.proofs.FilteredNumbers.{no-numbers}
 
 -- tests of numbers
 pub eqb-apart : (a b : ℕ) → a ≢ b → eqb a b ≡ false
 eqb-apart a b n = elim (cases_Bool (eqb a b)) [ inl h ↦ absurd (n ((Decides-eqb a b).0 h)) | inr h ↦ h ]
-
-leb-holds : (a b : ℕ) → leb a b ≡ true → a ≤ b
-leb-holds a b e = elim (leb_tells a b) [ inl p ↦ p.1 | inr p ↦ absurd (true≢false e p.0) ]
-
-ltb-not : (a b : ℕ) → b ≤ a → ltb a b ≡ false
-ltb-not a b le = elim (cases_Bool (ltb a b)) [ inl h ↦ let l = (Decides-ltb a b).0 h in absurd (omega (arith, l, le)) | inr h ↦ h ]
 
 -- an item of a list after two writes, the second of which may overwrite the first
 twice-second : (xs : List ℕ) (i j x y : ℕ) → j < length xs → get_or (set (set xs i x) j y) j 0 ≡ y
@@ -257,12 +249,12 @@ core-added u s x y c from some any e behind one = elim (cases_eq (u - 1) (s - 1)
           let is : y ≡ from = here ∙ ap (λ (b : Bool). cond b from x) ((Decides-eqb x c).1 f) in
           let m : x ≢ from = λ g. n (one g) in
           let far : c ≤ from = grind (arith, nat_tests) in
-          ltb-not y (c + 1) (omega (arith, is, far, m, f)) ∙ sym (ltb-not x c (omega (arith, f)))
+          le-ltb y (c + 1) (omega (arith, is, far, m, f)) ∙ sym (le-ltb x c (omega (arith, f)))
       | inr m ↦
           let is : y ≡ x = here ∙ ap (λ (b : Bool). cond b from x) (eqb-apart x c m) in
           elim (cases_lt x c) [
             | inl l ↦ (Decides-ltb y (c + 1)).1 (omega (arith, is, l)) ∙ sym ((Decides-ltb x c).1 l)
-            | inr l ↦ ltb-not y (c + 1) (omega (arith, is, l, m)) ∙ sym (ltb-not x c l)
+            | inr l ↦ le-ltb y (c + 1) (omega (arith, is, l, m)) ∙ sym (le-ltb x c l)
           ]
     ]
 
@@ -272,7 +264,7 @@ core-removed u s x y c from some any e among one = elim (cases_eq (u - 1) (s - 1
   | inl f ↦
       let is : u ≡ s = omega (arith, f, some, any) in
       let here : y ≡ c - 1 = e ∙ ap (λ (b : Bool). cond b (c - 1) (cond (eqb x (c - 1)) from x)) ((Decides-eqb (u - 1) (s - 1)).1 f) in
-      ltb-not y (c - 1) (omega (arith, here)) ∙ sym (ap (λ (b : Bool). ltb x c && not b) ((Decides-eqb u s).1 is) ∙ and-false (ltb x c))
+      le-ltb y (c - 1) (omega (arith, here)) ∙ sym (ap (λ (b : Bool). ltb x c && not b) ((Decides-eqb u s).1 is) ∙ and-false (ltb x c))
   | inr n ↦
       let apart : eqb u s ≡ false = eqb-apart u s (λ f. n (ap (λ (k : ℕ). k - 1) f)) in
       let here : y ≡ cond (eqb x (c - 1)) from x = e ∙ ap (λ (b : Bool). cond b (c - 1) (cond (eqb x (c - 1)) from x)) (eqb-apart (u - 1) (s - 1) n) in
@@ -289,7 +281,7 @@ core-removed u s x y c from some any e among one = elim (cases_eq (u - 1) (s - 1
           let is : y ≡ x = here ∙ ap (λ (b : Bool). cond b from x) (eqb-apart x (c - 1) m) in
           elim (cases_lt x c) [
             | inl l ↦ (Decides-ltb y (c - 1)).1 (omega (arith, is, l, m)) ∙ sym ((Decides-ltb x c).1 l)
-            | inr l ↦ ltb-not y (c - 1) (omega (arith, is, l)) ∙ sym (ltb-not x c l)
+            | inr l ↦ le-ltb y (c - 1) (omega (arith, is, l)) ∙ sym (le-ltb x c l)
           ]
     ]
 
@@ -309,7 +301,7 @@ module _ (ss ps : List ℕ) (h : ArePlaced ss ps) (s c : ℕ) (some : 1 ≤ s) (
   still-beyond u = ap (λ (n : ℕ). leb 1 u && leb u n) long
 
   within-range : (u : ℕ) → (leb 1 u && leb u (length ps)) ≡ true → (1 ≤ u) × (u ≤ length ps)
-  within-range u e = let p = and_parts (leb 1 u) (leb u (length ps)) e in (leb-holds 1 u p.0, leb-holds u (length ps) p.1)
+  within-range u e = let p = and_parts (leb 1 u) (leb u (length ps)) e in (leb-true 1 u p.0, leb-true u (length ps) p.1)
 
   pub added : j ≡ c → ltb place c ≡ false → (u : ℕ) → is_ended (record { places = qs; count = c + 1 }) u ≡ (is_ended (record { places = ps; count = c }) u || eqb u s)
   added at behind u = ap (λ (b : Bool). b && ltb (get_or qs (u - 1) 0) (c + 1)) (still-beyond u) ∙ go (leb 1 u && leb u (length ps)) refl
@@ -351,8 +343,8 @@ handed ss ps c h few u = (to, back_)
     back_ e =
         let p = and_parts (leb 1 u && leb u (length ps)) (ltb (get_or ps (u - 1) 0) c) e in
         let r = and_parts (leb 1 u) (leb u (length ps)) p.0 in
-        let some = leb-holds 1 u r.0 in
-        let within = leb-holds u (length ps) r.1 in
+        let some = leb-true 1 u r.0 in
+        let within = leb-true u (length ps) r.1 in
         let i = get_or ps (u - 1) 0 in
         let front : i < c = (Decides-ltb i c).0 p.1 in
         let l : i < length ss = omega (arith, front, few, h.long) in
@@ -371,74 +363,13 @@ pub waits_ended-within : (v : EndedView) (u : ℕ) → is_ended v u ≡ true →
 waits_ended-within v u e =
     let p = and_parts (leb 1 u && leb u (length v.places)) (ltb (get_or v.places (u - 1) 0) v.count) e in
     let r = and_parts (leb 1 u) (leb u (length v.places)) p.0 in
-    (leb-holds 1 u r.0, leb-holds u (length v.places) r.1)
-
--- the listed sessions by number
-
--- the numbers from 1 to n that pass a test
-pub among : (p : ℕ → Bool) (n u : ℕ) → Contains (filter p (range_with_len 1 n)) u ↔ ((1 ≤ u) × (u ≤ n) × (p u ≡ true))
-among p n u =
-    let m = member-range p n 1 u in (
-      λ h. let k = m.0 (contains-member u (filter p (range_with_len 1 n)) h) in let l = k.1 in (k.0, omega (arith, l), k.2),
-      λ h. let l = h.1 in member-contains u (filter p (range_with_len 1 n)) (m.1 (h.0, omega (arith, l), h.2)),
-    )
-
--- the test whether a number is in a list
-any-member : (xs : List ℕ) (u : ℕ) → list_any (λ x. eqb x u) xs ≡ true → Member u xs
-any-member [] u h = absurd (cc h)
-any-member (x ∷ xs) u h = ⊎_elim (λ e. inl ((Decides-eqb x u).0 e)) (λ k. inr (any-member xs u k)) (or_cases (eqb x u) (list_any (λ y. eqb y u) xs) h)
-
-member-any : (xs : List ℕ) (u : ℕ) → Member u xs → list_any (λ x. eqb x u) xs ≡ true
-member-any [] u h = absurd h
-member-any (x ∷ xs) u h = ⊎_elim (λ e. or_left (eqb x u) (list_any (λ y. eqb y u) xs) ((Decides-eqb x u).1 e)) (λ k. or_right (eqb x u) (list_any (λ y. eqb y u) xs) (member-any xs u k)) h
-
-pub any-contains : (xs : List ℕ) (u : ℕ) → (list_any (λ x. eqb x u) xs ≡ true) ↔ Contains xs u
-any-contains xs u = (λ h. member-contains u xs (any-member xs u h), λ h. member-any xs u (contains-member u xs h))
-
--- a number of the range is in the list of those that pass a test if it passes
-pub any-among : (p : ℕ → Bool) (n u : ℕ) → 1 ≤ u → u ≤ n → list_any (λ x. eqb x u) (filter p (range_with_len 1 n)) ≡ p u
-any-among p n u some within = go (list_any (λ x. eqb x u) (filter p (range_with_len 1 n))) (p u) refl refl
-  where
-    to : list_any (λ x. eqb x u) (filter p (range_with_len 1 n)) ≡ true → p u ≡ true
-    to h = ((among p n u).0 ((any-contains (filter p (range_with_len 1 n)) u).0 h)).2
-
-    from : p u ≡ true → list_any (λ x. eqb x u) (filter p (range_with_len 1 n)) ≡ true
-    from h = (any-contains (filter p (range_with_len 1 n)) u).1 ((among p n u).1 (some, within, h))
-
-    go : (a b : Bool) → list_any (λ x. eqb x u) (filter p (range_with_len 1 n)) ≡ a → p u ≡ b → a ≡ b
-    go true b f g = sym (sym g ∙ to f)
-    go false true f g = absurd (true≢false (from g) f)
-    go false false f g = refl
-
--- lists of the same numbers come from the same tests
-pub same-tests : (p q : ℕ → Bool) (n : ℕ) → filter p (range_with_len 1 n) ≡ filter q (range_with_len 1 n) → (u : ℕ) → 1 ≤ u → u ≤ n → p u ≡ q u
-same-tests p q n e u some within = go (p u) (q u) refl refl
-  where
-    from : (f g : ℕ → Bool) → filter f (range_with_len 1 n) ≡ filter g (range_with_len 1 n) → f u ≡ true → g u ≡ true
-    from f g same h = ((among g n u).0 (subst (λ (xs : List ℕ). Contains xs u) same ((among f n u).1 (some, within, h)))).2
-
-    go : (a b : Bool) → p u ≡ a → q u ≡ b → a ≡ b
-    go true b f g = sym (sym g ∙ from p q e f)
-    go false true f g = absurd (true≢false (from q p (sym e) g) f)
-    go false false f g = refl
-
--- the same tests give lists of the same numbers
-pub same-numbers : (p q : ℕ → Bool) (a n : ℕ) → ((u : ℕ) → a ≤ u → u < a + n → p u ≡ q u) → filter p (range_with_len a n) ≡ filter q (range_with_len a n)
-same-numbers p q a zero h = refl
-same-numbers p q a (suc n) h =
-    ap (λ (b : Bool). cond b (a ∷ filter p (range_with_len (a + 1) n)) (filter p (range_with_len (a + 1) n))) (h a (omega arith) (omega arith))
-    ∙ ap (λ (xs : List ℕ). cond (q a) (a ∷ xs) xs) (same-numbers p q (a + 1) n (λ u l k. h u (omega (arith, l)) (omega (arith, k))))
-
--- no number passes a test that fails
-pub no-numbers : (p : ℕ → Bool) (a n : ℕ) → ((u : ℕ) → p u ≡ false) → filter p (range_with_len a n) ≡ []
-no-numbers p a zero h = refl
-no-numbers p a (suc n) h = ap (λ (b : Bool). cond b (a ∷ filter p (range_with_len (a + 1) n)) (filter p (range_with_len (a + 1) n))) (h a) ∙ no-numbers p (a + 1) n h
+    (leb-true 1 u r.0, leb-true u (length v.places) r.1)
 
 -- nothing is listed once the list is cleared
 pub none-waits_ended : (v : EndedView) → v.count ≡ 0 → (u : ℕ) → is_ended v u ≡ false
 none-waits_ended v e u =
     ap (λ (c : ℕ). (leb 1 u && leb u (length v.places)) && ltb (get_or v.places (u - 1) 0) c) e
-    ∙ (ap (λ (b : Bool). (leb 1 u && leb u (length v.places)) && b) (ltb-not (get_or v.places (u - 1) 0) 0 (omega arith)) ∙ and-false (leb 1 u && leb u (length v.places)))
+    ∙ (ap (λ (b : Bool). (leb 1 u && leb u (length v.places)) && b) (le-ltb (get_or v.places (u - 1) 0) 0 (omega arith)) ∙ and-false (leb 1 u && leb u (length v.places)))
 
 pub none-in : (v : EndedView) → v.count ≡ 0 → ended_in v ≡ []
 none-in v e = no-numbers (is_ended v) 1 (length v.places) (none-waits_ended v e)

@@ -1,6 +1,6 @@
 -- Internal to this crate, cited by no public contract: the invariant of the lock table, the tests of each call, and how
 -- each operation changes the count of transactions, the standings of the sessions and the views of the resources.
-use Rattle.std.specs.Prelude.{◌≡◌, ℕ, ◌+◌, ◌<◌, Bool, true, false, not, ◌&&◌, ◌==◌, nat_le, if◌then◌else◌, List, [], ◌∷◌, ◌++◌, length, Option, Some, None, is_some, vec_len}
+use Rattle.std.specs.Prelude.{◌≡◌, ℕ, ◌+◌, ◌<◌, ◌≤◌, Bool, true, false, not, ◌&&◌, ◌==◌, nat_le, if◌then◌else◌, List, [], ◌∷◌, ◌++◌, length, Option, Some, None, is_some, vec_len}
 use Rattle.lock_modes.specs.declared.Mode.{Mode}
 use Rattle.lock_modes.specs.Order.{at_or_below, need_of}
 use Rattle.lock_tree.specs.Paths.{same_path, parent_of, has_parent}
@@ -57,6 +57,17 @@ pub record DoesKeep (d e : LockTable) : Type 0 where
   pub whole : IsWhole e
   pub lockers : vec_len e.lockers ≡ vec_len d.lockers
   pub ready : IsReadyTable e
+
+-- session `s` has a locker
+pub record IsSession (s : ℕ) (d : LockTable) : Type 0 where
+  pub some : 1 ≤ s
+  pub within : s ≤ vec_len d.lockers
+
+-- the lock table may serve session `s`: it has a locker for it, the invariant holds, and the waits-for graph is current
+pub record MayServe (s : ℕ) (d : LockTable) : Type 0 where
+  pub session : IsSession s d
+  pub whole : IsWhole d
+  pub ready : IsReadyTable d
 
 -- the mode that session `s` holds on resource `r` itself
 abbrev pub mode_held : LockTable → ℕ → List ℕ → Option Mode

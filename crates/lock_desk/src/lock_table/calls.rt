@@ -8,10 +8,9 @@ ghost use Rattle.lock_rules.specs.Step.{step};
 ghost use Rattle.lock_rules.specs.Sound.{IsNumbered, IsSound};
 ghost use Rattle.lock_desk.specs.Deadlocks.{deadlocks_of, moments_at};
 ghost use Rattle.lock_desk.specs.inner.Cells.{IsPlace};
-ghost use Rattle.lock_desk.specs.inner.Changes.{IsWhole, DoesKeep, IsSameSeen, HasNotedEnded};
+ghost use Rattle.lock_desk.specs.inner.Changes.{DoesKeep, MayServe, IsSameSeen, HasNotedEnded};
 ghost use Rattle.lock_desk.specs.inner.Counting.{with_own_wait};
 ghost use Rattle.lock_desk.specs.inner.Noting.{HasNoted, IsLogFor};
-ghost use Rattle.lock_desk.specs.inner.Ready.{IsReadyTable};
 ghost use Rattle.lock_desk.specs.inner.Shows.{Shows, DoesAnswer};
 
 use crate::deadlock_log::DeadlockLog;
@@ -35,10 +34,7 @@ impl LockTable {
     /// The likely place of the cell of `resource`, which `session` converts: a guess, if there is one. Nothing that
     /// contracts see changes.
     fn likely_converted(&mut self, session: u16, resource: Resource) -> Option<usize>
-        requires some { 1 ≤ session }
-        requires within { session ≤ vec_len self.old.lockers }
-        requires whole { IsWhole self.old }
-        requires ready { IsReadyTable self.old }
+        requires may_serve { MayServe session self.old }
         ensures same { IsSameSeen self.old self.new }
         ensures kept { DoesKeep self.old self.new }
     {
@@ -49,10 +45,7 @@ impl LockTable {
     /// Prepares the locker of `session` for a release: a long list of locks gets an index. Nothing that contracts
     /// see changes.
     fn index(&mut self, session: u16)
-        requires some { 1 ≤ session }
-        requires within { session ≤ vec_len self.old.lockers }
-        requires whole { IsWhole self.old }
-        requires ready { IsReadyTable self.old }
+        requires may_serve { MayServe session self.old }
         ensures same { IsSameSeen self.old self.new }
         ensures kept { DoesKeep self.old self.new }
     {
@@ -62,10 +55,7 @@ impl LockTable {
 
     /// Begins a transaction. Refused if the session has one.
     fn serve_begin(&mut self, session: u16) -> Reply
-        requires some { 1 ≤ session }
-        requires within { session ≤ vec_len self.old.lockers }
-        requires whole { IsWhole self.old }
-        requires ready { IsReadyTable self.old }
+        requires may_serve { MayServe session self.old }
         requires room { self.old.count < 18446744073709551615 }
         ensures step { (st : State) → IsSound st.table → IsNumbered st → Shows self.old st
             → DoesAnswer (step st session Begin) self.new result }
@@ -89,10 +79,7 @@ impl LockTable {
         served: u64,
         log: &mut DeadlockLog,
     ) -> Result<Reply, AllocError>
-        requires some { 1 ≤ session }
-        requires within { session ≤ vec_len self.old.lockers }
-        requires whole { IsWhole self.old }
-        requires ready { IsReadyTable self.old }
+        requires may_serve { MayServe session self.old }
         requires log { IsLogFor (vec_len self.old.lockers) log.old }
         ensures step { (st : State) → IsSound st.table → IsNumbered st → Shows self.old st
             → IfOk result (DoesAnswer (step st session (Lock resource mode)) self.new) }
@@ -126,10 +113,7 @@ impl LockTable {
         served: u64,
         log: &mut DeadlockLog,
     ) -> Result<Reply, AllocError>
-        requires some { 1 ≤ session }
-        requires within { session ≤ vec_len self.old.lockers }
-        requires whole { IsWhole self.old }
-        requires ready { IsReadyTable self.old }
+        requires may_serve { MayServe session self.old }
         requires log { IsLogFor (vec_len self.old.lockers) log.old }
         ensures step { (st : State) → IsSound st.table → IsNumbered st → Shows self.old st
             → IfOk result (DoesAnswer (step st session (Convert resource mode)) self.new) }
@@ -168,10 +152,7 @@ impl LockTable {
         served: u64,
         log: &mut DeadlockLog,
     ) -> Result<Reply, AllocError>
-        requires some { 1 ≤ session }
-        requires within { session ≤ vec_len self.old.lockers }
-        requires whole { IsWhole self.old }
-        requires ready { IsReadyTable self.old }
+        requires may_serve { MayServe session self.old }
         requires log { IsLogFor (vec_len self.old.lockers) log.old }
         ensures step { (st : State) → IsSound st.table → IsNumbered st → Shows self.old st
             → IfOk result (DoesAnswer (step st session (Try resource mode)) self.new) }
@@ -197,10 +178,7 @@ impl LockTable {
 
     /// Takes the session's waiting request back.
     fn serve_withdraw(&mut self, session: u16) -> Reply
-        requires some { 1 ≤ session }
-        requires within { session ≤ vec_len self.old.lockers }
-        requires whole { IsWhole self.old }
-        requires ready { IsReadyTable self.old }
+        requires may_serve { MayServe session self.old }
         ensures step { (st : State) → IsSound st.table → IsNumbered st → Shows self.old st
             → DoesAnswer (step st session Withdraw) self.new result }
         ensures waits_ended { HasNotedEnded session self.old self.new }
@@ -216,10 +194,7 @@ impl LockTable {
 
     /// Reports whether the session's transaction waits or is a deadlock's victim.
     fn serve_poll(&mut self, session: u16) -> Reply
-        requires some { 1 ≤ session }
-        requires within { session ≤ vec_len self.old.lockers }
-        requires whole { IsWhole self.old }
-        requires ready { IsReadyTable self.old }
+        requires may_serve { MayServe session self.old }
         ensures step { (st : State) → IsSound st.table → IsNumbered st → Shows self.old st
             → DoesAnswer (step st session Poll) self.new result }
         ensures waits_ended { HasNotedEnded session self.old self.new }
@@ -234,10 +209,7 @@ impl LockTable {
 
     /// Releases a lock before the end of the transaction.
     fn serve_release(&mut self, session: u16, resource: Resource) -> Reply
-        requires some { 1 ≤ session }
-        requires within { session ≤ vec_len self.old.lockers }
-        requires whole { IsWhole self.old }
-        requires ready { IsReadyTable self.old }
+        requires may_serve { MayServe session self.old }
         ensures step { (st : State) → IsSound st.table → IsNumbered st → Shows self.old st
             → DoesAnswer (step st session (Release resource)) self.new result }
         ensures waits_ended { HasNotedEnded session self.old self.new }
@@ -258,10 +230,7 @@ impl LockTable {
 
     /// Commits the transaction, and replies how many locks it held.
     fn serve_commit(&mut self, session: u16) -> Reply
-        requires some { 1 ≤ session }
-        requires within { session ≤ vec_len self.old.lockers }
-        requires whole { IsWhole self.old }
-        requires ready { IsReadyTable self.old }
+        requires may_serve { MayServe session self.old }
         ensures step { (st : State) → IsSound st.table → IsNumbered st → Shows self.old st
             → DoesAnswer (step st session Commit) self.new result }
         ensures waits_ended { HasNotedEnded session self.old self.new }
@@ -276,10 +245,7 @@ impl LockTable {
 
     /// Aborts the transaction, and replies how many locks it held.
     fn serve_abort(&mut self, session: u16) -> Reply
-        requires some { 1 ≤ session }
-        requires within { session ≤ vec_len self.old.lockers }
-        requires whole { IsWhole self.old }
-        requires ready { IsReadyTable self.old }
+        requires may_serve { MayServe session self.old }
         ensures step { (st : State) → IsSound st.table → IsNumbered st → Shows self.old st
             → DoesAnswer (step st session Abort) self.new result }
         ensures waits_ended { HasNotedEnded session self.old self.new }
@@ -294,10 +260,7 @@ impl LockTable {
 
     /// Restarts the transaction, and replies how many locks it held.
     fn serve_restart(&mut self, session: u16) -> Reply
-        requires some { 1 ≤ session }
-        requires within { session ≤ vec_len self.old.lockers }
-        requires whole { IsWhole self.old }
-        requires ready { IsReadyTable self.old }
+        requires may_serve { MayServe session self.old }
         ensures step { (st : State) → IsSound st.table → IsNumbered st → Shows self.old st
             → DoesAnswer (step st session Restart) self.new result }
         ensures waits_ended { HasNotedEnded session self.old self.new }
@@ -319,10 +282,7 @@ impl LockTable {
         served: u64,
         log: &mut DeadlockLog,
     ) -> Result<Reply, AllocError>
-        requires some { 1 ≤ session }
-        requires within { session ≤ vec_len self.old.lockers }
-        requires whole { IsWhole self.old }
-        requires ready { IsReadyTable self.old }
+        requires may_serve { MayServe session self.old }
         requires log { IsLogFor (vec_len self.old.lockers) log.old }
         requires room { self.old.count < 18446744073709551615 }
         ensures step { (st : State) → IsSound st.table → IsNumbered st → Shows self.old st
@@ -331,9 +291,7 @@ impl LockTable {
         ensures ended_kept { OnErr result (self.new.ended ≡ self.old.ended) }
         ensures waits_ended { HasNotedEnded session self.old self.new }
         ensures count { self.new.count ≤ self.old.count + 1 }
-        ensures whole { IsWhole self.new }
-        ensures ready { IsReadyTable self.new }
-        ensures len { vec_len self.new.lockers ≡ vec_len self.old.lockers }
+        ensures kept { DoesKeep self.old self.new }
         ensures log { IsLogFor (vec_len self.old.lockers) log.new }
         ensures noted { (st : State) → IsSound st.table → IsNumbered st → Shows self.old st
             → IfOk result (λ _. HasNoted (moments_at served session (deadlocks_of st session call))

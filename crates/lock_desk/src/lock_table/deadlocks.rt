@@ -1,13 +1,12 @@
 //! Deadlocks: dooms a victim on each cycle of the waits-for graph, and lists the sessions whose wait that ends.
 
-ghost use Rattle.std.specs.Prelude.{◌≡◌, ◌+◌, ◌≤◌, vec_len};
+ghost use Rattle.std.specs.Prelude.{◌≡◌, ◌+◌, vec_len};
 ghost use Rattle.lock_rules.specs.State.{State};
 ghost use Rattle.lock_rules.specs.Waits.{after_victims};
 ghost use Rattle.lock_rules.specs.Sound.{IsNumbered, IsSound};
 ghost use Rattle.lock_desk.specs.Deadlocks.{deadlocked_states, moments_at};
-ghost use Rattle.lock_desk.specs.inner.Changes.{IsWhole, DoesKeep, HasCancelled, HasDoomed, HasNotedEnded};
+ghost use Rattle.lock_desk.specs.inner.Changes.{DoesKeep, MayServe, HasCancelled, HasDoomed, HasNotedEnded};
 ghost use Rattle.lock_desk.specs.inner.Noting.{HasNoted, IsLogFor};
-ghost use Rattle.lock_desk.specs.inner.Ready.{IsReadyTable};
 ghost use Rattle.lock_desk.specs.inner.Shows.{Shows};
 
 use crate::deadlock_log::DeadlockLog;
@@ -18,10 +17,7 @@ use session_sets::position_of;
 impl LockTable {
     /// Ends the wait of `session`, if it waits, by the call of another: removes its request, and lists the session.
     fn end_wait(&mut self, session: u16)
-        requires some { 1 ≤ session }
-        requires within { session ≤ vec_len self.old.lockers }
-        requires whole { IsWhole self.old }
-        requires ready { IsReadyTable self.old }
+        requires may_serve { MayServe session self.old }
         ensures cancelled { HasCancelled session self.old self.new }
         ensures waits_ended { HasNotedEnded 0 self.old self.new }
         ensures kept { DoesKeep self.old self.new }
@@ -34,10 +30,7 @@ impl LockTable {
     /// Makes the transaction of `session` a deadlock's victim: removes its waiting request, lists it among the ended
     /// waits, and marks it doomed. It keeps its locks.
     fn doom(&mut self, session: u16)
-        requires some { 1 ≤ session }
-        requires within { session ≤ vec_len self.old.lockers }
-        requires whole { IsWhole self.old }
-        requires ready { IsReadyTable self.old }
+        requires may_serve { MayServe session self.old }
         ensures doomed { HasDoomed session self.old self.new }
         ensures waits_ended { HasNotedEnded 0 self.old self.new }
         ensures kept { DoesKeep self.old self.new }
@@ -53,17 +46,12 @@ impl LockTable {
     /// any more, so there are at most as many victims as sessions, and the last round finds no cycle. Notes the deadlock of
     /// each victim in `log`; `place` is the place of the call in the history.
     fn resolve_deadlocks(&mut self, session: u16, place: u64, log: &mut DeadlockLog)
-        requires some { 1 ≤ session }
-        requires within { session ≤ vec_len self.old.lockers }
-        requires whole { IsWhole self.old }
-        requires ready { IsReadyTable self.old }
+        requires may_serve { MayServe session self.old }
         requires log { IsLogFor (vec_len self.old.lockers) log.old }
         ensures settled { (st : State) → IsSound st.table → IsNumbered st → Shows self.old st
             → Shows self.new (after_victims (vec_len self.old.lockers + 1) session st) }
-        ensures whole { IsWhole self.new }
-        ensures ready { IsReadyTable self.new }
         ensures count { self.new.count ≡ self.old.count }
-        ensures len { vec_len self.new.lockers ≡ vec_len self.old.lockers }
+        ensures kept { DoesKeep self.old self.new }
         ensures waits_ended { HasNotedEnded 0 self.old self.new }
         ensures log { IsLogFor (vec_len self.old.lockers) log.new }
         ensures noted { (st : State) → IsSound st.table → IsNumbered st → Shows self.old st
@@ -81,18 +69,13 @@ impl LockTable {
     /// Resolves the deadlocks of `session`, which calls: its own wait isn't noted, if it ends.
     #[inline(never)]
     pub(super) fn resolve_for(&mut self, session: u16, place: u64, log: &mut DeadlockLog)
-        requires some { 1 ≤ session }
-        requires within { session ≤ vec_len self.old.lockers }
-        requires whole { IsWhole self.old }
-        requires ready { IsReadyTable self.old }
+        requires may_serve { MayServe session self.old }
         requires log { IsLogFor (vec_len self.old.lockers) log.old }
         ensures settled { (st : State) → IsSound st.table → IsNumbered st → Shows self.old st
             → Shows self.new (after_victims (vec_len self.old.lockers + 1) session st) }
         ensures waits_ended { HasNotedEnded session self.old self.new }
-        ensures whole { IsWhole self.new }
-        ensures ready { IsReadyTable self.new }
         ensures count { self.new.count ≡ self.old.count }
-        ensures len { vec_len self.new.lockers ≡ vec_len self.old.lockers }
+        ensures kept { DoesKeep self.old self.new }
         ensures log { IsLogFor (vec_len self.old.lockers) log.new }
         ensures noted { (st : State) → IsSound st.table → IsNumbered st → Shows self.old st
             → HasNoted (moments_at place session (deadlocked_states (vec_len self.old.lockers + 1) session st)) log.old log.new }

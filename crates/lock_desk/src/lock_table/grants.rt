@@ -1,10 +1,10 @@
 //! The operations by which a run of locks is granted: look-ups, room for all of them, and each grant.
 
-ghost use Rattle.std.specs.Prelude.{◌≡◌, ℕ, ◌+◌, ◌≤◌, true, None, Some, List, OnOk, slice_set, vec_len};
-ghost use Rattle.lock_desk.specs.inner.Cells.{codes_unless_waited, IsPlace, HasRoomAt};
+ghost use Rattle.std.specs.Prelude.{◌≡◌, ℕ, ◌+◌, true, None, Some, OnOk, slice_set};
+ghost use Rattle.lock_desk.specs.inner.Cells.{IsPlace, HasRoomAt};
 ghost use Rattle.lock_holders.specs.SessionModes.{fits_among, is_nobody};
 ghost use Rattle.lock_desk.specs.inner.Lockers.{standing_after_grant};
-ghost use Rattle.lock_desk.specs.inner.Changes.{view_at, standing, standings, IsWhole, DoesKeep, IsSameSeen, CanLock, HasAsked};
+ghost use Rattle.lock_desk.specs.inner.Changes.{view_at, standing, standings, IsWhole, DoesKeep, MayServe, IsSameSeen, CanLock, HasAsked};
 ghost use Rattle.lock_desk.specs.inner.Ready.{IsReadyTable};
 ghost use Rattle.lock_desk.specs.inner.Runs.{HasLockRoom, KeepsLockRooms};
 
@@ -37,10 +37,7 @@ impl LockTable {
 
     /// Reserves room for one further lock in the list of `session`, which must not wait.
     pub(crate) fn make_room(&mut self, session: u16) -> Result<(), AllocError>
-        requires some { 1 ≤ session }
-        requires within { session ≤ vec_len self.old.lockers }
-        requires whole { IsWhole self.old }
-        requires ready { IsReadyTable self.old }
+        requires may_serve { MayServe session self.old }
         requires idle { (standing session self.old).wanted ≡ None }
         ensures same { IsSameSeen self.old self.new }
         ensures kept { DoesKeep self.old self.new }
@@ -57,10 +54,7 @@ impl LockTable {
     /// The session must not hold `resource`, no request may wait there, `mode` must fit beside the holders, and room
     /// must be reserved in the cell and in the list of the session.
     pub(crate) fn grant(&mut self, session: u16, place: usize, resource: Resource, mode: Mode)
-        requires some { 1 ≤ session }
-        requires within { session ≤ vec_len self.old.lockers }
-        requires whole { IsWhole self.old }
-        requires ready { IsReadyTable self.old }
+        requires may_serve { MayServe session self.old }
         requires place { IsPlace resource self.old.cells.entries (Some place) }
         requires can { CanLock session resource self.old }
         requires quiet { is_nobody (view_at resource self.old).waiting ≡ true }

@@ -3,10 +3,9 @@
 ghost use Rattle.std.specs.Prelude.{◌≡◌, ◌++◌, map, is_some, IfOk, OnOk, OnErr};
 ghost use Rattle.std.specs.Option.{option_copied};
 ghost use Rattle.lock_rules.specs.declared.listing.ClaimKind.TheVariants as kinds;
-ghost use Rattle.lock_holders.specs.SessionModes.{mode_of};
 ghost use Rattle.lock_desk.specs.inner.Cells.{view_of};
-ghost use Rattle.lock_desk.specs.inner.Changes.{view_at, standing};
-ghost use Rattle.lock_desk.specs.inner.Listing.{kind_beside, line, lines_at, lines_in, lines_of, request_at, request_line, standing_in, transaction_shown};
+ghost use Rattle.lock_desk.specs.inner.Changes.{standing};
+ghost use Rattle.lock_desk.specs.inner.Listing.{kind_beside, line, lines_at, lines_of, request_at, request_line, standing_in, transaction_shown};
 
 use crate::cells::Cell;
 use crate::lock_table::LockTable;

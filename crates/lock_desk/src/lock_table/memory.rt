@@ -1,7 +1,7 @@
 //! Room that is made beforehand, and memory that is given back.
 
 ghost use Rattle.std.specs.Prelude.{◌≡◌, ◌≤◌, vec_len};
-ghost use Rattle.lock_desk.specs.inner.Changes.{IsSameSeen, IsWhole, DoesKeep};
+ghost use Rattle.lock_desk.specs.inner.Changes.{IsSameSeen, IsWhole, DoesKeep, MayServe};
 ghost use Rattle.lock_desk.specs.inner.Ready.{IsReadyTable};
 
 use crate::lock_table::LockTable;
@@ -18,10 +18,7 @@ impl LockTable {
 
     /// Gives back the memory of the list of locks of `session`, if it holds none and doesn't wait.
     fn shrink_locker(&mut self, session: u16)
-        requires some { 1 ≤ session }
-        requires within { session ≤ vec_len self.old.lockers }
-        requires whole { IsWhole self.old }
-        requires ready { IsReadyTable self.old }
+        requires may_serve { MayServe session self.old }
         ensures same { IsSameSeen self.old self.new }
         ensures kept { DoesKeep self.old self.new }
     {

@@ -1,10 +1,10 @@
 //! The tests of each call, in their order: the first that fails gives the refusal.
 
-ghost use Rattle.std.specs.Prelude.{◌≡◌, ◌≤◌, vec_len};
+ghost use Rattle.std.specs.Prelude.{◌≡◌};
 ghost use Rattle.lock_rules.specs.declared.calls.Call.TheVariants.{Withdraw};
 ghost use Rattle.lock_rules.specs.Step.{is_nothing, target_of, first_failing};
 ghost use Rattle.lock_desk.specs.inner.Cells.{IsPlace};
-ghost use Rattle.lock_desk.specs.inner.Changes.{mode_held, lacks_need, would_wait, open_tests, idle_tests, standing_tests, lock_tests, try_tests, convert_tests, release_tests, IsWhole};
+ghost use Rattle.lock_desk.specs.inner.Changes.{mode_held, lacks_need, would_wait, open_tests, idle_tests, standing_tests, lock_tests, try_tests, convert_tests, release_tests, IsWhole, IsSession};
 
 use crate::lock_table::LockTable;
 use lock_holders::SessionMode;
@@ -16,8 +16,7 @@ impl LockTable {
     /// Whether `resource` has a parent that `session` does not hold in a mode that covers the need of `mode`.
     #[inline(always)]
     fn lacks_parent(&self, session: u16, resource: Resource, mode: Mode) -> bool
-        requires some { 1 ≤ session }
-        requires within { session ≤ vec_len self.now.lockers }
+        requires session { IsSession session self.now }
         ensures { result ≡ lacks_need self.now session resource mode }
     {
         let Some(parent) = resource.parent() else {
@@ -33,8 +32,7 @@ impl LockTable {
 
     /// The refusal of a session without a transaction.
     pub(crate) fn open_refusal(&self, session: u16) -> Option<Why>
-        requires some { 1 ≤ session }
-        requires within { session ≤ vec_len self.now.lockers }
+        requires session { IsSession session self.now }
         ensures { result ≡ first_failing (open_tests self.now session) }
     {
         if !self.locker(session).is_open() {
@@ -45,8 +43,7 @@ impl LockTable {
 
     /// The refusal of a session that has no transaction, waits, or is doomed.
     pub(crate) fn idle_refusal(&self, session: u16) -> Option<Why>
-        requires some { 1 ≤ session }
-        requires within { session ≤ vec_len self.now.lockers }
+        requires session { IsSession session self.now }
         ensures { result ≡ first_failing (idle_tests self.now session) }
     {
         if let Some(why) = self.open_refusal(session) {
@@ -71,8 +68,7 @@ impl LockTable {
         resource: Resource,
         mode: Mode,
     ) -> Option<Why>
-        requires some { 1 ≤ session }
-        requires within { session ≤ vec_len self.now.lockers }
+        requires session { IsSession session self.now }
         requires held { held ≡ mode_held self.now session resource }
         ensures { result ≡ first_failing (lock_tests self.now session resource mode) }
     {
@@ -123,8 +119,7 @@ impl LockTable {
         resource: Resource,
         mode: Mode,
     ) -> Option<Why>
-        requires some { 1 ≤ session }
-        requires within { session ≤ vec_len self.now.lockers }
+        requires session { IsSession session self.now }
         requires place { IsPlace resource self.now.cells.entries place }
         requires held { held ≡ mode_held self.now session resource }
         ensures { result ≡ first_failing (try_tests self.now session resource mode) }
@@ -140,8 +135,7 @@ impl LockTable {
 
     /// The refusal of a withdrawal.
     pub(crate) fn withdraw_refusal(&self, session: u16) -> Option<Why>
-        requires some { 1 ≤ session }
-        requires within { session ≤ vec_len self.now.lockers }
+        requires session { IsSession session self.now }
         ensures { result ≡ first_failing (standing_tests self.now session Withdraw) }
     {
         if let Some(why) = self.open_refusal(session) {
@@ -165,8 +159,7 @@ impl LockTable {
         resource: Resource,
         mode: Mode,
     ) -> Option<Why>
-        requires some { 1 ≤ session }
-        requires within { session ≤ vec_len self.now.lockers }
+        requires session { IsSession session self.now }
         requires held { held ≡ mode_held self.now session resource }
         ensures { result ≡ first_failing (convert_tests self.now session resource mode) }
     {
@@ -189,8 +182,7 @@ impl LockTable {
         place: Option<usize>,
         resource: Resource,
     ) -> Option<Why>
-        requires some { 1 ≤ session }
-        requires within { session ≤ vec_len self.now.lockers }
+        requires session { IsSession session self.now }
         requires whole { IsWhole self.now }
         requires place { IsPlace resource self.now.cells.entries place }
         ensures { result ≡ first_failing (release_tests self.now session resource) }

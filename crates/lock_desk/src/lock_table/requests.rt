@@ -1,14 +1,13 @@
 //! Requests for a lock or a conversion: granted at once, or queued; a deadlock that the wait closes is resolved.
 
-ghost use Rattle.std.specs.Prelude.{◌≡◌, ◌≤◌, true, false, if◌then◌else◌, IfOk, OnErr, vec_len};
+ghost use Rattle.std.specs.Prelude.{◌≡◌, true, false, IfOk, OnErr, vec_len};
 ghost use Rattle.lock_rules.specs.State.{State, held_mode};
 ghost use Rattle.lock_rules.specs.Step.{target_of, is_held, ask};
 ghost use Rattle.lock_rules.specs.Sound.{IsNumbered, IsSound};
 ghost use Rattle.lock_desk.specs.Deadlocks.{deadlocks_of_request, moments_at};
 ghost use Rattle.lock_desk.specs.inner.Cells.{is_granted, IsPlace};
-ghost use Rattle.lock_desk.specs.inner.Changes.{IsWhole, DoesKeep, mode_held, IsSameSeen, CanAsk, MayAsk, CanLock, CanConvert, HasAsked, HasNotedEnded};
+ghost use Rattle.lock_desk.specs.inner.Changes.{DoesKeep, MayServe, mode_held, IsSameSeen, CanAsk, MayAsk, CanLock, CanConvert, HasAsked, HasNotedEnded};
 ghost use Rattle.lock_desk.specs.inner.Noting.{HasNoted, IsLogFor};
-ghost use Rattle.lock_desk.specs.inner.Ready.{IsReadyTable};
 ghost use Rattle.lock_desk.specs.inner.Shows.{Shows, DoesAnswer};
 
 use crate::cells::RequestStatus;
@@ -34,10 +33,7 @@ impl LockTable {
         resource: Resource,
         mode: Mode,
     ) -> Result<RequestStatus, AllocError>
-        requires some { 1 ≤ session }
-        requires within { session ≤ vec_len self.old.lockers }
-        requires whole { IsWhole self.old }
-        requires ready { IsReadyTable self.old }
+        requires may_serve { MayServe session self.old }
         requires place { IsPlace resource self.old.cells.entries place }
         requires can { CanLock session resource self.old }
         ensures asked { IfOk result (λ status. HasAsked session resource mode (is_granted status) self.old self.new) }
@@ -73,10 +69,7 @@ impl LockTable {
         resource: Resource,
         mode: Mode,
     ) -> Result<RequestStatus, AllocError>
-        requires some { 1 ≤ session }
-        requires within { session ≤ vec_len self.old.lockers }
-        requires whole { IsWhole self.old }
-        requires ready { IsReadyTable self.old }
+        requires may_serve { MayServe session self.old }
         requires place { IsPlace resource self.old.cells.entries place }
         requires can { CanConvert session resource self.old }
         ensures asked { IfOk result (λ status. HasAsked session resource mode (is_granted status) self.old self.new) }
@@ -111,11 +104,8 @@ impl LockTable {
         held: Option<Mode>,
         target: Mode,
     ) -> Result<RequestStatus, AllocError>
-        requires some { 1 ≤ session }
-        requires within { session ≤ vec_len self.old.lockers }
+        requires may_serve { MayServe session self.old }
         requires mode { held ≡ mode_held self.old session resource }
-        requires whole { IsWhole self.old }
-        requires ready { IsReadyTable self.old }
         requires place { IsPlace resource self.old.cells.entries place }
         requires can { CanAsk session resource self.old }
         ensures held { is_held (mode_held self.old session resource) target ≡ true
@@ -148,10 +138,7 @@ impl LockTable {
         served: u64,
         log: &mut DeadlockLog,
     ) -> Result<Reply, AllocError>
-        requires some { 1 ≤ session }
-        requires within { session ≤ vec_len self.old.lockers }
-        requires whole { IsWhole self.old }
-        requires ready { IsReadyTable self.old }
+        requires may_serve { MayServe session self.old }
         requires place { IsPlace resource self.old.cells.entries place }
         requires held { held ≡ mode_held self.old session resource }
         requires may { MayAsk session resource mode self.old }
@@ -162,9 +149,7 @@ impl LockTable {
         ensures err { OnErr result (IsSameSeen self.old self.new) }
         ensures waits_ended { HasNotedEnded session self.old self.new }
         ensures count { self.new.count ≡ self.old.count }
-        ensures whole { IsWhole self.new }
-        ensures ready { IsReadyTable self.new }
-        ensures len { vec_len self.new.lockers ≡ vec_len self.old.lockers }
+        ensures kept { DoesKeep self.old self.new }
         ensures log { IsLogFor (vec_len self.old.lockers) log.new }
         ensures noted { (st : State) → IsSound st.table → IsNumbered st → Shows self.old st
             → let held = held_mode st.table session resource in

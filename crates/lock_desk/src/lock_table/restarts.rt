@@ -1,8 +1,7 @@
 //! Restarts: a transaction gives up all that it has, and begins again with its number.
 
-ghost use Rattle.std.specs.Prelude.{◌≡◌, ◌≤◌, None, length, vec_len};
-ghost use Rattle.lock_desk.specs.inner.Changes.{standing, IsWhole, DoesKeep, HasRestarted, HasNotedEnded};
-ghost use Rattle.lock_desk.specs.inner.Ready.{IsReadyTable};
+ghost use Rattle.std.specs.Prelude.{◌≡◌, ◌≤◌, None, length};
+ghost use Rattle.lock_desk.specs.inner.Changes.{standing, DoesKeep, MayServe, HasRestarted, HasNotedEnded};
 
 use crate::lock_table::LockTable;
 use lock_rules::MAX_LOCKS;
@@ -12,10 +11,7 @@ impl LockTable {
     /// Releases all locks of `session`, begins its transaction again, and returns how many locks they were. The session
     /// must not wait.
     fn begin_again(&mut self, session: u16) -> usize
-        requires some { 1 ≤ session }
-        requires within { session ≤ vec_len self.old.lockers }
-        requires whole { IsWhole self.old }
-        requires ready { IsReadyTable self.old }
+        requires may_serve { MayServe session self.old }
         requires idle { (standing session self.old).wanted ≡ None }
         ensures locks { result ≡ length (standing session self.old).held }
         ensures few { result ≤ MAX_LOCKS }
@@ -32,10 +28,7 @@ impl LockTable {
     /// Restarts the transaction of `session`: removes its waiting request, releases all its locks, begins it again with its
     /// number, and returns how many locks they were.
     pub(super) fn restart(&mut self, session: u16) -> usize
-        requires some { 1 ≤ session }
-        requires within { session ≤ vec_len self.old.lockers }
-        requires whole { IsWhole self.old }
-        requires ready { IsReadyTable self.old }
+        requires may_serve { MayServe session self.old }
         ensures locks { result ≡ length (standing session self.old).held }
         ensures few { result ≤ MAX_LOCKS }
         ensures restarted { HasRestarted session self.old self.new }

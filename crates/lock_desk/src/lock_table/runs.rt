@@ -3,7 +3,7 @@
 //! up once, one test of a mask replaces all comparisons of modes, and memory for all is reserved before the first
 //! grant.
 
-ghost use Rattle.std.specs.Prelude.{◌≡◌, ℕ, ◌+◌, ◌-◌, ◌<◌, ◌≤◌, ◌^◌, true, false, None, Some, List, ◌==◌, if◌then◌else◌, length, IfSome, OnOk, vec_len, vec_capacity, bit_and};
+ghost use Rattle.std.specs.Prelude.{◌≡◌, ℕ, ◌+◌, ◌-◌, ◌<◌, ◌≤◌, ◌^◌, true, false, None, Some, List, if◌then◌else◌, length, IfSome, OnOk, vec_len, bit_and};
 ghost use Rattle.std.specs.List.{All};
 ghost use Rattle.lock_rules.specs.declared.calls.Call.TheVariants.{Lock};
 ghost use Rattle.lock_rules.specs.Entries.{Entry as EntryValue};
@@ -14,7 +14,7 @@ ghost use Rattle.lock_desk.specs.Deadlocks.{deadlocks_in};
 ghost use Rattle.session_sets.specs.Ended.{ended_in};
 ghost use Rattle.lock_desk.specs.declared.wait_counts.WaitCounts.{WaitCounts as WaitCountsValue};
 ghost use Rattle.lock_desk.specs.inner.Counting.{AreCallsCounted, AreWaitsCounted};
-ghost use Rattle.lock_desk.specs.inner.Changes.{mode_held, lacks_need, call_tests, IsWhole, DoesKeep, IsSameSeen};
+ghost use Rattle.lock_desk.specs.inner.Changes.{mode_held, lacks_need, call_tests, IsWhole, DoesKeep, IsSession, IsSameSeen};
 ghost use Rattle.lock_desk.specs.inner.Ready.{IsReadyTable};
 ghost use Rattle.lock_desk.specs.inner.Runs.{HasLockRoom, mode_asked, Each, CanJoin, IsRunTarget, IsRun, IsGranting, AreKept, AreServed};
 
@@ -120,8 +120,7 @@ impl LockTable {
 
     /// Whether `session` does not hold the resource, and no test of a lock in `mode` on it fails.
     fn can_join(&self, session: u16, run_target: &RunTarget, mode: Mode) -> bool
-        requires some { 1 ≤ session }
-        requires within { session ≤ vec_len self.now.lockers }
+        requires session { IsSession session self.now }
         requires run_target { IsRunTarget self.now run_target.now }
         ensures passed { result ≡ true → first_failing (call_tests self.now session (Lock run_target.now.resource mode)) ≡ None }
         ensures fresh { result ≡ true → mode_held self.now session run_target.now.resource ≡ None }

@@ -4,7 +4,8 @@ use Rattle.lock_holders.specs.declared.session_mode.SessionMode.{SessionMode}
 use Rattle.lock_desk.specs.inner.Cells.{view_of}
 use Rattle.lock_holders.specs.SessionModes.{times, has_session}
 use Rattle.lock_desk.specs.inner.Blocking.{has_fitting_beside}
-use Rattle.lock_desk.proofs.NarrowingWaits.{follows-granted, all-behind, emptied-behind, times-behind}
+use Rattle.lock_desk.proofs.GrantedWaits.{follows-granted}
+use Rattle.lock_desk.proofs.QueuedSessions.{all-behind, emptied-behind, times-behind}
 use Rattle.lock_desk.proofs.promotion.dequeue_granted.Goals as goal
 
 pub write_queue_rows-requires-clause-once : goal.write_queue_rows-requires-clause-once

@@ -8,7 +8,7 @@ use Rattle.lock_desk.proofs.ResourceViews.{both, next-passed, next-within, promo
 use Rattle.lock_desk.proofs.Promotions.{grant-some, grant-within, grant-waits_locker, grant-agree, grant-same, grant-waits_ended}
 use Rattle.lock_desk.proofs.EndedWaits.{list-on, list-none}
 use Rattle.lock_desk.proofs.SessionsInRange.{numbered-agree}
-use Rattle.lock_desk.proofs.NarrowingWaits.{with-next}
+use Rattle.lock_desk.proofs.GrantedWaits.{with-next}
 use Rattle.lock_desk.proofs.promotion.promote.Goals as goal
 
 pub admit-shared-requires-clause-rising : goal.admit-shared-requires-clause-rising

@@ -18,7 +18,7 @@ returns-in_err-reply-clause-kept c =
     let k = c.requires.kept in
     let es = c.args.history.now.items in
     let e = c.in_err-reply.ensures in
-    kept-same c.args.table.now c.serve.new.self es c.reserve.new.self.items c.reserve.ensures.items k (e.err (state_of es) k.shows) e.whole e.ready e.len
+    kept-same c.args.table.now c.serve.new.self es c.reserve.new.self.items c.reserve.ensures.items k (e.err (state_of es) k.shows) e.kept.whole e.kept.ready e.kept.lockers
 
 pub returns-clause-kept : goal.returns-clause-kept
 returns-clause-kept c =
@@ -28,7 +28,7 @@ returns-clause-kept c =
     let s = e.step (state_of es) (state-lawful es).sound (state-numbered es) k.shows in
     kept-more c.args.table.now c.serve.new.self es c.push_reserved.new.self.items c.args.session c.args.call c.in_ok-reply.reply
     (c.push_reserved.ensures.items ∙ ap (λ (xs : List Entry). xs ++ record { session = c.args.session; call = c.args.call; reply = c.in_ok-reply.reply } ∷ []) c.in_ok-reserve.ensures.items)
-    k c.requires.some c.requires.within s.0 s.1 e.whole e.ready e.len e.count
+    k c.requires.some c.requires.within s.0 s.1 e.kept.whole e.kept.ready e.kept.lockers e.count
 
 pub returns-clause-reply : goal.returns-clause-reply
 returns-clause-reply c =
@@ -41,7 +41,7 @@ returns-clause-ended c = λ u.
     let es = c.args.history.now.items in
     let e = c.in_ok-reply.ensures in
     let s = e.step (state_of es) (state-lawful es).sound (state-numbered es) k.shows in
-    waits_ended-ends c.args.session c.args.table.now c.serve.new.self (state_of es) (step (state_of es) c.args.session c.args.call).state k.whole e.whole k.shows s.1 c.serve.ensures.waits_ended u
+    waits_ended-ends c.args.session c.args.table.now c.serve.new.self (state_of es) (step (state_of es) c.args.session c.args.call).state k.whole e.kept.whole k.shows s.1 c.serve.ensures.waits_ended u
 
 pub returns-in_err-reply-clause-told : goal.returns-in_err-reply-clause-told
 returns-in_err-reply-clause-told c =
@@ -64,10 +64,10 @@ returns-clause-most c =
     (c.in_ok-reply.ensures.noted (state_of es) (state-lawful es).sound (state-numbered es) c.requires.kept.shows).most
 
 pub returns-clause-log : goal.returns-clause-log
-returns-clause-log c = λ some. c.serve.ensures.log some ∙ sym c.serve.ensures.len
+returns-clause-log c = λ some. c.serve.ensures.log some ∙ sym c.serve.ensures.kept.lockers
 
 pub returns-in_err-reply-clause-log : goal.returns-in_err-reply-clause-log
-returns-in_err-reply-clause-log c = λ some. c.serve.ensures.log some ∙ sym c.serve.ensures.len
+returns-in_err-reply-clause-log c = λ some. c.serve.ensures.log some ∙ sym c.serve.ensures.kept.lockers
 
 pub returns-clause-calls : goal.returns-clause-calls
 returns-clause-calls c =

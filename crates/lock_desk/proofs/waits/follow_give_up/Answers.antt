@@ -5,7 +5,8 @@ use Rattle.lock_modes.specs.declared.Mode.TheVariants.{NL}
 use Rattle.lock_desk.specs.inner.Cells.{view_of, is_request}
 use Rattle.lock_holders.specs.SessionModes.{has_session}
 use Rattle.lock_desk.specs.inner.Blocking.{has_fitting}
-use Rattle.lock_desk.proofs.NarrowingWaits.{follows-lock, follows-request, all-behind}
+use Rattle.lock_desk.proofs.NarrowingWaits.{follows-lock, follows-request}
+use Rattle.lock_desk.proofs.QueuedSessions.{all-behind}
 use Rattle.lock_desk.proofs.waits.follow_give_up.Goals as goal
 
 pub returns-in-Lock : goal.returns-in-Lock

@@ -6,7 +6,7 @@ use Rattle.lock_desk.specs.inner.Cells.{view_of, is_granted}
 use Rattle.lock_holders.specs.SessionModes.{has_session}
 use Rattle.lock_desk.specs.inner.Blocking.{has_fitting, has_conflicting}
 use Rattle.lock_desk.proofs.RowsAfterAsking.{asker-queued, written-ahead, follows-granted_request, follows-waiting}
-use Rattle.lock_desk.proofs.NarrowingWaits.{all-behind}
+use Rattle.lock_desk.proofs.QueuedSessions.{all-behind}
 use Rattle.lock_desk.proofs.waits.update_rows.Goals as goal
 
 pub index_in-index-requires : goal.index_in-index-requires

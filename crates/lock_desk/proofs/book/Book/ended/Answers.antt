@@ -1,7 +1,8 @@
 use Rattle.std.proofs.Common.{ℕ, List, length, Contains, sym, ap, subst}
 use Rattle.lock_desk.specs.BookView.{BookView}
 use Rattle.session_sets.specs.Ended.{is_ended}
-use Rattle.session_sets.proofs.EndedList.{among, waits_ended-within}
+use Rattle.session_sets.proofs.EndedList.{waits_ended-within}
+use Rattle.session_sets.proofs.FilteredNumbers.{among}
 use Rattle.lock_desk.proofs.book.Book.ended.Goals as goal
 
 pub returns-clause-ended : goal.returns-clause-ended

@@ -7,7 +7,8 @@ use Rattle.lock_desk.specs.inner.Blocking.{IsOfSessions, DoFollow}
 use Rattle.lock_desk.proofs.Results.{on-err-from}
 use Rattle.lock_desk.proofs.SessionsInRange.{numbered-asked}
 use Rattle.lock_desk.proofs.CellTable.{kept-at}
-use Rattle.lock_desk.proofs.Places.{apart-in_use, cell-within, resource-within, long-still, idle-still, there, wrote-kept}
+use Rattle.lock_desk.proofs.CellEntries.{apart-in_use}
+use Rattle.lock_desk.proofs.Places.{cell-within, resource-within, long-still, idle-still, there, wrote-kept}
 use Rattle.lock_desk.proofs.cell_table.CellTable.ask.Goals as goal
 
 pub index_mut-cell-requires : goal.index_mut-cell-requires

@@ -5,7 +5,8 @@ use Rattle.lock_tree.specs.Paths.{same_path}
 use Rattle.lock_rules.proofs.Lists.{same_path-true}
 use Rattle.lock_desk.specs.inner.Tables.{in_use}
 use Rattle.lock_desk.specs.inner.Cells.{Table, cell_at, IsCellAt}
-use Rattle.lock_desk.proofs.Places.{apart-in_use, absent, unnamed, found-place}
+use Rattle.lock_desk.proofs.CellEntries.{apart-in_use}
+use Rattle.lock_desk.proofs.Places.{absent, unnamed, found-place}
 use Rattle.lock_desk.proofs.cell_table.CellTable.find_or_insert_key.Goals as goal
 
 pub returns-then-added-clause-place : goal.returns-then-added-clause-place

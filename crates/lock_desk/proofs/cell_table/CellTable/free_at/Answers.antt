@@ -9,7 +9,8 @@ use Rattle.lock_desk.specs.inner.Blocking.{IsOfSessions, AreWritten}
 use Rattle.lock_desk.specs.inner.Lockers.{standings_of, DoAgree}
 use Rattle.lock_desk.proofs.CellTable.{kept-at, idle-view}
 use Rattle.lock_desk.proofs.CellGivesUp.{view-left, view-promoted, once-there, free-kept, free-idle, agree-there}
-use Rattle.lock_desk.proofs.Places.{length-beside, apart-in_use, cell-within, resource-within, long-still, idle-still, there, written-cell, written-entry, wrote}
+use Rattle.lock_desk.proofs.CellEntries.{length-beside, apart-in_use}
+use Rattle.lock_desk.proofs.Places.{cell-within, resource-within, long-still, idle-still, there, written-cell, written-entry, wrote}
 use Rattle.lock_desk.proofs.NarrowingWaits.{still-waits, written-mid, follows-freeing}
 use Rattle.lock_desk.proofs.cell_table.CellTable.free_at.Goals as goal
 

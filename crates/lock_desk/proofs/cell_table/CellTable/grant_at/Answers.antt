@@ -3,7 +3,8 @@ use Rattle.lock_desk.specs.declared.cells.Cell.{Cell}
 use Rattle.lock_desk.specs.inner.Tables.{in_use}
 use Rattle.lock_desk.specs.inner.Cells.{Table, view_in, view_with_holder}
 use Rattle.lock_desk.proofs.CellTable.{kept-at}
-use Rattle.lock_desk.proofs.Places.{apart-in_use, cell-within, resource-within, long-still, idle-still, there, room-there, wrote-kept, still-at, room-written}
+use Rattle.lock_desk.proofs.CellEntries.{apart-in_use}
+use Rattle.lock_desk.proofs.Places.{cell-within, resource-within, long-still, idle-still, there, room-there, wrote-kept, still-at, room-written}
 use Rattle.lock_desk.proofs.cell_table.CellTable.grant_at.Goals as goal
 
 pub index_mut-cell-requires : goal.index_mut-cell-requires

@@ -1,7 +1,8 @@
 use Rattle.std.proofs.Common.{◌∙◌, sym, ap, ◌-◌, length}
 use Rattle.lock_desk.specs.inner.Tables.{in_use}
 use Rattle.lock_desk.specs.inner.Cells.{Table}
-use Rattle.lock_desk.proofs.Places.{length-beside, count-but_one, count-all}
+use Rattle.lock_desk.proofs.CellEntries.{length-beside}
+use Rattle.lock_desk.proofs.Places.{count-but_one, count-all}
 use Rattle.lock_desk.proofs.cell_table.CellTable.len.Goals as goal
 
 pub returns-then-self : goal.returns-then-self

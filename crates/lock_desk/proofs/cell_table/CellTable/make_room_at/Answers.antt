@@ -5,7 +5,8 @@ use Rattle.lock_desk.specs.inner.Cells.{Table, view_in}
 use Rattle.lock_holders.specs.SessionModes.{is_nobody}
 use Rattle.lock_desk.proofs.Results.{to-ok}
 use Rattle.lock_desk.proofs.CellTable.{kept-at}
-use Rattle.lock_desk.proofs.Places.{apart-in_use, cell-within, resource-within, long-still, idle-still, there, wrote-kept, still-at, room-written}
+use Rattle.lock_desk.proofs.CellEntries.{apart-in_use}
+use Rattle.lock_desk.proofs.Places.{cell-within, resource-within, long-still, idle-still, there, wrote-kept, still-at, room-written}
 use Rattle.lock_desk.proofs.cell_table.CellTable.make_room_at.Goals as goal
 
 pub index_mut-cell-requires : goal.index_mut-cell-requires

@@ -1,7 +1,8 @@
 use Rattle.std.proofs.Common.{◌<◌, ◌∙◌, sym, ap, subst, length, arith}
 use Rattle.lock_desk.specs.inner.Tables.{in_use}
 use Rattle.lock_desk.specs.inner.Cells.{Table, IsCellAt}
-use Rattle.lock_desk.proofs.Places.{length-beside, apart-in_use, in_use-at, found-place}
+use Rattle.lock_desk.proofs.CellEntries.{length-beside, apart-in_use}
+use Rattle.lock_desk.proofs.Places.{in_use-at, found-place}
 use Rattle.lock_desk.proofs.cell_table.CellTable.place_near.Goals as goal
 
 pub returns-then-is_at : goal.returns-then-is_at

@@ -1,7 +1,8 @@
 use Rattle.std.proofs.Common.{◌≡◌, ◌<◌, ◌∙◌, sym, ap, subst, length, arith, Some, None}
 use Rattle.lock_desk.specs.inner.Tables.{in_use}
 use Rattle.lock_desk.specs.inner.Cells.{Table, cell_at, IsPlace}
-use Rattle.lock_desk.proofs.Places.{length-beside, apart-in_use, absent, in_use-at, unnamed, named-at, unused-there, found-place}
+use Rattle.lock_desk.proofs.CellEntries.{length-beside, apart-in_use}
+use Rattle.lock_desk.proofs.Places.{absent, in_use-at, unnamed, named-at, unused-there, found-place}
 use Rattle.lock_desk.proofs.cell_table.CellTable.place_of.Goals as goal
 
 pub returns-in-Some : goal.returns-in-Some

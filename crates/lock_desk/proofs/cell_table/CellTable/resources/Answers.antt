@@ -5,7 +5,8 @@ use Rattle.lock_tree.specs.Paths.{same_path}
 use Rattle.lock_desk.specs.inner.Cells.{Table}
 use Rattle.session_locks.specs.Resources.{in_order}
 use Rattle.lock_desk.specs.inner.Tables.{in_use}
-use Rattle.lock_desk.proofs.Places.{length-beside, keys-beside, apart-in_use, in_use-taken}
+use Rattle.lock_desk.proofs.CellEntries.{length-beside, keys-beside, apart-in_use}
+use Rattle.lock_desk.proofs.Places.{in_use-taken}
 use Rattle.lock_desk.proofs.cell_table.CellTable.resources.Goals as goal
 
 pub slice_bounds-from_slice-end : goal.slice_bounds-from_slice-end

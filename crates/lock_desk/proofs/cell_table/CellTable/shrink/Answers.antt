@@ -1,6 +1,6 @@
 use Rattle.std.proofs.Common.{◌∙◌, ap, arith, List, length, take, zip, ℕ, Bool}
 use Rattle.lock_desk.specs.inner.Tables.{in_use}
-use Rattle.lock_desk.proofs.Places.{beside-cut}
+use Rattle.lock_desk.proofs.CellEntries.{beside-cut}
 use Rattle.lock_desk.proofs.cell_table.CellTable.shrink.Goals as goal
 
 pub returns : goal.returns

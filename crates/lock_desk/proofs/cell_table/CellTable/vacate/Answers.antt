@@ -6,7 +6,8 @@ use Rattle.lock_tree.specs.Paths.{same_path}
 use Rattle.lock_desk.specs.declared.cells.Cell.{Cell}
 use Rattle.lock_desk.specs.inner.Tables.{in_use}
 use Rattle.lock_desk.specs.inner.Cells.{Table, cell_at, view_of}
-use Rattle.lock_desk.proofs.Places.{length-beside, apart-in_use, gone-there, idle-swapped, fewer, still}
+use Rattle.lock_desk.proofs.CellEntries.{length-beside, apart-in_use}
+use Rattle.lock_desk.proofs.Places.{gone-there, idle-swapped, fewer, still}
 use Rattle.lock_desk.proofs.cell_table.CellTable.vacate.Goals as goal
 
 pub swap-requires-clause-i_in_bounds : goal.swap-requires-clause-i_in_bounds

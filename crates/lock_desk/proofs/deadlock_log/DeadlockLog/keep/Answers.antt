@@ -33,7 +33,7 @@ refill-requires-clause-room c = λ k d lt.
     let few = cycle-few c.edges.result.now _ c.find.new.self.cycle (c.if-not-find.ensures.cycle refl) in
     let rows = ap (λ r. r.sessions) c.edges.ensures in
     let room = c.self.invariant.room k d lt in
-    omega (arith, few, rows, n, c.requires.ready.long, room, ap length c.cycle.ensures)
+    omega (arith, few, rows, n, c.requires.may_serve.ready.long, room, ap length c.cycle.ensures)
 
 pub invariant_of-self-2 : goal.invariant_of-self-2
 invariant_of-self-2 c =
@@ -54,7 +54,7 @@ returns-clause-told c = λ st i h v.
     let new = c.refill.new.slots in
     let some : 0 < length a.slots.items = omega (arith, not-none _ (sym c.is_empty.ensures ∙ c.if-is_empty.false), a.slots.ok.0) in
     let first = ap (λ (ps : List ℕ). get_or ps 0 0) c.cycle.ensures ∙ (c.if-not-find.ensures.cycle refl).first in
-    let own = v ∙ omega (arith, first, c.position_of.ensures, c.requires.some) in
+    let own = v ∙ omega (arith, first, c.position_of.ensures, c.requires.may_serve.session.some) in
     subst (λ (l : LogView). HasTold (record { place = c.args.place; session = c.args.session; state = st } ∷ []) l (log_view_of (record { slots = new; count = c.one_more-self-inside.result; search = c.find.new.self; counts = a.counts }))) c.self.view_is
     (told-slot a.slots.items new.items a.count c.one_more-self-inside.result a.search.sessions c.find.new.self.sessions a.counts _ slots.0 some c.self.invariant.few slots.1
     (c.one_more-self-inside.ensures ∙ ap (λ (n : ℕ). cond (ltb a.count n) (a.count + 1) a.count) (c.len.ensures ∙ new.ok.0)) (slots.2 st i h own))

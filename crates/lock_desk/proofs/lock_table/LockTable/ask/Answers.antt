@@ -20,7 +20,7 @@ returns-in-Granted-clause-ask c = λ st i j h.
     let s = c.args.session in
     let r = c.args.resource in
     let m = c.target_of-target.result in
-    granted-answer d c.request.new.self st s r c.args.mode m c.requires.whole i h c.requires.may (c.target_of-target.ensures ∙ ap (λ o. target_of o c.args.mode) c.requires.held)
+    granted-answer d c.request.new.self st s r c.args.mode m c.requires.may_serve.whole i h c.requires.may (c.target_of-target.ensures ∙ ap (λ o. target_of o c.args.mode) c.requires.held)
     (λ y. (c.in_ok-request.ensures.held y).1)
     (λ n. subst (λ (b : Bool). HasAsked s r c.target_of-target.result b c.args.self.now c.request.new.self) (ap is_granted c.in-Granted.is) (c.in_ok-request.ensures.asked n))
 
@@ -35,13 +35,13 @@ returns-in-Waiting-clause-ask c = λ st i j h.
       | inl y ↦ absurd (let a = (c.in_ok-request.ensures.held y).0 in let b = ap is_granted c.in-Waiting.is in cc)
       | inr n ↦
           let k = subst (λ (b : Bool). HasAsked c.args.session c.args.resource c.target_of-target.result b c.args.self.now c.request.new.self) (ap is_granted c.in-Waiting.is) (c.in_ok-request.ensures.asked n) in
-          let sound = waits-sound d c.request.new.self st s r c.args.mode m c.requires.whole i h c.requires.may target n k in
-          let first = waits-shown_first d c.request.new.self st s r c.args.mode m c.requires.whole i h c.requires.may target n k in
-          let numbered = waits-numbered d c.request.new.self st s r c.args.mode m c.requires.whole i h c.requires.may target n k j in
-          let long = c.requires.ready.long in
+          let sound = waits-sound d c.request.new.self st s r c.args.mode m c.requires.may_serve.whole i h c.requires.may target n k in
+          let first = waits-shown_first d c.request.new.self st s r c.args.mode m c.requires.may_serve.whole i h c.requires.may target n k in
+          let numbered = waits-numbered d c.request.new.self st s r c.args.mode m c.requires.may_serve.whole i h c.requires.may target n k j in
+          let long = c.requires.may_serve.ready.long in
           let few = few-waits c.request.new.self (first_state st s r m false) c.request.ensures.kept.whole sound first c.args.self.now.waits.rows.sessions (omega (arith, long, c.request.ensures.kept.lockers, c.request.new.self.lockers.ok.0)) in
-          waits-answer d c.request.new.self st s r c.args.mode m c.requires.whole i h c.requires.may target n k (vec_len c.request.new.self.lockers + 1) c.resolve_for.new.self
-          (omega (arith, few, long, c.request.ensures.kept.lockers)) c.resolve_for.ensures.whole (c.resolve_for.ensures.settled (first_state st s r m false) sound numbered first) c.standing_reply.result c.standing_reply.ensures
+          waits-answer d c.request.new.self st s r c.args.mode m c.requires.may_serve.whole i h c.requires.may target n k (vec_len c.request.new.self.lockers + 1) c.resolve_for.new.self
+          (omega (arith, few, long, c.request.ensures.kept.lockers)) c.resolve_for.ensures.kept.whole (c.resolve_for.ensures.settled (first_state st s r m false) sound numbered first) c.standing_reply.result c.standing_reply.ensures
     ]
 
 pub returns-in-Waiting-clause-waits_ended : goal.returns-in-Waiting-clause-waits_ended
@@ -70,10 +70,10 @@ returns-in-Waiting-clause-noted c = λ st i j h.
       | inr n ↦
           let e = c.request.new.self in
           let k = subst (λ (b : Bool). HasAsked s r m b d e) (ap is_granted c.in-Waiting.is) (c.in_ok-request.ensures.asked n) in
-          let sound = waits-sound d e st s r c.args.mode m c.requires.whole i h c.requires.may target n k in
-          let first = waits-shown_first d e st s r c.args.mode m c.requires.whole i h c.requires.may target n k in
-          let numbered = waits-numbered d e st s r c.args.mode m c.requires.whole i h c.requires.may target n k j in
-          let long = c.requires.ready.long in
+          let sound = waits-sound d e st s r c.args.mode m c.requires.may_serve.whole i h c.requires.may target n k in
+          let first = waits-shown_first d e st s r c.args.mode m c.requires.may_serve.whole i h c.requires.may target n k in
+          let numbered = waits-numbered d e st s r c.args.mode m c.requires.may_serve.whole i h c.requires.may target n k j in
+          let long = c.requires.may_serve.ready.long in
           let few = few-waits e (first_state st s r m false) c.request.ensures.kept.whole sound first d.waits.rows.sessions (omega (arith, long, c.request.ensures.kept.lockers, e.lockers.ok.0)) in
           let those = those-if-waits d e st s r c.args.mode m h target n k sound (vec_len e.lockers + 1) (omega (arith, few, long, c.request.ensures.kept.lockers)) in
           subst (λ (sts : List State). HasNoted (moments_at c.args.served s sts) c.args.log.now c.resolve_for.new.log) (sym those)

@@ -4,7 +4,7 @@ use Rattle.lock_desk.specs.declared.lockers.Locker.{Locker}
 use Rattle.lock_desk.specs.declared.lock_table.LockTable.{LockTable}
 use Rattle.lock_rules.specs.Waits.{doom}
 use Rattle.lock_desk.specs.inner.Lockers.{standing_of}
-use Rattle.lock_desk.proofs.Asking.{within}
+use Rattle.lock_desk.proofs.Asking.{session-on, within}
 use Rattle.lock_desk.proofs.BeginAndEnd.{told-whole, transaction-each, has-doomed, changed-each}
 use Rattle.lock_desk.proofs.RowsOfTheTable.{ready-changed, doom-number}
 use Rattle.lock_desk.proofs.EndedWaits.{list-on, list-wanted}
@@ -18,7 +18,7 @@ returns-clause-doomed c =
     let new = c.doom.new.self in
     let is = c.doom.ensures in
     let e : LockTable = record { count = f.count; lockers = with_item f.lockers c.position_of.result new; cells = f.cells; waits = f.waits; ended = f.ended } in
-    let lt = within f s c.position_of.ensures c.requires.some (omega (arith, c.requires.within, c.end_wait.ensures.kept.lockers)) in
+    let lt = within f s c.position_of.ensures (session-on c.end_wait.ensures.kept c.requires.may_serve.session) in
     let at = c.index_mut-locker.ensures.value in
     has-doomed s c.args.self.now f e c.end_wait.ensures.cancelled refl (λ q. refl)
     (changed-each doom f s locker (doom locker.transaction) lt at refl e (transaction-each f s (doom locker.transaction) locker new e c.end_wait.ensures.kept.whole lt at (ap standing_of is) (ap (λ (x : Locker). x.held) is) (ap (λ (x : Locker). x.wanted) is) refl refl))
@@ -32,7 +32,7 @@ returns-clause-kept c =
     let is = c.doom.ensures in
     let e : LockTable = record { count = f.count; lockers = with_item f.lockers c.position_of.result new; cells = f.cells; waits = f.waits; ended = f.ended } in
     let kept = c.end_wait.ensures.kept in
-    let lt = within f s c.position_of.ensures c.requires.some (omega (arith, c.requires.within, kept.lockers)) in
+    let lt = within f s c.position_of.ensures (session-on kept c.requires.may_serve.session) in
     let at = c.index_mut-locker.ensures.value in
     let whole = told-whole f s (doom locker.transaction) locker new e kept.whole lt at (ap standing_of is) (ap (λ (x : Locker). x.held) is) (ap (λ (x : Locker). x.wanted) is) refl refl in
     record {
@@ -47,5 +47,5 @@ returns-clause-waits_ended c =
     let d = c.args.self.now in
     let f = c.end_wait.new.self in
     let s = c.args.session in
-    let here = within f s c.position_of.ensures c.requires.some (omega (arith, c.requires.within, c.end_wait.ensures.kept.lockers)) in
+    let here = within f s c.position_of.ensures (session-on c.end_wait.ensures.kept c.requires.may_serve.session) in
     list-on 0 d.lockers.items f.lockers.items _ d.ended f.ended _ c.end_wait.ensures.waits_ended (list-wanted 0 s f.lockers.items c.index_mut-locker.result.now c.doom.new.self f.ended here c.index_mut-locker.ensures.value (ap (λ (x : Locker). x.wanted) c.doom.ensures))

@@ -3,7 +3,7 @@ use Rattle.std.specs.Vec.{with_item}
 use Rattle.lock_desk.specs.declared.lockers.Locker.{Locker}
 use Rattle.lock_desk.specs.declared.lock_table.LockTable.{LockTable}
 use Rattle.lock_desk.specs.inner.Lockers.{standing_of}
-use Rattle.lock_desk.proofs.Asking.{within}
+use Rattle.lock_desk.proofs.Asking.{session-on, within}
 use Rattle.lock_desk.proofs.BeginAndEnd.{few-at, told-whole, transaction-each, has-given_up}
 use Rattle.lock_desk.proofs.RowsOfTheTable.{ready-numbered}
 use Rattle.lock_desk.proofs.EndedWaits.{list-on, list-own}
@@ -20,10 +20,10 @@ returns-clause-ended c =
     let new = c.end.new.self in
     let is = c.end.ensures in
     let e : LockTable = record { count = f.count; lockers = with_item f.lockers c.position_of.result new; cells = f.cells; waits = c.set_number.new.waits; ended = f.ended } in
-    let lt = within f s c.position_of.ensures c.requires.some (omega (arith, c.requires.within, c.give_back_all-locks.ensures.kept.lockers)) in
+    let lt = within f s c.position_of.ensures (session-on c.give_back_all-locks.ensures.kept c.requires.may_serve.session) in
     let at = c.index_mut-locker.ensures.value in
     let w = c.give_back_all-locks.ensures.kept.whole in
-    has-given_up (λ o. None) s c.args.self.now f e c.requires.whole c.requires.idle c.give_back_all-locks.ensures.back c.give_back_all-locks.ensures.none refl (λ q. refl)
+    has-given_up (λ o. None) s c.args.self.now f e c.requires.may_serve.whole c.requires.idle c.give_back_all-locks.ensures.back c.give_back_all-locks.ensures.none refl (λ q. refl)
     (transaction-each f s None locker new e w lt at (ap standing_of is) (ap (λ (x : Locker). x.held) is) (ap (λ (x : Locker). x.wanted) is) refl refl)
 
 pub returns-clause-kept : goal.returns-clause-kept
@@ -35,7 +35,7 @@ returns-clause-kept c =
     let is = c.end.ensures in
     let e : LockTable = record { count = f.count; lockers = with_item f.lockers c.position_of.result new; cells = f.cells; waits = c.set_number.new.waits; ended = f.ended } in
     let kept = c.give_back_all-locks.ensures.kept in
-    let lt = within f s c.position_of.ensures c.requires.some (omega (arith, c.requires.within, kept.lockers)) in
+    let lt = within f s c.position_of.ensures (session-on kept c.requires.may_serve.session) in
     let at = c.index_mut-locker.ensures.value in
     let number = c.set_number.ensures in
     let whole = told-whole f s None locker new e kept.whole lt at (ap standing_of is) (ap (λ (x : Locker). x.held) is) (ap (λ (x : Locker). x.wanted) is) refl refl in
@@ -50,5 +50,5 @@ pub returns-clause-waits_ended : goal.returns-clause-waits_ended
 returns-clause-waits_ended c =
     let f = c.give_back_all-locks.new.self in
     let s = c.args.session in
-    let here = within f s c.position_of.ensures c.requires.some (omega (arith, c.requires.within, c.give_back_all-locks.ensures.kept.lockers)) in
+    let here = within f s c.position_of.ensures (session-on c.give_back_all-locks.ensures.kept c.requires.may_serve.session) in
     list-on s c.args.self.now.lockers.items f.lockers.items _ c.args.self.now.ended f.ended _ c.give_back_all-locks.ensures.waits_ended (list-own s f.lockers.items c.end.new.self f.ended here.session)

@@ -3,7 +3,7 @@ use Rattle.lock_desk.proofs.EndedWaits.{list-also, list-idle, cancelled-relisted
 use Rattle.lock_desk.proofs.lock_table.LockTable.end_wait.Goals as goal
 
 pub add-requires-clause-within : goal.add-requires-clause-within
-add-requires-clause-within c = omega (arith, c.requires.within, c.if-cancel.ensures.kept.lockers, c.if-cancel.ensures.kept.ready.waits_ended)
+add-requires-clause-within c = omega (arith, c.requires.may_serve.session.within, c.if-cancel.ensures.kept.lockers, c.if-cancel.ensures.kept.ready.waits_ended)
 
 pub returns-then-cancel-clause-cancelled : goal.returns-then-cancel-clause-cancelled
 returns-then-cancel-clause-cancelled c = cancelled-relisted c.args.session c.args.self.now c.cancel.new.self c.add.new.self c.if-cancel.ensures.cancelled

@@ -11,8 +11,8 @@ loop-lock-init c =
     let d = c.args.self.now in
     let long = ap (λ (x : Standing). length x.held) (sym c.locker-locker.ensures) in
     record {
-      back = back-none c.args.session c.args.self.now c.requires.whole c.requires.idle;
-      kept = record { whole = c.requires.whole; lockers = refl; ready = c.requires.ready };
+      back = back-none c.args.session c.args.self.now c.requires.may_serve.whole c.requires.idle;
+      kept = record { whole = c.requires.may_serve.whole; lockers = refl; ready = c.requires.may_serve.ready };
       waits_ended = waits_ended-none c.args.session d;
       left = omega (arith, c.locks-locks.ensures, long);
     }

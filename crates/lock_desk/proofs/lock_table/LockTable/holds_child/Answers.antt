@@ -7,5 +7,5 @@ use Rattle.lock_desk.proofs.lock_table.LockTable.holds_child.Goals as goal
 
 pub returns : goal.returns
 returns c =
-    let w = within c.args.self.now c.args.session c.position_of.ensures c.requires.some c.requires.within in
+    let w = within c.args.self.now c.args.session c.position_of.ensures c.requires.session in
     c.holds_child.ensures ∙ ap (λ (x : Standing). has_child c.args.resource x.held) (sym (standing-here c.args.self.now.lockers.items c.args.session c.index-locker.result.now w c.index-locker.ensures))

@@ -6,12 +6,12 @@ use Rattle.lock_desk.proofs.lock_table.LockTable.make_room.Goals as goal
 
 pub returns-clause-same : goal.returns-clause-same
 returns-clause-same c =
-    room-same c.args.self.now c.args.session c.index_mut-locker.result.now c.make_room.new.self c.requires.whole (within c.args.self.now c.args.session c.position_of.ensures c.requires.some c.requires.within) c.index_mut-locker.ensures.value c.make_room.ensures.standing [] _ refl refl refl (became-same [] c.args.self.now.cells.entries c.requires.whole.cells)
+    room-same c.args.self.now c.args.session c.index_mut-locker.result.now c.make_room.new.self c.requires.may_serve.whole (within c.args.self.now c.args.session c.position_of.ensures c.requires.may_serve.session) c.index_mut-locker.ensures.value c.make_room.ensures.standing [] _ refl refl refl (became-same [] c.args.self.now.cells.entries c.requires.may_serve.whole.cells)
 
 pub returns-clause-kept : goal.returns-clause-kept
 returns-clause-kept c =
     record {
-      whole = room-whole c.args.self.now c.args.session c.index_mut-locker.result.now c.make_room.new.self c.requires.whole (within c.args.self.now c.args.session c.position_of.ensures c.requires.some c.requires.within) c.index_mut-locker.ensures.value c.make_room.ensures.standing [] _ refl refl refl (became-same [] c.args.self.now.cells.entries c.requires.whole.cells);
+      whole = room-whole c.args.self.now c.args.session c.index_mut-locker.result.now c.make_room.new.self c.requires.may_serve.whole (within c.args.self.now c.args.session c.position_of.ensures c.requires.may_serve.session) c.index_mut-locker.ensures.value c.make_room.ensures.standing [] _ refl refl refl (became-same [] c.args.self.now.cells.entries c.requires.may_serve.whole.cells);
       lockers = search rules;
-      ready = ready-same c.args.self.now _ (room-same c.args.self.now c.args.session c.index_mut-locker.result.now c.make_room.new.self c.requires.whole (within c.args.self.now c.args.session c.position_of.ensures c.requires.some c.requires.within) c.index_mut-locker.ensures.value c.make_room.ensures.standing [] _ refl refl refl (became-same [] c.args.self.now.cells.entries c.requires.whole.cells)) (search rules) refl c.requires.ready;
+      ready = ready-same c.args.self.now _ (room-same c.args.self.now c.args.session c.index_mut-locker.result.now c.make_room.new.self c.requires.may_serve.whole (within c.args.self.now c.args.session c.position_of.ensures c.requires.may_serve.session) c.index_mut-locker.ensures.value c.make_room.ensures.standing [] _ refl refl refl (became-same [] c.args.self.now.cells.entries c.requires.may_serve.whole.cells)) (search rules) refl c.requires.may_serve.ready;
     }

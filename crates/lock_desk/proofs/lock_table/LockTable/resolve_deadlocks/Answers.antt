@@ -4,9 +4,9 @@ use Rattle.waits_for.specs.Pairs.{pairs_of}
 use Rattle.waits_for.specs.Walks.{Reaches}
 use Rattle.waits_for.proofs.Walks.{reaches-trans}
 use Rattle.lock_desk.specs.declared.waits.Waits.{Waits}
-use Rattle.lock_desk.specs.inner.Ready.{IsReadyTable}
+use Rattle.lock_desk.proofs.Agreement.{keeps-on}
 use Rattle.lock_desk.proofs.EndedWaits.{waits_ended-on, waits_ended-none}
-use Rattle.lock_desk.proofs.VictimRounds.{rewaited, none-found, found, next-round, last-round}
+use Rattle.lock_desk.proofs.VictimRounds.{keeps-searched, may-serve_searched, rewaited, none-found, found, next-round, last-round}
 use Rattle.lock_desk.proofs.DeadlockRounds.{noted-begun, noted-round, noted-last, noted-end, shown-end}
 use Rattle.lock_desk.proofs.lock_table.LockTable.resolve_deadlocks.Goals as goal
 
@@ -16,7 +16,7 @@ returns-in_default-clause-settled c = λ st i j h.
     let k = c.loop-round.invariant in
     let r = (k.rounds st i j (record { count = h.count; transactions = h.transactions; views = h.views })).round in
     last-round (vec_len c.args.self.now.lockers + 1) c.loop-round._round c.args.session st _ (rewaited (vec_len c.args.self.now.lockers + 1) c.loop-round._round c.args.session st d c.victim.new.waits r)
-    (none-found d k.whole d.waits k.ready.filled r.state r.shows r.sound r.numbered c.args.session c.requires.some c.in_default.ensures.none)
+    (none-found d k.kept.whole d.waits k.kept.ready.filled r.state r.shows r.sound r.numbered c.args.session c.requires.may_serve.session.some c.in_default.ensures.none)
 
 pub returns-in_default-clause-noted : goal.returns-in_default-clause-noted
 returns-in_default-clause-noted c = λ st i j h.
@@ -25,17 +25,15 @@ returns-in_default-clause-noted c = λ st i j h.
     let n = k.rounds st i j (record { count = h.count; transactions = h.transactions; views = h.views }) in
     let r = n.round in
     noted-last (vec_len c.args.self.now.lockers + 1) c.loop-round._round c.args.session c.args.place st d c.args.log.now c.loop-round.log n
-    (none-found d k.whole d.waits k.ready.filled r.state r.shows r.sound r.numbered c.args.session c.requires.some c.in_default.ensures.none)
+    (none-found d k.kept.whole d.waits k.kept.ready.filled r.state r.shows r.sound r.numbered c.args.session c.requires.may_serve.session.some c.in_default.ensures.none)
 
-pub returns-in_default-clause-ready : goal.returns-in_default-clause-ready
-returns-in_default-clause-ready c =
-    let d = c.loop-round.self in
-    subst (λ (w : Waits). IsReadyTable (record { count = d.count; lockers = d.lockers; cells = d.cells; waits = w; ended = d.ended })) (sym c.in_default.ensures.same) c.loop-round.invariant.ready
+pub returns-in_default-clause-kept : goal.returns-in_default-clause-kept
+returns-in_default-clause-kept c = keeps-searched c.args.self.now c.loop-round.self c.victim.new.waits c.in_default.ensures.same c.loop-round.invariant.kept
 
-pub note-requires-clause-ready : goal.note-requires-clause-ready
-note-requires-clause-ready c =
-    let d = c.loop-round.self in
-    subst (λ (w : Waits). IsReadyTable (record { count = d.count; lockers = d.lockers; cells = d.cells; waits = w; ended = d.ended })) (sym c.in-Some.ensures.same) c.loop-round.invariant.ready
+pub note-requires-clause-may_serve : goal.note-requires-clause-may_serve
+note-requires-clause-may_serve c =
+    let y = c.in-Some.ensures.some in
+    may-serve_searched c.args.self.now c.loop-round.self c.victim.new.waits c.in-Some.ensures.same c.loop-round.invariant.kept c.in-Some.chosen y.0 y.1
 
 pub note-requires-clause-cycle : goal.note-requires-clause-cycle
 note-requires-clause-cycle c =
@@ -45,27 +43,25 @@ note-requires-clause-cycle c =
     subst (λ (w : Waits). Reaches (pairs_of w.rows) (v - 1) (v - 1)) (sym c.in-Some.ensures.same)
     (reaches-trans (pairs_of c.loop-round.self.waits.rows) (v - 1) (s - 1) (v - 1) y.back y.there)
 
-pub doom-requires-clause-ready : goal.doom-requires-clause-ready
-doom-requires-clause-ready c =
-    let d = c.loop-round.self in
-    subst (λ (w : Waits). IsReadyTable (record { count = d.count; lockers = d.lockers; cells = d.cells; waits = w; ended = d.ended })) (sym c.in-Some.ensures.same) c.loop-round.invariant.ready
+pub doom-requires : goal.doom-requires
+doom-requires c =
+    let y = c.in-Some.ensures.some in
+    record { may_serve = may-serve_searched c.args.self.now c.loop-round.self c.victim.new.waits c.in-Some.ensures.same c.loop-round.invariant.kept c.in-Some.chosen y.0 y.1 }
 
 pub loop-round-preserved : goal.loop-round-preserved
 loop-round-preserved c =
     let d = c.loop-round.self in
     let k = c.loop-round.invariant in
     record {
-      whole = c.doom.ensures.kept.whole;
-      ready = c.doom.ensures.kept.ready;
+      kept = keeps-on (keeps-searched c.args.self.now d c.victim.new.waits c.in-Some.ensures.same k.kept) c.doom.ensures.kept;
       count = c.doom.ensures.doomed.count ∙ k.count;
-      len = c.doom.ensures.kept.lockers ∙ k.len;
       waits_ended = waits_ended-on 0 c.args.self.now d c.doom.new.self k.waits_ended c.doom.ensures.waits_ended;
-      log = λ some. c.note.ensures.log some ∙ k.len;
+      log = λ some. c.note.ensures.log some ∙ k.kept.lockers;
       rounds = λ st i j h.
           let n = k.rounds st i j h in
           let r = n.round in
           let y = c.in-Some.ensures.some in
-          let f = found d k.whole d.waits k.ready.filled r.state r.shows r.sound r.numbered c.args.session c.in-Some.chosen c.requires.some y.0 y.2 in
+          let f = found d k.kept.whole d.waits k.kept.ready.filled r.state r.shows r.sound r.numbered c.args.session c.in-Some.chosen c.requires.may_serve.session.some y.0 y.2 in
           let lt : c.loop-round._round < vec_len c.args.self.now.lockers + 1 = omega (arith, c.loop-round-test.true, c.len-round-end.ensures) in
           let again = rewaited (vec_len c.args.self.now.lockers + 1) c.loop-round._round c.args.session st d c.victim.new.waits r in
           noted-round (vec_len c.args.self.now.lockers + 1) c.loop-round._round c.args.session c.in-Some.chosen c.args.place st d c.doom.new.self c.args.log.now c.loop-round.log c.note.new.self n
@@ -75,10 +71,8 @@ loop-round-preserved c =
 
 pub loop-round-init : goal.loop-round-init
 loop-round-init c = record {
-  whole = c.requires.whole;
-  ready = c.requires.ready;
+  kept = record { whole = c.requires.may_serve.whole; lockers = refl; ready = c.requires.may_serve.ready };
   count = refl;
-  len = refl;
   waits_ended = waits_ended-none 0 c.args.self.now;
   log = c.requires.log;
   rounds = λ st i j h.

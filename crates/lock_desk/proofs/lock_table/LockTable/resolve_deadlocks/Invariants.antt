@@ -1,8 +1,7 @@
 use Rattle.std.proofs.Common.{◌≡◌, ◌+◌, vec_len}
 use Rattle.lock_rules.specs.State.{State}
 use Rattle.lock_rules.specs.Sound.{IsNumbered, IsSound}
-use Rattle.lock_desk.specs.inner.Changes.{IsWhole, HasNotedEnded}
-use Rattle.lock_desk.specs.inner.Ready.{IsReadyTable}
+use Rattle.lock_desk.specs.inner.Changes.{DoesKeep, HasNotedEnded}
 use Rattle.lock_desk.specs.inner.Shows.{Shows}
 use Rattle.lock_desk.specs.inner.Noting.{IsLogFor}
 use Rattle.lock_desk.proofs.DeadlockRounds.{IsNotedRound}
@@ -10,10 +9,8 @@ use Rattle.lock_desk.proofs.lock_table.LockTable.resolve_deadlocks.Given as goal
 
 abbrev pub invariant-loop-round : goal.invariant-loop-round
 invariant-loop-round l = record {
-  whole : IsWhole l.self;
-  ready : IsReadyTable l.self;
+  kept : DoesKeep l.initial.self l.self;
   count : l.self.count ≡ l.initial.self.count;
-  len : vec_len l.self.lockers ≡ vec_len l.initial.self.lockers;
   waits_ended : HasNotedEnded 0 l.initial.self l.self;
   log : IsLogFor (vec_len l.initial.self.lockers) l.log;
   rounds : (st : State) → IsSound st.table → IsNumbered st → Shows l.initial.self st → IsNotedRound (vec_len l.initial.self.lockers + 1) l._round l.session l.place st l.self l.initial.log l.log;

@@ -1,14 +1,14 @@
 use Rattle.std.proofs.Common.{rules, true, false, refl, sym, arith}
 use Rattle.std.proofs.Math.Bool.{and-true}
 use Rattle.session_sets.specs.Ended.{is_ended}
-use Rattle.lock_desk.proofs.EndedWaits.{list-but, shows-relisted, whole-relisted, ready-relisted}
+use Rattle.lock_desk.proofs.EndedWaits.{list-but, shows-relisted, keeps-relisted}
 use Rattle.lock_desk.proofs.lock_table.LockTable.resolve_for.Goals as goal
 
 pub has-was_ended-requires-clause-within : goal.has-was_ended-requires-clause-within
-has-was_ended-requires-clause-within c = omega (arith, c.requires.within, c.requires.ready.waits_ended)
+has-was_ended-requires-clause-within c = omega (arith, c.requires.may_serve.session.within, c.requires.may_serve.ready.waits_ended)
 
 pub remove-requires-clause-within : goal.remove-requires-clause-within
-remove-requires-clause-within c = omega (arith, c.requires.within, c.resolve_deadlocks.ensures.len, c.resolve_deadlocks.ensures.ready.waits_ended)
+remove-requires-clause-within c = omega (arith, c.requires.may_serve.session.within, c.resolve_deadlocks.ensures.kept.lockers, c.resolve_deadlocks.ensures.kept.ready.waits_ended)
 
 pub returns-then-not-was_ended-clause-waits_ended : goal.returns-then-not-was_ended-clause-waits_ended
 returns-then-not-was_ended-clause-waits_ended c =
@@ -25,8 +25,5 @@ returns-else-not-was_ended-clause-waits_ended c =
 pub returns-then-not-was_ended-clause-settled : goal.returns-then-not-was_ended-clause-settled
 returns-then-not-was_ended-clause-settled c = λ st i j h. shows-relisted c.resolve_deadlocks.new.self c.remove.new.self _ (c.resolve_deadlocks.ensures.settled st i j h)
 
-pub returns-then-not-was_ended-clause-whole : goal.returns-then-not-was_ended-clause-whole
-returns-then-not-was_ended-clause-whole c = whole-relisted c.resolve_deadlocks.new.self c.remove.new.self c.resolve_deadlocks.ensures.whole
-
-pub returns-then-not-was_ended-clause-ready : goal.returns-then-not-was_ended-clause-ready
-returns-then-not-was_ended-clause-ready c = ready-relisted c.resolve_deadlocks.new.self c.remove.new.self c.remove.ensures.sized c.resolve_deadlocks.ensures.ready
+pub returns-then-not-was_ended-clause-kept : goal.returns-then-not-was_ended-clause-kept
+returns-then-not-was_ended-clause-kept c = keeps-relisted c.args.self.now c.resolve_deadlocks.new.self c.remove.new.self c.remove.ensures.sized c.resolve_deadlocks.ensures.kept

@@ -31,7 +31,7 @@ pub returns-in-Abort-clause-noted : goal.returns-in-Abort-clause-noted
 returns-in-Abort-clause-noted c = λ st i n h.
     let log = c.args.log.now in
     let same = c.count_abort.ensures in
-    let waits = c.is_waiting.ensures ∙ waits-shown c.args.self.now st c.args.session c.requires.whole h in
+    let waits = c.is_waiting.ensures ∙ waits-shown c.args.self.now st c.args.session c.requires.may_serve.whole h in
     let is = same ∙ ap (λ (b : Bool). record log { counts = with_abort b log.counts }) waits in
     let told = subst (λ (l : LogView). HasNoted [] (record log { counts = with_abort (is_waiting st c.args.session) log.counts }) l) (sym is) (noted-none (record log { counts = with_abort (is_waiting st c.args.session) log.counts })) in
     subst (λ (k : Call). HasNoted (moments_at c.args.served c.args.session (deadlocks_of st c.args.session k)) (record log { counts = with_own_wait (is_waiting st c.args.session) k log.counts }) c.count_abort.new.self)
@@ -41,7 +41,7 @@ pub returns-in-Restart-clause-noted : goal.returns-in-Restart-clause-noted
 returns-in-Restart-clause-noted c = λ st i n h.
     let log = c.args.log.now in
     let same = c.count_restart.ensures in
-    let waits = c.is_waiting-in-Restart.ensures ∙ waits-shown c.args.self.now st c.args.session c.requires.whole h in
+    let waits = c.is_waiting-in-Restart.ensures ∙ waits-shown c.args.self.now st c.args.session c.requires.may_serve.whole h in
     let is = same ∙ ap (λ (b : Bool). record log { counts = with_restart b log.counts }) waits in
     let told = subst (λ (l : LogView). HasNoted [] (record log { counts = with_restart (is_waiting st c.args.session) log.counts }) l) (sym is) (noted-none (record log { counts = with_restart (is_waiting st c.args.session) log.counts })) in
     subst (λ (k : Call). HasNoted (moments_at c.args.served c.args.session (deadlocks_of st c.args.session k)) (record log { counts = with_own_wait (is_waiting st c.args.session) k log.counts }) c.count_restart.new.self)

@@ -9,7 +9,7 @@ pub returns-clause-step : goal.returns-clause-step
 returns-clause-step c = λ st i j h.
     let d = c.args.self.now in
     let s = c.args.session in
-    passed-step d c.abort.new.self st s Abort (Aborted c.abort.result) c.requires.whole i h c.in_default.ensures (ap Aborted (c.abort.ensures.locks ∙ locks-shown d st s c.requires.whole i h), ended-shown d c.abort.new.self st s i c.abort.ensures.ended h)
+    passed-step d c.abort.new.self st s Abort (Aborted c.abort.result) c.requires.may_serve.whole i h c.in_default.ensures (ap Aborted (c.abort.ensures.locks ∙ locks-shown d st s c.requires.may_serve.whole i h), ended-shown d c.abort.new.self st s i c.abort.ensures.ended h)
 
 pub returns-in-Some-clause-waits_ended : goal.returns-in-Some-clause-waits_ended
 returns-in-Some-clause-waits_ended c = waits_ended-none c.args.session c.args.self.now

@@ -11,7 +11,7 @@ pub returns-clause-step : goal.returns-clause-step
 returns-clause-step c = λ st i j h.
     let d = c.args.self.now in
     let none = ap (λ (b : Bool). cond b (Some AlreadyOpen) None) (c.if-is_open.ensures ∙ ap (λ (x : Standing). is_some x.transaction) c.locker.ensures) in
-    passed-step d c.begin.new.self st c.args.session Begin (Began c.begin.result) c.requires.whole i h none (ap Began (c.begin.ensures.number ∙ ap (λ n. n + 1) h.count), begun-shown d c.begin.new.self st c.args.session c.begin.ensures.begun h)
+    passed-step d c.begin.new.self st c.args.session Begin (Began c.begin.result) c.requires.may_serve.whole i h none (ap Began (c.begin.ensures.number ∙ ap (λ n. n + 1) h.count), begun-shown d c.begin.new.self st c.args.session c.begin.ensures.begun h)
 
 pub returns-then-is_open-clause-waits_ended : goal.returns-then-is_open-clause-waits_ended
 returns-then-is_open-clause-waits_ended c = waits_ended-none c.args.session c.args.self.now

@@ -6,13 +6,13 @@ use Rattle.lock_desk.proofs.EndedWaits.{waits_ended-none}
 use Rattle.lock_desk.proofs.lock_table.LockTable.serve_commit.Goals as goal
 
 pub returns-in-Some-clause-step : goal.returns-in-Some-clause-step
-returns-in-Some-clause-step c = λ st i j h. refused-step c.args.self.now st c.args.session Commit c.in-Some.why c.requires.whole i h c.in-Some.ensures
+returns-in-Some-clause-step c = λ st i j h. refused-step c.args.self.now st c.args.session Commit c.in-Some.why c.requires.may_serve.whole i h c.in-Some.ensures
 
 pub returns-clause-step : goal.returns-clause-step
 returns-clause-step c = λ st i j h.
     let d = c.args.self.now in
     let s = c.args.session in
-    passed-step d c.end.new.self st s Commit (Committed c.end.result) c.requires.whole i h c.in_default.ensures (ap Committed (c.end.ensures.locks ∙ locks-shown d st s c.requires.whole i h), ended-shown d c.end.new.self st s i c.end.ensures.ended h)
+    passed-step d c.end.new.self st s Commit (Committed c.end.result) c.requires.may_serve.whole i h c.in_default.ensures (ap Committed (c.end.ensures.locks ∙ locks-shown d st s c.requires.may_serve.whole i h), ended-shown d c.end.new.self st s i c.end.ensures.ended h)
 
 pub returns-in-Some-clause-waits_ended : goal.returns-in-Some-clause-waits_ended
 returns-in-Some-clause-waits_ended c = waits_ended-none c.args.session c.args.self.now

@@ -9,8 +9,8 @@ pub returns-clause-step : goal.returns-clause-step
 returns-clause-step c = λ st i j h.
     let d = c.args.self.now in
     let a = doom-shown d st c.args.session h in
-    let b = waits-shown d st c.args.session c.requires.whole h in
-    passed-step d d st c.args.session Poll c.standing_reply.result c.requires.whole i h c.in_default.ensures (c.standing_reply.ensures ∙ (λ k. cond (a k) Deadlock (cond (b k) Waiting Clear)), h)
+    let b = waits-shown d st c.args.session c.requires.may_serve.whole h in
+    passed-step d d st c.args.session Poll c.standing_reply.result c.requires.may_serve.whole i h c.in_default.ensures (c.standing_reply.ensures ∙ (λ k. cond (a k) Deadlock (cond (b k) Waiting Clear)), h)
 
 pub returns-in-Some-clause-waits_ended : goal.returns-in-Some-clause-waits_ended
 returns-in-Some-clause-waits_ended c = waits_ended-none c.args.session c.args.self.now

@@ -1,6 +1,6 @@
 use Rattle.std.proofs.Common.{◌≤◌, ◌-◌, length}
 use Rattle.lock_holders.specs.inner.Columns.{AreBelow, AreNotBelow}
-use Rattle.lock_holders.proofs.holder_columns.rank_among_many.Given as goal
+use Rattle.lock_holders.proofs.session_rank.rank_among_many.Given as goal
 
 abbrev pub invariant-loop-low : goal.invariant-loop-low
 invariant-loop-low l = record {

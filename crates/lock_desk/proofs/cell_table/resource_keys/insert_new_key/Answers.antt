@@ -3,7 +3,7 @@ use Rattle.std.specs.List.{list_any}
 use Rattle.lock_tree.specs.Paths.{same_path}
 use Rattle.session_locks.specs.Resources.{has_path}
 use Rattle.session_locks.proofs.ResourceLists.{same_path-equivalence}
-use Rattle.lock_desk.proofs.cell_table.insert_new_key.Goals as goal
+use Rattle.lock_desk.proofs.cell_table.resource_keys.insert_new_key.Goals as goal
 
 -- looking for a key by `==` is looking for the path
 by-path : (eq : List ℕ → List ℕ → Bool) → ((a b : List ℕ) → eq a b ≡ same_path a b) → (r : List ℕ) (ks : List (List ℕ)) → list_any (eq r) ks ≡ has_path r ks

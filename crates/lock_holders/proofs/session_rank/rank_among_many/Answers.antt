@@ -1,6 +1,6 @@
 use Rattle.std.proofs.Common.{◌+◌, ◌-◌, ◌/◌, arith}
 use Rattle.lock_holders.proofs.Columns.{below-more, others-more}
-use Rattle.lock_holders.proofs.holder_columns.rank_among_many.Goals as goal
+use Rattle.lock_holders.proofs.session_rank.rank_among_many.Goals as goal
 
 pub loop-low-preserved-then-sessions-middle : goal.loop-low-preserved-then-sessions-middle
 loop-low-preserved-then-sessions-middle c =

@@ -1,5 +1,5 @@
 use Rattle.lock_holders.specs.inner.Columns.{AreBelow}
-use Rattle.lock_holders.proofs.holder_columns.rank_among_few.Given as goal
+use Rattle.lock_holders.proofs.session_rank.rank_among_few.Given as goal
 
 abbrev pub invariant-loop-index : goal.invariant-loop-index
 invariant-loop-index l = AreBelow l.session l.index l.sessions

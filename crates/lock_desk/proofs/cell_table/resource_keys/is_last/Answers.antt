@@ -1,7 +1,7 @@
 use Rattle.std.proofs.Common.{◌∙◌, sym, ap, Some}
 use Rattle.lock_rules.proofs.Lists.{same_path-true}
 use Rattle.lock_desk.proofs.Places.{split-at-last}
-use Rattle.lock_desk.proofs.cell_table.is_last.Goals as goal
+use Rattle.lock_desk.proofs.cell_table.resource_keys.is_last.Goals as goal
 
 pub returns-in-Some : goal.returns-in-Some
 returns-in-Some c = λ e.
