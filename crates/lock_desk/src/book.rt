@@ -20,6 +20,7 @@ ghost use Rattle.lock_desk.specs.inner.Runs.{AreServed};
 mod blockers;
 mod counts;
 mod deadlocks;
+mod gauges;
 mod memory;
 mod pages;
 mod paths;
