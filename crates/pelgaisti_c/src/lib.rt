@@ -75,10 +75,10 @@ pub use numbers::{
     ResourceNumbers,
 };
 pub use pointers::{
-    AnswerPointer, BookPointer, CallPointer, ClaimList, ClaimPointer, CountsPointer, DeadlockList, EntryList,
-    HandleList, HolderList, MemberList, PassPointer, ProgramAnswerPointer, ProgramPointer,
-    ReplyPointer, ResourcePointer, SessionList, SessionPointer, SizePointer, TransactionPointer,
-    U32Pointer, U64Pointer,
+    AnswerPointer, BookPointer, CallPointer, ClaimList, ClaimPointer, CountsPointer, DeadlockList,
+    EntryList, HandleList, HolderList, MemberList, PassPointer, ProgramAnswerPointer,
+    ProgramPointer, ReplyPointer, ResourcePointer, SessionList, SessionPointer, SizePointer,
+    TransactionPointer, U32Pointer, U64Pointer,
 };
 pub use program_numbers::{ProgramAnswerNumbers, ProgramNumbers};
 pub use session_handle::SessionHandle;
