@@ -1,5 +1,5 @@
 -- The gauges of a state as a book tells them.
-use Rattle.std.specs.Prelude.{ℕ, zero, suc, ◌+◌, max, Option, Some, None, List, length}
+use Rattle.std.specs.Prelude.{ℕ, zero, suc, ◌+◌, max, Option, Some, None, length}
 use Rattle.lock_rules.specs.State.{Claim, Table, State, is_open, request_of, claims_of}
 use Rattle.lock_rules.specs.Queue.{queue}
 use Rattle.lock_counts.specs.Counts.{one_if}
