@@ -325,6 +325,12 @@ static void call_dump(void) {
     check(pelgaisti_book_dump(&book, claims, quantity("n"), &count, &place));
 }
 
+static void call_counts(void) {
+    pelgaisti_counts counts;
+    check(pelgaisti_book_counts(&book, &counts));
+    if (counts.waiting < quantity("queue")) exit(23);
+}
+
 static void call_locks_held(void) {
     size_t count;
     check(pelgaisti_book_locks_held(&book, CALLER, &count));
@@ -475,6 +481,7 @@ static const struct row {
     {"request", request_behind, call_request, 0},
     {"locks", readers_and_queue, call_locks, 0},
     {"dump", readers_and_queue, call_dump, 0},
+    {"counts", readers_and_queue, call_counts, 0},
     {"locks_held", readers_and_queue, call_locks_held, 0},
     {"locks_of, of few", readers_and_queue, call_locks_of, 0},
     {"locks_of, of many", readers_and_queue, call_locks_of, 0},

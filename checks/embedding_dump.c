@@ -4,21 +4,14 @@
                                         same dump; writes each dump as text, behind a line "at PLACE"
        embedding_dump busy CALLS        five threads make so many random calls each, while a sixth session takes dumps: each is the state
                                         of its place, as a book shows it that serves the history up to there */
-#include "names.h"
+#include "must.h"
+#include "rows.h"
 #include "pelgaisti.h"
 #include <inttypes.h>
 #include <pthread.h>
 #include <stdio.h>
 #include <stdlib.h>
 #include <string.h>
-
-#define MUST(condition) \
-    do { \
-        if (!(condition)) { \
-            printf("%s:%d: %s\n", __FILE__, __LINE__, #condition); \
-            exit(1); \
-        } \
-    } while (0)
 
 enum { BUSY = 5, SESSIONS = 12, ROOM = 4096, DUMPS = 400 };
 
@@ -67,29 +60,6 @@ static void write_dump(const dump *made) {
 
 /* ---- A trace. ---- */
 
-static uint32_t number_of(const name *list, size_t length, const char *text) {
-    const name *found = named(list, length, text);
-    MUST(found);
-    return found->number;
-}
-
-static uint32_t read_row(char *line, pelgaisti_call *call) {
-    char *field[4], *at = line;
-    line[strcspn(line, "\r\n")] = 0;
-    for (int k = 0; k < 4; k++) {
-        field[k] = at;
-        at = at ? strchr(at, ',') : NULL;
-        if (at) *at++ = 0;
-        else MUST(k == 3);
-    }
-    memset(call, 0, sizeof *call);
-    call->op = number_of(ops, COUNT(ops), field[1]);
-    for (char *digit = field[2]; *digit; digit += *digit == '/')
-        call->resource.numbers[call->resource.level++] = (uint32_t)strtoul(digit, &digit, 10);
-    if (*field[3]) call->mode = number_of(modes, COUNT(modes), field[3]);
-    return (uint32_t)strtoul(field[0], NULL, 10);
-}
-
 static void dump_trace(void) {
     static pelgaisti_claim of_book[ROOM], of_office[ROOM];
     static pelgaisti_session sessions[SESSIONS];
@@ -115,11 +85,6 @@ static void dump_trace(void) {
 
 static pelgaisti_session shared[BUSY + 1];
 static long calls_each;
-
-static uint32_t drawn(uint64_t *state, uint32_t below) {
-    *state = *state * 6364136223846793005u + 1442695040888963407u;
-    return (uint32_t)((*state >> 33) % below);
-}
 
 static void *work(void *which) {
     pelgaisti_session *session = &shared[*(int *)which];

@@ -18,7 +18,7 @@ static pelgaisti_pass unwritten;
 static pelgaisti_answer unanswered = {99, {77, 88}};
 
 /* What a session's questions, and its calls on the memory of the lock table, return at that allocation. */
-enum { QUESTIONS = 14 };
+enum { QUESTIONS = 15 };
 static uint32_t asked[QUESTIONS], unasked = 99;
 static uint64_t unseen = 99;
 static const pelgaisti_call begin = {PELGAISTI_BEGIN, 0, {0, {0}}};
@@ -31,6 +31,7 @@ static void ask_each(pelgaisti_session *session) {
     pelgaisti_claim claim;
     pelgaisti_deadlock deadlock;
     pelgaisti_member member;
+    pelgaisti_counts counts;
     size_t unlisted = 99;
     asked[0] = pelgaisti_session_held(session, 1, &place, &unasked, &unseen);
     asked[1] = pelgaisti_session_transaction(session, 1, &open, &unseen);
@@ -47,6 +48,7 @@ static void ask_each(pelgaisti_session *session) {
     asked[11] = pelgaisti_session_locks_held(session, 1, &uncounted, &unseen);
     asked[12] = pelgaisti_session_locks_of(session, 1, &place, &claim, 1, &uncounted, &unseen);
     asked[13] = pelgaisti_session_dump(session, &claim, 1, &uncounted, &unseen);
+    asked[14] = pelgaisti_session_counts(session, &counts, &unseen);
 }
 
 /* At the next allocation, `meanwhile` tries to serve and `other` to perform a call and to ask, once. */

@@ -1,4 +1,5 @@
 /* Serves the rows of a trace on a book through pelgaisti.h, and writes the book's history as `glm replay` does. */
+#include "history.h"
 #include "names.h"
 #include "pelgaisti.h"
 #include <inttypes.h>
@@ -11,24 +12,6 @@ static uint32_t number_of(const name *list, size_t length, const char *text) {
     if (found) return found->number;
     fprintf(stderr, "no such name: %s\n", text);
     exit(2);
-}
-
-static void write_entry(uint64_t place, const pelgaisti_entry *e) {
-    const pelgaisti_resource *r = &e->call.resource;
-    printf("%" PRIu64 ",%u,%s,", place, (unsigned)e->session, pelgaisti_op_name(e->call.op));
-    for (uint32_t k = 0; k < r->level; k++) printf(k ? "/%u" : "%u", (unsigned)r->numbers[k]);
-    int has_mode = e->call.op == PELGAISTI_LOCK || e->call.op == PELGAISTI_CONVERT || e->call.op == PELGAISTI_TRY;
-    printf(",%s,", has_mode ? pelgaisti_mode_name(e->call.mode) : "");
-    printf("%s,", pelgaisti_reply_name(e->reply.kind));
-    switch (e->reply.kind) {
-    case PELGAISTI_GRANTED: printf("%s\n", pelgaisti_mode_name(e->reply.value)); break;
-    case PELGAISTI_REFUSED: printf("%s\n", pelgaisti_refusal_name(e->reply.value)); break;
-    case PELGAISTI_BEGAN:
-    case PELGAISTI_COMMITTED:
-    case PELGAISTI_ABORTED:
-    case PELGAISTI_RESTARTED: printf("%" PRIu64 "\n", e->reply.value); break;
-    default: printf("\n");
-    }
 }
 
 int main(void) {
@@ -60,7 +43,7 @@ int main(void) {
         pelgaisti_entry entries[3];
         size_t count = 0;
         if (pelgaisti_book_history(&book, place, entries, 3, &count) != PELGAISTI_OK || count == 0) return 5;
-        for (size_t k = 0; k < count; k++) write_entry(place + k, &entries[k]);
+        for (size_t k = 0; k < count; k++) write_entry(stdout, place + k, &entries[k]);
         place += count - 1;
     }
     return pelgaisti_book_close(&book) != PELGAISTI_OK;

@@ -107,6 +107,10 @@ static void books() {
     CHECK(dump.place == book.length() && dump.rows.size() == 7 && dump.rows[0].kind == PELGAISTI_TRANSACTION_ROW);
     CHECK(dump.rows[2].session == 1 && dump.rows[2].mode == locks[0].mode && dump.rows[5].kind == PELGAISTI_FRESH);
     CHECK(dump.text().find("transaction,1,3,,,,\ntransaction,2,") == 0 && dump.text().find("\nwaits,2,,,,,1\n") != std::string::npos);
+    const auto counted = book.counts();
+    CHECK(counted.of(op::begin) == 3 && counted.of(op::lock) == 5 && counted.of(op::commit) == 2 && counted.of(op::poll) == 0);
+    CHECK(counted.requests == 5 && counted.granted_at_once == 4 && counted.waits_begun == 1 && counted.waiting == 1);
+    CHECK(counted.of(pelgaisti::refusal::no_transaction) == 1 && counted.of(pelgaisti::refusal::not_waiting) == 0);
     std::vector<pelgaisti_entry> batch(2);
     batch[0].session = 1;
     batch[0].call = pelgaisti::call{op::abort};
@@ -272,6 +276,9 @@ static void offices() {
     CHECK(office[0].locks()->found.size() == 1 && office[0].locks()->found[0].kind == PELGAISTI_HELD);
     CHECK(office[0].locks_held(2)->found == 1 && office[0].locks_held(1)->found == 0 && office[0].locks_held(2)->length == 7);
     CHECK(office[0].dump()->place == 7 && office[0].dump()->text() == "transaction,2,2,,,,\nheld,2,2,,7,IX,\n");
+    const auto counted = office[0].counts();
+    CHECK(counted && counted->length == 7 && counted->found.of(op::begin) == 2 && counted->found.of(op::lock) == 2);
+    CHECK(counted->found.granted_at_once == 1 && counted->found.waits_granted == 1 && counted->found.of(pelgaisti::refusal::not_held) == 0);
     CHECK(office[0].locks_of(2, 8)->found.at(0).mode == PELGAISTI_IX && office[0].locks_of(2, {7}, 8)->found.empty());
     CHECK(office[0].locks_behind(office[0].locks_of(2, 1)->found.at(0), 8)->found.empty());
     CHECK(throws(PELGAISTI_NO_SUCH_SESSION, [&] { office[0].blockers(3); }));

@@ -212,6 +212,8 @@ typedef enum pelgaisti_start {
 
 #define PELGAISTI_LEVELS 5
 #define PELGAISTI_CALLS 7
+#define PELGAISTI_OP_NUMBERS 11
+#define PELGAISTI_WHY_NUMBERS 13
 #define PELGAISTI_MAX_SESSIONS 1024
 #define PELGAISTI_MAX_LOCKS 4096
 
@@ -333,6 +335,28 @@ typedef struct pelgaisti_program_answer {
     pelgaisti_reply replies[PELGAISTI_CALLS]; /* the reply to each call that was served; behind them 0 */
 } pelgaisti_program_answer;
 
+/* The counters of a history: all calls from its beginning, also those whose entries were let go. All but `waiting` only grow. A call of
+   a program or of a path counts by itself, and one that is refused counts, too. Each request was granted at once, began a wait or was
+   refused:
+       requests == granted_at_once + waits_begun + requests_refused
+   Each wait ended in one way, or goes on:
+       waits_begun == waits_granted + victims + waits_withdrawn + waits_aborted + waits_restarted + waiting */
+typedef struct pelgaisti_counts {
+    uint64_t calls[PELGAISTI_OP_NUMBERS];     /* the calls of each op: calls[PELGAISTI_LOCK]. Number 0 is no op, and stays 0 */
+    uint64_t refusals[PELGAISTI_WHY_NUMBERS]; /* the calls that were refused for each pelgaisti_why. 0 and the retired 10 stay 0 */
+    uint64_t requests;         /* the requests for locks: calls of LOCK, CONVERT and TRY */
+    uint64_t granted_at_once;  /* those with the reply GRANTED, also where their own victim made room */
+    uint64_t requests_refused; /* those with the reply REFUSED */
+    uint64_t waits_begun;      /* those with the reply WAITING, or DEADLOCK: their session began to wait, and became a victim at once */
+    uint64_t waits_granted;    /* the waits that a call of another session ended by a grant */
+    uint64_t victims;          /* the waits whose session became a deadlock's victim: how many victims there were */
+    uint64_t waits_withdrawn;  /* the waits that WITHDRAW took back */
+    uint64_t waits_aborted;    /* the waits that ended with an ABORT of their session */
+    uint64_t waits_restarted;  /* the waits that ended with a RESTART of their session */
+    uint64_t waiting;          /* the requests that wait now */
+    uint64_t deadlocks;        /* the calls that closed a cycle of waits, each once, however many victims it made */
+} pelgaisti_counts;
+
 /* The handle of a lock table and its history. */
 typedef struct pelgaisti_book {
     uint32_t is_open_;
@@ -403,6 +427,8 @@ PELGAISTI_ASSERT_(answer, sizeof(pelgaisti_answer) == 24 && offsetof(pelgaisti_a
 PELGAISTI_ASSERT_(pass, sizeof(pelgaisti_pass) == 8 && offsetof(pelgaisti_pass, starved) == 4);
 PELGAISTI_ASSERT_(program, sizeof(pelgaisti_program) == 44 && offsetof(pelgaisti_program, last) == 12);
 PELGAISTI_ASSERT_(program_answer, sizeof(pelgaisti_program_answer) == 136 && offsetof(pelgaisti_program_answer, replies) == 24);
+PELGAISTI_ASSERT_(counts, sizeof(pelgaisti_counts) == 280 && offsetof(pelgaisti_counts, refusals) == 88);
+PELGAISTI_ASSERT_(counts_fields, offsetof(pelgaisti_counts, requests) == 192 && offsetof(pelgaisti_counts, deadlocks) == 272);
 PELGAISTI_ASSERT_(book, sizeof(pelgaisti_book) == 16 && offsetof(pelgaisti_book, at_) == 8);
 PELGAISTI_ASSERT_(session, sizeof(pelgaisti_session) == 16 && offsetof(pelgaisti_session, at_) == 8);
 #undef PELGAISTI_ASSERT_
@@ -520,6 +546,11 @@ pelgaisti_status pelgaisti_book_locks_of(pelgaisti_book *book, uint32_t session,
    requests as sorting their resources does. `rows` may be NULL if `room` is 0. Requires `room` elements at `rows`.
    NULL, CLOSED, NO_MEMORY. */
 pelgaisti_status pelgaisti_book_dump(pelgaisti_book *book, pelgaisti_claim *rows, size_t room, size_t *count, uint64_t *place);
+
+/* Writes the counters of the history. They are kept on the way, whatever the history keeps: the cost grows with the sessions alone, of
+   which those that wait are counted.
+   NULL, CLOSED. */
+pelgaisti_status pelgaisti_book_counts(pelgaisti_book *book, pelgaisti_counts *counts);
 
 /* How far a dump has been written as text: the caller keeps it from line to line, and reads nothing of it. */
 typedef struct pelgaisti_dumping {
@@ -842,6 +873,11 @@ pelgaisti_status pelgaisti_session_locks_of(pelgaisti_session *session, uint32_t
    other session can take the lock table. NO_MEMORY: the session knows the history up to there all the same.
    NULL, CLOSED, NO_MEMORY or ELSEWHERE. */
 pelgaisti_status pelgaisti_session_dump(pelgaisti_session *session, pelgaisti_claim *rows, size_t room, size_t *count, uint64_t *seen);
+
+/* Writes the counters of the history, as pelgaisti_book_counts does: of the `seen` calls that it had then, of all sessions of the
+   office. The cost grows with the sessions of the office.
+   NULL, CLOSED, ELSEWHERE. */
+pelgaisti_status pelgaisti_session_counts(pelgaisti_session *session, pelgaisti_counts *counts, uint64_t *seen);
 
 /* ---- Memory of the lock table of an open office. Each of these calls tries once to take the lock table, and writes `seen`, as the
    questions do; and as with a book, nothing changes that another call tells. While it works, no other session can take the lock table.

@@ -116,6 +116,12 @@ struct dump {
     }
 };
 
+// The counters of a history, as pelgaisti_counts has them, with the calls by op and the refused ones by refusal.
+struct counts : pelgaisti_counts {
+    uint64_t of(op what) const { return calls[static_cast<size_t>(what)]; }
+    uint64_t of(refusal why) const { return refusals[static_cast<size_t>(why)]; }
+};
+
 // Several calls of a session that are made as one: what `first` says, and then one call or the locks of a path.
 struct program : pelgaisti_program {
     // What `first` says, and no other call.
@@ -273,6 +279,8 @@ public:
             if (count <= made.rows.size()) return made.rows.resize(count), made;
         }
     }
+    // The counters of the history: how many calls there were, how they were answered, and how waits ended.
+    pelgaisti::counts counts() { return made_by<pelgaisti::counts>([&](auto *made) { return pelgaisti_book_counts(&handle_, made); }); }
     // Makes room, so that neither the table nor the history grows in a call until so many more resources and entries have come; gives back
     // memory that isn't in use; counts the cells that are kept and serve no resource.
     void reserve(size_t resources, size_t entries) { check(pelgaisti_book_reserve(&handle_, resources, entries)); }
@@ -401,6 +409,10 @@ public:
         auto made = listed<pelgaisti_claim>([&](auto *at, size_t room, auto *count, auto *n) {
             return pelgaisti_session_dump(&handle_, at, room, count, n); });
         return made ? std::optional(pelgaisti::dump{made->length, std::move(made->found)}) : std::nullopt;
+    }
+    // The counters of the history up to that moment, or nothing if another session has the table.
+    std::optional<seen<pelgaisti::counts>> counts() {
+        return asked<pelgaisti::counts>([&](auto *made, auto *n) { return pelgaisti_session_counts(&handle_, made, n); });
     }
     // What a book's do with the memory of the lock table, each by one try for it; how many calls the history had, or nothing if another
     // session has the table.

@@ -164,6 +164,10 @@ pelgaisti_status pelgaisti_book_dump(pelgaisti_book *book, pelgaisti_claim *rows
     return LISTING(rows, room, count, WRITING(place, CALL(book, pelgaisti_raw_book_dump(&book, LIST(rows, room), &count, &place))));
 }
 
+pelgaisti_status pelgaisti_book_counts(pelgaisti_book *book, pelgaisti_counts *counts) {
+    return WRITING(counts, CALL(book, pelgaisti_raw_book_counts(&book, &counts)));
+}
+
 pelgaisti_status pelgaisti_book_ended(pelgaisti_book *book, uint32_t *list, size_t room, size_t *count) {
     return LISTING(list, room, count, CALL(book, pelgaisti_raw_book_ended(&book, LIST(list, room), &count)));
 }
@@ -484,6 +488,10 @@ pelgaisti_status pelgaisti_session_locks_of(pelgaisti_session *session, uint32_t
 pelgaisti_status pelgaisti_session_dump(pelgaisti_session *session, pelgaisti_claim *rows, size_t room, size_t *count, uint64_t *seen) {
     return LISTING(rows, room, count, WRITING(seen,
                    CALL(session, pelgaisti_raw_session_dump(&session, LIST(rows, room), &count, &seen))));
+}
+
+pelgaisti_status pelgaisti_session_counts(pelgaisti_session *session, pelgaisti_counts *counts, uint64_t *seen) {
+    return WRITING(counts, WRITING(seen, CALL(session, pelgaisti_raw_session_counts(&session, &counts, &seen))));
 }
 
 pelgaisti_status pelgaisti_session_reserve(pelgaisti_session *session, size_t resources, size_t entries, uint64_t *seen) {

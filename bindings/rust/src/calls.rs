@@ -283,7 +283,7 @@ pub enum Refusal {
 }
 
 impl Refusal {
-    fn of(number: u64) -> Refusal {
+    pub(crate) fn of(number: u64) -> Refusal {
         match number {
             1 => Refusal::AlreadyOpen,
             2 => Refusal::NoTransaction,

@@ -14,6 +14,12 @@ pub(crate) const LEVELS: usize = 5;
 /// The greatest number of calls of a program.
 pub(crate) const CALLS: usize = 7;
 
+/// How many counters of calls there are: one for each number of an op, from 0.
+pub(crate) const OP_NUMBERS: usize = 11;
+
+/// How many counters of refused calls there are: one for each number of a refusal, from 0.
+pub(crate) const WHY_NUMBERS: usize = 13;
+
 /// The greatest number of sessions.
 pub(crate) const MAX_SESSIONS: usize = 1024;
 
@@ -100,6 +106,24 @@ pub(crate) struct RawDeadlock {
 
 #[repr(C)]
 #[derive(Clone, Copy, Default)]
+pub(crate) struct RawCounts {
+    pub(crate) calls: [u64; OP_NUMBERS],
+    pub(crate) refusals: [u64; WHY_NUMBERS],
+    pub(crate) requests: u64,
+    pub(crate) granted_at_once: u64,
+    pub(crate) requests_refused: u64,
+    pub(crate) waits_begun: u64,
+    pub(crate) waits_granted: u64,
+    pub(crate) victims: u64,
+    pub(crate) waits_withdrawn: u64,
+    pub(crate) waits_aborted: u64,
+    pub(crate) waits_restarted: u64,
+    pub(crate) waiting: u64,
+    pub(crate) deadlocks: u64,
+}
+
+#[repr(C)]
+#[derive(Clone, Copy, Default)]
 pub(crate) struct RawAnswer {
     pub(crate) place: u64,
     pub(crate) reply: RawReply,
@@ -159,6 +183,7 @@ const _: () = assert!(size_of::<RawHolder>() == 8 && size_of::<RawTransaction>()
 const _: () = assert!(size_of::<RawMember>() == 56 && size_of::<RawDeadlock>() == 24);
 const _: () = assert!(size_of::<RawEntry>() == 56 && size_of::<RawAnswer>() == 24 && size_of::<RawPass>() == 8);
 const _: () = assert!(size_of::<RawProgram>() == 44 && size_of::<RawProgramAnswer>() == 136);
+const _: () = assert!(size_of::<RawCounts>() == 280);
 
 // The statuses that a call may return.
 pub(crate) const OK: u32 = 0;
@@ -247,6 +272,7 @@ extern "C" {
         count: *mut usize,
         place: *mut u64,
     ) -> u32;
+    pub(crate) fn pelgaisti_book_counts(book: *mut RawHandle, counts: *mut RawCounts) -> u32;
     pub(crate) fn pelgaisti_dump_begin() -> RawDumping;
     pub(crate) fn pelgaisti_dump_line(
         rows: *const RawClaim,
@@ -409,6 +435,7 @@ extern "C" {
         count: *mut usize,
         seen: *mut u64,
     ) -> u32;
+    pub(crate) fn pelgaisti_session_counts(session: *mut RawHandle, counts: *mut RawCounts, seen: *mut u64) -> u32;
     pub(crate) fn pelgaisti_session_reserve(session: *mut RawHandle, resources: usize, entries: usize, seen: *mut u64) -> u32;
     pub(crate) fn pelgaisti_session_shrink(session: *mut RawHandle, seen: *mut u64) -> u32;
     pub(crate) fn pelgaisti_session_idle_cells(session: *mut RawHandle, cells: *mut usize, seen: *mut u64) -> u32;

@@ -28,6 +28,7 @@
 mod book;
 mod calls;
 mod claims;
+mod counts;
 mod deadlocks;
 mod dump;
 mod error;
@@ -46,6 +47,7 @@ mod waker;
 pub use book::{Book, Entry};
 pub use calls::{Call, Mode, Refusal, Reply, Resource};
 pub use claims::{Claim, ClaimKind, Holder, Transaction};
+pub use counts::{Calls, Counts};
 pub use deadlocks::{Deadlock, Member};
 pub use dump::Dump;
 pub use error::Error;

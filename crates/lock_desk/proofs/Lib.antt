@@ -83,6 +83,7 @@ pub mod DeadlockRounds
 pub mod CyclesTold
 -- what a lock table tells of its locks and requests is what the state has
 pub mod Listings
+pub mod QueuesTold
 -- a page of the locks of a session is that of the state, and what it tells
 pub mod Pages
 -- what pages that are read one after another tell together

@@ -6,6 +6,7 @@ pub mod Queries
 pub mod Pages
 pub mod Deadlocks
 pub mod Counts
+pub mod Gauges
 pub mod BookLaws
 -- what only private contracts cite
 pub mod inner

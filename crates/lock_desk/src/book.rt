@@ -19,6 +19,7 @@ mod batches;
 mod blockers;
 mod counts;
 mod deadlocks;
+mod gauges;
 mod memory;
 mod pages;
 mod paths;

@@ -37,6 +37,7 @@ mod cell_table;
 mod cells;
 mod counts;
 mod deadlock_log;
+mod gauges;
 mod lock_table;
 mod lockers;
 mod object;
@@ -49,6 +50,7 @@ mod waits;
 pub use book::{Book, Item, PathLocked, grants, lock_of_level, pages_tell_each_lock_once};
 pub use counts::{Calls, Counts, Refusals};
 pub use deadlock_log::{Deadlock, Member};
+pub use gauges::Gauges;
 pub use lock_modes::Mode;
 pub use lock_rules::{
     Call, Claim, ClaimKind, Entry, MAX_LOCKS, MAX_SESSIONS, Reply, Transaction, Why,

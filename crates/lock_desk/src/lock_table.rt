@@ -22,6 +22,7 @@ mod grants;
 mod listing;
 mod memory;
 mod pages;
+mod queues;
 mod refusals;
 mod requests;
 mod restarts;

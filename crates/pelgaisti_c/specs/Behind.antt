@@ -16,6 +16,8 @@ use Rattle.pelgaisti_c.specs.declared.numbers.AnswerNumbers.{AnswerNumbers}
 use Rattle.pelgaisti_c.specs.contracts.numbers.AnswerNumbers.{the_row as answer_row}
 use Rattle.pelgaisti_c.specs.declared.claims.ClaimNumbers.{ClaimNumbers}
 use Rattle.pelgaisti_c.specs.contracts.claims.ClaimNumbers.{the_row as claim_row}
+use Rattle.pelgaisti_c.specs.declared.count_numbers.CountNumbers.{CountNumbers}
+use Rattle.pelgaisti_c.specs.contracts.count_numbers.CountNumbers.{the_row as counts_row}
 use Rattle.pelgaisti_c.specs.declared.deadlock_numbers.DeadlockNumbers.{DeadlockNumbers}
 use Rattle.pelgaisti_c.specs.contracts.deadlock_numbers.DeadlockNumbers.{the_row as deadlock_row}
 use Rattle.pelgaisti_c.specs.declared.deadlock_numbers.MemberNumbers.{MemberNumbers}
@@ -74,6 +76,9 @@ answer_behind = maybe_at answer_row
 
 abbrev pub claim_behind : Ptr → ClaimNumbers → Fml
 claim_behind = maybe_at claim_row
+
+abbrev pub counts_behind : Ptr → CountNumbers → Fml
+counts_behind = maybe_at counts_row
 
 abbrev pub pass_behind : Ptr → PassNumbers → Fml
 pass_behind = maybe_at pass_row
@@ -138,6 +143,9 @@ answer_coded = answer_row.coded
 
 abbrev pub claim_coded : Coded ClaimNumbers
 claim_coded = claim_row.coded
+
+abbrev pub counts_coded : Coded CountNumbers
+counts_coded = counts_row.coded
 
 abbrev pub pass_coded : Coded PassNumbers
 pass_coded = pass_row.coded

@@ -13,6 +13,7 @@ pub mod Queries
 pub mod Deadlocks
 pub mod Pages
 pub mod Dumps
+pub mod Counts
 pub mod EndedLists
 pub mod Offices
 pub mod Behind

@@ -9,6 +9,8 @@ use Rattle.pelgaisti_c.specs.declared.numbers.AnswerNumbers.{AnswerNumbers}
 use Rattle.pelgaisti_c.specs.contracts.numbers.AnswerNumbers.{the_row as answer_row}
 use Rattle.pelgaisti_c.specs.declared.claims.ClaimNumbers.{ClaimNumbers}
 use Rattle.pelgaisti_c.specs.contracts.claims.ClaimNumbers.{the_row as claim_row}
+use Rattle.pelgaisti_c.specs.declared.count_numbers.CountNumbers.{CountNumbers}
+use Rattle.pelgaisti_c.specs.contracts.count_numbers.CountNumbers.{the_row as counts_row}
 use Rattle.pelgaisti_c.specs.declared.deadlock_numbers.DeadlockNumbers.{DeadlockNumbers}
 use Rattle.pelgaisti_c.specs.contracts.deadlock_numbers.DeadlockNumbers.{the_row as deadlock_row}
 use Rattle.pelgaisti_c.specs.declared.deadlock_numbers.MemberNumbers.{MemberNumbers}
@@ -29,6 +31,8 @@ use Rattle.pelgaisti_c.specs.declared.pointers.structs.AnswerPointer.{AnswerPoin
 use Rattle.pelgaisti_c.specs.contracts.pointers.structs.AnswerPointer.{the_row as answer_pointer_row}
 use Rattle.pelgaisti_c.specs.declared.pointers.structs.ClaimPointer.{ClaimPointer}
 use Rattle.pelgaisti_c.specs.contracts.pointers.structs.ClaimPointer.{the_row as claim_pointer_row}
+use Rattle.pelgaisti_c.specs.declared.pointers.structs.CountsPointer.{CountsPointer}
+use Rattle.pelgaisti_c.specs.contracts.pointers.structs.CountsPointer.{the_row as counts_pointer_row}
 use Rattle.pelgaisti_c.specs.declared.pointers.structs.PassPointer.{PassPointer}
 use Rattle.pelgaisti_c.specs.contracts.pointers.structs.PassPointer.{the_row as pass_pointer_row}
 use Rattle.pelgaisti_c.specs.declared.pointers.structs.ProgramAnswerPointer.{ProgramAnswerPointer}
@@ -74,6 +78,9 @@ lends_of_answer_pointer p r = LendsIf answer_pointer_row answer_row p r (λ x. r
 
 abbrev pub lends_of_claim_pointer : MutBor ClaimPointer → Option (MutBor ClaimNumbers) → Fml
 lends_of_claim_pointer p r = LendsIf claim_pointer_row claim_row p r (λ x. record p.now { behind = x }) p.now
+
+abbrev pub lends_of_counts_pointer : MutBor CountsPointer → Option (MutBor CountNumbers) → Fml
+lends_of_counts_pointer p r = LendsIf counts_pointer_row counts_row p r (λ x. record p.now { behind = x }) p.now
 
 abbrev pub lends_of_pass_pointer : MutBor PassPointer → Option (MutBor PassNumbers) → Fml
 lends_of_pass_pointer p r = LendsIf pass_pointer_row pass_row p r (λ x. record p.now { behind = x }) p.now

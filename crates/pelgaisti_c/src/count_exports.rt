@@ -1,0 +1,93 @@
+//! The exports that tell the counters of a history: of a book, and of the open office of a session.
+
+ghost use Rattle.std.specs.Prelude.{◌≡◌, ◌≢◌, ◌≤◌, ◌↔◌, ◌⊎◌, Some};
+ghost use denote.RawPtr.{null_ptr};
+ghost use Rattle.lock_desk.specs.BookView.{BookView};
+ghost use Rattle.lock_desk.specs.Counts.{counts_of};
+ghost use Rattle.pelgaisti_c.specs.Counts.{AreCountsSeen, numbers_of_counts};
+ghost use Rattle.pelgaisti_c.specs.declared.session_share.SessionShare.{SessionShare};
+
+use crate::count_numbers::{CountNumbers, count_numbers};
+use crate::pointers::{BookPointer, CountsPointer, SessionPointer, U64Pointer};
+use crate::session_share::SessionShare;
+use crate::status::{CLOSED, ELSEWHERE, NULL_POINTER, OK};
+use std::alloc::Global;
+
+/// Writes the counters of the open office, and how many calls the history had then.
+fn counts_of_office(share: &mut SessionShare, counts: &mut CountNumbers, seen: &mut u64) -> u32
+    ensures ok { result ≡ OK → AreCountsSeen share.old share.new counts.new seen.new }
+    ensures failed { result ≢ OK → (share.new ≡ share.old) × (counts.new ≡ counts.old) × (seen.new ≡ seen.old) }
+    ensures elsewhere { result ≡ ELSEWHERE → 2 ≤ share.old.sessions }
+    ensures statuses { (result ≡ OK) ⊎ (result ≡ ELSEWHERE) }
+{
+    let Some(told) = share.session.counts(&share.office) else {
+        return ELSEWHERE;
+    };
+    *counts = count_numbers(&told.found);
+    *seen = told.length;
+    OK
+}
+
+/// Writes the counters of the book's history.
+#[unsafe(no_mangle)]
+pub extern "C" fn pelgaisti_raw_book_counts(
+    alloc: Global,
+    book: &mut BookPointer,
+    counts: &mut CountsPointer,
+) -> u32
+    ensures null { result ≡ NULL_POINTER ↔ ((book.old.at ≡ null_ptr) ⊎ (counts.old.at ≡ null_ptr)) }
+    ensures ok { result ≡ OK → (view : BookView) × (book.old.behind.held.book ≡ Some view)
+        × (counts.new.behind ≡ numbers_of_counts (counts_of view.history)) }
+    ensures failed { result ≢ OK → counts.new.behind ≡ counts.old.behind }
+    ensures same { (book.new.behind.is_open ≡ book.old.behind.is_open) × (book.new.behind.held.book ≡ book.old.behind.held.book) }
+    ensures closed { result ≢ NULL_POINTER → (result ≡ CLOSED ↔ (book.old.behind.is_open ≢ 1)) }
+    ensures statuses { (result ≡ NULL_POINTER) ⊎ ((result ≡ OK) ⊎ (result ≡ CLOSED)) }
+{
+    let Some(book) = book.get() else {
+        return NULL_POINTER;
+    };
+    let Some(counts) = counts.get() else {
+        return NULL_POINTER;
+    };
+    let Some(boxed) = book.take(alloc) else {
+        return CLOSED;
+    };
+    *counts = count_numbers(&boxed.counts());
+    book.put(boxed);
+    OK
+}
+
+/// Writes the counters of the open office's history, as `pelgaisti_raw_book_counts` does of a book: they are of the `seen` calls that the
+/// history had then.
+#[unsafe(no_mangle)]
+pub extern "C" fn pelgaisti_raw_session_counts(
+    alloc: Global,
+    session: &mut SessionPointer,
+    counts: &mut CountsPointer,
+    seen: &mut U64Pointer,
+) -> u32
+    ensures null { result ≡ NULL_POINTER ↔ ((session.old.at ≡ null_ptr) ⊎ ((counts.old.at ≡ null_ptr) ⊎ (seen.old.at ≡ null_ptr))) }
+    ensures ok { result ≡ OK → (before after : SessionShare) × (session.old.behind.held.share ≡ Some before) × (session.new.behind.held.share ≡ Some after)
+        × AreCountsSeen before after counts.new.behind seen.new.behind }
+    ensures failed { result ≢ OK → (session.new.behind.held.share ≡ session.old.behind.held.share) × (counts.new.behind ≡ counts.old.behind) × (seen.new.behind ≡ seen.old.behind) }
+    ensures open { session.new.behind.is_open ≡ session.old.behind.is_open }
+    ensures closed { result ≢ NULL_POINTER → (result ≡ CLOSED ↔ (session.old.behind.is_open ≢ 1)) }
+    ensures elsewhere { result ≡ ELSEWHERE → (share : SessionShare) × (session.old.behind.held.share ≡ Some share) × (2 ≤ share.sessions) }
+    ensures statuses { (result ≡ NULL_POINTER) ⊎ ((result ≡ OK) ⊎ ((result ≡ CLOSED) ⊎ (result ≡ ELSEWHERE))) }
+{
+    let Some(session) = session.get() else {
+        return NULL_POINTER;
+    };
+    let Some(counts) = counts.get() else {
+        return NULL_POINTER;
+    };
+    let Some(seen) = seen.get() else {
+        return NULL_POINTER;
+    };
+    let Some(mut share) = session.take(alloc) else {
+        return CLOSED;
+    };
+    let status = counts_of_office(&mut share, counts, seen);
+    session.put(share);
+    status
+}
