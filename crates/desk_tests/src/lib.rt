@@ -7,6 +7,8 @@ mod batches;
 #[cfg(test)]
 mod books;
 #[cfg(test)]
+mod counters;
+#[cfg(test)]
 mod deadlocks;
 #[cfg(test)]
 mod engine;
