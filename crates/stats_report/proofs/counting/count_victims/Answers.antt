@@ -8,11 +8,11 @@ use Rattle.stats_report.proofs.counting.count_victims.Goals as goal
 pub overflow_add-victims : goal.overflow_add-victims
 overflow_add-victims c =
     let few = count-le (is_doomed (state_of c.args.book.now.history)) c.args.sessions.now c.loop-index.index in
-    omega (arith, c.loop-index.invariant, few, c.one_if-victims.ensures, one_if-le c.is_victim.result, c.loop-index-test.true)
+    omega (arith, c.loop-index.invariant, few, c.one_if-victims.ensures.value, one_if-le c.is_victim.result, c.loop-index-test.true)
 
 pub loop-index-preserved : goal.loop-index-preserved
 loop-index-preserved c =
-    let one = c.one_if-victims.ensures ∙ ap one_if c.is_victim.ensures in
+    let one = c.one_if-victims.ensures.value ∙ ap one_if c.is_victim.ensures in
     omega (arith, c.loop-index.invariant, one, count-next (is_doomed (state_of c.args.book.now.history)) c.args.sessions.now c.loop-index.index 0 c.loop-index-test.true)
 
 pub returns-clause-few : goal.returns-clause-few
