@@ -44,6 +44,23 @@ static counters counts_of_office(pelgaisti_session *session, uint64_t *seen) {
     return made;
 }
 
+static pelgaisti_gauges gauges_of_book(pelgaisti_book *book) {
+    pelgaisti_gauges made;
+    memset(&made, 0x55, sizeof made);
+    MUST(pelgaisti_book_gauges(book, &made) == PELGAISTI_OK);
+    return made;
+}
+
+static pelgaisti_gauges gauges_of_office(pelgaisti_session *session, uint64_t *seen) {
+    pelgaisti_gauges made;
+    pelgaisti_status status;
+    memset(&made, 0x55, sizeof made);
+    do status = pelgaisti_session_gauges(session, &made, seen);
+    while (status == PELGAISTI_ELSEWHERE);
+    MUST(status == PELGAISTI_OK);
+    return made;
+}
+
 /* What holds of the counters of every history. */
 static void must_add_up(const pelgaisti_counts *is, uint64_t length) {
     uint64_t calls = 0, refused = 0;
@@ -157,13 +174,17 @@ static void count_by_hand(void) {
     static pelgaisti_session sessions[4];
     pelgaisti_book book = PELGAISTI_EMPTY, closed = PELGAISTI_EMPTY;
     counters of_book, of_office;
+    pelgaisti_gauges gauges = {99, 99, 99, 99};
     uint64_t seen = 99, moved = 0;
     for (int k = 0; k < 4; k++) sessions[k] = pelgaisti_empty_session();
     memset(&of_book, 0, sizeof of_book);
+    MUST(pelgaisti_book_gauges(&closed, &gauges) == PELGAISTI_CLOSED && gauges.locks == 99 && seen == 99);
+    MUST(pelgaisti_session_gauges(&sessions[0], &gauges, &seen) == PELGAISTI_CLOSED && gauges.locks == 99 && seen == 99);
     MUST(pelgaisti_book_counts(&closed, &of_book.of) == PELGAISTI_CLOSED && pelgaisti_book_counts(NULL, &of_book.of) == PELGAISTI_NULL);
     MUST(pelgaisti_session_counts(&sessions[0], &of_book.of, &seen) == PELGAISTI_CLOSED && seen == 99);
     MUST(pelgaisti_book_open(&book, 4) == PELGAISTI_OK && pelgaisti_office_open(sessions, 4) == PELGAISTI_OK);
     MUST(pelgaisti_book_counts(&book, NULL) == PELGAISTI_NULL && pelgaisti_session_counts(&sessions[0], NULL, &seen) == PELGAISTI_NULL);
+    MUST(pelgaisti_book_gauges(&book, NULL) == PELGAISTI_NULL && pelgaisti_session_gauges(&sessions[0], NULL, &seen) == PELGAISTI_NULL);
     MUST(pelgaisti_session_counts(&sessions[0], &of_book.of, NULL) == PELGAISTI_NULL && seen == 99);
     of_office = counts_of_office(&sessions[0], &seen);
     MUST(seen == 0 && !memcmp(&of_book, &of_office, sizeof of_book));
@@ -236,7 +257,7 @@ static void count_several(void) {
 
 /* ---- Counters as text. ---- */
 
-static void write_counts(const pelgaisti_counts *is) {
+static void write_counts(const pelgaisti_counts *is, const pelgaisti_gauges *now) {
     for (size_t k = 0; k < COUNT(ops); k++) printf("calls,%s,%" PRIu64 "\n", ops[k].name, is->calls[ops[k].number]);
     printf("requests,all,%" PRIu64 "\nrequests,granted,%" PRIu64 "\n", is->requests, is->granted_at_once);
     printf("requests,waiting,%" PRIu64 "\nrequests,refused,%" PRIu64 "\n", is->waits_begun, is->requests_refused);
@@ -245,6 +266,8 @@ static void write_counts(const pelgaisti_counts *is) {
     printf("waits,restarted,%" PRIu64 "\nwaits,waiting,%" PRIu64 "\n", is->waits_restarted, is->waiting);
     printf("deadlocks,calls,%" PRIu64 "\ndeadlocks,victims,%" PRIu64 "\n", is->deadlocks, is->victims);
     for (size_t k = 0; k < COUNT(reasons); k++) printf("refusals,%s,%" PRIu64 "\n", reasons[k].name, is->refusals[reasons[k].number]);
+    printf("now,transactions,%" PRIu64 "\nnow,locks,%" PRIu64 "\n", now->transactions, now->locks);
+    printf("now,waiting,%" PRIu64 "\nnow,longest_queue,%" PRIu64 "\n", now->waiting, now->longest_queue);
 }
 
 static void count_trace(void) {
@@ -265,9 +288,12 @@ static void count_trace(void) {
         counters of_book = counts_of_book(&book), of_office = counts_of_office(&sessions[0], &seen);
         MUST(seen == length + 1 && !memcmp(&of_book, &of_office, sizeof of_book));
         must_add_up(&of_book.of, seen);
+        pelgaisti_gauges now = gauges_of_book(&book), seen_now = gauges_of_office(&sessions[0], &seen);
+        MUST(seen == length + 1 && !memcmp(&now, &seen_now, sizeof now) && now.waiting == of_book.of.waiting);
     }
     counters made = counts_of_book(&book);
-    write_counts(&made.of);
+    pelgaisti_gauges now = gauges_of_book(&book);
+    write_counts(&made.of, &now);
 }
 
 /* ---- 64 threads. ---- */
@@ -323,7 +349,8 @@ static void count_threads(const char *file) {
     MUST(pelgaisti_office_close(&shared[THREADS], &book) == PELGAISTI_OK);
     now = counts_of_book(&book);
     MUST(!memcmp(&now, &old, sizeof now));
-    write_counts(&now.of);
+    pelgaisti_gauges gauges = gauges_of_book(&book);
+    write_counts(&now.of, &gauges);
     MUST(pelgaisti_book_length(&book, &length) == PELGAISTI_OK && length == seen);
     for (uint64_t place = 0; place < length; place++) {
         pelgaisti_entry entry;

@@ -18,7 +18,7 @@ static pelgaisti_pass unwritten;
 static pelgaisti_answer unanswered = {99, {77, 88}};
 
 /* What a session's questions, and its calls on the memory of the lock table, return at that allocation. */
-enum { QUESTIONS = 15 };
+enum { QUESTIONS = 16 };
 static uint32_t asked[QUESTIONS], unasked = 99;
 static uint64_t unseen = 99;
 static const pelgaisti_call begin = {PELGAISTI_BEGIN, 0, {0, {0}}};
@@ -32,6 +32,7 @@ static void ask_each(pelgaisti_session *session) {
     pelgaisti_deadlock deadlock;
     pelgaisti_member member;
     pelgaisti_counts counts;
+    pelgaisti_gauges gauges;
     size_t unlisted = 99;
     asked[0] = pelgaisti_session_held(session, 1, &place, &unasked, &unseen);
     asked[1] = pelgaisti_session_transaction(session, 1, &open, &unseen);
@@ -49,6 +50,7 @@ static void ask_each(pelgaisti_session *session) {
     asked[12] = pelgaisti_session_locks_of(session, 1, &place, &claim, 1, &uncounted, &unseen);
     asked[13] = pelgaisti_session_dump(session, &claim, 1, &uncounted, &unseen);
     asked[14] = pelgaisti_session_counts(session, &counts, &unseen);
+    asked[15] = pelgaisti_session_gauges(session, &gauges, &unseen);
 }
 
 /* At the next allocation, `meanwhile` tries to serve and `other` to perform a call and to ask, once. */

@@ -111,6 +111,7 @@ static void books() {
     CHECK(counted.of(op::begin) == 3 && counted.of(op::lock) == 5 && counted.of(op::commit) == 2 && counted.of(op::poll) == 0);
     CHECK(counted.requests == 5 && counted.granted_at_once == 4 && counted.waits_begun == 1 && counted.waiting == 1);
     CHECK(counted.of(pelgaisti::refusal::no_transaction) == 1 && counted.of(pelgaisti::refusal::not_waiting) == 0);
+    CHECK(book.gauges().transactions == 2 && book.gauges().waiting == 1 && book.gauges().longest_queue == 1);
     std::vector<pelgaisti_entry> batch(2);
     batch[0].session = 1;
     batch[0].call = pelgaisti::call{op::abort};
@@ -278,6 +279,7 @@ static void offices() {
     CHECK(office[0].dump()->place == 7 && office[0].dump()->text() == "transaction,2,2,,,,\nheld,2,2,,7,IX,\n");
     const auto counted = office[0].counts();
     CHECK(counted && counted->length == 7 && counted->found.of(op::begin) == 2 && counted->found.of(op::lock) == 2);
+    CHECK(office[0].gauges()->length == 7 && office[0].gauges()->found.transactions == 1 && office[0].gauges()->found.locks == 1);
     CHECK(counted->found.granted_at_once == 1 && counted->found.waits_granted == 1 && counted->found.of(pelgaisti::refusal::not_held) == 0);
     CHECK(office[0].locks_of(2, 8)->found.at(0).mode == PELGAISTI_IX && office[0].locks_of(2, {7}, 8)->found.empty());
     CHECK(office[0].locks_behind(office[0].locks_of(2, 1)->found.at(0), 8)->found.empty());

@@ -32,6 +32,7 @@ static void of_a_book(void) {
     pelgaisti_transaction open;
     pelgaisti_claim waiting, locks[1];
     pelgaisti_counts counts;
+    pelgaisti_gauges gauges;
     pelgaisti_deadlock deadlocks[1];
     pelgaisti_member members[2];
     uint32_t mode, edge, level = 0, blockers[1], told[2];
@@ -57,6 +58,7 @@ static void of_a_book(void) {
     WRITES_2(count, locks, pelgaisti_book_locks_of(&book, 1, &nowhere, locks, 1, &count));
     WRITES_3(count, locks, length, pelgaisti_book_dump(&book, locks, 1, &count, &length));
     WRITES_1(counts, pelgaisti_book_counts(&book, &counts));
+    WRITES_1(gauges, pelgaisti_book_gauges(&book, &gauges));
     WRITES_1(count, pelgaisti_book_ended(&book, told, 2, &count));
     WRITES_2(path_reply, count, pelgaisti_book_lock_path(&book, 1, &page, PELGAISTI_S, &level, &path_reply, told, 2, &count));
     WRITES_2(answer, count, pelgaisti_book_run(&book, 1, &program, &answer, told, 2, &count));
@@ -93,6 +95,7 @@ static void of_an_office(void) {
     pelgaisti_transaction open;
     pelgaisti_claim waiting, locks[1];
     pelgaisti_counts counts;
+    pelgaisti_gauges gauges;
     pelgaisti_deadlock deadlocks[1];
     pelgaisti_member members[1];
     uint32_t mode, edge, posted, level = 0, blockers[1], told[2];
@@ -120,6 +123,7 @@ static void of_an_office(void) {
     WRITES_3(locks, count, seen, pelgaisti_session_locks_of(&sessions[0], 1, &nowhere, locks, 1, &count, &seen));
     WRITES_3(locks, count, seen, pelgaisti_session_dump(&sessions[0], locks, 1, &count, &seen));
     WRITES_2(counts, seen, pelgaisti_session_counts(&sessions[0], &counts, &seen));
+    WRITES_2(gauges, seen, pelgaisti_session_gauges(&sessions[0], &gauges, &seen));
     WRITES_1(seen, pelgaisti_session_reserve(&sessions[0], 1, 1, &seen));
     WRITES_1(seen, pelgaisti_session_shrink(&sessions[0], &seen));
     WRITES_2(count, seen, pelgaisti_session_idle_cells(&sessions[0], &count, &seen));

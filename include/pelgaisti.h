@@ -357,6 +357,14 @@ typedef struct pelgaisti_counts {
     uint64_t deadlocks;        /* the calls that closed a cycle of waits, each once, however many victims it made */
 } pelgaisti_counts;
 
+/* The gauges of a lock table: how much there is at one moment. */
+typedef struct pelgaisti_gauges {
+    uint64_t transactions;  /* the open transactions */
+    uint64_t locks;         /* the locks that are held, of all sessions */
+    uint64_t waiting;       /* the requests that wait */
+    uint64_t longest_queue; /* the most requests that wait for one resource */
+} pelgaisti_gauges;
+
 /* The handle of a lock table and its history. */
 typedef struct pelgaisti_book {
     uint32_t is_open_;
@@ -428,6 +436,7 @@ PELGAISTI_ASSERT_(pass, sizeof(pelgaisti_pass) == 8 && offsetof(pelgaisti_pass, 
 PELGAISTI_ASSERT_(program, sizeof(pelgaisti_program) == 44 && offsetof(pelgaisti_program, last) == 12);
 PELGAISTI_ASSERT_(program_answer, sizeof(pelgaisti_program_answer) == 136 && offsetof(pelgaisti_program_answer, replies) == 24);
 PELGAISTI_ASSERT_(counts, sizeof(pelgaisti_counts) == 280 && offsetof(pelgaisti_counts, refusals) == 88);
+PELGAISTI_ASSERT_(gauges, sizeof(pelgaisti_gauges) == 32 && offsetof(pelgaisti_gauges, longest_queue) == 24);
 PELGAISTI_ASSERT_(counts_fields, offsetof(pelgaisti_counts, requests) == 192 && offsetof(pelgaisti_counts, deadlocks) == 272);
 PELGAISTI_ASSERT_(book, sizeof(pelgaisti_book) == 16 && offsetof(pelgaisti_book, at_) == 8);
 PELGAISTI_ASSERT_(session, sizeof(pelgaisti_session) == 16 && offsetof(pelgaisti_session, at_) == 8);
@@ -551,6 +560,10 @@ pelgaisti_status pelgaisti_book_dump(pelgaisti_book *book, pelgaisti_claim *rows
    which those that wait are counted.
    NULL, CLOSED. */
 pelgaisti_status pelgaisti_book_counts(pelgaisti_book *book, pelgaisti_counts *counts);
+
+/* Writes the gauges of the lock table. The cost grows with the sessions, and for each that waits with its queue; the table isn't walked.
+   NULL, CLOSED. */
+pelgaisti_status pelgaisti_book_gauges(pelgaisti_book *book, pelgaisti_gauges *gauges);
 
 /* How far a dump has been written as text: the caller keeps it from line to line, and reads nothing of it. */
 typedef struct pelgaisti_dumping {
@@ -878,6 +891,11 @@ pelgaisti_status pelgaisti_session_dump(pelgaisti_session *session, pelgaisti_cl
    office. The cost grows with the sessions of the office.
    NULL, CLOSED, ELSEWHERE. */
 pelgaisti_status pelgaisti_session_counts(pelgaisti_session *session, pelgaisti_counts *counts, uint64_t *seen);
+
+/* Writes the gauges of the lock table, as pelgaisti_book_gauges does: of the moment behind the first `seen` calls of the history. The
+   cost grows with the sessions of the office, and for each that waits with its queue.
+   NULL, CLOSED, ELSEWHERE. */
+pelgaisti_status pelgaisti_session_gauges(pelgaisti_session *session, pelgaisti_gauges *gauges, uint64_t *seen);
 
 /* ---- Memory of the lock table of an open office. Each of these calls tries once to take the lock table, and writes `seen`, as the
    questions do; and as with a book, nothing changes that another call tells. While it works, no other session can take the lock table.

@@ -281,6 +281,8 @@ public:
     }
     // The counters of the history: how many calls there were, how they were answered, and how waits ended.
     pelgaisti::counts counts() { return made_by<pelgaisti::counts>([&](auto *made) { return pelgaisti_book_counts(&handle_, made); }); }
+    // The gauges: how many transactions are open, locks are held and requests wait, and the longest queue.
+    pelgaisti_gauges gauges() { return made_by<pelgaisti_gauges>([&](auto *made) { return pelgaisti_book_gauges(&handle_, made); }); }
     // Makes room, so that neither the table nor the history grows in a call until so many more resources and entries have come; gives back
     // memory that isn't in use; counts the cells that are kept and serve no resource.
     void reserve(size_t resources, size_t entries) { check(pelgaisti_book_reserve(&handle_, resources, entries)); }
@@ -413,6 +415,10 @@ public:
     // The counters of the history up to that moment, or nothing if another session has the table.
     std::optional<seen<pelgaisti::counts>> counts() {
         return asked<pelgaisti::counts>([&](auto *made, auto *n) { return pelgaisti_session_counts(&handle_, made, n); });
+    }
+    // The gauges at that moment, or nothing if another session has the table.
+    std::optional<seen<pelgaisti_gauges>> gauges() {
+        return asked<pelgaisti_gauges>([&](auto *made, auto *n) { return pelgaisti_session_gauges(&handle_, made, n); });
     }
     // What a book's do with the memory of the lock table, each by one try for it; how many calls the history had, or nothing if another
     // session has the table.

@@ -168,6 +168,10 @@ pelgaisti_status pelgaisti_book_counts(pelgaisti_book *book, pelgaisti_counts *c
     return WRITING(counts, CALL(book, pelgaisti_raw_book_counts(&book, &counts)));
 }
 
+pelgaisti_status pelgaisti_book_gauges(pelgaisti_book *book, pelgaisti_gauges *gauges) {
+    return WRITING(gauges, CALL(book, pelgaisti_raw_book_gauges(&book, &gauges)));
+}
+
 pelgaisti_status pelgaisti_book_ended(pelgaisti_book *book, uint32_t *list, size_t room, size_t *count) {
     return LISTING(list, room, count, CALL(book, pelgaisti_raw_book_ended(&book, LIST(list, room), &count)));
 }
@@ -492,6 +496,10 @@ pelgaisti_status pelgaisti_session_dump(pelgaisti_session *session, pelgaisti_cl
 
 pelgaisti_status pelgaisti_session_counts(pelgaisti_session *session, pelgaisti_counts *counts, uint64_t *seen) {
     return WRITING(counts, WRITING(seen, CALL(session, pelgaisti_raw_session_counts(&session, &counts, &seen))));
+}
+
+pelgaisti_status pelgaisti_session_gauges(pelgaisti_session *session, pelgaisti_gauges *gauges, uint64_t *seen) {
+    return WRITING(gauges, WRITING(seen, CALL(session, pelgaisti_raw_session_gauges(&session, &gauges, &seen))));
 }
 
 pelgaisti_status pelgaisti_session_reserve(pelgaisti_session *session, size_t resources, size_t entries, uint64_t *seen) {

@@ -37,6 +37,7 @@ uint32_t pelgaisti_raw_book_locks_of(pelgaisti_book **book, uint32_t session, co
                                      pelgaisti_raw_list *list, size_t **count);
 uint32_t pelgaisti_raw_book_dump(pelgaisti_book **book, pelgaisti_raw_list *rows, size_t **count, uint64_t **place);
 uint32_t pelgaisti_raw_book_counts(pelgaisti_book **book, pelgaisti_counts **counts);
+uint32_t pelgaisti_raw_book_gauges(pelgaisti_book **book, pelgaisti_gauges **gauges);
 uint32_t pelgaisti_raw_book_ended(pelgaisti_book **book, pelgaisti_raw_list *list, size_t **count);
 uint32_t pelgaisti_raw_book_length(pelgaisti_book **book, uint64_t **count);
 uint32_t pelgaisti_raw_book_history(pelgaisti_book **book, uint64_t first, pelgaisti_raw_list *entries, size_t **count);
@@ -113,6 +114,7 @@ uint32_t pelgaisti_raw_session_locks_of(pelgaisti_session **session, uint32_t wh
                                         pelgaisti_raw_list *list, size_t **count, uint64_t **seen);
 uint32_t pelgaisti_raw_session_dump(pelgaisti_session **session, pelgaisti_raw_list *rows, size_t **count, uint64_t **seen);
 uint32_t pelgaisti_raw_session_counts(pelgaisti_session **session, pelgaisti_counts **counts, uint64_t **seen);
+uint32_t pelgaisti_raw_session_gauges(pelgaisti_session **session, pelgaisti_gauges **gauges, uint64_t **seen);
 uint32_t pelgaisti_raw_session_reserve(pelgaisti_session **session, size_t resources, size_t entries, uint64_t **seen);
 uint32_t pelgaisti_raw_session_shrink(pelgaisti_session **session, uint64_t **seen);
 uint32_t pelgaisti_raw_session_idle_cells(pelgaisti_session **session, size_t **cells, uint64_t **seen);

@@ -1,9 +1,9 @@
-//! The counters of a history.
+//! The counters of a history, and the gauges of a lock table.
 
 use crate::book::Book;
 use crate::calls::Refusal;
 use crate::error::{done, Error};
-use crate::ffi::{self, RawCounts, WHY_NUMBERS};
+use crate::ffi::{self, Gauges, RawCounts, WHY_NUMBERS};
 use crate::looks::Seen;
 use crate::office::Session;
 
@@ -124,6 +124,23 @@ impl Book {
         done(unsafe { ffi::pelgaisti_book_counts(self.raw(), &mut made) })?;
         Ok(Counts::of(&made))
     }
+
+    /// The gauges of the lock table. The cost grows with the sessions, and for each that waits with its queue.
+    ///
+    ///     # use pelgaisti::{Book, Call, Gauges, Mode, Resource};
+    ///     let mut book = Book::open(2)?;
+    ///     for session in 1..=2 {
+    ///         let _ = book.serve(session, &Call::Begin)?;
+    ///         let _ = book.serve(session, &Call::Lock(Resource::new(&[7]).unwrap(), Mode::X))?;
+    ///     }
+    ///     assert_eq!(book.gauges()?, Gauges { transactions: 2, locks: 1, waiting: 1, longest_queue: 1 });
+    ///     # Ok::<(), pelgaisti::Error>(())
+    pub fn gauges(&self) -> Result<Gauges, Error> {
+        let mut made = Gauges::default();
+        // SAFETY: the handle is this book's; the gauges are a local
+        done(unsafe { ffi::pelgaisti_book_gauges(self.raw(), &mut made) })?;
+        Ok(made)
+    }
 }
 
 impl Session {
@@ -141,6 +158,21 @@ impl Session {
         // SAFETY: the handle is this session's, used by `&mut`; the others are locals of their types
         done(unsafe { ffi::pelgaisti_session_counts(self.raw(), &mut made, &mut length) })?;
         let found = Counts::of(&made);
+        Ok(Seen { length, found })
+    }
+
+    /// The gauges of the lock table, as [`Book::gauges`] tells them. It tries once to take the lock table. [`Error::Elsewhere`]: another
+    /// session has it; ask again.
+    ///
+    ///     # use pelgaisti::{Call, Office};
+    ///     let mut sessions = Office::open(2)?;
+    ///     let _ = sessions[0].perform(&Call::Begin, u64::MAX)?;
+    ///     assert_eq!(sessions[1].gauges()?.found.transactions, 1);
+    ///     # Ok::<(), pelgaisti::Error>(())
+    pub fn gauges(&mut self) -> Result<Seen<Gauges>, Error> {
+        let (mut found, mut length) = (Gauges::default(), 0);
+        // SAFETY: the handle is this session's, used by `&mut`; the others are locals of their types
+        done(unsafe { ffi::pelgaisti_session_gauges(self.raw(), &mut found, &mut length) })?;
         Ok(Seen { length, found })
     }
 }

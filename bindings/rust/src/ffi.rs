@@ -122,6 +122,20 @@ pub(crate) struct RawCounts {
     pub(crate) deadlocks: u64,
 }
 
+/// How much a lock table has at one moment.
+#[repr(C)]
+#[derive(Clone, Copy, Debug, Default, PartialEq, Eq, Hash)]
+pub struct Gauges {
+    /// The open transactions.
+    pub transactions: u64,
+    /// The locks that are held, of all sessions.
+    pub locks: u64,
+    /// The requests that wait.
+    pub waiting: u64,
+    /// The most requests that wait for one resource.
+    pub longest_queue: u64,
+}
+
 #[repr(C)]
 #[derive(Clone, Copy, Default)]
 pub(crate) struct RawAnswer {
@@ -183,7 +197,7 @@ const _: () = assert!(size_of::<RawHolder>() == 8 && size_of::<RawTransaction>()
 const _: () = assert!(size_of::<RawMember>() == 56 && size_of::<RawDeadlock>() == 24);
 const _: () = assert!(size_of::<RawEntry>() == 56 && size_of::<RawAnswer>() == 24 && size_of::<RawPass>() == 8);
 const _: () = assert!(size_of::<RawProgram>() == 44 && size_of::<RawProgramAnswer>() == 136);
-const _: () = assert!(size_of::<RawCounts>() == 280);
+const _: () = assert!(size_of::<RawCounts>() == 280 && size_of::<Gauges>() == 32);
 
 // The statuses that a call may return.
 pub(crate) const OK: u32 = 0;
@@ -273,6 +287,7 @@ extern "C" {
         place: *mut u64,
     ) -> u32;
     pub(crate) fn pelgaisti_book_counts(book: *mut RawHandle, counts: *mut RawCounts) -> u32;
+    pub(crate) fn pelgaisti_book_gauges(book: *mut RawHandle, gauges: *mut Gauges) -> u32;
     pub(crate) fn pelgaisti_dump_begin() -> RawDumping;
     pub(crate) fn pelgaisti_dump_line(
         rows: *const RawClaim,
@@ -436,6 +451,7 @@ extern "C" {
         seen: *mut u64,
     ) -> u32;
     pub(crate) fn pelgaisti_session_counts(session: *mut RawHandle, counts: *mut RawCounts, seen: *mut u64) -> u32;
+    pub(crate) fn pelgaisti_session_gauges(session: *mut RawHandle, gauges: *mut Gauges, seen: *mut u64) -> u32;
     pub(crate) fn pelgaisti_session_reserve(session: *mut RawHandle, resources: usize, entries: usize, seen: *mut u64) -> u32;
     pub(crate) fn pelgaisti_session_shrink(session: *mut RawHandle, seen: *mut u64) -> u32;
     pub(crate) fn pelgaisti_session_idle_cells(session: *mut RawHandle, cells: *mut usize, seen: *mut u64) -> u32;

@@ -1,17 +1,19 @@
-//! The counters of an open office.
+//! The counters and the gauges of an open office.
 //!
-//! The question is one look, as those of `queries.rt` are, and serves no calls.
+//! Each question is one look, as those of `queries.rt` are, and serves no calls.
 
 ghost use Rattle.std.specs.Prelude.{◌≡◌, ◌<◌, IfSome, IfNone, length};
+ghost use Rattle.lock_rules.specs.Legal.{state_of};
 ghost use Rattle.publication.specs.Boards.{HasCallsOf};
 ghost use Rattle.combining.specs.Sessions.{IsSessionOf};
 ghost use Rattle.combining.specs.Looks.{HasLooked};
 ghost use Rattle.lock_desk.specs.Counts.{counts_of};
+ghost use Rattle.lock_desk.specs.Gauges.{gauges_of};
 
 use crate::has_book::HasBook;
 use crate::queries::{Snapshot, end_look};
 use combining::Office;
-use lock_desk::Counts;
+use lock_desk::{Counts, Gauges};
 use publication::Ticket as Session;
 
 /// The counters of the office's history of calls, as `Book::counts` tells them.
@@ -29,6 +31,25 @@ pub fn counts<O: HasBook>(office: &Office<O>, session: &mut Session<O>) -> Optio
 {
     let load = office.look(session)?;
     let found = load.object.book().counts();
+    let length = end_look(office, session, load);
+    Some(Snapshot { length, found })
+}
+
+/// The gauges of the office's lock table, as `Book::gauges` tells them: open transactions, locks held, waiting requests, and the most
+/// requests that wait for one resource, all of one moment.
+///
+/// `None` in place of an answer is as `counts` has it. Its cost is that of `Book::gauges`.
+pub fn gauges<O: HasBook>(office: &Office<O>, session: &mut Session<O>) -> Option<Snapshot<Gauges>>
+    requires ours { IsSessionOf office.now session.old }
+    ensures ours { IsSessionOf office.now session.new }
+    ensures looked { IfSome result (λ _. HasLooked O.Sequential session.old session.new) }
+    ensures length { IfSome result (λ seen. seen.length ≡ length (O.calls session.new.front)) }
+    ensures found { IfSome result (λ seen. seen.found ≡ gauges_of office.now.sessions (state_of (O.calls session.new.front))) }
+    ensures none { IfNone result ((session.new ≡ session.old) × (1 < office.now.sessions)) }
+    ensures calls { HasCallsOf session.new.front session.new }
+{
+    let load = office.look(session)?;
+    let found = load.object.book().gauges();
     let length = end_look(office, session, load);
     Some(Snapshot { length, found })
 }

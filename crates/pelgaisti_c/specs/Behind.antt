@@ -18,6 +18,8 @@ use Rattle.pelgaisti_c.specs.declared.claims.ClaimNumbers.{ClaimNumbers}
 use Rattle.pelgaisti_c.specs.contracts.claims.ClaimNumbers.{the_row as claim_row}
 use Rattle.pelgaisti_c.specs.declared.count_numbers.CountNumbers.{CountNumbers}
 use Rattle.pelgaisti_c.specs.contracts.count_numbers.CountNumbers.{the_row as counts_row}
+use Rattle.pelgaisti_c.specs.declared.count_numbers.GaugeNumbers.{GaugeNumbers}
+use Rattle.pelgaisti_c.specs.contracts.count_numbers.GaugeNumbers.{the_row as gauges_row}
 use Rattle.pelgaisti_c.specs.declared.deadlock_numbers.DeadlockNumbers.{DeadlockNumbers}
 use Rattle.pelgaisti_c.specs.contracts.deadlock_numbers.DeadlockNumbers.{the_row as deadlock_row}
 use Rattle.pelgaisti_c.specs.declared.deadlock_numbers.MemberNumbers.{MemberNumbers}
@@ -79,6 +81,9 @@ claim_behind = maybe_at claim_row
 
 abbrev pub counts_behind : Ptr → CountNumbers → Fml
 counts_behind = maybe_at counts_row
+
+abbrev pub gauges_behind : Ptr → GaugeNumbers → Fml
+gauges_behind = maybe_at gauges_row
 
 abbrev pub pass_behind : Ptr → PassNumbers → Fml
 pass_behind = maybe_at pass_row
@@ -146,6 +151,9 @@ claim_coded = claim_row.coded
 
 abbrev pub counts_coded : Coded CountNumbers
 counts_coded = counts_row.coded
+
+abbrev pub gauges_coded : Coded GaugeNumbers
+gauges_coded = gauges_row.coded
 
 abbrev pub pass_coded : Coded PassNumbers
 pass_coded = pass_row.coded

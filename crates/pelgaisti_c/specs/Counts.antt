@@ -1,11 +1,15 @@
--- The counters of a lock table in numbers, as the exports state them.
+-- The counters and gauges of a lock table in numbers, as the exports state them.
 use Rattle.std.specs.Prelude.{◌≡◌, ℕ, List, [], ◌∷◌}
 use Rattle.lock_desk.specs.declared.counts.Calls.{Calls}
 use Rattle.lock_desk.specs.declared.counts.Refusals.{Refusals}
 use Rattle.lock_desk.specs.declared.counts.Counts.{Counts}
+use Rattle.lock_rules.specs.Legal.{state_of}
+use Rattle.lock_desk.specs.declared.gauges.Gauges.{Gauges}
 use Rattle.lock_desk.specs.Counts.{counts_of}
+use Rattle.lock_desk.specs.Gauges.{gauges_of}
 use Rattle.program_office.specs.ProgramBoards.{flat_history}
 use Rattle.pelgaisti_c.specs.declared.count_numbers.CountNumbers.{CountNumbers}
+use Rattle.pelgaisti_c.specs.declared.count_numbers.GaugeNumbers.{GaugeNumbers}
 use Rattle.pelgaisti_c.specs.declared.session_share.SessionShare.{SessionShare}
 use Rattle.pelgaisti_c.specs.Queries.{IsSeen}
 
@@ -39,3 +43,12 @@ numbers_of_counts c = record {
 -- the counters of the moment at which the session had the lock table
 abbrev pub AreCountsSeen : SessionShare → SessionShare → CountNumbers → ℕ → Type 0
 AreCountsSeen before after counts seen = IsSeen before after seen × (counts ≡ numbers_of_counts (counts_of (flat_history after.session.front)))
+
+-- the gauges in numbers
+abbrev pub numbers_of_gauges : Gauges → GaugeNumbers
+numbers_of_gauges g = record { transactions = g.transactions; locks = g.locks; waiting = g.waiting; longest_queue = g.longest_queue }
+
+-- the gauges of the moment at which the session had the lock table
+abbrev pub AreGaugesSeen : SessionShare → SessionShare → GaugeNumbers → ℕ → Type 0
+AreGaugesSeen before after gauges seen =
+    IsSeen before after seen × (gauges ≡ numbers_of_gauges (gauges_of before.sessions (state_of (flat_history after.session.front))))

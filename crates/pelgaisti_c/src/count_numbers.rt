@@ -1,9 +1,9 @@
-//! The counters of a lock table in numbers, as C's struct has them.
+//! The counters and gauges of a lock table in numbers, as C's structs have them.
 
 ghost use Rattle.std.specs.Prelude.{◌≡◌};
-ghost use Rattle.pelgaisti_c.specs.Counts.{calls_by_number, refusals_by_number, numbers_of_counts};
+ghost use Rattle.pelgaisti_c.specs.Counts.{calls_by_number, refusals_by_number, numbers_of_counts, numbers_of_gauges};
 
-use lock_desk::{Calls, Counts, Refusals};
+use lock_desk::{Calls, Counts, Gauges, Refusals};
 
 /// How many counters of calls there are: one for each number of an operation, and the first, which stays 0.
 pub const OP_NUMBERS: usize = 11;
@@ -89,5 +89,27 @@ pub(crate) fn count_numbers(counts: &Counts) -> CountNumbers
         waits_restarted: counts.waits_restarted,
         waiting: counts.waiting,
         deadlocks: counts.deadlocks,
+    }
+}
+
+/// The gauges of a lock table at one moment.
+#[repr(C)]
+#[derive(Clone, Copy)]
+pub struct GaugeNumbers {
+    pub transactions: u64,
+    pub locks: u64,
+    pub waiting: u64,
+    pub longest_queue: u64,
+}
+
+/// The gauges in numbers.
+pub(crate) fn gauge_numbers(gauges: Gauges) -> GaugeNumbers
+    ensures { result ≡ numbers_of_gauges gauges }
+{
+    GaugeNumbers {
+        transactions: gauges.transactions,
+        locks: gauges.locks,
+        waiting: gauges.waiting,
+        longest_queue: gauges.longest_queue,
     }
 }

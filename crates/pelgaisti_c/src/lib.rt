@@ -3,7 +3,7 @@
 //!
 //! Exports: `book.rt`, `listing_exports.rt`, `path_exports.rt`, `path_step_exports.rt`, `program_exports.rt`, `office.rt`, `session.rt`,
 //! `turn_exports.rt`, `path_turn_exports.rt`, `program_turn_exports.rt`, `query_exports.rt`, `deadlock_exports.rt`, `page_exports.rt`,
-//! `dump_exports.rt`, `count_exports.rt`, `memory_exports.rt`, `close_exports.rt`, `version.rt`. What they do, on what a handle holds: `book_calls.rt`, `batch.rt`,
+//! `dump_exports.rt`, `count_exports.rt`, `gauge_exports.rt`, `memory_exports.rt`, `close_exports.rt`, `version.rt`. What they do, on what a handle holds: `book_calls.rt`, `batch.rt`,
 //! `listing.rt`, `path_calls.rt`, `program_calls.rt`, `session_calls.rt`, `turn_calls.rt`, `path_turn_calls.rt`, `program_turn_calls.rt`,
 //! `queries.rt`, `deadlocks.rt`, `pages.rt`, `dump.rt`, `memory_calls.rt`, `hand_in.rt`. Numbers of C's structs: `numbers.rt`,
 //! `program_numbers.rt`, `claims.rt`, `count_numbers.rt`, `deadlock_numbers.rt`, `status.rt`. Handles: `book_handle.rt`, `session_handle.rt`, and what is in them.
@@ -32,6 +32,7 @@ mod deadlocks;
 mod dump;
 mod dump_exports;
 mod ended_list;
+mod gauge_exports;
 mod hand_in;
 mod held_book;
 mod held_share;
@@ -68,7 +69,7 @@ mod version;
 
 pub use book_handle::BookHandle;
 pub use claims::{ClaimNumbers, TransactionNumbers};
-pub use count_numbers::CountNumbers;
+pub use count_numbers::{CountNumbers, GaugeNumbers};
 pub use deadlock_numbers::{DeadlockNumbers, MemberNumbers};
 pub use numbers::{
     AnswerNumbers, CallNumbers, EntryNumbers, HolderNumbers, PassNumbers, ReplyNumbers,
@@ -76,9 +77,9 @@ pub use numbers::{
 };
 pub use pointers::{
     AnswerPointer, BookPointer, CallPointer, ClaimList, ClaimPointer, CountsPointer, DeadlockList,
-    EntryList, HandleList, HolderList, MemberList, PassPointer, ProgramAnswerPointer,
-    ProgramPointer, ReplyPointer, ResourcePointer, SessionList, SessionPointer, SizePointer,
-    TransactionPointer, U32Pointer, U64Pointer,
+    EntryList, GaugesPointer, HandleList, HolderList, MemberList, PassPointer,
+    ProgramAnswerPointer, ProgramPointer, ReplyPointer, ResourcePointer, SessionList,
+    SessionPointer, SizePointer, TransactionPointer, U32Pointer, U64Pointer,
 };
 pub use program_numbers::{ProgramAnswerNumbers, ProgramNumbers};
 pub use session_handle::SessionHandle;

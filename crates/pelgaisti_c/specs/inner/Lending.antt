@@ -11,6 +11,8 @@ use Rattle.pelgaisti_c.specs.declared.claims.ClaimNumbers.{ClaimNumbers}
 use Rattle.pelgaisti_c.specs.contracts.claims.ClaimNumbers.{the_row as claim_row}
 use Rattle.pelgaisti_c.specs.declared.count_numbers.CountNumbers.{CountNumbers}
 use Rattle.pelgaisti_c.specs.contracts.count_numbers.CountNumbers.{the_row as counts_row}
+use Rattle.pelgaisti_c.specs.declared.count_numbers.GaugeNumbers.{GaugeNumbers}
+use Rattle.pelgaisti_c.specs.contracts.count_numbers.GaugeNumbers.{the_row as gauges_row}
 use Rattle.pelgaisti_c.specs.declared.deadlock_numbers.DeadlockNumbers.{DeadlockNumbers}
 use Rattle.pelgaisti_c.specs.contracts.deadlock_numbers.DeadlockNumbers.{the_row as deadlock_row}
 use Rattle.pelgaisti_c.specs.declared.deadlock_numbers.MemberNumbers.{MemberNumbers}
@@ -33,6 +35,8 @@ use Rattle.pelgaisti_c.specs.declared.pointers.structs.ClaimPointer.{ClaimPointe
 use Rattle.pelgaisti_c.specs.contracts.pointers.structs.ClaimPointer.{the_row as claim_pointer_row}
 use Rattle.pelgaisti_c.specs.declared.pointers.structs.CountsPointer.{CountsPointer}
 use Rattle.pelgaisti_c.specs.contracts.pointers.structs.CountsPointer.{the_row as counts_pointer_row}
+use Rattle.pelgaisti_c.specs.declared.pointers.structs.GaugesPointer.{GaugesPointer}
+use Rattle.pelgaisti_c.specs.contracts.pointers.structs.GaugesPointer.{the_row as gauges_pointer_row}
 use Rattle.pelgaisti_c.specs.declared.pointers.structs.PassPointer.{PassPointer}
 use Rattle.pelgaisti_c.specs.contracts.pointers.structs.PassPointer.{the_row as pass_pointer_row}
 use Rattle.pelgaisti_c.specs.declared.pointers.structs.ProgramAnswerPointer.{ProgramAnswerPointer}
@@ -81,6 +85,9 @@ lends_of_claim_pointer p r = LendsIf claim_pointer_row claim_row p r (λ x. reco
 
 abbrev pub lends_of_counts_pointer : MutBor CountsPointer → Option (MutBor CountNumbers) → Fml
 lends_of_counts_pointer p r = LendsIf counts_pointer_row counts_row p r (λ x. record p.now { behind = x }) p.now
+
+abbrev pub lends_of_gauges_pointer : MutBor GaugesPointer → Option (MutBor GaugeNumbers) → Fml
+lends_of_gauges_pointer p r = LendsIf gauges_pointer_row gauges_row p r (λ x. record p.now { behind = x }) p.now
 
 abbrev pub lends_of_pass_pointer : MutBor PassPointer → Option (MutBor PassNumbers) → Fml
 lends_of_pass_pointer p r = LendsIf pass_pointer_row pass_row p r (λ x. record p.now { behind = x }) p.now

@@ -5,14 +5,15 @@ ghost use denote.RawPtr.{Testable, null_ptr};
 ghost use Rattle.pelgaisti_c.specs.declared.numbers.AnswerNumbers.{AnswerNumbers};
 ghost use Rattle.pelgaisti_c.specs.declared.claims.ClaimNumbers.{ClaimNumbers};
 ghost use Rattle.pelgaisti_c.specs.declared.count_numbers.CountNumbers.{CountNumbers};
+ghost use Rattle.pelgaisti_c.specs.declared.count_numbers.GaugeNumbers.{GaugeNumbers};
 ghost use Rattle.pelgaisti_c.specs.declared.numbers.PassNumbers.{PassNumbers};
 ghost use Rattle.pelgaisti_c.specs.declared.numbers.ReplyNumbers.{ReplyNumbers};
 ghost use Rattle.pelgaisti_c.specs.declared.claims.TransactionNumbers.{TransactionNumbers};
 ghost use Rattle.pelgaisti_c.specs.declared.program_numbers.ProgramAnswerNumbers.{ProgramAnswerNumbers};
-ghost use Rattle.pelgaisti_c.specs.Behind.{answer_coded, claim_coded, counts_coded, pass_coded, program_answer_coded, reply_coded, transaction_coded};
+ghost use Rattle.pelgaisti_c.specs.Behind.{answer_coded, claim_coded, counts_coded, gauges_coded, pass_coded, program_answer_coded, reply_coded, transaction_coded};
 
 use crate::claims::{ClaimNumbers, TransactionNumbers};
-use crate::count_numbers::CountNumbers;
+use crate::count_numbers::{CountNumbers, GaugeNumbers};
 use crate::numbers::{AnswerNumbers, PassNumbers, ReplyNumbers};
 use crate::program_numbers::ProgramAnswerNumbers;
 use std::marker::Model;
@@ -100,6 +101,37 @@ impl CountsPointer {
     /// What lies behind the pointer, or `None` at null.
     pub(crate) fn get(&mut self) -> Option<&mut CountNumbers>
         ensures* lends { sem 𝓛 (lends_of_counts_pointer self.entry result) }
+        ensures value { MatchOption result (self.old.at ≡ null_ptr) (λ r. (self.old.at ≢ null_ptr) × (r.now ≡ self.old.behind)) }
+    {
+        let at = self.at;
+        if at == std::ptr::null_mut() {
+            return None;
+        }
+        unsafe { Some(&mut *at) }
+    }
+}
+
+/// A pointer of C, null or to gauges.
+#[repr(C)]
+pub struct GaugesPointer {
+    pub at: *mut GaugeNumbers,
+    ghost testable: { Testable at },
+    pub ghost behind: { GaugeNumbers } by { gauges_coded },
+}
+
+impl Model for GaugesPointer {
+    ghost use Rattle.pelgaisti_c.specs.Behind.{gauges_behind};
+
+    ghost also_owns = { λ p. gauges_behind p.at p.behind };
+}
+
+impl GaugesPointer {
+    ghost use Rattle.std.specs.Borrow.{sem};
+    ghost use Rattle.pelgaisti_c.specs.inner.Lending.{lends_of_gauges_pointer};
+
+    /// What lies behind the pointer, or `None` at null.
+    pub(crate) fn get(&mut self) -> Option<&mut GaugeNumbers>
+        ensures* lends { sem 𝓛 (lends_of_gauges_pointer self.entry result) }
         ensures value { MatchOption result (self.old.at ≡ null_ptr) (λ r. (self.old.at ≢ null_ptr) × (r.now ≡ self.old.behind)) }
     {
         let at = self.at;

@@ -1,14 +1,16 @@
-//! The counters of an open office, as a session asks for them, as `lock_office::counts` does.
+//! The counters and gauges of an open office, as a session asks for them by `lock_office::counts`.
 
 ghost use Rattle.std.specs.Prelude.{◌≡◌, ◌<◌, IfSome, IfNone, length};
+ghost use Rattle.lock_rules.specs.Legal.{state_of};
 ghost use Rattle.lock_desk.specs.Counts.{counts_of};
+ghost use Rattle.lock_desk.specs.Gauges.{gauges_of};
 ghost use Rattle.publication.specs.Boards.{HasCallsOf};
 ghost use Rattle.program_office.specs.ProgramBoards.{flat_history};
 ghost use Rattle.program_office.specs.Sessions.{IsSessionOf, HasLooked};
 
 use crate::Office;
 use crate::call_session::CallSession;
-use lock_desk::Counts;
+use lock_desk::{Counts, Gauges};
 use lock_office::counts;
 use lock_office::queries::Snapshot;
 
@@ -25,6 +27,22 @@ impl CallSession {
         ensures calls { HasCallsOf self.new.front self.new }
     {
         let told = counts::counts(office, &mut self.session)?;
+        self.seen = told.length;
+        Some(told)
+    }
+
+    /// The gauges of the lock table, as `lock_office::counts::gauges` tells them. `None` in place of an answer, with nothing changed, means
+    /// that another session had the lock table.
+    pub fn gauges(&mut self, office: &Office) -> Option<Snapshot<Gauges>>
+        requires ours { IsSessionOf office.now self.old }
+        ensures ours { IsSessionOf office.now self.new }
+        ensures looked { IfSome result (λ _. HasLooked self.old self.new) }
+        ensures length { IfSome result (λ seen. seen.length ≡ length (flat_history self.new.front)) }
+        ensures found { IfSome result (λ seen. seen.found ≡ gauges_of office.now.sessions (state_of (flat_history self.new.front))) }
+        ensures none { IfNone result ((self.new ≡ self.old) × (1 < office.now.sessions)) }
+        ensures calls { HasCallsOf self.new.front self.new }
+    {
+        let told = counts::gauges(office, &mut self.session)?;
         self.seen = told.length;
         Some(told)
     }
