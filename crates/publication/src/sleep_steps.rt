@@ -2,9 +2,9 @@
 //! sleep, rouses them, and wakes their threads.
 //!
 //! A record's sleep word lies in the cache line of its state word, the board's in that of the lock word.
-ghost use Rattle.std.specs.Prelude.{◌≡◌, ◌+◌, ◌<◌, ◌≤◌, ◌≢◌, ℕ, ◌∷◌, [], length, set, true, false};
+ghost use Rattle.std.specs.Prelude.{◌≡◌, ◌+◌, ◌≤◌, ◌≢◌, ℕ, ◌∷◌, [], true, false};
 ghost use Rattle.publication.specs.Kinds.{with_sleep};
-ghost use Rattle.publication.specs.Sleep.{lain, having_told, having_seen, risen, having_looked, sweeping, passing, rousing, waking, but_latest, HasNoDebts, IsAtRest, IsSameSleep, AreRoused};
+ghost use Rattle.publication.specs.Sleep.{lain, having_told, having_seen, risen, having_looked, sweeping, passing, rousing, waking, but_latest, HasNoDebts, IsAtRest, IsSameSleep};
 ghost use Rattle.publication.specs.inner.Tickets.{IsBoard, IsAt};
 
 use crate::kinds::{
@@ -112,7 +112,7 @@ fn park<O: Sequential, R: Wait>(rt: &R, shared: &Shared<O>, seat: &Seat<O>, at: 
 }
 
 /// Whether a session may sleep: reads the board's sleep word, and writes AWAKE if it is ASLEEP. Then all records are to be looked at.
-fn look_for_sleepers<O: Sequential>(shared: &Shared<O>, seat: &mut Seat<O>) -> bool
+pub(crate) fn look_for_sleepers<O: Sequential>(shared: &Shared<O>, seat: &mut Seat<O>) -> bool
     requires ours { seat.old.table_id ≡ shared.now.table_id }
     requires board { IsBoard shared.now.table_id }
     requires mine { seat.old.me.0.number ≢ 0 }
@@ -130,7 +130,7 @@ fn look_for_sleepers<O: Sequential>(shared: &Shared<O>, seat: &mut Seat<O>) -> b
 
 /// Ends the sleep of the session of record `at`, if its sleep word is ASLEEP, and returns whether it was. The seat then owes a wake-up.
 /// Needs all records above to be looked at.
-fn rouse<O: Sequential>(shared: &Shared<O>, seat: &mut Seat<O>, at: usize) -> bool
+pub(crate) fn rouse<O: Sequential>(shared: &Shared<O>, seat: &mut Seat<O>, at: usize) -> bool
     requires ours { seat.old.table_id ≡ shared.now.table_id }
     requires board { IsBoard shared.now.table_id }
     requires at { IsAt shared.now.table_id at }
@@ -214,90 +214,6 @@ pub(crate) fn wake_sleepers<O: Sequential>(
         whose -= 1;
     }
     woken
-}
-
-/// Notes the wake-up for the latest sleep that the seat has ended, of the session of record `at`, as made. Who is told of the session
-/// makes it.
-fn leave_wake_up<O: Sequential>(shared: &Shared<O>, seat: &mut Seat<O>, at: usize)
-    requires ours { seat.old.table_id ≡ shared.now.table_id }
-    requires board { IsBoard shared.now.table_id }
-    requires at { IsAt shared.now.table_id at }
-    requires mine { seat.old.me.0.number ≢ 0 }
-    requires latest { (n : ℕ) × (seat.old.me.0.sleep.owes ≡ (at, n) ∷ but_latest seat.old.me.0.sleep.owes) }
-    ensures ours { seat.new.table_id ≡ seat.old.table_id }
-    ensures step { seat.new.me ≡ (with_sleep seat.old.me.0 seat.new.me.0.sleep, seat.old.me.1) }
-    ensures sleep { seat.new.me.0.sleep ≡ waking seat.old.me.0.sleep }
-{
-    let _whose = at;
-    shared.load::<WakeUp>(seat, 0);
-}
-
-/// Looks at the record `at`, all records above being looked at: ends its session's sleep if it sleeps, and leaves the wake-up to who is
-/// told of the session. Returns whether it did.
-fn rouse_and_leave<O: Sequential>(shared: &Shared<O>, seat: &mut Seat<O>, at: usize) -> bool
-    requires ours { seat.old.table_id ≡ shared.now.table_id }
-    requires board { IsBoard shared.now.table_id }
-    requires at { IsAt shared.now.table_id at }
-    requires mine { seat.old.me.0.number ≢ 0 }
-    requires above { seat.old.me.0.sleep.sweeps ≤ at + 1 }
-    ensures ours { seat.new.table_id ≡ seat.old.table_id }
-    ensures step { seat.new.me ≡ (with_sleep seat.old.me.0 seat.new.me.0.sleep, seat.old.me.1) }
-    ensures own { IsSameSleep seat.old.me.0.sleep seat.new.me.0.sleep }
-    ensures looks { seat.new.me.0.sleep.looks ≡ seat.old.me.0.sleep.looks }
-    ensures looked { seat.new.me.0.sleep.sweeps ≤ at }
-    ensures owes { seat.new.me.0.sleep.owes ≡ seat.old.me.0.sleep.owes }
-    ensures woken { result ≡ true → (n : ℕ) × (seat.new.me.0.sleep.woken ≡ (at, n) ∷ seat.old.me.0.sleep.woken) }
-    ensures none { result ≡ false → seat.new.me.0.sleep.woken ≡ seat.old.me.0.sleep.woken }
-{
-    if !rouse(shared, seat, at) {
-        return false;
-    }
-    leave_wake_up(shared, seat, at);
-    true
-}
-
-/// Writes the session to the array, behind so many.
-fn write_session(list: &mut [u32], count: u16, whose: u16)
-    requires room { count < length list.old }
-    ensures { list.new ≡ set list.old count whose }
-{
-    list[usize::from(count)] = u32::from(whose);
-}
-
-/// Looks as `wake_sleepers` does, and wakes nobody: it writes the sessions whose sleep it has ended to the front of `list`, and returns how
-/// many they are. The caller wakes their threads.
-pub(crate) fn rouse_sleepers<O: Sequential>(
-    shared: &Shared<O>,
-    seat: &mut Seat<O>,
-    sessions: u16,
-    list: &mut [u32],
-) -> u16
-    requires ours { seat.old.table_id ≡ shared.now.table_id }
-    requires board { IsBoard shared.now.table_id }
-    requires slots { shared.now.table_id.slots ≡ sessions + 1 }
-    requires mine { seat.old.me.0.number ≢ 0 }
-    requires debts { HasNoDebts seat.old.me.0.sleep }
-    requires room { sessions ≤ length list.old }
-    ensures ours { seat.new.table_id ≡ seat.old.table_id }
-    ensures step { seat.new.me ≡ (with_sleep seat.old.me.0 seat.new.me.0.sleep, seat.old.me.1) }
-    ensures own { IsSameSleep seat.old.me.0.sleep seat.new.me.0.sleep }
-    ensures rest { IsAtRest seat.new.me.0.sleep }
-    ensures roused { AreRoused sessions 0 seat.old.me.0.sleep seat.new.me.0.sleep list.old list.new result }
-    ensures few { result ≤ sessions }
-{
-    let mut count = 0;
-    if !look_for_sleepers(shared, seat) {
-        return count;
-    }
-    let mut whose = sessions;
-    while whose > 0 {
-        if rouse_and_leave(shared, seat, usize::from(whose)) {
-            write_session(list, count, whose);
-            count += 1;
-        }
-        whose -= 1;
-    }
-    count
 }
 
 /// Sleeps, as a session that has begun a sleep, until some seat has ended the sleep, or the lock word is free. It returns for no other

@@ -8,7 +8,7 @@ ghost use Rattle.publication.specs.Boards.{IsOf};
 ghost use Rattle.publication.specs.Sleep.{AreWritten};
 
 use crate::board::{Board, Ticket};
-use crate::sleep_steps;
+use crate::{rouse_steps, sleep_steps};
 use sequential::Sequential;
 use std::sync::Wait;
 
@@ -87,6 +87,6 @@ impl<O: Sequential> Board<O> {
         ensures told { (told : List ℕ) × AreWritten self.now.sessions 0 told list.old list.new result }
         ensures few { result ≤ self.now.sessions }
     {
-        sleep_steps::rouse_sleepers(&self.table.shared, &mut ticket.seat, self.sessions, list)
+        rouse_steps::rouse_sleepers(&self.table.shared, &mut ticket.seat, self.sessions, list)
     }
 }

@@ -1,6 +1,6 @@
 use Rattle.std.proofs.Common.{rules, refl, arith}
 use Rattle.publication.proofs.SleepKinds.{wake_kept}
-use Rattle.publication.proofs.sleep_steps.leave_wake_up.Goals as goal
+use Rattle.publication.proofs.rouse_steps.leave_wake_up.Goals as goal
 
 pub load-requires : goal.load-requires
 load-requires g c = let m = c.args.seat.now.me in let mine = c.requires.mine in

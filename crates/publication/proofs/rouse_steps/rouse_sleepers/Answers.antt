@@ -1,8 +1,8 @@
 use Rattle.std.proofs.Common.{rules, ◌≡◌, ◌∷◌, ℕ, ◌+◌, ◌-◌, List, set, subst, sym, ◌∙◌, arith}
 use Rattle.publication.specs.Sleep.{Sleep, AreRoused}
 use Rattle.publication.proofs.WrittenSessions.{roused_on, roused_past}
-use Rattle.publication.proofs.sleep_steps.rouse_sleepers.Goals as goal
-use Rattle.publication.proofs.sleep_steps.rouse_sleepers.Goals.{then-rouse_and_leave, else-rouse_and_leave}
+use Rattle.publication.proofs.rouse_steps.rouse_sleepers.Goals as goal
+use Rattle.publication.proofs.rouse_steps.rouse_sleepers.Goals.{then-rouse_and_leave, else-rouse_and_leave}
 
 pub loop-whose-preserved : goal.loop-whose-preserved
 loop-whose-preserved g c =

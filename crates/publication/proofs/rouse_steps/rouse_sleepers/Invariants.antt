@@ -1,7 +1,7 @@
 use Rattle.std.proofs.Common.{◌≡◌, ◌≤◌, ◌+◌, false}
 use Rattle.publication.specs.Kinds.{with_sleep}
 use Rattle.publication.specs.Sleep.{IsSameSleep, AreRoused}
-use Rattle.publication.proofs.sleep_steps.rouse_sleepers.Given as goal
+use Rattle.publication.proofs.rouse_steps.rouse_sleepers.Given as goal
 
 abbrev pub invariant-loop-whose : goal.invariant-loop-whose
 invariant-loop-whose g l = record {

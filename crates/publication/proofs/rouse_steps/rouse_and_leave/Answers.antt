@@ -1,6 +1,6 @@
 use Rattle.std.proofs.Common.{rules, ◌∷◌, ◌∙◌, sym, ap}
 use Rattle.publication.specs.Sleep.{Sleep, but_latest, with_latest}
-use Rattle.publication.proofs.sleep_steps.rouse_and_leave.Goals as goal
+use Rattle.publication.proofs.rouse_steps.rouse_and_leave.Goals as goal
 
 pub leave_wake_up-requires-clause-latest : goal.leave_wake_up-requires-clause-latest
 leave_wake_up-requires-clause-latest g c =
