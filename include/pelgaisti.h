@@ -25,7 +25,7 @@
  * each call is answered at once. An OFFICE is a lock table that threads share. Each thread has a session. Where the lock table is
  * free, it performs a call at once. Else it publishes the call, then serves and collects in turn until it has the answer.
  * pelgaisti_session_perform, pelgaisti_session_run and pelgaisti_session_lock_path do so, as often as they are told, and pause between
- * their turns. No other call waits for another thread.
+ * their turns, or sleep until the thread that has the lock table gives it back. No other call waits for another thread.
  *
  * RULES FOR THE CALLER. The library is proved, but no proof covers the C code that calls it. Some calls have further rules, in
  * their comments after "Requires".
@@ -944,7 +944,9 @@ pelgaisti_status pelgaisti_office_close(pelgaisti_session *session, pelgaisti_bo
 
 /* Makes a whole call, in at most `turns` turns, between which the thread pauses or yields the processor. In the first 32 turns it tries
    to perform the call at once; in the next it publishes it, and from then on it serves, at every eighth turn, and looks for the
-   answer. Behind the last turn the call is published, if it isn't yet. With 0 turns it is published and nothing else. With NULL for
+   answer. Behind 128 turns, and every eighth from then on, the thread sleeps in the kernel, if another session has the lock table: until
+   that one has given it back. Behind the last turn it doesn't, so a call of at most 128 turns never sleeps. Each call that may have had
+   the lock table wakes who sleeps, before it calls the waker. Behind the last turn the call is published, if it isn't yet. With 0 turns it is published and nothing else. With NULL for
    `call` all turns look for the answer to the call that is pending; with 0 turns none does.
    The answer may be WAITING: this call waits for an answer, not for a lock. Whoever waits for a lock sleeps until the office's waker
    wakes it, and then polls. In an office without a waker it polls, and sleeps between two polls: 10 microseconds at first, and twice

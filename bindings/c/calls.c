@@ -294,6 +294,55 @@ static COLD void wake_listed(pelgaisti_session *session, const uint32_t *list, s
     if (waker) wake_each(waker, list, count);
 }
 
+/* ---- Sleep: a session that has waited for long in a whole call sleeps, and whoever had the lock table wakes it. The archive says who may
+   sleep, and whom to wake. ---- */
+
+/* The turns that a whole call makes before its thread sleeps, as those of the crate sleeping_calls, and the turns between two sleeps: the
+   first of them tries for the lock table. */
+enum { TURNS_AWAKE = 128, TURNS_BETWEEN_SLEEPS = 8 };
+
+/* Ends the sleeps of all sessions of the office, and wakes their threads. Reads one word if nobody sleeps. */
+static __attribute__((noinline)) void wake_sleepers(pelgaisti_session *session) {
+    uint32_t list[PELGAISTI_MAX_SESSIONS];
+    uint64_t mark = 0, *at = &mark;
+    size_t k, count = 0;
+    CALL(session, pelgaisti_raw_session_rouse(&session, list, PELGAISTI_MAX_SESSIONS, &count));
+    if (count == 0) return;
+    CALL(session, pelgaisti_raw_session_mark(&session, &at));
+    for (k = 0; k < count; k++) wake_thread(mark, list[k]);
+}
+
+/* The status of a call by which the session may have had the lock table. */
+static inline pelgaisti_status behind_hold(pelgaisti_session *session, pelgaisti_status status) {
+    wake_sleepers(session);
+    return status;
+}
+
+#define HOLDING(session, call) behind_hold(session, CALL(session, call))
+
+/* Sleeps until another session's thread has ended the sleep. Returns at once if the lock table is free. The count of wake-ups is read
+   before the look whether the sleep is ended: a wake-up behind the look changes it, and the thread doesn't sleep past it. */
+static COLD void sleep_until_roused(pelgaisti_session *session) {
+    uint64_t mark = 0, *at = &mark;
+    uint32_t number = 0, may_sleep = 0, is_roused = 0, seen;
+    wake_sleepers(session);
+    CALL(session, pelgaisti_raw_session_mark(&session, &at));
+    CALL(session, pelgaisti_raw_session_begin_sleep(&session, &number, &may_sleep));
+    while (may_sleep) {
+        seen = wake_ups_so_far(mark, number);
+        CALL(session, pelgaisti_raw_session_is_roused(&session, &is_roused));
+        if (is_roused) return;
+        sleep_since(mark, number, seen);
+    }
+}
+
+/* What comes between two turns, behind `made` turns of at most `turns`, the last of which said so: a wait, or a sleep. Behind the last turn
+   no call sleeps. */
+static void wait_or_sleep(pelgaisti_session *session, uint32_t wait, uint64_t made, uint64_t turns) {
+    if (made >= TURNS_AWAKE && made < turns && made % TURNS_BETWEEN_SLEEPS == 0) sleep_until_roused(session);
+    else wait_before_turn(wait);
+}
+
 /* ---- Sessions. ---- */
 
 pelgaisti_status pelgaisti_session_publish(pelgaisti_session *session, const pelgaisti_call *call, uint32_t *posted) {
@@ -305,7 +354,7 @@ pelgaisti_status pelgaisti_session_serve(pelgaisti_session *session, pelgaisti_p
     pelgaisti_pass unread, *made = pass ? pass : &unread;
     pelgaisti_status status;
     size_t told = 0;
-    status = CALL(session, pelgaisti_raw_session_serve(&session, &made, &told));
+    status = HOLDING(session, pelgaisti_raw_session_serve(&session, &made, &told));
     if (told > 0) wake_told(session, told);
     return WRITING(made, status);
 }
@@ -314,7 +363,7 @@ pelgaisti_status pelgaisti_session_serve_telling(pelgaisti_session *session, pel
                                                  size_t *count) {
     pelgaisti_pass unread, *made = pass ? pass : &unread;
     pelgaisti_status status;
-    status = CALL(session, pelgaisti_raw_session_serve_telling(&session, &made, LIST(list, room), &count));
+    status = HOLDING(session, pelgaisti_raw_session_serve_telling(&session, &made, LIST(list, room), &count));
     if (status == PELGAISTI_OK && *count > 0) wake_listed(session, list, *count);
     return WRITING(made, LISTING(list, room, count, status));
 }
@@ -326,6 +375,7 @@ pelgaisti_status pelgaisti_session_perform_at_once(pelgaisti_session *session, c
     size_t told = 0;
     status = ORDERING_CALL(session, RELEASES | ACQUIRES,
                            pelgaisti_raw_session_perform_at_once(&session, &call, &made, &answer, &told));
+    wake_sleepers(session);
     if (told > 0) wake_told(session, told);
     return WRITING(made, WRITING(answer, status));
 }
@@ -336,6 +386,7 @@ pelgaisti_status pelgaisti_session_perform_telling(pelgaisti_session *session, c
     pelgaisti_status status;
     status = ORDERING_CALL(session, RELEASES | ACQUIRES,
                            pelgaisti_raw_session_perform_telling(&session, &call, &made, &answer, LIST(list, room), &count));
+    wake_sleepers(session);
     if ((status == PELGAISTI_OK || status == PELGAISTI_NO_MEMORY) && *count > 0) wake_listed(session, list, *count);
     return WRITING(made, WRITING(answer, LISTING(list, room, count, status)));
 }
@@ -369,9 +420,10 @@ static inline __attribute__((always_inline)) pelgaisti_status make_turn(struct w
 static COLD pelgaisti_status go_on(struct whole_call *it, pelgaisti_status status) {
     uint64_t made;
     for (made = 1;; made++) {
+        if (status != PELGAISTI_NOT_SERVED) wake_sleepers(it->session);
         if (it->told > 0) wake_told(it->session, it->told);
         if (status != PELGAISTI_NOT_SERVED || it->wait == 0) return status;
-        wait_before_turn(it->wait);
+        wait_or_sleep(it->session, it->wait, made, it->turns);
         status = make_turn(it, made);
     }
 }
@@ -385,7 +437,9 @@ pelgaisti_status pelgaisti_session_perform(pelgaisti_session *session, const pel
     it.turns = turns;
     it.answer = answer;
     status = make_turn(&it, 0);
-    return WRITING(answer, status == PELGAISTI_OK && it.told == 0 ? status : go_on(&it, status));
+    if (status != PELGAISTI_OK || it.told > 0) return WRITING(answer, go_on(&it, status));
+    wake_sleepers(session);
+    return WRITING(answer, status);
 }
 
 pelgaisti_status pelgaisti_session_lock_path(pelgaisti_session *session, const pelgaisti_resource *resource, uint32_t mode,
@@ -398,9 +452,10 @@ pelgaisti_status pelgaisti_session_lock_path(pelgaisti_session *session, const p
         status = ORDERING_CALL(session, RELEASES | ACQUIRES | IN_PARTS,
                                pelgaisti_raw_session_path_turn(&session, &resource, mode, &level, &made, turns, &answer, &wait,
                                                                &told));
+        if (status != PELGAISTI_NOT_SERVED || made == 0) wake_sleepers(session);
         if (told > 0) wake_told(session, told);
         if (status != PELGAISTI_NOT_SERVED || wait == 0) return WRITING(answer, status);
-        wait_before_turn(wait);
+        wait_or_sleep(session, wait, made, turns);
     }
 }
 
@@ -422,76 +477,77 @@ pelgaisti_status pelgaisti_session_run(pelgaisti_session *session, const pelgais
     for (made = 0;; made++) {
         told = 0;
         status = run_turn(session, program, made, turns, answer, &wait, &told);
+        if (status != PELGAISTI_NOT_SERVED) wake_sleepers(session);
         if (told > 0) wake_told(session, told);
         if (status != PELGAISTI_NOT_SERVED || wait == 0) return WRITING(answer, status);
-        wait_before_turn(wait);
+        wait_or_sleep(session, wait, made + 1, turns);
     }
 }
 
 pelgaisti_status pelgaisti_session_take_history(pelgaisti_session *session, uint64_t *first, pelgaisti_entry *entries,
                                                 size_t room, size_t *count) {
     return WRITING(first, LISTING(entries, room, count,
-                   CALL(session, pelgaisti_raw_session_take_history(&session, &first, LIST(entries, room), &count))));
+                   HOLDING(session, pelgaisti_raw_session_take_history(&session, &first, LIST(entries, room), &count))));
 }
 
 pelgaisti_status pelgaisti_session_held(pelgaisti_session *session, uint32_t whose, const pelgaisti_resource *resource,
                                         uint32_t *mode, uint64_t *seen) {
-    return WRITING(mode, WRITING(seen, CALL(session, pelgaisti_raw_session_held(&session, whose, &resource, &mode, &seen))));
+    return WRITING(mode, WRITING(seen, HOLDING(session, pelgaisti_raw_session_held(&session, whose, &resource, &mode, &seen))));
 }
 
 pelgaisti_status pelgaisti_session_transaction(pelgaisti_session *session, uint32_t whose, pelgaisti_transaction *open,
                                                uint64_t *seen) {
-    return WRITING(open, WRITING(seen, CALL(session, pelgaisti_raw_session_transaction(&session, whose, &open, &seen))));
+    return WRITING(open, WRITING(seen, HOLDING(session, pelgaisti_raw_session_transaction(&session, whose, &open, &seen))));
 }
 
 pelgaisti_status pelgaisti_session_request(pelgaisti_session *session, uint32_t whose, pelgaisti_claim *waiting, uint64_t *seen) {
-    return WRITING(waiting, WRITING(seen, CALL(session, pelgaisti_raw_session_request(&session, whose, &waiting, &seen))));
+    return WRITING(waiting, WRITING(seen, HOLDING(session, pelgaisti_raw_session_request(&session, whose, &waiting, &seen))));
 }
 
 pelgaisti_status pelgaisti_session_waits_for(pelgaisti_session *session, uint32_t whose, uint32_t other, uint32_t *edge,
                                              uint64_t *seen) {
-    return WRITING(edge, WRITING(seen, CALL(session, pelgaisti_raw_session_waits_for(&session, whose, other, &edge, &seen))));
+    return WRITING(edge, WRITING(seen, HOLDING(session, pelgaisti_raw_session_waits_for(&session, whose, other, &edge, &seen))));
 }
 
 pelgaisti_status pelgaisti_session_holders(pelgaisti_session *session, const pelgaisti_resource *resource, pelgaisti_holder *list,
                                            size_t room, size_t *count, uint64_t *seen) {
     return LISTING(list, room, count, WRITING(seen,
-                   CALL(session, pelgaisti_raw_session_holders(&session, &resource, LIST(list, room), &count, &seen))));
+                   HOLDING(session, pelgaisti_raw_session_holders(&session, &resource, LIST(list, room), &count, &seen))));
 }
 
 pelgaisti_status pelgaisti_session_blockers(pelgaisti_session *session, uint32_t whose, uint32_t *list, size_t room,
                                             size_t *count, uint64_t *seen) {
     return LISTING(list, room, count, WRITING(seen,
-                   CALL(session, pelgaisti_raw_session_blockers(&session, whose, LIST(list, room), &count, &seen))));
+                   HOLDING(session, pelgaisti_raw_session_blockers(&session, whose, LIST(list, room), &count, &seen))));
 }
 
 pelgaisti_status pelgaisti_session_locks(pelgaisti_session *session, size_t first, pelgaisti_claim *list, size_t room,
                                          size_t *count, uint64_t *seen) {
     return LISTING(list, room, count, WRITING(seen,
-                   CALL(session, pelgaisti_raw_session_locks(&session, first, LIST(list, room), &count, &seen))));
+                   HOLDING(session, pelgaisti_raw_session_locks(&session, first, LIST(list, room), &count, &seen))));
 }
 
 pelgaisti_status pelgaisti_session_deadlocks(pelgaisti_session *session, pelgaisti_deadlock *list, size_t room, size_t *count,
                                              pelgaisti_member *members, size_t member_room, size_t *member_count,
                                              uint64_t *seen) {
     return LISTING(list, room, count, LISTING(members, member_room, member_count, WRITING(seen,
-                   CALL(session, pelgaisti_raw_session_deadlocks(&session, LIST(list, room), &count, LIST(members, member_room),
+                   HOLDING(session, pelgaisti_raw_session_deadlocks(&session, LIST(list, room), &count, LIST(members, member_room),
                         &member_count, &seen)))));
 }
 
 pelgaisti_status pelgaisti_session_locks_held(pelgaisti_session *session, uint32_t whose, size_t *count, uint64_t *seen) {
-    return WRITING(count, WRITING(seen, CALL(session, pelgaisti_raw_session_locks_held(&session, whose, &count, &seen))));
+    return WRITING(count, WRITING(seen, HOLDING(session, pelgaisti_raw_session_locks_held(&session, whose, &count, &seen))));
 }
 
 pelgaisti_status pelgaisti_session_locks_of(pelgaisti_session *session, uint32_t whose, const pelgaisti_resource *after,
                                             pelgaisti_claim *list, size_t room, size_t *count, uint64_t *seen) {
     return LISTING(list, room, count, WRITING(seen,
-                   CALL(session, pelgaisti_raw_session_locks_of(&session, whose, &after, LIST(list, room), &count, &seen))));
+                   HOLDING(session, pelgaisti_raw_session_locks_of(&session, whose, &after, LIST(list, room), &count, &seen))));
 }
 
 pelgaisti_status pelgaisti_session_dump(pelgaisti_session *session, pelgaisti_claim *rows, size_t room, size_t *count, uint64_t *seen) {
     return LISTING(rows, room, count, WRITING(seen,
-                   CALL(session, pelgaisti_raw_session_dump(&session, LIST(rows, room), &count, &seen))));
+                   HOLDING(session, pelgaisti_raw_session_dump(&session, LIST(rows, room), &count, &seen))));
 }
 
 pelgaisti_status pelgaisti_session_counts(pelgaisti_session *session, pelgaisti_counts *counts, uint64_t *seen) {
@@ -503,15 +559,15 @@ pelgaisti_status pelgaisti_session_gauges(pelgaisti_session *session, pelgaisti_
 }
 
 pelgaisti_status pelgaisti_session_reserve(pelgaisti_session *session, size_t resources, size_t entries, uint64_t *seen) {
-    return WRITING(seen, CALL(session, pelgaisti_raw_session_reserve(&session, resources, entries, &seen)));
+    return WRITING(seen, HOLDING(session, pelgaisti_raw_session_reserve(&session, resources, entries, &seen)));
 }
 
 pelgaisti_status pelgaisti_session_shrink(pelgaisti_session *session, uint64_t *seen) {
-    return WRITING(seen, CALL(session, pelgaisti_raw_session_shrink(&session, &seen)));
+    return WRITING(seen, HOLDING(session, pelgaisti_raw_session_shrink(&session, &seen)));
 }
 
 pelgaisti_status pelgaisti_session_idle_cells(pelgaisti_session *session, size_t *cells, uint64_t *seen) {
-    return WRITING(cells, WRITING(seen, CALL(session, pelgaisti_raw_session_idle_cells(&session, &cells, &seen))));
+    return WRITING(cells, WRITING(seen, HOLDING(session, pelgaisti_raw_session_idle_cells(&session, &cells, &seen))));
 }
 
 pelgaisti_status pelgaisti_session_seen(pelgaisti_session *session, uint64_t *seen) {

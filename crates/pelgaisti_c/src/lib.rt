@@ -3,10 +3,11 @@
 //!
 //! Exports: `book.rt`, `listing_exports.rt`, `path_exports.rt`, `path_step_exports.rt`, `program_exports.rt`, `office.rt`, `session.rt`,
 //! `turn_exports.rt`, `path_turn_exports.rt`, `program_turn_exports.rt`, `query_exports.rt`, `deadlock_exports.rt`, `page_exports.rt`,
-//! `dump_exports.rt`, `count_exports.rt`, `gauge_exports.rt`, `memory_exports.rt`, `close_exports.rt`, `version.rt`. What they do, on what a handle holds: `book_calls.rt`, `batch.rt`,
-//! `listing.rt`, `path_calls.rt`, `program_calls.rt`, `session_calls.rt`, `turn_calls.rt`, `path_turn_calls.rt`, `program_turn_calls.rt`,
-//! `queries.rt`, `deadlocks.rt`, `pages.rt`, `dump.rt`, `memory_calls.rt`, `hand_in.rt`. Numbers of C's structs: `numbers.rt`,
-//! `program_numbers.rt`, `claims.rt`, `count_numbers.rt`, `deadlock_numbers.rt`, `status.rt`. Handles: `book_handle.rt`, `session_handle.rt`, and what is in them.
+//! `dump_exports.rt`, `count_exports.rt`, `gauge_exports.rt`, `memory_exports.rt`, `sleep_exports.rt`, `close_exports.rt`, `version.rt`. What
+//! they do, on what a handle holds: `book_calls.rt`, `batch.rt`, `listing.rt`, `path_calls.rt`, `program_calls.rt`, `session_calls.rt`,
+//! `turn_calls.rt`, `path_turn_calls.rt`, `program_turn_calls.rt`, `queries.rt`, `deadlocks.rt`, `pages.rt`, `dump.rt`, `memory_calls.rt`,
+//! `sleep_calls.rt`, `hand_in.rt`. Numbers of C's structs: `numbers.rt`, `program_numbers.rt`, `claims.rt`, `count_numbers.rt`,
+//! `deadlock_numbers.rt`, `status.rt`. Handles: `book_handle.rt`, `session_handle.rt`, and what is in them.
 //!
 //! An export tests the caller's pointers for null, which C gives by their addresses (`pointers/`), takes the value out of the handle, makes
 //! one call of `lock_desk`, `combining` or `program_office`, writes the reply in numbers, puts the value back, and returns a status. Of what it
@@ -62,6 +63,8 @@ mod session;
 mod session_calls;
 mod session_handle;
 mod session_share;
+mod sleep_calls;
+mod sleep_exports;
 mod status;
 mod turn_calls;
 mod turn_exports;

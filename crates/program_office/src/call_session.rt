@@ -2,7 +2,7 @@
 //!
 //! Its single calls are those of `combining`, in its files `performing.rt`, `turning.rt`, `calling.rt` and `looking.rt`, and are answered with
 //! the place of the call in the history of calls, and the reply. `running.rt` makes a whole program, turn by turn. `descending.rt` goes down a
-//! path, by a program of several calls. `dumping.rt` copies the lock table.
+//! path, by a program of several calls. `dumping.rt` copies the lock table. `sleeping.rt` is for callers whose threads park by themselves.
 //!
 //! What is pending may be a program of several calls. A call that takes its answer as that of a single call tells the last reply and its place.
 
@@ -31,6 +31,7 @@ mod looking;
 mod paging;
 mod performing;
 mod running;
+mod sleeping;
 mod turning;
 
 use crate::{HistoryPiece, Office, Session};

@@ -33,6 +33,7 @@ pub mod Learning
 pub mod SleepKinds
 pub mod SleepLaws
 pub mod AtRest
+pub mod WrittenSessions
 pub mod Closed
 pub mod Gathering
 pub mod Collected

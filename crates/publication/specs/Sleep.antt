@@ -1,5 +1,5 @@
 -- Sleep: what a seat knows of its own session's sleep, and what it owes to sessions that may sleep.
-use Rattle.std.specs.Prelude.{◌≡◌, ◌≤◌, ◌⊎◌, ℕ, ◌+◌, min, max, ◌||◌, Bool, true, false, List, [], ◌∷◌, ◌++◌}
+use Rattle.std.specs.Prelude.{◌≡◌, ◌<◌, ◌≤◌, ◌⊎◌, ⊤, ℕ, ◌+◌, ◌-◌, min, max, ◌||◌, Bool, true, false, List, [], ◌∷◌, ◌++◌, length, drop}
 
 -- What a seat knows of sleep. A sleep is named by its session and by how many sleeps the session had begun with it.
 pub record Sleep : Type 0 where
@@ -112,6 +112,24 @@ waking z = record { down = z.down; told = z.told; saw = z.saw; sleeps = z.sleeps
 -- The seat takes over what another seat, which ends, owes and has done.
 abbrev pub taking_over : Sleep → Sleep → Sleep
 taking_over z y = record { down = z.down; told = z.told; saw = z.saw; sleeps = z.sleeps; looks = z.looks || y.looks; sweeps = max z.sweeps y.sweeps; owes = z.owes ++ y.owes; woken = z.woken ++ y.woken }
+
+-- The sessions of some sleeps, of which the latest comes first, in the order in which the sleeps were ended.
+abbrev pub sessions_of : List (ℕ × ℕ) → List ℕ
+sessions_of [] = []
+sessions_of (x ∷ xs) = sessions_of xs ++ x.0 ∷ []
+
+-- These are sessions from this number down to above that one, each less than the one before.
+abbrev pub AreFalling : ℕ → ℕ → List ℕ → Type 0
+AreFalling most above [] = ⊤
+AreFalling most above (j ∷ js) = (above < j) × (j ≤ most) × AreFalling (j - 1) above js
+
+-- So many sessions, from this number down to above that one, were written to the front of an array.
+abbrev pub AreWritten : ℕ → ℕ → List ℕ → List ℕ → List ℕ → ℕ → Type 0
+AreWritten most above told places written count = AreFalling most above told × (written ≡ told ++ drop count places) × (count ≡ length told)
+
+-- The seat has ended some sleeps, whose wake-ups count as made, and their sessions were written to the front of an array.
+abbrev pub AreRoused : ℕ → ℕ → Sleep → Sleep → List ℕ → List ℕ → ℕ → Type 0
+AreRoused most above z y places written count = (ended : List (ℕ × ℕ)) × (y.woken ≡ ended ++ z.woken) × AreWritten most above (sessions_of ended) places written count
 
 -- The kinds of step that change what a seat knows of sleep, and nothing else that it knows.
 pub data SleepStep : Type 0 where

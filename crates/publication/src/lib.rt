@@ -29,6 +29,7 @@ mod new_board;
 mod piece;
 pub mod piece_laws;
 mod roll;
+mod rouse_steps;
 pub mod sleep_laws;
 mod sleep_steps;
 mod slot;

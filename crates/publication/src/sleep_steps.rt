@@ -112,7 +112,7 @@ fn park<O: Sequential, R: Wait>(rt: &R, shared: &Shared<O>, seat: &Seat<O>, at: 
 }
 
 /// Whether a session may sleep: reads the board's sleep word, and writes AWAKE if it is ASLEEP. Then all records are to be looked at.
-fn look_for_sleepers<O: Sequential>(shared: &Shared<O>, seat: &mut Seat<O>) -> bool
+pub(crate) fn look_for_sleepers<O: Sequential>(shared: &Shared<O>, seat: &mut Seat<O>) -> bool
     requires ours { seat.old.table_id ≡ shared.now.table_id }
     requires board { IsBoard shared.now.table_id }
     requires mine { seat.old.me.0.number ≢ 0 }
@@ -130,7 +130,7 @@ fn look_for_sleepers<O: Sequential>(shared: &Shared<O>, seat: &mut Seat<O>) -> b
 
 /// Ends the sleep of the session of record `at`, if its sleep word is ASLEEP, and returns whether it was. The seat then owes a wake-up.
 /// Needs all records above to be looked at.
-fn rouse<O: Sequential>(shared: &Shared<O>, seat: &mut Seat<O>, at: usize) -> bool
+pub(crate) fn rouse<O: Sequential>(shared: &Shared<O>, seat: &mut Seat<O>, at: usize) -> bool
     requires ours { seat.old.table_id ≡ shared.now.table_id }
     requires board { IsBoard shared.now.table_id }
     requires at { IsAt shared.now.table_id at }

@@ -1,6 +1,7 @@
 //! Sleep of sessions of an open office. `publication` has the rule that no wake-up is lost.
 
-ghost use Rattle.std.specs.Prelude.{◌≡◌, ◌≤◌};
+ghost use Rattle.std.specs.Prelude.{◌≡◌, ◌≤◌, ℕ, List, length};
+ghost use Rattle.publication.specs.Sleep.{AreWritten};
 ghost use Rattle.combining.specs.Sessions.{IsSessionOf};
 
 use crate::office::Office;
@@ -58,5 +59,19 @@ impl<O: Batching> Office<O> {
         ensures few { result ≤ self.now.sessions }
     {
         self.board.wake_sleepers(session)
+    }
+
+    /// Ends the sleeps of all sessions that sleep, as `wake_sleepers` does, and wakes no thread: it writes these sessions to the front of
+    /// `list`, from the last to the first, and returns how many they are. The caller wakes their threads, before anything else. For a
+    /// caller whose threads don't park by `sleep`. `list` has room for all sessions.
+    pub fn rouse_sleepers(&self, session: &mut Session<O>, list: &mut [u32]) -> u16
+        requires ours { IsSessionOf self.now session.old }
+        requires room { self.now.sessions ≤ length list.old }
+        ensures ours { IsSessionOf self.now session.new }
+        ensures same { session.new ≡ session.old }
+        ensures told { (told : List ℕ) × AreWritten self.now.sessions 0 told list.old list.new result }
+        ensures few { result ≤ self.now.sessions }
+    {
+        self.board.rouse_sleepers(session, list)
     }
 }

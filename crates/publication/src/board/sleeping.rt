@@ -3,11 +3,12 @@
 //!
 //! What a seat owes to sleepers is no part of what contracts see of a ticket. `specs/Sleepers.antt` has the rule, and
 //! `laws::no_wake_up_is_lost` says what follows.
-ghost use Rattle.std.specs.Prelude.{◌≡◌, ◌≤◌};
+ghost use Rattle.std.specs.Prelude.{◌≡◌, ◌≤◌, ℕ, List, length};
 ghost use Rattle.publication.specs.Boards.{IsOf};
+ghost use Rattle.publication.specs.Sleep.{AreWritten};
 
 use crate::board::{Board, Ticket};
-use crate::sleep_steps;
+use crate::{rouse_steps, sleep_steps};
 use sequential::Sequential;
 use std::sync::Wait;
 
@@ -74,5 +75,18 @@ impl<O: Sequential> Board<O> {
         ensures few { result ≤ self.now.sessions }
     {
         sleep_steps::wake_sleepers(&self.table.shared, &mut ticket.seat, self.sessions)
+    }
+
+    /// Ends the sleeps of all sessions that sleep, as `wake_sleepers` does, and wakes no thread: it writes these sessions to the front of
+    /// `list`, from the last to the first, and returns how many they are. The caller wakes their threads, before anything else. For a
+    /// caller whose threads don't park by `sleep`. `list` has room for all sessions.
+    pub fn rouse_sleepers(&self, ticket: &mut Ticket<O>, list: &mut [u32]) -> u16
+        requires ours { IsOf self.now ticket.old }
+        requires room { self.now.sessions ≤ length list.old }
+        ensures same { ticket.new ≡ ticket.old }
+        ensures told { (told : List ℕ) × AreWritten self.now.sessions 0 told list.old list.new result }
+        ensures few { result ≤ self.now.sessions }
+    {
+        rouse_steps::rouse_sleepers(&self.table.shared, &mut ticket.seat, self.sessions, list)
     }
 }

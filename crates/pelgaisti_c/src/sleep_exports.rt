@@ -1,0 +1,96 @@
+//! The exports of sleep. Whose call waits for another session may sleep; the archive parks and wakes no thread, and `bindings/c` does both.
+
+ghost use Rattle.std.specs.Prelude.{◌≡◌, ◌≢◌, ◌<◌, ◌≤◌, ◌⊎◌, ◌↔◌, ℕ, List, Some, length};
+ghost use denote.RawPtr.{null_ptr};
+ghost use Rattle.publication.specs.Sleep.{AreWritten};
+ghost use Rattle.pelgaisti_c.specs.declared.session_share.SessionShare.{SessionShare};
+
+use crate::pointers::SessionPointer;
+use crate::sleep_calls;
+use crate::status::{CLOSED, NO_ROOM, NULL_POINTER, OK};
+use std::alloc::Global;
+
+/// Begins a sleep of the session, and writes its number to `number`. Writes 1 to `may_sleep` if its thread may sleep until
+/// `pelgaisti_raw_session_is_roused` writes 1: another session had the lock table since the sleep began, and ends the sleep behind it by
+/// `pelgaisti_raw_session_rouse`. Else writes 0, the session is up, and tries for the lock table. Behind a call by which the session had the
+/// lock table `pelgaisti_raw_session_rouse` comes first.
+#[unsafe(no_mangle)]
+pub extern "C" fn pelgaisti_raw_session_begin_sleep(
+    alloc: Global,
+    session: &mut SessionPointer,
+    number: &mut u32,
+    may_sleep: &mut u32,
+) -> u32
+    ensures null { result ≡ NULL_POINTER ↔ (session.old.at ≡ null_ptr) }
+    ensures ok { result ≡ OK → (share : SessionShare) × (session.old.behind.held.share ≡ Some share) × (number.new ≡ share.session.number) }
+    ensures flag { result ≡ OK → may_sleep.new ≤ 1 }
+    ensures failed { result ≢ OK → (number.new ≡ number.old) × (may_sleep.new ≡ may_sleep.old) }
+    ensures same { (session.new.behind.is_open ≡ session.old.behind.is_open) × (session.new.behind.held.share ≡ session.old.behind.held.share) }
+    ensures closed { result ≢ NULL_POINTER → (result ≡ CLOSED ↔ (session.old.behind.is_open ≢ 1)) }
+    ensures statuses { (result ≡ NULL_POINTER) ⊎ ((result ≡ OK) ⊎ (result ≡ CLOSED)) }
+{
+    let Some(session) = session.get() else {
+        return NULL_POINTER;
+    };
+    let Some(mut share) = session.take(alloc) else {
+        return CLOSED;
+    };
+    *may_sleep = sleep_calls::begin_sleep(&mut share, number);
+    session.put(share);
+    OK
+}
+
+/// Writes 1 to `is_roused` if the session's sleep is ended, else 0.
+#[unsafe(no_mangle)]
+pub extern "C" fn pelgaisti_raw_session_is_roused(
+    alloc: Global,
+    session: &mut SessionPointer,
+    is_roused: &mut u32,
+) -> u32
+    ensures null { result ≡ NULL_POINTER ↔ (session.old.at ≡ null_ptr) }
+    ensures flag { result ≡ OK → is_roused.new ≤ 1 }
+    ensures failed { result ≢ OK → is_roused.new ≡ is_roused.old }
+    ensures same { (session.new.behind.is_open ≡ session.old.behind.is_open) × (session.new.behind.held.share ≡ session.old.behind.held.share) }
+    ensures closed { result ≢ NULL_POINTER → (result ≡ CLOSED ↔ (session.old.behind.is_open ≢ 1)) }
+    ensures statuses { (result ≡ NULL_POINTER) ⊎ ((result ≡ OK) ⊎ (result ≡ CLOSED)) }
+{
+    let Some(session) = session.get() else {
+        return NULL_POINTER;
+    };
+    let Some(mut share) = session.take(alloc) else {
+        return CLOSED;
+    };
+    *is_roused = sleep_calls::is_roused(&mut share);
+    session.put(share);
+    OK
+}
+
+/// Ends the sleeps of all sessions that sleep. Writes these sessions to the front of `list`, from the last to the first, and how many they
+/// are to `count`: the caller wakes their threads, before anything else. To be called behind each call by which the session may have had the
+/// lock table. Reads one word if nobody sleeps. `list` has to have room for all sessions of the office.
+#[unsafe(no_mangle)]
+pub extern "C" fn pelgaisti_raw_session_rouse(
+    alloc: Global,
+    session: &mut SessionPointer,
+    list: &mut [u32],
+    count: &mut usize,
+) -> u32
+    ensures null { result ≡ NULL_POINTER ↔ (session.old.at ≡ null_ptr) }
+    ensures ok { result ≡ OK → (share : SessionShare) × (session.old.behind.held.share ≡ Some share)
+        × ((told : List ℕ) × AreWritten share.sessions 0 told list.old list.new count.new) }
+    ensures failed { result ≢ OK → (list.new ≡ list.old) × (count.new ≡ count.old) }
+    ensures room { result ≢ NULL_POINTER → (result ≡ NO_ROOM ↔ ((share : SessionShare) × (session.old.behind.held.share ≡ Some share) × (length list.old < share.sessions))) }
+    ensures same { (session.new.behind.is_open ≡ session.old.behind.is_open) × (session.new.behind.held.share ≡ session.old.behind.held.share) }
+    ensures closed { result ≢ NULL_POINTER → (result ≡ CLOSED ↔ (session.old.behind.is_open ≢ 1)) }
+    ensures statuses { (result ≡ NULL_POINTER) ⊎ ((result ≡ OK) ⊎ ((result ≡ CLOSED) ⊎ (result ≡ NO_ROOM))) }
+{
+    let Some(session) = session.get() else {
+        return NULL_POINTER;
+    };
+    let Some(mut share) = session.take(alloc) else {
+        return CLOSED;
+    };
+    let status = sleep_calls::rouse(&mut share, list, count);
+    session.put(share);
+    status
+}
