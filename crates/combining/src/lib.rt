@@ -17,6 +17,7 @@
 #![tactic(auto)]
 
 mod backoff;
+mod bounded_pass;
 mod calling;
 mod clean_up;
 mod ended;
@@ -33,10 +34,13 @@ pub use backoff::{
     DOUBLINGS, FIRST_PAUSES, LOOKS_PER_TRY, LOOKS_PER_YIELD, PAUSES, TRIES_AT_ONCE,
     TRIES_BEFORE_YIELDS, Wait, after_try, back_off,
 };
+pub use bounded_pass::PassBound;
 pub use calling::{Called, Next, call, look, publish_if_idle, resume, turn};
 pub use ended::Ended;
 pub use goes_on::GoesOn;
-pub use office::{Answer, HistoryPiece, Office, OpenFault, Performed, PerformedRow, Row, Turn};
+pub use office::{
+    Answer, BoundedTurn, HistoryPiece, Office, OpenFault, Performed, PerformedRow, Row, Turn,
+};
 pub use publication::{CloseFault, Knowledge, Load, Posted, Ticket as Session};
 pub use row_calling::{NextOfRow, row_turn};
 pub use told::{Nobody, Told};
