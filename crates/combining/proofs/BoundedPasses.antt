@@ -60,3 +60,11 @@ module _ {O C R : Type 0} where
         heard = r.heard;
         taken = r.taken;
       }
+
+-- So many rounds of so many calls, and one more.
+
+pub first-round : (calls : ℕ) → calls ≡ 1 * calls
+first-round calls = omega arith
+
+pub next-round : (made calls : ℕ) → made * calls + calls ≡ (made + 1) * calls
+next-round made calls = omega arith
