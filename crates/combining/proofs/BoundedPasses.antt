@@ -1,5 +1,5 @@
 -- Rounds of a bounded pass, one behind another.
-use Rattle.std.proofs.Common.{◌≡◌, ℕ, ◌+◌, ◌*◌, ◌<◌, ◌≤◌, ◌↔◌, Bool, true, false, IsTrue, None, List, ◌++◌, length, get_or, refl, sym, ap, ◌∙◌, subst, arith, append_assoc}
+use Rattle.std.proofs.Common.{◌≡◌, ℕ, ◌+◌, ◌-◌, ◌*◌, ◌<◌, ◌≤◌, ◌↔◌, Bool, true, false, IsTrue, None, List, ◌++◌, length, get_or, refl, sym, ap, ◌∙◌, subst, arith, append_assoc}
 use Rattle.std.specs.List.{range_with_len}
 use mathlib.Core.List.{IsPrefix}
 use Rattle.sequential.specs.Histories.{calls_of}
@@ -68,3 +68,13 @@ first-round calls = omega arith
 
 pub next-round : (made calls : ℕ) → made * calls + calls ≡ (made + 1) * calls
 next-round made calls = omega arith
+
+pub some-round : (rounds : ℕ) → 0 < rounds → 1 ≤ rounds
+some-round rounds some = omega (arith, some)
+
+pub more-rounds : (made rounds : ℕ) → made < rounds → made + 1 ≤ rounds
+more-rounds made rounds few = omega (arith, few)
+
+-- How many entries more are known is how many calls were served.
+pub served-is : (later earlier served seen known : ℕ) → later ≡ earlier + served → seen ≡ later → known ≡ earlier → served ≡ seen - known
+served-is later earlier served seen known count is was = omega (arith, count, is, was)

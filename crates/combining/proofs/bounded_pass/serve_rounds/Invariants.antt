@@ -5,8 +5,8 @@ use Rattle.combining.specs.inner.BoundedPasses.{HasServedWithin}
 use Rattle.combining.proofs.bounded_pass.serve_rounds.Given as goal
 
 -- So many rounds are made.
-abbrev pub invariant-loop : goal.invariant-loop
-invariant-loop g l = record {
+abbrev pub invariant-loop-made : goal.invariant-loop-made
+invariant-loop-made g l = record {
   work : IsAtWork g.O.Sequential l.board l.session l.load;
   rounds : (served : ℕ) × HasServedWithin l.board.sessions l.initial.session l.session l.initial.load l.load (l.made * l.bound.calls) l.bound.calls served l.last.starved l.last.left;
   few : l.made ≤ l.bound.rounds;
@@ -15,5 +15,5 @@ invariant-loop g l = record {
   noted : g.T.Told.notes l.told l.session.front;
 }
 
-abbrev pub decreases-loop : goal.decreases-loop
-decreases-loop g l = l.bound.rounds - l.made
+abbrev pub decreases-loop-made : goal.decreases-loop-made
+decreases-loop-made g l = l.bound.rounds - l.made

@@ -3,7 +3,7 @@ use Rattle.std.specs.List.{range_with_len}
 use mathlib.Core.List.{IsPrefix}
 use Rattle.sequential.specs.declared.entry.Entry.{Entry}
 use Rattle.publication.specs.Views.{TicketView}
-use Rattle.combining.specs.Ended.{HasAddedTold, entered_since}
+use Rattle.combining.specs.Ended.{HasAddedTold}
 use Rattle.combining.proofs.TakenPieces.{made, tried-front, tried-rest}
 use Rattle.combining.proofs.office.Office.make_rounds.Goals as goal
 
@@ -49,6 +49,8 @@ returns-clause-told g c =
     let seized = c.in_ok-load.ensures in
     let last = c.serve_rounds-rounds.new.session in
     let rest = tried-rest before c.enlist.new.session c.enlist.ensures.tried in
+    let n = c.self.inside.board.sessions in
+    let same : n ≡ c.args.self.now.sessions = search rules in
     let entered = ap (λ (t : TicketView _ _). t.entered) seized.ticket ∙ rest.2 in
-    subst (λ (l : List ℕ). HasAddedTold g.T.Told.ends c.args.self.now.sessions last.front (drop (length l) last.entered) (g.T.Told.list c.args.told.now) (g.T.Told.list c.serve_rounds-rounds.new.told))
-    entered c.serve_rounds-rounds.ensures.told
+    let told = subst (λ (l : List ℕ). HasAddedTold g.T.Told.ends n last.front (drop (length l) last.entered) (g.T.Told.list c.args.told.now) (g.T.Told.list c.serve_rounds-rounds.new.told)) entered c.serve_rounds-rounds.ensures.told in
+    subst (λ (m : ℕ). HasAddedTold g.T.Told.ends m last.front (drop (length before.entered) last.entered) (g.T.Told.list c.args.told.now) (g.T.Told.list c.serve_rounds-rounds.new.told)) same told
