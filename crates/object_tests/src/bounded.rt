@@ -8,19 +8,30 @@ use counter::Counter;
 use std::process::Abort;
 use std::test::Fail;
 
-/// A bounded pass of the session has this outcome.
+/// A pass of the session in at most `rounds` rounds of at most `calls` calls each has this outcome.
 fn want_pass(
     rt: &impl Abort,
     office: &Office<Counter>,
     session: &mut Session<Counter>,
-    bound: PassBound,
+    calls: u16,
+    rounds: u16,
     want: BoundedTurn,
 )
     requires ours { IsSessionOf office.now session.old }
-    requires some { (0 < bound.calls) × (0 < bound.rounds) }
+    requires some { (0 < calls) × (0 < rounds) }
     ensures ours { IsSessionOf office.now session.new }
 {
+    let bound = PassBound { calls, rounds };
     assert!(rt; office.serve_bounded(session, bound, &mut Nobody) == want);
+}
+
+/// The outcome of a pass that served so many calls, and may have left some.
+fn passed(served: u64, left: bool) -> BoundedTurn {
+    BoundedTurn::Pass {
+        served,
+        starved: false,
+        left,
+    }
 }
 
 /// The session collects its answer, which has this place and reply.
@@ -56,36 +67,13 @@ fn want_rounds(
     let _posted = office.publish(first, 1);
     let _posted = office.publish(second, 2);
     let _posted = office.publish(third, 4);
-    let one = PassBound {
-        calls: 1,
-        rounds: 1,
-    };
-    let two = PassBound {
-        calls: 1,
-        rounds: 2,
-    };
-    let own = BoundedTurn::Pass {
-        served: 1,
-        starved: false,
-        left: true,
-    };
-    let rest = BoundedTurn::Pass {
-        served: 2,
-        starved: false,
-        left: false,
-    };
-    let none = BoundedTurn::Pass {
-        served: 0,
-        starved: false,
-        left: false,
-    };
-    want_pass(rt, office, first, one, own);
-    want_answer(rt, office, first, 0, 1);
+    want_pass(rt, office, first, 1, 1, passed(1, true));
+    want_answer(rt, office, first, 0, 0);
     assert!(rt; office.collect(second) == None && office.collect(third) == None);
-    want_pass(rt, office, first, two, rest);
-    want_answer(rt, office, third, 1, 5);
-    want_answer(rt, office, second, 2, 7);
-    want_pass(rt, office, first, two, none);
+    want_pass(rt, office, first, 1, 2, passed(2, false));
+    want_answer(rt, office, third, 1, 1);
+    want_answer(rt, office, second, 2, 5);
+    want_pass(rt, office, first, 1, 2, passed(0, false));
 }
 
 /// Rounds serve no more than their bound, the session's own call first, and what they leave is found by the next pass. While another
@@ -100,11 +88,7 @@ fn a_bounded_pass_serves_so_many_calls_and_tells_whether_some_are_left(
     let mut first = sessions.pop().expect(&rt, "session 1");
     want_rounds(&rt, &office, &mut first, &mut second, &mut third);
     let load = office.look(&mut first).expect(&rt, "the counter");
-    let bound = PassBound {
-        calls: 4,
-        rounds: 4,
-    };
-    want_pass(&rt, &office, &mut second, bound, BoundedTurn::Elsewhere);
+    want_pass(&rt, &office, &mut second, 4, 4, BoundedTurn::Elsewhere);
     assert!(rt; office.end_look(&mut first, load) == 3);
     Ok(())
 }
