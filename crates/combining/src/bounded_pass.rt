@@ -265,15 +265,16 @@ pub(crate) fn serve_rounds<O: Batching, T: Told<O>>(
     ensures noted { T.notes told.new session.new.front }
 {
     let known = session.seen();
-    let mut made = 1;
-    let mut last = serve_round_telling(board, session, load, bound.calls, told);
-    while made < bound.rounds && last.served > 0 && !last.starved {
-        last = serve_round_telling(board, session, load, bound.calls, told);
+    let mut made = 0;
+    loop {
+        let last = serve_round_telling(board, session, load, bound.calls, told);
         made += 1;
-    }
-    Rounds {
-        served: session.seen() - known,
-        starved: last.starved,
-        left: last.left,
+        if made >= bound.rounds || last.served == 0 || last.starved {
+            return Rounds {
+                served: session.seen() - known,
+                starved: last.starved,
+                left: last.left,
+            };
+        }
     }
 }
