@@ -24,6 +24,14 @@ module _ {C R : Type 0} where
         ∙ ap (λ (l : List ℕ). t.entered ++ l) (ap (λ (k : ℕ). range_with_len (length t.front) a ++ range_with_len k b) first.count ∙ sym (range-append (length t.front) a b))));
   }
 
+  -- No pass has served no call.
+  pub passed-none : (t : TicketView C R) → HasPassed t t 0
+  passed-none t = record {
+    session = refl;
+    count = omega arith;
+    entered = sym (append-nil t.entered);
+  }
+
 module _ {O C R : Type 0} where
   -- A round behind rounds in which no memory was refused: what the last one says of starved and left calls holds of all.
   pub rounds-on : (n : ℕ) (t u v : TicketView C R) (old mid new : Load O C R) (most calls a b : ℕ) (starved left : Bool)
@@ -42,14 +50,6 @@ module _ {O C R : Type 0} where
         heard = λ unstarved none j is few. subst (λ (l : List ℕ). get_or l j 0 ≤ length (calls_of j v.front)) heard (later.heard unstarved none j is few);
         taken = later.taken ∙ pieces;
       }
-
-  -- No pass has served no call.
-  pub passed-none : (t : TicketView C R) → HasPassed t t 0
-  passed-none t = record {
-    session = refl;
-    count = omega arith;
-    entered = sym (append-nil t.entered);
-  }
 
   -- What is said of fewer rounds is said of more.
   pub rounds-fewer : (n : ℕ) (t u : TicketView C R) (old new : Load O C R) (most more calls a b : ℕ) (starved left : Bool) → most ≤ more → a ≡ b

@@ -44,8 +44,8 @@ loop-made-preserved g c =
       room = e.room ∙ i.room;
     }
 
-pub returns-clause-rounds : goal.returns-clause-rounds
-returns-clause-rounds g c =
+pub returns-then-made-bound-clause-rounds : goal.returns-then-made-bound-clause-rounds
+returns-then-made-bound-clause-rounds g c =
     let n = c.args.board.now.sessions in
     let calls = c.args.bound.calls in
     let t = c.args.session.now in
@@ -56,13 +56,13 @@ returns-clause-rounds g c =
     let v = last.new.session in
     let e = last.ensures.round in
     let all = rounds-on n t u v c.args.load.now c.loop-made.load last.new.load (c.loop-made.made * calls) calls served last.result.served last.result.starved last.result.left
-        i.passed.1 i.passed.2 i.longer i.backs i.pieces e in
+    i.passed.1 i.passed.2 i.longer i.backs i.pieces e in
     let many : served + last.result.served ≡ c.seen.result - c.seen-known.result = served-is (length v.front) (length t.front) (served + last.result.served) c.seen.result c.seen-known.result all.passed.count c.seen.ensures c.seen-known.ensures in
     rounds-fewer n t v c.args.load.now last.new.load (c.loop-made.made * calls + calls) (c.args.bound.rounds * calls) calls (served + last.result.served) (c.seen.result - c.seen-known.result) last.result.starved last.result.left
     (all-rounds c.loop-made.made c.args.bound.rounds calls i.few) many all
 
-pub returns-clause-told : goal.returns-clause-told
-returns-clause-told g c =
+pub returns-then-made-bound-clause-told : goal.returns-then-made-bound-clause-told
+returns-then-made-bound-clause-told g c =
     let t = c.args.session.now in
     let u = c.loop-made.session in
     let i = c.loop-made.invariant in

@@ -1,4 +1,4 @@
-use Rattle.std.proofs.Common.{◌≡◌, ◌≤◌, ◌<◌, ◌-◌, ◌*◌, ℕ, length}
+use Rattle.std.proofs.Common.{◌≡◌, ◌≤◌, ◌<◌, ◌-◌, ◌*◌, ℕ}
 use mathlib.Core.List.{IsPrefix}
 use Rattle.combining.specs.Ended.{HasAddedTold, entered_since}
 use Rattle.combining.specs.inner.Passes.{HasPassed, IsAtWork}
