@@ -1,11 +1,11 @@
 -- Rounds of a bounded pass, one behind another.
-use Rattle.std.proofs.Common.{◌≡◌, ◌≢◌, ℕ, ◌+◌, ◌-◌, ◌*◌, ◌<◌, ◌≤◌, Bool, None, List, ◌++◌, length, get_or, refl, sym, ap, ◌∙◌, subst, arith, append_assoc, append-nil}
+use Rattle.std.proofs.Common.{◌≡◌, ◌≢◌, ℕ, ◌+◌, ◌-◌, ◌*◌, ◌<◌, ◌≤◌, ◌↔◌, Bool, true, false, IsTrue, None, List, ◌++◌, length, get_or, refl, sym, ap, ◌∙◌, subst, arith, append_assoc, append-nil}
 use Rattle.std.proofs.Math.Nat.{mul-le-mul_right}
 use Rattle.std.specs.List.{range_with_len}
 use mathlib.Core.List.{IsPrefix}
 use Rattle.sequential.specs.Histories.{calls_of}
 use Rattle.publication.specs.Views.{TicketView}
-use Rattle.publication.specs.Boards.{published_by}
+use Rattle.publication.specs.Boards.{heard_from, published_by}
 use Rattle.publication.specs.declared.slot.Load.{Load}
 use Rattle.publication.proofs.Lists.{prefix_trans}
 use Rattle.combining.specs.inner.Passes.{HasPassed}

@@ -1,4 +1,4 @@
-use Rattle.std.proofs.Common.{rules, ◌≡◌, ◌∙◌, ◌+◌, ◌*◌, ◌-◌, false, length, refl}
+use Rattle.std.proofs.Common.{rules, ◌≡◌, ◌∙◌, ◌+◌, ◌*◌, ◌-◌, false, ℕ, length, refl}
 use Rattle.publication.proofs.Lists.{prefix_self, prefix_trans}
 use Rattle.combining.proofs.EndedWaits.{told-on, told-self}
 use Rattle.combining.proofs.OwnCalls.{pass-entered}
