@@ -19,3 +19,4 @@ pub mod Turns
 pub mod OneHistory
 pub mod OwnRows
 pub mod RowTurns
+pub mod BoundedPasses

@@ -3,3 +3,4 @@ pub mod Ages
 pub mod OwnCalls
 pub mod EndedList
 pub mod OwnRows
+pub mod BoundedPasses

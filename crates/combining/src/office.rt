@@ -10,6 +10,7 @@ ghost use Rattle.combining.specs.Sessions.{IsSessionOf, IsIdle, HasNothingPendin
 ghost use Rattle.combining.specs.Closed.{IsClosed};
 ghost use Rattle.combining.specs.Ended.{AreToldBy, entered_since, HasRoom};
 
+mod bounded;
 mod looks;
 mod passes;
 mod perform;
@@ -18,6 +19,7 @@ mod sleeping;
 mod taking;
 
 use crate::told::{Nobody, Told};
+pub use bounded::BoundedTurn;
 pub use perform::Performed;
 use publication::{Board, CloseFault, Knowledge, Posted, Ticket as Session};
 pub use rows::{PerformedRow, Row};

@@ -78,6 +78,7 @@ fn open_posted<O: Batching>(
     ensures session { IsSameSession session.old session.new × (session.new.front ≡ session.old.front) × (session.new.route ≡ session.old.route) }
     ensures row { AreOpened board.now.sessions session.new.opened row.new.items }
     ensures room { (board.now.sessions ≤ vec_capacity row.new) × (going_first.new ≤ vec_len row.new) }
+    ensures grows { vec_len row.new ≤ vec_len row.old + 1 }
     ensures calls { KeepsCalls session.old session.new }
     ensures visited { HasVisitedOpened session.new }
     ensures met { IsVisited whose session.new }
@@ -95,7 +96,7 @@ fn open_posted<O: Batching>(
 
 /// Looks at record `whose`, and opens it as `open_posted` does if a call is posted there.
 #[inline(always)]
-fn open_record<O: Batching>(
+pub(crate) fn open_record<O: Batching>(
     board: &Board<O>,
     session: &mut Ticket<O>,
     row: &mut Vec<Item<O::Call, O::Reply>>,
@@ -110,6 +111,7 @@ fn open_record<O: Batching>(
     ensures session { IsSameSession session.old session.new × (session.new.front ≡ session.old.front) × (session.new.route ≡ session.old.route) }
     ensures row { AreOpened board.now.sessions session.new.opened row.new.items }
     ensures room { (board.now.sessions ≤ vec_capacity row.new) × (going_first.new ≤ vec_len row.new) }
+    ensures grows { vec_len row.new ≤ vec_len row.old + 1 }
     ensures calls { KeepsCalls session.old session.new }
     ensures visited { HasVisitedOpened session.new }
     ensures met { IsVisited whose session.new }
@@ -297,7 +299,11 @@ fn serve_opened<O: Batching>(board: &Board<O>, session: &mut Ticket<O>, load: &m
 
 /// Like `serve_opened`, but does nothing if the row is empty; what the object tells then still describes an earlier pass.
 #[inline(always)]
-fn serve_any<O: Batching>(board: &Board<O>, session: &mut Ticket<O>, load: &mut Load<O>) -> Pass
+pub(crate) fn serve_any<O: Batching>(
+    board: &Board<O>,
+    session: &mut Ticket<O>,
+    load: &mut Load<O>,
+) -> Pass
     requires row { HasRow O.Sequential board.now session.old load.old }
     ensures served { HasServedRow O.Sequential O.tells_from board.now.sessions session.old session.new load.old load.new result.served result.starved }
 {

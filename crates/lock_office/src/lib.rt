@@ -23,8 +23,8 @@ mod paths;
 pub mod queries;
 
 pub use combining::{
-    CloseFault, Ended, GoesOn, Nobody, OpenFault, Posted, Told, Turn, Wait, back_off, call, resume,
-    row_turn, turn,
+    BoundedTurn, CloseFault, Ended, GoesOn, Nobody, OpenFault, PassBound, Posted, Told, Turn, Wait,
+    back_off, call, resume, row_turn, turn,
 };
 pub use has_book::HasBook;
 pub use lock_board::{Knowledge, Ticket as Session};

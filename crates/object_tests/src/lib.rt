@@ -7,6 +7,8 @@ mod asking;
 #[cfg(test)]
 mod boards;
 #[cfg(test)]
+mod bounded;
+#[cfg(test)]
 mod calls;
 #[cfg(test)]
 mod choices;

@@ -21,6 +21,7 @@ ghost use Rattle.program_office.specs.Seen.{number_of_calls};
 ghost use Rattle.program_office.specs.Sessions.{IsSessionOf, IsIdle, IsPendingServed, IsPassed, HasTakenPiece};
 ghost use Rattle.program_office.specs.SingleCalls.{MakesOneCall, IsCollected};
 
+mod bounding;
 mod calling;
 mod counters;
 mod counting;

@@ -106,9 +106,9 @@ pub fn sessions_are_told_what_goes_together()
     laws::refusals_keep_the_state();
 }
 
-/// Why a session that waits may sleep until a pass tells it. A call that tells (`serve_telling`, `perform_telling`, `call`, `resume`)
-/// tells each session whose wait was ended by a call of a program that the call's passes have entered, wherever in the program that call
-/// stands. So of the history of calls, and of the places there that the entered programs have, all is true that
+/// Why a session that waits may sleep until a pass tells it. A call that tells (`serve_telling`, `serve_bounded`, `perform_telling`,
+/// `call`, `resume`) tells each session whose wait was ended by a call of a program that the call's passes have entered, wherever in the
+/// program that call stands. So of the history of calls, and of the places there that the entered programs have, all is true that
 /// `lock_office::laws::no_wake_up_is_lost` says of its history and places.
 pub fn no_wake_up_is_lost()
     ensures { (sessions : ℕ) (history : List ProgramEntry) (places list : List ℕ) → AreToldBy sessions history places list →

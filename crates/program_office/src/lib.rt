@@ -20,8 +20,8 @@ mod single;
 
 pub use call_session::{CallKnowledge, CallSession, Counted, NextOfPath};
 pub use combining::{
-    CloseFault, Ended, GoesOn, Nobody, OpenFault, Posted, Told, Turn, Wait, back_off, call, look,
-    resume, turn,
+    BoundedTurn, CloseFault, Ended, GoesOn, Nobody, OpenFault, PassBound, Posted, Told, Turn, Wait,
+    back_off, call, look, resume, turn,
 };
 use lock_desk::{Book, Entry};
 pub use lock_office::dump::dump_book;

@@ -141,6 +141,7 @@ module _ {O C R : Type 0} (obj : Ghosts O C R) (tells_from : O → ℕ → Type 
     pub longer : IsPrefix before.front after.front
     pub legal : obj.is_legal after.front
     pub starved_is : IsTrue starved ↔ (served < vec_len old.row)
+    pub few : served ≤ vec_len old.row
     pub calls : starved ≡ false → KeepsCalls before after
     pub room : vec_capacity new.row ≡ vec_capacity old.row
     pub passes : new.passes ≡ old.passes

@@ -16,7 +16,7 @@ use sequential::Batching;
 
 impl<O: Batching> Office<O> {
     /// Tries once to have the session's pending call listed, if it has one that isn't.
-    fn enlist(&self, session: &mut Session<O>)
+    pub(crate) fn enlist(&self, session: &mut Session<O>)
         requires ours { IsSessionOf self.now session.old }
         ensures ours { IsSessionOf self.now session.new }
         ensures tried { HasTriedToList session.old session.new }

@@ -46,6 +46,7 @@ returns g c =
         longer = search rules;
         legal = search rules;
         starved_is = search rules;
+        few = search rules;
         calls = λ unstarved. grind (arith, common_steps, unstarved);
         room = search rules;
         passes = search rules;
