@@ -10,7 +10,6 @@ ghost use Rattle.dump_command.specs.Dumps.{HasDump, HasDumpPart, ShowsDump, text
 use crate::dump_fault::DumpFault;
 use command_line::Form;
 use dump_report::{graph_of_dump, lines_of_dump, waits_of_dump};
-use lock_report::state_rows;
 use replay_commands::write_text;
 use state_rows::{StateFault, StateLists, read_state};
 use std::alloc::{AllocError as NoMemory, Global};
@@ -31,12 +30,7 @@ fn whole_text<R: Read + Drop>(alloc: Global, input: R) -> Result<Vec<u8>, DumpFa
 }
 
 /// The text of a dump in this form. Fails if memory is refused.
-fn text_in(
-    alloc: Global,
-    lists: &StateLists,
-    sessions: u16,
-    form: Form,
-) -> Result<String, NoMemory>
+fn text_in(alloc: Global, lists: &StateLists, sessions: u16, form: Form) -> Result<String, NoMemory>
     requires some { 0 < sessions }
     requires few { sessions ≤ MAX_SESSIONS }
     requires lists { AreLists sessions lists.now }
@@ -44,7 +38,7 @@ fn text_in(
 {
     match form {
         Form::Lines => lines_of_dump(alloc, sessions, lists),
-        Form::Rows => state_rows(alloc, &lists.opens, &lists.claims, &lists.waits),
+        Form::Rows => lock_report::state_rows(alloc, &lists.opens, &lists.claims, &lists.waits),
         Form::Graph => graph_of_dump(alloc, lists),
         Form::Waits => waits_of_dump(alloc, lists),
     }

@@ -22,6 +22,6 @@ pub counted : (p : ℕ → Bool) (n k r : ℕ) (b : Bool) → k ≡ length (filt
 counted p n k r b so_far adds is =
     let on : n + 1 ≡ suc n = omega arith in
     let more : filter p (range_with_len 1 (n + 1)) ≡ filter p (range_with_len 1 n) ++ filter p ((n + 1) ∷ []) =
-      ap (λ (i : ℕ). filter p (range_with_len 1 i)) on ∙ (ap (filter p) (behind 1 n (n + 1) (omega arith)) ∙ filter-append p (range_with_len 1 n) ((n + 1) ∷ [])) in
+    ap (λ (i : ℕ). filter p (range_with_len 1 i)) on ∙ (ap (filter p) (behind 1 n (n + 1) (omega arith)) ∙ filter-append p (range_with_len 1 n) ((n + 1) ∷ [])) in
     let long : length (filter p (range_with_len 1 (n + 1))) ≡ length (filter p (range_with_len 1 n) ++ filter p ((n + 1) ∷ [])) = ap length more in
     omega (arith, so_far, adds, long, length-append (filter p (range_with_len 1 n)) (filter p ((n + 1) ∷ [])), of-one p (n + 1) b is)

@@ -106,4 +106,4 @@ search-told p waits same s u r s_some u_some h =
     both-ways r (is_blocked waits s u)
     (λ e. subst (λ (x : ℕ). is_blocked waits x u ≡ true) here (subst (λ (x : ℕ). is_blocked waits (s - 1 + 1) x ≡ true) there (reached-blocked p waits same (s - 1) (u - 1) (h.0 e))))
     (λ e. h.1 (blocked-reached p waits same (s - 1) (u - 1)
-      (subst (λ (x : ℕ). is_blocked waits x (u - 1 + 1) ≡ true) (sym here) (subst (λ (x : ℕ). is_blocked waits s x ≡ true) (sym there) e))))
+    (subst (λ (x : ℕ). is_blocked waits x (u - 1 + 1) ≡ true) (sym here) (subst (λ (x : ℕ). is_blocked waits s x ≡ true) (sym there) e))))

@@ -56,14 +56,14 @@ fn add_granted_of(
     queue: &[Claim],
     granted: &mut Vec<u16>,
 ) -> Result<(), NoMemory>
-    ensures { OnOk result (granted.new.items ≡ granted.old.items ++ granted_of locks.entry.items queue.now) }
+    ensures { OnOk result (granted.new.items ≡ granted.old.items ++ granted_of locks.items queue.now) }
 {
-    let mut locks = locks;
+    let mut beside = locks;
     for request in queue {
-        if !fits_beside(request, &locks) {
+        if !fits_beside(request, &beside) {
             return Ok(());
         }
-        locks = with_grant(alloc, &locks, request)?;
+        beside = with_grant(alloc, &beside, request)?;
         granted.push(request.session)?;
     }
     Ok(())

@@ -17,12 +17,7 @@ use std::alloc::{AllocError as NoMemory, Global};
 use waits_for::Rows;
 
 /// Whether others wait for the session, which doesn't wait itself. Fails if memory is refused.
-fn is_root(
-    alloc: Global,
-    claims: &[Claim],
-    waits: &[Wait],
-    session: u16,
-) -> Result<bool, NoMemory>
+fn is_root(alloc: Global, claims: &[Claim], waits: &[Wait], session: u16) -> Result<bool, NoMemory>
     ensures { IfOk result (λ found. found ≡ is_root claims.now waits.now session) }
 {
     let requests = requests_among(alloc, claims)?;
