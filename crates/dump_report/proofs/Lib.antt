@@ -1,3 +1,4 @@
 pub mod Counted
-pub mod Walks
+pub mod Granted
 pub mod Parts
+pub mod Walks
