@@ -1,17 +1,17 @@
 -- The waits of a dump as edges, by sessions and by positions, and the walks along them.
-use Rattle.std.proofs.Common.{◌≡◌, ℕ, suc, ◌+◌, ◌-◌, ◌<◌, ◌≤◌, Bool, true, false, cond, eqb, ◌&&◌, ◌||◌, List, [], ◌∷◌, ◌++◌, length, take, get_or, map, refl, sym, ap, ap₂, subst, ◌∙◌, arith}
+use Rattle.std.proofs.Common.{◌≡◌, ℕ, suc, ◌+◌, ◌-◌, ◌<◌, ◌≤◌, Bool, true, false, cond, eqb, ◌&&◌, ◌||◌, inl, inr, List, [], ◌∷◌, ◌++◌, length, take, take-suc, add-one, get_or, map, refl, sym, ap, ap₂, subst, ◌∙◌, arith}
 use Rattle.std.proofs.Math.Bool.{or-false}
 use Rattle.std.specs.Prelude.{IsTrue, ◌↔◌, All}
 use Rattle.std.specs.List.{list_any}
 use Rattle.std.proofs.lemmas.Bool.Decides.{nat_tests, Decides-eqb}
 use Rattle.std.proofs.lemmas.Bool.{and_parts, and_from, or_cases, or_left, or_right}
+use Rattle.std.proofs.lemmas.List.Elements.{All-get_or}
 use Rattle.std.proofs.lemmas.List.Folds.{list_any-append}
 use Rattle.waits_for.specs.Pairs.{Pairs, pairs_of}
 use Rattle.waits_for.specs.Walks.{IsWalk, Reaches}
 use Rattle.lock_rules.specs.Waits.{walks_within}
 use Rattle.lock_rules.proofs.Walks.{has, AllIn, found, walk-found}
 use Rattle.lock_report.specs.declared.snapshot.Wait.{Wait}
-use Rattle.lock_report.proofs.Pieces.{with_next}
 use Rattle.state_rows.specs.Rows.{IsWait}
 use Rattle.dump_report.specs.Jam.{does_wait, is_blocked, waiters}
 use Rattle.dump_report.specs.inner.Graph.{AreWaitsOf}
@@ -26,15 +26,18 @@ wait-more waits w s u =
 at-position : (a k : ℕ) → 1 ≤ k → eqb a (k - 1) ≡ eqb k (a + 1)
 at-position a k some = grind (arith, nat_tests)
 
--- the edge of the next wait, by position
-pub next-edge : (waits : List Wait) (i : ℕ) (w : Wait) (a b : ℕ) (old new : Bool) → i < length waits → w ≡ get_or waits i w → 1 ≤ w.session → 1 ≤ w.other
-    → old ≡ does_wait (take i waits) (a + 1) (b + 1) → new ≡ (old || (eqb a (w.session - 1) && eqb b (w.other - 1)))
-    → new ≡ does_wait (take (i + 1) waits) (a + 1) (b + 1)
-next-edge waits i w a b old new lt is from to so_far more =
-    more
-    ∙ ap₂ (λ (x y : Bool). x || y) so_far (ap₂ (λ (x y : Bool). x && y) (at-position a w.session from) (at-position b w.other to))
+-- with the edge of the next wait, by position, the edges are those of one wait more
+pub next-edge : (n : ℕ) (waits : List Wait) (i : ℕ) (d : Wait) (old new : ℕ → ℕ → Bool) → All (IsWait n) waits → i < length waits
+    → ((a b : ℕ) → old a b ≡ does_wait (take i waits) (a + 1) (b + 1))
+    → ((a b : ℕ) → new a b ≡ (old a b || (eqb a ((get_or waits i d).session - 1) && eqb b ((get_or waits i d).other - 1))))
+    → (a b : ℕ) → new a b ≡ does_wait (take (i + 1) waits) (a + 1) (b + 1)
+next-edge n waits i d old new all lt so_far more a b =
+    let w : Wait = get_or waits i d in
+    let within = All-get_or (IsWait n) waits i d lt all in
+    more a b
+    ∙ ap₂ (λ (x y : Bool). x || y) (so_far a b) (ap₂ (λ (x y : Bool). x && y) (at-position a w.session within.0.0) (at-position b w.other within.1.0))
     ∙ sym (wait-more (take i waits) w (a + 1) (b + 1))
-    ∙ ap (λ (ws : List Wait). does_wait ws (a + 1) (b + 1)) (sym (with_next waits i w lt is))
+    ∙ ap (λ (ws : List Wait). does_wait ws (a + 1) (b + 1)) (sym (ap (λ (k : ℕ). take k waits) (add-one i) ∙ take-suc waits i d lt))
 
 -- who waits is a session of number 1 at least
 pub some-waits : (n : ℕ) (waits : List Wait) → All (IsWait n) waits → (s u : ℕ) → does_wait waits s u ≡ true → 1 ≤ s

@@ -161,7 +161,8 @@ pub(crate) fn put_boxed(
     out.push_str(START)?;
     put_nodes(out, opens)?;
     put_boxes(out, claims)?;
-    put_places(out, &boxed)
+    put_places(out, &boxed)?;
+    Ok(())
 }
 
 /// The contended resources and the waits for first blockers as a directed graph of Graphviz: a node for each open transaction,
