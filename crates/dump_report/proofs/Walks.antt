@@ -5,7 +5,7 @@ use Rattle.std.specs.Prelude.{IsTrue, ◌↔◌, All}
 use Rattle.std.specs.List.{list_any}
 use Rattle.std.proofs.lemmas.Bool.Decides.{nat_tests, Decides-eqb}
 use Rattle.std.proofs.lemmas.Bool.{and_parts, and_from, or_cases, or_left, or_right}
-use Rattle.std.proofs.lemmas.List.Elements.{All-get_or}
+use Rattle.std.proofs.lemmas.List.Elements.{All-get_or, All-head, All-tail}
 use Rattle.std.proofs.lemmas.List.Folds.{list_any-append}
 use Rattle.waits_for.specs.Pairs.{Pairs, pairs_of}
 use Rattle.waits_for.specs.Walks.{IsWalk, Reaches}
@@ -46,8 +46,9 @@ some-waits n (w ∷ ws) all s u h = elim (or_cases (eqb w.session s && eqb w.oth
   | inl k ↦
       let p = and_parts (eqb w.session s) (eqb w.other u) k in
       let e : w.session ≡ s = (Decides-eqb w.session s).0 p.0 in
-      omega (arith, e, all.0.0.0)
-  | inr k ↦ some-waits n ws all.1 s u k
+      let within = All-head (IsWait n) w ws all in
+      omega (arith, e, within.0.0)
+  | inr k ↦ some-waits n ws (All-tail (IsWait n) w ws all) s u k
 ]
 
 -- who waits is among those who wait
