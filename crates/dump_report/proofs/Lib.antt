@@ -1,0 +1,4 @@
+pub mod Counted
+pub mod Granted
+pub mod Parts
+pub mod Walks
