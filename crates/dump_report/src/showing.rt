@@ -17,7 +17,6 @@ use std::alloc::{AllocError as NoMemory, Global};
 ///
 /// It has what `glm show` writes of a state of a history, but for the places, which a dump hasn't got. Who waits for whom is what the rows
 /// of waits say.
-#[tactic(auto, using(crate::proofs::Parts::opens_within, crate::proofs::Parts::waits_within))]
 pub fn lines_of_dump(alloc: Global, sessions: u16, lists: &StateLists) -> Result<String, NoMemory>
     requires some { 0 < sessions }
     requires few { sessions ≤ MAX_SESSIONS }
