@@ -10,7 +10,7 @@ pub loop-wait-preserved : goal.loop-wait-preserved
 loop-wait-preserved c = (
   c.set.ensures.sessions ∙ c.loop-wait.invariant.0,
   next-edge c.args.sessions c.args.waits.now c.loop-wait.wait-index _ (pairs_of c.loop-wait.rows) (pairs_of c.set.new.self) c.requires.within c.loop-wait-test.true
-  c.loop-wait.invariant.1 c.set.ensures.pairs,
+      c.loop-wait.invariant.1 c.set.ensures.pairs,
 )
 
 pub returns-clause-pairs : goal.returns-clause-pairs

@@ -11,5 +11,5 @@ loop-begun-preserved c =
       sessions = ap (λ (p : Pairs). p.sessions) same ∙ c.loop-begun.invariant.sessions;
       pairs = subst (λ (p : Pairs). AreWaitsOf p c.args.waits.now) (sym same) c.loop-begun.invariant.pairs;
       roots = next_root c.args.sessions _ c.args.opens.now c.args.claims.now c.args.waits.now c.loop-begun.begun-index _ _ _ c.loop-begun-test.true c.loop-begun.invariant.sessions c.loop-begun.invariant.roots
-        c.in_ok-add_root.ensures.roots;
+          c.in_ok-add_root.ensures.roots;
     }
