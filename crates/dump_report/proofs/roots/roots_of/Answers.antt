@@ -1,7 +1,7 @@
 use Rattle.std.proofs.Common.{◌∙◌, ap, sym, subst}
 use Rattle.waits_for.specs.Pairs.{Pairs}
 use Rattle.dump_report.specs.inner.Graph.{AreWaitsOf}
-use Rattle.dump_report.proofs.Roots.{next_root}
+use Rattle.dump_report.proofs.NextRoot.{next_root}
 use Rattle.dump_report.proofs.roots.roots_of.Goals as goal
 
 pub loop-begun-preserved : goal.loop-begun-preserved
