@@ -34,7 +34,7 @@ _glm() {
             replay) words="--sessions -o --output --comments --hints --stream -h --help" ;;
             run) words="--sessions -o --output --comments --hints --turns --stream -h --help" ;;
             check) words="--sessions -o --output --comments --hints --stream -h --help" ;;
-            show) words="--sessions -o --output --comments --hints --at --csv --dot --waits -h --help" ;;
+            show) words="--sessions -o --output --comments --hints --at --csv --dot --waits --state -h --help" ;;
             explain) words="--sessions -o --output --comments --hints --at --csv --dot -h --help" ;;
             timeline) words="--sessions -o --output --comments --hints --from --to -h --help" ;;
             stats) words="--sessions -o --output --comments --hints --csv -h --help" ;;

@@ -3,6 +3,8 @@
 #![tactic(auto)]
 
 #[cfg(test)]
+mod dumps;
+#[cfg(test)]
 mod lanes;
 #[cfg(test)]
 mod modes;

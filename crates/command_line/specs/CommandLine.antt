@@ -94,9 +94,9 @@ with_forms command = with_rule (with_rule (with_rule command (place_option (code
 abbrev pub app_with_forms : Text → App
 app_with_forms name = with_forms (command_for_sessions name)
 
--- the command `show [FILE] [--sessions N] [-o FILE] [--comments] [--hints] [--at P] [--csv] [--dot] [--waits]`
+-- the command `show [FILE] [--sessions N] [-o FILE] [--comments] [--hints] [--at P] [--csv] [--dot] [--waits] [--state]`
 abbrev pub show_app : App
-show_app = with_rule (app_with_forms (codes "show")) (flag_named (codes "waits"))
+show_app = with_rule (with_rule (app_with_forms (codes "show")) (flag_named (codes "waits"))) (flag_named (codes "state"))
 
 -- the command `timeline [FILE] [--sessions N] [-o FILE] [--comments] [--hints] [--from P] [--to Q]`
 abbrev pub timeline_app : App
@@ -111,7 +111,7 @@ abbrev pub shell_app : App
 shell_app = with_rule (new_app (codes "shell")) sessions_option
 
 -- the program `glm`, which has a version and requires one of the commands `replay [--stream]`, `run [--turns T] [--stream]`,
--- `check [--stream]`, `show [--at P] [--csv] [--dot] [--waits]`, `explain [--at P] [--csv] [--dot]`, `timeline [--from P]
+-- `check [--stream]`, `show [--at P] [--csv] [--dot] [--waits] [--state]`, `explain [--at P] [--csv] [--dot]`, `timeline [--from P]
 -- [--to Q]` and `stats [--csv]`, each with `[FILE] [--sessions N] [-o FILE] [--comments] [--hints]`, or of the command
 -- `shell [--sessions N]`
 abbrev pub glm_command : App
@@ -188,7 +188,9 @@ IsRequestIn name rows (request.Run sessions turns asked) =
 IsRequestIn name rows (request.Check sessions asked) =
     (name ≡ codes "check") × Gives (codes "sessions") MAX_SESSIONS rows sessions × Wants rows asked
 IsRequestIn name rows (request.Show sessions place asked) =
-    (name ≡ codes "show") × Gives (codes "sessions") MAX_SESSIONS rows sessions × GivesPlace (codes "at") rows place × WantsForm rows asked
+    (name ≡ codes "show") × Gives (codes "sessions") MAX_SESSIONS rows sessions × GivesPlace (codes "at") rows place × WantsForm rows asked × (¬ HasFlag (codes "state") rows)
+IsRequestIn name rows (request.Dump sessions asked) =
+    (name ≡ codes "show") × Gives (codes "sessions") MAX_SESSIONS rows sessions × GivesPlace (codes "at") rows None × WantsForm rows asked × HasFlag (codes "state") rows
 IsRequestIn name rows (request.Explain sessions place asked) =
     (name ≡ codes "explain") × Gives (codes "sessions") MAX_SESSIONS rows sessions × GivesPlace (codes "at") rows place × WantsForm rows asked
 IsRequestIn name rows (request.Timeline sessions from to) =
@@ -202,6 +204,7 @@ HasNumbers (request.Replay sessions asked) = (0 < sessions) × (sessions ≤ MAX
 HasNumbers (request.Run sessions turns asked) = (0 < sessions) × (sessions ≤ most_sessions asked) × (0 < turns) × (turns ≤ MAX_TURNS)
 HasNumbers (request.Check sessions asked) = (0 < sessions) × (sessions ≤ MAX_SESSIONS)
 HasNumbers (request.Show sessions place asked) = (0 < sessions) × (sessions ≤ MAX_SESSIONS)
+HasNumbers (request.Dump sessions asked) = (0 < sessions) × (sessions ≤ MAX_SESSIONS)
 HasNumbers (request.Explain sessions place asked) = (0 < sessions) × (sessions ≤ MAX_SESSIONS)
 HasNumbers (request.Timeline sessions from to) = (0 < sessions) × (sessions ≤ MAX_SESSIONS)
 HasNumbers (request.Stats sessions asked) = (0 < sessions) × (sessions ≤ MAX_SESSIONS)
@@ -242,6 +245,10 @@ AskCheck words sessions asked = Ask words (request.Check sessions asked)
 -- the words ask to show the state at this place of a history, at its end if it is None, with this number of sessions, in this form
 abbrev pub AskShow : List Text → ℕ → Option ℕ → Form → Type 0
 AskShow words sessions place form = Ask words (request.Show sessions place form)
+
+-- the words ask to show the state that a dump is, with this number of sessions, in this form
+abbrev pub AskDump : List Text → ℕ → Form → Type 0
+AskDump words sessions form = Ask words (request.Dump sessions form)
 
 -- the words ask to explain the call at this place of a history, every eventful call if it is None, with this number of
 -- sessions, in this form

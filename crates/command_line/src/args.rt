@@ -62,6 +62,8 @@ pub enum CommandRequest {
     /// Show the state of the lock table at a place of a history; holds the number of sessions, the place, `None` for the end, and
     /// the form.
     Show(u16, Option<u32>, Form),
+    /// Show the state that a dump is; holds the number of sessions, and the form.
+    Dump(u16, Form),
     /// Explain what calls of a history did; holds the number of sessions, the place of the call, `None` for every eventful
     /// one, and the form.
     Explain(u16, Option<u32>, Form),
@@ -314,10 +316,15 @@ fn show_command<'a>(alloc: Global) -> Result<Command<'a>, AllocError>
         "The place of the history in front of which the state is shown, by default its end",
         "Writes the resources waited for, and each session's first blocker, as a graph for Graphviz",
     )?;
-    made.arg(flag_arg(
+    let made = made.arg(flag_arg(
         alloc,
         "waits",
         "Writes who waits for whom as a graph for Graphviz",
+    ))?;
+    made.arg(flag_arg(
+        alloc,
+        "state",
+        "Shows the state that a dump is, the rows of 'show --csv', in place of a history",
     ))
 }
 

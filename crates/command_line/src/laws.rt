@@ -7,7 +7,7 @@ ghost use Rattle.command_line.specs.declared.args.CommandRequest.{CommandRequest
 ghost use Rattle.command_line.specs.declared.args.TheConstants.{MAX_STREAMED_SESSIONS, MAX_TURNS};
 ghost use Rattle.command_line.specs.declared.args.Delivery.TheVariants as Delivery;
 ghost use Rattle.command_line.specs.declared.args.Form.TheVariants as Form;
-ghost use Rattle.command_line.specs.CommandLine.{Ask, AskCheck, AskExplain, AskHelp, AskNothing, AskReplay, AskReplayInPieces, AskRun, AskRunInPieces, AskShell, AskShow, AskStats, AskTimeline, AskVersion};
+ghost use Rattle.command_line.specs.CommandLine.{Ask, AskCheck, AskDump, AskExplain, AskHelp, AskNothing, AskReplay, AskReplayInPieces, AskRun, AskRunInPieces, AskShell, AskShow, AskStats, AskTimeline, AskVersion};
 ghost use Rattle.command_line.specs.Streams.{SkipComments, WantHints, input_file, output_file};
 
 /// A command line asks for at most one command with its numbers. A command line that asks for a command asks neither for
@@ -60,6 +60,10 @@ pub fn words_ask_as_documented()
     ensures show_graph { AskShow (codes "glm" ∷ codes "show" ∷ codes "--dot" ∷ []) 256 None Form.Graph }
     ensures show_two_forms { AskNothing (codes "glm" ∷ codes "show" ∷ codes "--csv" ∷ codes "--dot" ∷ []) }
     ensures show_waits { AskShow (codes "glm" ∷ codes "show" ∷ codes "--waits" ∷ []) 256 None Form.Waits }
+    ensures show_state { AskDump (codes "glm" ∷ codes "show" ∷ codes "--state" ∷ []) 256 Form.Lines }
+    ensures show_state_rows { AskDump (codes "glm" ∷ codes "show" ∷ codes "--state" ∷ codes "--csv" ∷ codes "--sessions=3" ∷ []) 3 Form.Rows }
+    ensures show_state_at { AskNothing (codes "glm" ∷ codes "show" ∷ codes "--state" ∷ codes "--at=7" ∷ []) }
+    ensures explain_state { AskNothing (codes "glm" ∷ codes "explain" ∷ codes "--state" ∷ []) }
     ensures show_two_graphs { AskNothing (codes "glm" ∷ codes "show" ∷ codes "--dot" ∷ codes "--waits" ∷ []) }
     ensures show_rows_and_waits { AskNothing (codes "glm" ∷ codes "show" ∷ codes "--csv" ∷ codes "--waits" ∷ []) }
     ensures show_zeros { AskNothing (codes "glm" ∷ codes "show" ∷ codes "--at=07" ∷ []) }

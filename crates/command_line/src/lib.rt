@@ -18,4 +18,4 @@ pub use args::{
 };
 pub use misuse::usage_text;
 pub use requests::request_of;
-pub use texts::{NOT_A_NUMERAL, TWO_FORMS, VERSION, VERSION_TEXT};
+pub use texts::{NOT_A_NUMERAL, STATE_ALONE, TWO_FORMS, VERSION, VERSION_TEXT};

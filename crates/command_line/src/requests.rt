@@ -136,7 +136,30 @@ fn place_and_form(given: &ArgMatches) -> Option<(Option<u32>, Form)>
     Some((place, form))
 }
 
-/// Returns the request of `show`, or `None` if its place isn't a valid number or it is asked for two forms.
+/// Returns the request of `show` with this place and form, or `None` if it is asked for a dump at a place.
+#[tactic(auto, using(crate::proofs::Ask::no_dump_at))]
+fn shown_request(
+    sessions: u16,
+    place: Option<u32>,
+    form: Form,
+    given: &ArgMatches,
+) -> Option<CommandRequest>
+    requires given { Gives (codes "sessions") MAX_SESSIONS (rows_of (found_of given.now)) sessions }
+    requires place { GivesPlace (codes "at") (rows_of (found_of given.now)) place }
+    requires form { WantsForm (rows_of (found_of given.now)) form }
+    ensures some { IfSome result (IsRequest (Some (codes "show", rows_of (found_of given.now)))) }
+    ensures none { IfNone result ((asked : RequestValue) → ¬ (IsRequest (Some (codes "show", rows_of (found_of given.now))) asked)) }
+{
+    if !has_flag(given, "state") {
+        return Some(CommandRequest::Show(sessions, place, form));
+    }
+    match place {
+        None => Some(CommandRequest::Dump(sessions, form)),
+        Some(_) => None,
+    }
+}
+
+/// Returns the request of `show`, or `None` if its place isn't a valid number, it is asked for two forms, or for a dump at a place.
 #[tactic(auto, using(crate::proofs::Ask::nothing_shown))]
 fn show_request(sessions: u16, given: &ArgMatches) -> Option<CommandRequest>
     requires given { Gives (codes "sessions") MAX_SESSIONS (rows_of (found_of given.now)) sessions }
@@ -146,7 +169,7 @@ fn show_request(sessions: u16, given: &ArgMatches) -> Option<CommandRequest>
     let Some((place, form)) = place_and_form(given) else {
         return None;
     };
-    Some(CommandRequest::Show(sessions, place, form))
+    shown_request(sessions, place, form, given)
 }
 
 /// Returns the request of `explain`, or `None` if its place isn't a valid number or it is asked for two forms.

@@ -93,7 +93,10 @@ and status 3.
 With --csv the same is written as rows row,session,transaction,victim,resource,mode,other, where the row is 'transaction',
 'held', 'conversion', 'fresh' or 'waits'. With --dot each resource that is waited for is a box of a graph, with its holders
 and its queue, and an edge leads from each session that waits to the first that it waits for. With --waits who waits for
-whom is written as a graph, and nothing else. 'dot -Tsvg' draws either.";
+whom is written as a graph, and nothing else. 'dot -Tsvg' draws either.
+
+With --state it reads a dump in place of a history: the rows of 'show --csv', as the library writes them of a lock table in
+use. A dump has no place, so --at isn't taken.";
 
 /// The beginning of the help of `explain`.
 pub(crate) const ABOUT_EXPLAIN: &str =
@@ -173,6 +176,14 @@ pub(crate) const STATUSES: &str = "Exit status:
 pub const NOT_A_NUMERAL: &str =
     "error: a number is written with digits alone, with no sign and no zero before it, and 'run --stream' has at most 1023
 sessions
+
+For more information, try '--help'.
+";
+
+/// The message for `show --state` with a place, or with a number that isn't written in digits.
+pub const STATE_ALONE: &str =
+    "error: a dump has no place: --state is taken without --at, and a number is written with digits alone, with no sign and no
+zero before it
 
 For more information, try '--help'.
 ";

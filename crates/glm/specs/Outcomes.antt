@@ -5,6 +5,9 @@ use Rattle.clap.specs.Walk.{Text}
 use Rattle.lock_trace.specs.declared.faults.TraceFault.{TraceFault}
 use Rattle.command_line.specs.declared.args.Delivery.{Delivery}
 use Rattle.command_line.specs.declared.args.Form.{Form}
+use Rattle.dump_command.specs.declared.dump_fault.DumpFault.{DumpFault}
+use Rattle.dump_command.specs.declared.dump_fault.DumpFault.TheVariants as dump
+use Rattle.dump_command.specs.Dumps.{HasDump, HasDumpPart, ShowsDump}
 use Rattle.history_commands.specs.declared.checking.Verdict.{Verdict}
 use Rattle.history_commands.specs.declared.checking.Verdict.TheVariants as verdict
 use Rattle.history_commands.specs.declared.show_fault.ShowFault.{ShowFault}
@@ -14,10 +17,10 @@ use Rattle.replay_commands.specs.declared.tool_fault.ToolFault.TheVariants as to
 use Rattle.glm.specs.declared.outcomes.Outcome.{Outcome}
 use Rattle.glm.specs.declared.outcomes.Outcome.TheVariants as outcome
 use Rattle.glm.specs.declared.outcomes.TheConstants.{DONE, USAGE, ILLEGAL, NO_MEMORY, DEVICE}
-use Rattle.command_line.specs.CommandLine.{AskReplay, AskReplayInPieces, AskRun, AskRunInPieces, AskCheck, AskShow, AskExplain, AskTimeline, AskStats, AskShell, AskHelp, AskVersion, AskNothing}
+use Rattle.command_line.specs.CommandLine.{AskReplay, AskReplayInPieces, AskRun, AskRunInPieces, AskCheck, AskShow, AskDump, AskExplain, AskTimeline, AskStats, AskShell, AskHelp, AskVersion, AskNothing}
 use Rattle.replay_commands.specs.Replays.{HasServed, HasServedFront, HasServedPart, IsFaultOfOneThread, Replays, ReplaysInPieces}
 use Rattle.run_commands.specs.Runs.{HasPerformed, HasPerformedPart, HasWrittenFront, HasWrittenPart, Runs, RunsInPieces}
-use Rattle.glm.specs.Statuses.{status_for, status_for_show}
+use Rattle.glm.specs.Statuses.{status_for, status_for_dump, status_for_show}
 use Rattle.history_commands.specs.Showing.{HasShown, HasShownPart, Shows}
 use Rattle.history_commands.specs.Explaining.{HasExplained, HasExplainedPart, Explains}
 use Rattle.history_commands.specs.Drawing.{Draws, HasDrawn, HasDrawnPart}
@@ -42,6 +45,8 @@ status_of_outcome (outcome.Check (Err fault)) = status_for fault
 status_of_outcome (outcome.Show (Ok (verdict.Legal count))) = DONE
 status_of_outcome (outcome.Show (Ok (verdict.Illegal place))) = ILLEGAL
 status_of_outcome (outcome.Show (Err fault)) = status_for_show fault
+status_of_outcome (outcome.Dump (Ok done)) = DONE
+status_of_outcome (outcome.Dump (Err fault)) = status_for_dump fault
 status_of_outcome (outcome.Explain (Ok (verdict.Legal count))) = DONE
 status_of_outcome (outcome.Explain (Ok (verdict.Illegal place))) = ILLEGAL
 status_of_outcome (outcome.Explain (Err fault)) = status_for_show fault
@@ -142,6 +147,16 @@ pub record HasAnsweredShow (words : List Text) (input old new : Option (List ℕ
   pub shown : IfOk answer (λ verdict. HasShown form sessions place verdict old new)
   pub shows : (bytes : List ℕ) → input ≡ Some bytes → Shows form sessions place bytes old new answer
 
+-- the words ask to show a dump, and `answer` says that it was shown, or the fault; the output holds `old` before and `new` after
+pub record HasAnsweredDump {X : Type 0} (words : List Text) (input old new : Option (List ℕ)) (answer : Result X DumpFault) : Type 0 where
+  pub sessions : ℕ
+  pub form : Form
+  pub asked : AskDump words sessions form
+  pub kept : IfErr answer (λ fault. fault ≢ dump.Device → Keeps old new)
+  pub part : IfErr answer (λ fault. fault ≡ dump.Device → HasDumpPart form sessions old new)
+  pub shown : IfOk answer (λ _. HasDump form sessions old new)
+  pub shows : (bytes : List ℕ) → input ≡ Some bytes → ShowsDump form sessions bytes old new answer
+
 -- the words ask to explain calls of a history, and `answer` is the verdict on the history, or the fault; the output holds `old`
 -- before and `new` after
 pub record HasAnsweredExplain (words : List Text) (input old new : Option (List ℕ)) (answer : Result Verdict ShowFault) : Type 0 where
@@ -199,6 +214,7 @@ HasDone words input old new (outcome.Run answer) = HasAnsweredRun words input ol
 HasDone words input old new (outcome.RunInPieces answer) = HasAnsweredRunInPieces words input old new answer
 HasDone words input old new (outcome.Check answer) = HasAnsweredCheck words input old new answer
 HasDone words input old new (outcome.Show answer) = HasAnsweredShow words input old new answer
+HasDone words input old new (outcome.Dump answer) = HasAnsweredDump words input old new answer
 HasDone words input old new (outcome.Explain answer) = HasAnsweredExplain words input old new answer
 HasDone words input old new (outcome.Timeline answer) = HasAnsweredTimeline words input old new answer
 HasDone words input old new (outcome.Stats answer) = HasAnsweredStats words input old new answer

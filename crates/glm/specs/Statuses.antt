@@ -2,6 +2,8 @@
 use Rattle.std.specs.Prelude.{◌≡◌, ◌⊎◌, ℕ}
 use Rattle.lock_trace.specs.declared.faults.TraceKind.{TraceKind}
 use Rattle.lock_trace.specs.declared.faults.TraceKind.TheVariants as kind
+use Rattle.dump_command.specs.declared.dump_fault.DumpFault.{DumpFault}
+use Rattle.dump_command.specs.declared.dump_fault.DumpFault.TheVariants as dump
 use Rattle.history_commands.specs.declared.show_fault.ShowFault.{ShowFault}
 use Rattle.history_commands.specs.declared.show_fault.ShowFault.TheVariants as show
 use Rattle.replay_commands.specs.declared.tool_fault.ToolFault.{ToolFault}
@@ -33,6 +35,13 @@ status_for tool.NoMemory = NO_MEMORY
 status_for tool.Device = DEVICE
 status_for tool.GateShut = STOPPED
 status_for tool.TurnLimit = STOPPED
+
+-- the exit status of a fault of `show --state`
+abbrev pub status_for_dump : DumpFault → ℕ
+status_for_dump (dump.Row row) = REFUSED
+status_for_dump dump.NoMemory = NO_MEMORY
+status_for_dump dump.Unread = DEVICE
+status_for_dump dump.Device = DEVICE
 
 -- the exit status of a fault of `show`, `explain` or `timeline`
 abbrev pub status_for_show : ShowFault → ℕ

@@ -24,6 +24,7 @@ use crate::wrong_replies::{explained, shown, wrong_of};
 use clap::Error;
 use clap::error::ErrorKind;
 use command_line::{CommandRequest, Delivery, Request, VERSION_TEXT, request_of, usage_text};
+use dump_command::show_dump;
 use file_streams::{NewFile, open_source};
 use history_commands::{
     Finding, Verdict, WrongReply, check_by_row, check_whole, timeline, verdict_line,
@@ -159,6 +160,9 @@ fn perform<T: Threads + Wait + Files, R: Read + Drop, W: Write, G: Gate>(
         }
         CommandRequest::Show(sessions, place, form) => {
             Outcome::Show(shown(alloc, input, output, sessions, place, form, wrong))
+        }
+        CommandRequest::Dump(sessions, form) => {
+            Outcome::Dump(show_dump(alloc, input, output, sessions, form))
         }
         CommandRequest::Explain(sessions, place, form) => {
             Outcome::Explain(explained(alloc, input, output, sessions, place, form, wrong))

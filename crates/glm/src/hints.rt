@@ -26,7 +26,9 @@ fn command_for(request: CommandRequest) -> (Command, u16) {
         }
         CommandRequest::Run(sessions, _, _) => (Command::Run, sessions),
         CommandRequest::Check(sessions, _) => (Command::Check, sessions),
-        CommandRequest::Show(sessions, _, _) => (Command::Show, sessions),
+        CommandRequest::Show(sessions, _, _) | CommandRequest::Dump(sessions, _) => {
+            (Command::Show, sessions)
+        }
         CommandRequest::Explain(sessions, _, _) => (Command::Explain, sessions),
         CommandRequest::Timeline(sessions, _, _) => (Command::Timeline, sessions),
         CommandRequest::Stats(sessions, _) => (Command::Stats, sessions),

@@ -3,7 +3,7 @@
 //!
 //! `commands.rt` is the whole program except its streams, and `outcomes.rt` has statuses and messages. The command line is
 //! `command_line`'s, `replay` is of `replay_commands`, `run` of `run_commands`, `check`, `show`, `explain` and `timeline` are of
-//! `history_commands`, `stats` of `stats_command`. `row_comments` skips comments, and `file_streams` opens and writes files.
+//! `history_commands`, `show --state` is of `dump_command`, `stats` of `stats_command`. `row_comments` skips comments, and `file_streams` opens and writes files.
 //! `hints.rt` writes the hints of `row_hints`, and `wrong_replies.rt` finds the wrong reply that they tell of.
 //!
 //! Proved: what each command wrote, with its result and exit status, for every input, also after a fault; and that the
@@ -19,6 +19,7 @@ mod wrong_replies;
 
 pub use command_line::{Form, MAX_PLACE, MAX_STREAMED_SESSIONS, MAX_TURNS, VERSION, VERSION_TEXT};
 pub use commands::{program, program_with_hints};
+pub use dump_command::{DumpFault, show_dump};
 pub use hints::Hints;
 pub use history_commands::{
     Finding, ShowFault, Verdict, WrongReply, check, check_by_row, check_whole, explain,

@@ -3,8 +3,9 @@
 ghost use Rattle.std.specs.Prelude.{◌≡◌};
 ghost use Rattle.glm.specs.Outcomes.{status_of_outcome};
 ghost use Rattle.glm.specs.Streams.{IsFileFault};
-ghost use Rattle.glm.specs.Statuses.{IsStatus, status_for, status_for_show, status_of_kind};
+ghost use Rattle.glm.specs.Statuses.{IsStatus, status_for, status_for_dump, status_for_show, status_of_kind};
 
+use dump_command::DumpFault;
 use history_commands::{ShowFault, Verdict};
 use lock_trace::{TraceFault, TraceKind};
 use replay_commands::ToolFault;
@@ -49,6 +50,8 @@ pub(crate) enum Outcome {
     /// The verdict on the history of which a state was asked for, and written: the state if the history is legal, else the
     /// verdict.
     Show(Result<Verdict, ShowFault>),
+    /// The result of showing the dump that was asked for. The state was also written to the output.
+    Dump(Result<(), DumpFault>),
     /// The verdict on the history of which an explanation was asked for, and written: the explanation if the history is legal,
     /// else the verdict.
     Explain(Result<Verdict, ShowFault>),
@@ -114,6 +117,18 @@ fn status_of_show_fault(fault: &ShowFault) -> u8
     }
 }
 
+/// The exit status of a fault of `show --state`.
+fn status_of_dump_fault(fault: &DumpFault) -> u8
+    ensures fault { result ≡ status_for_dump fault.now }
+    ensures status { IsStatus result }
+{
+    match fault {
+        DumpFault::Row(_) => REFUSED,
+        DumpFault::NoMemory => NO_MEMORY,
+        DumpFault::Unread | DumpFault::Device => DEVICE,
+    }
+}
+
 /// Writes the line of a fault with this exit status. A failure of `errors` is ignored; the exit status still reports the fault.
 fn report_line<E: Write, F: Display>(status: u8, fault: &F, errors: &mut E) {
     let _reported = match status {
@@ -131,6 +146,11 @@ fn report_fault<E: Write>(fault: &ToolFault, errors: &mut E) {
 /// Writes the line of a fault of `show`, `explain` or `timeline`.
 fn report_show_fault<E: Write>(fault: &ShowFault, errors: &mut E) {
     report_line(status_of_show_fault(fault), fault, errors);
+}
+
+/// Writes the line of a fault of `show --state`.
+fn report_dump_fault<E: Write>(fault: &DumpFault, errors: &mut E) {
+    report_line(status_of_dump_fault(fault), fault, errors);
 }
 
 /// Writes the lines of a file that couldn't be opened to do something with it. Returns the outcome.
@@ -167,6 +187,7 @@ impl Outcome {
             Outcome::HelpShown | Outcome::VersionShown => DONE,
             Outcome::Check(Ok(Verdict::Legal(_))) => DONE,
             Outcome::Show(Ok(Verdict::Legal(_))) | Outcome::Explain(Ok(Verdict::Legal(_))) => DONE,
+            Outcome::Dump(Ok(_)) => DONE,
             Outcome::Check(Ok(Verdict::Illegal(_))) => ILLEGAL,
             Outcome::Show(Ok(Verdict::Illegal(_))) => ILLEGAL,
             Outcome::Explain(Ok(Verdict::Illegal(_))) => ILLEGAL,
@@ -180,6 +201,7 @@ impl Outcome {
             Outcome::Run(Err(fault)) | Outcome::RunInPieces(Err(fault)) => status_of_fault(fault),
             Outcome::Check(Err(fault)) | Outcome::Shell(Err(fault)) => status_of_fault(fault),
             Outcome::Show(Err(fault)) | Outcome::Explain(Err(fault)) => status_of_show_fault(fault),
+            Outcome::Dump(Err(fault)) => status_of_dump_fault(fault),
             Outcome::Timeline(Err(fault)) => status_of_show_fault(fault),
             Outcome::Stats(Err(fault)) => status_of_fault(fault),
             Outcome::HelpFailed | Outcome::VersionFailed | Outcome::FileFailed => DEVICE,
@@ -201,6 +223,7 @@ impl Outcome {
             Outcome::Show(Err(fault)) | Outcome::Explain(Err(fault)) => {
                 report_show_fault(fault, errors)
             }
+            Outcome::Dump(Err(fault)) => report_dump_fault(fault, errors),
             Outcome::Timeline(Err(fault)) => report_show_fault(fault, errors),
             Outcome::Stats(Err(fault)) => report_fault(fault, errors),
             Outcome::HelpFailed | Outcome::VersionFailed => report_fault(
@@ -211,7 +234,7 @@ impl Outcome {
             Outcome::Replay(Ok(_)) | Outcome::ReplayInPieces(Ok(_)) => {}
             Outcome::Run(Ok(_)) | Outcome::RunInPieces(Ok(_)) | Outcome::Shell(Ok(_)) => {}
             Outcome::Check(Ok(_)) | Outcome::Show(Ok(_)) | Outcome::Explain(Ok(_)) => {}
-            Outcome::Timeline(Ok(_)) | Outcome::Stats(Ok(_)) => {}
+            Outcome::Timeline(Ok(_)) | Outcome::Stats(Ok(_)) | Outcome::Dump(Ok(_)) => {}
             Outcome::HelpShown | Outcome::VersionShown => {}
             Outcome::Misused | Outcome::FileFailed => {}
         }

@@ -123,9 +123,12 @@ edge_if_first w = edge_from w w.since
 abbrev pub start_of_graph : List ℕ
 start_of_graph = codes "digraph locks {\n  graph [rankdir=LR, pack=true, nodesep=0.1];\n  node [margin=\"0.05,0.02\"];\n"
 
--- the graph: a node for each open transaction, a box for each resource that is waited for, in the order of a listing and in rows, and
--- an edge from each session that waits to its first blocker
-abbrev pub dot_of_locks : List OpenTransaction → List Claim → List ToldWait → List ℕ
-dot_of_locks opens claims waits =
+-- the graph up to its edges: a node for each open transaction, and a box for each resource that is waited for, in the order of a
+-- listing and in rows
+abbrev pub boxed_graph : List OpenTransaction → List Claim → List ℕ
+boxed_graph opens claims =
     start_of_graph ++ flat_map node_of opens ++ boxes_behind None claims ++ places_of (boxed_behind None claims) (length (boxed_behind None claims))
-    ++ flat_map edge_if_first waits ++ codes "}\n"
+
+-- the graph, with an edge from each session that waits to its first blocker
+abbrev pub dot_of_locks : List OpenTransaction → List Claim → List ToldWait → List ℕ
+dot_of_locks opens claims waits = boxed_graph opens claims ++ flat_map edge_if_first waits ++ codes "}\n"

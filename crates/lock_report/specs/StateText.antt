@@ -77,12 +77,16 @@ resources_section claims = text_or_none claims (resource_lines None claims)
 abbrev pub waits_section : List ToldWait → List ℕ
 waits_section waits = text_or_none waits (flat_map line_of_wait waits)
 
+-- the sections of the jam, of the open transactions and of the claims in the order of a listing, and the heading of the waits
+abbrev pub sections_of : ℕ → List Root → List OpenTransaction → List Claim → List ℕ
+sections_of waiting roots opens claims =
+    codes "\njam\n" ++ lines_of_jam waiting roots opens
+    ++ codes "\ntransactions\n" ++ transactions_section opens claims
+    ++ codes "\nresources\n" ++ resources_section claims
+    ++ codes "\nwaits\n"
+
 -- the state in front of a place of the history: the jam, the open transactions, the claims in the order of a listing, and the
 -- waits
 abbrev pub text_of_state : ℕ → ℕ → List Root → List OpenTransaction → List Claim → List ToldWait → List ℕ
 text_of_state place waiting roots opens claims waits =
-    codes "state in front of place " ++ decimal place
-    ++ codes "\n\njam\n" ++ lines_of_jam waiting roots opens
-    ++ codes "\ntransactions\n" ++ transactions_section opens claims
-    ++ codes "\nresources\n" ++ resources_section claims
-    ++ codes "\nwaits\n" ++ waits_section waits
+    codes "state in front of place " ++ decimal place ++ codes "\n" ++ sections_of waiting roots opens claims ++ waits_section waits

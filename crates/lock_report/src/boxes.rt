@@ -2,7 +2,7 @@
 
 ghost use Rattle.std.specs.Prelude.{◌≡◌, ◌++◌, None, IfOk, OnOk, string_bytes};
 ghost use Rattle.std.specs.List.{flat_map};
-ghost use Rattle.lock_report.specs.LocksDot.{box_at, box_of, boxes_behind, dot_of_locks, edge_from, edge_if_first, line_if_lock, numbered_line, queue_lines, start_of_label, words_of_claim};
+ghost use Rattle.lock_report.specs.LocksDot.{box_at, box_of, boxed_graph, boxes_behind, dot_of_locks, edge_from, edge_if_first, line_if_lock, numbered_line, queue_lines, start_of_label, words_of_claim};
 
 use crate::dot::{put_edge, put_nodes};
 use crate::queues::{begins_queue, claims_on, waited};
@@ -139,6 +139,23 @@ fn put_first_edges(out: &mut String, waits: &[ToldWait]) -> Result<(), NoMemory>
     Ok(())
 }
 
+/// Writes the graph up to its edges.
+pub(crate) fn put_boxed(
+    alloc: Global,
+    out: &mut String,
+    opens: &[OpenTransaction],
+    claims: &[Claim],
+) -> Result<(), NoMemory>
+    ensures { OnOk result (string_bytes out.new ≡ string_bytes out.old ++ boxed_graph opens.now claims.now) }
+{
+    let boxed = waited(alloc, claims)?;
+    out.push_str(START)?;
+    put_nodes(out, opens)?;
+    put_boxes(out, claims)?;
+    put_places(out, &boxed)?;
+    Ok(())
+}
+
 /// The contended resources and the waits for first blockers as a directed graph of Graphviz: a node for each open transaction,
 /// filled if it is a victim; a box for each resource with a waiting request, with its holders and its queue, in rows; and an edge for
 /// each wait that has `since`. `claims` has the order of a listing: resource by resource. Its cost grows with the number of claims.
@@ -151,12 +168,8 @@ pub fn locks_dot(
 ) -> Result<String, NoMemory>
     ensures { IfOk result (λ text. string_bytes text ≡ dot_of_locks opens.now claims.now waits.now) }
 {
-    let boxed = waited(alloc, claims)?;
     let mut out = String::new(alloc);
-    out.push_str(START)?;
-    put_nodes(&mut out, opens)?;
-    put_boxes(&mut out, claims)?;
-    put_places(&mut out, &boxed)?;
+    put_boxed(alloc, &mut out, opens, claims)?;
     put_first_edges(&mut out, waits)?;
     out.push_str("}\n")?;
     Ok(out)

@@ -31,7 +31,7 @@ fn count_on(claims: &[Claim], resource: Resource) -> usize
 }
 
 /// The claims from the front on that are on the resource.
-pub(crate) fn claims_on(claims: &[Claim], resource: Resource) -> &[Claim]
+pub fn claims_on(claims: &[Claim], resource: Resource) -> &[Claim]
     ensures { result.now ≡ claims_on resource claims.now }
 {
     let count = count_on(claims, resource);
@@ -54,7 +54,7 @@ fn has_request(claims: &[Claim]) -> bool
 
 /// Whether the claims, the first of which is on the resource, begin with all those on it, and somebody waits for it; `last` is the
 /// resource of the claim ahead of them.
-pub(crate) fn begins_queue(last: Option<Resource>, resource: Resource, claims: &[Claim]) -> bool
+pub fn begins_queue(last: Option<Resource>, resource: Resource, claims: &[Claim]) -> bool
     ensures { result ≡ begins_queue last resource claims.now }
 {
     !is_last(last, resource) && has_request(claims_on(claims, resource))

@@ -40,6 +40,15 @@ pub struct ToldWait {
     pub since: Option<u64>,
 }
 
+/// An edge of the waits-for graph, of which no place is known.
+#[derive(Clone, Copy, Debug, PartialEq, Eq, Hash)]
+pub struct RankedWait {
+    /// The wait.
+    pub wait: Wait,
+    /// Whether the other session is the first blocker of the one that waits.
+    pub first: bool,
+}
+
 /// The call that made the transaction of a session a deadlock victim.
 #[derive(Clone, Copy, Debug, PartialEq, Eq, Hash)]
 pub struct Doom {

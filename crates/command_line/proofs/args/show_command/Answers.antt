@@ -7,4 +7,5 @@ use Rattle.command_line.proofs.args.show_command.Goals as goal
 pub returns-clause-app : goal.returns-clause-app
 returns-clause-app c =
     let forms = c.in_ok-made.ensures.app ∙ ap with_forms c.in_ok-show.ensures.app in
-    IfOk-weaker c.arg.result _ _ (λ command h. h.shape c.flag_arg.ensures.own ∙ ap₂ with_rule forms c.flag_arg.ensures.rule) c.arg.ensures
+    let waits = c.in_ok-made-2.ensures.shape c.flag_arg.ensures.own ∙ ap₂ with_rule forms c.flag_arg.ensures.rule in
+    IfOk-weaker c.arg.result _ _ (λ command h. h.shape c.flag_arg-2.ensures.own ∙ ap₂ with_rule waits c.flag_arg-2.ensures.rule) c.arg.ensures

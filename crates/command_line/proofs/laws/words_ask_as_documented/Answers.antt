@@ -14,7 +14,7 @@ use Rattle.command_line.specs.CommandLine.{AskNothing, Gives, HasFlag, IsRequest
 use Rattle.command_line.specs.declared.args.Form.{Form}
 use Rattle.command_line.specs.declared.args.TheConstants.{MAX_PLACE, MAX_TURNS}
 use Rattle.command_line.specs.declared.args.TheConstants.{MAX_STREAMED_SESSIONS}
-use Rattle.command_line.proofs.Ask.{faulty, no_first_place, no_last_place, nothing_told, no_streamed, no_such_sessions, sessions_text}
+use Rattle.command_line.proofs.Ask.{faulty, no_dump_at, no_first_place, no_last_place, nothing_told, no_streamed, no_such_sessions, sessions_text}
 use Rattle.command_line.proofs.AskShow.{place_given, place_not_given, rows_and_waits, two_forms, two_graphs}
 use Rattle.command_line.proofs.Gives.{numeral_given}
 use Rattle.command_line.proofs.laws.words_ask_as_documented.Goals as goal
@@ -71,6 +71,16 @@ in_no_form : (words : List Text) (name : Text) (rows : List Row) → faults_of w
 in_no_form words name rows whole is named none = record {
   no_request = λ asked ask. nothing_told name rows named (λ p f there way. none f way) asked
       (subst (λ (f : Option (Text × List Row)). IsRequest f asked) is ask.request_is);
+  no_help = λ help. let bad : [] ≡ DisplayHelp ∷ [] = sym whole ∙ help in cc;
+  no_version = λ version. let bad : [] ≡ DisplayVersion ∷ [] = sym whole ∙ version in cc;
+}
+
+-- words without an error ask for nothing if they name `show`, the flag `--state` and a place
+at_a_dump : (words : List Text) (name : Text) (rows : List Row) (text : Text) (place : ℕ) → faults_of words ≡ [] → subcommand_of glm_command words ≡ Some (name, rows)
+    → name ≡ codes "show" → HasFlag (codes "state") rows → first_of (codes "at") rows ≡ Some text → reading_of_numeral MAX_PLACE text ≡ Ok place → AskNothing words
+at_a_dump words name rows text place whole is named state given read = record {
+  no_request = λ asked ask. no_dump_at rows place state (place_given _ text place rows given read) asked
+      (subst (λ (n : Text). IsRequest (Some (n, rows)) asked) named (subst (λ (f : Option (Text × List Row)). IsRequest f asked) is ask.request_is));
   no_help = λ help. let bad : [] ≡ DisplayHelp ∷ [] = sym whole ∙ help in cc;
   no_version = λ version. let bad : [] ≡ DisplayVersion ∷ [] = sym whole ∙ version in cc;
 }
@@ -219,23 +229,39 @@ returns-clause-version_short c = inl refl
 
 pub returns-clause-show : goal.returns-clause-show
 unfolding clap_on_literals
-returns-clause-show c = record { whole = refl; request_is = (refl, numeral_given (codes "sessions") (codes "256") MAX_SESSIONS 256 _ (omega arith) refl refl (search rules), refl, (λ flag. let no : Some (codes "false") ≡ Some (codes "true") = flag in cc, λ flag. let no : Some (codes "false") ≡ Some (codes "true") = flag in cc, λ flag. let no : Some (codes "false") ≡ Some (codes "true") = flag in cc)) }
+returns-clause-show c = record { whole = refl; request_is = (refl, numeral_given (codes "sessions") (codes "256") MAX_SESSIONS 256 _ (omega arith) refl refl (search rules), refl, (λ flag. let no : Some (codes "false") ≡ Some (codes "true") = flag in cc, λ flag. let no : Some (codes "false") ≡ Some (codes "true") = flag in cc, λ flag. let no : Some (codes "false") ≡ Some (codes "true") = flag in cc), λ flag. let no : Some (codes "false") ≡ Some (codes "true") = flag in cc) }
 
 pub returns-clause-show_at : goal.returns-clause-show_at
 unfolding clap_on_literals
-returns-clause-show_at c = record { whole = refl; request_is = (refl, numeral_given (codes "sessions") (codes "256") MAX_SESSIONS 256 _ (omega arith) refl refl (search rules), place_given _ (codes "0") 0 _ refl refl, (λ flag. let no : Some (codes "false") ≡ Some (codes "true") = flag in cc, λ flag. let no : Some (codes "false") ≡ Some (codes "true") = flag in cc, λ flag. let no : Some (codes "false") ≡ Some (codes "true") = flag in cc)) }
+returns-clause-show_at c = record { whole = refl; request_is = (refl, numeral_given (codes "sessions") (codes "256") MAX_SESSIONS 256 _ (omega arith) refl refl (search rules), place_given _ (codes "0") 0 _ refl refl, (λ flag. let no : Some (codes "false") ≡ Some (codes "true") = flag in cc, λ flag. let no : Some (codes "false") ≡ Some (codes "true") = flag in cc, λ flag. let no : Some (codes "false") ≡ Some (codes "true") = flag in cc), λ flag. let no : Some (codes "false") ≡ Some (codes "true") = flag in cc) }
 
 pub returns-clause-show_rows : goal.returns-clause-show_rows
 unfolding clap_on_literals
-returns-clause-show_rows c = record { whole = refl; request_is = (refl, numeral_given (codes "sessions") (codes "3") MAX_SESSIONS 3 _ (omega arith) refl refl (search rules), place_given _ (codes "7") 7 _ refl refl, (refl, λ flag. let no : Some (codes "false") ≡ Some (codes "true") = flag in cc, λ flag. let no : Some (codes "false") ≡ Some (codes "true") = flag in cc)) }
+returns-clause-show_rows c = record { whole = refl; request_is = (refl, numeral_given (codes "sessions") (codes "3") MAX_SESSIONS 3 _ (omega arith) refl refl (search rules), place_given _ (codes "7") 7 _ refl refl, (refl, λ flag. let no : Some (codes "false") ≡ Some (codes "true") = flag in cc, λ flag. let no : Some (codes "false") ≡ Some (codes "true") = flag in cc), λ flag. let no : Some (codes "false") ≡ Some (codes "true") = flag in cc) }
 
 pub returns-clause-show_graph : goal.returns-clause-show_graph
 unfolding clap_on_literals
-returns-clause-show_graph c = record { whole = refl; request_is = (refl, numeral_given (codes "sessions") (codes "256") MAX_SESSIONS 256 _ (omega arith) refl refl (search rules), refl, (λ flag. let no : Some (codes "false") ≡ Some (codes "true") = flag in cc, refl, λ flag. let no : Some (codes "false") ≡ Some (codes "true") = flag in cc)) }
+returns-clause-show_graph c = record { whole = refl; request_is = (refl, numeral_given (codes "sessions") (codes "256") MAX_SESSIONS 256 _ (omega arith) refl refl (search rules), refl, (λ flag. let no : Some (codes "false") ≡ Some (codes "true") = flag in cc, refl, λ flag. let no : Some (codes "false") ≡ Some (codes "true") = flag in cc), λ flag. let no : Some (codes "false") ≡ Some (codes "true") = flag in cc) }
 
 pub returns-clause-show_waits : goal.returns-clause-show_waits
 unfolding clap_on_literals
-returns-clause-show_waits c = record { whole = refl; request_is = (refl, numeral_given (codes "sessions") (codes "256") MAX_SESSIONS 256 _ (omega arith) refl refl (search rules), refl, (λ flag. let no : Some (codes "false") ≡ Some (codes "true") = flag in cc, λ flag. let no : Some (codes "false") ≡ Some (codes "true") = flag in cc, refl)) }
+returns-clause-show_waits c = record { whole = refl; request_is = (refl, numeral_given (codes "sessions") (codes "256") MAX_SESSIONS 256 _ (omega arith) refl refl (search rules), refl, (λ flag. let no : Some (codes "false") ≡ Some (codes "true") = flag in cc, λ flag. let no : Some (codes "false") ≡ Some (codes "true") = flag in cc, refl), λ flag. let no : Some (codes "false") ≡ Some (codes "true") = flag in cc) }
+
+pub returns-clause-show_state : goal.returns-clause-show_state
+unfolding clap_on_literals
+returns-clause-show_state c = record { whole = refl; request_is = (refl, numeral_given (codes "sessions") (codes "256") MAX_SESSIONS 256 _ (omega arith) refl refl (search rules), refl, (λ flag. let no : Some (codes "false") ≡ Some (codes "true") = flag in cc, λ flag. let no : Some (codes "false") ≡ Some (codes "true") = flag in cc, λ flag. let no : Some (codes "false") ≡ Some (codes "true") = flag in cc), refl) }
+
+pub returns-clause-show_state_rows : goal.returns-clause-show_state_rows
+unfolding clap_on_literals
+returns-clause-show_state_rows c = record { whole = refl; request_is = (refl, numeral_given (codes "sessions") (codes "3") MAX_SESSIONS 3 _ (omega arith) refl refl (search rules), refl, (refl, λ flag. let no : Some (codes "false") ≡ Some (codes "true") = flag in cc, λ flag. let no : Some (codes "false") ≡ Some (codes "true") = flag in cc), refl) }
+
+pub returns-clause-show_state_at : goal.returns-clause-show_state_at
+unfolding clap_on_literals
+returns-clause-show_state_at c = at_a_dump _ _ _ (codes "7") 7 refl refl refl refl refl refl
+
+pub returns-clause-explain_state : goal.returns-clause-explain_state
+unfolding clap_on_literals
+returns-clause-explain_state c = faulty _ UnknownArgument [] refl (search rules) (search rules)
 
 pub returns-clause-show_two_graphs : goal.returns-clause-show_two_graphs
 unfolding clap_on_literals

@@ -88,6 +88,19 @@ returns-in-Show c c' =
       shows = done.shows;
     }
 
+pub returns-in-Dump : goal.returns-in-Dump
+returns-in-Dump c c' =
+    let done = c'.show_dump.ensures in
+    λ words asked. record {
+      sessions = c'.in-Dump.sessions;
+      form = c'.in-Dump.form;
+      asked = (let is : c'.args.command ≡ request.Dump c'.in-Dump.sessions c'.in-Dump.form = search rules in subst (λ (r : CommandRequest). Ask words r) is asked);
+      kept = done.kept;
+      part = done.part;
+      shown = done.shown;
+      shows = done.shows;
+    }
+
 pub returns-in-Explain : goal.returns-in-Explain
 returns-in-Explain c c' =
     let done = c'.explained.ensures in

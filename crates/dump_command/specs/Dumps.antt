@@ -1,0 +1,36 @@
+-- What `show --state` writes: a dump in a form of `show`.
+use Rattle.std.specs.Prelude.{◌≡◌, ℕ, List, Option, Result, Ok, Err}
+use Rattle.std.specs.Io.KnownBytes.{Appends}
+use Rattle.lock_report.specs.StateRows.{rows_of_state}
+use Rattle.state_rows.specs.declared.reading.StateLists.{StateLists}
+use Rattle.state_rows.specs.States.{AreLists, IsFaulty, IsNoState, text_of}
+use Rattle.dump_report.specs.Shown.{graph_of_dump, lines_of_dump, waits_of_dump}
+use Rattle.command_line.specs.declared.args.Form.{Form}
+use Rattle.command_line.specs.declared.args.Form.TheVariants as form
+use Rattle.replay_commands.specs.Written.{AppendsPart}
+use Rattle.dump_command.specs.declared.dump_fault.DumpFault.{DumpFault}
+use Rattle.dump_command.specs.declared.dump_fault.DumpFault.TheVariants as fault
+
+-- the text of a dump of the sessions 1 to n in this form
+abbrev pub text_in : Form → ℕ → StateLists → List ℕ
+text_in form.Lines n lists = lines_of_dump n lists
+text_in form.Rows n lists = text_of lists
+text_in form.Graph n lists = graph_of_dump lists
+text_in form.Waits n lists = waits_of_dump lists
+
+-- for some dump of the sessions 1 to n, the output grew by its text in this form, and by nothing else
+abbrev pub HasDump : Form → ℕ → Option (List ℕ) → Option (List ℕ) → Type 0
+HasDump form n old new = (lists : StateLists) × (AreLists n lists × Appends old new (text_in form n lists))
+
+-- for some dump of the sessions 1 to n, the output grew by the first bytes of its text in this form, and by nothing else
+abbrev pub HasDumpPart : Form → ℕ → Option (List ℕ) → Option (List ℕ) → Type 0
+HasDumpPart form n old new = (lists : StateLists) × (AreLists n lists × AppendsPart old new (text_in form n lists))
+
+-- the result of showing the dump that these bytes are; the output holds `old` before and `new` after
+abbrev pub ShowsDump : {X : Type 0} → Form → ℕ → List ℕ → Option (List ℕ) → Option (List ℕ) → Result X DumpFault → Type 0
+ShowsDump form n bytes old new (Ok _) = (lists : StateLists) × ((bytes ≡ text_of lists) × AreLists n lists × Appends old new (text_in form n lists))
+ShowsDump form n bytes old new (Err (fault.Row k)) = IsNoState n bytes × IsFaulty n bytes k
+ShowsDump form n bytes old new (Err fault.NoMemory) = Unit {0}
+ShowsDump form n bytes old new (Err fault.Unread) = Unit {0}
+ShowsDump form n bytes old new (Err fault.Device) =
+    (lists : StateLists) × ((bytes ≡ text_of lists) × AreLists n lists × AppendsPart old new (text_in form n lists))

@@ -1,0 +1,76 @@
+//! The roots of the jam that a dump shows, with how many sessions each blocks and how many requests its abort would grant.
+
+ghost use Rattle.std.specs.Prelude.{◌≡◌, ◌≤◌, ◌++◌, All, IfOk, OnOk};
+ghost use Rattle.lock_rules.specs.declared.calls.TheConstants.{MAX_SESSIONS};
+ghost use Rattle.state_rows.specs.Rows.{IsOpen, IsWait};
+ghost use Rattle.dump_report.specs.Blockers.{requests_among};
+ghost use Rattle.dump_report.specs.Jam.{is_root, root_of, roots_of};
+ghost use Rattle.dump_report.specs.inner.Graph.{AreWaitsOf};
+
+use crate::blockers::is_waited_for;
+use crate::grants::granted_by_abort;
+use crate::graph::{count_blocked, graph_of};
+use crate::requests::{request_of, requests_among};
+use lock_report::{OpenTransaction, Root, Wait};
+use lock_rules::Claim;
+use std::alloc::{AllocError as NoMemory, Global};
+use waits_for::Rows;
+
+/// Whether others wait for the session, which doesn't wait itself. Fails if memory is refused.
+fn is_root(alloc: Global, claims: &[Claim], waits: &[Wait], session: u16) -> Result<bool, NoMemory>
+    ensures { IfOk result (λ found. found ≡ is_root claims.now waits.now session) }
+{
+    let requests = requests_among(alloc, claims)?;
+    Ok(request_of(&requests, session).is_none() && is_waited_for(waits, session))
+}
+
+/// Adds the transaction to the list, if its session is a root. Fails if memory is refused.
+fn add_root(
+    alloc: Global,
+    begun: &OpenTransaction,
+    claims: &[Claim],
+    waits: &[Wait],
+    rows: &mut Rows,
+    roots: &mut Vec<Root>,
+) -> Result<(), NoMemory>
+    requires open { IsOpen rows.old.sessions begun.now }
+    requires pairs { AreWaitsOf rows.old waits.now }
+    ensures same { OnOk result (rows.new ≡ rows.old) }
+    ensures roots { OnOk result (roots.new.items ≡ roots.old.items ++ root_of rows.old.sessions claims.now waits.now begun.now) }
+{
+    if !is_root(alloc, claims, waits, begun.session)? {
+        return Ok(());
+    }
+    let blocks = count_blocked(rows, waits, begun.session);
+    let granted = granted_by_abort(alloc, begun.session, claims)?;
+    let grants = granted.len() as u64;
+    roots.push(Root {
+        begun: *begun,
+        blocks,
+        grants,
+    })?;
+    Ok(())
+}
+
+/// The roots of the jam among the sessions 1 to `sessions`, in the order of the open transactions. `claims` has the order of a listing:
+/// resource by resource. Fails if memory is refused.
+pub(crate) fn roots_of(
+    alloc: Global,
+    sessions: u16,
+    opens: &[OpenTransaction],
+    claims: &[Claim],
+    waits: &[Wait],
+) -> Result<Vec<Root>, NoMemory>
+    requires some { 1 ≤ sessions }
+    requires few { sessions ≤ MAX_SESSIONS }
+    requires opens { All (IsOpen sessions) opens.now }
+    requires waits { All (IsWait sessions) waits.now }
+    ensures { IfOk result (λ roots. roots.items ≡ roots_of sessions opens.now claims.now waits.now) }
+{
+    let mut rows = graph_of(alloc, sessions, waits)?;
+    let mut roots = Vec::new(alloc);
+    for begun in opens {
+        add_root(alloc, begun, claims, waits, &mut rows, &mut roots)?;
+    }
+    Ok(roots)
+}

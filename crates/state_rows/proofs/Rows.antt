@@ -1,0 +1,159 @@
+-- A row is read from its fields exactly if each of its parts is.
+use Rattle.std.proofs.Common.{◌≡◌, ◌↔◌, ℕ, List, [], ◌∷◌, length, map, get_or, Option, Some, None, subst, refl, sym, ap, ◌∙◌, arith}
+use Rattle.std.specs.Prelude.{codes, decimal}
+use Rattle.lock_modes.specs.declared.Mode.{Mode}
+use Rattle.lock_modes.specs.Codes.{name_of}
+use Rattle.lock_tree.specs.Paths.{IsResource}
+use Rattle.lock_tree.specs.Text.{text_of}
+use Rattle.lock_rules.specs.declared.calls.Transaction.{Transaction}
+use Rattle.lock_rules.specs.declared.listing.Claim.{Claim}
+use Rattle.lock_rules.specs.declared.listing.ClaimKind.{ClaimKind}
+use Rattle.lock_report.specs.declared.snapshot.OpenTransaction.{OpenTransaction}
+use Rattle.lock_report.specs.declared.snapshot.Wait.{Wait}
+use Rattle.lock_rules.specs.declared.listing.ClaimKind.TheVariants.{Held, Conversion, Fresh}
+use Rattle.report_text.specs.Claims.{word_of_kind}
+use Rattle.lock_report.specs.StateRows.{fields_of_transaction, fields_of_wait, victim_field}
+use Rattle.state_rows.specs.declared.row.StateRow.{StateRow}
+use Rattle.state_rows.specs.declared.row.StateRow.TheVariants as row
+use Rattle.state_rows.specs.Rows.{IsClaim, IsNumbered, IsOpen, IsRow, IsSession, IsWait, fields_of_row}
+
+-- What is read of a text is one thing.
+pub only : {X : Type 0} (o : Option X) (x y : X) → o ≡ Some x → o ≡ Some y → x ≡ y
+only o x y is also = cc
+
+-- An open transaction is read exactly if its session and its transaction are.
+pub open-iff : (n : ℕ) (session number victim : List ℕ) (so : Option ℕ) (to : Option Transaction) (s : ℕ) (t : Transaction)
+    → ((u : ℕ) → (so ≡ Some u) ↔ (IsSession n u × (session ≡ decimal u)))
+    → ((x : Transaction) → (to ≡ Some x) ↔ (IsNumbered x × (number ≡ decimal x.number) × (victim ≡ victim_field x)))
+    → so ≡ Some s → to ≡ Some t
+    → (o : OpenTransaction) → (Some (record { session = s; transaction = t }) ≡ Some o)
+    ↔ (IsOpen n o × (session ≡ decimal o.session) × (number ≡ decimal o.transaction.number) × (victim ≡ victim_field o.transaction))
+open-iff n session number victim so to s t sessions transactions is also o = (
+  λ e.
+      let made : OpenTransaction = record { session = s; transaction = t } in
+      let same : made ≡ o = cc in
+      let a = (sessions s).0 is in
+      let b = (transactions t).0 also in
+      subst (λ (x : OpenTransaction). IsOpen n x × (session ≡ decimal x.session) × (number ≡ decimal x.transaction.number) × (victim ≡ victim_field x.transaction)) same
+      ((a.0, b.0), a.1, b.1, b.2),
+  λ h.
+      let a = only so s o.session is ((sessions o.session).1 (h.0.0, h.1)) in
+      let b = only to t o.transaction also ((transactions o.transaction).1 (h.0.1, h.2, h.3)) in
+      λ i. Some (record { session = a i; transaction = b i }),
+)
+
+-- A wait is read exactly if its sessions are.
+pub wait-iff : (n : ℕ) (session other : List ℕ) (so uo : Option ℕ) (s u : ℕ)
+    → ((k : ℕ) → (so ≡ Some k) ↔ (IsSession n k × (session ≡ decimal k)))
+    → ((k : ℕ) → (uo ≡ Some k) ↔ (IsSession n k × (other ≡ decimal k)))
+    → so ≡ Some s → uo ≡ Some u
+    → (w : Wait) → (Some (record { session = s; other = u }) ≡ Some w) ↔ (IsWait n w × (session ≡ decimal w.session) × (other ≡ decimal w.other))
+wait-iff n session other so uo s u sessions others is also w = (
+  λ e.
+      let made : Wait = record { session = s; other = u } in
+      let same : made ≡ w = cc in
+      let a = (sessions s).0 is in
+      let b = (others u).0 also in
+      subst (λ (x : Wait). IsWait n x × (session ≡ decimal x.session) × (other ≡ decimal x.other)) same ((a.0, b.0), a.1, b.1),
+  λ h.
+      let a = only so s w.session is ((sessions w.session).1 (h.0.0, h.1)) in
+      let b = only uo u w.other also ((others w.other).1 (h.0.1, h.2)) in
+      λ i. Some (record { session = a i; other = b i }),
+)
+
+-- A lock or a request is read exactly if its parts are.
+pub claim-iff : (n : ℕ) (word session number victim resource mode : List ℕ) (ko : Option ClaimKind) (oo : Option OpenTransaction) (ro : Option (List ℕ)) (mo : Option Mode)
+    (k : ClaimKind) (o : OpenTransaction) (r : List ℕ) (m : Mode)
+    → ((x : ClaimKind) → (ko ≡ Some x) ↔ (word ≡ word_of_kind x))
+    → ((x : OpenTransaction) → (oo ≡ Some x) ↔ (IsOpen n x × (session ≡ decimal x.session) × (number ≡ decimal x.transaction.number) × (victim ≡ victim_field x.transaction)))
+    → ((x : List ℕ) → (ro ≡ Some x) ↔ (IsResource x × (resource ≡ text_of x)))
+    → ((x : Mode) → (mo ≡ Some x) ↔ (mode ≡ name_of x))
+    → ko ≡ Some k → oo ≡ Some o → ro ≡ Some r → mo ≡ Some m
+    → (c : Claim) → (Some (record { resource = r; session = o.session; transaction = o.transaction; mode = m; kind = k }) ≡ Some c)
+    ↔ (IsClaim n c × (word ≡ word_of_kind c.kind) × (session ≡ decimal c.session) × (number ≡ decimal c.transaction.number) × (victim ≡ victim_field c.transaction)
+    × (resource ≡ text_of c.resource) × (mode ≡ name_of c.mode))
+claim-iff n word session number victim resource mode ko oo ro mo k o r m kinds opens resources modes k-is o-is r-is m-is c = (
+  λ e.
+      let made : Claim = record { resource = r; session = o.session; transaction = o.transaction; mode = m; kind = k } in
+      let same : made ≡ c = cc in
+      let x = (kinds k).0 k-is in
+      let y = (opens o).0 o-is in
+      let z = (resources r).0 r-is in
+      let w = (modes m).0 m-is in
+      subst (λ (d : Claim). IsClaim n d × (word ≡ word_of_kind d.kind) × (session ≡ decimal d.session) × (number ≡ decimal d.transaction.number) × (victim ≡ victim_field d.transaction)
+      × (resource ≡ text_of d.resource) × (mode ≡ name_of d.mode)) same
+      ((y.0.0, y.0.1, z.0), x, y.1, y.2, y.3, z.1, w),
+  λ h.
+      let begun : OpenTransaction = record { session = c.session; transaction = c.transaction } in
+      let x = only ko k c.kind k-is ((kinds c.kind).1 h.1) in
+      let y = only oo o begun o-is ((opens begun).1 ((h.0.0, h.0.1), h.2, h.3, h.4)) in
+      let z = only ro r c.resource r-is ((resources c.resource).1 (h.0.2, h.5)) in
+      let w = only mo m c.mode m-is ((modes c.mode).1 h.6) in
+      λ i. Some (record { resource = z i; session = (y i).session; transaction = (y i).transaction; mode = w i; kind = x i }),
+)
+
+-- Lists of seven that are equal have equal items.
+pub seven : {A : Type 0} {a b c d e f g a2 b2 c2 d2 e2 f2 g2 : A} → a ∷ b ∷ c ∷ d ∷ e ∷ f ∷ g ∷ [] ≡ a2 ∷ b2 ∷ c2 ∷ d2 ∷ e2 ∷ f2 ∷ g2 ∷ []
+    → (a ≡ a2) × (b ≡ b2) × (c ≡ c2) × (d ≡ d2) × (e ≡ e2) × (f ≡ f2) × (g ≡ g2)
+seven is = (cc, cc, cc, cc, cc, cc, cc)
+
+-- A row has seven fields.
+pub seven-fields : (r : StateRow) → length (fields_of_row r) ≡ 7
+seven-fields (row.Transaction o) = refl
+seven-fields (row.Claim c) = refl
+seven-fields (row.Wait w) = refl
+
+-- The items of a list of seven.
+pub seven-items : {A B : Type 0} (of : A → B) (xs : List A) (a b c d e f g : A) → length xs ≡ 7
+    → a ≡ get_or xs 0 a → b ≡ get_or xs 1 b → c ≡ get_or xs 2 c → d ≡ get_or xs 3 d → e ≡ get_or xs 4 e → f ≡ get_or xs 5 f → g ≡ get_or xs 6 g
+    → map of xs ≡ of a ∷ of b ∷ of c ∷ of d ∷ of e ∷ of f ∷ of g ∷ []
+seven-items of [] a b c d e f g long a-is b-is c-is d-is e-is f-is g-is = absurd (omega (arith, long))
+seven-items of (p ∷ []) a b c d e f g long a-is b-is c-is d-is e-is f-is g-is = absurd (omega (arith, long))
+seven-items of (p ∷ q ∷ []) a b c d e f g long a-is b-is c-is d-is e-is f-is g-is = absurd (omega (arith, long))
+seven-items of (p ∷ q ∷ r ∷ []) a b c d e f g long a-is b-is c-is d-is e-is f-is g-is = absurd (omega (arith, long))
+seven-items of (p ∷ q ∷ r ∷ s ∷ []) a b c d e f g long a-is b-is c-is d-is e-is f-is g-is = absurd (omega (arith, long))
+seven-items of (p ∷ q ∷ r ∷ s ∷ t ∷ []) a b c d e f g long a-is b-is c-is d-is e-is f-is g-is = absurd (omega (arith, long))
+seven-items of (p ∷ q ∷ r ∷ s ∷ t ∷ u ∷ []) a b c d e f g long a-is b-is c-is d-is e-is f-is g-is = absurd (omega (arith, long))
+seven-items of (p ∷ q ∷ r ∷ s ∷ t ∷ u ∷ v ∷ []) a b c d e f g long a-is b-is c-is d-is e-is f-is g-is =
+    λ i. of (sym a-is i) ∷ of (sym b-is i) ∷ of (sym c-is i) ∷ of (sym d-is i) ∷ of (sym e-is i) ∷ of (sym f-is i) ∷ of (sym g-is i) ∷ []
+seven-items of (p ∷ q ∷ r ∷ s ∷ t ∷ u ∷ v ∷ w ∷ xs) a b c d e f g long a-is b-is c-is d-is e-is f-is g-is = absurd (omega (arith, long))
+
+-- The words of a transaction and a wait are those of no claim.
+no-transaction : (k : ClaimKind) → codes "transaction" ≡ word_of_kind k → ⊥
+no-transaction Held e = cc
+no-transaction Conversion e = cc
+no-transaction Fresh e = cc
+
+no-wait : (k : ClaimKind) → codes "waits" ≡ word_of_kind k → ⊥
+no-wait Held e = let bad : 119 ≡ 104 = ap (λ (l : List ℕ). get_or l 0 0) e in omega (arith, bad)
+no-wait Conversion e = let bad : 119 ≡ 99 = ap (λ (l : List ℕ). get_or l 0 0) e in omega (arith, bad)
+no-wait Fresh e = let bad : 119 ≡ 102 = ap (λ (l : List ℕ). get_or l 0 0) e in omega (arith, bad)
+
+-- Fields that are those of an open transaction are read as its row.
+pub row-of-open : (n : ℕ) (fields : List (List ℕ)) (oo : Option OpenTransaction) (o : OpenTransaction)
+    → ((x : OpenTransaction) → (oo ≡ Some x) ↔ (IsOpen n x × (fields ≡ fields_of_transaction x)))
+    → oo ≡ Some o → (r : StateRow) → (Some (row.Transaction o) ≡ Some r) ↔ (IsRow n r × (fields ≡ fields_of_row r))
+row-of-open n fields oo o opens is r = (
+  λ e. let same : row.Transaction o ≡ r = cc in subst (λ (x : StateRow). IsRow n x × (fields ≡ fields_of_row x)) same ((opens o).0 is),
+  λ h. go r h,
+)
+  where
+    go : (r : StateRow) → IsRow n r × (fields ≡ fields_of_row r) → Some (row.Transaction o) ≡ Some r
+    go (row.Transaction x) h = let same = only oo o x is ((opens x).1 h) in λ i. Some (row.Transaction (same i))
+    go (row.Claim c) h = absurd (no-transaction c.kind (seven (sym ((opens o).0 is).1 ∙ h.1)).0)
+    go (row.Wait w) h = let bad : codes "transaction" ≡ codes "waits" = (seven (sym ((opens o).0 is).1 ∙ h.1)).0 in absurd cc
+
+-- Fields that are those of a wait, and of no open transaction, are read as its row.
+pub row-of-wait : (n : ℕ) (fields : List (List ℕ)) (oo : Option OpenTransaction) (wo : Option Wait) (w : Wait)
+    → ((x : OpenTransaction) → (oo ≡ Some x) ↔ (IsOpen n x × (fields ≡ fields_of_transaction x)))
+    → ((x : Wait) → (wo ≡ Some x) ↔ (IsWait n x × (fields ≡ fields_of_wait x)))
+    → oo ≡ None → wo ≡ Some w → (r : StateRow) → (Some (row.Wait w) ≡ Some r) ↔ (IsRow n r × (fields ≡ fields_of_row r))
+row-of-wait n fields oo wo w opens waits none is r = (
+  λ e. let same : row.Wait w ≡ r = cc in subst (λ (x : StateRow). IsRow n x × (fields ≡ fields_of_row x)) same ((waits w).0 is),
+  λ h. go r h,
+)
+  where
+    go : (r : StateRow) → IsRow n r × (fields ≡ fields_of_row r) → Some (row.Wait w) ≡ Some r
+    go (row.Transaction x) h = let read = (opens x).1 h in absurd cc
+    go (row.Claim c) h = absurd (no-wait c.kind (seven (sym ((waits w).0 is).1 ∙ h.1)).0)
+    go (row.Wait x) h = let same = only wo w x is ((waits x).1 h) in λ i. Some (row.Wait (same i))

@@ -1,0 +1,73 @@
+-- The rows of a state as they are read: in their order, line by line.
+use Rattle.std.specs.Prelude.{◌≡◌, ◌≢◌, ◌<◌, ◌≤◌, ◌+◌, ◌-◌, ◌⊎◌, ℕ, Bool, ◌==◌, List, [], ◌∷◌, ◌++◌, length, map, take, All}
+use Rattle.std.specs.List.{slice_split}
+use Rattle.lock_rules.specs.declared.listing.Claim.{Claim}
+use Rattle.lock_report.specs.declared.snapshot.OpenTransaction.{OpenTransaction}
+use Rattle.lock_report.specs.declared.snapshot.Wait.{Wait}
+use Rattle.lock_report.specs.StateRows.{rows_of_state}
+use Rattle.state_rows.specs.declared.reading.StateLists.{StateLists}
+use Rattle.state_rows.specs.declared.row.StateRow.{StateRow}
+use Rattle.state_rows.specs.declared.row.StateRow.TheVariants as row
+use Rattle.state_rows.specs.Rows.{IsRow, line_of_row}
+
+-- the rows of a state in their order: its open transactions, then its locks and requests, then its waits
+abbrev pub rows_in : List OpenTransaction → List Claim → List Wait → List StateRow
+rows_in opens claims waits = map row.Transaction opens ++ (map row.Claim claims ++ map row.Wait waits)
+
+-- the rows of these lists
+abbrev pub rows_of : StateLists → List StateRow
+rows_of lists = rows_in lists.opens.items lists.claims.items lists.waits.items
+
+-- all rows of these lists are rows for the sessions 1 to n
+abbrev pub AreLists : ℕ → StateLists → Type 0
+AreLists n lists = All (IsRow n) (rows_of lists)
+
+-- the text of these lists
+abbrev pub text_of : StateLists → List ℕ
+text_of lists = rows_of_state lists.opens.items lists.claims.items lists.waits.items
+
+-- the text isn't the rows of any state of the sessions 1 to n
+abbrev pub IsNoState : ℕ → List ℕ → Type 0
+IsNoState n text = (opens : List OpenTransaction) (claims : List Claim) (waits : List Wait) → All (IsRow n) (rows_in opens claims waits) → text ≢ rows_of_state opens claims waits
+
+-- the byte is a line feed
+abbrev pub is_line_feed : ℕ → Bool
+is_line_feed b = b == 10
+
+-- the lines of a text, without their line feeds; the last is what is behind the last line feed
+abbrev pub lines_of : List ℕ → List (List ℕ)
+lines_of text = slice_split is_line_feed text
+
+-- the lines are those of the rows of a state
+abbrev pub AreLinesOfState : ℕ → List (List ℕ) → Type 0
+AreLinesOfState n lines =
+    (opens : List OpenTransaction) × (claims : List Claim) × (waits : List Wait) × (All (IsRow n) (rows_in opens claims waits) × (map line_of_row (rows_in opens claims waits) ≡ lines))
+
+-- the rows of no state begin with these lines
+abbrev pub BeginNoState : ℕ → List (List ℕ) → Type 0
+BeginNoState n lines = (opens : List OpenTransaction) (claims : List Claim) (waits : List Wait) (rest : List (List ℕ)) → All (IsRow n) (rows_in opens claims waits)
+    → map line_of_row (rows_in opens claims waits) ≢ lines ++ rest
+
+-- the row can't come behind these rows in any state
+abbrev pub IsLate : StateRow → List StateRow → Type 0
+IsLate r rows = (opens : List OpenTransaction) (claims : List Claim) (waits : List Wait) (rest : List StateRow) → rows ++ r ∷ rest ≢ rows_in opens claims waits
+
+-- line number k, counted from 1, is the first with which these lines aren't the beginning of the rows of any state
+pub record IsFirstBad (n : ℕ) (lines : List (List ℕ)) (k : ℕ) : Type 0 where
+  pub some : 0 < k
+  pub within : k ≤ length lines
+  pub front : AreLinesOfState n (take (k - 1) lines)
+  pub bad : BeginNoState n (take k lines)
+
+-- what is behind the last line feed isn't empty, and the lines before it are the rows of a state
+pub record IsOpenEnd (n : ℕ) (text : List ℕ) (k : ℕ) : Type 0 where
+  pub front : List (List ℕ)
+  pub last : List ℕ
+  pub lines : lines_of text ≡ front ++ last ∷ []
+  pub number : k ≡ length front + 1
+  pub rows : AreLinesOfState n front
+  pub unended : last ≢ []
+
+-- line number k of a text is at fault
+abbrev pub IsFaulty : ℕ → List ℕ → ℕ → Type 0
+IsFaulty n text k = IsFirstBad n (lines_of text) k ⊎ IsOpenEnd n text k

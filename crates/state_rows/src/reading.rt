@@ -1,0 +1,152 @@
+//! Reads the rows of a whole state.
+
+ghost use Rattle.std.specs.Prelude.{◌≡◌, ℕ, List, ◌++◌, ◌∷◌, [], true, false, Ok, Err, IfOk, OnOk, map};
+ghost use Rattle.state_rows.specs.declared.row.StateRow.TheVariants as variant;
+ghost use Rattle.state_rows.specs.declared.reading.StateFault.TheVariants as fault;
+ghost use Rattle.state_rows.specs.Rows.{line_of_row};
+ghost use Rattle.state_rows.specs.inner.Prefixes.{AreOnlyRows};
+ghost use Rattle.state_rows.specs.States.{AreLists, BeginNoState, IsFaulty, IsFirstBad, IsLate, IsNoState, lines_of, rows_of, text_of};
+
+use crate::row::{StateRow, is_blank, row_of};
+use lock_report::{OpenTransaction, Wait};
+use lock_rules::Claim;
+use std::alloc::{AllocError as NoMemory, Global};
+
+/// The rows of a state, by their kinds.
+#[derive(Debug, Drop)]
+pub struct StateLists {
+    /// The open transactions.
+    pub opens: Vec<OpenTransaction>,
+    /// The locks and waiting requests.
+    pub claims: Vec<Claim>,
+    /// Who waits directly for whom.
+    pub waits: Vec<Wait>,
+}
+
+/// Why a text isn't read.
+#[derive(Clone, Copy, Debug, Drop, PartialEq, Eq)]
+pub enum StateFault {
+    /// The line with this number, counted from 1, is no row, can't come behind the lines before it, or has no line feed.
+    Line(u64),
+    /// Memory was refused.
+    NoMemory,
+}
+
+/// Adds the row of an open transaction. Returns false, with nothing added, if a lock, a request or a wait came before it.
+fn add_open(begun: OpenTransaction, lists: &mut StateLists) -> Result<bool, NoMemory>
+    ensures added { result ≡ Ok true → rows_of lists.new ≡ rows_of lists.old ++ variant.Transaction begun ∷ [] }
+    ensures late { result ≡ Ok false → IsLate (variant.Transaction begun) (rows_of lists.old) }
+{
+    if !lists.claims.is_empty() {
+        return Ok(false);
+    }
+    if !lists.waits.is_empty() {
+        return Ok(false);
+    }
+    lists.opens.push(begun)?;
+    Ok(true)
+}
+
+/// Adds the row of a lock or a request. Returns false, with nothing added, if a wait came before it.
+fn add_claim(claim: Claim, lists: &mut StateLists) -> Result<bool, NoMemory>
+    ensures added { result ≡ Ok true → rows_of lists.new ≡ rows_of lists.old ++ variant.Claim claim ∷ [] }
+    ensures late { result ≡ Ok false → IsLate (variant.Claim claim) (rows_of lists.old) }
+{
+    if !lists.waits.is_empty() {
+        return Ok(false);
+    }
+    lists.claims.push(claim)?;
+    Ok(true)
+}
+
+/// Adds the row of a wait.
+fn add_wait(wait: Wait, lists: &mut StateLists) -> Result<(), NoMemory>
+    ensures { OnOk result (rows_of lists.new ≡ rows_of lists.old ++ variant.Wait wait ∷ []) }
+{
+    lists.waits.push(wait)?;
+    Ok(())
+}
+
+/// Adds the row. Returns false, with nothing added, if it can't come behind the rows before it.
+fn add_row(row: StateRow, lists: &mut StateLists) -> Result<bool, NoMemory>
+    ensures added { result ≡ Ok true → rows_of lists.new ≡ rows_of lists.old ++ row ∷ [] }
+    ensures late { result ≡ Ok false → IsLate row (rows_of lists.old) }
+{
+    match row {
+        StateRow::Transaction(begun) => add_open(begun, lists),
+        StateRow::Claim(claim) => add_claim(claim, lists),
+        StateRow::Wait(wait) => {
+            add_wait(wait, lists)?;
+            Ok(true)
+        }
+    }
+}
+
+/// Adds the row of the line. Returns false if the line is no row, or its row can't come behind the rows before it.
+fn add_line(
+    alloc: Global,
+    sessions: u16,
+    line: &[u8],
+    lists: &mut StateLists,
+) -> Result<bool, NoMemory>
+    ensures added { (before : List (List ℕ)) → result ≡ Ok true → AreOnlyRows sessions before (rows_of lists.old) → AreOnlyRows sessions (before ++ line.now ∷ []) (rows_of lists.new) }
+    ensures bad { (before : List (List ℕ)) → result ≡ Ok false → AreOnlyRows sessions before (rows_of lists.old) → BeginNoState sessions (before ++ line.now ∷ []) }
+{
+    let found = row_of(alloc, sessions, line)?;
+    let Some(row) = found else {
+        return Ok(false);
+    };
+    let added = add_row(row, lists)?;
+    Ok(added)
+}
+
+/// The rows of the lines. Fails at the first line that is no row, or whose row can't come behind the rows before it.
+fn rows_in_lines(alloc: Global, sessions: u16, lines: &[&[u8]]) -> Result<StateLists, StateFault>
+    ensures ok { IfOk result (λ lists. AreLists sessions lists × (map line_of_row (rows_of lists) ≡ map (λ line. line.now) lines.now)) }
+    ensures bad { (k : ℕ) → result ≡ Err (fault.Line k) → IsFirstBad sessions (map (λ line. line.now) lines.now) k }
+{
+    let mut lists = StateLists {
+        opens: Vec::new(alloc),
+        claims: Vec::new(alloc),
+        waits: Vec::new(alloc),
+    };
+    for index in 0..lines.len() {
+        let Ok(added) = add_line(alloc, sessions, lines[index], &mut lists) else {
+            return Err(StateFault::NoMemory);
+        };
+        if !added {
+            return Err(StateFault::Line(index as u64 + 1));
+        }
+    }
+    Ok(lists)
+}
+
+/// The lines of a text, without their line feeds. Fails if memory is refused.
+fn lines_in<'a>(alloc: Global, text: &'a [u8]) -> Result<Vec<&'a [u8]>, NoMemory>
+    ensures { IfOk result (λ lines. map (λ line. line.now) lines.items ≡ lines_of text.now) }
+{
+    text.split(|byte| *byte == b'\n').collect(alloc)
+}
+
+/// Reads the rows of a state of the sessions 1 to `sessions`, as `lock_report::state_rows` writes them, and no other text. Fails with the
+/// first line that is no row, can't come behind the lines before it, or has no line feed, and with `NoMemory`.
+///
+/// Its cost grows with the text. It keeps the lines and the rows in memory, 16 bytes a line and 64 a lock.
+pub fn read_state(alloc: Global, text: &[u8], sessions: u16) -> Result<StateLists, StateFault>
+    ensures ok { IfOk result (λ lists. AreLists sessions lists × (text.now ≡ text_of lists)) }
+    ensures none { (k : ℕ) → result ≡ Err (fault.Line k) → IsNoState sessions text.now }
+    ensures line { (k : ℕ) → result ≡ Err (fault.Line k) → IsFaulty sessions text.now k }
+{
+    let Ok(mut lines) = lines_in(alloc, text) else {
+        return Err(StateFault::NoMemory);
+    };
+    // A text has a last line, which is empty behind a line feed.
+    let Some(last) = lines.pop() else {
+        return Err(StateFault::NoMemory);
+    };
+    let lists = rows_in_lines(alloc, sessions, &lines)?;
+    if !is_blank(last) {
+        return Err(StateFault::Line(lines.len() as u64 + 1));
+    }
+    Ok(lists)
+}

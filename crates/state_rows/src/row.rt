@@ -1,0 +1,217 @@
+//! A row of a state, read from its line.
+
+ghost use Rattle.std.specs.Prelude.{◌≡◌, ◌↔◌, true, [], ◌∷◌, Some, IfOk, map, decimal};
+ghost use Rattle.std.specs.List.{slice_split};
+ghost use Rattle.lock_modes.specs.Codes.{name_of};
+ghost use Rattle.lock_tree.specs.Text.{text_of};
+ghost use Rattle.lock_rules.specs.declared.calls.Transaction.{Transaction as TransactionValue};
+ghost use Rattle.lock_rules.specs.declared.listing.Claim.{Claim as ClaimValue};
+ghost use Rattle.lock_report.specs.declared.snapshot.OpenTransaction.{OpenTransaction as OpenValue};
+ghost use Rattle.lock_report.specs.declared.snapshot.Wait.{Wait as WaitValue};
+ghost use Rattle.report_text.specs.Claims.{word_of_kind};
+ghost use Rattle.lock_report.specs.StateRows.{fields_of_claim, fields_of_transaction, fields_of_wait, victim_field};
+ghost use Rattle.state_rows.specs.declared.row.StateRow.{StateRow as RowValue};
+ghost use Rattle.state_rows.specs.Rows.{IsClaim, IsNumbered, IsOpen, IsRow, IsSession, IsWait, fields_of_row, is_comma, line_of_row};
+
+use crate::fields::{kind_of, mode_of, number_of, resource_of, session_of, victim_of};
+use lock_report::{OpenTransaction, Wait};
+use lock_rules::{Claim, Transaction};
+use std::alloc::{AllocError as NoMemory, Global};
+
+/// A row of a state.
+#[derive(Clone, Copy, Debug, Drop, PartialEq, Eq)]
+pub enum StateRow {
+    /// An open transaction.
+    Transaction(OpenTransaction),
+    /// A lock or a waiting request.
+    Claim(Claim),
+    /// Who waits directly for whom.
+    Wait(Wait),
+}
+
+/// The transaction of a number field and a victim field.
+fn transaction_of(number: &[u8], victim: &[u8]) -> Option<Transaction>
+    ensures { (t : TransactionValue) → (result ≡ Some t) ↔ (IsNumbered t × (number.now ≡ decimal t.number) × (victim.now ≡ victim_field t)) }
+{
+    let number = number_of(number)?;
+    let doomed = victim_of(victim)?;
+    Some(Transaction { number, doomed })
+}
+
+/// The open transaction of these fields.
+fn open_of(sessions: u16, session: &[u8], number: &[u8], victim: &[u8]) -> Option<OpenTransaction>
+    ensures { (o : OpenValue) → (result ≡ Some o) ↔ (IsOpen sessions o × (session.now ≡ decimal o.session) × (number.now ≡ decimal o.transaction.number) × (victim.now ≡ victim_field o.transaction)) }
+{
+    let session = session_of(session, sessions)?;
+    let transaction = transaction_of(number, victim)?;
+    Some(OpenTransaction {
+        session,
+        transaction,
+    })
+}
+
+/// The lock or request of these fields.
+fn claim_of(
+    sessions: u16,
+    word: &[u8],
+    session: &[u8],
+    number: &[u8],
+    victim: &[u8],
+    resource: &[u8],
+    mode: &[u8],
+) -> Option<Claim>
+    ensures { (c : ClaimValue) → (result ≡ Some c) ↔ (IsClaim sessions c × (word.now ≡ word_of_kind c.kind) × (session.now ≡ decimal c.session) × (number.now ≡ decimal c.transaction.number)
+        × (victim.now ≡ victim_field c.transaction) × (resource.now ≡ text_of c.resource) × (mode.now ≡ name_of c.mode)) }
+{
+    let kind = kind_of(word)?;
+    let begun = open_of(sessions, session, number, victim)?;
+    let resource = resource_of(resource)?;
+    let mode = mode_of(mode)?;
+    Some(Claim {
+        resource,
+        session: begun.session,
+        transaction: begun.transaction,
+        mode,
+        kind,
+    })
+}
+
+/// The wait of these fields.
+fn wait_of(sessions: u16, session: &[u8], other: &[u8]) -> Option<Wait>
+    ensures { (w : WaitValue) → (result ≡ Some w) ↔ (IsWait sessions w × (session.now ≡ decimal w.session) × (other.now ≡ decimal w.other)) }
+{
+    let session = session_of(session, sessions)?;
+    let other = session_of(other, sessions)?;
+    Some(Wait { session, other })
+}
+
+/// Whether the field is empty.
+pub(crate) fn is_blank(field: &[u8]) -> bool
+    ensures { (result ≡ true) ↔ (field.now ≡ []) }
+{
+    field.is_empty()
+}
+
+/// Whether all three fields are empty.
+fn are_blank(a: &[u8], b: &[u8], c: &[u8]) -> bool
+    ensures { (result ≡ true) ↔ ((a.now ≡ []) × (b.now ≡ []) × (c.now ≡ [])) }
+{
+    is_blank(a) && is_blank(b) && is_blank(c)
+}
+
+/// The open transaction of the seven fields of a row.
+fn open_in(
+    sessions: u16,
+    word: &[u8],
+    session: &[u8],
+    number: &[u8],
+    victim: &[u8],
+    resource: &[u8],
+    mode: &[u8],
+    other: &[u8],
+) -> Option<OpenTransaction>
+    ensures { (o : OpenValue) → (result ≡ Some o) ↔ (IsOpen sessions o × (word.now ∷ session.now ∷ number.now ∷ victim.now ∷ resource.now ∷ mode.now ∷ other.now ∷ [] ≡ fields_of_transaction o)) }
+{
+    if word != b"transaction".as_slice() {
+        return None;
+    }
+    if !are_blank(resource, mode, other) {
+        return None;
+    }
+    open_of(sessions, session, number, victim)
+}
+
+/// The lock or request of the seven fields of a row.
+fn claim_in(
+    sessions: u16,
+    word: &[u8],
+    session: &[u8],
+    number: &[u8],
+    victim: &[u8],
+    resource: &[u8],
+    mode: &[u8],
+    other: &[u8],
+) -> Option<Claim>
+    ensures { (c : ClaimValue) → (result ≡ Some c) ↔ (IsClaim sessions c × (word.now ∷ session.now ∷ number.now ∷ victim.now ∷ resource.now ∷ mode.now ∷ other.now ∷ [] ≡ fields_of_claim c)) }
+{
+    if !other.is_empty() {
+        return None;
+    }
+    claim_of(sessions, word, session, number, victim, resource, mode)
+}
+
+/// The wait of the seven fields of a row.
+fn wait_in(
+    sessions: u16,
+    word: &[u8],
+    session: &[u8],
+    number: &[u8],
+    victim: &[u8],
+    resource: &[u8],
+    mode: &[u8],
+    other: &[u8],
+) -> Option<Wait>
+    ensures { (w : WaitValue) → (result ≡ Some w) ↔ (IsWait sessions w × (word.now ∷ session.now ∷ number.now ∷ victim.now ∷ resource.now ∷ mode.now ∷ other.now ∷ [] ≡ fields_of_wait w)) }
+{
+    if word != b"waits".as_slice() {
+        return None;
+    }
+    if !is_blank(victim) || !are_blank(number, resource, mode) {
+        return None;
+    }
+    wait_of(sessions, session, other)
+}
+
+/// The row of seven fields.
+fn row_in(
+    sessions: u16,
+    word: &[u8],
+    session: &[u8],
+    number: &[u8],
+    victim: &[u8],
+    resource: &[u8],
+    mode: &[u8],
+    other: &[u8],
+) -> Option<StateRow>
+    ensures { (row : RowValue) → (result ≡ Some row) ↔ (IsRow sessions row × (word.now ∷ session.now ∷ number.now ∷ victim.now ∷ resource.now ∷ mode.now ∷ other.now ∷ [] ≡ fields_of_row row)) }
+{
+    if let Some(begun) = open_in(
+        sessions, word, session, number, victim, resource, mode, other,
+    ) {
+        return Some(StateRow::Transaction(begun));
+    }
+    if let Some(wait) = wait_in(
+        sessions, word, session, number, victim, resource, mode, other,
+    ) {
+        return Some(StateRow::Wait(wait));
+    }
+    let claim = claim_in(
+        sessions, word, session, number, victim, resource, mode, other,
+    )?;
+    Some(StateRow::Claim(claim))
+}
+
+/// The fields of a line. Fails if memory is refused.
+fn fields_in<'a>(alloc: Global, line: &'a [u8]) -> Result<Vec<&'a [u8]>, NoMemory>
+    ensures { IfOk result (λ fields. map (λ field. field.now) fields.items ≡ slice_split is_comma line.now) }
+{
+    line.split(|byte| *byte == b',').collect(alloc)
+}
+
+/// The row of a line, `None` if it is the line of no row. Fails if memory is refused.
+pub(crate) fn row_of(
+    alloc: Global,
+    sessions: u16,
+    line: &[u8],
+) -> Result<Option<StateRow>, NoMemory>
+    ensures { IfOk result (λ found. (row : RowValue) → (found ≡ Some row) ↔ (IsRow sessions row × (line.now ≡ line_of_row row))) }
+{
+    let fields = fields_in(alloc, line)?;
+    if fields.len() != 7 {
+        return Ok(None);
+    }
+    let row = row_in(
+        sessions, fields[0], fields[1], fields[2], fields[3], fields[4], fields[5], fields[6],
+    );
+    Ok(row)
+}
