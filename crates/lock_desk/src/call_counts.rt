@@ -22,7 +22,7 @@ const REASONS: usize = 13;
 ///
 /// A call that isn't refused costs one increment, one that is refused two. The counters have 64 bits, so they hold as many calls as a
 /// history can have.
-#[derive(Drop)]
+#[derive(Clone, Copy)]
 pub struct CallCounts {
     /// How many calls of each operation got each kind of replies.
     replies: [u64; CELLS],
