@@ -81,7 +81,7 @@ waits_ended-ends s d e before after w x h k l u =
 
 -- the invariant of a book: its lock table with its history, and a locker and a mark for each session
 
-pub kept-of : (a : Inside) → IsKept a → AreKept a.lock_table a.history.items
+pub kept-of : (a : Inside) → IsKept a → AreKept a.lock_table.value a.history.items
 kept-of a k = record {
   legal = k.legal;
   within = subst (λ (n : ℕ). All (IsEntryWithin n) a.history.items) (sym k.lockers) k.within;
@@ -91,8 +91,8 @@ kept-of a k = record {
   counted = k.counted;
 }
 
-pub of-kept : (a : Inside) → 1 ≤ a.sessions → a.sessions ≤ MAX_SESSIONS → AreKept a.lock_table a.history.items → vec_len a.lock_table.lockers ≡ a.sessions → a.marks.sessions ≡ a.sessions
-    → IsLogFor (vec_len a.lock_table.lockers) a.deadlocks → AreDeadlocksTold (newest a.deadlocks.most (deadlocks_in a.history.items)) a.deadlocks.told
+pub of-kept : (a : Inside) → 1 ≤ a.sessions → a.sessions ≤ MAX_SESSIONS → AreKept a.lock_table.value a.history.items → vec_len a.lock_table.value.lockers ≡ a.sessions → a.marks.sessions ≡ a.sessions
+    → IsLogFor (vec_len a.lock_table.value.lockers) a.deadlocks → AreDeadlocksTold (newest a.deadlocks.most (deadlocks_in a.history.items)) a.deadlocks.told
     → AreCallsCounted a.history.items a.counts → AreWaitsCounted a.history.items a.deadlocks.counts → IsKept a
 of-kept a some few k lockers marked log told calls waits = record {
   some = some;
@@ -139,10 +139,10 @@ waits_ended-beside n s before after v w long still adds =
     ∙ ap (λ (told : List ℕ). ended_waits_beside n told s before after) (sym listed))
 
 -- the invariant, when as many sessions are listed as `n`
-pub relisted-kept : (a : Inside) (n : ℕ) (e : LockTable) → e ≡ with_ended_count n a.lock_table → IsKept a → IsKept (record { sessions = a.sessions; lock_table = e; history = a.history; marks = a.marks; deadlocks = a.deadlocks; counts = a.counts })
+pub relisted-kept : (a : Inside) (n : ℕ) (e : LockTable) → e ≡ with_ended_count n a.lock_table.value → IsKept a → IsKept (record { sessions = a.sessions; lock_table = record a.lock_table { value = e }; history = a.history; marks = a.marks; deadlocks = a.deadlocks; counts = a.counts })
 relisted-kept a n e is k =
-    subst (λ (d : LockTable). IsKept (record { sessions = a.sessions; lock_table = d; history = a.history; marks = a.marks; deadlocks = a.deadlocks; counts = a.counts })) (sym is)
-    (of-kept _ k.some k.few (kept-relisted a.lock_table _ a.history.items refl (kept-of a k)) k.lockers k.marked k.log k.told k.calls k.waits)
+    subst (λ (d : LockTable). IsKept (record { sessions = a.sessions; lock_table = record a.lock_table { value = d }; history = a.history; marks = a.marks; deadlocks = a.deadlocks; counts = a.counts })) (sym is)
+    (of-kept _ k.some k.few (kept-relisted a.lock_table.value _ a.history.items refl (kept-of a k)) k.lockers k.marked k.log k.told k.calls k.waits)
 
 -- what contracts see of a book after a call, when these sessions are listed
 pub listed-view : (a : Inside) (b : BookView) → book_view_of a ≡ b → (e : Entry) (es : List Entry) (cut bound : ℕ) (ended told : List ℕ) (deadlocks : ℕ)
@@ -169,12 +169,12 @@ entry-view a b is s call reply es cut bound ended deadlocks entries cuts bounds 
 -- when they are listed beside those that were
 pub beside-view : (a : Inside) (b : BookView) → book_view_of a ≡ b → (s : ℕ) (call : Call) (reply : Reply) (es : List Entry) (cut bound : ℕ) (w : EndedView) (deadlocks : ℕ)
     → es ≡ a.history.items ++ record { session = s; call = call; reply = reply } ∷ [] → cut ≡ a.history.cut → bound ≡ a.history.bound
-    → length a.lock_table.ended.places ≡ a.sessions → length w.places ≡ a.sessions
-    → ((u : ℕ) → is_ended w u ≡ (is_ended a.lock_table.ended u || has_ended s (state_of a.history.items) (step (state_of a.history.items) s call).state u)) → deadlocks ≡ a.deadlocks.most
+    → length a.lock_table.value.ended.places ≡ a.sessions → length w.places ≡ a.sessions
+    → ((u : ℕ) → is_ended w u ≡ (is_ended a.lock_table.value.ended u || has_ended s (state_of a.history.items) (step (state_of a.history.items) s call).state u)) → deadlocks ≡ a.deadlocks.most
     → record { sessions = a.sessions; history = es; cut = cut; bound = bound; ended = ended_in w; deadlocks = deadlocks } ≡ record b { history = b.history ++ record { session = s; call = call; reply = reply } ∷ []; ended = ended_waits_beside b.sessions b.ended s (state_of b.history) (step (state_of b.history) s call).state }
 beside-view a b is s call reply es cut bound w deadlocks entries cuts bounds long still adds most =
     let e : Entry = record { session = s; call = call; reply = reply } in
     let st = state_of a.history.items in
     listed-view a b is e es cut bound (ended_in w) _ deadlocks entries cuts bounds
-    (waits_ended-beside a.sessions s st (step st s call).state a.lock_table.ended w long still adds
+    (waits_ended-beside a.sessions s st (step st s call).state a.lock_table.value.ended w long still adds
     ∙ ap (λ (t : BookView). ended_waits_beside t.sessions t.ended s (state_of t.history) (step (state_of t.history) s call).state) is) most

@@ -1,6 +1,6 @@
 //! The book: the lock table with the history of its calls.
 
-ghost use Rattle.std.specs.Prelude.{◌≡◌, ◌≢◌, ℕ, ◌↔◌, ◌+◌, ◌-◌, ◌<◌, ◌≤◌, List, [], ◌∷◌, ◌++◌, length, min, Contains, slice_index, IfOk, OnOk, OnErr};
+ghost use Rattle.std.specs.Prelude.{◌≡◌, ◌≢◌, ℕ, ◌↔◌, ◌+◌, ◌-◌, ◌<◌, ◌≤◌, List, [], ◌∷◌, ◌++◌, length, min, Contains, slice_index, vec_len, IfOk, OnOk, OnErr};
 ghost use Rattle.std.specs.List.{All};
 ghost use Rattle.lock_rules.specs.State.{held_mode, holders, is_waiting};
 ghost use Rattle.lock_rules.specs.Step.{step};
@@ -11,6 +11,10 @@ ghost use Rattle.lock_rules.specs.Legal.{state_of, IsLegal};
 ghost use Rattle.lock_rules.specs.Listing.{listing_of, waiting_line};
 ghost use Rattle.lock_rules.specs.Laws.{DoesGrantStand, DoesDoomStand, DoesRequestStand};
 ghost use Rattle.lock_rules.specs.Lawful.{IsLawfulState};
+ghost use Rattle.lock_rules.specs.State.{empty};
+ghost use Rattle.lock_desk.specs.inner.Changes.{IsWhole};
+ghost use Rattle.lock_desk.specs.inner.Ready.{IsReadyTable};
+ghost use Rattle.lock_desk.specs.inner.Shows.{Shows};
 ghost use Rattle.lock_desk.specs.Batches.{ended_waits_beside};
 ghost use Rattle.lock_desk.specs.BookView.{first_kept_by, kept_by};
 ghost use Rattle.sequential.specs.Histories.{IsEntryWithin};
@@ -49,7 +53,7 @@ pub struct Book {
     /// Sessions are numbered from 1 to this number, which is from 1 to `MAX_SESSIONS`.
     sessions: u16,
     /// Represents the state that the history leads to.
-    lock_table: LockTable,
+    lock_table: Box<LockTable>,
     /// All served calls with their replies, oldest first. Only those that are kept can be read from memory.
     history: TrimmedList<Entry>,
     /// Scratch space of `serve_batch`: a mark for each session, to find a session that occurs twice.
@@ -58,6 +62,22 @@ pub struct Book {
     deadlocks: DeadlockLog,
     /// How many calls of each kind were served, and how they were answered.
     counts: CallCounts,
+}
+
+/// An empty lock table, as `LockTable::new` makes it, in memory of its own. Fails if memory is refused.
+fn boxed_table(alloc: Global, sessions: u16, seed: u64) -> Result<Box<LockTable>, NoMemory>
+    requires some { 1 ≤ sessions }
+    requires few { sessions ≤ MAX_SESSIONS }
+    ensures shows { IfOk result (λ made. Shows made.value empty) }
+    ensures whole { IfOk result (λ made. IsWhole made.value) }
+    ensures ready { IfOk result (λ made. IsReadyTable made.value) }
+    ensures lockers { IfOk result (λ made. vec_len made.value.lockers ≡ sessions) }
+    ensures none { IfOk result (λ made. made.value.ended.count ≡ 0) }
+{
+    match Box::new(alloc, LockTable::new(alloc, sessions, seed)?) {
+        Ok(made) => Ok(made),
+        Err(_) => Err(NoMemory),
+    }
 }
 
 /// One call of a batch, with its reply once it is served.
@@ -108,7 +128,7 @@ impl Book {
         ensures ended { IfOk result (λ book. book.ended ≡ []) }
         ensures deadlocks { IfOk result (λ book. book.deadlocks ≡ 0) }
     {
-        let lock_table = LockTable::new(alloc, sessions, seed)?;
+        let lock_table = boxed_table(alloc, sessions, seed)?;
         let marks = Marks::new(alloc, sessions)?;
         let deadlocks = DeadlockLog::none(alloc)?;
         Ok(Book {
@@ -314,7 +334,7 @@ impl Book {
     {
         let waits_ended = self.lock_table.clear_ended();
         match serve_recorded(
-            &mut self.lock_table,
+            &mut *self.lock_table,
             &mut self.history,
             &mut self.deadlocks,
             &mut self.counts,
@@ -346,7 +366,7 @@ impl Book {
         ensures err { OnErr result (self.new ≡ self.old) }
     {
         let reply = serve_recorded(
-            &mut self.lock_table,
+            &mut *self.lock_table,
             &mut self.history,
             &mut self.deadlocks,
             &mut self.counts,

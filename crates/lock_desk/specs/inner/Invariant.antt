@@ -22,7 +22,7 @@ book_view_of a = record {
   history = a.history.items;
   cut = a.history.cut;
   bound = a.history.bound;
-  ended = ended_in a.lock_table.ended;
+  ended = ended_in a.lock_table.value.ended;
   deadlocks = a.deadlocks.most;
 }
 
@@ -33,13 +33,13 @@ pub record IsKept (a : Inside) : Type 0 where
   pub few : a.sessions ≤ MAX_SESSIONS
   pub legal : IsLegal a.history.items
   pub within : All (IsEntryWithin a.sessions) a.history.items
-  pub shows : Shows a.lock_table (state_of a.history.items)
-  pub whole : IsWhole a.lock_table
-  pub ready : IsReadyTable a.lock_table
-  pub lockers : vec_len a.lock_table.lockers ≡ a.sessions
-  pub counted : a.lock_table.count ≤ length a.history.items
+  pub shows : Shows a.lock_table.value (state_of a.history.items)
+  pub whole : IsWhole a.lock_table.value
+  pub ready : IsReadyTable a.lock_table.value
+  pub lockers : vec_len a.lock_table.value.lockers ≡ a.sessions
+  pub counted : a.lock_table.value.count ≤ length a.history.items
   pub marked : a.marks.sessions ≡ a.sessions
-  pub log : IsLogFor (vec_len a.lock_table.lockers) a.deadlocks
+  pub log : IsLogFor (vec_len a.lock_table.value.lockers) a.deadlocks
   pub told : AreDeadlocksTold (newest a.deadlocks.most (deadlocks_in a.history.items)) a.deadlocks.told
   pub calls : AreCallsCounted a.history.items a.counts
   pub waits : AreWaitsCounted a.history.items a.deadlocks.counts

@@ -95,7 +95,7 @@ impl Book {
     {
         let asked = items[at];
         let Ok(reply) = serve_recorded(
-            &mut self.lock_table,
+            &mut *self.lock_table,
             &mut self.history,
             &mut self.deadlocks,
             &mut self.counts,
@@ -161,7 +161,7 @@ impl Book {
         };
         let upto = run.upto;
         if grant_run(
-            &mut self.lock_table,
+            &mut *self.lock_table,
             &mut self.history,
             &mut self.counts,
             items,

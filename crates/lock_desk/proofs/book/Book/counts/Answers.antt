@@ -17,7 +17,7 @@ returns c =
     let k = c.self.invariant in
     let h = a.history.items in
     let waiting =
-    c.waiting-waiting.ensures ∙ waiting-counted a.lock_table (state_of h) k.whole (state-lawful h).sound k.shows
-    (requests-within (length a.lock_table.lockers.items) h (subst (λ n. All (IsEntryWithin n) h) (sym k.lockers ∙ a.lock_table.lockers.ok.0) k.within)) in
+    c.waiting-waiting.ensures ∙ waiting-counted a.lock_table.value (state_of h) k.whole (state-lawful h).sound k.shows
+    (requests-within (length a.lock_table.value.lockers.items) h (subst (λ n. All (IsEntryWithin n) h) (sym k.lockers ∙ a.lock_table.value.lockers.ok.0) k.within)) in
     c.counts_told.ensures h k.legal k.calls (subst (AreWaitsCounted h) (sym c.counts-ended.ensures) k.waits) waiting c.count-served.ensures.count
     ∙ ap (λ (t : BookView). counts_of t.history) c.self.view_is

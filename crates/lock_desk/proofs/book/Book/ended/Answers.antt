@@ -7,7 +7,7 @@ use Rattle.lock_desk.proofs.book.Book.ended.Goals as goal
 
 pub returns-clause-ended : goal.returns-clause-ended
 returns-clause-ended c = λ u.
-    let v = c.self.inside.lock_table.ended in
+    let v = c.self.inside.lock_table.value.ended in
     let l = c.ended.ensures.waits_ended u in
     let m = among (is_ended v) (length v.places) u in
     let e = ap (λ (t : BookView). t.ended) c.self.view_is in (

@@ -10,6 +10,6 @@ invariant_of-self c = relisted-kept c.self.inside 0 c.clear_ended-waits_ended.ne
 
 pub returns : goal.returns
 returns c =
-    let none = ap (λ (d : LockTable). ended_in d.ended) c.clear_ended-waits_ended.ensures.cleared ∙ none-in (record { places = c.self.inside.lock_table.ended.places; count = 0 }) refl in
+    let none = ap (λ (d : LockTable). ended_in d.ended) c.clear_ended-waits_ended.ensures.cleared ∙ none-in (record { places = c.self.inside.lock_table.value.ended.places; count = 0 }) refl in
     let is = c.self.view_is in
     λ i. record { sessions = (is i).sessions; history = (is i).history; cut = (is i).cut; bound = (is i).bound; ended = none i; deadlocks = (is i).deadlocks }

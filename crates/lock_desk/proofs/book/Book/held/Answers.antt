@@ -9,5 +9,5 @@ pub returns : goal.returns
 returns c =
     let k = c.self.invariant in
     c.held.ensures
-    ∙ (mode-shown c.self.inside.lock_table (state_of c.self.inside.history.items) c.args.session c.args.resource k.shows
+    ∙ (mode-shown c.self.inside.lock_table.value (state_of c.self.inside.history.items) c.args.session c.args.resource k.shows
     ∙ ap (λ (t : BookView). held_mode (state_of t.history).table c.args.session c.args.resource) c.self.view_is)

@@ -10,5 +10,5 @@ pub returns-clause-ok : goal.returns-clause-ok
 returns-clause-ok c =
     let k = c.self.invariant in
     to-ok c.holders.result _ _ c.holders.ensures.ok (λ e. e
-    ∙ (holders-shown c.self.inside.lock_table (state_of c.self.inside.history.items) c.args.resource k.shows
+    ∙ (holders-shown c.self.inside.lock_table.value (state_of c.self.inside.history.items) c.args.resource k.shows
     ∙ ap (λ (t : BookView). holders c.args.resource (state_of t.history).table.held) c.self.view_is))

@@ -10,5 +10,5 @@ returns c =
     let k = c.self.invariant in
     let es = c.self.inside.history.items in
     c.is_waiting.ensures
-    ∙ (waits-shown c.self.inside.lock_table (state_of es) c.args.session k.whole k.shows
+    ∙ (waits-shown c.self.inside.lock_table.value (state_of es) c.args.session k.whole k.shows
     ∙ ap (λ (t : BookView). is_waiting (state_of t.history) c.args.session) c.self.view_is)

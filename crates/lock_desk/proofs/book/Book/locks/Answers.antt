@@ -10,5 +10,5 @@ pub returns-clause-ok : goal.returns-clause-ok
 returns-clause-ok c =
     let k = c.self.invariant in
     to-ok c.locks.result _ _ c.locks.ensures.ok (λ e. e
-    ∙ (listing-shown c.self.inside.lock_table (state_of c.self.inside.history.items) k.whole k.shows
+    ∙ (listing-shown c.self.inside.lock_table.value (state_of c.self.inside.history.items) k.whole k.shows
     ∙ ap (λ (t : BookView). listing_of (state_of t.history)) c.self.view_is))

@@ -12,12 +12,12 @@ returns-clause-count c =
     let k = c.self.invariant in
     let es = c.self.inside.history.items in
     c.locks_held.ensures
-    ∙ (locks-shown c.self.inside.lock_table (state_of es) c.args.session k.whole (state-lawful es).sound k.shows
+    ∙ (locks-shown c.self.inside.lock_table.value (state_of es) c.args.session k.whole (state-lawful es).sound k.shows
     ∙ ap (λ (t : BookView). length (claims_of c.args.session (state_of t.history).table.held)) c.self.view_is)
 
 pub returns-clause-few : goal.returns-clause-few
 returns-clause-few c =
     let k = c.self.invariant in
     let es = c.self.inside.history.items in
-    let held = c.locks_held.ensures ∙ locks-shown c.self.inside.lock_table (state_of es) c.args.session k.whole (state-lawful es).sound k.shows in
+    let held = c.locks_held.ensures ∙ locks-shown c.self.inside.lock_table.value (state_of es) c.args.session k.whole (state-lawful es).sound k.shows in
     omega (arith, held, (lawful es).locks_bounded c.args.session)

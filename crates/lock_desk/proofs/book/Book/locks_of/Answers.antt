@@ -12,5 +12,5 @@ returns-clause-ok c =
     let k = c.self.invariant in
     let es = c.self.inside.history.items in
     to-ok c.locks_of.result _ _ c.locks_of.ensures.ok (λ e. e
-    ∙ (page-shown (state_of es) c.args.session c.self.inside.lock_table k.whole k.shows c.args.after c.args.most (state-lawful es).sound.order
+    ∙ (page-shown (state_of es) c.args.session c.self.inside.lock_table.value k.whole k.shows c.args.after c.args.most (state-lawful es).sound.order
     ∙ ap (λ (t : BookView). take c.args.most (locks_of (state_of t.history) c.args.session c.args.after)) c.self.view_is))

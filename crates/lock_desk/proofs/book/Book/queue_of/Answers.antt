@@ -12,7 +12,7 @@ use Rattle.lock_desk.proofs.book.Book.queue_of.Goals as goal
 pub returns-in-Some : goal.returns-in-Some
 returns-in-Some c =
     let k = c.self.invariant in
-    let d = c.self.inside.lock_table in
+    let d = c.self.inside.lock_table.value in
     let st = state_of c.self.inside.history.items in
     let line = sym (request-shown d st k.whole k.shows c.args.session (state-lawful c.self.inside.history.items).sound) ∙ (sym c.waiting_request.ensures ∙ c.in-Some.is) in
     c.queue_length.ensures
@@ -22,7 +22,7 @@ returns-in-Some c =
 pub returns-in-None : goal.returns-in-None
 returns-in-None c =
     let k = c.self.invariant in
-    let d = c.self.inside.lock_table in
+    let d = c.self.inside.lock_table.value in
     let st = state_of c.self.inside.history.items in
     let line = sym (request-shown d st k.whole k.shows c.args.session (state-lawful c.self.inside.history.items).sound) ∙ (sym c.waiting_request.ensures ∙ c.in-None.is) in
     none-told st (request_of c.args.session st.table.requests) line

@@ -11,5 +11,5 @@ returns c =
     let k = c.self.invariant in
     let es = c.self.inside.history.items in
     c.waiting_request.ensures
-    ∙ (request-shown c.self.inside.lock_table (state_of es) k.whole k.shows c.args.session (state-lawful es).sound
+    ∙ (request-shown c.self.inside.lock_table.value (state_of es) k.whole k.shows c.args.session (state-lawful es).sound
     ∙ ap (λ (t : BookView). waiting_line (state_of t.history) c.args.session) c.self.view_is)

@@ -15,7 +15,7 @@ serve_recorded-requires-clause-within c =
 pub serve_recorded-requires-clause-kept : goal.serve_recorded-requires-clause-kept
 serve_recorded-requires-clause-kept c =
     let a = c.self.inside in
-    subst (λ (d : LockTable). AreKept d a.history.items) (sym c.clear_ended-waits_ended.ensures.cleared) (kept-relisted a.lock_table _ a.history.items refl (kept-of a c.self.invariant))
+    subst (λ (d : LockTable). AreKept d a.history.items) (sym c.clear_ended-waits_ended.ensures.cleared) (kept-relisted a.lock_table.value _ a.history.items refl (kept-of a c.self.invariant))
 
 pub serve_recorded-requires-clause-log : goal.serve_recorded-requires-clause-log
 serve_recorded-requires-clause-log c = λ some. c.self.invariant.log some ∙ sym (ap (λ (d : LockTable). vec_len d.lockers) c.clear_ended-waits_ended.ensures.cleared)
@@ -38,5 +38,5 @@ invariant_of-self-in-Err c =
     let k = c.self.invariant in
     let e = c.serve_recorded.new.table in
     let done = c.in-Err.ensures in
-    subst (λ (d : LockTable). IsKept (record { sessions = c.self.inside.sessions; lock_table = d; history = c.serve_recorded.new.history; marks = c.self.inside.marks; deadlocks = c.serve_recorded.new.log; counts = c.serve_recorded.new.counts })) (sym c.restore_ended.ensures)
+    subst (λ (d : LockTable). IsKept (record { sessions = c.self.inside.sessions; lock_table = record c.self.inside.lock_table { value = d }; history = c.serve_recorded.new.history; marks = c.self.inside.marks; deadlocks = c.serve_recorded.new.log; counts = c.serve_recorded.new.counts })) (sym c.restore_ended.ensures)
     (of-kept _ k.some k.few (kept-relisted e _ c.serve_recorded.new.history.items refl done.kept) (done.lockers ∙ (ap (λ (d : LockTable). vec_len d.lockers) c.clear_ended-waits_ended.ensures.cleared ∙ k.lockers)) k.marked done.log done.told done.calls done.waits)

@@ -22,13 +22,13 @@ returns-clause-served c = λ batch start s.
     let e = c.serve_recorded.new.table in
     let is = c.self.view_is in
     let h = ap (λ (t : BookView). t.history) is in
-    let n : length a.lock_table.ended.places ≡ b.sessions = c.self.invariant.ready.waits_ended ∙ (c.self.invariant.lockers ∙ ap (λ (t : BookView). t.sessions) is) in
+    let n : length a.lock_table.value.ended.places ≡ b.sessions = c.self.invariant.ready.waits_ended ∙ (c.self.invariant.lockers ∙ ap (λ (t : BookView). t.sessions) is) in
     let m : length e.ended.places ≡ b.sessions = done.kept.ready.waits_ended ∙ (done.lockers ∙ (c.self.invariant.lockers ∙ ap (λ (t : BookView). t.sessions) is)) in
-    let before : ended_in a.lock_table.ended ≡ b.ended = ap (λ (t : BookView). t.ended) is in
+    let before : ended_in a.lock_table.value.ended ≡ b.ended = ap (λ (t : BookView). t.ended) is in
     let at : asked ≡ get_or items k asked = search rules in
     let same = at ∙ get_or_default items k asked c.index-items-at-2.result c.requires.some in
     let ends : ended_in e.ended ≡ ended_also b.sessions (state_of start) (take k batch) (state_of a.history.items) asked
-    = waits_ended-also b.sessions (state_of start) (take k batch) (state_of a.history.items) asked a.lock_table.ended e.ended n m (before ∙ s.waits) done.ended in
+    = waits_ended-also b.sessions (state_of start) (take k batch) (state_of a.history.items) asked a.lock_table.value.ended e.ended n m (before ∙ s.waits) done.ended in
     let ends_now = ends ∙ ap (λ (es : List Entry). ended_also b.sessions (state_of start) (take k batch) (state_of es) asked) h in
     let next = served-next b.sessions k batch start b.ended (ended_in e.ended) b.history items asked reply s c.requires.some at (done.reply ∙ ap (λ (es : List Entry). (step (state_of es) asked.session asked.call).reply) h) ends_now in
     subst (λ (es : List Entry). AreServed b.sessions (k + 1) batch start (ended_in e.ended) es (set items k (with_reply (get_or items k c.index-items-at-2.result) reply))) (sym (done.entry ∙ ap (λ (es : List Entry). es ++ entry_of asked reply ∷ []) h))

@@ -8,6 +8,6 @@ returns-clause-entry c =
     let e = c.serve_recorded.new.table in
     let done = c.in_ok-reply.ensures in
     let k = c.self.invariant in
-    let before : length a.lock_table.ended.places ≡ a.sessions = k.ready.waits_ended ∙ k.lockers in
+    let before : length a.lock_table.value.ended.places ≡ a.sessions = k.ready.waits_ended ∙ k.lockers in
     let after : length e.ended.places ≡ a.sessions = done.kept.ready.waits_ended ∙ (done.lockers ∙ k.lockers) in
     beside-view a c.args.self.now c.self.view_is c.args.session c.args.call c.in_ok-reply.reply c.serve_recorded.new.history.items _ _ e.ended _ done.entry done.cut done.bound before after done.ended done.most

@@ -13,8 +13,8 @@ invariant_of-self c =
     let k = c.self.invariant in
     let kept = c.shrink.ensures.kept in
     of-kept _ k.some k.few
-    (kept-same a.lock_table c.shrink.new.self a.history.items c.shrink-2.new.self.items c.shrink-2.ensures.items (kept-of a k)
-    (same-shown a.lock_table c.shrink.new.self (state_of a.history.items) c.shrink.ensures.same k.shows) kept.whole kept.ready kept.lockers)
+    (kept-same a.lock_table.value c.shrink.new.self a.history.items c.shrink-2.new.self.items c.shrink-2.ensures.items (kept-of a k)
+    (same-shown a.lock_table.value c.shrink.new.self (state_of a.history.items) c.shrink.ensures.same k.shows) kept.whole kept.ready kept.lockers)
     (kept.lockers ∙ k.lockers) k.marked (λ some. k.log some ∙ sym kept.lockers)
     (subst (λ (es : List Entry). AreDeadlocksTold (newest a.deadlocks.most (deadlocks_in es)) a.deadlocks.told) (sym c.shrink-2.ensures.items) k.told)
     (subst (λ (es : List Entry). AreCallsCounted es a.counts) (sym c.shrink-2.ensures.items) k.calls)

@@ -14,6 +14,6 @@ returns c =
     let s = c.args.session in
     let u = c.args.other in
     c.waits_for.ensures
-    ∙ (written-blocks c.self.inside.lock_table k.whole k.ready s u
-    ∙ (pairs-shown c.self.inside.lock_table (state_of es) k.whole (state-lawful es).sound k.shows s u
+    ∙ (written-blocks c.self.inside.lock_table.value k.whole k.ready s u
+    ∙ (pairs-shown c.self.inside.lock_table.value (state_of es) k.whole (state-lawful es).sound k.shows s u
     ∙ ap (λ (t : BookView). waits_for (state_of t.history).table s u) c.self.view_is))

@@ -14,25 +14,25 @@ pub invariant_of-result : goal.invariant_of-result
 invariant_of-result c =
     let lock_table = c.in_ok-lock_table.ensures in
     let marks = c.in_ok-marks.ensures in
-    let none = sym c.new-3.ensures.items in
+    let none = sym c.new-2.ensures.items in
     record {
       some = c.requires.some;
       few = c.requires.few;
       legal = subst IsLegal none tt;
       within = subst (All (IsEntryWithin c.args.sessions)) none (λ k d lt. absurd (omega (arith, lt)));
-      shows = subst (λ (es : List Entry). Shows c.in_ok-lock_table.lock_table (state_of es)) none lock_table.shows;
+      shows = subst (λ (es : List Entry). Shows c.in_ok-lock_table.lock_table.value (state_of es)) none lock_table.shows;
       whole = lock_table.whole;
       ready = lock_table.ready;
       lockers = lock_table.lockers;
-      counted = subst (λ (es : List Entry). c.in_ok-lock_table.lock_table.count ≤ length es) none (omega (arith, lock_table.shows.count));
+      counted = subst (λ (es : List Entry). c.in_ok-lock_table.lock_table.value.count ≤ length es) none (omega (arith, lock_table.shows.count));
       marked = marks.sessions;
       log = λ some. absurd (omega (arith, some, c.in_ok-deadlocks.ensures.most));
       told = subst (λ (es : List Entry). AreDeadlocksTold (newest c.in_ok-deadlocks.deadlocks.most (deadlocks_in es)) c.in_ok-deadlocks.deadlocks.told) none
           (subst (AreDeadlocksTold (newest c.in_ok-deadlocks.deadlocks.most [])) (sym c.in_ok-deadlocks.ensures.told) (subst (λ (n : ℕ). AreDeadlocksTold (newest n []) []) (sym c.in_ok-deadlocks.ensures.most) tt));
-      calls = subst (λ (es : List Entry). AreCallsCounted es c.new-4.result) none c.new-4.ensures;
+      calls = subst (λ (es : List Entry). AreCallsCounted es c.new-3.result) none c.new-3.ensures;
       waits = subst (λ (es : List Entry). AreWaitsCounted es c.in_ok-deadlocks.deadlocks.counts) none
           (subst (AreWaitsCounted []) (sym c.in_ok-deadlocks.ensures.counts) none-counted);
     }
 
 pub returns-clause-ended : goal.returns-clause-ended
-returns-clause-ended c = none-in c.in_ok-lock_table.lock_table.ended c.in_ok-lock_table.ensures.none
+returns-clause-ended c = none-in c.in_ok-lock_table.lock_table.value.ended c.in_ok-lock_table.ensures.none
