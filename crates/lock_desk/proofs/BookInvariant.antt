@@ -138,6 +138,10 @@ waits_ended-beside n s before after v w long still adds =
     (λ u l k. adds u ∙ ap (λ b. b || has_ended s before after u) (sym (any-among (is_ended v) n u l (omega (arith, k)))))
     ∙ ap (λ (told : List ℕ). ended_waits_beside n told s before after) (sym listed))
 
+-- The invariant of a book whose lock table is read behind its box.
+pub behind : (a : Inside) (d : LockTable) → d ≡ a.lock_table.value → IsKept a → IsKept (record a { lock_table = record a.lock_table { value = d } })
+behind a d is k = subst (λ (x : LockTable). IsKept (record a { lock_table = record a.lock_table { value = x } })) (sym is) k
+
 -- the invariant, when as many sessions are listed as `n`
 pub relisted-kept : (a : Inside) (n : ℕ) (e : LockTable) → e ≡ with_ended_count n a.lock_table.value → IsKept a → IsKept (record { sessions = a.sessions; lock_table = record a.lock_table { value = e }; history = a.history; marks = a.marks; deadlocks = a.deadlocks; counts = a.counts })
 relisted-kept a n e is k =

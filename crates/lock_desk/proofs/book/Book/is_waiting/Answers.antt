@@ -3,12 +3,13 @@ use Rattle.lock_rules.specs.Legal.{state_of}
 use Rattle.lock_rules.specs.State.{is_waiting}
 use Rattle.lock_desk.specs.BookView.{BookView}
 use Rattle.lock_desk.proofs.Simulation.{waits-shown}
+use Rattle.lock_desk.proofs.BookInvariant.{behind}
 use Rattle.lock_desk.proofs.book.Book.is_waiting.Goals as goal
 
 pub returns : goal.returns
 returns c =
-    let k = c.self.invariant in
+    let k = behind c.self.inside c.deref.result.now c.deref.ensures c.self.invariant in
     let es = c.self.inside.history.items in
     c.is_waiting.ensures
-    ∙ (waits-shown c.self.inside.lock_table.value (state_of es) c.args.session k.whole k.shows
+    ∙ (waits-shown c.deref.result.now (state_of es) c.args.session k.whole k.shows
     ∙ ap (λ (t : BookView). is_waiting (state_of t.history) c.args.session) c.self.view_is)
