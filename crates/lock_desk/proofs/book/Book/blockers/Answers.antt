@@ -6,6 +6,7 @@ use Rattle.lock_desk.specs.BookView.{BookView}
 use Rattle.lock_desk.specs.Queries.{blockers_among}
 use Rattle.lock_desk.proofs.Simulation.{waits-shown}
 use Rattle.lock_desk.proofs.Blockers.{over, entered, skipped, one-written, none-written, nobody}
+use Rattle.lock_desk.proofs.BookInvariant.{behind}
 use Rattle.lock_desk.proofs.book.Book.blockers.Goals as goal
 use Rattle.lock_desk.proofs.book.Book.blockers.Goals.{then-waits_for, else-waits_for}
 
@@ -13,7 +14,7 @@ use Rattle.lock_desk.proofs.book.Book.blockers.Goals.{then-waits_for, else-waits
 none-block : (c : goal.Then-not-is_waiting) → blockers_among c.args.self.now.sessions (state_of c.args.self.now.history).table c.args.session ≡ []
 none-block c = nobody (state_of c.args.self.now.history) c.args.session c.args.self.now.sessions
     (sym (ap (λ (t : BookView). is_waiting (state_of t.history) c.args.session) c.self.view_is)
-    ∙ (sym (waits-shown c.self.inside.lock_table.value (state_of c.self.inside.history.items) c.args.session c.self.invariant.whole c.self.invariant.shows)
+    ∙ (sym (waits-shown c.deref.result.now (state_of c.self.inside.history.items) c.args.session (behind c.self.inside c.deref.result.now c.deref.ensures c.self.invariant).whole (behind c.self.inside c.deref.result.now c.deref.ensures c.self.invariant).shows)
     ∙ (sym c.is_waiting.ensures ∙ c.if-not-is_waiting.true)))
 
 pub returns-then-not-is_waiting-clause-count : goal.returns-then-not-is_waiting-clause-count
