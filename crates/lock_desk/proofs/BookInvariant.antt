@@ -138,9 +138,15 @@ waits_ended-beside n s before after v w long still adds =
     (λ u l k. adds u ∙ ap (λ b. b || has_ended s before after u) (sym (any-among (is_ended v) n u l (omega (arith, k)))))
     ∙ ap (λ (told : List ℕ). ended_waits_beside n told s before after) (sym listed))
 
--- The invariant of a book whose lock table is read behind its box.
-pub behind : (a : Inside) (d : LockTable) → d ≡ a.lock_table.value → IsKept a → IsKept (record a { lock_table = record a.lock_table { value = d } })
-behind a d is k = subst (λ (x : LockTable). IsKept (record a { lock_table = record a.lock_table { value = x } })) (sym is) k
+-- A book whose lock table is as it is read behind its box.
+abbrev pub read_as : LockTable → Inside → Inside
+read_as d a = record a { lock_table = record a.lock_table { value = d } }
+
+pub behind : (a : Inside) (d : LockTable) → d ≡ a.lock_table.value → IsKept a → IsKept (read_as d a)
+behind a d is k = subst (λ (x : LockTable). IsKept (read_as x a)) (sym is) k
+
+pub view-behind : (a : Inside) (d : LockTable) (b : BookView) → d ≡ a.lock_table.value → book_view_of a ≡ b → book_view_of (read_as d a) ≡ b
+view-behind a d b is seen = subst (λ (x : LockTable). book_view_of (read_as x a) ≡ b) (sym is) seen
 
 -- the invariant, when as many sessions are listed as `n`
 pub relisted-kept : (a : Inside) (n : ℕ) (e : LockTable) → e ≡ with_ended_count n a.lock_table.value → IsKept a → IsKept (record { sessions = a.sessions; lock_table = record a.lock_table { value = e }; history = a.history; marks = a.marks; deadlocks = a.deadlocks; counts = a.counts })

@@ -3,11 +3,12 @@
 ghost use Rattle.std.specs.Prelude.{◌≡◌, ℕ, ◌+◌, ◌-◌, ◌%◌, ◌^◌, ◌<◌, ◌&&◌, ◌==◌, if◌then◌else◌, List, [], ◌∷◌, ◌++◌, length, slice_index_or};
 ghost use Rattle.lock_rules.specs.Kinds.{number_of_kind, op_of_call, kind_of_reply};
 ghost use Rattle.lock_rules.specs.Entries.{Entry as EntryValue};
+ghost use Rattle.lock_rules.specs.declared.calls.Call.{Call as CallValue};
 ghost use Rattle.lock_counts.specs.Counts.{count_if, is_kind, is_request, is_refusal_numbered, calls, replies, refusals};
 ghost use Rattle.lock_counts.specs.Tallies.{cell_of};
 ghost use Rattle.lock_desk.specs.inner.Counting.{AreCallsCounted};
 
-use lock_rules::{Call, Op, Reply, ReplyKind, Why};
+use lock_rules::{Op, Reply, ReplyKind, Why};
 
 /// How many counters of replies an operation has: one for each kind of replies, by its number, and one that stays 0.
 const KINDS: usize = 12;
@@ -80,13 +81,15 @@ impl CallCounts {
         }
     }
 
-    /// Counts one call more, with its reply.
+    /// Counts one call more, of this operation and with this reply.
+    // Who knows the operation when it compiles pays for no test of the call.
     #[inline(always)]
-    pub(crate) fn note(&mut self, call: &Call, reply: &Reply)
-        ensures { (history : List EntryValue) (session : ℕ) → AreCallsCounted history self.old → length history < 2 ^ 64 - 1
-            → AreCallsCounted (history ++ record { session = session; call = call.now; reply = reply.now } ∷ []) self.new }
+    pub(crate) fn note(&mut self, op: Op, reply: &Reply)
+        ensures { (history : List EntryValue) (session : ℕ) (call : CallValue) → op ≡ op_of_call call
+            → AreCallsCounted history self.old → length history < 2 ^ 64 - 1
+            → AreCallsCounted (history ++ record { session = session; call = call; reply = reply.now } ∷ []) self.new }
     {
-        self.note_reply(call.op(), reply.kind());
+        self.note_reply(op, reply.kind());
         self.note_refusal(reply);
     }
 

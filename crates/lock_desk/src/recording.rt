@@ -58,8 +58,7 @@ pub(crate) fn serve_recorded(
     history.reserve(1)?;
     let asked = call;
     let served = history.count();
-    let reply = table.serve(session, call, served, log)?;
-    counts.note(&asked, &reply);
+    let reply = table.serve(session, call, served, log, counts)?;
     history.push_reserved(Entry {
         session,
         call: asked,

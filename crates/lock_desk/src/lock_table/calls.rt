@@ -1,22 +1,24 @@
 //! The calls of the lock table, each of them one step of the sequential lock manager: its tests, and its effect if no
 //! test fails.
 
-ghost use Rattle.std.specs.Prelude.{◌≡◌, ◌+◌, ◌<◌, ◌≤◌, IfOk, OnErr, vec_len};
+ghost use Rattle.std.specs.Prelude.{◌≡◌, ◌+◌, ◌-◌, ◌^◌, ◌<◌, ◌≤◌, List, [], ◌∷◌, ◌++◌, length, IfOk, OnErr, vec_len};
 ghost use Rattle.lock_rules.specs.declared.calls.Call.TheVariants.{Begin, Lock, Convert, Poll, Release, Commit, Abort, Try, Withdraw, Restart};
 ghost use Rattle.lock_rules.specs.State.{State, is_waiting};
+ghost use Rattle.lock_rules.specs.Entries.{Entry as EntryValue};
 ghost use Rattle.lock_rules.specs.Step.{step};
 ghost use Rattle.lock_rules.specs.Sound.{IsNumbered, IsSound};
 ghost use Rattle.lock_desk.specs.Deadlocks.{deadlocks_of, moments_at};
 ghost use Rattle.lock_desk.specs.inner.Cells.{IsPlace};
 ghost use Rattle.lock_desk.specs.inner.Changes.{DoesKeep, MayServe, IsSameSeen, HasNotedEnded};
-ghost use Rattle.lock_desk.specs.inner.Counting.{with_own_wait};
+ghost use Rattle.lock_desk.specs.inner.Counting.{with_own_wait, AreCallsCounted};
 ghost use Rattle.lock_desk.specs.inner.Noting.{HasNoted, IsLogFor};
 ghost use Rattle.lock_desk.specs.inner.Shows.{Shows, DoesAnswer};
 
+use crate::call_counts::CallCounts;
 use crate::deadlock_log::DeadlockLog;
 use crate::lock_table::LockTable;
 use lock_modes::Mode;
-use lock_rules::{Call, Reply, Why};
+use lock_rules::{Call, Op, Reply, Why};
 use lock_tree::Resource;
 use session_sets::position_of;
 use std::alloc::AllocError;
@@ -274,13 +276,14 @@ impl LockTable {
     }
 
     /// Serves one call of `session`, and notes the deadlocks that it makes in `log`, and counts the wait that it gives up there;
-    /// `served` is the place of the call in the history. If memory is refused, nothing that contracts see changes.
+    /// `served` is the place of the call in the history. Counts the call with its reply. If memory is refused, nothing that contracts see changes.
     pub(crate) fn serve(
         &mut self,
         session: u16,
         call: Call,
         served: u64,
         log: &mut DeadlockLog,
+        counts: &mut CallCounts,
     ) -> Result<Reply, AllocError>
         requires may_serve { MayServe session self.old }
         requires log { IsLogFor (vec_len self.old.lockers) log.old }
@@ -297,25 +300,62 @@ impl LockTable {
             → IfOk result (λ _. HasNoted (moments_at served session (deadlocks_of st session call))
             (record log.old { counts = with_own_wait (is_waiting st session) call log.old.counts }) log.new) }
         ensures unnoted { OnErr result (log.new ≡ log.old) }
+        ensures counted { (history : List EntryValue) → AreCallsCounted history counts.old → length history < 2 ^ 64 - 1
+            → IfOk result (λ reply. AreCallsCounted (history ++ record { session = session; call = call; reply = reply } ∷ []) counts.new) }
+        ensures uncounted { OnErr result (counts.new ≡ counts.old) }
     {
         match call {
-            Call::Begin => Ok(self.serve_begin(session)),
-            Call::Lock(resource, mode) => self.serve_lock(session, resource, mode, served, log),
-            Call::Convert(resource, mode) => self.serve_convert(
-                session, resource, mode, served, log,
-            ),
-            Call::Poll => Ok(self.serve_poll(session)),
-            Call::Release(resource) => Ok(self.serve_release(session, resource)),
-            Call::Commit => Ok(self.serve_commit(session)),
+            Call::Begin => {
+                let reply = self.serve_begin(session);
+                counts.note(Op::Begin, &reply);
+                Ok(reply)
+            }
+            Call::Lock(resource, mode) => {
+                let reply = self.serve_lock(session, resource, mode, served, log)?;
+                counts.note(Op::Lock, &reply);
+                Ok(reply)
+            }
+            Call::Convert(resource, mode) => {
+                let reply = self.serve_convert(session, resource, mode, served, log)?;
+                counts.note(Op::Convert, &reply);
+                Ok(reply)
+            }
+            Call::Poll => {
+                let reply = self.serve_poll(session);
+                counts.note(Op::Poll, &reply);
+                Ok(reply)
+            }
+            Call::Release(resource) => {
+                let reply = self.serve_release(session, resource);
+                counts.note(Op::Release, &reply);
+                Ok(reply)
+            }
+            Call::Commit => {
+                let reply = self.serve_commit(session);
+                counts.note(Op::Commit, &reply);
+                Ok(reply)
+            }
             Call::Abort => {
                 log.count_abort(self.is_waiting(session));
-                Ok(self.serve_abort(session))
+                let reply = self.serve_abort(session);
+                counts.note(Op::Abort, &reply);
+                Ok(reply)
             }
-            Call::Try(resource, mode) => self.serve_try(session, resource, mode, served, log),
-            Call::Withdraw => Ok(self.serve_withdraw(session)),
+            Call::Try(resource, mode) => {
+                let reply = self.serve_try(session, resource, mode, served, log)?;
+                counts.note(Op::Try, &reply);
+                Ok(reply)
+            }
+            Call::Withdraw => {
+                let reply = self.serve_withdraw(session);
+                counts.note(Op::Withdraw, &reply);
+                Ok(reply)
+            }
             Call::Restart => {
                 log.count_restart(self.is_waiting(session));
-                Ok(self.serve_restart(session))
+                let reply = self.serve_restart(session);
+                counts.note(Op::Restart, &reply);
+                Ok(reply)
             }
         }
     }

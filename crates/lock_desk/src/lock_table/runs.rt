@@ -23,7 +23,7 @@ use crate::call_counts::CallCounts;
 use crate::lock_table::LockTable;
 use crate::lock_table::refusals::is_nothing;
 use lock_modes::Mode;
-use lock_rules::{Call, Entry, MAX_LOCKS, Reply};
+use lock_rules::{Call, Entry, MAX_LOCKS, Op, Reply};
 use lock_tree::Resource;
 use session_locks::is_same;
 use session_sets::position_of;
@@ -305,7 +305,7 @@ fn grant_item(
     };
     table.grant(item.session, run.place, run.resource, mode);
     let reply = Reply::Granted(mode);
-    counts.note(&item.call, &reply);
+    counts.note(Op::Lock, &reply);
     history.push_reserved(Entry {
         session: item.session,
         call: item.call,

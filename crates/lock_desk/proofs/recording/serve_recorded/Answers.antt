@@ -11,6 +11,7 @@ use Rattle.lock_desk.specs.inner.Counting.{with_own_wait, AreCallsCounted, AreWa
 use Rattle.lock_desk.proofs.DeadlocksOfCalls.{told-more}
 use Rattle.lock_desk.proofs.CallsCounted.{waits-counted}
 use Rattle.lock_desk.proofs.BookInvariant.{kept-more, kept-same, waits_ended-ends}
+use Rattle.lock_desk.specs.declared.call_counts.CallCounts.{CallCounts}
 use Rattle.lock_desk.proofs.recording.serve_recorded.Goals as goal
 
 pub returns-in_err-reply-clause-kept : goal.returns-in_err-reply-clause-kept
@@ -73,8 +74,8 @@ pub returns-clause-calls : goal.returns-clause-calls
 returns-clause-calls c =
     let es = c.args.history.now.items in
     let entry : Entry = record { session = c.args.session; call = c.args.call; reply = c.in_ok-reply.reply } in
-    subst (λ (xs : List Entry). AreCallsCounted xs c.note.new.self) (sym (c.push_reserved.ensures.items ∙ ap (λ (xs : List Entry). xs ++ entry ∷ []) c.in_ok-reserve.ensures.items))
-    (c.note.ensures es c.args.session c.requires.calls (omega (arith, c.in_ok-reserve.ensures.places, ap length c.in_ok-reserve.ensures.items)))
+    subst (λ (xs : List Entry). AreCallsCounted xs c.serve.new.counts) (sym (c.push_reserved.ensures.items ∙ ap (λ (xs : List Entry). xs ++ entry ∷ []) c.in_ok-reserve.ensures.items))
+    (c.in_ok-reply.ensures.counted es c.requires.calls (omega (arith, c.in_ok-reserve.ensures.places, ap length c.in_ok-reserve.ensures.items)))
 
 pub returns-clause-waits : goal.returns-clause-waits
 returns-clause-waits c =
@@ -89,7 +90,9 @@ returns-clause-waits c =
     (c.count-served.ensures.count ∙ ap length c.in_ok-reserve.ensures.items) (omega (arith, c.in_ok-reserve.ensures.places, ap length c.in_ok-reserve.ensures.items)) noted.counted c.requires.waits
 
 pub returns-in_err-reply-clause-calls : goal.returns-in_err-reply-clause-calls
-returns-in_err-reply-clause-calls c = subst (λ (es : List Entry). AreCallsCounted es c.args.counts.now) (sym c.reserve.ensures.items) c.requires.calls
+returns-in_err-reply-clause-calls c =
+    subst (λ (n : CallCounts). AreCallsCounted c.reserve.new.self.items n) (sym c.in_err-reply.ensures.uncounted)
+    (subst (λ (es : List Entry). AreCallsCounted es c.args.counts.now) (sym c.reserve.ensures.items) c.requires.calls)
 
 pub returns-in_err-reply-clause-waits : goal.returns-in_err-reply-clause-waits
 returns-in_err-reply-clause-waits c =

@@ -5,38 +5,52 @@ use Rattle.lock_desk.specs.BookView.{BookView}
 use Rattle.lock_desk.specs.declared.lock_table.LockTable.{LockTable}
 use Rattle.lock_desk.specs.inner.Runs.{AreKept}
 use Rattle.lock_desk.specs.inner.Invariant.{IsKept}
-use Rattle.lock_desk.proofs.BookInvariant.{kept-of, of-kept, kept-relisted, waits_ended-alone, entry-view}
+use Rattle.lock_desk.proofs.BookInvariant.{behind, kept-of, of-kept, kept-relisted, read_as, view-behind, waits_ended-alone, entry-view}
+use Rattle.lock_desk.specs.inner.Changes.{with_ended_count}
 use Rattle.lock_desk.proofs.book.Book.serve.Goals as goal
 
 pub serve_recorded-requires-clause-within : goal.serve_recorded-requires-clause-within
 serve_recorded-requires-clause-within c =
-    omega (arith, c.requires.within, ap (λ (t : BookView). t.sessions) c.self.view_is, c.self.invariant.lockers, ap (λ (d : LockTable). vec_len d.lockers) c.clear_ended-waits_ended.ensures.cleared)
+    let d = c.deref_mut.result.now in
+    let e = c.deref_mut-2.result.now in
+    let k = behind c.self.inside d c.deref_mut.ensures.value c.self.invariant in
+    omega (arith, c.requires.within, ap (λ (t : BookView). t.sessions) c.self.view_is, k.lockers, ap (λ (t : LockTable). vec_len t.lockers) (c.deref_mut-2.ensures.value ∙ c.clear_ended-waits_ended.ensures.cleared))
 
 pub serve_recorded-requires-clause-kept : goal.serve_recorded-requires-clause-kept
 serve_recorded-requires-clause-kept c =
     let a = c.self.inside in
-    subst (λ (d : LockTable). AreKept d a.history.items) (sym c.clear_ended-waits_ended.ensures.cleared) (kept-relisted a.lock_table.value _ a.history.items refl (kept-of a c.self.invariant))
+    let d = c.deref_mut.result.now in
+    let k = behind a d c.deref_mut.ensures.value c.self.invariant in
+    subst (λ (t : LockTable). AreKept t a.history.items) (sym (c.deref_mut-2.ensures.value ∙ c.clear_ended-waits_ended.ensures.cleared)) (kept-relisted d _ a.history.items refl (kept-of (read_as d a) k))
 
 pub serve_recorded-requires-clause-log : goal.serve_recorded-requires-clause-log
-serve_recorded-requires-clause-log c = λ some. c.self.invariant.log some ∙ sym (ap (λ (d : LockTable). vec_len d.lockers) c.clear_ended-waits_ended.ensures.cleared)
+serve_recorded-requires-clause-log c =
+    let d = c.deref_mut.result.now in
+    let k = behind c.self.inside d c.deref_mut.ensures.value c.self.invariant in
+    λ some. k.log some ∙ sym (ap (λ (t : LockTable). vec_len t.lockers) (c.deref_mut-2.ensures.value ∙ c.clear_ended-waits_ended.ensures.cleared))
 
 pub returns-in-Ok-clause-entry : goal.returns-in-Ok-clause-entry
 returns-in-Ok-clause-entry c =
-    let a = c.self.inside in
-    let k = c.self.invariant in
-    let f = c.clear_ended-waits_ended.new.self in
+    let d = c.deref_mut.result.now in
+    let a = read_as d c.self.inside in
+    let k = behind c.self.inside d c.deref_mut.ensures.value c.self.invariant in
+    let cleared = c.deref_mut-2.ensures.value ∙ c.clear_ended-waits_ended.ensures.cleared in
+    let f = c.deref_mut-2.result.now in
     let e = c.serve_recorded.new.table in
     let done = c.in-Ok.ensures in
     let sized : length e.ended.places ≡ a.sessions
-    = done.kept.ready.waits_ended ∙ (done.lockers ∙ (ap (λ (d : LockTable). vec_len d.lockers) c.clear_ended-waits_ended.ensures.cleared ∙ k.lockers)) in
+    = done.kept.ready.waits_ended ∙ (done.lockers ∙ (ap (λ (t : LockTable). vec_len t.lockers) cleared ∙ k.lockers)) in
     let st = state_of a.history.items in
-    let ends = waits_ended-alone a.sessions c.args.session st (step st c.args.session c.args.call).state f.ended e.ended sized (ap (λ (d : LockTable). d.ended.count) c.clear_ended-waits_ended.ensures.cleared) done.ended in
-    entry-view a c.args.self.now c.self.view_is c.args.session c.args.call c.in-Ok.reply c.serve_recorded.new.history.items _ _ _ _ done.entry done.cut done.bound ends c.in-Ok.ensures.most
+    let ends = waits_ended-alone a.sessions c.args.session st (step st c.args.session c.args.call).state f.ended e.ended sized (ap (λ (t : LockTable). t.ended.count) cleared) done.ended in
+    entry-view a c.args.self.now (view-behind c.self.inside d c.args.self.now c.deref_mut.ensures.value c.self.view_is) c.args.session c.args.call c.in-Ok.reply c.serve_recorded.new.history.items _ _ _ _ done.entry done.cut done.bound ends c.in-Ok.ensures.most
 
 pub invariant_of-self-in-Err : goal.invariant_of-self-in-Err
 invariant_of-self-in-Err c =
-    let k = c.self.invariant in
+    let d = c.deref_mut.result.now in
+    let k = behind c.self.inside d c.deref_mut.ensures.value c.self.invariant in
+    let cleared = c.deref_mut-2.ensures.value ∙ c.clear_ended-waits_ended.ensures.cleared in
     let e = c.serve_recorded.new.table in
+    let f = c.deref_mut-3.result.now in
     let done = c.in-Err.ensures in
-    subst (λ (d : LockTable). IsKept (record { sessions = c.self.inside.sessions; lock_table = record c.self.inside.lock_table { value = d }; history = c.serve_recorded.new.history; marks = c.self.inside.marks; deadlocks = c.serve_recorded.new.log; counts = c.serve_recorded.new.counts })) (sym c.restore_ended.ensures)
-    (of-kept _ k.some k.few (kept-relisted e _ c.serve_recorded.new.history.items refl done.kept) (done.lockers ∙ (ap (λ (d : LockTable). vec_len d.lockers) c.clear_ended-waits_ended.ensures.cleared ∙ k.lockers)) k.marked done.log done.told done.calls done.waits)
+    subst (λ (t : LockTable). IsKept (record { sessions = c.self.inside.sessions; lock_table = record c.self.inside.lock_table { value = t }; history = c.serve_recorded.new.history; marks = c.self.inside.marks; deadlocks = c.serve_recorded.new.log; counts = c.serve_recorded.new.counts })) (sym (c.restore_ended.ensures ∙ ap (λ (t : LockTable). with_ended_count c.clear_ended-waits_ended.result t) c.deref_mut-3.ensures.value))
+    (of-kept _ k.some k.few (kept-relisted e _ c.serve_recorded.new.history.items refl done.kept) (done.lockers ∙ (ap (λ (t : LockTable). vec_len t.lockers) cleared ∙ k.lockers)) k.marked done.log done.told done.calls done.waits)

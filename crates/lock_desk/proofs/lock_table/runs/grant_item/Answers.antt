@@ -17,6 +17,7 @@ use Rattle.lock_desk.proofs.DeadlocksOfCalls.{granted-none}
 use Rattle.lock_desk.proofs.CallsCounted.{waits-same}
 use Rattle.lock_desk.proofs.RunItems.{each-written, pairs-written, join-can}
 use Rattle.lock_desk.proofs.Granting.{quiet-still, grant-still, grant-answer, grant-kept, grant-ends-none}
+use Rattle.lock_rules.specs.Kinds.{op_of_call}
 use Rattle.lock_desk.proofs.lock_table.runs.grant_item.Goals as goal
 
 pub grant-requires-clause-can : goal.grant-requires-clause-can
@@ -108,7 +109,7 @@ returns-clause-deadlocks c =
 pub returns-clause-calls : goal.returns-clause-calls
 returns-clause-calls c =
     subst (λ (es : List Entry). AreCallsCounted es c.note.new.self) (sym c.push_reserved.ensures.items)
-    (c.note.ensures c.args.history.now.items c.index-items-index.result.session c.requires.calls c.requires.places)
+    (c.note.ensures c.args.history.now.items c.index-items-index.result.session c.index-items-index.result.call (sym (ap op_of_call c.in-Lock.is)) c.requires.calls c.requires.places)
 
 pub returns-clause-waits : goal.returns-clause-waits
 returns-clause-waits c = λ w counted.
