@@ -11,7 +11,7 @@ ghost use Rattle.combining.specs.inner.Passes.{AreOpened, HasCalls, KeepsCalls, 
 ghost use Rattle.combining.specs.inner.BoundedPasses.{HasServedWithin};
 
 use crate::clean_up::clean_up;
-use crate::pass::{open_record, serve_any};
+use crate::pass::{count_pass, open_record, serve_any};
 use crate::told::Told;
 use publication::{Board, Load, Ticket};
 use sequential::{Batching, Item};
@@ -215,6 +215,7 @@ fn serve_round<O: Batching>(
     let left = open_records_within(board, session, &mut load.row, usize::from(most));
     let pass = serve_any(board, session, load);
     load.row.clear();
+    count_pass(load, &pass);
     clean_up(board, session, load.ages.as_slice(), load.passes);
     Round {
         served: pass.served,

@@ -1,7 +1,7 @@
 //! A pass of the combiner: it walks the publication list, opens the records in which calls are posted, performs the
 //! calls and answers them.
 
-ghost use Rattle.std.specs.Prelude.{◌≡◌, ◌≢◌, ◌+◌, ◌-◌, ◌^◌, ◌<◌, ◌≤◌, ◌↔◌, ◌∷◌, ◌++◌, min, [], true, false, IsTrue, Some, None, IfSome, IfNone, length, take, drop, vec_len, vec_capacity, All};
+ghost use Rattle.std.specs.Prelude.{◌≡◌, ◌≢◌, ◌+◌, ◌-◌, ◌^◌, ◌<◌, ◌≤◌, ◌↔◌, ◌∷◌, ◌++◌, min, [], true, false, IsTrue, Some, None, IfSome, IfNone, length, take, drop, vec_len, vec_capacity, if◌then◌else◌, All};
 ghost use mathlib.Core.List.{IsPrefix};
 ghost use Rattle.sequential.specs.Histories.{calls_of};
 ghost use Rattle.sequential.specs.Batches.{IsItemWithin};
@@ -316,6 +316,19 @@ pub(crate) fn serve_any<O: Batching>(
     serve_opened(board, session, load)
 }
 
+/// Counts what a pass has served, and whether it was starved.
+#[inline(always)]
+pub(crate) fn count_pass<O: Batching>(load: &mut Load<O>, pass: &Pass)
+    ensures served { load.new.served ≡ min (load.old.served + pass.now.served) (2 ^ 64 - 1) }
+    ensures starved { load.new.starved ≡ (if pass.now.starved then min (load.old.starved + 1) (2 ^ 64 - 1) else load.old.starved) }
+    ensures others { load.new ≡ record load.old { served = load.new.served; starved = load.new.starved } }
+{
+    load.served = load.served.saturating_add(u64::from(pass.served));
+    if pass.starved {
+        load.starved = load.starved.saturating_add(1);
+    }
+}
+
 /// Runs a whole pass for a combiner that has the load, and leaves the load fit to be given back.
 #[inline(always)]
 pub(crate) fn serve_published<O: Batching>(
@@ -330,6 +343,8 @@ pub(crate) fn serve_published<O: Batching>(
     ensures served { HasServed board.now.sessions session.old session.new load.old load.new result.starved }
     ensures own { result.starved ≡ false → session.old.pending ≢ None → published_by session.old ≤ length (calls_of session.old.number session.new.front) }
     ensures passes { load.new.passes ≡ min (load.old.passes + 1) (2 ^ 64 - 1) }
+    ensures served_in_all { load.new.served ≡ min (load.old.served + result.served) (2 ^ 64 - 1) }
+    ensures starved_in_all { load.new.starved ≡ (if result.starved then min (load.old.starved + 1) (2 ^ 64 - 1) else load.old.starved) }
     ensures ages { load.new.ages.items ≡ noted load.old.ages.items (sessions_since (length session.old.front) session.new.front) load.new.passes }
     ensures tells { 0 < result.served → O.tells_from load.new.object (length session.old.front) }
 {
@@ -337,6 +352,7 @@ pub(crate) fn serve_published<O: Batching>(
     open_records(board, session, &mut load.row);
     let pass = serve_any(board, session, load);
     load.row.clear();
+    count_pass(load, &pass);
     clean_up(board, session, load.ages.as_slice(), load.passes);
     pass
 }

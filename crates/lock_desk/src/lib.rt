@@ -21,8 +21,9 @@
 //! 3. The book: the lock table with its history (`book.rt`). It is all that callers see. `book/paths.rt` locks a path,
 //!    `book/blockers.rt` lists whom a session waits for, `book/deadlocks.rt` tells the newest deadlocks,
 //!    `book/pages.rt` tells the locks of a session by pages and says what several pages tell together, `book/memory.rt`
-//!    does for callers what `lock_table/memory.rt` does. `recording.rt` serves one call and adds it to
-//!    the history. `object.rt` makes the book a sequential object, which threads can share; `tending.rt` has what is
+//!    does for callers what `lock_table/memory.rt` does, `book/batches.rt` serves batches. `book/counts.rt` tells its counters
+//!    (`counts.rt`: what they are; kept by `call_counts.rt` and `wait_counts.rt`), `book/gauges.rt` what is there now
+//!    (`gauges.rt`). `recording.rt` serves one call and adds it to the history. `object.rt` makes the book a sequential object, which threads can share; `tending.rt` has what is
 //!    done with the memory of one that is shared.
 //!
 //! Proved: each reply is that of the sequential lock manager of `lock_rules` in the state that the history leads to,

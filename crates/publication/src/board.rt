@@ -227,6 +227,8 @@ impl<O: Sequential> Board<O> {
             object,
             row,
             passes: 0,
+            served: 0,
+            starved: 0,
             ages,
             pieces: GhostList::new(),
         };

@@ -80,6 +80,8 @@ pub(crate) fn close_table<O: Sequential>(
         object,
         row: _,
         passes: _,
+        served: _,
+        starved: _,
         ages: _,
         pieces: _,
     } = Box::into_inner(load);

@@ -145,6 +145,7 @@ module _ {O C R : Type 0} (obj : Ghosts O C R) (tells_from : O → ℕ → Type 
     pub calls : starved ≡ false → KeepsCalls before after
     pub room : vec_capacity new.row ≡ vec_capacity old.row
     pub passes : new.passes ≡ old.passes
+    pub counts : (new.served ≡ old.served) × (new.starved ≡ old.starved)
     pub taken : HasTakenNothing obj old new
     pub ages : new.ages.items ≡ noted old.ages.items (sessions_since (length before.front) after.front) old.passes
     pub len : vec_len new.ages ≡ vec_len old.ages

@@ -50,6 +50,7 @@ returns g c =
         calls = λ unstarved. grind (arith, common_steps, unstarved);
         room = search rules;
         passes = search rules;
+        counts = (search rules, search rules);
         taken = search rules;
         ages = c.note_served.ensures.ages
             ∙ ap (λ (js : List ℕ). noted c.args.load.now.ages.items js c.args.load.now.passes)

@@ -6,26 +6,18 @@ use Rattle.lock_desk.specs.Deadlocks.{moments_at, deadlocks_of}
 use Rattle.lock_desk.specs.inner.Counting.{with_abort, with_restart, with_own_wait}
 use Rattle.lock_desk.specs.inner.Noting.{LogView, HasNoted}
 use Rattle.lock_desk.proofs.DeadlocksTold.{noted-none}
+use Rattle.lock_desk.proofs.Results.{on-err-from}
 use Rattle.lock_desk.proofs.Simulation.{same-shown, waits-shown}
 use Rattle.lock_desk.proofs.lock_table.LockTable.serve.Goals as goal
 
-pub returns-in-Lock-in_err-reply-clause-err : goal.returns-in-Lock-in_err-reply-clause-err
-returns-in-Lock-in_err-reply-clause-err c = λ st h. same-shown c.args.self.now c.serve_lock.new.self st c.in-Lock-in_err-reply.ensures.err h
+pub returns-in_err-reply-in-Lock-clause-err : goal.returns-in_err-reply-in-Lock-clause-err
+returns-in_err-reply-in-Lock-clause-err c = λ st h. on-err-from c.from_residual.result (same-shown c.args.self.now c.serve_lock.new.self st c.in_err-reply-in-Lock.ensures.err h)
 
-pub returns-in-Lock-in_err-reply-clause-ended_kept : goal.returns-in-Lock-in_err-reply-clause-ended_kept
-returns-in-Lock-in_err-reply-clause-ended_kept c = c.in-Lock-in_err-reply.ensures.err.ended
+pub returns-in_err-reply-in-Convert-clause-err : goal.returns-in_err-reply-in-Convert-clause-err
+returns-in_err-reply-in-Convert-clause-err c = λ st h. on-err-from c.from_residual-in_err-reply-in-Convert.result (same-shown c.args.self.now c.serve_convert.new.self st c.in_err-reply-in-Convert.ensures.err h)
 
-pub returns-in-Convert-in_err-reply-clause-err : goal.returns-in-Convert-in_err-reply-clause-err
-returns-in-Convert-in_err-reply-clause-err c = λ st h. same-shown c.args.self.now c.serve_convert.new.self st c.in-Convert-in_err-reply.ensures.err h
-
-pub returns-in-Convert-in_err-reply-clause-ended_kept : goal.returns-in-Convert-in_err-reply-clause-ended_kept
-returns-in-Convert-in_err-reply-clause-ended_kept c = c.in-Convert-in_err-reply.ensures.err.ended
-
-pub returns-in-Try-in_err-reply-clause-err : goal.returns-in-Try-in_err-reply-clause-err
-returns-in-Try-in_err-reply-clause-err c = λ st h. same-shown c.args.self.now c.serve_try.new.self st c.in-Try-in_err-reply.ensures.err h
-
-pub returns-in-Try-in_err-reply-clause-ended_kept : goal.returns-in-Try-in_err-reply-clause-ended_kept
-returns-in-Try-in_err-reply-clause-ended_kept c = c.in-Try-in_err-reply.ensures.err.ended
+pub returns-in_err-reply-in-Try-clause-err : goal.returns-in_err-reply-in-Try-clause-err
+returns-in_err-reply-in-Try-clause-err c = λ st h. on-err-from c.from_residual-in_err-reply-in-Try.result (same-shown c.args.self.now c.serve_try.new.self st c.in_err-reply-in-Try.ensures.err h)
 
 pub returns-in-Abort-clause-noted : goal.returns-in-Abort-clause-noted
 returns-in-Abort-clause-noted c = λ st i n h.
@@ -48,13 +40,7 @@ returns-in-Restart-clause-noted c = λ st i n h.
     (sym c.in-Restart.is) told
 
 pub returns-in-Begin-clause-counted : goal.returns-in-Begin-clause-counted
-returns-in-Begin-clause-counted c = λ history counted few. c.note-in-Begin.ensures history c.args.session c.args.call (sym (ap op_of_call c.in-Begin.is)) counted few
-
-pub returns-in-Lock-clause-counted : goal.returns-in-Lock-clause-counted
-returns-in-Lock-clause-counted c = λ history counted few. c.note-in-Lock.ensures history c.args.session c.args.call (sym (ap op_of_call c.in-Lock.is)) counted few
-
-pub returns-in-Convert-clause-counted : goal.returns-in-Convert-clause-counted
-returns-in-Convert-clause-counted c = λ history counted few. c.note-in-Convert.ensures history c.args.session c.args.call (sym (ap op_of_call c.in-Convert.is)) counted few
+returns-in-Begin-clause-counted c = λ history counted few. c.note.ensures history c.args.session c.args.call (sym (ap op_of_call c.in-Begin.is)) counted few
 
 pub returns-in-Poll-clause-counted : goal.returns-in-Poll-clause-counted
 returns-in-Poll-clause-counted c = λ history counted few. c.note-in-Poll.ensures history c.args.session c.args.call (sym (ap op_of_call c.in-Poll.is)) counted few
@@ -67,9 +53,6 @@ returns-in-Commit-clause-counted c = λ history counted few. c.note-in-Commit.en
 
 pub returns-in-Abort-clause-counted : goal.returns-in-Abort-clause-counted
 returns-in-Abort-clause-counted c = λ history counted few. c.note-in-Abort.ensures history c.args.session c.args.call (sym (ap op_of_call c.in-Abort.is)) counted few
-
-pub returns-in-Try-clause-counted : goal.returns-in-Try-clause-counted
-returns-in-Try-clause-counted c = λ history counted few. c.note-in-Try.ensures history c.args.session c.args.call (sym (ap op_of_call c.in-Try.is)) counted few
 
 pub returns-in-Withdraw-clause-counted : goal.returns-in-Withdraw-clause-counted
 returns-in-Withdraw-clause-counted c = λ history counted few. c.note-in-Withdraw.ensures history c.args.session c.args.call (sym (ap op_of_call c.in-Withdraw.is)) counted few
