@@ -1,6 +1,6 @@
 //! A pass in rounds, each of which serves so many published calls at most, and which says whether it saw a call that it left.
 
-ghost use Rattle.std.specs.Prelude.{◌≡◌, ◌≢◌, ◌+◌, ◌*◌, ◌<◌, ◌≤◌, ◌↔◌, [], true, false, IsTrue, None, Some, length, vec_len, vec_capacity};
+ghost use Rattle.std.specs.Prelude.{◌≡◌, ◌≢◌, ◌+◌, ◌*◌, ◌<◌, ◌≤◌, ◌↔◌, [], true, false, IsTrue, None, Some, length, vec_len, vec_capacity, ◌-◌, ◌^◌, min, if◌then◌else◌};
 ghost use mathlib.Core.List.{IsPrefix};
 ghost use Rattle.sequential.specs.Histories.{calls_of};
 ghost use Rattle.publication.specs.Boards.{IsOf, IsNumber, OpensNone, heard_from, published_by};
@@ -11,7 +11,7 @@ ghost use Rattle.combining.specs.inner.Passes.{AreOpened, HasCalls, KeepsCalls, 
 ghost use Rattle.combining.specs.inner.BoundedPasses.{HasServedWithin};
 
 use crate::clean_up::clean_up;
-use crate::pass::{count_pass, open_record, serve_any};
+use crate::pass::{one_more_if, open_record, serve_any};
 use crate::told::Told;
 use publication::{Board, Load, Ticket};
 use sequential::{Batching, Item};
@@ -209,13 +209,17 @@ fn serve_round<O: Batching>(
     ensures heard { result.starved ≡ false → result.left ≡ false → (j : _) → 0 < j → j ≤ board.now.sessions
         → heard_from session.old j ≤ length (calls_of j session.new.front) }
     ensures taken { load.new.pieces.items ≡ load.old.pieces.items }
+    ensures passes { load.new.passes ≡ min (load.old.passes + 1) (2 ^ 64 - 1) }
+    ensures served_in_all { load.new.served ≡ min (load.old.served + result.served) (2 ^ 64 - 1) }
+    ensures starved_in_all { load.new.starved ≡ (if result.starved then min (load.old.starved + 1) (2 ^ 64 - 1) else load.old.starved) }
     ensures tells { 0 < result.served → O.tells_from load.new.object (length session.old.front) }
 {
     load.passes = load.passes.saturating_add(1);
     let left = open_records_within(board, session, &mut load.row, usize::from(most));
     let pass = serve_any(board, session, load);
     load.row.clear();
-    count_pass(load, &pass);
+    load.served = load.served.saturating_add(u64::from(pass.served));
+    load.starved = one_more_if(pass.starved, load.starved);
     clean_up(board, session, load.ages.as_slice(), load.passes);
     Round {
         served: pass.served,

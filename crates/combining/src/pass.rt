@@ -316,17 +316,12 @@ pub(crate) fn serve_any<O: Batching>(
     serve_opened(board, session, load)
 }
 
-/// Counts what a pass has served, and whether it was starved.
+/// One more, if the test holds. It stops at the greatest u64.
 #[inline(always)]
-pub(crate) fn count_pass<O: Batching>(load: &mut Load<O>, pass: &Pass)
-    ensures served { load.new.served ≡ min (load.old.served + pass.now.served) (2 ^ 64 - 1) }
-    ensures starved { load.new.starved ≡ (if pass.now.starved then min (load.old.starved + 1) (2 ^ 64 - 1) else load.old.starved) }
-    ensures others { load.new ≡ record load.old { served = load.new.served; starved = load.new.starved } }
+pub(crate) fn one_more_if(test: bool, count: u64) -> u64
+    ensures { result ≡ (if test then min (count + 1) (2 ^ 64 - 1) else count) }
 {
-    load.served = load.served.saturating_add(u64::from(pass.served));
-    if pass.starved {
-        load.starved = load.starved.saturating_add(1);
-    }
+    if test { count.saturating_add(1) } else { count }
 }
 
 /// Runs a whole pass for a combiner that has the load, and leaves the load fit to be given back.
@@ -352,7 +347,8 @@ pub(crate) fn serve_published<O: Batching>(
     open_records(board, session, &mut load.row);
     let pass = serve_any(board, session, load);
     load.row.clear();
-    count_pass(load, &pass);
+    load.served = load.served.saturating_add(u64::from(pass.served));
+    load.starved = one_more_if(pass.starved, load.starved);
     clean_up(board, session, load.ages.as_slice(), load.passes);
     pass
 }
