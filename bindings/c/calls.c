@@ -301,8 +301,8 @@ static COLD void wake_listed(pelgaisti_session *session, const uint32_t *list, s
    first of them tries for the lock table. */
 enum { TURNS_AWAKE = 128, TURNS_BETWEEN_SLEEPS = 8 };
 
-/* Ends the sleeps of all sessions of the office, and wakes their threads. Reads one word if nobody sleeps. */
-static __attribute__((noinline)) void wake_sleepers(pelgaisti_session *session) {
+/* Ends the sleeps of all sessions of the office, and wakes their threads. */
+static COLD void rouse_all(pelgaisti_session *session) {
     uint32_t list[PELGAISTI_MAX_SESSIONS];
     uint64_t mark = 0, *at = &mark;
     size_t k, count = 0;
@@ -312,28 +312,36 @@ static __attribute__((noinline)) void wake_sleepers(pelgaisti_session *session) 
     for (k = 0; k < count; k++) wake_thread(mark, list[k]);
 }
 
-/* The status of a call by which the session may have had the lock table. */
+/* Wakes who sleeps, behind a call by which the session may have had the lock table: so each turn of a whole call, and each question. A
+   thread is among the sleepers before its sleep begins, and looks whether the lock table is free behind that. So if there are none here,
+   whoever is one later finds the lock table as this session has left it, or taken by another session, which comes here too. */
+static inline void wake_sleepers(pelgaisti_session *session) {
+    if (__builtin_expect(__atomic_load_n(&sleepers, __ATOMIC_SEQ_CST) > 0, 0)) rouse_all(session);
+}
+
 static inline pelgaisti_status behind_hold(pelgaisti_session *session, pelgaisti_status status) {
     wake_sleepers(session);
     return status;
 }
 
-#define HOLDING(session, call) behind_hold(session, CALL(session, call))
+/* The status of a call of the archive by which the session may have had the lock table. */
+#define ORDERING_HOLD(session, order, call) behind_hold(session, ORDERING_CALL(session, order, call))
+#define HOLDING(session, call) ORDERING_HOLD(session, ORDERS_NOTHING, call)
 
 /* Sleeps until another session's thread has ended the sleep. Returns at once if the lock table is free. The count of wake-ups is read
    before the look whether the sleep is ended: a wake-up behind the look changes it, and the thread doesn't sleep past it. */
 static COLD void sleep_until_roused(pelgaisti_session *session) {
     uint64_t mark = 0, *at = &mark;
     uint32_t number = 0, may_sleep = 0, is_roused = 0, seen;
-    wake_sleepers(session);
     CALL(session, pelgaisti_raw_session_mark(&session, &at));
+    __atomic_add_fetch(&sleepers, 1, __ATOMIC_SEQ_CST);
     CALL(session, pelgaisti_raw_session_begin_sleep(&session, &number, &may_sleep));
-    while (may_sleep) {
+    while (may_sleep && !is_roused) {
         seen = wake_ups_so_far(mark, number);
         CALL(session, pelgaisti_raw_session_is_roused(&session, &is_roused));
-        if (is_roused) return;
-        sleep_since(mark, number, seen);
+        if (!is_roused) sleep_since(mark, number, seen);
     }
+    __atomic_sub_fetch(&sleepers, 1, __ATOMIC_SEQ_CST);
 }
 
 /* What comes between two turns, behind `made` turns of at most `turns`, the last of which said so: a wait, or a sleep. Behind the last turn
@@ -373,9 +381,8 @@ pelgaisti_status pelgaisti_session_perform_at_once(pelgaisti_session *session, c
     pelgaisti_pass unread, *made = pass ? pass : &unread;
     pelgaisti_status status;
     size_t told = 0;
-    status = ORDERING_CALL(session, RELEASES | ACQUIRES,
+    status = ORDERING_HOLD(session, RELEASES | ACQUIRES,
                            pelgaisti_raw_session_perform_at_once(&session, &call, &made, &answer, &told));
-    wake_sleepers(session);
     if (told > 0) wake_told(session, told);
     return WRITING(made, WRITING(answer, status));
 }
@@ -384,9 +391,8 @@ pelgaisti_status pelgaisti_session_perform_telling(pelgaisti_session *session, c
                                                    pelgaisti_answer *answer, uint32_t *list, size_t room, size_t *count) {
     pelgaisti_pass unread, *made = pass ? pass : &unread;
     pelgaisti_status status;
-    status = ORDERING_CALL(session, RELEASES | ACQUIRES,
+    status = ORDERING_HOLD(session, RELEASES | ACQUIRES,
                            pelgaisti_raw_session_perform_telling(&session, &call, &made, &answer, LIST(list, room), &count));
-    wake_sleepers(session);
     if ((status == PELGAISTI_OK || status == PELGAISTI_NO_MEMORY) && *count > 0) wake_listed(session, list, *count);
     return WRITING(made, WRITING(answer, LISTING(list, room, count, status)));
 }
@@ -410,9 +416,9 @@ struct whole_call {
 static inline __attribute__((always_inline)) pelgaisti_status make_turn(struct whole_call *it, uint64_t made) {
     it->told = 0;
     if (!it->call)
-        return ORDERING_CALL(it->session, ACQUIRES,
+        return ORDERING_HOLD(it->session, ACQUIRES,
                              pelgaisti_raw_session_look(&it->session, made, it->turns, &it->answer, &it->wait, &it->told));
-    return ORDERING_CALL(it->session, RELEASES | ACQUIRES,
+    return ORDERING_HOLD(it->session, RELEASES | ACQUIRES,
                          pelgaisti_raw_session_turn(&it->session, &it->call, made, it->turns, &it->answer, &it->wait, &it->told));
 }
 
@@ -420,7 +426,6 @@ static inline __attribute__((always_inline)) pelgaisti_status make_turn(struct w
 static COLD pelgaisti_status go_on(struct whole_call *it, pelgaisti_status status) {
     uint64_t made;
     for (made = 1;; made++) {
-        if (status != PELGAISTI_NOT_SERVED) wake_sleepers(it->session);
         if (it->told > 0) wake_told(it->session, it->told);
         if (status != PELGAISTI_NOT_SERVED || it->wait == 0) return status;
         wait_or_sleep(it->session, it->wait, made, it->turns);
@@ -437,9 +442,7 @@ pelgaisti_status pelgaisti_session_perform(pelgaisti_session *session, const pel
     it.turns = turns;
     it.answer = answer;
     status = make_turn(&it, 0);
-    if (status != PELGAISTI_OK || it.told > 0) return WRITING(answer, go_on(&it, status));
-    wake_sleepers(session);
-    return WRITING(answer, status);
+    return WRITING(answer, status == PELGAISTI_OK && it.told == 0 ? status : go_on(&it, status));
 }
 
 pelgaisti_status pelgaisti_session_lock_path(pelgaisti_session *session, const pelgaisti_resource *resource, uint32_t mode,
@@ -449,10 +452,9 @@ pelgaisti_status pelgaisti_session_lock_path(pelgaisti_session *session, const p
     uint32_t wait = 0;
     size_t told = 0;
     for (;;) {
-        status = ORDERING_CALL(session, RELEASES | ACQUIRES | IN_PARTS,
+        status = ORDERING_HOLD(session, RELEASES | ACQUIRES | IN_PARTS,
                                pelgaisti_raw_session_path_turn(&session, &resource, mode, &level, &made, turns, &answer, &wait,
                                                                &told));
-        if (status != PELGAISTI_NOT_SERVED || made == 0) wake_sleepers(session);
         if (told > 0) wake_told(session, told);
         if (status != PELGAISTI_NOT_SERVED || wait == 0) return WRITING(answer, status);
         wait_or_sleep(session, wait, made, turns);
@@ -463,8 +465,8 @@ pelgaisti_status pelgaisti_session_lock_path(pelgaisti_session *session, const p
 static pelgaisti_status run_turn(pelgaisti_session *session, const pelgaisti_program *program, uint64_t made, uint64_t turns,
                                  pelgaisti_program_answer *answer, uint32_t *wait, size_t *told) {
     if (!program)
-        return ORDERING_CALL(session, ACQUIRES, pelgaisti_raw_session_run_look(&session, made, turns, &answer, wait, told));
-    return ORDERING_CALL(session, RELEASES | ACQUIRES,
+        return ORDERING_HOLD(session, ACQUIRES, pelgaisti_raw_session_run_look(&session, made, turns, &answer, wait, told));
+    return ORDERING_HOLD(session, RELEASES | ACQUIRES,
                          pelgaisti_raw_session_run_turn(&session, &program, made, turns, &answer, wait, told));
 }
 
@@ -477,7 +479,6 @@ pelgaisti_status pelgaisti_session_run(pelgaisti_session *session, const pelgais
     for (made = 0;; made++) {
         told = 0;
         status = run_turn(session, program, made, turns, answer, &wait, &told);
-        if (status != PELGAISTI_NOT_SERVED) wake_sleepers(session);
         if (told > 0) wake_told(session, told);
         if (status != PELGAISTI_NOT_SERVED || wait == 0) return WRITING(answer, status);
         wait_or_sleep(session, wait, made + 1, turns);
@@ -551,11 +552,11 @@ pelgaisti_status pelgaisti_session_dump(pelgaisti_session *session, pelgaisti_cl
 }
 
 pelgaisti_status pelgaisti_session_counts(pelgaisti_session *session, pelgaisti_counts *counts, uint64_t *seen) {
-    return WRITING(counts, WRITING(seen, CALL(session, pelgaisti_raw_session_counts(&session, &counts, &seen))));
+    return WRITING(counts, WRITING(seen, HOLDING(session, pelgaisti_raw_session_counts(&session, &counts, &seen))));
 }
 
 pelgaisti_status pelgaisti_session_gauges(pelgaisti_session *session, pelgaisti_gauges *gauges, uint64_t *seen) {
-    return WRITING(gauges, WRITING(seen, CALL(session, pelgaisti_raw_session_gauges(&session, &gauges, &seen))));
+    return WRITING(gauges, WRITING(seen, HOLDING(session, pelgaisti_raw_session_gauges(&session, &gauges, &seen))));
 }
 
 pelgaisti_status pelgaisti_session_reserve(pelgaisti_session *session, size_t resources, size_t entries, uint64_t *seen) {

@@ -24,6 +24,8 @@ void wait_before_turn(uint32_t wait) {
     for (; wait > 0; wait--) __builtin_ia32_pause();
 }
 
+uint32_t sleepers;
+
 /* For each session how many wake-ups were made. They outlive the sessions, since a wake-up may come when the thread has left its call, and
    its session is closed. The sessions of an office have different ones, and share them with those of other offices. */
 static uint32_t *wake_ups_of(uint64_t mark, uint32_t session) {

@@ -4,6 +4,9 @@
 
 #include "pelgaisti.h"
 
+/* How many threads of the process sleep in a call, or are about to: each counts itself before its sleep begins. */
+extern uint32_t sleepers;
+
 uint64_t draw_mark(void);
 void wait_before_turn(uint32_t wait);
 uint32_t wake_ups_so_far(uint64_t mark, uint32_t session);
