@@ -1,23 +1,25 @@
 #!/usr/bin/env python3
-"""Refuses each allocation in turn: of replays, checks, states, explanations and runs by glm, and of tests of the lock table, of the
-office, of sequential objects and of what is below them. (checks/scripts_of_calls does the same with scripts of calls of the lock table.)
+"""Refuses each allocation in turn: of replays, checks, states, dumps, explanations and runs by glm, and of tests of the lock
+table, of the office, of sequential objects and of what is below them. (checks/scripts_of_calls does the same with scripts of
+calls of the lock table.)
 
 Usage: checks/refused_memory.py [--over-gate]
 
 In each round one allocation is refused: the first one in the first round, the second one in the second round, and so on. The last
 round is the first one in which nothing was refused.
 
-A replay, a check, a state and an explanation have to end with status 4, their line on standard error and nothing on standard
-output, in every round but a few, in which they end as with ample memory: room for all words of the command line is only a hint, and
-so is room for the first keys of a lock table. The look-up of the first lock makes it, in four allocations, and if one of them is
-refused, the entry of that lock asks once more. A shell may have answered its first lines, and room for the words of each line is a
-hint, too. A replay in pieces may have written whole pieces of its history, and some round has to see one piece written, and some
-round two. A run may also end with status 5, if the refusal kept a thread from starting, or with status 0, if it met the refusal by
-serving calls one after another: what it writes has to be a legal history in which each session's rows stand in their order. A run
-of one session has one try for each call: a pass that found no memory for the call ends the run. A run in pieces may also end with
-these statuses and whole rows of a legal history behind it, in which each session's rows are the first ones of its own. In further
-rounds of runs all later allocations are refused too: a run that goes on after its refusal fails. Threads allocate in any order, so
-a run's last rounds are the first three in a row without a refusal.
+A replay, a check, a state, a dump and an explanation have to end with status 4, their line on standard error and nothing on
+standard output, in every round but a few, in which they end as with ample memory: room for all words of the command line is only
+a hint, and so is room for the first keys of a lock table. The look-up of the first lock makes it, in four allocations, and if one
+of them is refused, the entry of that lock asks once more. Room for the lines of a dump and for the fields of each row is a hint,
+too. A shell may have answered its first lines, and room for the words of each line is a hint, too. A replay in pieces may have
+written whole pieces of its history, and some round has to see one piece written, and some round two. A run may also end with
+status 5, if the refusal kept a thread from starting, or with status 0, if it met the refusal by serving calls one after another:
+what it writes has to be a legal history in which each session's rows stand in their order. A run of one session has one try for
+each call: a pass that found no memory for the call ends the run. A run in pieces may also end with these statuses and whole rows
+of a legal history behind it, in which each session's rows are the first ones of its own. In further rounds of runs all later
+allocations are refused too: a run that goes on after its refusal fails. Threads allocate in any order, so a run's last rounds are
+the first three in a row without a refusal.
 
 A replay with hints of a row that is refused ends with status 1 and that row's line also if memory is refused for the hint.
 
@@ -46,6 +48,8 @@ UNSTARTED = (5, b"", b"glm: device\n")
 PIECE = 4096
 # the allocations of the room for the first keys of a lock table
 KEYS = 4
+# the most allocations of the room for a row of a dump, in its lines and for its fields
+HINTS_OF_A_ROW = 3
 
 # the tests whose allocations are refused, by the crate: all whose names begin so
 TESTED = {
@@ -317,6 +321,12 @@ def trials_of_the_program(folder):
     (folder / "loaded.csv").write_text("3,begin,,\n3,lock,2,IX\n3,lock,2/1,X\n")
     given = calls + f"save {folder}/saved.csv\nload {folder}/loaded.csv\nhelp\nquit\n".encode()
     yield Trial("shell", [PROGRAM, "shell"], ends_in_shell(given), given)
+    for case in ("show-state", "show-state-csv", "show-state-dot", "show-state-waits"):
+        words, dump, whole = ((TOP / "checks/program-cases" / case / name).read_bytes() for name in ("args", "stdin", "stdout"))
+        words = words.decode().split()
+        # room for the lines and for the fields of each row is only a hint, too
+        hints = HINTS_OF_A_ROW * dump.count(b"\n")
+        yield Trial(f"{' '.join(words)} of a dump", [PROGRAM, *words], ends(0, whole, tables=0, more=hints), dump)
     illegal = (TOP / "examples/illegal.csv").read_bytes()
     yield Trial("check of a history that isn't legal", [PROGRAM, "check"], ends(3, b"illegal 2\n"), illegal)
     faulty = b"1,begin,,\n1,lock,01,S\n"

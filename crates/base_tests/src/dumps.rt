@@ -1,5 +1,5 @@
-//! Dumps that are read back and shown: their texts, rows that are refused, and refused memory. Texts of whole lock tables are in
-//! `checks/program-cases`.
+//! Dumps that are read back and shown: their texts, and rows that are refused. Texts of whole lock tables are in `checks/program-cases`,
+//! and `checks/refused_memory.py` refuses memory.
 
 use dump_report::{graph_of_dump, lines_of_dump, waits_of_dump};
 use lock_report::NoMemory;

@@ -1,7 +1,6 @@
 -- What `show --state` writes: a dump in a form of `show`.
 use Rattle.std.specs.Prelude.{◌≡◌, ℕ, List, Option, Result, Ok, Err}
 use Rattle.std.specs.Io.KnownBytes.{Appends}
-use Rattle.lock_report.specs.StateRows.{rows_of_state}
 use Rattle.state_rows.specs.declared.reading.StateLists.{StateLists}
 use Rattle.state_rows.specs.States.{AreLists, IsFaulty, IsNoState, text_of}
 use Rattle.dump_report.specs.Shown.{graph_of_dump, lines_of_dump, waits_of_dump}

@@ -9,7 +9,8 @@ ghost use Rattle.lock_rules.specs.declared.calls.TheConstants.{MAX_SESSIONS};
 ghost use Rattle.glm.specs.declared.outcomes.Outcome.{Outcome};
 ghost use Rattle.glm.specs.declared.outcomes.TheConstants.{DONE, ILLEGAL, NO_MEMORY, DEVICE, STOPPED};
 ghost use Rattle.glm.specs.Programs.{HasRun};
-ghost use Rattle.command_line.specs.CommandLine.{Ask, AskReplayInPieces, AskRunInPieces, AskShell, HasNumbers, glm_command};
+ghost use Rattle.command_line.specs.declared.args.CommandRequest.TheVariants as request;
+ghost use Rattle.command_line.specs.CommandLine.{Ask, AskReplayInPieces, AskRunInPieces, AskShell, HasNumbers, glm_command, most_sessions};
 ghost use Rattle.command_line.specs.Streams.{HasStreamsOf, SkipComments as AskNoComments, input_file, output_file};
 ghost use Rattle.glm.specs.Outcomes.{HasDone, HasPrintedPart, PrintsVerdict, status_of_outcome};
 ghost use Rattle.history_commands.specs.Verdicts.{Checks, Finds, IsFaultOfCheck, text_of_verdict};
@@ -127,6 +128,50 @@ fn write_verdict<R: Read + Drop, W: Write>(
     Ok(verdict)
 }
 
+/// Replays a trace, and writes its history whole or in pieces.
+fn replayed<R: Read + Drop, W: Write>(
+    alloc: Global,
+    input: R,
+    output: &mut W,
+    sessions: u16,
+    delivery: Delivery,
+) -> Outcome
+    requires some { 0 < sessions }
+    requires few { sessions ≤ MAX_SESSIONS }
+    ensures { (words : List Text) → Ask words (request.Replay sessions delivery) → HasDone words (R.remaining input) (W.contents output.old) (W.contents output.new) result }
+{
+    match delivery {
+        Delivery::Whole => Outcome::Replay(replay(alloc, input, output, sessions)),
+        Delivery::InPieces => {
+            Outcome::ReplayInPieces(replay_in_pieces(alloc, input, output, sessions))
+        }
+    }
+}
+
+/// Runs a trace on threads, with at most `turns` tries for each answer, and writes its history whole or in pieces.
+fn run_on_threads<T: Threads + Wait, R: Read + Drop, W: Write, G: Gate>(
+    rt: &T,
+    alloc: Global,
+    gate: &G,
+    input: R,
+    output: &mut W,
+    sessions: u16,
+    turns: u32,
+    delivery: Delivery,
+) -> Outcome
+    requires some { 0 < sessions }
+    requires few { sessions ≤ most_sessions delivery }
+    ensures { (words : List Text) → Ask words (request.Run sessions turns delivery) → HasDone words (R.remaining input) (W.contents output.old) (W.contents output.new) result }
+{
+    let turns = u64::from(turns);
+    match delivery {
+        Delivery::Whole => Outcome::Run(run(rt, alloc, input, output, sessions, turns, gate)),
+        Delivery::InPieces => {
+            Outcome::RunInPieces(run_in_pieces(rt, alloc, input, output, sessions, turns, gate))
+        }
+    }
+}
+
 /// Runs a command: reads `input`, and writes to `output`. `check`, `show` and `explain` put the first wrong reply into `wrong`.
 fn perform<T: Threads + Wait + Files, R: Read + Drop, W: Write, G: Gate>(
     rt: &T,
@@ -141,19 +186,11 @@ fn perform<T: Threads + Wait + Files, R: Read + Drop, W: Write, G: Gate>(
     ensures { (words : List Text) → Ask words command → HasDone words (R.remaining input) (W.contents output.old) (W.contents output.new) result }
 {
     match command {
-        CommandRequest::Replay(sessions, Delivery::Whole) => {
-            Outcome::Replay(replay(alloc, input, output, sessions))
+        CommandRequest::Replay(sessions, delivery) => {
+            replayed(alloc, input, output, sessions, delivery)
         }
-        CommandRequest::Replay(sessions, Delivery::InPieces) => {
-            Outcome::ReplayInPieces(replay_in_pieces(alloc, input, output, sessions))
-        }
-        CommandRequest::Run(sessions, turns, Delivery::Whole) => {
-            let turns = u64::from(turns);
-            Outcome::Run(run(rt, alloc, input, output, sessions, turns, gate))
-        }
-        CommandRequest::Run(sessions, turns, Delivery::InPieces) => {
-            let turns = u64::from(turns);
-            Outcome::RunInPieces(run_in_pieces(rt, alloc, input, output, sessions, turns, gate))
+        CommandRequest::Run(sessions, turns, delivery) => {
+            run_on_threads(rt, alloc, gate, input, output, sessions, turns, delivery)
         }
         CommandRequest::Check(sessions, delivery) => {
             Outcome::Check(write_verdict(alloc, input, output, sessions, delivery, wrong))

@@ -1,64 +1,19 @@
 use Rattle.std.proofs.Common.{rules, subst, ◌≡◌}
-use Rattle.command_line.specs.declared.args.Delivery.TheVariants as delivery
 use Rattle.command_line.specs.declared.args.CommandRequest.TheVariants as request
 use Rattle.command_line.specs.declared.args.CommandRequest.{CommandRequest}
 use Rattle.command_line.specs.CommandLine.{Ask}
 use Rattle.glm.proofs.commands.perform.Goals as goal
 
 -- each outcome has what the words ask for and what the command's contract ensures
-pub returns-in-Replay-default-Whole : goal.returns-in-Replay-default-Whole
-returns-in-Replay-default-Whole c c' =
-    let done = c'.replay.ensures in
-    λ words asked. record {
-      sessions = c'.in-Replay-default-Whole.sessions;
-      asked = (let is : c'.args.command ≡ request.Replay c'.in-Replay-default-Whole.sessions delivery.Whole = search rules in subst (λ (r : CommandRequest). Ask words r) is asked);
-      kept = done.kept;
-      part = done.part;
-      served = done.served;
-      faults = done.faults;
-      replays = done.replays;
-    }
+pub returns-in-Replay : goal.returns-in-Replay
+returns-in-Replay c c' =
+    λ words asked. c'.replayed.ensures words
+        (let is : c'.args.command ≡ request.Replay c'.in-Replay.sessions c'.in-Replay.delivery = search rules in subst (λ (r : CommandRequest). Ask words r) is asked)
 
-pub returns-in-Replay-default-InPieces : goal.returns-in-Replay-default-InPieces
-returns-in-Replay-default-InPieces c c' =
-    let done = c'.replay_in_pieces.ensures in
-    λ words asked. record {
-      sessions = c'.in-Replay-default-InPieces.sessions;
-      asked = (let is : c'.args.command ≡ request.Replay c'.in-Replay-default-InPieces.sessions delivery.InPieces = search rules in subst (λ (r : CommandRequest). Ask words r) is asked);
-      kept = done.kept;
-      front = done.front;
-      part = done.part;
-      served = done.served;
-      faults = done.faults;
-      replays = done.replays;
-    }
-
-pub returns-in-Run-default-default-Whole : goal.returns-in-Run-default-default-Whole
-returns-in-Run-default-default-Whole c c' =
-    let done = c'.run.ensures in
-    λ words asked. record {
-      sessions = c'.in-Run-default-default-Whole.sessions;
-      turns = c'.in-Run-default-default-Whole.turns;
-      asked = (let is : c'.args.command ≡ request.Run c'.in-Run-default-default-Whole.sessions c'.in-Run-default-default-Whole.turns delivery.Whole = search rules in subst (λ (r : CommandRequest). Ask words r) is asked);
-      kept = done.kept;
-      part = done.part;
-      performed = done.performed;
-      runs = done.runs;
-    }
-
-pub returns-in-Run-default-default-InPieces : goal.returns-in-Run-default-default-InPieces
-returns-in-Run-default-default-InPieces c c' =
-    let done = c'.run_in_pieces.ensures in
-    λ words asked. record {
-      sessions = c'.in-Run-default-default-InPieces.sessions;
-      turns = c'.in-Run-default-default-InPieces.turns;
-      asked = (let is : c'.args.command ≡ request.Run c'.in-Run-default-default-InPieces.sessions c'.in-Run-default-default-InPieces.turns delivery.InPieces = search rules in subst (λ (r : CommandRequest). Ask words r) is asked);
-      kept = done.kept;
-      front = done.front;
-      part = done.part;
-      performed = done.performed;
-      runs = done.runs;
-    }
+pub returns-in-Run : goal.returns-in-Run
+returns-in-Run c c' =
+    λ words asked. c'.run_on_threads.ensures words
+        (let is : c'.args.command ≡ request.Run c'.in-Run.sessions c'.in-Run.turns c'.in-Run.delivery = search rules in subst (λ (r : CommandRequest). Ask words r) is asked)
 
 pub returns-in-Check : goal.returns-in-Check
 returns-in-Check c c' =

@@ -1,0 +1,29 @@
+use Rattle.glm.proofs.commands.run_on_threads.Goals as goal
+
+-- the words ask for this delivery, and the outcome has what the run's contract ensures
+pub returns-in-Whole : goal.returns-in-Whole
+returns-in-Whole c c' =
+    let done = c'.run.ensures in
+    λ words asked. record {
+      sessions = c'.args.sessions;
+      turns = c'.args.turns;
+      asked = asked;
+      kept = done.kept;
+      part = done.part;
+      performed = done.performed;
+      runs = done.runs;
+    }
+
+pub returns-in-InPieces : goal.returns-in-InPieces
+returns-in-InPieces c c' =
+    let done = c'.run_in_pieces.ensures in
+    λ words asked. record {
+      sessions = c'.args.sessions;
+      turns = c'.args.turns;
+      asked = asked;
+      kept = done.kept;
+      front = done.front;
+      part = done.part;
+      performed = done.performed;
+      runs = done.runs;
+    }
