@@ -5,7 +5,7 @@ ghost use Rattle.publication.specs.Kinds.{with_sleep};
 ghost use Rattle.publication.specs.Sleep.{waking, but_latest, HasNoDebts, IsAtRest, IsSameSleep, AreRoused};
 ghost use Rattle.publication.specs.inner.Tickets.{IsBoard, IsAt};
 
-use crate::kinds::WakeUp;
+use crate::sleep_kinds::WakeUp;
 use crate::sleep_steps::{look_for_sleepers, rouse};
 use crate::steps::{Seat, Shared};
 use sequential::Sequential;

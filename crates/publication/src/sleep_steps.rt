@@ -7,7 +7,7 @@ ghost use Rattle.publication.specs.Kinds.{with_sleep};
 ghost use Rattle.publication.specs.Sleep.{lain, having_told, having_seen, risen, having_looked, sweeping, passing, rousing, waking, but_latest, HasNoDebts, IsAtRest, IsSameSleep};
 ghost use Rattle.publication.specs.inner.Tickets.{IsBoard, IsAt};
 
-use crate::kinds::{
+use crate::sleep_kinds::{
     GetUp, LieDown, LookForSleepers, LookIfHeld, LookIfRoused, Rouse, Sweep, TellSleepers, WakeUp,
 };
 use crate::steps::{Seat, Shared};

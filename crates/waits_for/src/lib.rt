@@ -2,7 +2,7 @@
 //!
 //! A session is given by its position, which is its session number less 1. [`Rows`] holds the edges: pairs (t, u) such
 //! that t waits for u. Its queries search walks along these edges. [`Marks`] is a set of sessions. `rows.rt` has the
-//! public calls, `matrix.rt` the edges as bits, `search.rt` the search, `bits.rt` operations on rows of bits, `laws.rt`
+//! public calls, `matrix.rt` the edges as bits, `search.rt` the search, `choice.rt` the choice of the youngest, `bits.rt` operations on rows of bits, `laws.rt`
 //! the laws of edges and walks.
 //!
 //! [`Rows::youngest_on_circle`] searches depth first from the session that asks, and returns the youngest session on a
@@ -18,6 +18,7 @@ pub use rows::Rows;
 pub use std::alloc::AllocError as NoMemory;
 
 mod bits;
+mod choice;
 pub mod laws;
 mod marks;
 mod matrix;

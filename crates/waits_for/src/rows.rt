@@ -6,9 +6,10 @@ ghost use Rattle.waits_for.specs.Marks.{is_marked};
 ghost use Rattle.waits_for.specs.Walks.{Reaches, IsYoungestOnCircle};
 
 use crate::bits::{has, have_common, next_new, set, unset, words_for};
+use crate::choice::find_youngest;
 use crate::marks::Marks;
 use crate::matrix::Matrix;
-use crate::search::{find_reached, find_youngest, is_waited_for};
+use crate::search::{find_reached, is_waited_for};
 use crate::{MAX_SESSIONS, NoMemory};
 use std::alloc::Global;
 use std::marker::Model;

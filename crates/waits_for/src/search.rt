@@ -1,12 +1,11 @@
-//! The search for the sessions that a session reaches, and for those among them that reach it.
+//! The search for the sessions that a session reaches, and for those among them that reach it. `choice.rt` chooses among these.
 
-ghost use Rattle.std.specs.Prelude.{◌≡◌, ℕ, ◌+◌, ◌<◌, ◌≤◌, ◌↔◌, true, false, ◌&&◌, ◌||◌, ◌==◌, ◌/◌, Bool, Some, IsTrue, IfSome, IsSome, MatchBool, length};
+ghost use Rattle.std.specs.Prelude.{◌≡◌, ℕ, ◌+◌, ◌<◌, ◌≤◌, ◌↔◌, true, false, ◌&&◌, ◌||◌, ◌==◌, ◌/◌, Some, IsTrue, length};
 ghost use Rattle.std.specs.Int.{bit_at};
-ghost use Rattle.std.specs.Option.{ForSome};
 ghost use Rattle.waits_for.specs.Pairs.{pairs_of};
-ghost use Rattle.waits_for.specs.Walks.{Reaches, AreOnCircle, IsYoungestOnCircle};
+ghost use Rattle.waits_for.specs.Walks.{Reaches, AreOnCircle};
 ghost use Rattle.waits_for.specs.inner.Bits.{has_bit, words_for, unset_below};
-ghost use Rattle.waits_for.specs.inner.Search.{HasAllWaiting, HasAllOnCircle, HasSearched, DoesAddLead, IsBestBelow, IsTestOf, IsClosedBack, IsFrom, IsTo, AddsPredecessors, younger};
+ghost use Rattle.waits_for.specs.inner.Search.{HasAllWaiting, DoesAddLead, IsClosedBack, IsFrom, IsTo, AddsPredecessors};
 
 use crate::bits::{
     clear, first_new, has, have_common, next_common, next_new, set, set_without, unset,
@@ -17,7 +16,7 @@ use mode_lanes::{and_into, or_into};
 /// Finds the sessions on a cycle with position `t`, and returns whether there are any. If there are, they are the
 /// bits of `circle`. `hops` has for each a session that it waits for directly, as a rule one nearer to `t`, and
 /// `parents` for each but `t` the session in whose row it was found. `reached`, `unseen` and `stack` are scratch.
-fn find_circle(
+pub(crate) fn find_circle(
     matrix: &Matrix,
     waiting: &[u64],
     t: usize,
@@ -232,64 +231,6 @@ fn add_predecessor(matrix: &Matrix, reaching: &mut [u64], u: usize) -> bool
     true
 }
 
-/// The position in the set with the greatest age, and the least of two positions of one age. `None` if the set has
-/// no position that has an age.
-fn youngest_in(set: &[u64], ages: &[u64]) -> Option<usize>
-    requires { words_for (length ages.now) ≤ length set.now }
-    ensures { IsBestBelow (has_bit set.now) ages.now (length ages.now) result }
-{
-    let mut best = None;
-    for w in 0..(ages.len() + 63) / 64 {
-        best = youngest_in_word(set[w], w * 64, ages, best);
-    }
-    best
-}
-
-/// The best of the best position so far, which is before `first`, and the positions from `first` on that the bits of
-/// `word` stand for and that have an age.
-#[inline(always)]
-fn youngest_in_word(word: u64, first: usize, ages: &[u64], best: Option<usize>) -> Option<usize>
-    requires small { first + 64 ≤ usize.MAX }
-    requires below { ForSome best (λ v. v < length ages.now) }
-    ensures below { ForSome result (λ v. v < length ages.now) }
-    ensures best { (test : ℕ → Bool) → IsTestOf test word first (length ages.now) → IsBestBelow test ages.now first best → IsBestBelow test ages.now (first + 64) result }
-{
-    let mut rest = word;
-    let mut best = best;
-    while rest != 0 {
-        let low = rest.trailing_zeros() as usize;
-        best = younger_within(ages, best, first + low);
-        rest &= !(1 << low);
-    }
-    best
-}
-
-/// The younger of the best position so far and position `u`, if that has an age; the best so far on a tie.
-#[inline(always)]
-fn younger_within(ages: &[u64], best: Option<usize>, u: usize) -> Option<usize>
-    requires below { ForSome best (λ v. v < length ages.now) }
-    ensures below { ForSome result (λ v. v < length ages.now) }
-    ensures within { u < length ages.now → result ≡ Some (younger ages.now best u) }
-    ensures past { length ages.now ≤ u → result ≡ best }
-{
-    if u < ages.len() {
-        return Some(younger_of(ages, best, u));
-    }
-    best
-}
-
-/// The younger of the best position so far and position `u`; the best so far on a tie.
-fn younger_of(ages: &[u64], best: Option<usize>, u: usize) -> usize
-    requires u_below { u < length ages.now }
-    requires best_below { ForSome best (λ v. v < length ages.now) }
-    ensures { result ≡ younger ages.now best u }
-{
-    match best {
-        Some(v) if ages[u] <= ages[v] => v,
-        _ => u,
-    }
-}
-
 /// Whether a session waits directly for position `t`. Looks only at the rows of those in `waiting`.
 pub(crate) fn is_waited_for(matrix: &Matrix, waiting: &[u64], t: usize) -> bool
     requires t_below { t < matrix.now.sessions }
@@ -336,151 +277,4 @@ fn has_edge(matrix: &Matrix, u: usize, t: usize) -> bool
         return false;
     }
     has(matrix.row(u), t)
-}
-
-/// The youngest session on a cycle with position `t`, and of two of one age the one at the lesser position. `None` if
-/// `t` is on no cycle.
-///
-/// If `searched` is the number of a session, every session on a cycle with it is in `circle`, before and after.
-/// `reached`, `marked` and `stack` are scratch. `hops` and `parents` may hold anything: steps are looked for there
-/// first.
-#[inline(never)]
-pub(crate) fn find_youngest(
-    matrix: &Matrix,
-    waiting: &[u64],
-    t: usize,
-    ages: &[u64],
-    searched: &mut usize,
-    circle: &mut [u64],
-    reached: &mut [u64],
-    marked: &mut [u64],
-    stack: &mut [usize],
-    hops: &mut [usize],
-    parents: &mut [usize],
-) -> Option<usize>
-    requires t_below { t < matrix.now.sessions }
-    requires waiting_room { length waiting.now ≡ words_for matrix.now.sessions }
-    requires waiting { HasAllWaiting (pairs_of matrix.now) waiting.now }
-    requires an_age_each { length ages.now ≡ matrix.now.sessions }
-    requires searched { HasSearched (pairs_of matrix.now) searched.old circle.old }
-    requires circle_room { length circle.old ≡ words_for matrix.now.sessions }
-    requires reached_room { length reached.old ≡ words_for matrix.now.sessions }
-    requires marked_room { length marked.old ≡ words_for matrix.now.sessions }
-    requires stack_room { length stack.old ≡ matrix.now.sessions }
-    requires hops_room { length hops.old ≡ matrix.now.sessions }
-    requires parents_room { length parents.old ≡ matrix.now.sessions }
-    ensures on_circle { IsSome result ↔ Reaches (pairs_of matrix.now) t t }
-    ensures youngest { IfSome result (IsYoungestOnCircle (pairs_of matrix.now) ages.now t) }
-    ensures searched { HasSearched (pairs_of matrix.now) searched.new circle.new }
-{
-    if *searched == t + 1 {
-        // who waits no more is on no cycle
-        and_into(circle, waiting);
-        if !have_common(matrix.row(t), circle) {
-            return None;
-        }
-        if let Some(v) = youngest_at_hand(matrix, t, circle, hops, parents, ages) {
-            return Some(v);
-        }
-    }
-    *searched = 0;
-    if !find_circle(
-        matrix, waiting, t, reached, marked, circle, stack, hops, parents,
-    ) {
-        return None;
-    }
-    *searched = t + 1;
-    youngest_in(circle, ages)
-}
-
-/// The youngest session on a cycle with position `t`, if it is found without a search. `circle` must have all
-/// sessions on a cycle with `t`.
-///
-/// If steps lead from `t` to the youngest member, and steps through `circle` back to `t`, it is the one.
-fn youngest_at_hand(
-    matrix: &Matrix,
-    t: usize,
-    circle: &[u64],
-    hops: &[usize],
-    parents: &[usize],
-    ages: &[u64],
-) -> Option<usize>
-    requires t_below { t < matrix.now.sessions }
-    requires circle_room { length circle.now ≡ words_for matrix.now.sessions }
-    requires circle { HasAllOnCircle (pairs_of matrix.now) t circle.now }
-    requires hops_room { length hops.now ≡ matrix.now.sessions }
-    requires parents_room { length parents.now ≡ matrix.now.sessions }
-    requires an_age_each { length ages.now ≡ matrix.now.sessions }
-    ensures youngest { IfSome result (IsYoungestOnCircle (pairs_of matrix.now) ages.now t) }
-{
-    let v = youngest_in(circle, ages)?;
-    if is_led_to(matrix, parents, t, v) && leads_to(matrix, circle, hops, v, t) {
-        return Some(v);
-    }
-    None
-}
-
-/// Whether steps lead from position `t` to `u`, found backwards: each from `t` if it waits directly, and else from the
-/// first session that does of the one in `parents`, the one there for that, and so on. There may be other walks.
-fn is_led_to(matrix: &Matrix, parents: &[usize], t: usize, u: usize) -> bool
-    requires t_below { t < matrix.now.sessions }
-    requires u_below { u < matrix.now.sessions }
-    requires parents_room { length parents.now ≡ matrix.now.sessions }
-    ensures { result ≡ true → IsTo (pairs_of matrix.now) u t }
-{
-    if u == t {
-        return true;
-    }
-    let row = matrix.row(t);
-    let mut at = u;
-    let mut by = u;
-    for _step in 0..matrix.sessions() {
-        if has(row, at) {
-            return true;
-        }
-        by = parents[by];
-        if by == t || by >= parents.len() {
-            return false;
-        }
-        if has(matrix.row(by), at) {
-            at = by;
-        }
-    }
-    false
-}
-
-/// Whether steps through `circle` lead from position `u` to `t`: each to the session in `hops`, if it is one that is
-/// waited for directly, and else to the least member that is. There may be other walks.
-fn leads_to(matrix: &Matrix, circle: &[u64], hops: &[usize], u: usize, t: usize) -> bool
-    requires u_below { u < matrix.now.sessions }
-    requires t_below { t < matrix.now.sessions }
-    requires circle_room { length circle.now ≡ words_for matrix.now.sessions }
-    requires hops_room { length hops.now ≡ matrix.now.sessions }
-    ensures { result ≡ true → Reaches (pairs_of matrix.now) u t }
-{
-    let mut at = u;
-    for _step in 0..matrix.sessions() {
-        let row = matrix.row(at);
-        if has(row, t) {
-            return true;
-        }
-        let hop = hops[at];
-        match next_member(row, circle, hop) {
-            Some(next) => at = next,
-            None => return false,
-        }
-    }
-    false
-}
-
-/// A common member of `row` and `circle`: `hop` if it is one, and else the least. `None` if there is none.
-fn next_member(row: &[u64], circle: &[u64], hop: usize) -> Option<usize>
-    requires same { length circle.now ≡ length row.now }
-    requires few { length row.now ≤ 1024 }
-    ensures { IfSome result (λ k. (has_bit row.now k ≡ true) × (has_bit circle.now k ≡ true)) }
-{
-    if hop / 64 < row.len() && has(row, hop) && has(circle, hop) {
-        return Some(hop);
-    }
-    next_common(row, circle, 0)
 }

@@ -13,7 +13,7 @@ ghost use Rattle.publication.specs.Boards.{IsOf, HasCallsOf, IsNumber, OpensNone
 
 use crate::board::{Board, Ticket};
 use crate::slot::Load;
-use crate::steps;
+use crate::{list_steps, steps};
 use sequential::Sequential;
 use std::marker::Brand;
 
@@ -87,8 +87,12 @@ impl<O: Sequential> Board<O> {
         ensures all { IfNone after ((j : _) → 0 < j → j ≤ self.now.sessions → length (calls_of j ticket.old.front) < heard_from ticket.old j → IsOn j ticket.new.route) }
     {
         match after {
-            None => steps::walk_from_head(&self.table.shared, &mut ticket.seat),
-            Some(whose) => steps::walk_on(&self.table.shared, &mut ticket.seat, usize::from(whose)),
+            None => list_steps::walk_from_head(&self.table.shared, &mut ticket.seat),
+            Some(whose) => list_steps::walk_on(
+                &self.table.shared,
+                &mut ticket.seat,
+                usize::from(whose),
+            ),
         }
     }
 
@@ -105,7 +109,7 @@ impl<O: Sequential> Board<O> {
         ensures off { result ≡ true → ticket.new ≡ record ticket.old { route = without before ticket.old.route } }
         ensures kept { result ≡ false → ticket.new ≡ ticket.old }
     {
-        steps::unlink_record(
+        list_steps::unlink_record(
             &self.table.shared,
             &mut ticket.seat,
             usize::from(before),
