@@ -1,6 +1,6 @@
 //! The command line of `glm`: what its words ask for, and the texts of its help.
 //!
-//! `args.rt` has the parser's commands and options, and `requests.rt` makes a request of the words; `texts.rt` has the help texts
+//! `args.rt` has the parser's commands, `options.rt` the options that they share, and `requests.rt` makes a request of the words; `texts.rt` has the help texts
 //! and the version; `laws.rt` what command lines ask for, as laws; `misuse.rt` says what is wrong with words
 //! that make no request.
 //!
@@ -10,6 +10,7 @@
 mod args;
 pub mod laws;
 mod misuse;
+mod options;
 mod requests;
 mod texts;
 

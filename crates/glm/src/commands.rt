@@ -1,7 +1,7 @@
 //! The whole program except its streams: parses the command line and runs the command.
 
-ghost use Rattle.std.specs.Prelude.{◌≡◌, ◌≢◌, ◌<◌, ◌≤◌, ℕ, List, None, Some, IfOk, IfErr, string_bytes};
-ghost use Rattle.std.specs.Io.KnownBytes.{Keeps, Appends};
+ghost use Rattle.std.specs.Prelude.{◌≡◌, ◌≢◌, ◌<◌, ◌≤◌, ℕ, List, None, Some};
+ghost use Rattle.std.specs.Io.KnownBytes.{Keeps};
 ghost use Rattle.clap.specs.Values.{kind_of};
 ghost use Rattle.clap.specs.Simple.{subcommand_of};
 ghost use Rattle.clap.specs.Walk.{Text, texts};
@@ -12,26 +12,23 @@ ghost use Rattle.glm.specs.Programs.{HasRun};
 ghost use Rattle.command_line.specs.declared.args.CommandRequest.TheVariants as request;
 ghost use Rattle.command_line.specs.CommandLine.{Ask, AskReplayInPieces, AskRunInPieces, AskShell, HasNumbers, glm_command, most_sessions};
 ghost use Rattle.command_line.specs.Streams.{HasStreamsOf, SkipComments as AskNoComments, input_file, output_file};
-ghost use Rattle.glm.specs.Outcomes.{HasDone, HasPrintedPart, PrintsVerdict, status_of_outcome};
-ghost use Rattle.history_commands.specs.Verdicts.{Checks, Finds, IsFaultOfCheck, text_of_verdict};
+ghost use Rattle.glm.specs.Outcomes.{HasDone, status_of_outcome};
 ghost use Rattle.glm.specs.Streams.{HasDoneInFile, HasOutcome};
 ghost use Rattle.glm.specs.ParserErrors.{IsOutcomeOfError};
-ghost use Rattle.replay_commands.specs.Replays.{IsFaultOfOneThread};
 ghost use Rattle.glm.specs.Statuses.{IsStatus};
 
 use crate::hints::{Hints, write_hints};
 use crate::outcomes::{Outcome, file_failed};
-use crate::wrong_replies::{explained, shown, wrong_of};
+use crate::verdicts::write_verdict;
+use crate::wrong_replies::{explained, shown};
 use clap::Error;
 use clap::error::ErrorKind;
 use command_line::{CommandRequest, Delivery, Request, VERSION_TEXT, request_of, usage_text};
 use dump_command::show_dump;
 use file_streams::{NewFile, open_source};
-use history_commands::{
-    Finding, Verdict, WrongReply, check_by_row, check_whole, timeline, verdict_line,
-};
+use history_commands::{WrongReply, timeline};
 use lock_shell::shell;
-use replay_commands::{ToolFault, replay, replay_in_pieces, write_text};
+use replay_commands::{replay, replay_in_pieces, write_text};
 use row_comments::SkipComments;
 use row_hints::{Kept, KeptRows};
 use run_commands::{Gate, run, run_in_pieces};
@@ -61,71 +58,6 @@ fn outcome_of_error<W: Write, E: Write>(error: &Error, output: &mut W, errors: &
             Outcome::Misused
         }
     }
-}
-
-/// Checks a history, whose rows are kept or not, and returns what is found.
-fn finding_of<R: Read + Drop>(
-    alloc: Global,
-    input: R,
-    sessions: u16,
-    delivery: Delivery,
-) -> Result<Finding, ToolFault>
-    requires some { 0 < sessions }
-    requires few { sessions ≤ MAX_SESSIONS }
-    ensures faults { IfErr result (λ fault. IsFaultOfCheck fault) }
-    ensures finds { (bytes : List ℕ) → R.remaining input ≡ Some bytes → Finds sessions bytes result }
-{
-    match delivery {
-        Delivery::Whole => check_whole(alloc, input, sessions),
-        Delivery::InPieces => check_by_row(alloc, input, sessions),
-    }
-}
-
-/// Checks a history, and puts its first wrong reply, or that there is none, into `wrong`.
-fn checked<R: Read + Drop>(
-    alloc: Global,
-    input: R,
-    sessions: u16,
-    delivery: Delivery,
-    wrong: &mut Option<WrongReply>,
-) -> Result<Verdict, ToolFault>
-    requires some { 0 < sessions }
-    requires few { sessions ≤ MAX_SESSIONS }
-    ensures faults { IfErr result (λ fault. IsFaultOfCheck fault) }
-    ensures checks { (bytes : List ℕ) → R.remaining input ≡ Some bytes → Checks sessions bytes result }
-{
-    let finding = finding_of(alloc, input, sessions, delivery)?;
-    *wrong = wrong_of(&finding);
-    Ok(finding.verdict())
-}
-
-/// Checks a history and writes the verdict to `output`. Puts the first wrong reply, if there is one, into `wrong`. The fault is that of
-/// the check, or `NoMemory` if there is no memory for the line, or `Device` if the writer fails.
-#[tactic(auto, using(crate::proofs::PartsWritten::check_part))]
-fn write_verdict<R: Read + Drop, W: Write>(
-    alloc: Global,
-    input: R,
-    output: &mut W,
-    sessions: u16,
-    delivery: Delivery,
-    wrong: &mut Option<WrongReply>,
-) -> Result<Verdict, ToolFault>
-    requires some { 0 < sessions }
-    requires few { sessions ≤ MAX_SESSIONS }
-    ensures kept { IfErr result (λ fault. fault ≢ ToolFault.Device → Keeps (W.contents output.old) (W.contents output.new)) }
-    ensures part { IfErr result (λ fault. fault ≡ ToolFault.Device → HasPrintedPart sessions (R.remaining input) (W.contents output.old) (W.contents output.new)) }
-    ensures faults { IfErr result (λ fault. IsFaultOfOneThread fault) }
-    ensures written { IfOk result (λ verdict. Appends (W.contents output.old) (W.contents output.new) (text_of_verdict verdict)) }
-    ensures checks { (bytes : List ℕ) → R.remaining input ≡ Some bytes → PrintsVerdict sessions bytes result }
-{
-    let verdict = checked(alloc, input, sessions, delivery, wrong)?;
-    let Ok(line) = verdict_line(alloc, verdict) else {
-        return Err(ToolFault::NoMemory);
-    };
-    if write_text(output, line.as_bytes()).is_err() {
-        return Err(ToolFault::Device);
-    }
-    Ok(verdict)
 }
 
 /// Replays a trace, and writes its history whole or in pieces.

@@ -15,6 +15,7 @@
 mod commands;
 mod hints;
 mod outcomes;
+mod verdicts;
 mod wrong_replies;
 
 pub use command_line::{Form, MAX_PLACE, MAX_STREAMED_SESSIONS, MAX_TURNS, VERSION, VERSION_TEXT};

@@ -8,6 +8,7 @@
 //! history, and else the verdict.
 #![tactic(auto)]
 
+mod accounts;
 mod checking;
 mod checking_by_row;
 mod drawing;
@@ -16,10 +17,11 @@ mod finding;
 mod show_fault;
 mod showing;
 
+pub use accounts::{account, answer_of, doom_of};
 pub use checking::{Verdict, check, check_whole, finding_on, verdict_line};
 pub use checking_by_row::check_by_row;
 pub use drawing::timeline;
-pub use explaining::{account, answer_of, doom_of, explain, explain_found};
+pub use explaining::{explain, explain_found};
 pub use finding::{Finding, WrongReply};
 pub use show_fault::ShowFault;
 pub use showing::{lines_text, show, show_found};

@@ -20,6 +20,8 @@ mod paths;
 #[cfg(test)]
 mod pieces;
 #[cfg(test)]
+mod questions;
+#[cfg(test)]
 mod telling;
 #[cfg(test)]
 mod threads;

@@ -1,10 +1,10 @@
 //! The lock manager for C: exports over books and over the sessions of offices, which C holds by handles in its own
 //! memory.
 //!
-//! Exports: `book.rt`, `listing_exports.rt`, `path_exports.rt`, `path_step_exports.rt`, `program_exports.rt`, `office.rt`, `session.rt`,
+//! Exports: `book.rt`, `history_exports.rt`, `listing_exports.rt`, `path_exports.rt`, `path_step_exports.rt`, `program_exports.rt`, `office.rt`, `session.rt`, `knowledge_exports.rt`,
 //! `turn_exports.rt`, `path_turn_exports.rt`, `program_turn_exports.rt`, `query_exports.rt`, `deadlock_exports.rt`, `page_exports.rt`,
 //! `dump_exports.rt`, `count_exports.rt`, `gauge_exports.rt`, `memory_exports.rt`, `sleep_exports.rt`, `close_exports.rt`, `version.rt`. What
-//! they do, on what a handle holds: `book_calls.rt`, `batch.rt`, `listing.rt`, `path_calls.rt`, `program_calls.rt`, `session_calls.rt`,
+//! they do, on what a handle holds: `book_calls.rt`, `batch.rt`, `listing.rt`, `path_calls.rt`, `program_calls.rt`, `session_calls.rt`, `perform_calls.rt`,
 //! `turn_calls.rt`, `path_turn_calls.rt`, `program_turn_calls.rt`, `queries.rt`, `deadlocks.rt`, `pages.rt`, `dump.rt`, `memory_calls.rt`,
 //! `sleep_calls.rt`, `hand_in.rt`. Numbers of C's structs: `numbers.rt`, `program_numbers.rt`, `claims.rt`, `count_numbers.rt`,
 //! `deadlock_numbers.rt`, `status.rt`. Handles: `book_handle.rt`, `session_handle.rt`, and what is in them.
@@ -37,6 +37,8 @@ mod gauge_exports;
 mod hand_in;
 mod held_book;
 mod held_share;
+mod history_exports;
+mod knowledge_exports;
 mod listing;
 mod listing_exports;
 mod memory_calls;
@@ -50,6 +52,7 @@ mod path_exports;
 mod path_step_exports;
 mod path_turn_calls;
 mod path_turn_exports;
+mod perform_calls;
 mod pointers;
 mod program_calls;
 mod program_exports;

@@ -1,26 +1,24 @@
 //! The exports over a session of an office.
 
-ghost use Rattle.std.specs.Prelude.{◌≡◌, ◌≢◌, ℕ, ◌+◌, ◌<◌, ◌≤◌, ◌↔◌, ◌⊎◌, true, Some, None, length, drop};
+ghost use Rattle.std.specs.Prelude.{◌≡◌, ◌≢◌, ◌<◌, ◌≤◌, ◌↔◌, ◌⊎◌, true, Some, None, length};
 ghost use denote.RawPtr.{null_ptr};
 ghost use Rattle.program_office.specs.Sessions.{IsPendingServed};
-ghost use Rattle.program_office.specs.Seen.{number_of_calls};
 ghost use Rattle.program_office.specs.ProgramTurns.{HasSeveralPending};
 ghost use Rattle.lock_rules.specs.declared.calls.Call.{Call};
 ghost use Rattle.pelgaisti_c.specs.Behind.{IsNullList};
 ghost use Rattle.pelgaisti_c.specs.Numbers.{IsCall, IsCallFault};
-ghost use Rattle.pelgaisti_c.specs.Calls.{are_written};
-ghost use Rattle.pelgaisti_c.specs.Sessions.{IsPublished, IsTurn, AreToWake, HasToldNone, IsToldTurn, IsPerformedAtOnce, IsRefusedAtOnce, IsToldPerformed, IsToldRefused, HasToldNobody, MayCall, IsElsewhere, IsAnswered, IsPieceTaken, IsHeard, IsRetired};
+ghost use Rattle.pelgaisti_c.specs.Sessions.{IsPublished, IsTurn, AreToWake, HasToldNone, IsToldTurn, IsPerformedAtOnce, IsRefusedAtOnce, IsToldPerformed, IsToldRefused, HasToldNobody, MayCall, IsElsewhere, IsAnswered, IsPieceTaken, IsRetired};
 ghost use Rattle.pelgaisti_c.specs.declared.session_share.SessionShare.{SessionShare};
 
 use crate::pointers::{
     AnswerPointer, CallPointer, EntryList, PassPointer, SessionList, SessionPointer, SizePointer,
     U32Pointer, U64Pointer,
 };
-use crate::session_calls;
 use crate::status::{
     CLOSED, ELSEWHERE, NO_MEMORY, NO_ROOM, NO_SUCH_MODE, NO_SUCH_OP, NOT_SERVED, NOTHING_PENDING,
-    NULL_POINTER, OK, OTHER_OFFICE, PENDING, RETIRED,
+    NULL_POINTER, OK, PENDING, RETIRED,
 };
+use crate::{perform_calls, session_calls};
 use std::alloc::Global;
 
 /// Publishes the call that the numbers encode. The call is pending until the session collects its answer. Writes 1 to
@@ -193,7 +191,7 @@ pub extern "C" fn pelgaisti_raw_session_perform_at_once(
     let Some(mut share) = session.take(alloc) else {
         return CLOSED;
     };
-    let status = session_calls::perform_at_once(&mut share, &call, pass, answer, told);
+    let status = perform_calls::perform_at_once(&mut share, &call, pass, answer, told);
     session.put(share);
     status
 }
@@ -249,7 +247,7 @@ pub extern "C" fn pelgaisti_raw_session_perform_telling(
     let Some(mut share) = session.take(alloc) else {
         return CLOSED;
     };
-    let status = session_calls::perform_telling(
+    let status = perform_calls::perform_telling(
         alloc, &mut share, &call, pass, answer, list, count,
     );
     session.put(share);
@@ -325,157 +323,6 @@ pub extern "C" fn pelgaisti_raw_session_take_history(
     };
     let status = session_calls::take_history(alloc, &mut share, first, entries, count);
     session.put(share);
-    status
-}
-
-/// Writes the number of history entries that the session knows. These are the first ones.
-#[unsafe(no_mangle)]
-pub extern "C" fn pelgaisti_raw_session_seen(
-    alloc: Global,
-    session: &mut SessionPointer,
-    seen: &mut U64Pointer,
-) -> u32
-    ensures null { result ≡ NULL_POINTER ↔ ((session.old.at ≡ null_ptr) ⊎ (seen.old.at ≡ null_ptr)) }
-    ensures ok { result ≡ OK → (share : SessionShare) × (session.old.behind.held.share ≡ Some share) × (seen.new.behind ≡ number_of_calls share.session.front) }
-    ensures failed { result ≢ OK → seen.new.behind ≡ seen.old.behind }
-    ensures same { (session.new.behind.is_open ≡ session.old.behind.is_open) × (session.new.behind.held.share ≡ session.old.behind.held.share) }
-    ensures closed { result ≢ NULL_POINTER → (result ≡ CLOSED ↔ (session.old.behind.is_open ≢ 1)) }
-    ensures statuses { (result ≡ NULL_POINTER) ⊎ ((result ≡ OK) ⊎ (result ≡ CLOSED)) }
-{
-    let Some(session) = session.get() else {
-        return NULL_POINTER;
-    };
-    let Some(seen) = seen.get() else {
-        return NULL_POINTER;
-    };
-    let Some(share) = session.take(alloc) else {
-        return CLOSED;
-    };
-    *seen = share.session.seen();
-    session.put(share);
-    OK
-}
-
-/// Writes the mark of the session's office: the number that was given when it was opened.
-#[unsafe(no_mangle)]
-pub extern "C" fn pelgaisti_raw_session_mark(
-    alloc: Global,
-    session: &mut SessionPointer,
-    mark: &mut U64Pointer,
-) -> u32
-    ensures null { result ≡ NULL_POINTER ↔ ((session.old.at ≡ null_ptr) ⊎ (mark.old.at ≡ null_ptr)) }
-    ensures ok { result ≡ OK → (share : SessionShare) × (session.old.behind.held.share ≡ Some share) × (mark.new.behind ≡ share.mark) }
-    ensures failed { result ≢ OK → mark.new.behind ≡ mark.old.behind }
-    ensures same { (session.new.behind.is_open ≡ session.old.behind.is_open) × (session.new.behind.held.share ≡ session.old.behind.held.share) }
-    ensures closed { result ≢ NULL_POINTER → (result ≡ CLOSED ↔ (session.old.behind.is_open ≢ 1)) }
-    ensures statuses { (result ≡ NULL_POINTER) ⊎ ((result ≡ OK) ⊎ (result ≡ CLOSED)) }
-{
-    let Some(session) = session.get() else {
-        return NULL_POINTER;
-    };
-    let Some(mark) = mark.get() else {
-        return NULL_POINTER;
-    };
-    let Some(share) = session.take(alloc) else {
-        return CLOSED;
-    };
-    *mark = share.mark;
-    session.put(share);
-    OK
-}
-
-/// Writes the address of the waker of the session's office: the number that was given when it was opened. 0 means that there is none.
-#[unsafe(no_mangle)]
-pub extern "C" fn pelgaisti_raw_session_waker(
-    alloc: Global,
-    session: &mut SessionPointer,
-    waker: &mut u64,
-) -> u32
-    ensures null { result ≡ NULL_POINTER ↔ (session.old.at ≡ null_ptr) }
-    ensures ok { result ≡ OK → (share : SessionShare) × (session.old.behind.held.share ≡ Some share) × (waker.new ≡ share.waker) }
-    ensures failed { result ≢ OK → waker.new ≡ waker.old }
-    ensures same { (session.new.behind.is_open ≡ session.old.behind.is_open) × (session.new.behind.held.share ≡ session.old.behind.held.share) }
-    ensures closed { result ≢ NULL_POINTER → (result ≡ CLOSED ↔ (session.old.behind.is_open ≢ 1)) }
-    ensures statuses { (result ≡ NULL_POINTER) ⊎ ((result ≡ OK) ⊎ (result ≡ CLOSED)) }
-{
-    let Some(session) = session.get() else {
-        return NULL_POINTER;
-    };
-    let Some(share) = session.take(alloc) else {
-        return CLOSED;
-    };
-    *waker = share.waker;
-    session.put(share);
-    OK
-}
-
-/// Writes the sessions that the waker of the session's office is to wake after the session's last pass, from index `first` on, as many
-/// as `list` has room for, and the number of all of them to `count`. Of an office without a waker there are none.
-#[unsafe(no_mangle)]
-pub extern "C" fn pelgaisti_raw_session_told(
-    alloc: Global,
-    session: &mut SessionPointer,
-    first: usize,
-    list: &mut [u32],
-    count: &mut usize,
-) -> u32
-    ensures null { result ≡ NULL_POINTER ↔ (session.old.at ≡ null_ptr) }
-    ensures ok { result ≡ OK → (share : SessionShare) × (session.old.behind.held.share ≡ Some share)
-        × (list.new ≡ are_written (λ u. u) (drop first share.told.told.list) list.old) × (count.new ≡ length share.told.told.list) }
-    ensures failed { result ≢ OK → (list.new ≡ list.old) × (count.new ≡ count.old) }
-    ensures same { (session.new.behind.is_open ≡ session.old.behind.is_open) × (session.new.behind.held.share ≡ session.old.behind.held.share) }
-    ensures closed { result ≢ NULL_POINTER → (result ≡ CLOSED ↔ (session.old.behind.is_open ≢ 1)) }
-    ensures statuses { (result ≡ NULL_POINTER) ⊎ ((result ≡ OK) ⊎ (result ≡ CLOSED)) }
-{
-    let Some(session) = session.get() else {
-        return NULL_POINTER;
-    };
-    let Some(share) = session.take(alloc) else {
-        return CLOSED;
-    };
-    session_calls::told(&share, first, list, count);
-    session.put(share);
-    OK
-}
-
-/// Makes what `other` knows of the history known to `session`. Needs that open handles with the same mark belong to the
-/// same office.
-#[unsafe(no_mangle)]
-pub extern "C" fn pelgaisti_raw_session_hear(
-    alloc: Global,
-    session: &mut SessionPointer,
-    other: &mut SessionPointer,
-) -> u32
-    requires one_office { session.old.at ≢ null_ptr → other.old.at ≢ null_ptr → (a b : SessionShare) → session.old.behind.held.share ≡ Some a → other.old.behind.held.share ≡ Some b → a.mark ≡ b.mark → a.office.value ≡ b.office.value }
-    ensures null { result ≡ NULL_POINTER ↔ ((session.old.at ≡ null_ptr) ⊎ (other.old.at ≡ null_ptr)) }
-    ensures ok { result ≡ OK → (before after heard : SessionShare) × (session.old.behind.held.share ≡ Some before) × (session.new.behind.held.share ≡ Some after)
-        × (other.old.behind.held.share ≡ Some heard) × (before.mark ≡ heard.mark) × IsHeard before heard after }
-    ensures failed { result ≢ OK → session.new.behind.held.share ≡ session.old.behind.held.share }
-    ensures open { session.new.behind.is_open ≡ session.old.behind.is_open }
-    ensures other { (other.new.behind.is_open ≡ other.old.behind.is_open) × (other.new.behind.held.share ≡ other.old.behind.held.share) }
-    ensures closed { result ≢ NULL_POINTER → (result ≡ CLOSED ↔ ((session.old.behind.is_open ≢ 1) ⊎ (other.old.behind.is_open ≢ 1))) }
-    ensures other_office { result ≡ OTHER_OFFICE → (a b : SessionShare) × (session.old.behind.held.share ≡ Some a) × (other.old.behind.held.share ≡ Some b) × (a.mark ≢ b.mark) }
-    ensures statuses { (result ≡ NULL_POINTER) ⊎ ((result ≡ OK) ⊎ ((result ≡ CLOSED) ⊎ (result ≡ OTHER_OFFICE))) }
-{
-    let Some(session) = session.get() else {
-        return NULL_POINTER;
-    };
-    let Some(other) = other.get() else {
-        return NULL_POINTER;
-    };
-    if session.is_open != 1 || other.is_open != 1 {
-        return CLOSED;
-    }
-    let Some(mut share) = session.take(alloc) else {
-        return CLOSED;
-    };
-    let Some(mut heard) = other.take(alloc) else {
-        session.put(share);
-        return CLOSED;
-    };
-    let status = session_calls::hear(&mut share, &mut heard);
-    session.put(share);
-    other.put(heard);
     status
 }
 

@@ -1,0 +1,171 @@
+//! The account of one call: what its reply says, and what it has brought about.
+
+ghost use Rattle.std.specs.Prelude.{◌≡◌, ℕ, ◌+◌, ◌<◌, ◌++◌, List, [], ◌∷◌, None, Some, length, All, Ok, IfOk, OnOk, string_bytes};
+ghost use Rattle.lock_rules.specs.Ended.{ended_waits};
+ghost use Rattle.lock_rules.specs.Legal.{state_of};
+ghost use Rattle.lock_rules.specs.Step.{step};
+ghost use Rattle.sequential.specs.Histories.{IsEntryWithin};
+ghost use Rattle.history_commands.specs.Explaining.{IsAccount, IsAccountIfEventful, account_in, answer_in, answer_told, doom_answered, is_entry_eventful, is_poll};
+
+use command_line::Form;
+use explain_report::{explanation_dot, explanation_rows, explanation_text};
+use jam_report::{doomed_by, waits_of};
+use lock_desk::{Book, Call, Entry, NoMemory};
+use lock_explain::{Explanation, is_eventful};
+use lock_report::{Doom, answer_rows, answer_text};
+use lock_trace::piece_text;
+use std::alloc::Global;
+
+/// The account of an entry with this explanation at a place. Fails if memory is refused.
+fn account_text(
+    alloc: Global,
+    place: u64,
+    entry: &Entry,
+    explanation: &Explanation,
+    form: Form,
+) -> Result<Vec<u8>, NoMemory>
+    ensures { IfOk result (λ text. text.items ≡ account_in form place entry.now explanation.now) }
+{
+    if form == Form::Graph || form == Form::Waits {
+        let graph = explanation_dot(alloc, place, explanation)?;
+        return Ok(graph.into_bytes());
+    }
+    if form == Form::Rows {
+        let rows = explanation_rows(alloc, place, entry.session, explanation)?;
+        return Ok(rows.into_bytes());
+    }
+    let mut text = piece_text(alloc, place, &[*entry])?;
+    let lines = explanation_text(alloc, explanation)?;
+    text.extend_from_slice(lines.as_bytes())?;
+    Ok(text)
+}
+
+/// Which call made the transaction of the session a victim, `None` if it is no victim. The entries are those that `before` has
+/// served. Fails if memory is refused.
+pub fn doom_of(
+    alloc: Global,
+    before: &Book,
+    front: &[Entry],
+    session: u16,
+) -> Result<Option<Doom>, NoMemory>
+    requires within { All (IsEntryWithin before.now.sessions) front.now }
+    requires front { before.now.history ≡ front.now }
+    ensures { IfOk result (λ doom. doom ≡ doom_answered before.now.history session) }
+{
+    let Some(transaction) = before.transaction(session) else {
+        return Ok(None);
+    };
+    if !transaction.doomed {
+        return Ok(None);
+    }
+    doomed_by(alloc, before.sessions(), front, session)
+}
+
+/// What the answer to a poll of the session tells. The entries are those that `before` has served. Fails if memory is refused.
+pub fn answer_of(
+    alloc: Global,
+    before: &Book,
+    front: &[Entry],
+    session: u16,
+    place: u64,
+    form: Form,
+) -> Result<String, NoMemory>
+    requires within { All (IsEntryWithin before.now.sessions) front.now }
+    requires front { before.now.history ≡ front.now }
+    requires place { place ≡ length before.now.history }
+    ensures { IfOk result (λ text. string_bytes text ≡ answer_in form before.now.sessions before.now.history session) }
+{
+    if form == Form::Graph || form == Form::Waits {
+        return Ok(String::new(alloc));
+    }
+    let waits = waits_of(alloc, before, front, session)?;
+    let doom = doom_of(alloc, before, front, session)?;
+    if form == Form::Rows {
+        return answer_rows(alloc, place, &waits, doom);
+    }
+    answer_text(alloc, &waits, doom)
+}
+
+/// Whether the call is a poll.
+fn is_poll(call: Call) -> bool
+    ensures { result ≡ is_poll call }
+{
+    matches!(call, Call::Poll)
+}
+
+/// Appends what the answer tells, if the call is a poll. The entries are those that `before` has served. Fails if memory is
+/// refused.
+fn add_answer(
+    alloc: Global,
+    before: &Book,
+    front: &[Entry],
+    entry: &Entry,
+    place: u64,
+    form: Form,
+    text: &mut Vec<u8>,
+) -> Result<(), NoMemory>
+    requires within { All (IsEntryWithin before.now.sessions) front.now }
+    requires front { before.now.history ≡ front.now }
+    requires place { place ≡ length before.now.history }
+    ensures { OnOk result (text.new.items ≡ text.old.items ++ answer_told form before.now.sessions before.now.history entry.now) }
+{
+    if !is_poll(entry.call) {
+        return Ok(());
+    }
+    let told = answer_of(alloc, before, front, entry.session, place, form)?;
+    text.extend_from_slice(told.as_bytes())?;
+    Ok(())
+}
+
+/// The account of the entry that `after` has served and `before` hasn't, which is at this place, with what its answer tells if it
+/// is a poll. The entries are those that `before` has served. Fails if memory is refused.
+pub fn account(
+    alloc: Global,
+    before: &Book,
+    front: &[Entry],
+    entry: &Entry,
+    after: &Book,
+    place: u64,
+    form: Form,
+) -> Result<Vec<u8>, NoMemory>
+    requires within { All (IsEntryWithin before.now.sessions) front.now }
+    requires front { before.now.history ≡ front.now }
+    requires sessions { after.now.sessions ≡ before.now.sessions }
+    requires served { after.now.history ≡ before.now.history ++ entry.now ∷ [] }
+    requires place { place ≡ length before.now.history }
+    ensures { IfOk result (λ text. IsAccount form before.now.sessions before.now.history entry.now text.items) }
+{
+    let explanation = lock_explain::explain(alloc, before, entry, after)?;
+    let mut text = account_text(alloc, place, entry, &explanation, form)?;
+    add_answer(alloc, before, front, entry, place, form, &mut text)?;
+    Ok(text)
+}
+
+/// Appends the account of `entry` to `text` if the call is eventful. `before` ends just ahead of the entry, with the entries of
+/// `front`, and `after` with it. Fails if memory is refused.
+pub(crate) fn add_account_if_eventful(
+    alloc: Global,
+    before: &Book,
+    front: &[Entry],
+    entry: &Entry,
+    after: &Book,
+    place: u64,
+    form: Form,
+    text: &mut Vec<u8>,
+) -> Result<(), NoMemory>
+    requires within { All (IsEntryWithin before.now.sessions) front.now }
+    requires front { before.now.history ≡ front.now }
+    requires sessions { after.now.sessions ≡ before.now.sessions }
+    requires served { after.now.history ≡ before.now.history ++ entry.now ∷ [] }
+    requires ended { after.now.ended ≡ ended_waits before.now.sessions entry.now.session (state_of before.now.history) (step (state_of before.now.history) entry.now.session entry.now.call).state }
+    requires place { place ≡ length before.now.history }
+    ensures { OnOk result ((added : List ℕ) × (IsAccountIfEventful (is_entry_eventful before.now.sessions before.now.history entry.now) form before.now.sessions before.now.history entry.now added × (text.new.items ≡ text.old.items ++ added))) }
+{
+    let eventful = is_eventful(entry, after.ended());
+    if !eventful {
+        return Ok(());
+    }
+    let appended = account(alloc, before, front, entry, after, place, form)?;
+    text.extend_from_slice(&appended)?;
+    Ok(())
+}

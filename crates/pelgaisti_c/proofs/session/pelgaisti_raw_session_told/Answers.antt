@@ -1,5 +1,0 @@
-use Rattle.std.proofs.Common.{rules, ◌≡◌, Some}
-use Rattle.pelgaisti_c.proofs.session.pelgaisti_raw_session_told.Goals as goal
-
-pub returns-clause-ok : goal.returns-clause-ok
-returns-clause-ok c = λ _. let was : c.args.session.now.behind.held.share ≡ Some c.deref.result.now = search rules in (c.deref.result.now, was, c.told.ensures.list, c.told.ensures.count)
