@@ -18,7 +18,7 @@ use publication::Ticket as Session;
 
 /// What the passes of an office have served so far. A round of a bounded pass counts as a pass. Each number stops at the greatest u64.
 #[derive(Clone, Copy, Debug, PartialEq, Eq)]
-pub struct Passes {
+pub struct PassCounts {
     /// How many passes were made.
     pub made: u64,
     /// How many published calls they served. A combiner's own calls, which it performs without publishing them, are not among them.
@@ -70,7 +70,7 @@ pub fn gauges<O: HasBook>(office: &Office<O>, session: &mut Session<O>) -> Optio
 /// programs each program is one call. The look itself is no pass.
 ///
 /// `None` in place of an answer is as `counts` has it. No clause says what the numbers are.
-pub fn passes<O: HasBook>(office: &Office<O>, session: &mut Session<O>) -> Option<Snapshot<Passes>>
+pub fn passes<O: HasBook>(office: &Office<O>, session: &mut Session<O>) -> Option<Snapshot<PassCounts>>
     requires ours { IsSessionOf office.now session.old }
     ensures ours { IsSessionOf office.now session.new }
     ensures looked { IfSome result (λ _. HasLooked O.Sequential session.old session.new) }
@@ -79,7 +79,7 @@ pub fn passes<O: HasBook>(office: &Office<O>, session: &mut Session<O>) -> Optio
     ensures calls { HasCallsOf session.new.front session.new }
 {
     let load = office.look(session)?;
-    let found = Passes {
+    let found = PassCounts {
         made: load.passes,
         served: load.served,
         starved: load.starved,

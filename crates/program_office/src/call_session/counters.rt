@@ -12,7 +12,7 @@ use crate::Office;
 use crate::call_session::CallSession;
 use lock_desk::{Counts, Gauges};
 use lock_office::counts;
-use lock_office::counts::Passes;
+use lock_office::counts::PassCounts;
 use lock_office::queries::Snapshot;
 
 impl CallSession {
@@ -50,7 +50,7 @@ impl CallSession {
 
     /// How many passes the office's sessions have made, and what these served, as `lock_office::counts::passes` tells it: each call served is
     /// a program. `None` in place of an answer, with nothing changed, means that another session had the lock table.
-    pub fn passes(&mut self, office: &Office) -> Option<Snapshot<Passes>>
+    pub fn passes(&mut self, office: &Office) -> Option<Snapshot<PassCounts>>
         requires ours { IsSessionOf office.now self.old }
         ensures ours { IsSessionOf office.now self.new }
         ensures looked { IfSome result (λ _. HasLooked self.old self.new) }
