@@ -16,6 +16,8 @@ mod hearing;
 mod offices;
 pub mod own_office;
 #[cfg(test)]
+mod passes;
+#[cfg(test)]
 mod paths;
 #[cfg(test)]
 mod pieces;

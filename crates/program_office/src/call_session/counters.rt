@@ -1,4 +1,4 @@
-//! The counters and gauges of an open office, as a session asks for them by `lock_office::counts`.
+//! The counters and gauges of an open office and what its passes have served, as a session asks for them by `lock_office::counts`.
 
 ghost use Rattle.std.specs.Prelude.{◌≡◌, ◌<◌, IfSome, IfNone, length};
 ghost use Rattle.lock_rules.specs.Legal.{state_of};
@@ -12,6 +12,7 @@ use crate::Office;
 use crate::call_session::CallSession;
 use lock_desk::{Counts, Gauges};
 use lock_office::counts;
+use lock_office::counts::PassCounts;
 use lock_office::queries::Snapshot;
 
 impl CallSession {
@@ -43,6 +44,21 @@ impl CallSession {
         ensures calls { HasCallsOf self.new.front self.new }
     {
         let told = counts::gauges(office, &mut self.session)?;
+        self.seen = told.length;
+        Some(told)
+    }
+
+    /// How many passes the office's sessions have made, and what these served, as `lock_office::counts::passes` tells it: each call served is
+    /// a program. `None` in place of an answer, with nothing changed, means that another session had the lock table.
+    pub fn passes(&mut self, office: &Office) -> Option<Snapshot<PassCounts>>
+        requires ours { IsSessionOf office.now self.old }
+        ensures ours { IsSessionOf office.now self.new }
+        ensures looked { IfSome result (λ _. HasLooked self.old self.new) }
+        ensures length { IfSome result (λ seen. seen.length ≡ length (flat_history self.new.front)) }
+        ensures none { IfNone result ((self.new ≡ self.old) × (1 < office.now.sessions)) }
+        ensures calls { HasCallsOf self.new.front self.new }
+    {
+        let told = counts::passes(office, &mut self.session)?;
         self.seen = told.length;
         Some(told)
     }
