@@ -8,12 +8,12 @@ use Rattle.glm.proofs.commands.perform.Goals as goal
 pub returns-in-Replay : goal.returns-in-Replay
 returns-in-Replay c c' =
     λ words asked. c'.replayed.ensures words
-        (let is : c'.args.command ≡ request.Replay c'.in-Replay.sessions c'.in-Replay.delivery = search rules in subst (λ (r : CommandRequest). Ask words r) is asked)
+    (let is : c'.args.command ≡ request.Replay c'.in-Replay.sessions c'.in-Replay.delivery = search rules in subst (λ (r : CommandRequest). Ask words r) is asked)
 
 pub returns-in-Run : goal.returns-in-Run
 returns-in-Run c c' =
     λ words asked. c'.run_on_threads.ensures words
-        (let is : c'.args.command ≡ request.Run c'.in-Run.sessions c'.in-Run.turns c'.in-Run.delivery = search rules in subst (λ (r : CommandRequest). Ask words r) is asked)
+    (let is : c'.args.command ≡ request.Run c'.in-Run.sessions c'.in-Run.turns c'.in-Run.delivery = search rules in subst (λ (r : CommandRequest). Ask words r) is asked)
 
 pub returns-in-Check : goal.returns-in-Check
 returns-in-Check c c' =
