@@ -1,3 +1,8 @@
+use Rattle.std.proofs.Common.{rules, subst, ◌≡◌}
+use Rattle.command_line.specs.declared.args.Delivery.{Delivery}
+use Rattle.command_line.specs.declared.args.Delivery.TheVariants as delivery
+use Rattle.command_line.specs.declared.args.CommandRequest.TheVariants as request
+use Rattle.command_line.specs.CommandLine.{Ask}
 use Rattle.glm.proofs.commands.replayed.Goals as goal
 
 -- the words ask for this delivery, and the outcome has what the replay's contract ensures
@@ -6,7 +11,7 @@ returns-in-Whole c c' =
     let done = c'.replay.ensures in
     λ words asked. record {
       sessions = c'.args.sessions;
-      asked = asked;
+      asked = (let is : c'.args.delivery ≡ delivery.Whole = search rules in subst (λ (d : Delivery). Ask words (request.Replay c'.args.sessions d)) is asked);
       kept = done.kept;
       part = done.part;
       served = done.served;
@@ -19,7 +24,7 @@ returns-in-InPieces c c' =
     let done = c'.replay_in_pieces.ensures in
     λ words asked. record {
       sessions = c'.args.sessions;
-      asked = asked;
+      asked = (let is : c'.args.delivery ≡ delivery.InPieces = search rules in subst (λ (d : Delivery). Ask words (request.Replay c'.args.sessions d)) is asked);
       kept = done.kept;
       front = done.front;
       part = done.part;

@@ -1,3 +1,8 @@
+use Rattle.std.proofs.Common.{rules, subst, ◌≡◌}
+use Rattle.command_line.specs.declared.args.Delivery.{Delivery}
+use Rattle.command_line.specs.declared.args.Delivery.TheVariants as delivery
+use Rattle.command_line.specs.declared.args.CommandRequest.TheVariants as request
+use Rattle.command_line.specs.CommandLine.{Ask}
 use Rattle.glm.proofs.commands.run_on_threads.Goals as goal
 
 -- the words ask for this delivery, and the outcome has what the run's contract ensures
@@ -7,7 +12,7 @@ returns-in-Whole c c' =
     λ words asked. record {
       sessions = c'.args.sessions;
       turns = c'.args.turns;
-      asked = asked;
+      asked = (let is : c'.args.delivery ≡ delivery.Whole = search rules in subst (λ (d : Delivery). Ask words (request.Run c'.args.sessions c'.args.turns d)) is asked);
       kept = done.kept;
       part = done.part;
       performed = done.performed;
@@ -20,7 +25,7 @@ returns-in-InPieces c c' =
     λ words asked. record {
       sessions = c'.args.sessions;
       turns = c'.args.turns;
-      asked = asked;
+      asked = (let is : c'.args.delivery ≡ delivery.InPieces = search rules in subst (λ (d : Delivery). Ask words (request.Run c'.args.sessions c'.args.turns d)) is asked);
       kept = done.kept;
       front = done.front;
       part = done.part;
