@@ -1,7 +1,7 @@
 -- The counters of a legal history belong together.
 use Rattle.std.proofs.Common.{◌≡◌, ℕ, zero, suc, ◌+◌, ◌≤◌, Bool, true, false, cond, not, eqb, ◌&&◌, inl, inr, List, [], ◌∷◌, ◌++◌, length, Option, Some, None, is_some, filter, refl, sym, ◌∙◌, ap, subst, arith, length-append, append-nil}
 use Rattle.std.proofs.lemmas.Bool.Decides.{Decides-eqb}
-use Rattle.std.proofs.lemmas.Bool.{cases_Bool, not-false}
+use Rattle.std.proofs.lemmas.Bool.{cases_Bool, not-false, and_right}
 use Rattle.lock_modes.specs.declared.Mode.{Mode}
 use Rattle.sequential.proofs.Members.{Member}
 use Rattle.lock_rules.specs.declared.calls.Call.{Call}
@@ -28,7 +28,7 @@ use Rattle.lock_rules.proofs.Idle.{state-idle}
 use Rattle.lock_counts.specs.Counts.{one_if, count_if, total_from, is_op, is_kind, is_request, requests, begins_wait, granted_by, victims_of, gives_up, deadlocks}
 use Rattle.lock_counts.specs.Balance.{AreRequestsAnswered, DoWaitsEndOnce, AreCountsBounded}
 use Rattle.lock_counts.proofs.Counting.{one_if-le, count-le-length, count-append, count-splits, count-alike, count-none, count-filtered, total-le}
-use Rattle.lock_counts.proofs.Thinned.{IsThinned, thin-same, thin-but, thin-front, thin-cancel, thin-end, thin-victims, waits-thinned, cancelled-waits-not, member-waits, times-count, and-false}
+use Rattle.lock_counts.proofs.Thinned.{IsThinned, thin-same, thin-but, thin-front, thin-cancel, thin-end, thin-victims, waits-thinned, cancelled-waits-not, member-waits, times-count}
 
 -- one call: how many waited before it, and how many after it
 
@@ -113,7 +113,7 @@ module _ (s : ℕ) (before after : State) (more : List Claim) where
         | inl y ↦ ap (λ (b : Bool). b && not (is_waiting after q.session)) y
             ∙ ap (λ (u : ℕ). not (is_waiting after u)) ((Decides-eqb q.session s).0 y) ∙ ap not e
         | inr n ↦ ap (λ (b : Bool). b && not (is_waiting after q.session)) n
-      ]) ∙ ap one_if (sym (and-false (is_some (request_of s there)) false refl))
+      ]) ∙ ap one_if (sym (and_right (is_some (request_of s there)) false refl))
       go false e =
           count-alike own (λ (q : Claim). eqb q.session s) there (λ q k. elim (cases_Bool (eqb q.session s)) [
             | inl y ↦ ap (λ (b : Bool). b && not (is_waiting after q.session)) y

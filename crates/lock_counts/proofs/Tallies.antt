@@ -1,6 +1,6 @@
 -- A tally has counted a history, and counts one call more.
 use Rattle.std.proofs.Common.{◌≡◌, ℕ, zero, suc, ◌+◌, ◌*◌, ◌<◌, ◌≤◌, ◌%◌, ◌^◌, Bool, true, false, cond, not, eqb, ltb, ◌&&◌, ◌||◌, inl, inr, List, [], ◌∷◌, ◌++◌, length, get_or, set, replicate, refl, sym, ◌∙◌, ap, arith, length-append, mod-eq_of_lt}
-use Rattle.std.proofs.lemmas.Bool.{cases_Bool}
+use Rattle.std.proofs.lemmas.Bool.{cases_Bool, and_right}
 use Rattle.std.proofs.lemmas.Bool.Decides.{Decides-eqb, Decides-ltb}
 use Rattle.std.proofs.lemmas.List.{get_or-set_same, get_or-set_other}
 use Rattle.lock_rules.specs.declared.calls.Call.{Call}
@@ -297,8 +297,4 @@ not-below k false e = e
 
 -- no numbers
 pub called-none : (o : Op) (h : List Entry) → 0 ≡ count_if (below o 0) h
-called-none o h = sym (count-none (below o 0) h (λ e k. none (is_op o e) (ltb (number_of_kind (kind_of_reply e.reply)) 0) (not-below (number_of_kind (kind_of_reply e.reply)) (ltb (number_of_kind (kind_of_reply e.reply)) 0) refl)))
-  where
-    none : (a b : Bool) → b ≡ false → (a && b) ≡ false
-    none true b e = e
-    none false b e = refl
+called-none o h = sym (count-none (below o 0) h (λ e k. and_right (is_op o e) (ltb (number_of_kind (kind_of_reply e.reply)) 0) (not-below (number_of_kind (kind_of_reply e.reply)) (ltb (number_of_kind (kind_of_reply e.reply)) 0) refl)))

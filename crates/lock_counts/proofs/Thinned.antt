@@ -1,7 +1,7 @@
 -- What calls do to the waiting requests: they add one at most, and otherwise leave those of some sessions out.
 use Rattle.std.proofs.Common.{◌≡◌, ℕ, zero, suc, ◌+◌, Bool, true, false, cond, not, eqb, ◌&&◌, inl, inr, List, [], ◌∷◌, ◌++◌, map, Option, Some, is_some, filter, refl, sym, ◌∙◌, ap, arith}
 use Rattle.std.proofs.lemmas.Bool.Decides.{Decides-eqb}
-use Rattle.std.proofs.lemmas.Bool.{cases_Bool}
+use Rattle.std.proofs.lemmas.Bool.{cases_Bool, and_right}
 use Rattle.sequential.proofs.Members.{Member}
 use Rattle.lock_rules.specs.State.{Claim, Table, State, request_of, claims_of, claims_but}
 use Rattle.lock_rules.specs.Queue.{queue, fits, after_grant, granted_while_fitting, after_promotion, after_promotions}
@@ -89,11 +89,6 @@ thin-victims (suc n) s st = go (reaches st.table s s)
 
 -- who waits
 
--- a conjunction with a false right side
-pub and-false : (a b : Bool) → b ≡ false → (a && b) ≡ false
-and-false true b e = e
-and-false false b e = refl
-
 -- a session waits after requests were left out exactly if it waited before and its own was kept
 pub waits-thinned : (u : ℕ) (keeps : ℕ → Bool) (qs : List Claim) → is_some (request_of u (filter (λ (q : Claim). keeps q.session) qs)) ≡ (is_some (request_of u qs) && keeps u)
 waits-thinned u keeps [] = refl
@@ -112,8 +107,8 @@ waits-thinned u keeps (q ∷ qs) = elim (cases_Bool (eqb q.session u)) [
         → is_some (request_of u (cond k (q ∷ rest) rest)) ≡ (is_some (request_of u (q ∷ qs)) && keeps u)
     own y true f e = first true y rest ∙ f ∙ sym (ap (λ (b : Bool). b && keeps u) (first true y qs))
     own y false f e =
-        e ∙ and-false (is_some (request_of u qs)) (keeps u) (sym f)
-        ∙ sym (and-false (is_some (request_of u (q ∷ qs))) (keeps u) (sym f))
+        e ∙ and_right (is_some (request_of u qs)) (keeps u) (sym f)
+        ∙ sym (and_right (is_some (request_of u (q ∷ qs))) (keeps u) (sym f))
 
     another : eqb q.session u ≡ false → (k : Bool) → is_some (request_of u rest) ≡ (is_some (request_of u qs) && keeps u)
         → is_some (request_of u (cond k (q ∷ rest) rest)) ≡ (is_some (request_of u (q ∷ qs)) && keeps u)

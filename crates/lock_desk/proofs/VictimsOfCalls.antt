@@ -1,7 +1,7 @@
 -- The victims that are counted are those of the history.
 use Rattle.std.proofs.Common.{◌≡◌, ℕ, zero, suc, ◌+◌, ◌<◌, ◌≤◌, Bool, true, false, cond, not, eqb, ◌&&◌, inl, inr, List, [], ◌∷◌, ◌++◌, length, map, Option, Some, None, is_some, length-append, append_assoc, ◌⊎◌, refl, sym, ◌∙◌, ap, subst, arith}
 use Rattle.std.proofs.lemmas.Bool.Decides.{Decides-eqb}
-use Rattle.std.proofs.lemmas.Bool.{cases_Bool, true≢false, not-false}
+use Rattle.std.proofs.lemmas.Bool.{cases_Bool, true≢false, not-false, and_right}
 use Rattle.lock_modes.specs.declared.Mode.{Mode}
 use Rattle.sequential.proofs.Members.{Member}
 use Rattle.lock_rules.specs.declared.calls.Call.{Call}
@@ -31,7 +31,7 @@ use Rattle.lock_rules.proofs.Owners.{state-numbered}
 use Rattle.lock_rules.proofs.Idle.{state-idle}
 use Rattle.lock_counts.specs.Counts.{one_if, count_if, total_from, is_kind, is_request, dooms_itself, doomed_by, victims_of, waits_doomed, deadlocks}
 use Rattle.lock_counts.proofs.Counting.{count-append, count-splits, count-alike, count-none}
-use Rattle.lock_counts.proofs.Thinned.{IsThinned, thin-same, thin-then, thin-cancel, thinned-waits-not, cancelled-waits-not, member-waits, times-count, and-false}
+use Rattle.lock_counts.proofs.Thinned.{IsThinned, thin-same, thin-then, thin-cancel, thinned-waits-not, cancelled-waits-not, member-waits, times-count}
 use Rattle.lock_desk.specs.Deadlocks.{Moment, deadlocked_states, deadlocks_of_request, deadlocks_unless_refused, deadlocks_of, moments_at, deadlocks_from, deadlocks_in}
 use Rattle.lock_desk.specs.inner.Counting.{closings}
 
@@ -138,7 +138,7 @@ module _ (st : State) (calm : DoDoomedWaitForNothing st) (s : ℕ) where
     where
       go : (u : ℕ) → is_waiting st u ≡ true → (b : Bool) → eqb u s ≡ b → (has_ended s st after u && is_doomed after u) ≡ false
       go u w true e = ap (λ (b : Bool). (not b && (is_waiting st u && not (is_waiting after u))) && is_doomed after u) e
-      go u w false e = and-false (has_ended s st after u) (is_doomed after u) (same u e ∙ waiter-calm u w)
+      go u w false e = and_right (has_ended s st after u) (is_doomed after u) (same u e ∙ waiter-calm u w)
 
   -- a call that requests no lock, and dooms nobody
   plain : (c : Call) (reply : Reply) (after : State) → is_request (record { session = s; call = c; reply = reply }) ≡ false → ((u : ℕ) → eqb u s ≡ false → is_doomed after u ≡ is_doomed st u)
@@ -233,7 +233,7 @@ module _ (st : State) (i : IsSound st.table) (calm : DoDoomedWaitForNothing st) 
           (λ q j. go q.session (member-waits q st.table.requests j) (is_doomed after q.session) refl)
         where
           go : (u : ℕ) → is_waiting st u ≡ true → (d : Bool) → is_doomed after u ≡ d → ((not (eqb u s) && (is_waiting st u && not (is_waiting after u))) && is_doomed after u) ≡ is_doomed after u
-          go u w false e = and-false (has_ended s st after u) (is_doomed after u) e ∙ sym e
+          go u w false e = and_right (has_ended s st after u) (is_doomed after u) e ∙ sym e
           go u w true e =
               let gone : is_waiting after u ≡ false = ap (λ (o : Option Claim). is_some o) (quiet u e) in
               let apart : eqb u s ≡ false = other s u (λ f. true≢false (sym w ∙ (ap (λ (y : ℕ). is_waiting st y) f ∙ free))) in

@@ -1,4 +1,4 @@
--- Internal to this crate, cited by no public contract: the holders of one resource, and where a session is among them.
+-- The holders of one resource, and where a session is among them.
 use Rattle.std.specs.Prelude.{◌≡◌, ℕ, ◌<◌, ◌≤◌, List, length, slice_index_or}
 use Rattle.lock_holders.specs.declared.session_mode.SessionMode.{SessionMode}
 use Rattle.lock_holders.specs.declared.holder_columns.HolderPlace.{HolderPlace}

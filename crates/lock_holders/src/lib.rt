@@ -1,4 +1,4 @@
-//! The holders of one resource, each with its mode.
+//! The holders of one resource, each with its mode, by session number.
 //!
 //! [`Holders`] keeps a single holder by itself, and several in two columns, session numbers beside mode codes, so that one
 //! mask tests a request against all of them (`holder_columns.rt`). [`HolderPlace`] is where a session is among them.

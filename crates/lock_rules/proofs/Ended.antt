@@ -1,7 +1,7 @@
 -- Whose wait a call has ended.
 use Rattle.std.proofs.Common.{◌≡◌, ◌≢◌, ℕ, zero, suc, ◌+◌, ◌<◌, ◌≤◌, ◌↔◌, Bool, true, false, cond, not, eqb, ◌&&◌, ◌⊎◌, inl, inr, List, [], ◌∷◌, ◌++◌, length, Option, Some, None, is_some, filter, refl, sym, ◌∙◌, ap, arith, subst, length-append}
 use Rattle.std.specs.List.{range_with_len}
-use Rattle.std.proofs.lemmas.Bool.{and_parts, and_from, cases_Bool}
+use Rattle.std.proofs.lemmas.Bool.{and_parts, and_from, not-true, cases_Bool}
 use Rattle.std.proofs.lemmas.Bool.Decides.{Decides-eqb}
 use Rattle.std.proofs.lemmas.List.FromFn.{length-range_with_len, get_or-range_with_len}
 use Rattle.std.proofs.lemmas.List.Kept.{IsStrictlyIncreasing-filter}
@@ -172,10 +172,6 @@ ended-decides s before after u = (there, back_)
     gone : (o : Option Claim) → not (is_some o) ≡ true → o ≡ None
     gone None e = refl
     gone (Some q) e = absurd (cc)
-
-    not-true : (b : Bool) → not b ≡ true → b ≡ false
-    not-true true e = absurd (cc)
-    not-true false e = refl
 
     there : has_ended s before after u ≡ true → HasEnded s before after u
     there h =
