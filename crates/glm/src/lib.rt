@@ -1,7 +1,7 @@
 //! The tool `glm`: replays, runs and checks traces of lock calls, shows states, explains and counts calls, with its command
 //! line.
 //!
-//! `commands.rt` is the whole program except its streams, and `outcomes.rt` has statuses and messages. The command line is
+//! `commands.rt` is the whole program except its streams, `verdicts.rt` what `check` writes, and `outcomes.rt` has statuses and messages. The command line is
 //! `command_line`'s, `replay` is of `replay_commands`, `run` of `run_commands`, `check`, `show`, `explain` and `timeline` are of
 //! `history_commands`, `show --state` is of `dump_command`, `stats` of `stats_command`. `row_comments` skips comments, and `file_streams` opens and writes files.
 //! `hints.rt` writes the hints of `row_hints`, and `wrong_replies.rt` finds the wrong reply that they tell of.

@@ -2,7 +2,7 @@
 //!
 //! `checking.rt` compares each reply with a fresh lock table's, and `checking_by_row.rt` does so as rows are read; `finding.rt` has
 //! what they find. `showing.rt` shows the state of the lock table at a place of the
-//! history, `explaining.rt` what calls did and why, `drawing.rt` draws the history. `show_fault.rt` has the faults of these three.
+//! history, `explaining.rt` what calls did and why (`accounts.rt`: one of them), `drawing.rt` draws the history. `show_fault.rt` has the faults of these three.
 //!
 //! Proved: the verdict, and what is written, for every input, also after a fault; but of a picture only that it is written of a legal
 //! history, and else the verdict.
