@@ -70,7 +70,10 @@ pub fn gauges<O: HasBook>(office: &Office<O>, session: &mut Session<O>) -> Optio
 /// programs each program is one call. The look itself is no pass.
 ///
 /// `None` in place of an answer is as `counts` has it. No clause says what the numbers are.
-pub fn passes<O: HasBook>(office: &Office<O>, session: &mut Session<O>) -> Option<Snapshot<PassCounts>>
+pub fn passes<O: HasBook>(
+    office: &Office<O>,
+    session: &mut Session<O>,
+) -> Option<Snapshot<PassCounts>>
     requires ours { IsSessionOf office.now session.old }
     ensures ours { IsSessionOf office.now session.new }
     ensures looked { IfSome result (λ _. HasLooked O.Sequential session.old session.new) }
