@@ -3,9 +3,9 @@
 //!
 //! Sessions publish, serve and collect by the calls of `combining`. `opening.rt` opens an office that lets go of its history,
 //! `paths.rt` locks a path in one taking of the lock table, `queries.rt` has questions that a session asks of the lock table meanwhile,
-//! of any object with a book (`has_book.rt`), `pages.rt` tells the locks of one session by pages, `counts.rt` the counters, `dump.rt` copies
-//! its locks, requests and transactions of one moment, `memory.rt` makes room in the table and gives memory back, and `laws.rt` says what
-//! holds of locks.
+//! of any object with a book (`has_book.rt`), `pages.rt` tells the locks of one session by pages, `counts.rt` the counters, the gauges and
+//! the passes, `dump.rt` copies its locks, requests and transactions of one moment, `memory.rt` makes room in the table and gives memory
+//! back, and `laws.rt` says what holds of locks.
 //!
 //! Proved, beside what `combining` proves of any object: each reply is the one that the sequential lock manager gives at its
 //! place, no two transactions ever have incompatible access to a resource, no waits form a circle, and no wake-up is lost

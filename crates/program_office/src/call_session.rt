@@ -2,7 +2,8 @@
 //!
 //! Its single calls are those of `combining`, in its files `performing.rt`, `turning.rt`, `calling.rt` and `looking.rt`, and are answered with
 //! the place of the call in the history of calls, and the reply. `running.rt` makes a whole program, turn by turn. `descending.rt` goes down a
-//! path, by a program of several calls. `dumping.rt` copies the lock table. `sleeping.rt` is for callers whose threads park by themselves.
+//! path, by a program of several calls. `dumping.rt` copies the lock table, `counters.rt` tells its counters, its gauges and the office's
+//! passes. `bounding.rt` makes a bounded pass. `sleeping.rt` is for callers whose threads park by themselves.
 //!
 //! What is pending may be a program of several calls. A call that takes its answer as that of a single call tells the last reply and its place.
 
