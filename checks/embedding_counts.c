@@ -170,6 +170,28 @@ static void must_have_moved(const counters *old, const counters *new, size_t row
     }
 }
 
+/* The passes of two sessions: one that serves nothing, one that serves what the other has published, and a whole call at once, whose pass
+   finds nothing. */
+static void count_passes(void) {
+    static const pelgaisti_call begin = {PELGAISTI_BEGIN, 0, {0, {0}}};
+    pelgaisti_session two[2] = {PELGAISTI_EMPTY, PELGAISTI_EMPTY};
+    pelgaisti_pass_counts passes = {99, 99, 99};
+    pelgaisti_book book = PELGAISTI_EMPTY;
+    pelgaisti_answer answer;
+    uint64_t seen = 99;
+    MUST(pelgaisti_session_passes(&two[0], &passes, &seen) == PELGAISTI_CLOSED && passes.made == 99 && seen == 99);
+    MUST(pelgaisti_office_open(two, 2) == PELGAISTI_OK);
+    MUST(pelgaisti_session_passes(&two[0], NULL, &seen) == PELGAISTI_NULL && pelgaisti_session_passes(&two[0], &passes, NULL) == PELGAISTI_NULL);
+    MUST(pelgaisti_session_passes(&two[0], &passes, &seen) == PELGAISTI_OK && passes.made == 0 && passes.served == 0 && passes.starved == 0 && seen == 0);
+    MUST(pelgaisti_session_serve(&two[0], NULL) == PELGAISTI_OK && pelgaisti_session_publish(&two[1], &begin, NULL) == PELGAISTI_OK);
+    MUST(pelgaisti_session_serve(&two[0], NULL) == PELGAISTI_OK && pelgaisti_session_collect(&two[1], &answer) == PELGAISTI_OK);
+    MUST(pelgaisti_session_passes(&two[1], &passes, &seen) == PELGAISTI_OK && passes.made == 2 && passes.served == 1 && passes.starved == 0 && seen == 1);
+    MUST(pelgaisti_session_perform(&two[0], &begin, UINT64_MAX, &answer) == PELGAISTI_OK);
+    MUST(pelgaisti_session_passes(&two[1], &passes, &seen) == PELGAISTI_OK && passes.made == 3 && passes.served == 1 && passes.starved == 0 && seen == 2);
+    MUST(pelgaisti_session_hand_in(&two[1], &two[0]) == PELGAISTI_OK && pelgaisti_office_close(&two[0], &book) == PELGAISTI_OK);
+    MUST(pelgaisti_book_close(&book) == PELGAISTI_OK);
+}
+
 static void count_by_hand(void) {
     static pelgaisti_session sessions[4];
     pelgaisti_book book = PELGAISTI_EMPTY, closed = PELGAISTI_EMPTY;
@@ -186,6 +208,7 @@ static void count_by_hand(void) {
     MUST(pelgaisti_book_counts(&book, NULL) == PELGAISTI_NULL && pelgaisti_session_counts(&sessions[0], NULL, &seen) == PELGAISTI_NULL);
     MUST(pelgaisti_book_gauges(&book, NULL) == PELGAISTI_NULL && pelgaisti_session_gauges(&sessions[0], NULL, &seen) == PELGAISTI_NULL);
     MUST(pelgaisti_session_counts(&sessions[0], &of_book.of, NULL) == PELGAISTI_NULL && seen == 99);
+    count_passes();
     of_office = counts_of_office(&sessions[0], &seen);
     MUST(seen == 0 && !memcmp(&of_book, &of_office, sizeof of_book));
     for (size_t row = 0; row < COUNT(made_by_hand); row++) {

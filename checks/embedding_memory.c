@@ -18,7 +18,7 @@ static pelgaisti_pass unwritten;
 static pelgaisti_answer unanswered = {99, {77, 88}};
 
 /* What a session's questions, and its calls on the memory of the lock table, return at that allocation. */
-enum { QUESTIONS = 16 };
+enum { QUESTIONS = 17 };
 static uint32_t asked[QUESTIONS], unasked = 99;
 static uint64_t unseen = 99;
 static const pelgaisti_call begin = {PELGAISTI_BEGIN, 0, {0, {0}}};
@@ -33,6 +33,7 @@ static void ask_each(pelgaisti_session *session) {
     pelgaisti_member member;
     pelgaisti_counts counts;
     pelgaisti_gauges gauges;
+    pelgaisti_pass_counts passes;
     size_t unlisted = 99;
     asked[0] = pelgaisti_session_held(session, 1, &place, &unasked, &unseen);
     asked[1] = pelgaisti_session_transaction(session, 1, &open, &unseen);
@@ -51,6 +52,7 @@ static void ask_each(pelgaisti_session *session) {
     asked[13] = pelgaisti_session_dump(session, &claim, 1, &uncounted, &unseen);
     asked[14] = pelgaisti_session_counts(session, &counts, &unseen);
     asked[15] = pelgaisti_session_gauges(session, &gauges, &unseen);
+    asked[16] = pelgaisti_session_passes(session, &passes, &unseen);
 }
 
 /* At the next allocation, `meanwhile` tries to serve and `other` to perform a call and to ask, once. */

@@ -57,7 +57,7 @@ static const struct {
     {ANY(book_holders), "pplrp"}, {ANY(book_waits_for), "pnnp"}, {ANY(book_blockers), "pnlrp"}, {ANY(book_transaction), "pnp"},
     {ANY(book_request), "pnp"}, {ANY(book_locks), "pnlrp"}, {ANY(book_ended), "plrp"}, {ANY(book_length), "pp"},
     {ANY(book_locks_held), "pnp"}, {ANY(book_locks_of), "pnplrp"}, {ANY(session_locks_held), "pnpp"}, {ANY(session_locks_of), "pnplrpp"},
-    {ANY(book_dump), "plrpp"}, {ANY(session_dump), "plrpp"}, {ANY(book_counts), "pp"}, {ANY(session_counts), "ppp"}, {ANY(book_gauges), "pp"}, {ANY(session_gauges), "ppp"},
+    {ANY(book_dump), "plrpp"}, {ANY(session_dump), "plrpp"}, {ANY(book_counts), "pp"}, {ANY(session_counts), "ppp"}, {ANY(book_gauges), "pp"}, {ANY(session_gauges), "ppp"}, {ANY(session_passes), "ppp"},
     {ANY(book_history), "pnlrp"}, {ANY(book_first_kept), "pp"}, {ANY(book_keep_at_most), "pn"}, {ANY(book_take_history), "pplrp"},
     {ANY(book_lock_path), "pnpnpplrp"}, {ANY(book_run), "pnpplrp"}, {ANY(office_open), "pn"}, {ANY(office_open_keeping), "pnn"}, {ANY(office_open_waking), "pnnp"},
     {ANY(session_publish), "ppo"}, {ANY(session_serve), "po"}, {ANY(session_serve_telling), "polrp"},

@@ -96,6 +96,7 @@ static void of_an_office(void) {
     pelgaisti_claim waiting, locks[1];
     pelgaisti_counts counts;
     pelgaisti_gauges gauges;
+    pelgaisti_pass_counts passes;
     pelgaisti_deadlock deadlocks[1];
     pelgaisti_member members[1];
     uint32_t mode, edge, posted, level = 0, blockers[1], told[2];
@@ -124,6 +125,7 @@ static void of_an_office(void) {
     WRITES_3(locks, count, seen, pelgaisti_session_dump(&sessions[0], locks, 1, &count, &seen));
     WRITES_2(counts, seen, pelgaisti_session_counts(&sessions[0], &counts, &seen));
     WRITES_2(gauges, seen, pelgaisti_session_gauges(&sessions[0], &gauges, &seen));
+    WRITES_2(passes, seen, pelgaisti_session_passes(&sessions[0], &passes, &seen));
     WRITES_1(seen, pelgaisti_session_reserve(&sessions[0], 1, 1, &seen));
     WRITES_1(seen, pelgaisti_session_shrink(&sessions[0], &seen));
     WRITES_2(count, seen, pelgaisti_session_idle_cells(&sessions[0], &count, &seen));

@@ -365,6 +365,14 @@ typedef struct pelgaisti_gauges {
     uint64_t longest_queue; /* the most requests that wait for one resource */
 } pelgaisti_gauges;
 
+/* What the passes of an office have served since it was opened. In a pass a session that has the lock table serves the calls that others
+   have published. */
+typedef struct pelgaisti_pass_counts {
+    uint64_t made;    /* the passes */
+    uint64_t served;  /* the published calls and programs that they served; what a session performs at once isn't among them */
+    uint64_t starved; /* the passes that put calls back, because memory was refused */
+} pelgaisti_pass_counts;
+
 /* The handle of a lock table and its history. */
 typedef struct pelgaisti_book {
     uint32_t is_open_;
@@ -437,6 +445,7 @@ PELGAISTI_ASSERT_(program, sizeof(pelgaisti_program) == 44 && offsetof(pelgaisti
 PELGAISTI_ASSERT_(program_answer, sizeof(pelgaisti_program_answer) == 136 && offsetof(pelgaisti_program_answer, replies) == 24);
 PELGAISTI_ASSERT_(counts, sizeof(pelgaisti_counts) == 280 && offsetof(pelgaisti_counts, refusals) == 88);
 PELGAISTI_ASSERT_(gauges, sizeof(pelgaisti_gauges) == 32 && offsetof(pelgaisti_gauges, longest_queue) == 24);
+PELGAISTI_ASSERT_(pass_counts, sizeof(pelgaisti_pass_counts) == 24 && offsetof(pelgaisti_pass_counts, starved) == 16);
 PELGAISTI_ASSERT_(counts_fields, offsetof(pelgaisti_counts, requests) == 192 && offsetof(pelgaisti_counts, deadlocks) == 272);
 PELGAISTI_ASSERT_(book, sizeof(pelgaisti_book) == 16 && offsetof(pelgaisti_book, at_) == 8);
 PELGAISTI_ASSERT_(session, sizeof(pelgaisti_session) == 16 && offsetof(pelgaisti_session, at_) == 8);
@@ -896,6 +905,11 @@ pelgaisti_status pelgaisti_session_counts(pelgaisti_session *session, pelgaisti_
    cost grows with the sessions of the office, and for each that waits with its queue.
    NULL, CLOSED, ELSEWHERE. */
 pelgaisti_status pelgaisti_session_gauges(pelgaisti_session *session, pelgaisti_gauges *gauges, uint64_t *seen);
+
+/* Writes what the passes of the office have served, at the moment behind the first `seen` calls of the history. `served` by `made` is calls
+   a pass. The numbers only grow, up to UINT64_MAX. The cost is that of one try for the lock table.
+   NULL, CLOSED, ELSEWHERE. */
+pelgaisti_status pelgaisti_session_passes(pelgaisti_session *session, pelgaisti_pass_counts *passes, uint64_t *seen);
 
 /* ---- Memory of the lock table of an open office. Each of these calls tries once to take the lock table, and writes `seen`, as the
    questions do; and as with a book, nothing changes that another call tells. While it works, no other session can take the lock table.

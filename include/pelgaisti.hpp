@@ -420,6 +420,10 @@ public:
     std::optional<seen<pelgaisti_gauges>> gauges() {
         return asked<pelgaisti_gauges>([&](auto *made, auto *n) { return pelgaisti_session_gauges(&handle_, made, n); });
     }
+    // What the passes of the office have served up to that moment, or nothing if another session has the table.
+    std::optional<seen<pelgaisti_pass_counts>> passes() {
+        return asked<pelgaisti_pass_counts>([&](auto *made, auto *n) { return pelgaisti_session_passes(&handle_, made, n); });
+    }
     // What a book's do with the memory of the lock table, each by one try for it; how many calls the history had, or nothing if another
     // session has the table.
     std::optional<uint64_t> reserve(size_t resources, size_t entries) {

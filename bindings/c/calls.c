@@ -559,6 +559,10 @@ pelgaisti_status pelgaisti_session_gauges(pelgaisti_session *session, pelgaisti_
     return WRITING(gauges, WRITING(seen, HOLDING(session, pelgaisti_raw_session_gauges(&session, &gauges, &seen))));
 }
 
+pelgaisti_status pelgaisti_session_passes(pelgaisti_session *session, pelgaisti_pass_counts *passes, uint64_t *seen) {
+    return WRITING(passes, WRITING(seen, HOLDING(session, pelgaisti_raw_session_passes(&session, &passes, &seen))));
+}
+
 pelgaisti_status pelgaisti_session_reserve(pelgaisti_session *session, size_t resources, size_t entries, uint64_t *seen) {
     return WRITING(seen, HOLDING(session, pelgaisti_raw_session_reserve(&session, resources, entries, &seen)));
 }

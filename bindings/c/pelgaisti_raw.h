@@ -115,6 +115,7 @@ uint32_t pelgaisti_raw_session_locks_of(pelgaisti_session **session, uint32_t wh
 uint32_t pelgaisti_raw_session_dump(pelgaisti_session **session, pelgaisti_raw_list *rows, size_t **count, uint64_t **seen);
 uint32_t pelgaisti_raw_session_counts(pelgaisti_session **session, pelgaisti_counts **counts, uint64_t **seen);
 uint32_t pelgaisti_raw_session_gauges(pelgaisti_session **session, pelgaisti_gauges **gauges, uint64_t **seen);
+uint32_t pelgaisti_raw_session_passes(pelgaisti_session **session, pelgaisti_pass_counts **passes, uint64_t **seen);
 uint32_t pelgaisti_raw_session_reserve(pelgaisti_session **session, size_t resources, size_t entries, uint64_t **seen);
 uint32_t pelgaisti_raw_session_shrink(pelgaisti_session **session, uint64_t **seen);
 uint32_t pelgaisti_raw_session_idle_cells(pelgaisti_session **session, size_t **cells, uint64_t **seen);

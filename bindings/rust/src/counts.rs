@@ -3,7 +3,7 @@
 use crate::book::Book;
 use crate::calls::Refusal;
 use crate::error::{done, Error};
-use crate::ffi::{self, Gauges, RawCounts, WHY_NUMBERS};
+use crate::ffi::{self, Gauges, PassCounts, RawCounts, WHY_NUMBERS};
 use crate::looks::Seen;
 use crate::office::Session;
 
@@ -173,6 +173,23 @@ impl Session {
         let (mut found, mut length) = (Gauges::default(), 0);
         // SAFETY: the handle is this session's, used by `&mut`; the others are locals of their types
         done(unsafe { ffi::pelgaisti_session_gauges(self.raw(), &mut found, &mut length) })?;
+        Ok(Seen { length, found })
+    }
+
+    /// What the passes of the office have served since it was opened. It tries once to take the lock table. [`Error::Elsewhere`]: another
+    /// session has it; ask again.
+    ///
+    ///     # use pelgaisti::{Call, Office};
+    ///     let mut sessions = Office::open(2)?;
+    ///     let _ = sessions[0].publish(&Call::Begin)?;
+    ///     let _ = sessions[1].serve()?;
+    ///     let passes = sessions[1].passes()?.found;
+    ///     assert_eq!((passes.made, passes.served, passes.starved), (1, 1, 0));
+    ///     # Ok::<(), pelgaisti::Error>(())
+    pub fn passes(&mut self) -> Result<Seen<PassCounts>, Error> {
+        let (mut found, mut length) = (PassCounts::default(), 0);
+        // SAFETY: the handle is this session's, used by `&mut`; the others are locals of their types
+        done(unsafe { ffi::pelgaisti_session_passes(self.raw(), &mut found, &mut length) })?;
         Ok(Seen { length, found })
     }
 }

@@ -136,6 +136,19 @@ pub struct Gauges {
     pub longest_queue: u64,
 }
 
+/// What the passes of an office have served since it was opened. In a pass a session that has the lock table serves the calls that others
+/// have published.
+#[repr(C)]
+#[derive(Clone, Copy, Debug, Default, PartialEq, Eq, Hash)]
+pub struct PassCounts {
+    /// The passes.
+    pub made: u64,
+    /// The published calls and programs that they served; what a session performs at once isn't among them.
+    pub served: u64,
+    /// The passes that put calls back, because memory was refused.
+    pub starved: u64,
+}
+
 #[repr(C)]
 #[derive(Clone, Copy, Default)]
 pub(crate) struct RawAnswer {
@@ -197,7 +210,7 @@ const _: () = assert!(size_of::<RawHolder>() == 8 && size_of::<RawTransaction>()
 const _: () = assert!(size_of::<RawMember>() == 56 && size_of::<RawDeadlock>() == 24);
 const _: () = assert!(size_of::<RawEntry>() == 56 && size_of::<RawAnswer>() == 24 && size_of::<RawPass>() == 8);
 const _: () = assert!(size_of::<RawProgram>() == 44 && size_of::<RawProgramAnswer>() == 136);
-const _: () = assert!(size_of::<RawCounts>() == 280 && size_of::<Gauges>() == 32);
+const _: () = assert!(size_of::<RawCounts>() == 280 && size_of::<Gauges>() == 32 && size_of::<PassCounts>() == 24);
 
 // The statuses that a call may return.
 pub(crate) const OK: u32 = 0;
@@ -452,6 +465,7 @@ extern "C" {
     ) -> u32;
     pub(crate) fn pelgaisti_session_counts(session: *mut RawHandle, counts: *mut RawCounts, seen: *mut u64) -> u32;
     pub(crate) fn pelgaisti_session_gauges(session: *mut RawHandle, gauges: *mut Gauges, seen: *mut u64) -> u32;
+    pub(crate) fn pelgaisti_session_passes(session: *mut RawHandle, passes: *mut PassCounts, seen: *mut u64) -> u32;
     pub(crate) fn pelgaisti_session_reserve(session: *mut RawHandle, resources: usize, entries: usize, seen: *mut u64) -> u32;
     pub(crate) fn pelgaisti_session_shrink(session: *mut RawHandle, seen: *mut u64) -> u32;
     pub(crate) fn pelgaisti_session_idle_cells(session: *mut RawHandle, cells: *mut usize, seen: *mut u64) -> u32;

@@ -51,7 +51,7 @@ pub use counts::{Calls, Counts};
 pub use deadlocks::{Deadlock, Member};
 pub use dump::Dump;
 pub use error::Error;
-pub use ffi::Gauges;
+pub use ffi::{Gauges, PassCounts};
 pub use looks::Seen;
 pub use office::{Answer, NotClosed, Office, Pass, Posted, Session};
 pub use operator::Operator;

@@ -20,6 +20,8 @@ use Rattle.pelgaisti_c.specs.declared.count_numbers.CountNumbers.{CountNumbers}
 use Rattle.pelgaisti_c.specs.contracts.count_numbers.CountNumbers.{the_row as counts_row}
 use Rattle.pelgaisti_c.specs.declared.count_numbers.GaugeNumbers.{GaugeNumbers}
 use Rattle.pelgaisti_c.specs.contracts.count_numbers.GaugeNumbers.{the_row as gauges_row}
+use Rattle.pelgaisti_c.specs.declared.count_numbers.PassCountNumbers.{PassCountNumbers}
+use Rattle.pelgaisti_c.specs.contracts.count_numbers.PassCountNumbers.{the_row as pass_counts_row}
 use Rattle.pelgaisti_c.specs.declared.deadlock_numbers.DeadlockNumbers.{DeadlockNumbers}
 use Rattle.pelgaisti_c.specs.contracts.deadlock_numbers.DeadlockNumbers.{the_row as deadlock_row}
 use Rattle.pelgaisti_c.specs.declared.deadlock_numbers.MemberNumbers.{MemberNumbers}
@@ -84,6 +86,9 @@ counts_behind = maybe_at counts_row
 
 abbrev pub gauges_behind : Ptr → GaugeNumbers → Fml
 gauges_behind = maybe_at gauges_row
+
+abbrev pub pass_counts_behind : Ptr → PassCountNumbers → Fml
+pass_counts_behind = maybe_at pass_counts_row
 
 abbrev pub pass_behind : Ptr → PassNumbers → Fml
 pass_behind = maybe_at pass_row
@@ -154,6 +159,9 @@ counts_coded = counts_row.coded
 
 abbrev pub gauges_coded : Coded GaugeNumbers
 gauges_coded = gauges_row.coded
+
+abbrev pub pass_counts_coded : Coded PassCountNumbers
+pass_counts_coded = pass_counts_row.coded
 
 abbrev pub pass_coded : Coded PassNumbers
 pass_coded = pass_row.coded

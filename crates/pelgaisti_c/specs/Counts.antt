@@ -5,11 +5,13 @@ use Rattle.lock_desk.specs.declared.counts.Refusals.{Refusals}
 use Rattle.lock_desk.specs.declared.counts.Counts.{Counts}
 use Rattle.lock_rules.specs.Legal.{state_of}
 use Rattle.lock_desk.specs.declared.gauges.Gauges.{Gauges}
+use Rattle.lock_office.specs.declared.counts.PassCounts.{PassCounts}
 use Rattle.lock_desk.specs.Counts.{counts_of}
 use Rattle.lock_desk.specs.Gauges.{gauges_of}
 use Rattle.program_office.specs.ProgramBoards.{flat_history}
 use Rattle.pelgaisti_c.specs.declared.count_numbers.CountNumbers.{CountNumbers}
 use Rattle.pelgaisti_c.specs.declared.count_numbers.GaugeNumbers.{GaugeNumbers}
+use Rattle.pelgaisti_c.specs.declared.count_numbers.PassCountNumbers.{PassCountNumbers}
 use Rattle.pelgaisti_c.specs.declared.session_share.SessionShare.{SessionShare}
 use Rattle.pelgaisti_c.specs.Queries.{IsSeen}
 
@@ -52,3 +54,7 @@ numbers_of_gauges g = record { transactions = g.transactions; locks = g.locks; w
 abbrev pub AreGaugesSeen : SessionShare → SessionShare → GaugeNumbers → ℕ → Type 0
 AreGaugesSeen before after gauges seen =
     IsSeen before after seen × (gauges ≡ numbers_of_gauges (gauges_of before.sessions (state_of (flat_history after.session.front))))
+
+-- what passes have served, in numbers
+abbrev pub numbers_of_passes : PassCounts → PassCountNumbers
+numbers_of_passes p = record { made = p.made; served = p.served; starved = p.starved }

@@ -1,9 +1,10 @@
 //! The counters and gauges of a lock table in numbers, as C's structs have them.
 
 ghost use Rattle.std.specs.Prelude.{◌≡◌};
-ghost use Rattle.pelgaisti_c.specs.Counts.{calls_by_number, refusals_by_number, numbers_of_counts, numbers_of_gauges};
+ghost use Rattle.pelgaisti_c.specs.Counts.{calls_by_number, refusals_by_number, numbers_of_counts, numbers_of_gauges, numbers_of_passes};
 
 use lock_desk::{Calls, Counts, Gauges, Refusals};
+use lock_office::counts::PassCounts;
 
 /// How many counters of calls there are: one for each number of an operation, and the first, which stays 0.
 pub const OP_NUMBERS: usize = 11;
@@ -111,5 +112,25 @@ pub(crate) fn gauge_numbers(gauges: Gauges) -> GaugeNumbers
         locks: gauges.locks,
         waiting: gauges.waiting,
         longest_queue: gauges.longest_queue,
+    }
+}
+
+/// What the passes of an office have served.
+#[repr(C)]
+#[derive(Clone, Copy)]
+pub struct PassCountNumbers {
+    pub made: u64,
+    pub served: u64,
+    pub starved: u64,
+}
+
+/// What the passes have served, in numbers.
+pub(crate) fn pass_count_numbers(passes: PassCounts) -> PassCountNumbers
+    ensures { result ≡ numbers_of_passes passes }
+{
+    PassCountNumbers {
+        made: passes.made,
+        served: passes.served,
+        starved: passes.starved,
     }
 }

@@ -3,7 +3,7 @@
 //!
 //! Exports: `book.rt`, `history_exports.rt`, `listing_exports.rt`, `path_exports.rt`, `path_step_exports.rt`, `program_exports.rt`, `office.rt`, `session.rt`, `knowledge_exports.rt`,
 //! `turn_exports.rt`, `path_turn_exports.rt`, `program_turn_exports.rt`, `query_exports.rt`, `deadlock_exports.rt`, `page_exports.rt`,
-//! `dump_exports.rt`, `count_exports.rt`, `gauge_exports.rt`, `memory_exports.rt`, `sleep_exports.rt`, `close_exports.rt`, `version.rt`. What
+//! `dump_exports.rt`, `count_exports.rt`, `gauge_exports.rt`, `pass_count_exports.rt`, `memory_exports.rt`, `sleep_exports.rt`, `close_exports.rt`, `version.rt`. What
 //! they do, on what a handle holds: `book_calls.rt`, `batch.rt`, `listing.rt`, `path_calls.rt`, `program_calls.rt`, `session_calls.rt`, `perform_calls.rt`,
 //! `turn_calls.rt`, `path_turn_calls.rt`, `program_turn_calls.rt`, `queries.rt`, `deadlocks.rt`, `pages.rt`, `dump.rt`, `memory_calls.rt`,
 //! `sleep_calls.rt`, `hand_in.rt`. Numbers of C's structs: `numbers.rt`, `program_numbers.rt`, `claims.rt`, `count_numbers.rt`,
@@ -47,6 +47,7 @@ mod numbers;
 mod office;
 mod page_exports;
 mod pages;
+mod pass_count_exports;
 mod path_calls;
 mod path_exports;
 mod path_step_exports;
@@ -75,7 +76,7 @@ mod version;
 
 pub use book_handle::BookHandle;
 pub use claims::{ClaimNumbers, TransactionNumbers};
-pub use count_numbers::{CountNumbers, GaugeNumbers};
+pub use count_numbers::{CountNumbers, GaugeNumbers, PassCountNumbers};
 pub use deadlock_numbers::{DeadlockNumbers, MemberNumbers};
 pub use numbers::{
     AnswerNumbers, CallNumbers, EntryNumbers, HolderNumbers, PassNumbers, ReplyNumbers,
@@ -83,7 +84,7 @@ pub use numbers::{
 };
 pub use pointers::{
     AnswerPointer, BookPointer, CallPointer, ClaimList, ClaimPointer, CountsPointer, DeadlockList,
-    EntryList, GaugesPointer, HandleList, HolderList, MemberList, PassPointer,
+    EntryList, GaugesPointer, HandleList, HolderList, MemberList, PassCountsPointer, PassPointer,
     ProgramAnswerPointer, ProgramPointer, ReplyPointer, ResourcePointer, SessionList,
     SessionPointer, SizePointer, TransactionPointer, U32Pointer, U64Pointer,
 };

@@ -12,7 +12,9 @@ use Rattle.pelgaisti_c.specs.contracts.claims.ClaimNumbers.{the_row as claim_row
 use Rattle.pelgaisti_c.specs.declared.count_numbers.CountNumbers.{CountNumbers}
 use Rattle.pelgaisti_c.specs.contracts.count_numbers.CountNumbers.{the_row as counts_row}
 use Rattle.pelgaisti_c.specs.declared.count_numbers.GaugeNumbers.{GaugeNumbers}
+use Rattle.pelgaisti_c.specs.declared.count_numbers.PassCountNumbers.{PassCountNumbers}
 use Rattle.pelgaisti_c.specs.contracts.count_numbers.GaugeNumbers.{the_row as gauges_row}
+use Rattle.pelgaisti_c.specs.contracts.count_numbers.PassCountNumbers.{the_row as pass_counts_row}
 use Rattle.pelgaisti_c.specs.declared.deadlock_numbers.DeadlockNumbers.{DeadlockNumbers}
 use Rattle.pelgaisti_c.specs.contracts.deadlock_numbers.DeadlockNumbers.{the_row as deadlock_row}
 use Rattle.pelgaisti_c.specs.declared.deadlock_numbers.MemberNumbers.{MemberNumbers}
@@ -36,7 +38,9 @@ use Rattle.pelgaisti_c.specs.contracts.pointers.structs.ClaimPointer.{the_row as
 use Rattle.pelgaisti_c.specs.declared.pointers.structs.CountsPointer.{CountsPointer}
 use Rattle.pelgaisti_c.specs.contracts.pointers.structs.CountsPointer.{the_row as counts_pointer_row}
 use Rattle.pelgaisti_c.specs.declared.pointers.structs.GaugesPointer.{GaugesPointer}
+use Rattle.pelgaisti_c.specs.declared.pointers.structs.PassCountsPointer.{PassCountsPointer}
 use Rattle.pelgaisti_c.specs.contracts.pointers.structs.GaugesPointer.{the_row as gauges_pointer_row}
+use Rattle.pelgaisti_c.specs.contracts.pointers.structs.PassCountsPointer.{the_row as pass_counts_pointer_row}
 use Rattle.pelgaisti_c.specs.declared.pointers.structs.PassPointer.{PassPointer}
 use Rattle.pelgaisti_c.specs.contracts.pointers.structs.PassPointer.{the_row as pass_pointer_row}
 use Rattle.pelgaisti_c.specs.declared.pointers.structs.ProgramAnswerPointer.{ProgramAnswerPointer}
@@ -88,6 +92,9 @@ lends_of_counts_pointer p r = LendsIf counts_pointer_row counts_row p r (λ x. r
 
 abbrev pub lends_of_gauges_pointer : MutBor GaugesPointer → Option (MutBor GaugeNumbers) → Fml
 lends_of_gauges_pointer p r = LendsIf gauges_pointer_row gauges_row p r (λ x. record p.now { behind = x }) p.now
+
+abbrev pub lends_of_pass_counts_pointer : MutBor PassCountsPointer → Option (MutBor PassCountNumbers) → Fml
+lends_of_pass_counts_pointer p r = LendsIf pass_counts_pointer_row pass_counts_row p r (λ x. record p.now { behind = x }) p.now
 
 abbrev pub lends_of_pass_pointer : MutBor PassPointer → Option (MutBor PassNumbers) → Fml
 lends_of_pass_pointer p r = LendsIf pass_pointer_row pass_row p r (λ x. record p.now { behind = x }) p.now

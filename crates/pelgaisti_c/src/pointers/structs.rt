@@ -6,14 +6,15 @@ ghost use Rattle.pelgaisti_c.specs.declared.numbers.AnswerNumbers.{AnswerNumbers
 ghost use Rattle.pelgaisti_c.specs.declared.claims.ClaimNumbers.{ClaimNumbers};
 ghost use Rattle.pelgaisti_c.specs.declared.count_numbers.CountNumbers.{CountNumbers};
 ghost use Rattle.pelgaisti_c.specs.declared.count_numbers.GaugeNumbers.{GaugeNumbers};
+ghost use Rattle.pelgaisti_c.specs.declared.count_numbers.PassCountNumbers.{PassCountNumbers};
 ghost use Rattle.pelgaisti_c.specs.declared.numbers.PassNumbers.{PassNumbers};
 ghost use Rattle.pelgaisti_c.specs.declared.numbers.ReplyNumbers.{ReplyNumbers};
 ghost use Rattle.pelgaisti_c.specs.declared.claims.TransactionNumbers.{TransactionNumbers};
 ghost use Rattle.pelgaisti_c.specs.declared.program_numbers.ProgramAnswerNumbers.{ProgramAnswerNumbers};
-ghost use Rattle.pelgaisti_c.specs.Behind.{answer_coded, claim_coded, counts_coded, gauges_coded, pass_coded, program_answer_coded, reply_coded, transaction_coded};
+ghost use Rattle.pelgaisti_c.specs.Behind.{answer_coded, claim_coded, counts_coded, gauges_coded, pass_counts_coded, pass_coded, program_answer_coded, reply_coded, transaction_coded};
 
 use crate::claims::{ClaimNumbers, TransactionNumbers};
-use crate::count_numbers::{CountNumbers, GaugeNumbers};
+use crate::count_numbers::{CountNumbers, GaugeNumbers, PassCountNumbers};
 use crate::numbers::{AnswerNumbers, PassNumbers, ReplyNumbers};
 use crate::program_numbers::ProgramAnswerNumbers;
 use std::marker::Model;
@@ -132,6 +133,37 @@ impl GaugesPointer {
     /// What lies behind the pointer, or `None` at null.
     pub(crate) fn get(&mut self) -> Option<&mut GaugeNumbers>
         ensures* lends { sem 𝓛 (lends_of_gauges_pointer self.entry result) }
+        ensures value { MatchOption result (self.old.at ≡ null_ptr) (λ r. (self.old.at ≢ null_ptr) × (r.now ≡ self.old.behind)) }
+    {
+        let at = self.at;
+        if at == std::ptr::null_mut() {
+            return None;
+        }
+        unsafe { Some(&mut *at) }
+    }
+}
+
+/// A pointer of C, null or to what passes have served.
+#[repr(C)]
+pub struct PassCountsPointer {
+    pub at: *mut PassCountNumbers,
+    ghost testable: { Testable at },
+    pub ghost behind: { PassCountNumbers } by { pass_counts_coded },
+}
+
+impl Model for PassCountsPointer {
+    ghost use Rattle.pelgaisti_c.specs.Behind.{pass_counts_behind};
+
+    ghost also_owns = { λ p. pass_counts_behind p.at p.behind };
+}
+
+impl PassCountsPointer {
+    ghost use Rattle.std.specs.Borrow.{sem};
+    ghost use Rattle.pelgaisti_c.specs.inner.Lending.{lends_of_pass_counts_pointer};
+
+    /// What lies behind the pointer, or `None` at null.
+    pub(crate) fn get(&mut self) -> Option<&mut PassCountNumbers>
+        ensures* lends { sem 𝓛 (lends_of_pass_counts_pointer self.entry result) }
         ensures value { MatchOption result (self.old.at ≡ null_ptr) (λ r. (self.old.at ≢ null_ptr) × (r.now ≡ self.old.behind)) }
     {
         let at = self.at;
