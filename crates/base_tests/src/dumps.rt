@@ -1,6 +1,9 @@
 //! Dumps that are read back and shown: their texts, and rows that are refused. Texts of whole lock tables are in `checks/program-cases`,
 //! and `checks/refused_memory.py` refuses memory.
 
+ghost use Rattle.std.specs.Prelude.{IfSome};
+ghost use Rattle.state_rows.specs.States.{AreLists};
+
 use dump_report::{graph_of_dump, lines_of_dump, waits_of_dump};
 use lock_report::NoMemory;
 use state_rows::{StateFault, StateLists, read_state};
@@ -96,7 +99,9 @@ const WAITS: &str = "  1 -> 3;
 ";
 
 /// The dump in the text, `None` if it isn't read.
-fn read(alloc: Global, text: &str) -> Option<StateLists> {
+fn read(alloc: Global, text: &str) -> Option<StateLists>
+    ensures { IfSome result (λ lists. AreLists 8 lists) }
+{
     read_state(alloc, text.as_bytes(), 8).ok()
 }
 
