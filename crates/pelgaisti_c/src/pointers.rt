@@ -20,6 +20,6 @@ pub use lists::{
     ClaimList, DeadlockList, EntryList, HandleList, HolderList, MemberList, SessionList,
 };
 pub use structs::{
-    AnswerPointer, ClaimPointer, CountsPointer, GaugesPointer, PassCountsPointer, PassPointer, ProgramAnswerPointer,
-    ReplyPointer, TransactionPointer,
+    AnswerPointer, ClaimPointer, CountsPointer, GaugesPointer, PassCountsPointer, PassPointer,
+    ProgramAnswerPointer, ReplyPointer, TransactionPointer,
 };
