@@ -11,7 +11,10 @@ def rust(name):
     """The type of ffi.rs for a type of the header."""
     if name in HANDLES:
         return "RawHandle"
-    return NUMBERS.get(name) or "Raw" + name.removeprefix("pelgaisti_").title().replace("_", "")
+    if name in NUMBERS:
+        return NUMBERS[name]
+    own = name.removeprefix("pelgaisti_").title().replace("_", "")
+    return own if own in public else "Raw" + own
 
 
 def parameter(text):
@@ -23,7 +26,10 @@ def parameter(text):
 with open("include/pelgaisti.h") as file:
     header = re.sub(r"/\*.*?\*/|^#.*?$", "", file.read(), flags=re.S | re.M)
 with open("bindings/rust/src/ffi.rs") as file:
-    declared = re.findall(r"fn (pelgaisti_\w+)\(([^)]*)\) -> (\w+);", file.read())
+    ffi = file.read()
+declared = re.findall(r"fn (pelgaisti_\w+)\(([^)]*)\) -> (\w+);", ffi)
+# the structs of the header that callers of the Rust crate have, too
+public = re.findall(r"^pub struct (\w+)", ffi, flags=re.M)
 functions = {name: (result, text) for result, name, text in re.findall(r"\n(\w+) (pelgaisti_\w+)\(([^)]*)\);", header)}
 failed = not declared
 for name, text, result in declared:

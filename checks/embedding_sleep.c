@@ -26,7 +26,7 @@ typedef struct worker {
 
 static pelgaisti_session sessions[THREADS];
 static worker workers[THREADS];
-static uint64_t answered, left, finished, sleeps, wakes;
+static uint64_t answered, asked, begun, finished, sleeps, wakes;
 
 long __real_syscall(long number, long a, long b, long c, long d, long e, long f);
 long __wrap_syscall(long number, long a, long b, long c, long d, long e, long f);
@@ -90,8 +90,14 @@ static void look_at_all(worker *w) {
     while (__atomic_load_n(&finished, __ATOMIC_RELAXED) < THREADS - 1) {
         status = pelgaisti_session_locks(w->session, 0, list, LISTED, &count, &seen);
         w->bad += status != PELGAISTI_OK && status != PELGAISTI_ELSEWHERE && status != PELGAISTI_NO_MEMORY;
-        pause_for(200000);
+        pause_for(20000);
     }
+}
+
+/* Whether one more program is to be made: as many as were asked for, and as long as no thread has slept, up to a hundred times as many. */
+static int goes_on(void) {
+    uint64_t number = __atomic_add_fetch(&begun, 1, __ATOMIC_RELAXED);
+    return number <= asked || (number <= 100 * asked && __atomic_load_n(&sleeps, __ATOMIC_RELAXED) == 0);
 }
 
 static void *work(void *at) {
@@ -102,7 +108,7 @@ static void *work(void *at) {
         look_at_all(w);
     } else {
         expect(w, pelgaisti_session_perform(w->session, &start, UINT64_MAX, &answer) == PELGAISTI_OK);
-        while (__atomic_fetch_sub(&left, 1, __ATOMIC_RELAXED) - 1 < UINT64_MAX / 2) {
+        while (goes_on()) {
             begin(w);
             lock_rows(w, random_below(w, 16) == 0 ? ROWS : 3);
         }
@@ -139,7 +145,7 @@ int main(int count, char **words) {
     pelgaisti_book book = PELGAISTI_EMPTY;
     uint64_t bad = 0;
     int k;
-    left = count > 1 ? strtoull(words[1], NULL, 10) : 20000;
+    asked = count > 1 ? strtoull(words[1], NULL, 10) : 20000;
     keep_to(count > 2 ? atoi(words[2]) : 2);
     if (pelgaisti_office_open_keeping(sessions, THREADS, KEPT) != PELGAISTI_OK) return 2;
     for (k = 0; k < THREADS; k++) {
