@@ -7,9 +7,9 @@ ghost use Rattle.combining.specs.Ended.{AreToldBy, HasAddedTold, HasRoom, IsNote
 ghost use Rattle.combining.specs.Waits.{IsWaitAfterTry, IsWaitAfterLook, FitIntoLooks};
 
 use crate::backoff::{LOOKS_PER_TRY, TRIES_AT_ONCE, Wait, after_look, after_try, back_off};
-use crate::office::{Answer, Office, Performed, Turn};
+use crate::office::{Answer, BoundedTurn, Office, Performed};
 use crate::told::Told;
-use publication::Ticket as Session;
+use publication::{Posted, Ticket as Session};
 use sequential::Batching;
 
 /// The outcome of `call` and `resume`.
@@ -52,6 +52,7 @@ fn serve_if<O: Batching, T: Told<O>>(
     ensures served { result ≡ false → serve_now ≡ true → IsPendingServed session.new ⊎ (1 < office.now.sessions) }
     ensures tries { session.new.tries ≤ session.old.tries + 1 }
     ensures untried { serve_now ≡ false → session.new.tries ≡ session.old.tries }
+    ensures listed { session.old.listed ≡ true → session.new.tries ≡ session.old.tries }
     ensures told { HasAddedTold T.ends office.now.sessions session.new.front (entered_since session.old session.new) (T.list told.old) (T.list told.new) }
     ensures room { T.room told.new ≡ T.room told.old }
     ensures notes { T.notes told.old session.old.front → T.notes told.new session.new.front }
@@ -59,9 +60,10 @@ fn serve_if<O: Batching, T: Told<O>>(
     if !serve_now {
         return false;
     }
-    match office.pass(session, told) {
-        Turn::Pass { starved, .. } => starved,
-        Turn::Elsewhere => false,
+    let bound = told.bound();
+    match office.pass_bounded(session, bound, told) {
+        BoundedTurn::Pass { starved, .. } => starved,
+        BoundedTurn::Elsewhere => false,
     }
 }
 
@@ -87,6 +89,7 @@ pub fn look<O: Batching, T: Told<O>>(
     ensures others { (w : _) → result ≡ Next.Wait w → looked % LOOKS_PER_TRY ≡ 0 → 1 < office.now.sessions }
     ensures tries { session.new.tries ≤ session.old.tries + 1 }
     ensures untried { looked % LOOKS_PER_TRY ≢ 0 → session.new.tries ≡ session.old.tries }
+    ensures listed { session.old.listed ≡ true → session.new.tries ≡ session.old.tries }
     ensures wait { (w : _) → result ≡ Next.Wait w → IsWaitAfterLook looked w }
     ensures on { HasGoneOn session.old session.new }
     ensures told { HasAddedTold T.ends office.now.sessions session.new.front (entered_since session.old session.new) (T.list told.old) (T.list told.new) }
@@ -105,7 +108,8 @@ pub fn look<O: Batching, T: Told<O>>(
     Next::Wait(after_look(looked))
 }
 
-/// Publishes the call, which was not answered at once, and looks for the answer.
+/// Publishes the call, which was not answered at once, and looks for the answer if the call is listed. If it isn't, a later look tries to
+/// have it listed.
 // Out of line, as `look` is, so that a call that is performed at once is quick.
 #[inline(never)]
 fn publish_and_look<O: Batching, T: Told<O>>(
@@ -123,7 +127,7 @@ fn publish_and_look<O: Batching, T: Told<O>>(
     ensures starved { result ≡ Next.Starved → IsCalling session.old session.new call }
     ensures refused { result ≡ Next.Starved → HasStarvedCalling O.Sequential session.old session.new call }
     ensures waits { (w : _) → result ≡ Next.Wait w → IsCalling session.old session.new call × (1 < office.now.sessions) }
-    ensures tries { session.new.tries ≤ session.old.tries + 2 }
+    ensures tries { session.new.tries ≤ session.old.tries + 1 }
     ensures wait { (w : _) → result ≡ Next.Wait w → IsWaitAfterLook 0 w }
     ensures on { HasGoneOn session.old session.new }
     ensures told { HasAddedTold T.ends office.now.sessions session.new.front (entered_since session.old session.new) (T.list told.old) (T.list told.new) }
@@ -132,17 +136,18 @@ fn publish_and_look<O: Batching, T: Told<O>>(
     ensures notes_starved { result ≡ Next.Starved → T.notes told.old session.old.front → T.notes told.new session.new.front }
     ensures notes_waits { (w : _) → result ≡ Next.Wait w → T.notes told.old session.old.front → T.notes told.new session.new.front }
 {
-    let _posted = office.publish(session, call);
+    if office.publish(session, call) == Posted::Unlisted {
+        return Next::Wait(after_look(0));
+    }
     look(office, session, 0, told)
 }
 
-/// Tries to perform the call at once, behind `tried` tries. A call for which memory was refused is published.
+/// Tries to perform the call at once. A call for which memory was refused is published.
 #[inline(always)]
 fn try_at_once<O: Batching, T: Told<O>>(
     office: &Office<O>,
     session: &mut Session<O>,
     call: &O::Call,
-    tried: u64,
     told: &mut T,
 ) -> Next<O::Reply>
     requires ours { IsSessionOf office.now session.old }
@@ -155,7 +160,7 @@ fn try_at_once<O: Batching, T: Told<O>>(
     ensures refused { result ≡ Next.Starved → HasStarvedCalling O.Sequential session.old session.new call.now }
     ensures waits { (w : _) → result ≡ Next.Wait w → (session.new ≡ session.old) × (1 < office.now.sessions) }
     ensures tries { session.new.tries ≤ session.old.tries + 1 }
-    ensures wait { (w : _) → result ≡ Next.Wait w → IsWaitAfterTry tried w }
+    ensures wait { (w : _) → result ≡ Next.Wait w → IsWaitAfterTry w }
     ensures on { HasGoneOn session.old session.new }
     ensures told { HasAddedTold T.ends office.now.sessions session.new.front (entered_since session.old session.new) (T.list told.old) (T.list told.new) }
     ensures room { T.room told.new ≡ T.room told.old }
@@ -163,9 +168,10 @@ fn try_at_once<O: Batching, T: Told<O>>(
     ensures notes_starved { result ≡ Next.Starved → T.notes told.old session.old.front → T.notes told.new session.new.front }
     ensures notes_waits { (w : _) → result ≡ Next.Wait w → T.notes told.old session.old.front → T.notes told.new session.new.front }
 {
-    match office.perform_adding(session, *call, told) {
+    let bound = told.bound();
+    match office.perform_adding(session, *call, Some(bound), told) {
         Performed::Answered { answer, .. } => Next::Answered(answer),
-        Performed::Elsewhere => Next::Wait(after_try(tried)),
+        Performed::Elsewhere => Next::Wait(after_try()),
         Performed::Starved => {
             let _posted = office.publish(session, *call);
             Next::Starved
@@ -199,12 +205,10 @@ pub fn turn<O: Batching, T: Told<O>>(
     ensures tried { (w : _) → result ≡ Next.Wait w → session.old.pending ≡ None → made < TRIES_AT_ONCE → (session.new ≡ session.old) × (1 < office.now.sessions) }
     ensures published { (w : _) → result ≡ Next.Wait w → session.old.pending ≡ None → TRIES_AT_ONCE ≤ made → IsCalling session.old session.new call.now × (1 < office.now.sessions) }
     ensures waits { (w : _) → result ≡ Next.Wait w → session.old.pending ≢ None → IsWaitingOn session.old session.new }
-    ensures wait_tried { (w : _) → result ≡ Next.Wait w → session.old.pending ≡ None → made < TRIES_AT_ONCE → IsWaitAfterTry made w }
+    ensures wait_tried { (w : _) → result ≡ Next.Wait w → session.old.pending ≡ None → made < TRIES_AT_ONCE → IsWaitAfterTry w }
     ensures wait_published { (w : _) → result ≡ Next.Wait w → session.old.pending ≡ None → TRIES_AT_ONCE ≤ made → IsWaitAfterLook 0 w }
     ensures wait_looked { (w : _) → result ≡ Next.Wait w → session.old.pending ≢ None → IsWaitAfterLook made w }
-    ensures tries_at_once { session.old.pending ≡ None → made < TRIES_AT_ONCE → session.new.tries ≤ session.old.tries + 1 }
-    ensures tries_published { session.old.pending ≡ None → session.new.tries ≤ session.old.tries + 2 }
-    ensures tries { session.old.pending ≢ None → session.new.tries ≤ session.old.tries + 1 }
+    ensures tries { session.new.tries ≤ session.old.tries + 1 }
     ensures untried { session.old.pending ≢ None → made % LOOKS_PER_TRY ≢ 0 → session.new.tries ≡ session.old.tries }
     ensures live { session.new.retired ≡ false }
     ensures on { HasGoneOn session.old session.new }
@@ -218,7 +222,7 @@ pub fn turn<O: Batching, T: Told<O>>(
         return look(office, session, made, told);
     }
     if made < TRIES_AT_ONCE {
-        try_at_once(office, session, call, made, told)
+        try_at_once(office, session, call, told)
     } else {
         publish_and_look(office, session, *call, told)
     }

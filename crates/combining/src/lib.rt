@@ -19,6 +19,7 @@
 
 mod backoff;
 mod bounded_pass;
+mod bounds;
 mod calling;
 mod clean_up;
 mod ended;
@@ -32,10 +33,10 @@ mod row_calling;
 mod told;
 
 pub use backoff::{
-    DOUBLINGS, FIRST_PAUSES, LOOKS_PER_TRY, LOOKS_PER_YIELD, PAUSES, TRIES_AT_ONCE,
-    TRIES_BEFORE_YIELDS, Wait, after_try, back_off,
+    LOOKS_PER_TRY, LOOKS_PER_YIELD, PAUSES, PAUSES_BEFORE_PUBLISHING, TRIES_AT_ONCE, Wait,
+    after_try, back_off,
 };
-pub use bounded_pass::PassBound;
+pub use bounds::{PassBound, UNBOUNDED};
 pub use calling::{Called, Next, call, look, publish_if_idle, resume, turn};
 pub use ended::Ended;
 pub use goes_on::GoesOn;
