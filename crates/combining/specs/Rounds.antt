@@ -1,5 +1,5 @@
 -- Rounds of a pass that serve so many calls at most, and calls of so much weight.
-use Rattle.std.specs.Prelude.{◌≡◌, ◌⊎◌, ℕ, ◌+◌, ◌<◌, ◌≤◌, List, [], ◌∷◌, ◌++◌, length, zero, suc, Contains}
+use Rattle.std.specs.Prelude.{◌≡◌, ◌⊎◌, ℕ, ◌+◌, ◌*◌, ◌<◌, ◌≤◌, List, [], ◌∷◌, ◌++◌, length, zero, suc, Contains}
 use Rattle.sequential.specs.declared.entry.Entry.{Entry}
 use Rattle.sequential.specs.Batches.{asked_in}
 use Rattle.combining.specs.declared.bounds.PassBound.{PassBound}
@@ -7,6 +7,10 @@ use Rattle.combining.specs.declared.bounds.PassBound.{PassBound}
 -- A round may take a call, and a pass may make a round.
 abbrev pub IsBound : PassBound → Type 0
 IsBound bound = (0 < bound.calls) × (0 < bound.weight) × (0 < bound.rounds)
+
+-- How many calls a pass serves at most.
+abbrev pub most_of : PassBound → ℕ
+most_of bound = bound.rounds * bound.calls
 
 module _ {C R : Type 0} (weight : List (Entry C R) → ℕ → C → ℕ) where
   -- The weight of these calls in all, each of its session, behind this front of the history.

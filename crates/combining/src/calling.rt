@@ -1,9 +1,10 @@
 //! A whole call of a session, turn by turn: performed at once where the object is free, else published, served and collected.
 
-ghost use Rattle.std.specs.Prelude.{◌≡◌, ◌≢◌, ◌⊎◌, ◌+◌, ◌-◌, ◌<◌, ◌≤◌, ◌%◌, true, false, [], None};
+ghost use Rattle.std.specs.Prelude.{◌≡◌, ◌≢◌, ◌⊎◌, ◌+◌, ◌-◌, ◌<◌, ◌≤◌, ◌%◌, true, false, [], None, length};
 ghost use Rattle.combining.specs.Sessions.{IsSessionOf, IsIdle, IsPendingServed};
 ghost use Rattle.combining.specs.Calls.{IsCalled, IsCalling, IsAnswered, IsWaitingOn, HasStarved, HasStarvedCalling, HasGoneOn};
 ghost use Rattle.combining.specs.Ended.{AreToldBy, HasAddedTold, HasRoom, IsNotedUpTo, entered_since};
+ghost use Rattle.combining.specs.Rounds.{most_of};
 ghost use Rattle.combining.specs.Waits.{IsWaitAfterTry, IsWaitAfterLook, FitIntoLooks};
 
 use crate::backoff::{LOOKS_PER_TRY, TRIES_AT_ONCE, Wait, after_look, after_try, back_off};
@@ -53,6 +54,7 @@ fn serve_if<O: Batching, T: Told<O>>(
     ensures tries { session.new.tries ≤ session.old.tries + 1 }
     ensures untried { serve_now ≡ false → session.new.tries ≡ session.old.tries }
     ensures listed { session.old.listed ≡ true → session.new.tries ≡ session.old.tries }
+    ensures few { length (entered_since session.old session.new) ≤ most_of (T.most told.old) }
     ensures told { HasAddedTold T.ends office.now.sessions session.new.front (entered_since session.old session.new) (T.list told.old) (T.list told.new) }
     ensures room { T.room told.new ≡ T.room told.old }
     ensures notes { T.notes told.old session.old.front → T.notes told.new session.new.front }
@@ -68,7 +70,7 @@ fn serve_if<O: Batching, T: Told<O>>(
 }
 
 /// Makes one turn of the pending call of a session, behind `looked` turns: tries to serve, at the first and then at every
-/// `LOOKS_PER_TRY`th turn, and looks for the answer.
+/// `LOOKS_PER_TRY`th turn, and looks for the answer. It serves within the bound of `told`, as `Office::serve_bounded` does.
 ///
 /// Adds the sessions whose waits the pass has ended to those that were told.
 #[inline(never)]
@@ -92,6 +94,7 @@ pub fn look<O: Batching, T: Told<O>>(
     ensures listed { session.old.listed ≡ true → session.new.tries ≡ session.old.tries }
     ensures wait { (w : _) → result ≡ Next.Wait w → IsWaitAfterLook looked w }
     ensures on { HasGoneOn session.old session.new }
+    ensures few { length (entered_since session.old session.new) ≤ most_of (T.most told.old) }
     ensures told { HasAddedTold T.ends office.now.sessions session.new.front (entered_since session.old session.new) (T.list told.old) (T.list told.new) }
     ensures room { T.room told.new ≡ T.room told.old }
     ensures noted { (answer : _) → result ≡ Next.Answered answer → T.notes told.old session.old.front → IsNotedUpTo (T.notes told.new) session.new.front (answer.place + 1) }
@@ -130,16 +133,17 @@ fn publish_and_look<O: Batching, T: Told<O>>(
     ensures tries { session.new.tries ≤ session.old.tries + 1 }
     ensures wait { (w : _) → result ≡ Next.Wait w → IsWaitAfterLook 0 w }
     ensures on { HasGoneOn session.old session.new }
+    ensures few { length (entered_since session.old session.new) ≤ most_of (T.most told.old) }
     ensures told { HasAddedTold T.ends office.now.sessions session.new.front (entered_since session.old session.new) (T.list told.old) (T.list told.new) }
     ensures room { T.room told.new ≡ T.room told.old }
     ensures noted { (answer : _) → result ≡ Next.Answered answer → T.notes told.old session.old.front → IsNotedUpTo (T.notes told.new) session.new.front (answer.place + 1) }
     ensures notes_starved { result ≡ Next.Starved → T.notes told.old session.old.front → T.notes told.new session.new.front }
     ensures notes_waits { (w : _) → result ≡ Next.Wait w → T.notes told.old session.old.front → T.notes told.new session.new.front }
 {
-    if office.publish(session, call) == Posted::Unlisted {
-        return Next::Wait(after_look(0));
+    match office.publish(session, call) {
+        Posted::Listed => look(office, session, 0, told),
+        Posted::Unlisted => Next::Wait(after_look(0)),
     }
-    look(office, session, 0, told)
 }
 
 /// Tries to perform the call at once. A call for which memory was refused is published.
@@ -162,6 +166,7 @@ fn try_at_once<O: Batching, T: Told<O>>(
     ensures tries { session.new.tries ≤ session.old.tries + 1 }
     ensures wait { (w : _) → result ≡ Next.Wait w → IsWaitAfterTry w }
     ensures on { HasGoneOn session.old session.new }
+    ensures few { length (entered_since session.old session.new) ≤ most_of (T.most told.old) + 1 }
     ensures told { HasAddedTold T.ends office.now.sessions session.new.front (entered_since session.old session.new) (T.list told.old) (T.list told.new) }
     ensures room { T.room told.new ≡ T.room told.old }
     ensures noted { (answer : _) → result ≡ Next.Answered answer → T.notes told.old session.old.front → IsNotedUpTo (T.notes told.new) session.new.front (answer.place + 1) }
@@ -180,7 +185,7 @@ fn try_at_once<O: Batching, T: Told<O>>(
 }
 
 /// Makes one turn of a call, behind `made` turns. An idle session tries to perform the call at once, in its first `TRIES_AT_ONCE`
-/// turns, and publishes it in the next one. A session with a call pending makes a turn as `look` does; it goes on with the call that is
+/// turns, and publishes it in the next one. If it performs the call, it makes a pass within the bound of `told` beside. A session with a call pending makes a turn as `look` does; it goes on with the call that is
 /// pending, whatever `call` is. No turn loses a call: it is answered, pending, or not made yet.
 ///
 /// Adds the sessions whose waits the turn's passes have ended to those that were told.
@@ -212,6 +217,7 @@ pub fn turn<O: Batching, T: Told<O>>(
     ensures untried { session.old.pending ≢ None → made % LOOKS_PER_TRY ≢ 0 → session.new.tries ≡ session.old.tries }
     ensures live { session.new.retired ≡ false }
     ensures on { HasGoneOn session.old session.new }
+    ensures few { length (entered_since session.old session.new) ≤ most_of (T.most told.old) + 1 }
     ensures told { HasAddedTold T.ends office.now.sessions session.new.front (entered_since session.old session.new) (T.list told.old) (T.list told.new) }
     ensures room { T.room told.new ≡ T.room told.old }
     ensures noted { (answer : _) → result ≡ Next.Answered answer → T.notes told.old session.old.front → IsNotedUpTo (T.notes told.new) session.new.front (answer.place + 1) }

@@ -1,10 +1,11 @@
 //! A row of calls of a session, turn by turn: performed at once where the object is free, else its next call published, served and
 //! collected.
 
-ghost use Rattle.std.specs.Prelude.{◌≡◌, ◌≢◌, ◌<◌, ◌≤◌, ◌∷◌, ℕ, true, false, None, length};
+ghost use Rattle.std.specs.Prelude.{◌≡◌, ◌≢◌, ◌+◌, ◌<◌, ◌≤◌, ◌∷◌, ℕ, true, false, None, length};
 ghost use Rattle.combining.specs.Sessions.{IsSessionOf, IsIdle};
 ghost use Rattle.combining.specs.Calls.{IsCalled, IsCalling, IsAnswered, IsWaitingOn, HasStarvedCalling, HasGoneOn};
 ghost use Rattle.combining.specs.Ended.{HasAddedTold, HasRoom, entered_since};
+ghost use Rattle.combining.specs.Rounds.{most_of};
 ghost use Rattle.combining.specs.Rows.{IsRowPerformed};
 ghost use Rattle.combining.specs.Waits.{IsWaitAfterTry, IsWaitAfterLook};
 
@@ -52,6 +53,7 @@ fn try_row_at_once<O: Batching, G: GoesOn<O>, T: Told<O>>(
     ensures wait { (w : _) → result ≡ NextOfRow.Wait w → IsWaitAfterTry w }
     ensures live { session.new.retired ≡ false }
     ensures on { HasGoneOn session.old session.new }
+    ensures few { length (entered_since session.old session.new) ≤ most_of (T.most told.old) + length calls.now }
     ensures told { HasAddedTold T.ends office.now.sessions session.new.front (entered_since session.old session.new) (T.list told.old) (T.list told.new) }
     ensures room { T.room told.new ≡ T.room told.old }
 {
@@ -108,6 +110,7 @@ pub fn row_turn<O: Batching, G: GoesOn<O>, T: Told<O>>(
     ensures wait_looked { (w : _) → result ≡ NextOfRow.Wait w → session.old.pending ≢ None → IsWaitAfterLook made w }
     ensures live { session.new.retired ≡ false }
     ensures on { HasGoneOn session.old session.new }
+    ensures few { length (entered_since session.old session.new) ≤ most_of (T.most told.old) + length calls.now }
     ensures told { HasAddedTold T.ends office.now.sessions session.new.front (entered_since session.old session.new) (T.list told.old) (T.list told.new) }
     ensures room { T.room told.new ≡ T.room told.old }
 {

@@ -1,6 +1,6 @@
 //! A row of calls that its own session performs, one after another, in one taking of the object, without publishing them.
 
-ghost use Rattle.std.specs.Prelude.{◌≡◌, ◌<◌, ◌≤◌, ◌↔◌, [], false, IsTrue, None, IfSome, length};
+ghost use Rattle.std.specs.Prelude.{◌≡◌, ◌+◌, ◌*◌, ◌<◌, ◌≤◌, ◌↔◌, [], false, IsTrue, None, IfSome, length};
 ghost use Rattle.sequential.specs.Histories.{calls_of};
 ghost use Rattle.publication.specs.Boards.{HasCallsOf, heard_from};
 ghost use Rattle.combining.specs.Sessions.{IsSessionOf, IsIdle};
@@ -107,6 +107,7 @@ impl<O: Batching> Office<O> {
             → heard_from session.old j ≤ length (calls_of j session.new.front) }
         ensures elsewhere { result ≡ PerformedRow.Elsewhere → (session.new ≡ session.old) × (1 < self.now.sessions) }
         ensures calls { HasCallsOf session.new.front session.new }
+        ensures few { IfSome bound (λ b. length (entered_since session.old session.new) ≤ b.rounds * b.calls + length calls.now) }
         ensures told { HasAddedTold T.ends self.now.sessions session.new.front (entered_since session.old session.new) (T.list told.old) (T.list told.new) }
         ensures none { result ≡ PerformedRow.Elsewhere → told.new ≡ told.old }
         ensures room { T.room told.new ≡ T.room told.old }
