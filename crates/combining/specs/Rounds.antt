@@ -1,5 +1,5 @@
 -- Rounds of a pass that serve so many calls at most, and calls of so much weight.
-use Rattle.std.specs.Prelude.{◌≡◌, ◌⊎◌, ℕ, ◌+◌, ◌*◌, ◌<◌, ◌≤◌, List, [], ◌∷◌, ◌++◌, length, zero, suc, Contains}
+use Rattle.std.specs.Prelude.{◌≡◌, ◌⊎◌, ℕ, ◌+◌, ◌*◌, ◌<◌, ◌≤◌, List, [], ◌∷◌, ◌++◌, length, max, zero, suc, Contains}
 use Rattle.sequential.specs.declared.entry.Entry.{Entry}
 use Rattle.sequential.specs.Batches.{asked_in}
 use Rattle.combining.specs.declared.bounds.PassBound.{PassBound}
@@ -8,9 +8,13 @@ use Rattle.combining.specs.declared.bounds.PassBound.{PassBound}
 abbrev pub IsBound : PassBound → Type 0
 IsBound bound = (0 < bound.calls) × (0 < bound.weight) × (0 < bound.rounds)
 
+-- The bound with 1 in place of each 0.
+abbrev pub at_least_one : PassBound → PassBound
+at_least_one bound = record { calls = max bound.calls 1; weight = max bound.weight 1; rounds = max bound.rounds 1 }
+
 -- How many calls a pass serves at most.
 abbrev pub most_of : PassBound → ℕ
-most_of bound = bound.rounds * bound.calls
+most_of bound = (at_least_one bound).rounds * (at_least_one bound).calls
 
 module _ {C R : Type 0} (weight : List (Entry C R) → ℕ → C → ℕ) where
   -- The weight of these calls in all, each of its session, behind this front of the history.

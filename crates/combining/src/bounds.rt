@@ -1,5 +1,8 @@
 //! How much a pass serves at most.
 
+ghost use Rattle.std.specs.Prelude.{◌≡◌};
+ghost use Rattle.combining.specs.Rounds.{IsBound, at_least_one};
+
 /// How much a pass serves at most: in rounds, each of which takes so many published calls at most, and none once it has taken calls of so
 /// much weight. What a call weighs is said by `Told::weigh`: for a lock table, how many locks it gives back.
 ///
@@ -20,3 +23,18 @@ pub const UNBOUNDED: PassBound = PassBound {
     weight: u32::MAX,
     rounds: 1,
 };
+
+impl PassBound {
+    /// The bound with 1 in place of each 0.
+    #[inline(always)]
+    pub fn at_least_one(self) -> PassBound
+        ensures value { result ≡ at_least_one self }
+        ensures bound { IsBound result }
+    {
+        PassBound {
+            calls: u16::max(self.calls, 1),
+            weight: u32::max(self.weight, 1),
+            rounds: u16::max(self.rounds, 1),
+        }
+    }
+}

@@ -62,7 +62,7 @@ fn serve_if<O: Batching, T: Told<O>>(
     if !serve_now {
         return false;
     }
-    let bound = told.bound();
+    let bound = told.bound().at_least_one();
     match office.pass_bounded(session, bound, told) {
         BoundedTurn::Pass { starved, .. } => starved,
         BoundedTurn::Elsewhere => false,
@@ -173,7 +173,7 @@ fn try_at_once<O: Batching, T: Told<O>>(
     ensures notes_starved { result ≡ Next.Starved → T.notes told.old session.old.front → T.notes told.new session.new.front }
     ensures notes_waits { (w : _) → result ≡ Next.Wait w → T.notes told.old session.old.front → T.notes told.new session.new.front }
 {
-    let bound = told.bound();
+    let bound = told.bound().at_least_one();
     match office.perform_adding(session, *call, Some(bound), told) {
         Performed::Answered { answer, .. } => Next::Answered(answer),
         Performed::Elsewhere => Next::Wait(after_try()),

@@ -57,7 +57,7 @@ fn try_row_at_once<O: Batching, G: GoesOn<O>, T: Told<O>>(
     ensures told { HasAddedTold T.ends office.now.sessions session.new.front (entered_since session.old session.new) (T.list told.old) (T.list told.new) }
     ensures room { T.room told.new ≡ T.room told.old }
 {
-    let bound = told.bound();
+    let bound = told.bound().at_least_one();
     match office.perform_row_adding::<G, T>(session, calls, Some(bound), told) {
         PerformedRow::Performed { row, .. } => {
             if row.performed > 0 {

@@ -11,7 +11,6 @@ pub trait Told<O: Batching> {
     ghost use Rattle.sequential.specs.declared.entry.Entry.{Entry};
     ghost use Rattle.combining.specs.declared.bounds.PassBound.{PassBound as PassBoundValue};
     ghost use Rattle.combining.specs.Ended.{HasRoom, IsOnce, IsEndedFrom};
-    ghost use Rattle.combining.specs.Rounds.{IsBound};
 
     // The sessions that it was told of since it was cleared.
     ghost list: { Self → List ℕ };
@@ -33,8 +32,7 @@ pub trait Told<O: Batching> {
 
     /// How much a pass in a whole call serves at most.
     fn bound(&self) -> PassBound
-        ensures most { result ≡ most self.now }
-        ensures some { IsBound result };
+        ensures { result ≡ most self.now };
 
     /// The weight of a call of `session` that `object` is to serve.
     fn weigh(object: &O, session: u16, call: &O::Call) -> u32

@@ -1,5 +1,6 @@
 use Rattle.std.proofs.Common.{◌≡◌, ◌≤◌, ◌*◌, ◌++◌, ◌∙◌, ℕ, length, refl, sym, ap, subst, arith}
-use Rattle.combining.specs.Rounds.{most_of}
+use Rattle.combining.specs.Rounds.{most_of, at_least_one}
+use Rattle.combining.specs.declared.bounds.PassBound.{PassBound}
 use Rattle.combining.proofs.Places.{entered-count}
 use Rattle.combining.proofs.Turns.{waiting-passed, tries-passed, tries-tried, listed-passed, listed-tried}
 use Rattle.combining.proofs.calling.serve_if.Goals as goal
@@ -27,4 +28,4 @@ returns-in-Pass-clause-few g c =
     let pass = c.in-Pass.ensures.pass served c.in-Pass.starved c.in-Pass.left refl in
     let count = entered-count t u (length (t.front ++ pass.others)) served pass.entered in
     let few = c.in-Pass.ensures.few served c.in-Pass.starved c.in-Pass.left refl in
-    subst (λ (n : ℕ). n ≤ most_of (g.T.Told.most c.args.told.now)) (sym count) (subst (λ (b : _). served ≤ most_of b) c.bound-bound.ensures.most few)
+    subst (λ (n : ℕ). n ≤ most_of (g.T.Told.most c.args.told.now)) (sym count) (subst (λ (b : PassBound). served ≤ b.rounds * b.calls) (c.at_least_one-bound.ensures.value ∙ ap at_least_one c.bound.ensures) few)
