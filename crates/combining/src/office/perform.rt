@@ -94,6 +94,37 @@ impl<O: Batching> Office<O> {
         self.perform_adding(session, call, None, told)
     }
 
+    /// Performs and tells as `perform_telling` does, but makes a pass as `serve_bounded` does, within the bound.
+    pub fn perform_bounded<T: Told<O>>(
+        &self,
+        session: &mut Session<O>,
+        call: O::Call,
+        bound: PassBound,
+        told: &mut T,
+    ) -> Performed<O::Reply>
+        requires ours { IsSessionOf self.now session.old }
+        requires idle { IsIdle session.old }
+        requires bound { IsBound bound }
+        requires room { HasRoom (T.room told.old) self.now.sessions }
+        ensures ours { IsSessionOf self.now session.new }
+        ensures idle { IsIdle session.new }
+        ensures answered { (answer : _) (served : _) (starved : _) → result ≡ Performed.Answered answer served starved
+            → IsPerformed O.Sequential (O.goes_first call) session.old session.new call answer.place answer.reply served }
+        ensures put_back { (answer : _) (served : _) (starved : _) → result ≡ Performed.Answered answer served starved
+            → IsTrue starved ↔ (session.old.put_backs < session.new.put_backs) }
+        ensures elsewhere { result ≡ Performed.Elsewhere → (session.new ≡ session.old) × (1 < self.now.sessions) }
+        ensures refused { result ≡ Performed.Starved → IsRefused O.Sequential session.old session.new }
+        ensures few { length (entered_since session.old session.new) ≤ bound.rounds * bound.calls + 1 }
+        ensures calls { HasCallsOf session.new.front session.new }
+        ensures told { AreToldBy T.ends self.now.sessions session.new.front (entered_since session.old session.new) (T.list told.new) }
+        ensures none { result ≡ Performed.Elsewhere → T.list told.new ≡ [] }
+        ensures room { T.room told.new ≡ T.room told.old }
+        ensures notes { T.notes told.old session.old.front → T.notes told.new session.new.front }
+    {
+        told.clear();
+        self.perform_adding(session, call, Some(bound), told)
+    }
+
     /// Performs as `perform` does, with a pass within the bound that is given, if one is, and adds the sessions whose waits the pass and
     /// the call have ended to those that were told.
     pub(crate) fn perform_adding<T: Told<O>>(
