@@ -1,11 +1,11 @@
 //! The youngest session on a cycle with a given one.
 
-ghost use Rattle.std.specs.Prelude.{◌≡◌, ℕ, ◌+◌, ◌<◌, ◌≤◌, ◌↔◌, true, false, ◌&&◌, ◌||◌, ◌==◌, ◌/◌, Bool, Some, IfSome, IsSome, length};
+ghost use Rattle.std.specs.Prelude.{◌≡◌, ℕ, ◌+◌, ◌<◌, ◌≤◌, true, false, ◌&&◌, ◌||◌, ◌==◌, ◌/◌, Bool, Some, IfSome, length};
 ghost use Rattle.std.specs.Option.{ForSome};
 ghost use Rattle.waits_for.specs.Pairs.{pairs_of};
 ghost use Rattle.waits_for.specs.Walks.{Reaches, IsYoungestOnCircle};
 ghost use Rattle.waits_for.specs.inner.Bits.{has_bit, words_for};
-ghost use Rattle.waits_for.specs.inner.Search.{HasAllWaiting, HasAllOnCircle, HasSearched, IsBestBelow, IsTestOf, IsTo, younger};
+ghost use Rattle.waits_for.specs.inner.Search.{HasAllOnCircle, IsBestBelow, IsTestOf, IsTo, younger};
 
 use crate::bits::{has, next_common};
 use crate::matrix::Matrix;

@@ -1,6 +1,6 @@
 //! The search for the circle of a session, with the memory that it needs, and the circle that was found last.
 
-ghost use Rattle.std.specs.Prelude.{◌≡◌, ℕ, ◌+◌, ◌<◌, ◌≤◌, ◌↔◌, true, ◌==◌, IfOk, IfSome, IsSome, IsTrue, length};
+ghost use Rattle.std.specs.Prelude.{◌≡◌, ℕ, ◌+◌, ◌<◌, ◌↔◌, true, ◌==◌, IfOk, IfSome, IsSome, IsTrue, length};
 ghost use Rattle.waits_for.specs.Pairs.{pairs_of};
 ghost use Rattle.waits_for.specs.Walks.{Reaches, AreOnCircle, IsYoungestOnCircle};
 ghost use Rattle.waits_for.specs.inner.Bits.{has_bit, words_for};
