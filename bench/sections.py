@@ -430,8 +430,8 @@ class Store(Section):
 class StoreInMemory(Store):
     name, heading = "hash_table", "The store over a hash table: `bench/store.cpp`"
     how = (
-        "Thousands of transactions a second; the ratio of the medians to RocksDB's locks; µs of processors for a transaction; and the 99th of"
-        " 100 times of one, in µs. The program says what each way is."
+        "Thousands of transactions a second; the ratio of the medians to RocksDB's locks; µs of processors for a transaction; and the 99th"
+        " of 100 times of one, in µs."
     )
     TRANSACTIONS = 60_000
     WORKLOADS = ("orders",)

@@ -11,11 +11,11 @@
 //     none      no locks, by one thread: what a transaction takes besides
 // WORKLOAD is `orders` or `bank` of examples/store, the latter with transfers in the order of paths, so that only audits close cycles. An
 // audit by `rocksdb` reads a snapshot, since it locks keys alone; so in memory there is none, nor one by `plain`. Where the library has U,
-// Berkeley DB has its write lock, and `rocksdb` and `plain` an exclusive one. FOLDER is one that isn't there yet. With `memory` the rows are
-// in a hash table during the run, which takes no locks (store_rows.hpp), and in RocksDB before it and behind it. With `graph` each client
-// writes a log, and the graph of dependencies is judged, too. Makes so many transactions in all, and prints how many a second, the time of
-// one from its begin to its commit (median and 99th of 100), the processor time of all threads for one, in ns, and how many times one was
-// made again. Fails if the tables don't agree, or if the graph has a cycle.
+// Berkeley DB has its write lock, and `rocksdb` and `plain` an exclusive one. FOLDER is one that isn't there yet. With `memory` the rows
+// are in a hash table during the run, which takes no locks (store_rows.hpp), and in RocksDB before it and behind it. With `graph` each
+// client writes a log, and the graph of dependencies is judged, too. Makes so many transactions in all, and prints how many a second, the
+// time of one from its begin to its commit (median and 99th of 100), the processor time of all threads for one, in ns, and how many times
+// one was made again. Fails if the tables don't agree, or if the graph has a cycle.
 //     ./embed && c++ -std=c++17 -O2 -DBERKELEY_DB bench/store.cpp -Iout -Lout -lpelgaisti -lrocksdb -ldb -lpthread -o store
 #include "../examples/store/drive.hpp"
 #include "../examples/store/orders.hpp"
@@ -119,11 +119,12 @@ template <class Run> store::driven with_locks(const asked_for &asked, Run run) {
 template <class Workload> store::driven drive(const asked_for &asked, const Workload &workload, const std::function<void(rocksdb::DB &)> &judge) {
     const std::unique_ptr<rocksdb::DB> opened = open(asked);
     workload.load(*opened);
-    // makes the transactions, over what clients are made from
+    // makes the transactions over this type, by clients that are made from these
     const auto run = [&](auto over, auto &...from) {
-        using client = store::client_over<typename decltype(over)::type>;
-        return store::drive(workload, asked.threads, asked.transactions, asked.has_graph, [&] { return std::make_unique<client>(from...); });
+        const auto connect = [&] { return std::make_unique<store::client_over<typename decltype(over)::type>>(from...); };
+        return store::drive(workload, asked.threads, asked.transactions, asked.has_graph, connect);
     };
+    // of `rocksdb` alone
     const auto own = [&]() -> rocksdb::TransactionDB & { return static_cast<rocksdb::TransactionDB &>(*opened); };
     store::driven made;
     if (asked.is_in_memory) {

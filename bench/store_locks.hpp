@@ -89,11 +89,27 @@ public:
     };
 };
 
-// What locks no levels. A path's first three numbers are locked: the lines of an order by the order, the payments of a customer by the
-// customer, as those do who have levels. There is no U; X is in its place.
-struct no_levels {
+// Locks without levels, which are shared or exclusive. A path's first three numbers are locked: the lines of an order by the order, the
+// payments of a customer by the customer, as those do who have levels. There is no U; an exclusive lock is in its place.
+class no_levels {
+    std::vector<std::pair<path, bool>> held_;  // each with whether it is exclusive
+
+protected:
+    // Notes a lock. Whether it is to be asked for: it isn't held.
+    bool takes(const path &on, bool is_exclusive) {
+        for (const auto &[other, has] : held_) {
+            if (!store::same_path()(other, on)) continue;
+            if (is_exclusive && !has) throw std::logic_error("a shared lock isn't made an exclusive one");
+            return false;
+        }
+        held_.emplace_back(on, is_exclusive);
+        return true;
+    }
+    void forget() { held_.clear(); }
     static path locked_by(const path &row) { return store::first_levels(row, std::min(row.level, 3u)); }
-    void lock_tree(const path &, mode) { throw std::logic_error("no subtree can be locked"); }
+
+public:
+    void lock_tree(const path &, mode) { throw std::logic_error("no subtree is locked"); }
     void rest() {}
 };
 
@@ -115,11 +131,16 @@ public:
     explicit point_locks(rocksdb::TransactionDB &of) : of_(of) { how_.deadlock_detect = true; }
 
     void begin() { made_.reset(of_.BeginTransaction(rocksdb::WriteOptions(), how_, made_.release())); }
-    void lock(const path &on, mode in) {
+    void lock(const path &row, mode in) {
+        const path on = locked_by(row);
+        const bool is_exclusive = in != mode::S;
         std::string *const unread = nullptr;
-        is_found(made_->GetForUpdate(rocksdb::ReadOptions(), store::key_of(locked_by(on)), unread, in != mode::S, false));
+        if (takes(on, is_exclusive)) is_found(made_->GetForUpdate(rocksdb::ReadOptions(), store::key_of(on), unread, is_exclusive, false));
     }
-    void commit(bool) { store::check(made_->Rollback()); }
+    void commit(bool) {
+        store::check(made_->Rollback());
+        forget();
+    }
     void restart() {
         commit(false);
         begin();
@@ -135,26 +156,24 @@ class plain_locks {
 public:
     class client : public no_levels {
         plain_locks &of_;
-        std::vector<std::pair<std::shared_mutex *, bool>> held_;  // each with whether it is held alone
+        std::vector<std::pair<std::shared_mutex *, bool>> taken_;  // each with whether it is exclusive
 
     public:
         explicit client(plain_locks &of) : of_(of) {}
 
         void begin() {}
-        void lock(const path &on, mode in) {
-            std::shared_mutex *const it = of_.locks_.enter(locked_by(on)).first;
-            const bool is_alone = in != mode::S;
-            for (const auto &[other, has_alone] : held_) {
-                if (other != it) continue;
-                if (is_alone && !has_alone) throw std::logic_error("a shared lock can't be made an exclusive one");
-                return;
-            }
-            is_alone ? it->lock() : it->lock_shared();
-            held_.emplace_back(it, is_alone);
+        void lock(const path &row, mode in) {
+            const path on = locked_by(row);
+            const bool is_exclusive = in != mode::S;
+            if (!takes(on, is_exclusive)) return;
+            std::shared_mutex *const it = of_.locks_.enter(on).first;
+            is_exclusive ? it->lock() : it->lock_shared();
+            taken_.emplace_back(it, is_exclusive);
         }
         void commit(bool) {
-            for (const auto &[it, is_alone] : held_) is_alone ? it->unlock() : it->unlock_shared();
-            held_.clear();
+            for (const auto &[it, is_exclusive] : taken_) is_exclusive ? it->unlock() : it->unlock_shared();
+            taken_.clear();
+            forget();
         }
         void restart() { commit(false); }
         void abort() { commit(false); }
