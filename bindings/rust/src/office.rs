@@ -481,4 +481,18 @@ impl Session {
         // SAFETY: the handle is this session's, used by `&mut`
         done(unsafe { ffi::pelgaisti_session_retire(self.raw()) })
     }
+
+    /// From now on a pass in a whole call of this session serves at most `calls` published calls and programs a round, takes none once those
+    /// that it has taken give back `locks` locks, and makes `rounds` rounds at most, as `pelgaisti_session_bound_passes` says. Fails with
+    /// `NoSuchCount` if a number is 0, or `calls` or `rounds` above 65,535.
+    ///
+    ///     # use pelgaisti::{Error, Office};
+    ///     let mut sessions = Office::open(1)?;
+    ///     sessions[0].bound_passes(16, 1_000, 1)?;
+    ///     assert_eq!(sessions[0].bound_passes(0, 1_000, 1), Err(Error::NoSuchCount));
+    ///     # Ok::<(), pelgaisti::Error>(())
+    pub fn bound_passes(&mut self, calls: u32, locks: u32, rounds: u32) -> Result<(), Error> {
+        // SAFETY: the handle is this session's, used by `&mut`
+        done(unsafe { ffi::pelgaisti_session_bound_passes(self.raw(), calls, locks, rounds) })
+    }
 }

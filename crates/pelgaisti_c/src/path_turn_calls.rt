@@ -58,7 +58,7 @@ fn make_path_turn(
     ensures same { IsSameOffice share.old share.new }
 {
     if share.waker == 0 {
-        let mut nobody = Counted::new(Nobody);
+        let mut nobody = Counted::within(Nobody, share.told.bound);
         return share
             .session
             .path_turn(&share.office, &resource, mode, locked, made, &mut nobody);

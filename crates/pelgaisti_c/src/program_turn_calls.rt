@@ -94,7 +94,7 @@ fn make_turn(share: &mut SessionShare, program: &Program, made: u64) -> Next<Ans
     ensures same { IsSameOffice share.old share.new }
 {
     if share.waker == 0 {
-        let mut nobody = Counted::new(Nobody);
+        let mut nobody = Counted::within(Nobody, share.told.bound);
         return share
             .session
             .run_turn(&share.office, program, made, &mut nobody);
@@ -120,7 +120,7 @@ fn make_look(share: &mut SessionShare, looked: u64) -> Next<Answer>
     ensures same { IsSameOffice share.old share.new }
 {
     if share.waker == 0 {
-        let mut nobody = Counted::new(Nobody);
+        let mut nobody = Counted::within(Nobody, share.told.bound);
         return share.session.run_look(&share.office, looked, &mut nobody);
     }
     share

@@ -104,7 +104,7 @@ fn make_turn(share: &mut SessionShare, call: &Call, made: u64) -> Next<Reply>
     ensures same { IsSameOffice share.old share.new }
 {
     if share.waker == 0 {
-        let mut nobody = Counted::new(Nobody);
+        let mut nobody = Counted::within(Nobody, share.told.bound);
         return share.session.turn(&share.office, call, made, &mut nobody);
     }
     share
@@ -129,7 +129,7 @@ fn make_look(share: &mut SessionShare, looked: u64) -> Next<Reply>
     ensures same { IsSameOffice share.old share.new }
 {
     if share.waker == 0 {
-        let mut nobody = Counted::new(Nobody);
+        let mut nobody = Counted::within(Nobody, share.told.bound);
         return share.session.look(&share.office, looked, &mut nobody);
     }
     share.session.look(&share.office, looked, &mut share.told)
