@@ -315,8 +315,9 @@ impl Session {
     }
 
     /// Makes a whole call, in at most `turns` turns, between which the thread pauses or yields the processor; behind 128 turns it
-    /// sleeps while another session has the lock table. In the first 32 turns it tries to perform the call at once; in the next it
-    /// publishes it, and from then on it serves, at every eighth turn, and looks for the answer. If the call isn't published by the
+    /// sleeps while another session has the lock table. In the first turn it tries to perform the call at once; in the next it
+    /// publishes it, and from then on it serves, at every eighth turn and within the bound of [`Session::bound_passes`], and looks for
+    /// the answer. If the call isn't published by the
     /// last turn, it is published then; with no turns it is published and nothing else. The answer may be [`Reply::Waiting`]: this
     /// waits for an answer, not for a lock.
     ///
