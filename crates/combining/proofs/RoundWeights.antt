@@ -2,13 +2,14 @@
 use Rattle.std.proofs.Common.{◌≡◌, ◌⊎◌, inl, inr, ⊎_elim, ℕ, ◌+◌, ◌*◌, ◌<◌, ◌≤◌, zero, suc, List, [], ◌∷◌, ◌++◌, length, take, drop, vec_len, refl, sym, ap, ◌∙◌, subst, arith, length-append}
 use Rattle.std.specs.Prelude.{Contains}
 use Rattle.std.specs.Global.{Vec}
-use Rattle.std.proofs.lemmas.List.{map-append, take-append-drop}
+use Rattle.std.proofs.lemmas.List.{take-append-drop}
 use Rattle.std.proofs.lemmas.List.Elements.{Contains-append_right}
 use Rattle.std.proofs.Math.Seq.{drop-append_seam}
 use mathlib.Core.List.{IsPrefix}
 use Rattle.sequential.specs.declared.entry.Entry.{Entry}
 use Rattle.sequential.specs.declared.entry.Item.{Item}
 use Rattle.sequential.specs.Batches.{asked_by, asked_in}
+use Rattle.sequential.proofs.Batches.{asked-append}
 use Rattle.combining.specs.Rounds.{weight_of, IsLight, IsRound, HaveLed, IsFull}
 use Rattle.combining.specs.declared.bounds.PassBound.{PassBound}
 use Rattle.combining.specs.inner.Passes.{HasInserted}
@@ -18,9 +19,6 @@ module _ {C R : Type 0} (weight : List (Entry C R) → ℕ → C → ℕ) (front
   weight-append : (these those : List (ℕ × C)) → weight_of weight front (these ++ those) ≡ weight_of weight front these + weight_of weight front those
   weight-append [] those = omega arith
   weight-append (a ∷ others) those = omega (arith, weight-append others those)
-
-  asked-append : (these those : List (Item C R)) → asked_by (these ++ those) ≡ asked_by these ++ asked_by those
-  asked-append these those = map-append (λ (i : Item C R). (i.session, i.call)) these those
 
   asked-inserted : (old new : List (Item C R)) (whose : ℕ) (call : C) (i : HasInserted whose call old new)
       → asked_by new ≡ asked_by (take i.place old) ++ (whose, call) ∷ asked_by (drop i.place old)
