@@ -1,7 +1,7 @@
 #!/usr/bin/env python3
-"""Measures anew what bench/README.md tells by the clock, and prints its tables, ready to be pasted.
+"""Measures anew what bench/README.md tells by the clock, and prints its tables, or pastes them.
 
-Usage: bench/measure.py [--over-gate] [--rounds N] [--quick] [--only SECTION]..
+Usage: bench/measure.py [--over-gate] [--rounds N] [--quick] [--paste] [--only SECTION]..
 
 A section makes its cases in rounds (5 by default): each case once in a round, and every second round backwards. A figure is the
 median of the rounds, with the least and the greatest in brackets. Before the tables of a section a line says on which machine, when
@@ -17,15 +17,16 @@ The sections, with the minutes that they take on 4 free processors:
     lock_bench    the same traces by lock_bench mutex and lock_bench threads                                 1/2
     programs      a mutex, an office and Berkeley DB, by single calls and by programs, by bench/programs.c   4
     store         examples/store over offices, RocksDB's own transactions and Berkeley DB, by bench/store.cpp  15
+    hash_table    its orders over a hash table, by these, a mutex and reader-writer locks, by bench/store.cpp  15
     objects       a queue and a map, by an office, a mutex, and queues without a lock, by object_bench       1 1/2
     waiting       three ways to wait for locks, by bench/waiting.c                                           1
     embedding     the boundary to C beside lock_bench seq and, if its library is there, Berkeley DB          1/2
     instructions  what checks/instructions.py counts; needs valgrind; once                                   1/2
 
-The sections come out one by one, and what they are at goes to standard error. --quick makes one round with few repetitions, to try
-this script: its figures are none. Needs a C compiler, `$CC` or cc; `store` needs RocksDB, and `$CXX` or c++ for C++17. Builds the
-programs and the library first, if they aren't built; with --over-gate, takes those that a full run of the gate and checks/embedding
-have left. Status 1: a section was left out.
+The sections come out one by one, and what they are at goes to standard error. --paste also puts each in the place of what
+bench/README.md has of it. --quick makes one round with few repetitions, to try this script: its figures are none. Needs a C compiler,
+`$CC` or cc; `store` and `hash_table` need RocksDB, and `$CXX` or c++ for C++17. Builds the programs and the library first, if they aren't
+built; with --over-gate, takes those that a full run of the gate and checks/embedding have left. Status 1: a section was left out.
 """
 import argparse
 import os
@@ -48,6 +49,7 @@ BUILDS = {
     OBJECT_BENCH: (["rt", "run", "--", "--help"], TOP / "crates/object_bench"),
     LIBRARY: (["./embed"], TOP),
 }
+README = TOP / "bench/README.md"
 # a round is robbed if more than one tick in so many was stolen
 ROBBED = 100
 
@@ -134,22 +136,30 @@ def make_rounds(section, count):
     return found, numbers, Ticks().since(start)
 
 
-def print_section(section, rounds):
-    print(f"\n## {section.heading}\n", flush=True)
+def text_of(section, rounds):
+    """The lines of a section: how it was measured, and its tables."""
     day, start = today(), time.monotonic()
     found, numbers, spent = make_rounds(section, rounds)
     spread = "median of {} rounds, in brackets the least and the greatest" if rounds > 1 else "{} round"
-    print(f"{processor()}, {day}: {spread.format(rounds)}; {spent.told()}. {section.how}\n")
+    lines = [f"{processor()}, {day}: {spread.format(rounds)}; {spent.told()}. {section.how}"]
     for robbed in (False, True):
         if not numbers[robbed]:
             continue
         if robbed:
-            blank = "\n" if numbers[False] else ""
-            print(f"{blank}ROBBED: {numbers[True]} of {rounds} rounds, in which more than 1 tick in {ROBBED} was stolen.\n")
+            lines += ["", f"ROBBED: {numbers[True]} of {rounds} rounds, in which more than 1 tick in {ROBBED} was stolen."]
         elif numbers[True]:
-            print(f"Clean: {numbers[False]} of {rounds} rounds.\n")
-        print("\n".join(section.tables(found[robbed])), flush=True)
+            lines += ["", f"Clean: {numbers[False]} of {rounds} rounds."]
+        lines += ["", *section.tables(found[robbed])]
     tell(f"{section.name}: {time.monotonic() - start:.0f} seconds")
+    return "\n".join(lines)
+
+
+def paste(name, text):
+    """Puts a section in the place of what bench/README.md has of it, from the comment that names it to the next heading."""
+    line = f"<!-- bench/measure.py --only {name} replaces what follows in this section -->\n"
+    before, behind = README.read_text().split(line)
+    next_heading = behind.find("\n## ")
+    README.write_text(f"{before}{line}\n{text}\n{behind[next_heading:] if next_heading >= 0 else ''}")
 
 
 def build(needs, is_over_gate):
@@ -166,6 +176,7 @@ def asked_of_the_words():
     asked.add_argument("--over-gate", action="store_true", help="takes what a full run of the gate has left")
     asked.add_argument("--rounds", type=int, default=5)
     asked.add_argument("--quick", action="store_true", help="one round with few repetitions, to try this script")
+    asked.add_argument("--paste", action="store_true", help="puts the sections into bench/README.md, too")
     asked.add_argument("--only", action="append", choices=[kind.name for kind in SECTIONS], metavar="SECTION")
     asked = asked.parse_args()
     if asked.rounds < 1:
@@ -185,7 +196,11 @@ def main():
             try:
                 build(kind.needs, asked.over_gate)
                 rounds = 1 if asked.quick else min(asked.rounds, kind.most_rounds or asked.rounds)
-                print_section(kind(Path(name), asked.quick), rounds)
+                print(f"\n## {kind.heading}\n", flush=True)
+                text = text_of(kind(Path(name), asked.quick), rounds)
+                print(text, flush=True)
+                if asked.paste:
+                    paste(kind.name, text)
             except (OSError, subprocess.SubprocessError) as error:
                 failed.append(kind.name)
                 print(f"\nLeft out: {kind.name} couldn't be measured.", flush=True)

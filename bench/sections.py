@@ -384,6 +384,8 @@ class Store(Section):
         "berkeley": "Berkeley DB",
         "none": "no locks",
     }
+    # the way to which the others have their ratios, the digits of microseconds behind the point, and further words of the program
+    BASE, DIGITS, WORDS = "office", 0, ()
 
     def build(self, *flags):
         program = self.folder / "store"
@@ -405,16 +407,16 @@ class Store(Section):
     def told(self, program, workload, warehouses, threads, way):
         rows = self.folder / "rows"
         count = max(threads, self.few(self.TRANSACTIONS))
-        line = output_of([program, way, workload, str(warehouses), str(threads), str(count), rows])
+        line = output_of([program, way, workload, str(warehouses), str(threads), str(count), rows, *self.WORDS])
         shutil.rmtree(rows)
         return {name: float(number) for name, number in re.findall(r"(\w+)=([\d.]+)", line)}
 
     def cell(self, found, key):
         if (key, "second") not in found.found:
             return ""
-        ratio = found.middle(key, "second") / found.middle((*key[:3], "office"), "second")
+        ratio = found.middle(key, "second") / found.middle((*key[:3], self.BASE), "second")
         told = [found.text(key, "second", 1, 1000), f"{ratio:.2f}"]
-        return ", ".join([*told, *(f"{found.middle(key, name) / 1000:.0f}" for name in ("processor", "99th"))])
+        return ", ".join([*told, *(f"{found.middle(key, name) / 1000:.{self.DIGITS}f}" for name in ("processor", "99th"))])
 
     def tables(self, found):
         lines = []
@@ -423,6 +425,27 @@ class Store(Section):
                 rows = [[threads, *(self.cell(found, (work, n, threads, way)) for way in self.WAYS)] for threads in self.THREADS]
                 lines += ["", *table([f"{work}, {n} warehouses, threads", *self.WAYS.values()], rows)]
         return lines[1:]
+
+
+class StoreInMemory(Store):
+    name, heading = "hash_table", "The store over a hash table: `bench/store.cpp`"
+    how = (
+        "Thousands of transactions a second; the ratio of the medians to RocksDB's locks; µs of processors for a transaction; and the 99th"
+        " of 100 times of one, in µs."
+    )
+    TRANSACTIONS = 60_000
+    WORKLOADS = ("orders",)
+    WAYS = {
+        "office": "one office",
+        "offices": "an office for each warehouse",
+        "kept": "intention locks kept",
+        "mutex": "a book behind a mutex",
+        "rocksdb": "RocksDB's locks",
+        "berkeley": "Berkeley DB",
+        "plain": "reader-writer locks",
+        "none": "no locks",
+    }
+    BASE, DIGITS, WORDS = "rocksdb", 1, ("memory",)
 
 
 class Embedding(Section):
@@ -490,5 +513,7 @@ class Instructions(Section):
         return table(["calls", "instructions", "at most"], [[told, f"{int(a):,}", f"{int(b):,}"] for told, a, b in self.lines])
 
 
-SECTIONS = [Replay, Worst, Memory, Growth, Sharing, LockBench, Programs, Store, Objects, Waiting, Embedding, Instructions]
+SECTIONS = [
+    Replay, Worst, Memory, Growth, Sharing, LockBench, Programs, Store, StoreInMemory, Objects, Waiting, Embedding, Instructions,
+]
 

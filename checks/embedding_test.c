@@ -57,7 +57,7 @@ static const struct {
     {ANY(book_holders), "pplrp"}, {ANY(book_waits_for), "pnnp"}, {ANY(book_blockers), "pnlrp"}, {ANY(book_transaction), "pnp"},
     {ANY(book_request), "pnp"}, {ANY(book_locks), "pnlrp"}, {ANY(book_ended), "plrp"}, {ANY(book_length), "pp"},
     {ANY(book_locks_held), "pnp"}, {ANY(book_locks_of), "pnplrp"}, {ANY(session_locks_held), "pnpp"}, {ANY(session_locks_of), "pnplrpp"},
-    {ANY(book_dump), "plrpp"}, {ANY(session_dump), "plrpp"}, {ANY(book_counts), "pp"}, {ANY(session_counts), "ppp"}, {ANY(book_gauges), "pp"}, {ANY(session_gauges), "ppp"}, {ANY(session_passes), "ppp"},
+    {ANY(book_dump), "plrpp"}, {ANY(session_dump), "plrpp"}, {ANY(book_counts), "pp"}, {ANY(session_counts), "ppp"}, {ANY(book_gauges), "pp"}, {ANY(session_gauges), "ppp"}, {ANY(session_passes), "ppp"}, {ANY(session_bound_passes), "pnnn"},
     {ANY(book_history), "pnlrp"}, {ANY(book_first_kept), "pp"}, {ANY(book_keep_at_most), "pn"}, {ANY(book_take_history), "pplrp"},
     {ANY(book_lock_path), "pnpnpplrp"}, {ANY(book_run), "pnpplrp"}, {ANY(office_open), "pn"}, {ANY(office_open_keeping), "pnn"}, {ANY(office_open_waking), "pnnp"},
     {ANY(session_publish), "ppo"}, {ANY(session_serve), "po"}, {ANY(session_serve_telling), "polrp"},
@@ -2915,6 +2915,49 @@ static void a_session_wakes_itself(void) {
     CHECK(pelgaisti_book_close(&book) == PELGAISTI_OK);
 }
 
+/* How many calls of the history the session knows. */
+static uint64_t known_by(pelgaisti_session *session) {
+    uint64_t seen = UINT64_MAX;
+    CHECK(pelgaisti_session_seen(session, &seen) == PELGAISTI_OK);
+    return seen;
+}
+
+/* A whole call serves of the calls that others have published no more than its session's bound lets it: so many a round, none once those
+   that are taken give back so many locks, and so many rounds. */
+static void passes_keep_to_their_bound(void) {
+    static const uint32_t off[][3] = {{0, 1, 1}, {1, 0, 1}, {1, 1, 0}, {65536, 1, 1}, {1, 1, 65536}, {UINT32_MAX, 1, 1}};
+    pelgaisti_call begin = call_of(PELGAISTI_BEGIN, 0, 0, 0, 0), poll = call_of(PELGAISTI_POLL, 0, 0, 0, 0);
+    pelgaisti_call commit = call_of(PELGAISTI_COMMIT, 0, 0, 0, 0), root = call_of(PELGAISTI_LOCK, PELGAISTI_IS, 1, 1, 0);
+    pelgaisti_session four[4] = {PELGAISTI_EMPTY, PELGAISTI_EMPTY, PELGAISTI_EMPTY, PELGAISTI_EMPTY};
+    pelgaisti_book book = PELGAISTI_EMPTY;
+    pelgaisti_answer answer;
+    CHECK(pelgaisti_session_bound_passes(&four[3], 1, 1, 1) == PELGAISTI_CLOSED);
+    CHECK(pelgaisti_office_open(four, 4) == PELGAISTI_OK);
+    CHECK(pelgaisti_session_bound_passes(NULL, 1, 1, 1) == PELGAISTI_NULL);
+    for (size_t k = 0; k < COUNT(off); k++)
+        CHECK(pelgaisti_session_bound_passes(&four[3], off[k][0], off[k][1], off[k][2]) == PELGAISTI_NO_SUCH_COUNT);
+    CHECK(pelgaisti_session_bound_passes(&four[3], 65535, UINT32_MAX, 65535) == PELGAISTI_OK);
+    for (size_t k = 0; k < 3; k++) CHECK(pelgaisti_session_publish(&four[k], &begin, NULL) == PELGAISTI_OK);
+    CHECK(pelgaisti_session_bound_passes(&four[3], 1, 9, 1) == PELGAISTI_OK);
+    CHECK(pelgaisti_session_perform(&four[3], &begin, 1, &answer) == PELGAISTI_OK && known_by(&four[3]) == 2);
+    CHECK(pelgaisti_session_bound_passes(&four[3], 1, 9, 2) == PELGAISTI_OK);
+    CHECK(pelgaisti_session_perform(&four[3], &poll, 1, &answer) == PELGAISTI_OK && known_by(&four[3]) == 5);
+    for (size_t k = 0; k < 3; k++) CHECK(pelgaisti_session_perform(&four[k], NULL, 1, &answer) == PELGAISTI_OK);
+    for (size_t k = 0; k < 3; k++)
+        CHECK(pelgaisti_session_perform(&four[k], &root, 1, &answer) == PELGAISTI_OK && answer.reply.kind == PELGAISTI_GRANTED);
+    for (size_t k = 0; k < 3; k++) CHECK(pelgaisti_session_publish(&four[k], &commit, NULL) == PELGAISTI_OK);
+    /* each commit gives back one lock: two of them are as much as a round takes */
+    CHECK(pelgaisti_session_bound_passes(&four[3], 9, 2, 1) == PELGAISTI_OK);
+    CHECK(pelgaisti_session_perform(&four[3], &poll, 1, &answer) == PELGAISTI_OK && known_by(&four[3]) == 11);
+    CHECK(pelgaisti_session_bound_passes(&four[3], 9, 1, 9) == PELGAISTI_OK);
+    CHECK(pelgaisti_session_perform(&four[3], &commit, 1, &answer) == PELGAISTI_OK && known_by(&four[3]) == 13);
+    for (size_t k = 0; k < 3; k++) {
+        CHECK(pelgaisti_session_perform(&four[k], NULL, 1, &answer) == PELGAISTI_OK && answer.reply.kind == PELGAISTI_COMMITTED);
+        CHECK(pelgaisti_session_hand_in(&four[k], &four[3]) == PELGAISTI_OK);
+    }
+    CHECK(pelgaisti_office_close(&four[3], &book) == PELGAISTI_OK && pelgaisti_book_close(&book) == PELGAISTI_OK);
+}
+
 int main(int argc, char **argv) {
     if (argc > 1 && !strcmp(argv[1], "calls")) {
         for (size_t k = 0; k < COUNT(all_calls); k++) printf("pelgaisti_%s\n", all_calls[k].name);
@@ -2925,6 +2968,7 @@ int main(int argc, char **argv) {
     books_refuse();
     books_serve();
     history_is_let_go();
+    passes_keep_to_their_bound();
     levels_are_locked();
     calls_are_functions();
     numbers_have_names();

@@ -281,6 +281,8 @@ static void offices() {
     CHECK(counted && counted->length == 7 && counted->found.of(op::begin) == 2 && counted->found.of(op::lock) == 2);
     CHECK(office[0].gauges()->length == 7 && office[0].gauges()->found.transactions == 1 && office[0].gauges()->found.locks == 1);
     CHECK(office[0].passes()->length == 7 && office[0].passes()->found.starved == 0);
+    office[0].bound_passes(16, 1000, 1);
+    CHECK(throws(PELGAISTI_NO_SUCH_COUNT, [&] { office[0].bound_passes(16, 0, 1); }));
     CHECK(counted->found.granted_at_once == 1 && counted->found.waits_granted == 1 && counted->found.of(pelgaisti::refusal::not_held) == 0);
     CHECK(office[0].locks_of(2, 8)->found.at(0).mode == PELGAISTI_IX && office[0].locks_of(2, {7}, 8)->found.empty());
     CHECK(office[0].locks_behind(office[0].locks_of(2, 1)->found.at(0), 8)->found.empty());

@@ -40,10 +40,10 @@ int __wrap_sched_yield(void) {
     return __real_sched_yield();
 }
 
-/* Calls of so many turns, and how often the thread yields behind them: behind each try from the 17th to the 32nd, and behind each 64th
-   look. */
+/* Calls of so many turns, and how often the thread yields behind them: behind each 64th turn. In the first turn the call is tried at once,
+   in the second it is published, and in the others the session looks for the answer. */
 static const struct { uint64_t turns; long yields; } calls[] = {
-    {0, 0}, {1, 0}, {2, 0}, {16, 0}, {17, 1}, {20, 4}, {21, 5}, {32, 16}, {33, 16}, {34, 16}, {63, 16}, {64, 17}, {65, 17}, {128, 18}};
+    {0, 0}, {1, 0}, {2, 0}, {3, 0}, {16, 0}, {33, 0}, {63, 0}, {64, 1}, {65, 1}, {127, 1}, {128, 2}};
 static const struct { uint64_t turns; long yields; } looks[] = {{0, 0}, {1, 0}, {63, 0}, {64, 1}, {65, 1}, {127, 1}, {128, 2}};
 static uint64_t turns;
 static long wanted;

@@ -108,7 +108,7 @@ typedef enum pelgaisti_status {
     PELGAISTI_NO_SUCH_LEVEL = 5,   /* the level is not in 1 to PELGAISTI_LEVELS [call, level] */
     PELGAISTI_NO_SUCH_MODE = 6,    /* the mode is not a pelgaisti_mode [call] */
     PELGAISTI_OPEN = 7,            /* the handle is already open [open, exactly then] */
-    PELGAISTI_NO_SUCH_COUNT = 8,   /* the number of sessions is not in 1 to PELGAISTI_MAX_SESSIONS [count] */
+    PELGAISTI_NO_SUCH_COUNT = 8,   /* the number of sessions is not in 1 to PELGAISTI_MAX_SESSIONS, or a bound has a number that is 0 or too large [count] */
     PELGAISTI_PENDING = 9,         /* the session has a pending call or program [pending]; of pelgaisti_session_collect, and of
                                       .._perform with NULL: a program of several calls [several] */
     PELGAISTI_NOTHING_PENDING = 10, /* the session has no pending call or program [nothing] */
@@ -911,6 +911,16 @@ pelgaisti_status pelgaisti_session_gauges(pelgaisti_session *session, pelgaisti_
    NULL, CLOSED, ELSEWHERE. */
 pelgaisti_status pelgaisti_session_passes(pelgaisti_session *session, pelgaisti_pass_counts *passes, uint64_t *seen);
 
+/* How much a pass in the session's whole calls (perform, run, lock_path) serves from now on: in a round at most `calls` published calls and
+   programs (1 to 65,535), and none once those that it has taken give back `locks` locks (from 1 on): all locks of a session whose call or
+   program begins with a commit, an abort or a restart. Then the thread has the lock table for `rounds` rounds at most (1 to 65,535), and
+   fewer if one finds no call. What a pass leaves stays published, and the next one of any session finds it. An office begins with 64
+   calls, 4,096 locks and 4 rounds. A lower bound gives the thread its own answer back sooner, a higher one serves more calls for each
+   time that the lock table is taken. pelgaisti_session_serve, _serve_telling, _perform_at_once and _perform_telling serve all that is
+   published. Doesn't take the lock table.
+   NULL, CLOSED, NO_SUCH_COUNT. */
+pelgaisti_status pelgaisti_session_bound_passes(pelgaisti_session *session, uint32_t calls, uint32_t locks, uint32_t rounds);
+
 /* ---- Memory of the lock table of an open office. Each of these calls tries once to take the lock table, and writes `seen`, as the
    questions do; and as with a book, nothing changes that another call tells. While it works, no other session can take the lock table.
    ---- */
@@ -956,12 +966,13 @@ pelgaisti_status pelgaisti_session_hand_in(pelgaisti_session *session, pelgaisti
    NULL, OPEN (the book), CLOSED (the session), MISSING, PENDING, NO_MEMORY, COPIED. */
 pelgaisti_status pelgaisti_office_close(pelgaisti_session *session, pelgaisti_book *book);
 
-/* Makes a whole call, in at most `turns` turns, between which the thread pauses or yields the processor. In the first 32 turns it tries
-   to perform the call at once; in the next it publishes it, and from then on it serves, at every eighth turn, and looks for the
-   answer. Behind 128 turns, and every eighth from then on, the thread sleeps in the kernel, if another session has the lock table: until
-   that one has given it back. Behind the last turn it doesn't, so a call of at most 128 turns never sleeps. Each call that may have had
-   the lock table wakes who sleeps, before it calls the waker. Behind the last turn the call is published, if it isn't yet. With 0 turns it is published and nothing else. With NULL for
-   `call` all turns look for the answer to the call that is pending; with 0 turns none does.
+/* Makes a whole call, in at most `turns` turns, between which the thread pauses or yields the processor. In the first turn it tries to
+   perform the call at once; lost, it publishes it in the next one, and from then on it serves, at every eighth turn, and looks for the
+   answer. It serves within the bound that pelgaisti_session_bound_passes has set. Behind 128 turns, and every eighth from then on, the
+   thread sleeps in the kernel, if another session has the lock table: until that one has given it back. Behind the last turn it doesn't,
+   so a call of at most 128 turns never sleeps. Each call that may have had the lock table wakes who sleeps, before it calls the waker.
+   Behind the last turn the call is published, if it isn't yet. With 0 turns it is published and nothing else. With NULL for `call` all
+   turns look for the answer to the call that is pending; with 0 turns none does.
    The answer may be WAITING: this call waits for an answer, not for a lock. Whoever waits for a lock sleeps until the office's waker
    wakes it, and then polls. In an office without a waker it polls, and sleeps between two polls: 10 microseconds at first, and twice
    as long each time up to a millisecond.

@@ -424,6 +424,10 @@ public:
     std::optional<seen<pelgaisti_pass_counts>> passes() {
         return asked<pelgaisti_pass_counts>([&](auto *made, auto *n) { return pelgaisti_session_passes(&handle_, made, n); });
     }
+    // From now on a pass in a whole call of this session serves within this bound, as pelgaisti_session_bound_passes says.
+    void bound_passes(uint32_t calls, uint32_t locks, uint32_t rounds) {
+        check(pelgaisti_session_bound_passes(&handle_, calls, locks, rounds));
+    }
     // What a book's do with the memory of the lock table, each by one try for it; how many calls the history had, or nothing if another
     // session has the table.
     std::optional<uint64_t> reserve(size_t resources, size_t entries) {

@@ -563,6 +563,10 @@ pelgaisti_status pelgaisti_session_passes(pelgaisti_session *session, pelgaisti_
     return WRITING(passes, WRITING(seen, HOLDING(session, pelgaisti_raw_session_passes(&session, &passes, &seen))));
 }
 
+pelgaisti_status pelgaisti_session_bound_passes(pelgaisti_session *session, uint32_t calls, uint32_t locks, uint32_t rounds) {
+    return CALL(session, pelgaisti_raw_session_bound_passes(&session, calls, locks, rounds));
+}
+
 pelgaisti_status pelgaisti_session_reserve(pelgaisti_session *session, size_t resources, size_t entries, uint64_t *seen) {
     return WRITING(seen, HOLDING(session, pelgaisti_raw_session_reserve(&session, resources, entries, &seen)));
 }

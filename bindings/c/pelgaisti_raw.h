@@ -116,6 +116,7 @@ uint32_t pelgaisti_raw_session_dump(pelgaisti_session **session, pelgaisti_raw_l
 uint32_t pelgaisti_raw_session_counts(pelgaisti_session **session, pelgaisti_counts **counts, uint64_t **seen);
 uint32_t pelgaisti_raw_session_gauges(pelgaisti_session **session, pelgaisti_gauges **gauges, uint64_t **seen);
 uint32_t pelgaisti_raw_session_passes(pelgaisti_session **session, pelgaisti_pass_counts **passes, uint64_t **seen);
+uint32_t pelgaisti_raw_session_bound_passes(pelgaisti_session **session, uint32_t calls, uint32_t locks, uint32_t rounds);
 uint32_t pelgaisti_raw_session_reserve(pelgaisti_session **session, size_t resources, size_t entries, uint64_t **seen);
 uint32_t pelgaisti_raw_session_shrink(pelgaisti_session **session, uint64_t **seen);
 uint32_t pelgaisti_raw_session_idle_cells(pelgaisti_session **session, size_t **cells, uint64_t **seen);

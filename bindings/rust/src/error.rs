@@ -14,7 +14,7 @@ pub enum Error {
     NoSuchSession,
     /// The program makes no call, so that a session has nothing to publish.
     NoCalls,
-    /// The number of sessions isn't from 1 to 1024.
+    /// The number of sessions isn't from 1 to 1024, or a bound has a number that is 0 or too large.
     NoSuchCount,
     /// The session has a pending call or program. Of what finishes a single call: a pending program of several calls.
     Pending,
@@ -44,7 +44,7 @@ impl fmt::Display for Error {
             Error::NoMemory => "memory was refused",
             Error::NoSuchSession => "no session has this number",
             Error::NoCalls => "the program makes no call",
-            Error::NoSuchCount => "the number of sessions isn't from 1 to 1024",
+            Error::NoSuchCount => "the number of sessions isn't from 1 to 1024, or a bound has a number that is 0 or too large",
             Error::Pending => "the session has a pending call",
             Error::NothingPending => "the session has no pending call",
             Error::NotServed => "the pending call isn't served yet",

@@ -466,6 +466,7 @@ extern "C" {
     pub(crate) fn pelgaisti_session_counts(session: *mut RawHandle, counts: *mut RawCounts, seen: *mut u64) -> u32;
     pub(crate) fn pelgaisti_session_gauges(session: *mut RawHandle, gauges: *mut Gauges, seen: *mut u64) -> u32;
     pub(crate) fn pelgaisti_session_passes(session: *mut RawHandle, passes: *mut PassCounts, seen: *mut u64) -> u32;
+    pub(crate) fn pelgaisti_session_bound_passes(session: *mut RawHandle, calls: u32, locks: u32, rounds: u32) -> u32;
     pub(crate) fn pelgaisti_session_reserve(session: *mut RawHandle, resources: usize, entries: usize, seen: *mut u64) -> u32;
     pub(crate) fn pelgaisti_session_shrink(session: *mut RawHandle, seen: *mut u64) -> u32;
     pub(crate) fn pelgaisti_session_idle_cells(session: *mut RawHandle, cells: *mut usize, seen: *mut u64) -> u32;

@@ -315,8 +315,9 @@ impl Session {
     }
 
     /// Makes a whole call, in at most `turns` turns, between which the thread pauses or yields the processor; behind 128 turns it
-    /// sleeps while another session has the lock table. In the first 32 turns it tries to perform the call at once; in the next it
-    /// publishes it, and from then on it serves, at every eighth turn, and looks for the answer. If the call isn't published by the
+    /// sleeps while another session has the lock table. In the first turn it tries to perform the call at once; in the next it
+    /// publishes it, and from then on it serves, at every eighth turn and within the bound of [`Session::bound_passes`], and looks for
+    /// the answer. If the call isn't published by the
     /// last turn, it is published then; with no turns it is published and nothing else. The answer may be [`Reply::Waiting`]: this
     /// waits for an answer, not for a lock.
     ///
@@ -480,5 +481,19 @@ impl Session {
     pub fn retire(&mut self) -> Result<(), Error> {
         // SAFETY: the handle is this session's, used by `&mut`
         done(unsafe { ffi::pelgaisti_session_retire(self.raw()) })
+    }
+
+    /// From now on a pass in a whole call of this session serves at most `calls` published calls and programs a round, takes none once those
+    /// that it has taken give back `locks` locks, and makes `rounds` rounds at most, as `pelgaisti_session_bound_passes` says. Fails with
+    /// `NoSuchCount` if a number is 0, or `calls` or `rounds` above 65,535.
+    ///
+    ///     # use pelgaisti::{Error, Office};
+    ///     let mut sessions = Office::open(1)?;
+    ///     sessions[0].bound_passes(16, 1_000, 1)?;
+    ///     assert_eq!(sessions[0].bound_passes(0, 1_000, 1), Err(Error::NoSuchCount));
+    ///     # Ok::<(), pelgaisti::Error>(())
+    pub fn bound_passes(&mut self, calls: u32, locks: u32, rounds: u32) -> Result<(), Error> {
+        // SAFETY: the handle is this session's, used by `&mut`
+        done(unsafe { ffi::pelgaisti_session_bound_passes(self.raw(), calls, locks, rounds) })
     }
 }

@@ -1,9 +1,9 @@
 -- A row whose first calls were served as a batch.
 use Rattle.std.proofs.Common.{◌≡◌, ◌∙◌, ℕ, ◌≤◌, Some, None, List, [], ◌∷◌, ◌++◌, length, get_or, set, take, drop, sym, ap, subst}
-use Rattle.std.proofs.Math.Seq.{take-append_seam}
+use Rattle.std.proofs.Math.Seq.{take-append_seam, drop-append_seam}
 use Rattle.sequential.specs.declared.entry.Entry.{Entry}
 use Rattle.sequential.specs.declared.entry.Item.{Item}
-use Rattle.sequential.specs.Batches.{IsBatch, asked_by}
+use Rattle.sequential.specs.Batches.{IsBatch, asked_by, asked_in}
 use Rattle.sequential.proofs.Batches.{asked-same, batch-served}
 use Rattle.sequential.specs.declared.object.Sequential.{Ghosts}
 use Rattle.publication.specs.Views.{TicketView}
@@ -48,3 +48,10 @@ module _ {O C R : Type 0} {obj : Ghosts O C R} where
     performed = ap (λ (l : List (Item C R)). take served l) same ∙ batch-served (obj.history before) (obj.history after) old items served few b;
     history = b.history ∙ ap (λ (l : List (Entry C R)). l ++ b.entries) (in-hand n before t h);
   }
+
+  -- What the entries asked by which a batch has led on is what the first items of the batch ask.
+  pub asked-since : (n : ℕ) (before after : O) (t u : TicketView C R) (old items : List (Item C R)) (served : ℕ) → IsObjectInHand obj n before t [] → IsObjectInHand obj n after u []
+      → IsBatch (obj.history before) (obj.history after) old items served → asked_in (drop (length t.front) u.front) ≡ asked_by (take served old)
+  asked-since n before after t u old items served h k b =
+      let front : u.front ≡ t.front ++ b.entries = sym (in-hand n after u k) ∙ (b.history ∙ ap (λ (l : List (Entry C R)). l ++ b.entries) (in-hand n before t h)) in
+      ap (λ (l : List (Entry C R)). asked_in (drop (length t.front) l)) front ∙ (ap asked_in (drop-append_seam t.front b.entries) ∙ b.asked)

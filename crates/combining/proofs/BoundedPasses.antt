@@ -10,7 +10,11 @@ use Rattle.publication.specs.declared.slot.Load.{Load}
 use Rattle.publication.proofs.Lists.{prefix_trans}
 use Rattle.combining.specs.inner.Passes.{HasPassed}
 use Rattle.combining.specs.inner.BoundedPasses.{HasServedWithin}
+use Rattle.combining.specs.Rounds.{HaveLed}
+use Rattle.combining.specs.declared.bounds.PassBound.{PassBound}
 use Rattle.combining.proofs.Places.{range-append}
+use Rattle.combining.proofs.RoundWeights.{led-further, full-on}
+use Rattle.sequential.specs.declared.entry.Entry.{Entry}
 
 module _ {C R : Type 0} where
   -- Two passes are one that served what both served.
@@ -32,42 +36,6 @@ module _ {C R : Type 0} where
     entered = sym (append-nil t.entered);
   }
 
-module _ {O C R : Type 0} where
-  -- A round behind rounds in which no memory was refused: what the last one says of starved and left calls holds of all.
-  pub rounds-on : (n : ℕ) (t u v : TicketView C R) (old mid new : Load O C R) (most calls a b : ℕ) (starved left : Bool)
-      → HasPassed t u a → a ≤ most → IsPrefix t.front u.front → u.put_backs ≡ t.put_backs → mid.pieces.items ≡ old.pieces.items
-      → HasServedWithin n u v mid new calls calls b starved left → HasServedWithin n t v old new (most + calls) calls (a + b) starved left
-  rounds-on n t u v old mid new most calls a b starved left passed few longer backs pieces later =
-      let heard : u.heard ≡ t.heard = ap (λ (x : TicketView C R). x.heard) passed.session in
-      record {
-        passed = passed-on t u v a b passed later.passed;
-        longer = prefix_trans t.front u.front v.front longer later.longer;
-        few = omega (arith, few, later.few);
-        full = λ unstarved is. omega (arith, later.full unstarved is);
-        put_back = (λ h. subst (λ (k : ℕ). k < v.put_backs) backs (later.put_back.0 h), λ h. later.put_back.1 (subst (λ (k : ℕ). k < v.put_backs) (sym backs) h));
-        kept = λ unstarved. later.kept unstarved ∙ backs;
-        own = λ unstarved. subst (λ (x : TicketView C R). x.pending ≢ None → published_by x ≤ length (calls_of x.number v.front)) passed.session (later.own unstarved);
-        heard = λ unstarved none j is few. subst (λ (l : List ℕ). get_or l j 0 ≤ length (calls_of j v.front)) heard (later.heard unstarved none j is few);
-        taken = later.taken ∙ pieces;
-      }
-
-  -- What is said of fewer rounds is said of more.
-  pub rounds-fewer : (n : ℕ) (t u : TicketView C R) (old new : Load O C R) (most more calls a b : ℕ) (starved left : Bool) → most ≤ more → a ≡ b
-      → HasServedWithin n t u old new most calls a starved left → HasServedWithin n t u old new more calls b starved left
-  rounds-fewer n t u old new most more calls a b starved left few same r =
-      subst (λ (k : ℕ). HasServedWithin n t u old new more calls k starved left) same
-      record {
-        passed = r.passed;
-        longer = r.longer;
-        few = omega (arith, few, r.few);
-        full = r.full;
-        put_back = r.put_back;
-        kept = r.kept;
-        own = r.own;
-        heard = r.heard;
-        taken = r.taken;
-      }
-
 -- So many rounds of so many calls, and one more.
 
 pub no-round : (calls : ℕ) → 0 ≤ 0 * calls
@@ -76,14 +44,29 @@ no-round calls = omega arith
 pub next-round : (made calls a b : ℕ) → a ≤ made * calls → b ≤ calls → a + b ≤ (made + 1) * calls
 next-round made calls a b few more = omega (arith, few, more)
 
-pub all-rounds : (made rounds calls : ℕ) → made < rounds → made * calls + calls ≤ rounds * calls
-all-rounds made rounds calls few = subst (λ (k : ℕ). k ≤ rounds * calls) (one-more made calls) (mul-le-mul_right calls (more few))
-  where
-    one-more : (made calls : ℕ) → (made + 1) * calls ≡ made * calls + calls
-    one-more made calls = omega arith
+-- As many calls as some of the rounds serve are served by all of them.
+pub all-rounds : (made rounds calls served : ℕ) → made ≤ rounds → served ≤ made * calls → served ≤ rounds * calls
+all-rounds made rounds calls served few within = omega (arith, within, mul-le-mul_right calls few)
 
-    more : made < rounds → made + 1 ≤ rounds
-    more few = omega (arith, few)
+module _ {O C R : Type 0} {weight : List (Entry C R) → ℕ → C → ℕ} where
+  -- A round behind rounds in which no memory was refused: what the last one says of starved and left calls holds of all.
+  pub rounds-on : (n : ℕ) (bound : PassBound) (made : ℕ) (t u v : TicketView C R) (old mid new : Load O C R) (a b : ℕ) (starved left : Bool)
+      → HasPassed t u a → a ≤ made * bound.calls → HaveLed weight bound made t.front u.front → IsPrefix t.front u.front → u.put_backs ≡ t.put_backs → mid.pieces.items ≡ old.pieces.items
+      → HasServedWithin weight n bound 1 u v mid new b starved left → HasServedWithin weight n bound (made + 1) t v old new (a + b) starved left
+  rounds-on n bound made t u v old mid new a b starved left passed few led longer backs pieces later =
+      let heard : u.heard ≡ t.heard = ap (λ (x : TicketView C R). x.heard) passed.session in
+      record {
+        passed = passed-on t u v a b passed later.passed;
+        longer = prefix_trans t.front u.front v.front longer later.longer;
+        few = next-round made bound.calls a b few (omega (arith, later.few));
+        led = λ unstarved. led-further weight bound made t.front u.front v.front led (later.led unstarved);
+        full = λ unstarved is. full-on weight bound b (a + b) v.front (omega arith) (later.full unstarved is);
+        put_back = (λ h. subst (λ (k : ℕ). k < v.put_backs) backs (later.put_back.0 h), λ h. later.put_back.1 (subst (λ (k : ℕ). k < v.put_backs) (sym backs) h));
+        kept = λ unstarved. later.kept unstarved ∙ backs;
+        own = λ unstarved. subst (λ (x : TicketView C R). x.pending ≢ None → published_by x ≤ length (calls_of x.number v.front)) passed.session (later.own unstarved);
+        heard = λ unstarved none j is few. subst (λ (l : List ℕ). get_or l j 0 ≤ length (calls_of j v.front)) heard (later.heard unstarved none j is few);
+        taken = later.taken ∙ pieces;
+      }
 
 -- How many entries more are known is how many calls were served.
 pub served-is : (later earlier served seen known : ℕ) → later ≡ earlier + served → seen ≡ later → known ≡ earlier → served ≡ seen - known

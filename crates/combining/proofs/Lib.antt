@@ -19,4 +19,5 @@ pub mod Turns
 pub mod OneHistory
 pub mod OwnRows
 pub mod RowTurns
+pub mod RoundWeights
 pub mod BoundedPasses

@@ -87,27 +87,27 @@ module _ {C R : Type 0} where
 
 module _ {O C R : Type 0} where
   -- A pass after the call serves what one before it does.
-  pub served-first : (n : ℕ) (t u v : TicketView C R) (call : C) (o : Option (ℕ × R)) (old mid new : Load O C R) (starved : Bool) → IfSome o (λ r. IsOwnEntered t u call r.0 r.1) → IfNone o (u ≡ t)
-      → mid.pieces.items ≡ old.pieces.items → HasServed n u v mid new starved → HasServed n t v old new starved
-  served-first n t u v call o old mid new starved some none taken s =
+  pub served-first : (n : ℕ) (t u v : TicketView C R) (call : C) (o : Option (ℕ × R)) (old mid new : Load O C R) (starved left : Bool) → IfSome o (λ r. IsOwnEntered t u call r.0 r.1) → IfNone o (u ≡ t)
+      → mid.pieces.items ≡ old.pieces.items → HasServed n u v mid new starved left → HasServed n t v old new starved left
+  served-first n t u v call o old mid new starved left some none taken s =
       let rest = entered-rest t u call o some none in
       let back = s.put_back in record {
         longer = prefix_trans t.front u.front v.front (entered-longer t u call o some none) s.longer;
         put_back = (λ h. subst (λ (k : ℕ). k < v.put_backs) rest.0 (back.0 h), λ h. back.1 (subst (λ (k : ℕ). k < v.put_backs) (sym rest.0) h));
-        heard = λ unstarved j is few. subst (λ (l : List ℕ). get_or l j 0 ≤ length (calls_of j v.front)) rest.1 (s.heard unstarved j is few);
+        heard = λ unstarved whole j is few. subst (λ (l : List ℕ). get_or l j 0 ≤ length (calls_of j v.front)) rest.1 (s.heard unstarved whole j is few);
         taken = s.taken ∙ taken;
       }
 
   -- And a pass before it.
-  pub served-last : (n : ℕ) (t u v : TicketView C R) (call : C) (o : Option (ℕ × R)) (old mid new : Load O C R) (starved : Bool) → IfSome o (λ r. IsOwnEntered u v call r.0 r.1) → IfNone o (v ≡ u)
-      → new.pieces.items ≡ mid.pieces.items → HasServed n t u old mid starved → HasServed n t v old new starved
-  served-last n t u v call o old mid new starved some none taken s =
+  pub served-last : (n : ℕ) (t u v : TicketView C R) (call : C) (o : Option (ℕ × R)) (old mid new : Load O C R) (starved left : Bool) → IfSome o (λ r. IsOwnEntered u v call r.0 r.1) → IfNone o (v ≡ u)
+      → new.pieces.items ≡ mid.pieces.items → HasServed n t u old mid starved left → HasServed n t v old new starved left
+  served-last n t u v call o old mid new starved left some none taken s =
       let rest = entered-rest u v call o some none in
       let grows = entered-longer u v call o some none in
       let back = s.put_back in record {
         longer = prefix_trans t.front u.front v.front s.longer grows;
         put_back = (λ h. subst (λ (k : ℕ). t.put_backs < k) (sym rest.0) (back.0 h), λ h. back.1 (subst (λ (k : ℕ). t.put_backs < k) rest.0 h));
-        heard = λ unstarved j is few. omega (arith, s.heard unstarved j is few, calls-fewer j u.front v.front grows);
+        heard = λ unstarved whole j is few. omega (arith, s.heard unstarved whole j is few, calls-fewer j u.front v.front grows);
         taken = taken ∙ s.taken;
       }
 

@@ -140,14 +140,14 @@ module _ {C R : Type 0} {goes_on : R → Bool} where
 
 module _ {O C R : Type 0} where
   -- The calls that a pass served are served, too, once calls of the combiner's own are entered behind it.
-  pub served-with-row : (n : ℕ) (t u v : TicketView C R) (es : List (Entry C R)) (old mid new : Load O C R) (starved : Bool) → v ≡ with_entries u es
-      → new.pieces.items ≡ mid.pieces.items → HasServed n t u old mid starved → HasServed n t v old new starved
-  served-with-row n t u v es old mid new starved is taken s =
+  pub served-with-row : (n : ℕ) (t u v : TicketView C R) (es : List (Entry C R)) (old mid new : Load O C R) (starved left : Bool) → v ≡ with_entries u es
+      → new.pieces.items ≡ mid.pieces.items → HasServed n t u old mid starved left → HasServed n t v old new starved left
+  served-with-row n t u v es old mid new starved left is taken s =
       let grows = entries-longer u v es is in
       let put_backs : v.put_backs ≡ u.put_backs = ap (λ (x : TicketView C R). x.put_backs) is in
       let back = s.put_back in record {
         longer = prefix_trans t.front u.front v.front s.longer grows;
         put_back = (λ h. subst (λ (k : ℕ). t.put_backs < k) (sym put_backs) (back.0 h), λ h. back.1 (subst (λ (k : ℕ). t.put_backs < k) put_backs h));
-        heard = λ unstarved j is few. omega (arith, s.heard unstarved j is few, calls-fewer j u.front v.front grows);
+        heard = λ unstarved whole j is few. omega (arith, s.heard unstarved whole j is few, calls-fewer j u.front v.front grows);
         taken = taken ∙ s.taken;
       }

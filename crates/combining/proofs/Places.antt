@@ -2,6 +2,7 @@
 use Rattle.std.proofs.Common.{◌≡◌, ℕ, zero, suc, ◌+◌, List, [], ◌∷◌, ◌++◌, length, drop, sym, ap, ◌∙◌, arith, append_assoc, append-nil}
 use Rattle.std.specs.List.{range_with_len}
 use Rattle.std.proofs.Math.Seq.{drop-append_seam}
+use Rattle.std.proofs.lemmas.List.FromFn.{length-range_with_len}
 use mathlib.Core.List.{IsPrefix}
 use Rattle.publication.specs.Views.{TicketView}
 use Rattle.combining.specs.Ended.{entered_since}
@@ -40,6 +41,9 @@ module _ {C R : Type 0} where
 
   pub entered-step : (t u : TicketView C R) (places : List ℕ) → u.entered ≡ t.entered ++ places → entered_since t u ≡ places
   entered-step t u places is = ap (drop (length t.entered)) is ∙ drop-append_seam t.entered places
+
+  pub entered-count : (t u : TicketView C R) (from n : ℕ) → u.entered ≡ t.entered ++ range_with_len from n → length (entered_since t u) ≡ n
+  entered-count t u from n is = ap (λ (l : List ℕ). length l) (entered-step t u (range_with_len from n) is) ∙ length-range_with_len from n
 
   pub entered-none : (t u : TicketView C R) → u.entered ≡ t.entered → entered_since t u ≡ []
   entered-none t u is = entered-step t u [] (is ∙ sym (append-nil t.entered))

@@ -290,6 +290,10 @@ module _ {C R : Type 0} where
       (λ b. let n = tries-of t u b.1 in omega (arith, n))
       h
 
+  -- A session whose call is listed doesn't try to have it listed.
+  pub listed-tried : (t u : TicketView C R) → t.listed ≡ true → HasTriedToList t u → u.tries ≡ t.tries
+  listed-tried t u listed h = ⊎_elim (λ a. absurd (cc (listed, a.0.1))) (λ b. tries-of t u b.1) h
+
   pub tries-posted : (t u : TicketView C R) (call : C) → (u ≡ enlisted (publishing t call)) ⊎ ((u ≡ tried (enlisted (publishing t call))) ⊎ (u ≡ tried (publishing t call))) → u.tries ≤ t.tries + 1
   tries-posted t u call h = ⊎_elim
       (λ is. let n : u.tries ≡ t.tries = tries-of (enlisted (publishing t call)) u is in omega (arith, n))
@@ -305,6 +309,9 @@ module _ {O C R : Type 0} {obj : Ghosts O C R} where
       let n : u.tries ≡ p.between.tries = ap (λ (x : TicketView C R). x.tries) p.session in
       let m = tries-tried t p.between p.is_tried in
       omega (arith, n, m)
+
+  pub listed-passed : (t u : TicketView C R) (served : ℕ) → t.listed ≡ true → IsPassed obj t u served → u.tries ≡ t.tries
+  listed-passed t u served listed p = ap (λ (x : TicketView C R). x.tries) p.session ∙ listed-tried t p.between listed p.is_tried
 
 -- Tries and looks.
 

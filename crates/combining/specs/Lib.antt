@@ -5,6 +5,7 @@ pub mod Ended
 pub mod Calls
 pub mod Looks
 pub mod Waits
+pub mod Rounds
 -- What only private contracts cite.
 pub mod inner
 pub mod Rows

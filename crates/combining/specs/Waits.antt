@@ -1,13 +1,11 @@
 -- What a session does between two turns of its call.
-use Rattle.std.specs.Prelude.{◌≡◌, ◌≢◌, ℕ, ◌+◌, ◌*◌, ◌^◌, ◌%◌, ◌<◌, ◌≤◌, min}
-use Rattle.combining.specs.declared.backoff.TheConstants.{FIRST_PAUSES, DOUBLINGS, TRIES_BEFORE_YIELDS, LOOKS_PER_TRY, PAUSES, LOOKS_PER_YIELD}
+use Rattle.std.specs.Prelude.{◌≡◌, ◌≢◌, ℕ, ◌+◌, ◌*◌, ◌%◌, ◌<◌}
+use Rattle.combining.specs.declared.backoff.TheConstants.{PAUSES_BEFORE_PUBLISHING, LOOKS_PER_TRY, PAUSES, LOOKS_PER_YIELD}
 use Rattle.combining.specs.declared.backoff.Wait.{Wait}
 
--- After a try for the object, behind so many: pauses, which double from try to try until they were doubled `DOUBLINGS` times; and a
--- yield behind `TRIES_BEFORE_YIELDS` tries or more.
-pub record IsWaitAfterTry (tried : ℕ) (wait : Wait) : Type 0 where
-  pub pauses : tried < TRIES_BEFORE_YIELDS → wait ≡ Wait.Pause (FIRST_PAUSES * 2 ^ min tried DOUBLINGS)
-  pub yields : TRIES_BEFORE_YIELDS ≤ tried → wait ≡ Wait.Yield
+-- After a try for the object: no more than a moment, since the call is published next.
+abbrev pub IsWaitAfterTry : Wait → Type 0
+IsWaitAfterTry wait = wait ≡ Wait.Pause PAUSES_BEFORE_PUBLISHING
 
 -- After a look for the answer, behind so many: a yield at the end of every `LOOKS_PER_YIELD` looks, and else pauses.
 pub record IsWaitAfterLook (looked : ℕ) (wait : Wait) : Type 0 where

@@ -4,20 +4,12 @@ ghost use Rattle.combining.specs.Waits.{IsWaitAfterTry, IsWaitAfterLook};
 
 use std::{hint, thread};
 
-/// The tries to perform a call at once, before it is published. While a session tries, the one that has the object performs its
-/// next calls in its own cache, so that 4 or 8 threads take no longer than with a mutex. Published at the first loss they took half
-/// as long again.
-pub const TRIES_AT_ONCE: u64 = 32;
+/// The tries to perform a call at once, before it is published. One: lost, the call is published at once, and its answer comes with the
+/// pass of whoever has the object.
+pub const TRIES_AT_ONCE: u64 = 1;
 
-/// The pause instructions between the first two tries.
-pub const FIRST_PAUSES: u32 = 256;
-
-/// How often the pause instructions between two tries are doubled: each try of a waiting session takes the lock word's cache line
-/// from the combiner.
-pub const DOUBLINGS: u64 = 4;
-
-/// The tries after which the processor is yielded between two tries: the session that has the object may need it.
-pub const TRIES_BEFORE_YIELDS: u64 = 16;
+/// The pause instructions behind a try that was lost, before the call is published.
+pub const PAUSES_BEFORE_PUBLISHING: u32 = 1;
 
 /// The looks for an answer between two tries to become the combiner, since each try takes a cache line from it.
 pub const LOOKS_PER_TRY: u64 = 8;
@@ -37,16 +29,11 @@ pub enum Wait {
     Yield,
 }
 
-/// What to do after a try to perform a call at once, of which `tried` came before: pauses that grow from try to try, and a yield once
-/// `TRIES_BEFORE_YIELDS` were made.
-pub fn after_try(tried: u64) -> Wait
-    ensures { IsWaitAfterTry tried result }
+/// What to do after a try to perform a call at once: the call is published in the next turn, which comes at once.
+pub fn after_try() -> Wait
+    ensures { IsWaitAfterTry result }
 {
-    if tried >= TRIES_BEFORE_YIELDS {
-        return Wait::Yield;
-    }
-    let doubled = u64::min(tried, DOUBLINGS);
-    Wait::Pause(FIRST_PAUSES << doubled as u32)
+    Wait::Pause(PAUSES_BEFORE_PUBLISHING)
 }
 
 /// What to do after a look for an answer, of which `looked` came before: a yield after every `LOOKS_PER_YIELD` looks, and pauses after

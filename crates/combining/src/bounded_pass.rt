@@ -1,28 +1,30 @@
-//! A pass in rounds, each of which serves so many published calls at most, and which says whether it saw a call that it left.
+//! A pass in rounds, each of which serves published calls within a bound, and which says whether it saw a call that it left.
 
-ghost use Rattle.std.specs.Prelude.{◌≡◌, ◌≢◌, ◌+◌, ◌*◌, ◌<◌, ◌≤◌, ◌↔◌, [], true, false, IsTrue, None, Some, length, vec_len, vec_capacity, ◌-◌, ◌^◌, min, if◌then◌else◌};
+ghost use Rattle.std.specs.Prelude.{◌≡◌, ◌≢◌, ◌⊎◌, ◌+◌, ◌*◌, ℕ, ◌<◌, ◌≤◌, ◌↔◌, [], true, false, IsTrue, None, Some, length, vec_len, vec_capacity, ◌-◌, ◌^◌, min, if◌then◌else◌};
 ghost use mathlib.Core.List.{IsPrefix};
 ghost use Rattle.sequential.specs.Histories.{calls_of};
 ghost use Rattle.publication.specs.Boards.{IsOf, IsNumber, OpensNone, heard_from, published_by};
 ghost use Rattle.publication.specs.List.{IsOn};
 ghost use Rattle.publication.specs.Kinds.{IsRoute};
 ghost use Rattle.combining.specs.Ended.{HasAddedTold, HasRoom, entered_since};
-ghost use Rattle.combining.specs.inner.Passes.{AreOpened, HasCalls, KeepsCalls, IsVisited, HasVisitedOpened, IsNext, HasMet, IsSameSession, HasPassed, IsAtWork};
-ghost use Rattle.combining.specs.inner.BoundedPasses.{HasServedWithin};
+ghost use Rattle.combining.specs.Rounds.{IsBound, IsRound, IsFull};
+ghost use Rattle.combining.specs.inner.Passes.{AreOpened, HasInserted, HasCalls, KeepsCalls, IsVisited, HasVisitedOpened, IsNext, HasMet, IsSameSession, HasPassed, IsAtWork};
+ghost use Rattle.combining.specs.inner.BoundedPasses.{IsWithin, IsFilled, HasServedWithin};
 
+use crate::bounds::PassBound;
 use crate::clean_up::clean_up;
 use crate::pass::{one_more_if, open_record, serve_any};
 use crate::told::Told;
 use publication::{Board, Load, Ticket};
-use sequential::{Batching, Item};
+use sequential::Batching;
 
-/// How much a bounded pass serves at most.
-#[derive(Clone, Copy, Debug, PartialEq, Eq)]
-pub struct PassBound {
-    /// How many calls it serves in a round at most, from 1 on.
-    pub calls: u16,
-    /// How many rounds it makes at most, from 1 on.
-    pub rounds: u16,
+/// What a round has opened.
+#[derive(Drop)]
+struct Opening {
+    /// How many of its calls go first.
+    going_first: usize,
+    /// How much its calls weigh.
+    weight: u64,
 }
 
 /// The outcome of a round.
@@ -40,7 +42,7 @@ struct Round {
 #[derive(Clone, Copy)]
 pub(crate) struct Rounds {
     /// How many calls they served.
-    pub served: u64,
+    pub served: u32,
     /// Whether the last one put calls back, because memory was refused for one.
     pub starved: bool,
     /// Whether the last one saw a call posted that it didn't open.
@@ -59,68 +61,112 @@ fn is_left<O: Batching>(board: &Board<O>, session: &mut Ticket<O>, whose: u16) -
     board.is_posted(session, whose)
 }
 
-/// Opens record `whose` as `open_record` does, if the row has fewer than `most` items. Returns whether it left a call that is posted.
+/// Opens record `whose` as `open_record` does, and adds the weight of its call.
 #[inline(always)]
-fn open_if_room<O: Batching>(
+fn open_weighed<O: Batching, T: Told<O>>(
     board: &Board<O>,
     session: &mut Ticket<O>,
-    row: &mut Vec<Item<O::Call, O::Reply>>,
-    going_first: &mut usize,
+    load: &mut Load<O>,
+    opening: &mut Opening,
     whose: u16,
-    most: usize,
+)
+    requires ours { IsOf board.now session.old × (session.old.has_object ≡ true) }
+    requires whose { IsNumber board.now whose }
+    requires row { AreOpened board.now.sessions session.old.opened load.old.row.items }
+    requires room { (board.now.sessions ≤ vec_capacity load.old.row) × (opening.old.going_first ≤ vec_len load.old.row) }
+    requires visited { HasVisitedOpened session.old }
+    requires sessions { O.sessions load.old.object ≡ board.now.sessions }
+    requires light { opening.old.weight < 2 ^ 32 }
+    ensures session { IsSameSession session.old session.new × (session.new.front ≡ session.old.front) × (session.new.route ≡ session.old.route) }
+    ensures row { AreOpened board.now.sessions session.new.opened load.new.row.items }
+    ensures room { (board.now.sessions ≤ vec_capacity load.new.row) × (opening.new.going_first ≤ vec_len load.new.row) }
+    ensures calls { KeepsCalls session.old session.new }
+    ensures visited { HasVisitedOpened session.new }
+    ensures met { IsVisited whose session.new }
+    ensures opened { ((load.new.row ≡ load.old.row) × (opening.new.weight ≡ opening.old.weight))
+        ⊎ ((call : O.Call) × HasInserted whose call load.old.row.items load.new.row.items
+        × (opening.new.weight ≡ opening.old.weight + T.weight (O.history load.old.object) whose call)) }
+    ensures grows { vec_len load.new.row ≤ vec_len load.old.row + 1 }
+    ensures load { load.new ≡ record load.old { row = load.new.row } }
+{
+    let Some(call) = open_record(
+        board,
+        session,
+        &mut load.row,
+        &mut opening.going_first,
+        whose,
+    ) else {
+        return;
+    };
+    opening.weight += u64::from(T::weigh(&load.object, whose, &call));
+}
+
+/// Opens record `whose` as `open_record` does, if the round may take one more call. Returns whether it left a call that is posted.
+#[inline(always)]
+fn open_if_room<O: Batching, T: Told<O>>(
+    board: &Board<O>,
+    session: &mut Ticket<O>,
+    load: &mut Load<O>,
+    opening: &mut Opening,
+    whose: u16,
+    bound: PassBound,
 ) -> bool
     requires ours { IsOf board.now session.old × (session.old.has_object ≡ true) }
     requires whose { IsNumber board.now whose }
-    requires row { AreOpened board.now.sessions session.old.opened row.old.items }
-    requires room { (board.now.sessions ≤ vec_capacity row.old) × (going_first.old ≤ vec_len row.old) }
+    requires row { AreOpened board.now.sessions session.old.opened load.old.row.items }
+    requires room { (board.now.sessions ≤ vec_capacity load.old.row) × (opening.old.going_first ≤ vec_len load.old.row) }
     requires visited { HasVisitedOpened session.old }
-    requires few { vec_len row.old ≤ most }
+    requires sessions { O.sessions load.old.object ≡ board.now.sessions }
+    requires within { IsWithin T.weight bound (O.history load.old.object) load.old.row opening.old.weight }
     ensures session { IsSameSession session.old session.new × (session.new.front ≡ session.old.front) × (session.new.route ≡ session.old.route) }
-    ensures row { AreOpened board.now.sessions session.new.opened row.new.items }
-    ensures room { (board.now.sessions ≤ vec_capacity row.new) × (going_first.new ≤ vec_len row.new) }
+    ensures row { AreOpened board.now.sessions session.new.opened load.new.row.items }
+    ensures room { (board.now.sessions ≤ vec_capacity load.new.row) × (opening.new.going_first ≤ vec_len load.new.row) }
     ensures calls { KeepsCalls session.old session.new }
     ensures visited { HasVisitedOpened session.new }
     ensures met { result ≡ false → IsVisited whose session.new }
-    ensures few { vec_len row.new ≤ most }
-    ensures full { result ≡ true → vec_len row.new ≡ most }
+    ensures within { IsWithin T.weight bound (O.history load.old.object) load.new.row opening.new.weight }
+    ensures filled { result ≡ true → IsFilled bound (vec_len load.new.row) opening.new.weight }
+    ensures load { load.new ≡ record load.old { row = load.new.row } }
 {
-    if row.len() < most {
-        open_record(board, session, row, going_first, whose);
+    if load.row.len() < usize::from(bound.calls) && opening.weight < u64::from(bound.weight) {
+        open_weighed::<O, T>(board, session, load, opening, whose);
         return false;
     }
     is_left(board, session, whose)
 }
 
-/// Visits the records of the walk from `next` on, and opens each in which a call is posted, until the row has `most` items. Then it only
+/// Visits the records of the walk from `next` on, and opens each in which a call is posted, until the round may take no more. Then it only
 /// looks for a call that is left, and returns whether it found one.
 #[inline(always)]
-fn open_walked_within<O: Batching>(
+fn open_walked_within<O: Batching, T: Told<O>>(
     board: &Board<O>,
     session: &mut Ticket<O>,
-    row: &mut Vec<Item<O::Call, O::Reply>>,
-    going_first: &mut usize,
+    load: &mut Load<O>,
+    opening: &mut Opening,
     next: Option<u16>,
-    most: usize,
+    bound: PassBound,
 ) -> bool
     requires ours { IsOf board.now session.old × (session.old.has_object ≡ true) }
     requires route { IsRoute (board.now.sessions + 1) session.old.route }
     requires next { IsNext next session.old.route × HasMet next session.old }
-    requires row { AreOpened board.now.sessions session.old.opened row.old.items }
-    requires room { (board.now.sessions ≤ vec_capacity row.old) × (going_first.old ≤ vec_len row.old) }
+    requires row { AreOpened board.now.sessions session.old.opened load.old.row.items }
+    requires room { (board.now.sessions ≤ vec_capacity load.old.row) × (opening.old.going_first ≤ vec_len load.old.row) }
     requires visited { HasVisitedOpened session.old }
-    requires few { vec_len row.old ≤ most }
+    requires sessions { O.sessions load.old.object ≡ board.now.sessions }
+    requires within { IsWithin T.weight bound (O.history load.old.object) load.old.row opening.old.weight }
     ensures session { IsSameSession session.old session.new × (session.new.front ≡ session.old.front) }
-    ensures row { AreOpened board.now.sessions session.new.opened row.new.items }
-    ensures room { (board.now.sessions ≤ vec_capacity row.new) × (going_first.new ≤ vec_len row.new) }
+    ensures row { AreOpened board.now.sessions session.new.opened load.new.row.items }
+    ensures room { (board.now.sessions ≤ vec_capacity load.new.row) × (opening.new.going_first ≤ vec_len load.new.row) }
     ensures calls { KeepsCalls session.old session.new }
     ensures visited { HasVisitedOpened session.new }
     ensures met { result ≡ false → (j : _) → IsOn j session.old.route → IsVisited j session.new }
-    ensures few { vec_len row.new ≤ most }
-    ensures full { result ≡ true → vec_len row.new ≡ most }
+    ensures within { IsWithin T.weight bound (O.history load.old.object) load.new.row opening.new.weight }
+    ensures filled { result ≡ true → IsFilled bound (vec_len load.new.row) opening.new.weight }
+    ensures load { load.new ≡ record load.old { row = load.new.row } }
 {
     let mut next = next;
     while let Some(whose) = next {
-        if open_if_room(board, session, row, going_first, whose, most) {
+        if open_if_room::<O, T>(board, session, load, opening, whose, bound) {
             return true;
         }
         next = board.walk(session, Some(whose));
@@ -128,81 +174,88 @@ fn open_walked_within<O: Batching>(
     false
 }
 
-/// Walks the publication list from the head word, and opens each record in which a call is posted, until the row has `most` items. Then
+/// Walks the publication list from the head word, and opens each record in which a call is posted, until the round may take no more. Then
 /// it only looks for a call that is left, and returns whether it found one.
 #[inline(always)]
-fn open_listed_within<O: Batching>(
+fn open_listed_within<O: Batching, T: Told<O>>(
     board: &Board<O>,
     session: &mut Ticket<O>,
-    row: &mut Vec<Item<O::Call, O::Reply>>,
-    going_first: &mut usize,
-    most: usize,
+    load: &mut Load<O>,
+    opening: &mut Opening,
+    bound: PassBound,
 ) -> bool
     requires ours { IsOf board.now session.old × (session.old.has_object ≡ true) }
-    requires row { AreOpened board.now.sessions session.old.opened row.old.items }
-    requires room { (board.now.sessions ≤ vec_capacity row.old) × (going_first.old ≤ vec_len row.old) }
+    requires row { AreOpened board.now.sessions session.old.opened load.old.row.items }
+    requires room { (board.now.sessions ≤ vec_capacity load.old.row) × (opening.old.going_first ≤ vec_len load.old.row) }
     requires visited { HasVisitedOpened session.old }
-    requires few { vec_len row.old ≤ most }
+    requires sessions { O.sessions load.old.object ≡ board.now.sessions }
+    requires within { IsWithin T.weight bound (O.history load.old.object) load.old.row opening.old.weight }
     ensures session { IsSameSession session.old session.new × (session.new.front ≡ session.old.front) }
-    ensures row { AreOpened board.now.sessions session.new.opened row.new.items }
-    ensures room { (board.now.sessions ≤ vec_capacity row.new) × (going_first.new ≤ vec_len row.new) }
+    ensures row { AreOpened board.now.sessions session.new.opened load.new.row.items }
+    ensures room { board.now.sessions ≤ vec_capacity load.new.row }
     ensures calls { KeepsCalls session.old session.new }
     ensures visited { HasVisitedOpened session.new }
     ensures met { result ≡ false → (j : _) → 0 < j → j ≤ board.now.sessions → HasCalls (heard_from session.old j) j session.new }
-    ensures few { vec_len row.new ≤ most }
-    ensures full { result ≡ true → vec_len row.new ≡ most }
+    ensures within { IsWithin T.weight bound (O.history load.old.object) load.new.row opening.new.weight }
+    ensures filled { result ≡ true → IsFilled bound (vec_len load.new.row) opening.new.weight }
+    ensures load { load.new ≡ record load.old { row = load.new.row } }
 {
     let next = board.walk(session, None);
     if next.is_none() {
         return false;
     }
-    open_walked_within(board, session, row, going_first, next, most)
+    open_walked_within::<O, T>(board, session, load, opening, next, bound)
 }
 
 /// Visits the combiner's own record first, and then those on the publication list, and opens each in which a call is posted, until the
-/// row has `most` items. Returns whether it saw a call that it left.
+/// round may take no more. Returns whether it saw a call that it left.
 #[inline(always)]
-fn open_records_within<O: Batching>(
+fn open_records_within<O: Batching, T: Told<O>>(
     board: &Board<O>,
     session: &mut Ticket<O>,
-    row: &mut Vec<Item<O::Call, O::Reply>>,
-    most: usize,
+    load: &mut Load<O>,
+    bound: PassBound,
 ) -> bool
     requires ours { IsOf board.now session.old × (session.old.has_object ≡ true) }
     requires number { IsNumber board.now session.old.number }
     requires none { OpensNone session.old }
-    requires row { (vec_len row.old ≡ 0) × (board.now.sessions ≤ vec_capacity row.old) }
-    requires some { 0 < most }
+    requires row { (vec_len load.old.row ≡ 0) × (board.now.sessions ≤ vec_capacity load.old.row) }
+    requires sessions { O.sessions load.old.object ≡ board.now.sessions }
+    requires some { (0 < bound.calls) × (0 < bound.weight) }
     ensures session { IsSameSession session.old session.new × (session.new.front ≡ session.old.front) }
-    ensures row { AreOpened board.now.sessions session.new.opened row.new.items }
-    ensures room { board.now.sessions ≤ vec_capacity row.new }
+    ensures row { AreOpened board.now.sessions session.new.opened load.new.row.items }
+    ensures room { board.now.sessions ≤ vec_capacity load.new.row }
     ensures heard { result ≡ false → (j : _) → 0 < j → j ≤ board.now.sessions → HasCalls (heard_from session.old j) j session.new }
     ensures own { session.old.pending ≢ None → HasCalls (published_by session.old) session.old.number session.new }
-    ensures few { vec_len row.new ≤ most }
-    ensures full { result ≡ true → vec_len row.new ≡ most }
+    ensures within { (weight : ℕ) × IsWithin T.weight bound (O.history load.old.object) load.new.row weight × (result ≡ true → IsFilled bound (vec_len load.new.row) weight) }
+    ensures load { load.new ≡ record load.old { row = load.new.row } }
 {
-    let mut going_first = 0;
+    let mut opening = Opening {
+        going_first: 0,
+        weight: 0,
+    };
     let own = session.number();
-    open_record(board, session, row, &mut going_first, own);
-    open_listed_within(board, session, row, &mut going_first, most)
+    open_weighed::<O, T>(board, session, load, &mut opening, own);
+    open_listed_within::<O, T>(board, session, load, &mut opening, bound)
 }
 
 /// Makes a round for a combiner that has the load, and leaves the load fit to be given back: serves the session's own published call,
-/// and others up to `most` in all.
+/// and others within the bound.
 #[inline(always)]
-fn serve_round<O: Batching>(
+fn serve_round<O: Batching, T: Told<O>>(
     board: &Board<O>,
     session: &mut Ticket<O>,
     load: &mut Load<O>,
-    most: u16,
+    bound: PassBound,
 ) -> Round
     requires work { IsAtWork O.Sequential board.now session.old load.old }
-    requires some { 0 < most }
+    requires some { (0 < bound.calls) × (0 < bound.weight) }
     ensures work { IsAtWork O.Sequential board.now session.new load.new }
     ensures pass { HasPassed session.old session.new result.served }
     ensures longer { IsPrefix session.old.front session.new.front }
-    ensures few { result.served ≤ most }
-    ensures full { result.starved ≡ false → result.left ≡ true → most ≤ result.served }
+    ensures few { result.served ≤ bound.calls }
+    ensures round { result.starved ≡ false → IsRound T.weight bound session.old.front session.new.front }
+    ensures full { result.starved ≡ false → result.left ≡ true → IsFull T.weight bound result.served session.new.front }
     ensures put_back { IsTrue result.starved ↔ (session.old.put_backs < session.new.put_backs) }
     ensures kept { result.starved ≡ false → session.new.put_backs ≡ session.old.put_backs }
     ensures own { result.starved ≡ false → session.old.pending ≢ None → published_by session.old ≤ length (calls_of session.old.number session.new.front) }
@@ -215,7 +268,7 @@ fn serve_round<O: Batching>(
     ensures tells { 0 < result.served → O.tells_from load.new.object (length session.old.front) }
 {
     load.passes = load.passes.saturating_add(1);
-    let left = open_records_within(board, session, &mut load.row, usize::from(most));
+    let left = open_records_within::<O, T>(board, session, load, bound);
     let pass = serve_any(board, session, load);
     load.row.clear();
     load.served = load.served.saturating_add(u64::from(pass.served));
@@ -234,19 +287,20 @@ fn serve_round_telling<O: Batching, T: Told<O>>(
     board: &Board<O>,
     session: &mut Ticket<O>,
     load: &mut Load<O>,
-    most: u16,
+    bound: PassBound,
     told: &mut T,
 ) -> Round
     requires work { IsAtWork O.Sequential board.now session.old load.old }
-    requires some { 0 < most }
+    requires some { (0 < bound.calls) × (0 < bound.weight) }
     requires room { HasRoom (T.room told.old) board.now.sessions }
     ensures work { IsAtWork O.Sequential board.now session.new load.new }
-    ensures round { HasServedWithin board.now.sessions session.old session.new load.old load.new most most result.served result.starved result.left }
+    ensures round { HasServedWithin T.weight board.now.sessions bound 1 session.old session.new load.old load.new result.served result.starved result.left }
     ensures told { HasAddedTold T.ends board.now.sessions session.new.front (entered_since session.old session.new) (T.list told.old) (T.list told.new) }
     ensures room { T.room told.new ≡ T.room told.old }
+    ensures most { T.most told.new ≡ T.most told.old }
     ensures noted { T.notes told.new session.new.front }
 {
-    let round = serve_round(board, session, load, most);
+    let round = serve_round::<O, T>(board, session, load, bound);
     told.add(&load.object, round.served);
     round
 }
@@ -261,22 +315,24 @@ pub(crate) fn serve_rounds<O: Batching, T: Told<O>>(
     told: &mut T,
 ) -> Rounds
     requires work { IsAtWork O.Sequential board.now session.old load.old }
-    requires some { (0 < bound.calls) × (0 < bound.rounds) }
+    requires bound { IsBound bound }
     requires room { HasRoom (T.room told.old) board.now.sessions }
     ensures work { IsAtWork O.Sequential board.now session.new load.new }
-    ensures rounds { HasServedWithin board.now.sessions session.old session.new load.old load.new (bound.rounds * bound.calls) bound.calls result.served result.starved result.left }
+    ensures rounds { (made : ℕ) × (made ≤ bound.rounds)
+        × HasServedWithin T.weight board.now.sessions bound made session.old session.new load.old load.new result.served result.starved result.left }
     ensures told { HasAddedTold T.ends board.now.sessions session.new.front (entered_since session.old session.new) (T.list told.old) (T.list told.new) }
     ensures room { T.room told.new ≡ T.room told.old }
+    ensures most { T.most told.new ≡ T.most told.old }
     ensures noted { T.notes told.new session.new.front }
 {
     let known = session.seen();
     let mut made = 0;
     loop {
-        let last = serve_round_telling(board, session, load, bound.calls, told);
+        let last = serve_round_telling(board, session, load, bound, told);
         made += 1;
         if made >= bound.rounds || last.served == 0 || last.starved {
             return Rounds {
-                served: session.seen() - known,
+                served: (session.seen() - known) as u32,
                 starved: last.starved,
                 left: last.left,
             };

@@ -1,15 +1,16 @@
 //! A whole call of a session, turn by turn: performed at once where the object is free, else published, served and collected.
 
-ghost use Rattle.std.specs.Prelude.{◌≡◌, ◌≢◌, ◌⊎◌, ◌+◌, ◌-◌, ◌<◌, ◌≤◌, ◌%◌, true, false, [], None};
+ghost use Rattle.std.specs.Prelude.{◌≡◌, ◌≢◌, ◌⊎◌, ◌+◌, ◌-◌, ◌<◌, ◌≤◌, ◌%◌, true, false, [], None, length};
 ghost use Rattle.combining.specs.Sessions.{IsSessionOf, IsIdle, IsPendingServed};
 ghost use Rattle.combining.specs.Calls.{IsCalled, IsCalling, IsAnswered, IsWaitingOn, HasStarved, HasStarvedCalling, HasGoneOn};
 ghost use Rattle.combining.specs.Ended.{AreToldBy, HasAddedTold, HasRoom, IsNotedUpTo, entered_since};
+ghost use Rattle.combining.specs.Rounds.{most_of};
 ghost use Rattle.combining.specs.Waits.{IsWaitAfterTry, IsWaitAfterLook, FitIntoLooks};
 
 use crate::backoff::{LOOKS_PER_TRY, TRIES_AT_ONCE, Wait, after_look, after_try, back_off};
-use crate::office::{Answer, Office, Performed, Turn};
+use crate::office::{Answer, BoundedTurn, Office, Performed};
 use crate::told::Told;
-use publication::Ticket as Session;
+use publication::{Posted, Ticket as Session};
 use sequential::Batching;
 
 /// The outcome of `call` and `resume`.
@@ -52,6 +53,8 @@ fn serve_if<O: Batching, T: Told<O>>(
     ensures served { result ≡ false → serve_now ≡ true → IsPendingServed session.new ⊎ (1 < office.now.sessions) }
     ensures tries { session.new.tries ≤ session.old.tries + 1 }
     ensures untried { serve_now ≡ false → session.new.tries ≡ session.old.tries }
+    ensures listed { session.old.listed ≡ true → session.new.tries ≡ session.old.tries }
+    ensures few { length (entered_since session.old session.new) ≤ most_of (T.most told.old) }
     ensures told { HasAddedTold T.ends office.now.sessions session.new.front (entered_since session.old session.new) (T.list told.old) (T.list told.new) }
     ensures room { T.room told.new ≡ T.room told.old }
     ensures notes { T.notes told.old session.old.front → T.notes told.new session.new.front }
@@ -59,14 +62,15 @@ fn serve_if<O: Batching, T: Told<O>>(
     if !serve_now {
         return false;
     }
-    match office.pass(session, told) {
-        Turn::Pass { starved, .. } => starved,
-        Turn::Elsewhere => false,
+    let bound = told.bound().at_least_one();
+    match office.pass_bounded(session, bound, told) {
+        BoundedTurn::Pass { starved, .. } => starved,
+        BoundedTurn::Elsewhere => false,
     }
 }
 
 /// Makes one turn of the pending call of a session, behind `looked` turns: tries to serve, at the first and then at every
-/// `LOOKS_PER_TRY`th turn, and looks for the answer.
+/// `LOOKS_PER_TRY`th turn, and looks for the answer. It serves within the bound of `told`, as `Office::serve_bounded` does.
 ///
 /// Adds the sessions whose waits the pass has ended to those that were told.
 #[inline(never)]
@@ -87,8 +91,10 @@ pub fn look<O: Batching, T: Told<O>>(
     ensures others { (w : _) → result ≡ Next.Wait w → looked % LOOKS_PER_TRY ≡ 0 → 1 < office.now.sessions }
     ensures tries { session.new.tries ≤ session.old.tries + 1 }
     ensures untried { looked % LOOKS_PER_TRY ≢ 0 → session.new.tries ≡ session.old.tries }
+    ensures listed { session.old.listed ≡ true → session.new.tries ≡ session.old.tries }
     ensures wait { (w : _) → result ≡ Next.Wait w → IsWaitAfterLook looked w }
     ensures on { HasGoneOn session.old session.new }
+    ensures few { length (entered_since session.old session.new) ≤ most_of (T.most told.old) }
     ensures told { HasAddedTold T.ends office.now.sessions session.new.front (entered_since session.old session.new) (T.list told.old) (T.list told.new) }
     ensures room { T.room told.new ≡ T.room told.old }
     ensures noted { (answer : _) → result ≡ Next.Answered answer → T.notes told.old session.old.front → IsNotedUpTo (T.notes told.new) session.new.front (answer.place + 1) }
@@ -105,7 +111,8 @@ pub fn look<O: Batching, T: Told<O>>(
     Next::Wait(after_look(looked))
 }
 
-/// Publishes the call, which was not answered at once, and looks for the answer.
+/// Publishes the call, which was not answered at once, and looks for the answer if the call is listed. If it isn't, a later look tries to
+/// have it listed.
 // Out of line, as `look` is, so that a call that is performed at once is quick.
 #[inline(never)]
 fn publish_and_look<O: Batching, T: Told<O>>(
@@ -123,26 +130,28 @@ fn publish_and_look<O: Batching, T: Told<O>>(
     ensures starved { result ≡ Next.Starved → IsCalling session.old session.new call }
     ensures refused { result ≡ Next.Starved → HasStarvedCalling O.Sequential session.old session.new call }
     ensures waits { (w : _) → result ≡ Next.Wait w → IsCalling session.old session.new call × (1 < office.now.sessions) }
-    ensures tries { session.new.tries ≤ session.old.tries + 2 }
+    ensures tries { session.new.tries ≤ session.old.tries + 1 }
     ensures wait { (w : _) → result ≡ Next.Wait w → IsWaitAfterLook 0 w }
     ensures on { HasGoneOn session.old session.new }
+    ensures few { length (entered_since session.old session.new) ≤ most_of (T.most told.old) }
     ensures told { HasAddedTold T.ends office.now.sessions session.new.front (entered_since session.old session.new) (T.list told.old) (T.list told.new) }
     ensures room { T.room told.new ≡ T.room told.old }
     ensures noted { (answer : _) → result ≡ Next.Answered answer → T.notes told.old session.old.front → IsNotedUpTo (T.notes told.new) session.new.front (answer.place + 1) }
     ensures notes_starved { result ≡ Next.Starved → T.notes told.old session.old.front → T.notes told.new session.new.front }
     ensures notes_waits { (w : _) → result ≡ Next.Wait w → T.notes told.old session.old.front → T.notes told.new session.new.front }
 {
-    let _posted = office.publish(session, call);
-    look(office, session, 0, told)
+    match office.publish(session, call) {
+        Posted::Listed => look(office, session, 0, told),
+        Posted::Unlisted => Next::Wait(after_look(0)),
+    }
 }
 
-/// Tries to perform the call at once, behind `tried` tries. A call for which memory was refused is published.
+/// Tries to perform the call at once. A call for which memory was refused is published.
 #[inline(always)]
 fn try_at_once<O: Batching, T: Told<O>>(
     office: &Office<O>,
     session: &mut Session<O>,
     call: &O::Call,
-    tried: u64,
     told: &mut T,
 ) -> Next<O::Reply>
     requires ours { IsSessionOf office.now session.old }
@@ -155,17 +164,19 @@ fn try_at_once<O: Batching, T: Told<O>>(
     ensures refused { result ≡ Next.Starved → HasStarvedCalling O.Sequential session.old session.new call.now }
     ensures waits { (w : _) → result ≡ Next.Wait w → (session.new ≡ session.old) × (1 < office.now.sessions) }
     ensures tries { session.new.tries ≤ session.old.tries + 1 }
-    ensures wait { (w : _) → result ≡ Next.Wait w → IsWaitAfterTry tried w }
+    ensures wait { (w : _) → result ≡ Next.Wait w → IsWaitAfterTry w }
     ensures on { HasGoneOn session.old session.new }
+    ensures few { length (entered_since session.old session.new) ≤ most_of (T.most told.old) + 1 }
     ensures told { HasAddedTold T.ends office.now.sessions session.new.front (entered_since session.old session.new) (T.list told.old) (T.list told.new) }
     ensures room { T.room told.new ≡ T.room told.old }
     ensures noted { (answer : _) → result ≡ Next.Answered answer → T.notes told.old session.old.front → IsNotedUpTo (T.notes told.new) session.new.front (answer.place + 1) }
     ensures notes_starved { result ≡ Next.Starved → T.notes told.old session.old.front → T.notes told.new session.new.front }
     ensures notes_waits { (w : _) → result ≡ Next.Wait w → T.notes told.old session.old.front → T.notes told.new session.new.front }
 {
-    match office.perform_adding(session, *call, told) {
+    let bound = told.bound().at_least_one();
+    match office.perform_adding(session, *call, Some(bound), told) {
         Performed::Answered { answer, .. } => Next::Answered(answer),
-        Performed::Elsewhere => Next::Wait(after_try(tried)),
+        Performed::Elsewhere => Next::Wait(after_try()),
         Performed::Starved => {
             let _posted = office.publish(session, *call);
             Next::Starved
@@ -174,7 +185,7 @@ fn try_at_once<O: Batching, T: Told<O>>(
 }
 
 /// Makes one turn of a call, behind `made` turns. An idle session tries to perform the call at once, in its first `TRIES_AT_ONCE`
-/// turns, and publishes it in the next one. A session with a call pending makes a turn as `look` does; it goes on with the call that is
+/// turns, and publishes it in the next one. If it performs the call, it makes a pass within the bound of `told` beside. A session with a call pending makes a turn as `look` does; it goes on with the call that is
 /// pending, whatever `call` is. No turn loses a call: it is answered, pending, or not made yet.
 ///
 /// Adds the sessions whose waits the turn's passes have ended to those that were told.
@@ -199,15 +210,14 @@ pub fn turn<O: Batching, T: Told<O>>(
     ensures tried { (w : _) → result ≡ Next.Wait w → session.old.pending ≡ None → made < TRIES_AT_ONCE → (session.new ≡ session.old) × (1 < office.now.sessions) }
     ensures published { (w : _) → result ≡ Next.Wait w → session.old.pending ≡ None → TRIES_AT_ONCE ≤ made → IsCalling session.old session.new call.now × (1 < office.now.sessions) }
     ensures waits { (w : _) → result ≡ Next.Wait w → session.old.pending ≢ None → IsWaitingOn session.old session.new }
-    ensures wait_tried { (w : _) → result ≡ Next.Wait w → session.old.pending ≡ None → made < TRIES_AT_ONCE → IsWaitAfterTry made w }
+    ensures wait_tried { (w : _) → result ≡ Next.Wait w → session.old.pending ≡ None → made < TRIES_AT_ONCE → IsWaitAfterTry w }
     ensures wait_published { (w : _) → result ≡ Next.Wait w → session.old.pending ≡ None → TRIES_AT_ONCE ≤ made → IsWaitAfterLook 0 w }
     ensures wait_looked { (w : _) → result ≡ Next.Wait w → session.old.pending ≢ None → IsWaitAfterLook made w }
-    ensures tries_at_once { session.old.pending ≡ None → made < TRIES_AT_ONCE → session.new.tries ≤ session.old.tries + 1 }
-    ensures tries_published { session.old.pending ≡ None → session.new.tries ≤ session.old.tries + 2 }
-    ensures tries { session.old.pending ≢ None → session.new.tries ≤ session.old.tries + 1 }
+    ensures tries { session.new.tries ≤ session.old.tries + 1 }
     ensures untried { session.old.pending ≢ None → made % LOOKS_PER_TRY ≢ 0 → session.new.tries ≡ session.old.tries }
     ensures live { session.new.retired ≡ false }
     ensures on { HasGoneOn session.old session.new }
+    ensures few { length (entered_since session.old session.new) ≤ most_of (T.most told.old) + 1 }
     ensures told { HasAddedTold T.ends office.now.sessions session.new.front (entered_since session.old session.new) (T.list told.old) (T.list told.new) }
     ensures room { T.room told.new ≡ T.room told.old }
     ensures noted { (answer : _) → result ≡ Next.Answered answer → T.notes told.old session.old.front → IsNotedUpTo (T.notes told.new) session.new.front (answer.place + 1) }
@@ -218,7 +228,7 @@ pub fn turn<O: Batching, T: Told<O>>(
         return look(office, session, made, told);
     }
     if made < TRIES_AT_ONCE {
-        try_at_once(office, session, call, made, told)
+        try_at_once(office, session, call, told)
     } else {
         publish_and_look(office, session, *call, told)
     }

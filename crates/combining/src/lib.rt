@@ -4,11 +4,11 @@
 //!
 //! `office.rt` has the calls of sessions, `office/perform.rt` a call that its session performs itself, `office/rows.rt` a row of such
 //! calls, `office/taking.rt` the taking of the history, `office/looks.rt` a look at the object, `office/sleeping.rt` the sleep of
-//! sessions, `office/bounded.rt` a pass of so many calls at most, `office/passes.rt` what all ways to serve have in common. `calling.rt`
+//! sessions, `office/bounded.rt` a pass within a bound, `office/passes.rt` what all ways to serve have in common. `calling.rt`
 //! makes a whole call turn by turn, `row_calling.rt` a row of calls, `backoff.rt` says how it waits between turns. `pass.rt` is the
-//! combiner's pass, `bounded_pass.rt` one in rounds of so many calls at most, `own_call.rt` a pass with a call of its own, `own_row.rt`
+//! combiner's pass, `bounded_pass.rt` one in rounds within a bound (`bounds.rt`), `own_call.rt` a pass with a call of its own, `own_row.rt`
 //! one with a row of them, `clean_up.rt` takes unused records off the publication list. `goes_on.rt` says behind which replies a row
-//! goes on, `told.rt` who is told whose waits a pass has ended, `ended.rt` is the list of them.
+//! goes on, `told.rt` who is told whose waits a pass has ended, and how much it serves, `ended.rt` is the list of them.
 //!
 //! A pass seizes the object, opens the posted records, serves their calls as one batch, answers them, and gives the object back.
 //!
@@ -19,6 +19,7 @@
 
 mod backoff;
 mod bounded_pass;
+mod bounds;
 mod calling;
 mod clean_up;
 mod ended;
@@ -32,10 +33,10 @@ mod row_calling;
 mod told;
 
 pub use backoff::{
-    DOUBLINGS, FIRST_PAUSES, LOOKS_PER_TRY, LOOKS_PER_YIELD, PAUSES, TRIES_AT_ONCE,
-    TRIES_BEFORE_YIELDS, Wait, after_try, back_off,
+    LOOKS_PER_TRY, LOOKS_PER_YIELD, PAUSES, PAUSES_BEFORE_PUBLISHING, TRIES_AT_ONCE, Wait,
+    after_try, back_off,
 };
-pub use bounded_pass::PassBound;
+pub use bounds::{PassBound, UNBOUNDED};
 pub use calling::{Called, Next, call, look, publish_if_idle, resume, turn};
 pub use ended::Ended;
 pub use goes_on::GoesOn;

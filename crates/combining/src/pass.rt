@@ -4,11 +4,11 @@
 ghost use Rattle.std.specs.Prelude.{◌≡◌, ◌≢◌, ◌+◌, ◌-◌, ◌^◌, ◌<◌, ◌≤◌, ◌↔◌, ◌∷◌, ◌++◌, min, [], true, false, IsTrue, Some, None, IfSome, IfNone, length, take, drop, vec_len, vec_capacity, if◌then◌else◌, All};
 ghost use mathlib.Core.List.{IsPrefix};
 ghost use Rattle.sequential.specs.Histories.{calls_of};
-ghost use Rattle.sequential.specs.Batches.{IsItemWithin};
+ghost use Rattle.sequential.specs.Batches.{IsItemWithin, asked_by, asked_in};
 ghost use Rattle.publication.specs.Boards.{IsOf, IsNumber, OpensNone, heard_from, published_by};
 ghost use Rattle.publication.specs.List.{IsOn};
 ghost use Rattle.publication.specs.Kinds.{IsRoute};
-ghost use Rattle.combining.specs.inner.Passes.{AreOpened, HasCalls, KeepsCalls, IsVisited, HasVisitedOpened, IsNext, HasMet, IsSameSession, HasAnswered, HasPassed, IsObjectInHand, IsAtWork, HasRow, HasServed, HasServedRow};
+ghost use Rattle.combining.specs.inner.Passes.{AreOpened, HasCalls, KeepsCalls, IsVisited, HasVisitedOpened, IsNext, HasMet, IsSameSession, HasInserted, HasAnswered, HasPassed, IsObjectInHand, IsAtWork, HasRow, HasServed, HasServedRow};
 ghost use Rattle.combining.specs.inner.Ages.{sessions_of, sessions_since, noted};
 
 use crate::clean_up::{clean_up, note_served};
@@ -60,7 +60,7 @@ fn insert_item<C: Copy, R: Copy>(row: &mut Vec<Item<C, R>>, place: usize, whose:
 }
 
 /// Opens record `whose` if a call is posted there, and inserts an item for it into the row: a call that goes first behind
-/// the first `going_first` items, which go first too, any other call at the end.
+/// the first `going_first` items, which go first too, any other call at the end. Returns the call.
 // Out of line, so that a pass over idle records only looks at them.
 #[inline(never)]
 fn open_posted<O: Batching>(
@@ -69,7 +69,7 @@ fn open_posted<O: Batching>(
     row: &mut Vec<Item<O::Call, O::Reply>>,
     going_first: &mut usize,
     whose: u16,
-)
+) -> Option<O::Call>
     requires ours { IsOf board.now session.old × (session.old.has_object ≡ true) }
     requires whose { IsNumber board.now whose }
     requires row { AreOpened board.now.sessions session.old.opened row.old.items }
@@ -78,13 +78,15 @@ fn open_posted<O: Batching>(
     ensures session { IsSameSession session.old session.new × (session.new.front ≡ session.old.front) × (session.new.route ≡ session.old.route) }
     ensures row { AreOpened board.now.sessions session.new.opened row.new.items }
     ensures room { (board.now.sessions ≤ vec_capacity row.new) × (going_first.new ≤ vec_len row.new) }
+    ensures inserted { IfSome result (λ call. HasInserted whose call row.old.items row.new.items) }
+    ensures none { IfNone result (row.new ≡ row.old) }
     ensures grows { vec_len row.new ≤ vec_len row.old + 1 }
     ensures calls { KeepsCalls session.old session.new }
     ensures visited { HasVisitedOpened session.new }
     ensures met { IsVisited whose session.new }
 {
     let Some(call) = board.open(session, whose) else {
-        return;
+        return None;
     };
     let gives = O::goes_first(&call);
     let place = if gives { *going_first } else { row.len() };
@@ -92,9 +94,10 @@ fn open_posted<O: Batching>(
     if gives {
         *going_first += 1;
     }
+    Some(call)
 }
 
-/// Looks at record `whose`, and opens it as `open_posted` does if a call is posted there.
+/// Looks at record `whose`, and opens it as `open_posted` does if a call is posted there. Returns the call.
 #[inline(always)]
 pub(crate) fn open_record<O: Batching>(
     board: &Board<O>,
@@ -102,7 +105,7 @@ pub(crate) fn open_record<O: Batching>(
     row: &mut Vec<Item<O::Call, O::Reply>>,
     going_first: &mut usize,
     whose: u16,
-)
+) -> Option<O::Call>
     requires ours { IsOf board.now session.old × (session.old.has_object ≡ true) }
     requires whose { IsNumber board.now whose }
     requires row { AreOpened board.now.sessions session.old.opened row.old.items }
@@ -111,14 +114,17 @@ pub(crate) fn open_record<O: Batching>(
     ensures session { IsSameSession session.old session.new × (session.new.front ≡ session.old.front) × (session.new.route ≡ session.old.route) }
     ensures row { AreOpened board.now.sessions session.new.opened row.new.items }
     ensures room { (board.now.sessions ≤ vec_capacity row.new) × (going_first.new ≤ vec_len row.new) }
+    ensures inserted { IfSome result (λ call. HasInserted whose call row.old.items row.new.items) }
+    ensures none { IfNone result (row.new ≡ row.old) }
     ensures grows { vec_len row.new ≤ vec_len row.old + 1 }
     ensures calls { KeepsCalls session.old session.new }
     ensures visited { HasVisitedOpened session.new }
     ensures met { IsVisited whose session.new }
 {
-    if board.is_posted(session, whose) {
-        open_posted(board, session, row, going_first, whose);
+    if !board.is_posted(session, whose) {
+        return None;
     }
+    open_posted(board, session, row, going_first, whose)
 }
 
 /// Visits the records of the walk from `next` on, and opens each in which a call is posted.
@@ -145,7 +151,7 @@ fn open_walked<O: Batching>(
 {
     let mut next = next;
     while let Some(whose) = next {
-        open_record(board, session, row, going_first, whose);
+        let _call = open_record(board, session, row, going_first, whose);
         next = board.walk(session, Some(whose));
     }
 }
@@ -200,7 +206,7 @@ fn open_records<O: Batching>(
     let mut going_first = 0;
     open_listed(board, session, row, &mut going_first);
     if session.is_unlisted() {
-        open_record(board, session, row, &mut going_first, session.number());
+        let _call = open_record(board, session, row, &mut going_first, session.number());
     }
 }
 
@@ -252,6 +258,7 @@ fn serve_row<O: Batching>(
     ensures within { All (IsItemWithin board.now.sessions) row.new.items }
     ensures room { (vec_len row.new ≡ vec_len row.old) × (vec_capacity row.new ≡ vec_capacity row.old) }
     ensures longer { IsPrefix session.old.front session.new.front }
+    ensures asked { asked_in (drop (length session.old.front) session.new.front) ≡ asked_by (take result row.old.items) }
     ensures legal { O.is_legal session.new.front }
     ensures served { result ≤ vec_len row.new }
     ensures whose { sessions_since (length session.old.front) session.new.front ≡ sessions_of (take result row.new.items) }
@@ -335,7 +342,7 @@ pub(crate) fn serve_published<O: Batching>(
     requires listed { session.old.pending ≢ None → session.old.listed ≡ true → heard_from session.old session.old.number ≡ published_by session.old }
     ensures work { IsAtWork O.Sequential board.now session.new load.new }
     ensures pass { HasPassed session.old session.new result.served }
-    ensures served { HasServed board.now.sessions session.old session.new load.old load.new result.starved }
+    ensures served { HasServed board.now.sessions session.old session.new load.old load.new result.starved false }
     ensures own { result.starved ≡ false → session.old.pending ≢ None → published_by session.old ≤ length (calls_of session.old.number session.new.front) }
     ensures passes { load.new.passes ≡ min (load.old.passes + 1) (2 ^ 64 - 1) }
     ensures served_in_all { load.new.served ≡ min (load.old.served + result.served) (2 ^ 64 - 1) }

@@ -1,10 +1,11 @@
 //! A row of calls of a session, turn by turn: performed at once where the object is free, else its next call published, served and
 //! collected.
 
-ghost use Rattle.std.specs.Prelude.{◌≡◌, ◌≢◌, ◌<◌, ◌≤◌, ◌∷◌, ℕ, true, false, None, length};
+ghost use Rattle.std.specs.Prelude.{◌≡◌, ◌≢◌, ◌+◌, ◌<◌, ◌≤◌, ◌∷◌, ℕ, true, false, None, length};
 ghost use Rattle.combining.specs.Sessions.{IsSessionOf, IsIdle};
 ghost use Rattle.combining.specs.Calls.{IsCalled, IsCalling, IsAnswered, IsWaitingOn, HasStarvedCalling, HasGoneOn};
 ghost use Rattle.combining.specs.Ended.{HasAddedTold, HasRoom, entered_since};
+ghost use Rattle.combining.specs.Rounds.{most_of};
 ghost use Rattle.combining.specs.Rows.{IsRowPerformed};
 ghost use Rattle.combining.specs.Waits.{IsWaitAfterTry, IsWaitAfterLook};
 
@@ -30,12 +31,11 @@ pub enum NextOfRow<R> {
     Wait(Wait),
 }
 
-/// Tries to perform the row at once, behind `tried` tries. If memory was refused for its first call, that call is published.
+/// Tries to perform the row at once. If memory was refused for its first call, that call is published.
 fn try_row_at_once<O: Batching, G: GoesOn<O>, T: Told<O>>(
     office: &Office<O>,
     session: &mut Session<O>,
     calls: &[O::Call],
-    tried: u64,
     told: &mut T,
 ) -> NextOfRow<O::Reply>
     requires ours { IsSessionOf office.now session.old }
@@ -50,13 +50,15 @@ fn try_row_at_once<O: Batching, G: GoesOn<O>, T: Told<O>>(
     ensures starved { (call : _) (rest : _) → result ≡ NextOfRow.Starved → calls.now ≡ call ∷ rest → IsCalling session.old session.new call }
     ensures refused { (call : _) (rest : _) → result ≡ NextOfRow.Starved → calls.now ≡ call ∷ rest → HasStarvedCalling O.Sequential session.old session.new call }
     ensures waits { (w : _) → result ≡ NextOfRow.Wait w → (session.new ≡ session.old) × (1 < office.now.sessions) }
-    ensures wait { (w : _) → result ≡ NextOfRow.Wait w → IsWaitAfterTry tried w }
+    ensures wait { (w : _) → result ≡ NextOfRow.Wait w → IsWaitAfterTry w }
     ensures live { session.new.retired ≡ false }
     ensures on { HasGoneOn session.old session.new }
+    ensures few { length (entered_since session.old session.new) ≤ most_of (T.most told.old) + length calls.now }
     ensures told { HasAddedTold T.ends office.now.sessions session.new.front (entered_since session.old session.new) (T.list told.old) (T.list told.new) }
     ensures room { T.room told.new ≡ T.room told.old }
 {
-    match office.perform_row_adding::<G, T>(session, calls, told) {
+    let bound = told.bound().at_least_one();
+    match office.perform_row_adding::<G, T>(session, calls, Some(bound), told) {
         PerformedRow::Performed { row, .. } => {
             if row.performed > 0 {
                 return NextOfRow::Performed(row);
@@ -65,7 +67,7 @@ fn try_row_at_once<O: Batching, G: GoesOn<O>, T: Told<O>>(
             let _posted = office.publish(session, call);
             NextOfRow::Starved
         }
-        PerformedRow::Elsewhere => NextOfRow::Wait(after_try(tried)),
+        PerformedRow::Elsewhere => NextOfRow::Wait(after_try()),
     }
 }
 
@@ -103,16 +105,17 @@ pub fn row_turn<O: Batching, G: GoesOn<O>, T: Told<O>>(
     ensures published { (w : _) (call : _) (rest : _) → result ≡ NextOfRow.Wait w → session.old.pending ≡ None → TRIES_AT_ONCE ≤ made → calls.now ≡ call ∷ rest
         → IsCalling session.old session.new call × (1 < office.now.sessions) }
     ensures waits { (w : _) → result ≡ NextOfRow.Wait w → session.old.pending ≢ None → IsWaitingOn session.old session.new }
-    ensures wait_tried { (w : _) → result ≡ NextOfRow.Wait w → session.old.pending ≡ None → made < TRIES_AT_ONCE → IsWaitAfterTry made w }
+    ensures wait_tried { (w : _) → result ≡ NextOfRow.Wait w → session.old.pending ≡ None → made < TRIES_AT_ONCE → IsWaitAfterTry w }
     ensures wait_published { (w : _) → result ≡ NextOfRow.Wait w → session.old.pending ≡ None → TRIES_AT_ONCE ≤ made → IsWaitAfterLook 0 w }
     ensures wait_looked { (w : _) → result ≡ NextOfRow.Wait w → session.old.pending ≢ None → IsWaitAfterLook made w }
     ensures live { session.new.retired ≡ false }
     ensures on { HasGoneOn session.old session.new }
+    ensures few { length (entered_since session.old session.new) ≤ most_of (T.most told.old) + length calls.now }
     ensures told { HasAddedTold T.ends office.now.sessions session.new.front (entered_since session.old session.new) (T.list told.old) (T.list told.new) }
     ensures room { T.room told.new ≡ T.room told.old }
 {
     if session.is_idle() && made < TRIES_AT_ONCE {
-        return try_row_at_once::<O, G, T>(office, session, calls, made, told);
+        return try_row_at_once::<O, G, T>(office, session, calls, told);
     }
     let call = calls[0];
     match turn(office, session, &call, made, told) {

@@ -22,6 +22,17 @@ use lock_tree::{Resource, same_path_is_equality};
 use report_text::{is_last, one_if};
 use std::alloc::{AllocError as NoMemory, Global};
 
+/// The abort of a session, as it is tried out.
+#[derive(Clone, Copy)]
+struct TriedAbort<'a> {
+    /// The lock table.
+    book: &'a Book,
+    /// Its waiting requests, in the order of its listing.
+    requests: &'a [Claim],
+    /// The session.
+    session: u16,
+}
+
 /// The holders of the resource but `session`. Fails if memory is refused.
 fn other_holders(
     alloc: Global,
@@ -54,25 +65,22 @@ fn queue_of(
     Ok(queue)
 }
 
-/// Marks the sessions whose requests for the resource an abort of `session` would grant. `requests` are those of the book, in the
-/// order of its listing. Fails if memory is refused.
+/// Marks the sessions whose requests for the resource the abort would grant. Fails if memory is refused.
 fn mark_granted_on(
     alloc: Global,
-    book: &Book,
-    requests: &[Claim],
-    session: u16,
+    abort: TriedAbort<'_>,
     resource: Resource,
     marks: &mut Vec<bool>,
 ) -> Result<(), NoMemory>
-    requires { requests.now ≡ filter is_request (listing_of (state_of book.now.history)) }
+    requires { abort.requests.now ≡ filter is_request (listing_of (state_of abort.book.now.history)) }
     ensures len { length marks.new.items ≡ length marks.old.items }
-    ensures marks { OnOk result ((u : ℕ) → is_marked marks.new.items u ≡ (is_marked marks.old.items u || (nat_lt u (length marks.old.items) && is_granted_on (state_of book.now.history).table session resource u))) }
+    ensures marks { OnOk result ((u : ℕ) → is_marked marks.new.items u ≡ (is_marked marks.old.items u || (nat_lt u (length marks.old.items) && is_granted_on (state_of abort.entry.book.now.history).table abort.entry.session resource u))) }
 {
-    let Some(_held) = book.held(session, resource) else {
+    let Some(_held) = abort.book.held(abort.session, resource) else {
         return Ok(());
     };
-    let mut holders = other_holders(alloc, book, session, resource)?;
-    let queue = queue_of(alloc, requests, resource)?;
+    let mut holders = other_holders(alloc, abort.book, abort.session, resource)?;
+    let queue = queue_of(alloc, abort.requests, resource)?;
     mark_granted(&mut holders, &queue, marks)?;
     Ok(())
 }
@@ -80,50 +88,38 @@ fn mark_granted_on(
 /// Like `mark_granted_on`, but does nothing if the resource is the one that was looked at last.
 fn mark_granted_next(
     alloc: Global,
-    book: &Book,
-    requests: &[Claim],
-    session: u16,
+    abort: TriedAbort<'_>,
     last: Option<Resource>,
     resource: Resource,
     marks: &mut Vec<bool>,
 ) -> Result<(), NoMemory>
-    requires requests { requests.now ≡ filter is_request (listing_of (state_of book.now.history)) }
-    requires last { IfSome last (λ r. (u : ℕ) → (nat_lt u (length marks.old.items) && is_granted_on (state_of book.now.history).table session r u) ≡ true → is_marked marks.old.items u ≡ true) }
+    requires requests { abort.requests.now ≡ filter is_request (listing_of (state_of abort.book.now.history)) }
+    requires last { IfSome last (λ r. (u : ℕ) → (nat_lt u (length marks.old.items) && is_granted_on (state_of abort.book.now.history).table abort.session r u) ≡ true → is_marked marks.old.items u ≡ true) }
     ensures len { length marks.new.items ≡ length marks.old.items }
-    ensures marks { OnOk result ((u : ℕ) → is_marked marks.new.items u ≡ (is_marked marks.old.items u || (nat_lt u (length marks.old.items) && is_granted_on (state_of book.now.history).table session resource u))) }
+    ensures marks { OnOk result ((u : ℕ) → is_marked marks.new.items u ≡ (is_marked marks.old.items u || (nat_lt u (length marks.old.items) && is_granted_on (state_of abort.entry.book.now.history).table abort.entry.session resource u))) }
 {
     if is_last(last, resource) {
         return Ok(());
     }
-    mark_granted_on(alloc, book, requests, session, resource, marks)?;
+    mark_granted_on(alloc, abort, resource, marks)?;
     Ok(())
 }
 
-/// Marks the sessions whose requests an abort of `session` would grant. `requests` are those of the book, in the order of its
-/// listing, in which those for one resource follow one another. Fails if memory is refused.
+/// Marks the sessions whose requests the abort would grant. In a listing the requests for one resource follow one another. Fails if
+/// memory is refused.
 fn mark_all_granted(
     alloc: Global,
-    book: &Book,
-    requests: &[Claim],
-    session: u16,
+    abort: TriedAbort<'_>,
     marks: &mut Vec<bool>,
 ) -> Result<(), NoMemory>
-    requires requests { requests.now ≡ filter is_request (listing_of (state_of book.now.history)) }
+    requires requests { abort.requests.now ≡ filter is_request (listing_of (state_of abort.book.now.history)) }
     requires none { (u : ℕ) → is_marked marks.old.items u ≡ false }
     ensures len { length marks.new.items ≡ length marks.old.items }
-    ensures marks { OnOk result ((u : ℕ) → is_marked marks.new.items u ≡ (nat_lt u (length marks.old.items) && list_any (λ c. is_granted_on (state_of book.now.history).table session c.resource u) requests.now)) }
+    ensures marks { OnOk result ((u : ℕ) → is_marked marks.new.items u ≡ (nat_lt u (length marks.old.items) && list_any (λ c. is_granted_on (state_of abort.entry.book.now.history).table abort.entry.session c.resource u) abort.entry.requests.now)) }
 {
     let mut last = None;
-    for request in requests {
-        mark_granted_next(
-            alloc,
-            book,
-            requests,
-            session,
-            last,
-            request.resource,
-            marks,
-        )?;
+    for request in abort.requests {
+        mark_granted_next(alloc, abort, last, request.resource, marks)?;
         last = Some(request.resource);
     }
     Ok(())
@@ -155,6 +151,11 @@ pub(crate) fn count_grants(
 {
     let sessions = book.sessions();
     let mut marks = none_marked(alloc, sessions)?;
-    mark_all_granted(alloc, book, requests, session, &mut marks)?;
+    let abort = TriedAbort {
+        book,
+        requests,
+        session,
+    };
+    mark_all_granted(alloc, abort, &mut marks)?;
     Ok(count_marked(&marks, sessions))
 }

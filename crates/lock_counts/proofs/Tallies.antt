@@ -24,7 +24,7 @@ use Rattle.lock_counts.proofs.Numbers.{kind_few}
 use Rattle.lock_counts.proofs.Balance.{counts-bounded}
 
 -- two counters of replies have one index exactly if they are of one operation and one kind
-cells-apart : (a b x y : ℕ) → b < 12 → y < 12 → eqb (a * 12 + b) (x * 12 + y) ≡ (eqb x a && eqb y b)
+pub cells-apart : (a b x y : ℕ) → b < 12 → y < 12 → eqb (a * 12 + b) (x * 12 + y) ≡ (eqb x a && eqb y b)
 cells-apart a b x y p q = go (eqb x a) (eqb y b) refl refl
   where
     go : (c d : Bool) → eqb x a ≡ c → eqb y b ≡ d → eqb (a * 12 + b) (x * 12 + y) ≡ (c && d)
@@ -57,11 +57,11 @@ counted_up xs i j v n l same is =
 -- one entry more
 
 -- one more item of a list
-count-push : {X : Type 0} (p : X → Bool) (xs : List X) (x : X) → count_if p (xs ++ x ∷ []) ≡ count_if p xs + one_if (p x)
+pub count-push : {X : Type 0} (p : X → Bool) (xs : List X) (x : X) → count_if p (xs ++ x ∷ []) ≡ count_if p xs + one_if (p x)
 count-push p xs x = omega (arith, count-append p xs (x ∷ []))
 
 -- one more entry of a sum
-total-push : (amount : State → Entry → State → ℕ) (h : List Entry) (e : Entry)
+pub total-push : (amount : State → Entry → State → ℕ) (h : List Entry) (e : Entry)
     → total_from amount empty (h ++ e ∷ []) ≡ total_from amount empty h + amount (state_of h) e (step (state_of h) e.session e.call).state
 total-push amount h e = omega (arith, total-append amount empty h (e ∷ []))
 

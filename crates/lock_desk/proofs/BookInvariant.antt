@@ -92,8 +92,8 @@ kept-of a k = record {
 }
 
 pub of-kept : (a : Inside) → 1 ≤ a.sessions → a.sessions ≤ MAX_SESSIONS → AreKept a.lock_table.value a.history.items → vec_len a.lock_table.value.lockers ≡ a.sessions → a.marks.sessions ≡ a.sessions
-    → IsLogFor (vec_len a.lock_table.value.lockers) a.deadlocks → AreDeadlocksTold (newest a.deadlocks.most (deadlocks_in a.history.items)) a.deadlocks.told
-    → AreCallsCounted a.history.items a.counts → AreWaitsCounted a.history.items a.deadlocks.counts → IsKept a
+    → IsLogFor (vec_len a.lock_table.value.lockers) a.notes.log → AreDeadlocksTold (newest a.notes.log.most (deadlocks_in a.history.items)) a.notes.log.told
+    → AreCallsCounted a.history.items a.notes.counts → AreWaitsCounted a.history.items a.notes.log.counts → IsKept a
 of-kept a some few k lockers marked log told calls waits = record {
   some = some;
   few = few;
@@ -149,14 +149,14 @@ pub view-behind : (a : Inside) (d : LockTable) (b : BookView) → d ≡ a.lock_t
 view-behind a d b is seen = subst (λ (x : LockTable). book_view_of (read_as x a) ≡ b) (sym is) seen
 
 -- the invariant, when as many sessions are listed as `n`
-pub relisted-kept : (a : Inside) (n : ℕ) (e : LockTable) → e ≡ with_ended_count n a.lock_table.value → IsKept a → IsKept (record { sessions = a.sessions; lock_table = record a.lock_table { value = e }; history = a.history; marks = a.marks; deadlocks = a.deadlocks; counts = a.counts })
+pub relisted-kept : (a : Inside) (n : ℕ) (e : LockTable) → e ≡ with_ended_count n a.lock_table.value → IsKept a → IsKept (record { sessions = a.sessions; lock_table = record a.lock_table { value = e }; history = a.history; marks = a.marks; notes = a.notes })
 relisted-kept a n e is k =
-    subst (λ (d : LockTable). IsKept (record { sessions = a.sessions; lock_table = record a.lock_table { value = d }; history = a.history; marks = a.marks; deadlocks = a.deadlocks; counts = a.counts })) (sym is)
+    subst (λ (d : LockTable). IsKept (record { sessions = a.sessions; lock_table = record a.lock_table { value = d }; history = a.history; marks = a.marks; notes = a.notes })) (sym is)
     (of-kept _ k.some k.few (kept-relisted a.lock_table.value _ a.history.items refl (kept-of a k)) k.lockers k.marked k.log k.told k.calls k.waits)
 
 -- what contracts see of a book after a call, when these sessions are listed
 pub listed-view : (a : Inside) (b : BookView) → book_view_of a ≡ b → (e : Entry) (es : List Entry) (cut bound : ℕ) (ended told : List ℕ) (deadlocks : ℕ)
-    → es ≡ a.history.items ++ e ∷ [] → cut ≡ a.history.cut → bound ≡ a.history.bound → ended ≡ told → deadlocks ≡ a.deadlocks.most
+    → es ≡ a.history.items ++ e ∷ [] → cut ≡ a.history.cut → bound ≡ a.history.bound → ended ≡ told → deadlocks ≡ a.notes.log.most
     → record { sessions = a.sessions; history = es; cut = cut; bound = bound; ended = ended; deadlocks = deadlocks } ≡ record b { history = b.history ++ e ∷ []; ended = told }
 listed-view a b is e es cut bound ended told deadlocks entries cuts bounds ends most =
     let n = ap (λ (t : BookView). t.sessions) is in
@@ -169,7 +169,7 @@ listed-view a b is e es cut bound ended told deadlocks entries cuts bounds ends 
 -- when exactly those are listed whose wait it has ended
 pub entry-view : (a : Inside) (b : BookView) → book_view_of a ≡ b → (s : ℕ) (call : Call) (reply : Reply) (es : List Entry) (cut bound : ℕ) (ended : List ℕ) (deadlocks : ℕ)
     → es ≡ a.history.items ++ record { session = s; call = call; reply = reply } ∷ [] → cut ≡ a.history.cut → bound ≡ a.history.bound
-    → ended ≡ ended_waits a.sessions s (state_of a.history.items) (step (state_of a.history.items) s call).state → deadlocks ≡ a.deadlocks.most
+    → ended ≡ ended_waits a.sessions s (state_of a.history.items) (step (state_of a.history.items) s call).state → deadlocks ≡ a.notes.log.most
     → record { sessions = a.sessions; history = es; cut = cut; bound = bound; ended = ended; deadlocks = deadlocks } ≡ record b { history = b.history ++ record { session = s; call = call; reply = reply } ∷ []; ended = ended_waits b.sessions s (state_of b.history) (step (state_of b.history) s call).state }
 entry-view a b is s call reply es cut bound ended deadlocks entries cuts bounds ends most =
     let e : Entry = record { session = s; call = call; reply = reply } in
@@ -180,7 +180,7 @@ entry-view a b is s call reply es cut bound ended deadlocks entries cuts bounds 
 pub beside-view : (a : Inside) (b : BookView) → book_view_of a ≡ b → (s : ℕ) (call : Call) (reply : Reply) (es : List Entry) (cut bound : ℕ) (w : EndedView) (deadlocks : ℕ)
     → es ≡ a.history.items ++ record { session = s; call = call; reply = reply } ∷ [] → cut ≡ a.history.cut → bound ≡ a.history.bound
     → length a.lock_table.value.ended.places ≡ a.sessions → length w.places ≡ a.sessions
-    → ((u : ℕ) → is_ended w u ≡ (is_ended a.lock_table.value.ended u || has_ended s (state_of a.history.items) (step (state_of a.history.items) s call).state u)) → deadlocks ≡ a.deadlocks.most
+    → ((u : ℕ) → is_ended w u ≡ (is_ended a.lock_table.value.ended u || has_ended s (state_of a.history.items) (step (state_of a.history.items) s call).state u)) → deadlocks ≡ a.notes.log.most
     → record { sessions = a.sessions; history = es; cut = cut; bound = bound; ended = ended_in w; deadlocks = deadlocks } ≡ record b { history = b.history ++ record { session = s; call = call; reply = reply } ∷ []; ended = ended_waits_beside b.sessions b.ended s (state_of b.history) (step (state_of b.history) s call).state }
 beside-view a b is s call reply es cut bound w deadlocks entries cuts bounds long still adds most =
     let e : Entry = record { session = s; call = call; reply = reply } in

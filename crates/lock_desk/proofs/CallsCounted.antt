@@ -1,7 +1,6 @@
 -- The calls of a history are counted, and one call more; and the waits that a session gives up.
-use Rattle.std.proofs.Common.{◌≡◌, ℕ, zero, suc, ◌+◌, ◌-◌, ◌*◌, ◌<◌, ◌≤◌, ◌%◌, ◌^◌, Bool, true, false, cond, not, eqb, ◌&&◌, List, [], ◌∷◌, ◌++◌, length, map, get_or, Option, Some, None, is_some, refl, sym, ◌∙◌, ap, subst, arith, length-append}
+use Rattle.std.proofs.Common.{◌≡◌, ℕ, zero, suc, ◌+◌, ◌-◌, ◌<◌, ◌≤◌, ◌%◌, ◌^◌, Bool, true, false, cond, not, eqb, ◌&&◌, List, [], ◌∷◌, ◌++◌, length, map, get_or, Option, Some, None, is_some, refl, sym, ◌∙◌, ap, subst, arith, length-append}
 use Rattle.std.proofs.lemmas.Bool.{cases_Bool, true≢false}
-use Rattle.std.proofs.lemmas.Bool.Decides.{Decides-eqb}
 use Rattle.lock_modes.specs.declared.Mode.{Mode}
 use Rattle.lock_rules.specs.declared.calls.Call.{Call}
 use Rattle.lock_rules.specs.declared.calls.Call.TheVariants.{Begin, Lock, Convert, Poll, Release, Commit, Abort, Try, Withdraw, Restart}
@@ -12,17 +11,18 @@ use Rattle.lock_rules.specs.declared.kinds.Op.TheVariants as op
 use Rattle.lock_rules.specs.declared.kinds.ReplyKind.{ReplyKind}
 use Rattle.lock_rules.specs.Kinds.{op_of_call, kind_of_reply, number_of_op, number_of_kind}
 use Rattle.lock_rules.specs.Entries.{Entry}
-use Rattle.lock_rules.specs.State.{Claim, State, empty, request_of, is_open, is_waiting, claims_of, claims_but}
+use Rattle.lock_rules.specs.State.{Claim, State, request_of, is_open, is_waiting, claims_of, claims_but}
 use Rattle.lock_rules.specs.Waits.{resource_of_request}
 use Rattle.lock_rules.specs.Step.{tests, first_failing, without_claims, after_end, act, outcome_of, step}
 use Rattle.lock_rules.specs.Legal.{state_of, IsLegal}
 use Rattle.lock_rules.specs.Sound.{IsNumbered}
 use Rattle.lock_rules.proofs.Histories.{legal-push}
-use Rattle.lock_rules.proofs.Lists.{other, apart, request_of-claims_but}
-use Rattle.lock_counts.specs.Counts.{one_if, count_if, total_from, is_op, is_refusal_numbered, gives_up, waits_aborted, waits_restarted}
+use Rattle.lock_rules.proofs.Lists.{request_of-claims_but}
+use Rattle.lock_counts.specs.Counts.{one_if, count_if, is_op, is_refusal_numbered, gives_up, waits_aborted, waits_restarted}
 use Rattle.lock_counts.specs.Tallies.{cell_of}
-use Rattle.lock_counts.proofs.Counting.{count-le-length, count-append, total-append}
+use Rattle.lock_counts.proofs.Counting.{count-le-length}
 use Rattle.lock_counts.proofs.Numbers.{kind_few}
+use Rattle.lock_counts.proofs.Tallies.{cells-apart, count-push, total-push}
 use Rattle.lock_counts.proofs.Balance.{counts-bounded}
 use Rattle.lock_counts.proofs.Thinned.{thin-promotions, thinned-waits-not}
 use Rattle.lock_desk.specs.declared.call_counts.CallCounts.{CallCounts}
@@ -33,29 +33,6 @@ use Rattle.lock_desk.specs.inner.Noting.{HasCounted}
 use Rattle.lock_desk.proofs.DeadlocksOfCalls.{deadlocks-push}
 use Rattle.lock_desk.proofs.VictimsCounted.{goes-up}
 use Rattle.lock_desk.proofs.VictimsOfCalls.{all-victims}
-
--- two counters of replies have one index exactly if they are of one operation and one kind
-cells-apart : (a b x y : ℕ) → b < 12 → y < 12 → eqb (a * 12 + b) (x * 12 + y) ≡ (eqb x a && eqb y b)
-cells-apart a b x y p q = go (eqb x a) (eqb y b) refl refl
-  where
-    go : (c d : Bool) → eqb x a ≡ c → eqb y b ≡ d → eqb (a * 12 + b) (x * 12 + y) ≡ (c && d)
-    go true true e f =
-        let same = (Decides-eqb x a).0 e in
-        let alike = (Decides-eqb y b).0 f in
-        (Decides-eqb (a * 12 + b) (x * 12 + y)).1 (omega (arith, same, alike))
-    go true false e f =
-        let same = (Decides-eqb x a).0 e in
-        other (x * 12 + y) (a * 12 + b) (λ g. apart b y f (omega (arith, g, same)))
-    go false d e f = other (x * 12 + y) (a * 12 + b) (λ g. apart a x e (omega (arith, g, p, q)))
-
--- one more item of a list
-count-push : {X : Type 0} (p : X → Bool) (xs : List X) (x : X) → count_if p (xs ++ x ∷ []) ≡ count_if p xs + one_if (p x)
-count-push p xs x = omega (arith, count-append p xs (x ∷ []))
-
--- one more entry of a sum
-total-push : (amount : State → Entry → State → ℕ) (h : List Entry) (e : Entry)
-    → total_from amount empty (h ++ e ∷ []) ≡ total_from amount empty h + amount (state_of h) e (step (state_of h) e.session e.call).state
-total-push amount h e = omega (arith, total-append amount empty h (e ∷ []))
 
 -- one call more is counted: its reply, and then its refusal
 pub call-counted : (h : List Entry) (s : ℕ) (call : Call) (reply : Reply) (o : Op) (k : ReplyKind) (old mid new : CallCounts) → o ≡ op_of_call call → k ≡ kind_of_reply reply

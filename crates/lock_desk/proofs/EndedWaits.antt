@@ -103,21 +103,22 @@ every : (old : List Locker) (n : Bool) (u : ℕ) → (not (eqb u 0) && (waits_at
 every old n zero = refl
 every old n (suc u) = ap (λ (b : Bool). not b && (waits_at (suc u) old && not n)) (not-none u)
 
+-- who waits has waited before
+waited-before : (old new : List Locker) (a b : EndedView) → DoNoteEnded 0 old new a b → (u : ℕ) → waits_at u new ≡ true → waits_at u old ≡ true
+waited-before old new a b h zero w = absurd (cc)
+waited-before old new a b h (suc u) w = h.waits (suc u) (not-none u) w
+
 -- the session that is left out did not wait
 pub list-all : (s : ℕ) (old new : List Locker) (a b : EndedView) → DoNoteEnded 0 old new a b → waits_at s old ≡ false → DoNoteEnded s old new a b
 list-all s old new a b h idle = record {
   sized = h.sized;
   waits_ended = λ u. h.waits_ended u ∙ (ap (λ (x : Bool). is_ended a u || x) (every old (waits_at u new) u) ∙ go u (eqb u s) refl);
-  waits = λ u n w. began u w;
+  waits = λ u n w. waited-before old new a b h u w;
 }
   where
     go : (u : ℕ) (b : Bool) → eqb u s ≡ b → (is_ended a u || (waits_at u old && not (waits_at u new))) ≡ (is_ended a u || (not b && (waits_at u old && not (waits_at u new))))
     go u true e = ap (λ (x : Bool). is_ended a u || (x && not (waits_at u new))) (ap (λ (v : ℕ). waits_at v old) ((Decides-eqb u s).0 e) ∙ idle)
     go u false e = refl
-
-    began : (u : ℕ) → waits_at u new ≡ true → waits_at u old ≡ true
-    began zero w = absurd (cc)
-    began (suc u) w = h.waits (suc u) (not-none u) w
 
 -- a session's own locker is written, which doesn't wait then, and others are granted what they wait for
 pub list-freed : (s : ℕ) (ws : List Locker) {i : ℕ} (new : Locker) (after : List Locker) (a b : EndedView) → IsPositionOf s i ws → wanted_in new.wanted ≡ None → DoNoteEnded 0 (set ws i new) after a b → DoNoteEnded s ws after a b
@@ -173,7 +174,7 @@ pub list-but : (s : ℕ) (old new : List Locker) (a b c : EndedView) → DoNoteE
 list-but s old new a b c h was is long takes = record {
   sized = long ∙ h.sized;
   waits_ended = λ u. takes u ∙ (ap (λ (x : Bool). x && (was || not (eqb u s))) (h.waits_ended u ∙ ap (λ (x : Bool). is_ended a u || x) (every old (waits_at u new) u)) ∙ go u (eqb u s) refl was is);
-  waits = λ u n w. began u w;
+  waits = λ u n w. waited-before old new a b h u w;
 }
   where
     apart : (x y w : Bool) → ((x || y) && (w || true)) ≡ (x || (true && y))
@@ -194,10 +195,6 @@ list-but s old new a b c h was is long takes = record {
         → ((is_ended a u || (waits_at u old && not (waits_at u new))) && (w || not b)) ≡ (is_ended a u || (not b && (waits_at u old && not (waits_at u new))))
     go u true e w f = own (is_ended a u) (waits_at u old && not (waits_at u new)) w (f ∙ ap (is_ended a) (sym ((Decides-eqb u s).0 e)))
     go u false e w f = apart (is_ended a u) (waits_at u old && not (waits_at u new)) w
-
-    began : (u : ℕ) → waits_at u new ≡ true → waits_at u old ≡ true
-    began zero w = absurd (cc)
-    began (suc u) w = h.waits (suc u) (not-none u) w
 
 -- lock tables
 

@@ -22,6 +22,7 @@ use Rattle.lock_rules.specs.Legal.{state_of, IsLegalFrom, IsLegal}
 use Rattle.lock_rules.specs.Sound.{IsOnce, IsSound, IsNumbered, times}
 use Rattle.lock_rules.proofs.Lists.{eqb-refl, other, times-none}
 use Rattle.lock_rules.proofs.Begins.{new, once-push, begins-sound}
+use Rattle.lock_rules.proofs.Doomed.{doom-dooms}
 use Rattle.lock_rules.proofs.Cuts.{IsQuiescent, cancelled-follows}
 use Rattle.lock_rules.proofs.Settle.{victim-waits}
 use Rattle.lock_rules.proofs.Marks.{below-sup, sup-some}
@@ -77,13 +78,9 @@ victim-dooms qs st v once has open_ calm =
     (λ q k. each q.session (eqb q.session v) refl) in
     omega (arith, all, times-count v qs, one-request v qs once has)
   where
-    doomed-now : (o : Option Transaction) → is_some o ≡ true → doomed_in (doom o) ≡ true
-    doomed-now None h = absurd (true≢false (sym h))
-    doomed-now (Some x) h = refl
-
     each : (u : ℕ) (b : Bool) → eqb u v ≡ b → one_if (doomed_in (cond (eqb u v) (doom (st.begun v)) (st.begun u))) ≡ one_if (eqb u v) + one_if (is_doomed st u)
     each u true e =
-        let now = ap (λ (b : Bool). one_if (doomed_in (cond b (doom (st.begun v)) (st.begun u)))) e ∙ ap one_if (doomed-now (st.begun v) open_) in
+        let now = ap (λ (b : Bool). one_if (doomed_in (cond b (doom (st.begun v)) (st.begun u)))) e ∙ ap one_if (doom-dooms (st.begun v) open_) in
         let was = ap one_if (ap (λ (x : ℕ). is_doomed st x) ((Decides-eqb u v).0 e) ∙ calm) in
         let is = ap one_if e in
         omega (arith, now, was, is)

@@ -31,6 +31,7 @@ mod paths;
 use crate::call_counts::CallCounts;
 use crate::deadlock_log::DeadlockLog;
 use crate::lock_table::LockTable;
+use crate::notes::Notes;
 use crate::recording::serve_recorded;
 use lock_modes::Mode;
 use lock_rules::{Call, Claim, Entry, MAX_SESSIONS, Reply, Transaction, laws};
@@ -58,10 +59,8 @@ pub struct Book {
     history: TrimmedList<Entry>,
     /// Scratch space of `serve_batch`: a mark for each session, to find a session that occurs twice.
     marks: Marks,
-    /// The newest deadlocks, none unless they are asked for, and how waits ended.
-    deadlocks: DeadlockLog,
-    /// How many calls of each kind were served, and how they were answered.
-    counts: CallCounts,
+    /// What is noted of the served calls.
+    notes: Notes,
 }
 
 /// An empty lock table, as `LockTable::new` makes it, in memory of its own. Fails if memory is refused.
@@ -130,14 +129,16 @@ impl Book {
     {
         let lock_table = boxed_table(alloc, sessions, seed)?;
         let marks = Marks::new(alloc, sessions)?;
-        let deadlocks = DeadlockLog::none(alloc)?;
+        let log = DeadlockLog::none(alloc)?;
         Ok(Book {
             sessions,
             lock_table,
             history: TrimmedList::new(alloc),
             marks,
-            deadlocks,
-            counts: CallCounts::new(),
+            notes: Notes {
+                log,
+                counts: CallCounts::new(),
+            },
         })
     }
 
@@ -336,8 +337,7 @@ impl Book {
         match serve_recorded(
             &mut *self.lock_table,
             &mut self.history,
-            &mut self.deadlocks,
-            &mut self.counts,
+            &mut self.notes,
             session,
             call,
         ) {
@@ -368,8 +368,7 @@ impl Book {
         let reply = serve_recorded(
             &mut *self.lock_table,
             &mut self.history,
-            &mut self.deadlocks,
-            &mut self.counts,
+            &mut self.notes,
             session,
             call,
         )?;

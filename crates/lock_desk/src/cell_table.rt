@@ -63,6 +63,17 @@ impl Model for CellTable {
     ghost invariant = { IsKeptTable };
 }
 
+/// A claim of a session on a resource, its lock or its request, that it gives up.
+#[derive(Clone, Copy)]
+pub(crate) struct GivenUpClaim {
+    /// The session.
+    pub(crate) session: u16,
+    /// The resource.
+    pub(crate) resource: Resource,
+    /// Which of the two it gives up.
+    pub(crate) claim: GivenUp,
+}
+
 /// Adds an idle cell at `place`, behind all others.
 #[inline(never)]
 fn add_idle_cell(cells: &mut Vec<Cell>, place: usize) -> Result<(), AllocError>
@@ -320,7 +331,7 @@ impl CellTable {
         }
     }
 
-    /// Gives up the lock or the request of `session` on `resource`, whose cell is at `place`.
+    /// Gives up a lock or a request on a resource, whose cell is at `place`.
     ///
     /// Promotes the queue and lists in `ended` whom it grants, updates the waits-for rows of the sessions that waited
     /// there, and vacates the cell if it is idle then. Does nothing without a cell.
@@ -329,30 +340,28 @@ impl CellTable {
         lockers: &mut Vec<Locker>,
         waits: &mut Waits,
         ended: &mut EndedWaits,
-        session: u16,
         place: Option<usize>,
-        resource: Resource,
-        claim: GivenUp,
+        given: GivenUpClaim,
     )
-        requires some { 1 ≤ session }
-        requires own { session ≤ waits.old.rows.sessions }
-        requires place { IsPlace resource self.old.entries place }
+        requires some { 1 ≤ given.session }
+        requires own { given.session ≤ waits.old.rows.sessions }
+        requires place { IsPlace given.resource self.old.entries place }
         requires cells { AreKeptCells self.old.entries }
-        requires claimed { has_session session (cell_view resource self.old.entries).waiting ≡ is_request claim }
-        requires agree { let left = view_after_giving_up claim session (cell_view resource self.old.entries) in
-            DoAgree resource left (standings_of lockers.old.items) }
+        requires claimed { has_session given.session (cell_view given.resource self.old.entries).waiting ≡ is_request given.claim }
+        requires agree { let left = view_after_giving_up given.claim given.session (cell_view given.resource self.old.entries) in
+            DoAgree given.resource left (standings_of lockers.old.items) }
         requires long { waits.old.rows.sessions ≡ vec_len lockers.old }
         requires sized { length ended.old.places ≡ vec_len lockers.old }
-        requires within { IsOfSessions waits.old.rows.sessions (cell_view resource self.old.entries) }
-        requires written { AreWritten (cell_view resource self.old.entries) waits.old }
-        ensures cells { ViewBecame resource (view_after_freeing claim session) self.old.entries self.new.entries }
-        ensures agree { let freed = view_after_freeing claim session (cell_view resource self.old.entries) in
-            DoAgree resource freed (standings_of lockers.new.items) }
-        ensures granted { AreSameOrGranted resource (standings_of lockers.old.items) (standings_of lockers.new.items) }
+        requires within { IsOfSessions waits.old.rows.sessions (cell_view given.resource self.old.entries) }
+        requires written { AreWritten (cell_view given.resource self.old.entries) waits.old }
+        ensures cells { ViewBecame given.resource (view_after_freeing given.claim given.session) self.old.entries self.new.entries }
+        ensures agree { let freed = view_after_freeing given.claim given.session (cell_view given.resource self.old.entries) in
+            DoAgree given.resource freed (standings_of lockers.new.items) }
+        ensures granted { AreSameOrGranted given.resource (standings_of lockers.old.items) (standings_of lockers.new.items) }
         ensures len { vec_len lockers.new ≡ vec_len lockers.old }
         ensures waits_ended { DoNoteEnded 0 lockers.old.items lockers.new.items ended.old ended.new }
-        ensures rows { let before = cell_view resource self.old.entries in
-            DoFollow before (view_after_freeing claim session before) waits.old waits.new }
+        ensures rows { let before = cell_view given.resource self.old.entries in
+            DoFollow before (view_after_freeing given.claim given.session before) waits.old waits.new }
     {
         same_path_is_equality();
         let Some(place) = place else {
@@ -361,9 +370,9 @@ impl CellTable {
         // Called for its contract: no key is in the set twice.
         let _len = self.resources.len();
         let cell = &mut self.cells[place];
-        follow_give_up(waits, cell, session, claim);
-        cell.give_up(session, claim);
-        promote(cell, place, resource, lockers, waits, ended);
+        follow_give_up(waits, cell, given.session, given.claim);
+        cell.give_up(given.session, given.claim);
+        promote(cell, place, given.resource, lockers, waits, ended);
         if cell.is_idle() {
             self.vacate(place);
         }

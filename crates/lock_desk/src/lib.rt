@@ -22,7 +22,7 @@
 //!    `book/blockers.rt` lists whom a session waits for, `book/deadlocks.rt` tells the newest deadlocks,
 //!    `book/pages.rt` tells the locks of a session by pages and says what several pages tell together, `book/memory.rt`
 //!    does for callers what `lock_table/memory.rt` does, `book/batches.rt` serves batches. `book/counts.rt` tells its counters
-//!    (`counts.rt`: what they are; kept by `call_counts.rt` and `wait_counts.rt`), `book/gauges.rt` what is there now
+//!    (`counts.rt`: what they are; kept by `call_counts.rt` and `wait_counts.rt`, and passed on with the log in `notes.rt`), `book/gauges.rt` what is there now
 //!    (`gauges.rt`). `recording.rt` serves one call and adds it to the history. `object.rt` makes the book a sequential object, which threads can share; `tending.rt` has what is
 //!    done with the memory of one that is shared.
 //!
@@ -41,6 +41,7 @@ mod deadlock_log;
 mod gauges;
 mod lock_table;
 mod lockers;
+mod notes;
 mod object;
 mod promotion;
 mod recording;

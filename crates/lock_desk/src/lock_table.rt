@@ -28,7 +28,7 @@ mod requests;
 mod restarts;
 pub(crate) mod runs;
 
-use crate::cell_table::CellTable;
+use crate::cell_table::{CellTable, GivenUpClaim};
 use crate::cells::GivenUp;
 use crate::lockers::Locker;
 use crate::waits::{Waits, edges, has_edge, new_waits, set_number};
@@ -203,10 +203,12 @@ impl LockTable {
             &mut self.lockers,
             &mut self.waits,
             &mut self.ended,
-            session,
             place,
-            resource,
-            GivenUp::Lock,
+            GivenUpClaim {
+                session,
+                resource,
+                claim: GivenUp::Lock,
+            },
         );
     }
 
@@ -227,10 +229,12 @@ impl LockTable {
                 &mut self.lockers,
                 &mut self.waits,
                 &mut self.ended,
-                session,
                 place,
-                last.resource,
-                GivenUp::Lock,
+                GivenUpClaim {
+                    session,
+                    resource: last.resource,
+                    claim: GivenUp::Lock,
+                },
             );
         }
     }
@@ -288,10 +292,12 @@ impl LockTable {
             &mut self.lockers,
             &mut self.waits,
             &mut self.ended,
-            session,
             place,
-            resource,
-            GivenUp::Request,
+            GivenUpClaim {
+                session,
+                resource,
+                claim: GivenUp::Request,
+            },
         );
         true
     }

@@ -10,9 +10,8 @@ ghost use Rattle.lock_desk.specs.inner.Counting.{AreCallsCounted, AreWaitsCounte
 ghost use Rattle.lock_desk.specs.inner.Noting.{IsLogFor};
 ghost use Rattle.lock_desk.specs.inner.Runs.{AreKept};
 
-use crate::call_counts::CallCounts;
-use crate::deadlock_log::DeadlockLog;
 use crate::lock_table::LockTable;
+use crate::notes::Notes;
 use lock_rules::{Call, Entry, Reply};
 use std::alloc::AllocError;
 use trimmed_list::TrimmedList;
@@ -24,18 +23,17 @@ use trimmed_list::TrimmedList;
 pub(crate) fn serve_recorded(
     table: &mut LockTable,
     history: &mut TrimmedList<Entry>,
-    log: &mut DeadlockLog,
-    counts: &mut CallCounts,
+    notes: &mut Notes,
     session: u16,
     call: Call,
 ) -> Result<Reply, AllocError>
     requires some { 1 ≤ session }
     requires within { session ≤ vec_len table.old.lockers }
     requires kept { AreKept table.old history.old.items }
-    requires log { IsLogFor (vec_len table.old.lockers) log.old }
-    requires told { AreDeadlocksTold (newest log.old.most (deadlocks_in history.old.items)) log.old.told }
-    requires calls { AreCallsCounted history.old.items counts.old }
-    requires waits { AreWaitsCounted history.old.items log.old.counts }
+    requires log { IsLogFor (vec_len table.old.lockers) notes.old.log }
+    requires told { AreDeadlocksTold (newest notes.old.log.most (deadlocks_in history.old.items)) notes.old.log.told }
+    requires calls { AreCallsCounted history.old.items notes.old.counts }
+    requires waits { AreWaitsCounted history.old.items notes.old.log.counts }
     ensures kept { AreKept table.new history.new.items }
     ensures lockers { vec_len table.new.lockers ≡ vec_len table.old.lockers }
     ensures cut { history.new.cut ≡ history.old.cut }
@@ -49,16 +47,16 @@ pub(crate) fn serve_recorded(
         ≡ (is_ended table.old.ended u || has_ended session (state_of history.old.items) outcome.state u)) }
     ensures err { OnErr result (history.new.items ≡ history.old.items) }
     ensures ended_kept { OnErr result (table.new.ended ≡ table.old.ended) }
-    ensures most { log.new.most ≡ log.old.most }
-    ensures log { IsLogFor (vec_len table.new.lockers) log.new }
-    ensures told { AreDeadlocksTold (newest log.new.most (deadlocks_in history.new.items)) log.new.told }
-    ensures calls { AreCallsCounted history.new.items counts.new }
-    ensures waits { AreWaitsCounted history.new.items log.new.counts }
+    ensures most { notes.new.log.most ≡ notes.old.log.most }
+    ensures log { IsLogFor (vec_len table.new.lockers) notes.new.log }
+    ensures told { AreDeadlocksTold (newest notes.new.log.most (deadlocks_in history.new.items)) notes.new.log.told }
+    ensures calls { AreCallsCounted history.new.items notes.new.counts }
+    ensures waits { AreWaitsCounted history.new.items notes.new.log.counts }
 {
     history.reserve(1)?;
     let asked = call;
     let served = history.count();
-    let reply = table.serve(session, call, served, log, counts)?;
+    let reply = table.serve(session, call, served, notes)?;
     history.push_reserved(Entry {
         session,
         call: asked,

@@ -195,7 +195,7 @@ pub fn path_turn<T: Told<Book>>(
     ensures published { (w : _) → result ≡ NextOfPath.Wait w → session.old.pending ≡ None → TRIES_AT_ONCE ≤ made
         → IsCalling session.old session.new (lock_of_level resource mode (locked + 1)) × (1 < office.now.sessions) }
     ensures waits { (w : _) → result ≡ NextOfPath.Wait w → session.old.pending ≢ None → IsWaitingOn session.old session.new }
-    ensures wait_tried { (w : _) → result ≡ NextOfPath.Wait w → session.old.pending ≡ None → made < TRIES_AT_ONCE → IsWaitAfterTry made w }
+    ensures wait_tried { (w : _) → result ≡ NextOfPath.Wait w → session.old.pending ≡ None → made < TRIES_AT_ONCE → IsWaitAfterTry w }
     ensures wait_published { (w : _) → result ≡ NextOfPath.Wait w → session.old.pending ≡ None → TRIES_AT_ONCE ≤ made → IsWaitAfterLook 0 w }
     ensures wait_looked { (w : _) → result ≡ NextOfPath.Wait w → session.old.pending ≢ None → IsWaitAfterLook made w }
     ensures live { session.new.retired ≡ false }

@@ -2,13 +2,49 @@
 
 ghost use Rattle.std.specs.Prelude.{◌<◌};
 ghost use Rattle.combining.specs.Sessions.{IsSessionOf, IsIdle};
+ghost use Rattle.combining.specs.Rounds.{IsBound};
 
-use combining::{Answer, BoundedTurn, Nobody, Office, PassBound, Session};
+use combining::{
+    Answer, BoundedTurn, Nobody, Office, PassBound, Performed, Session, Told, UNBOUNDED,
+};
 use counter::Counter;
 use std::process::Abort;
 use std::test::Fail;
 
-/// A pass of the session in at most `rounds` rounds of at most `calls` calls each has this outcome.
+/// Tells nobody, and weighs a call of the counter by what it adds.
+#[derive(Clone, Copy)]
+struct Weighing;
+
+impl Told<Counter> for Weighing {
+    ghost use Rattle.std.specs.Prelude.{[], None};
+    ghost use Rattle.combining.specs.declared.bounds.TheConstants.{UNBOUNDED};
+
+    ghost list = { λ _. [] };
+
+    ghost room = { λ _. None };
+
+    ghost ends = { λ _ _ _. ⊥ };
+
+    ghost notes = { λ _ _. Unit };
+
+    ghost most = { λ _. UNBOUNDED };
+
+    ghost weight = { λ _ _ adds. adds };
+
+    fn bound(&self) -> PassBound {
+        UNBOUNDED
+    }
+
+    fn weigh(_object: &Counter, _session: u16, adds: &u32) -> u32 {
+        *adds
+    }
+
+    fn clear(&mut self) {}
+
+    fn add(&mut self, _object: &Counter, _served: u32) {}
+}
+
+/// A pass of the session in at most `rounds` rounds of at most `calls` calls each, whatever they weigh, has this outcome.
 fn want_pass(
     rt: &impl Abort,
     office: &Office<Counter>,
@@ -21,7 +57,11 @@ fn want_pass(
     requires some { (0 < calls) × (0 < rounds) }
     ensures ours { IsSessionOf office.now session.new }
 {
-    let bound = PassBound { calls, rounds };
+    let bound = PassBound {
+        calls,
+        weight: u32::MAX,
+        rounds,
+    };
     assert!(rt; office.serve_bounded(session, bound, &mut Nobody) == want);
 }
 
@@ -90,5 +130,197 @@ fn a_bounded_pass_serves_so_many_calls_and_tells_whether_some_are_left(
     let load = office.look(&mut first).expect(&rt, "the counter");
     want_pass(&rt, &office, &mut second, 4, 4, BoundedTurn::Elsewhere);
     assert!(rt; office.end_look(&mut first, load) == 3);
+    Ok(())
+}
+
+/// A round of the session that takes no call once those that it has taken weigh `weight` has this outcome.
+fn want_weighed(
+    rt: &impl Abort,
+    office: &Office<Counter>,
+    session: &mut Session<Counter>,
+    weight: u32,
+    want: BoundedTurn,
+)
+    requires ours { IsSessionOf office.now session.old }
+    requires some { 0 < weight }
+    ensures ours { IsSessionOf office.now session.new }
+{
+    let bound = PassBound {
+        calls: 10,
+        weight,
+        rounds: 1,
+    };
+    assert!(rt; office.serve_bounded(session, bound, &mut Weighing) == want);
+}
+
+/// An idle session publishes a call that adds so much.
+fn post(rt: &impl Abort, office: &Office<Counter>, session: &mut Session<Counter>, adds: u32)
+    requires ours { IsSessionOf office.now session.old }
+    ensures ours { IsSessionOf office.now session.new }
+{
+    assert!(rt; session.is_idle());
+    let _posted = office.publish(session, adds);
+}
+
+/// Sessions 1 to 4 publish calls of the weights 3, 2, 4 and 1. A round up to a weight of 5 takes its own call of 3, that of session 4,
+/// which makes 4, and that of session 3, which makes 8; session 2 is left.
+fn want_round_of_weight(
+    rt: &impl Abort,
+    office: &Office<Counter>,
+    first: &mut Session<Counter>,
+    second: &mut Session<Counter>,
+    third: &mut Session<Counter>,
+    fourth: &mut Session<Counter>,
+)
+    requires first { IsSessionOf office.now first.old }
+    requires second { IsSessionOf office.now second.old }
+    requires third { IsSessionOf office.now third.old }
+    requires fourth { IsSessionOf office.now fourth.old }
+    ensures first { IsSessionOf office.now first.new }
+    ensures second { IsSessionOf office.now second.new }
+    ensures third { IsSessionOf office.now third.new }
+    ensures fourth { IsSessionOf office.now fourth.new }
+{
+    post(rt, office, first, 3);
+    post(rt, office, second, 2);
+    post(rt, office, third, 4);
+    post(rt, office, fourth, 1);
+    want_weighed(rt, office, first, 5, passed(3, true));
+    want_answer(rt, office, first, 0, 0);
+    want_answer(rt, office, fourth, 1, 3);
+    want_answer(rt, office, third, 2, 4);
+    assert!(rt; office.collect(second) == None);
+}
+
+/// Behind `want_round_of_weight`, session 4 publishes a call without weight, and session 1 one of 5. Rounds up to a weight of 1 take
+/// first the own call of session 1 alone; then that of session 4 and, since it weighs nothing, that of session 2; and then none.
+fn want_rounds_of_weight_one(
+    rt: &impl Abort,
+    office: &Office<Counter>,
+    first: &mut Session<Counter>,
+    second: &mut Session<Counter>,
+    fourth: &mut Session<Counter>,
+)
+    requires first { IsSessionOf office.now first.old }
+    requires second { IsSessionOf office.now second.old }
+    requires fourth { IsSessionOf office.now fourth.old }
+    ensures first { IsSessionOf office.now first.new }
+    ensures second { IsSessionOf office.now second.new }
+    ensures fourth { IsSessionOf office.now fourth.new }
+{
+    post(rt, office, fourth, 0);
+    post(rt, office, first, 5);
+    want_weighed(rt, office, first, 1, passed(1, true));
+    want_answer(rt, office, first, 3, 8);
+    assert!(rt; office.collect(second) == None && office.collect(fourth) == None);
+    want_weighed(rt, office, first, 1, passed(2, false));
+    want_answer(rt, office, fourth, 4, 13);
+    want_answer(rt, office, second, 5, 13);
+    want_weighed(rt, office, first, 1, passed(0, false));
+}
+
+/// A round takes no further call once those that it has taken weigh as much as it may take, and it serves the one by which they do.
+#[test]
+fn a_round_stops_at_its_weight(rt: HostRuntime) -> Result<(), Fail> {
+    let (office, mut sessions) = Office::<Counter>::open(rt.alloc(), 4)?;
+    let mut fourth = sessions.pop().expect(&rt, "session 4");
+    let mut third = sessions.pop().expect(&rt, "session 3");
+    let mut second = sessions.pop().expect(&rt, "session 2");
+    let mut first = sessions.pop().expect(&rt, "session 1");
+    want_round_of_weight(
+        &rt,
+        &office,
+        &mut first,
+        &mut second,
+        &mut third,
+        &mut fourth,
+    );
+    want_rounds_of_weight_one(&rt, &office, &mut first, &mut second, &mut fourth);
+    Ok(())
+}
+
+/// An idle session performs a call that adds 10 within a bound. The call has this place and reply, behind so many published ones.
+fn want_performed(
+    rt: &impl Abort,
+    office: &Office<Counter>,
+    session: &mut Session<Counter>,
+    bound: PassBound,
+    place: u64,
+    reply: u64,
+    served: u32,
+)
+    requires ours { IsSessionOf office.now session.old }
+    requires bound { IsBound bound }
+    ensures ours { IsSessionOf office.now session.new }
+{
+    assert!(rt; session.is_idle());
+    let want = Performed::Answered {
+        answer: Answer { place, reply },
+        served,
+        starved: false,
+    };
+    assert!(rt; office.perform_bounded(session, 10, bound, &mut Weighing) == want);
+}
+
+/// Sessions 2 to 4 publish calls. Session 1 performs one behind a round of two calls, of session 4 and 3; then, once session 3 has
+/// published another, behind a round up to a weight of 5, which that call reaches; and then behind that of session 2, which is left.
+fn want_bounded_calls(
+    rt: &impl Abort,
+    office: &Office<Counter>,
+    first: &mut Session<Counter>,
+    second: &mut Session<Counter>,
+    third: &mut Session<Counter>,
+    fourth: &mut Session<Counter>,
+)
+    requires first { IsSessionOf office.now first.old }
+    requires second { IsSessionOf office.now second.old }
+    requires third { IsSessionOf office.now third.old }
+    requires fourth { IsSessionOf office.now fourth.old }
+    ensures first { IsSessionOf office.now first.new }
+    ensures second { IsSessionOf office.now second.new }
+    ensures third { IsSessionOf office.now third.new }
+    ensures fourth { IsSessionOf office.now fourth.new }
+{
+    post(rt, office, second, 1);
+    post(rt, office, third, 2);
+    post(rt, office, fourth, 4);
+    let two = PassBound {
+        calls: 2,
+        weight: 100,
+        rounds: 1,
+    };
+    want_performed(rt, office, first, two, 2, 6, 2);
+    want_answer(rt, office, fourth, 0, 0);
+    want_answer(rt, office, third, 1, 4);
+    assert!(rt; office.collect(second) == None);
+    post(rt, office, third, 5);
+    let light = PassBound {
+        calls: 2,
+        weight: 5,
+        rounds: 1,
+    };
+    want_performed(rt, office, first, light, 4, 21, 1);
+    want_answer(rt, office, third, 3, 16);
+    assert!(rt; office.collect(second) == None);
+    want_performed(rt, office, first, light, 6, 32, 1);
+    want_answer(rt, office, second, 5, 31);
+}
+
+/// A call that is performed with a bounded pass is behind no more published calls than the bound, and leaves the others.
+#[test]
+fn a_call_at_once_serves_no_more_than_its_bound(rt: HostRuntime) -> Result<(), Fail> {
+    let (office, mut sessions) = Office::<Counter>::open(rt.alloc(), 4)?;
+    let mut fourth = sessions.pop().expect(&rt, "session 4");
+    let mut third = sessions.pop().expect(&rt, "session 3");
+    let mut second = sessions.pop().expect(&rt, "session 2");
+    let mut first = sessions.pop().expect(&rt, "session 1");
+    want_bounded_calls(
+        &rt,
+        &office,
+        &mut first,
+        &mut second,
+        &mut third,
+        &mut fourth,
+    );
     Ok(())
 }

@@ -65,6 +65,7 @@ fn make_rounds(rt: &impl Abort, office: &Office, second: &mut Session)
 {
     let bound = PassBound {
         calls: 1,
+        weight: u32::MAX,
         rounds: 2,
     };
     let turn = office.serve_bounded(second, bound, &mut Nobody);

@@ -6,6 +6,7 @@ pub mod Claims
 pub mod Batches
 pub mod Programs
 pub mod Sessions
+pub mod Bounds
 pub mod Turns
 pub mod PathTurns
 pub mod ProgramTurns

@@ -43,7 +43,7 @@ pub record IsCallStarved (before after : SessionShare) (call : Call) : Type 0 wh
 -- pending is unchanged. The number says what to do before the next turn
 pub record IsCallLate (before after : SessionShare) (call : Call) (made turns number : ℕ) : Type 0 where
   pub tried : made < turns → before.session.pending ≡ None → made < TRIES_AT_ONCE → (after.session ≡ before.session) × (2 ≤ before.sessions)
-      × ((wait : Wait) × IsWaitAfterTry made wait × (number ≡ number_of_wait wait))
+      × ((wait : Wait) × IsWaitAfterTry wait × (number ≡ number_of_wait wait))
   pub published : made < turns → before.session.pending ≡ None → TRIES_AT_ONCE ≤ made → IsCalling before.session after.session call × (2 ≤ before.sessions)
       × ((wait : Wait) × IsWaitAfterLook 0 wait × (number ≡ number_of_wait wait))
   pub waits : made < turns → before.session.pending ≢ None → IsWaitingOn before.session after.session

@@ -3,7 +3,7 @@
 //!
 //! Exports: `book.rt`, `history_exports.rt`, `listing_exports.rt`, `path_exports.rt`, `path_step_exports.rt`, `program_exports.rt`, `office.rt`, `session.rt`, `knowledge_exports.rt`,
 //! `turn_exports.rt`, `path_turn_exports.rt`, `program_turn_exports.rt`, `query_exports.rt`, `deadlock_exports.rt`, `page_exports.rt`,
-//! `dump_exports.rt`, `count_exports.rt`, `gauge_exports.rt`, `pass_count_exports.rt`, `memory_exports.rt`, `sleep_exports.rt`, `close_exports.rt`, `version.rt`. What
+//! `dump_exports.rt`, `count_exports.rt`, `gauge_exports.rt`, `pass_count_exports.rt`, `memory_exports.rt`, `bound_exports.rt`, `sleep_exports.rt`, `close_exports.rt`, `version.rt`. What
 //! they do, on what a handle holds: `book_calls.rt`, `batch.rt`, `listing.rt`, `path_calls.rt`, `program_calls.rt`, `session_calls.rt`, `perform_calls.rt`,
 //! `turn_calls.rt`, `path_turn_calls.rt`, `program_turn_calls.rt`, `queries.rt`, `deadlocks.rt`, `pages.rt`, `dump.rt`, `memory_calls.rt`,
 //! `sleep_calls.rt`, `hand_in.rt`. Numbers of C's structs: `numbers.rt`, `program_numbers.rt`, `claims.rt`, `count_numbers.rt`,
@@ -23,6 +23,7 @@ mod batch;
 mod book;
 mod book_calls;
 mod book_handle;
+mod bound_exports;
 mod claims;
 mod close_exports;
 mod count_exports;

@@ -7,6 +7,7 @@ ghost use Rattle.lock_rules.specs.declared.calls.TheConstants.{MAX_SESSIONS};
 ghost use Rattle.publication.specs.Views.{BoardView};
 ghost use Rattle.pelgaisti_c.specs.Offices.{IsOfOffice, AreSessionsOf};
 
+use crate::bound_exports::WHOLE_CALLS;
 use crate::ended_list::EndedList;
 use crate::pointers::HandleList;
 use crate::session_handle::SessionHandle;
@@ -67,7 +68,7 @@ fn share_of(
         mark,
         ended: EndedList::new(count),
         waker,
-        told: Counted::new(told),
+        told: Counted::within(told, WHOLE_CALLS),
     };
     let boxed = Box::new(alloc, share)?;
     Ok(boxed)

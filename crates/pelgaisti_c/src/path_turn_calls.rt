@@ -49,7 +49,7 @@ fn make_path_turn(
     ensures starved_on { result ≡ NextOfPath.Starved → share.old.session.pending ≢ None
         → IsWaitingOn share.old.session share.new.session × (share.old.session.put_backs < share.new.session.put_backs) }
     ensures tried { (w : _) → result ≡ NextOfPath.Wait w → share.old.session.pending ≡ None → made < TRIES_AT_ONCE
-        → (share.new.session ≡ share.old.session) × (1 < share.old.sessions) × IsWaitAfterTry made w }
+        → (share.new.session ≡ share.old.session) × (1 < share.old.sessions) × IsWaitAfterTry w }
     ensures published { (w : _) → result ≡ NextOfPath.Wait w → share.old.session.pending ≡ None → TRIES_AT_ONCE ≤ made
         → IsCalling share.old.session share.new.session (lock_of_level resource mode (locked + 1)) × (1 < share.old.sessions) × IsWaitAfterLook 0 w }
     ensures waits { (w : _) → result ≡ NextOfPath.Wait w → share.old.session.pending ≢ None
@@ -58,7 +58,7 @@ fn make_path_turn(
     ensures same { IsSameOffice share.old share.new }
 {
     if share.waker == 0 {
-        let mut nobody = Counted::new(Nobody);
+        let mut nobody = Counted::within(Nobody, share.told.bound);
         return share
             .session
             .path_turn(&share.office, &resource, mode, locked, made, &mut nobody);

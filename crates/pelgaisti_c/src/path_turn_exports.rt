@@ -18,7 +18,7 @@ use std::alloc::Global;
 
 /// Makes one turn on the way down a path: the ancestors of the resource, from the database down, in the mode that `mode` needs of a parent,
 /// and then the resource in `mode`. Of the path `level` levels are locked already, and of the turns for the next level, which are `turns` at
-/// most, `made` were made. A session with no call pending tries to lock all the rest in one taking of the lock table, in the first 32 turns,
+/// most, `made` were made. A session with no call pending tries to lock all the rest in one taking of the lock table, in the first turn,
 /// and publishes the call for the next level in the next; one with that call pending serves, at every eighth turn, and looks for the answer.
 ///
 /// OK: the path is locked, or the last reply doesn't grant its lock. NOT_SERVED: `wait` says what to do before the next turn, as with

@@ -85,7 +85,7 @@ fn make_turn(share: &mut SessionShare, program: &Program, made: u64) -> Next<Ans
     ensures starved_on { result ≡ Next.Starved → share.old.session.pending ≢ None
         → IsWaitingOn share.old.session share.new.session × (share.old.session.put_backs < share.new.session.put_backs) }
     ensures tried { (w : _) → result ≡ Next.Wait w → share.old.session.pending ≡ None → made < TRIES_AT_ONCE
-        → (share.new.session ≡ share.old.session) × (1 < share.old.sessions) × IsWaitAfterTry made w }
+        → (share.new.session ≡ share.old.session) × (1 < share.old.sessions) × IsWaitAfterTry w }
     ensures published { (w : _) → result ≡ Next.Wait w → share.old.session.pending ≡ None → TRIES_AT_ONCE ≤ made
         → IsCalling share.old.session share.new.session program.now × (1 < share.old.sessions) × IsWaitAfterLook 0 w }
     ensures waits { (w : _) → result ≡ Next.Wait w → share.old.session.pending ≢ None
@@ -94,7 +94,7 @@ fn make_turn(share: &mut SessionShare, program: &Program, made: u64) -> Next<Ans
     ensures same { IsSameOffice share.old share.new }
 {
     if share.waker == 0 {
-        let mut nobody = Counted::new(Nobody);
+        let mut nobody = Counted::within(Nobody, share.told.bound);
         return share
             .session
             .run_turn(&share.office, program, made, &mut nobody);
@@ -120,7 +120,7 @@ fn make_look(share: &mut SessionShare, looked: u64) -> Next<Answer>
     ensures same { IsSameOffice share.old share.new }
 {
     if share.waker == 0 {
-        let mut nobody = Counted::new(Nobody);
+        let mut nobody = Counted::within(Nobody, share.told.bound);
         return share.session.run_look(&share.office, looked, &mut nobody);
     }
     share

@@ -13,7 +13,7 @@ use std::alloc::Global;
 /// Begins a sleep of the session, and writes its number to `number`. Writes 1 to `may_sleep` if its thread may sleep until
 /// `pelgaisti_raw_session_is_roused` writes 1: another session had the lock table since the sleep began, and ends the sleep behind it by
 /// `pelgaisti_raw_session_rouse`. Else writes 0, the session is up, and tries for the lock table. Behind a call by which the session had the
-/// lock table `pelgaisti_raw_session_rouse` comes first.
+/// lock table `pelgaisti_raw_session_rouse` comes first, if a thread of the process sleeps.
 #[unsafe(no_mangle)]
 pub extern "C" fn pelgaisti_raw_session_begin_sleep(
     alloc: Global,
@@ -66,8 +66,8 @@ pub extern "C" fn pelgaisti_raw_session_is_roused(
 }
 
 /// Ends the sleeps of all sessions that sleep. Writes these sessions to the front of `list`, from the last to the first, and how many they
-/// are to `count`: the caller wakes their threads, before anything else. To be called behind each call by which the session may have had the
-/// lock table. Reads one word if nobody sleeps. `list` has to have room for all sessions of the office.
+/// are to `count`: the caller wakes their threads, before anything else. To be called, if a thread of the process sleeps, behind each call by
+/// which the session may have had the lock table. Reads one word if nobody sleeps. `list` has to have room for all sessions of the office.
 #[unsafe(no_mangle)]
 pub extern "C" fn pelgaisti_raw_session_rouse(
     alloc: Global,

@@ -27,7 +27,7 @@ pub const NO_SUCH_MODE: u32 = 6;
 /// The handle is already open.
 pub const OPEN: u32 = 7;
 
-/// The number of sessions is not in 1 to `MAX_SESSIONS`.
+/// The number of sessions is not in 1 to `MAX_SESSIONS`, or a bound has a number that is 0 or too large.
 pub const NO_SUCH_COUNT: u32 = 8;
 
 /// The session has a pending call.

@@ -95,7 +95,7 @@ fn make_turn(share: &mut SessionShare, call: &Call, made: u64) -> Next<Reply>
     ensures starved_on { result ≡ Next.Starved → share.old.session.pending ≢ None
         → IsWaitingOn share.old.session share.new.session × (share.old.session.put_backs < share.new.session.put_backs) }
     ensures tried { (w : _) → result ≡ Next.Wait w → share.old.session.pending ≡ None → made < TRIES_AT_ONCE
-        → (share.new.session ≡ share.old.session) × (1 < share.old.sessions) × IsWaitAfterTry made w }
+        → (share.new.session ≡ share.old.session) × (1 < share.old.sessions) × IsWaitAfterTry w }
     ensures published { (w : _) → result ≡ Next.Wait w → share.old.session.pending ≡ None → TRIES_AT_ONCE ≤ made
         → IsCalling share.old.session share.new.session call.now × (1 < share.old.sessions) × IsWaitAfterLook 0 w }
     ensures waits { (w : _) → result ≡ Next.Wait w → share.old.session.pending ≢ None
@@ -104,7 +104,7 @@ fn make_turn(share: &mut SessionShare, call: &Call, made: u64) -> Next<Reply>
     ensures same { IsSameOffice share.old share.new }
 {
     if share.waker == 0 {
-        let mut nobody = Counted::new(Nobody);
+        let mut nobody = Counted::within(Nobody, share.told.bound);
         return share.session.turn(&share.office, call, made, &mut nobody);
     }
     share
@@ -129,7 +129,7 @@ fn make_look(share: &mut SessionShare, looked: u64) -> Next<Reply>
     ensures same { IsSameOffice share.old share.new }
 {
     if share.waker == 0 {
-        let mut nobody = Counted::new(Nobody);
+        let mut nobody = Counted::within(Nobody, share.told.bound);
         return share.session.look(&share.office, looked, &mut nobody);
     }
     share.session.look(&share.office, looked, &mut share.told)

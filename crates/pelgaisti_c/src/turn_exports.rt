@@ -18,8 +18,8 @@ use crate::turn_calls;
 use std::alloc::Global;
 
 /// Makes turn number `made` of a call, of which the caller makes `turns` at most, counted from 0. A session with no call pending tries to
-/// perform the call at once, in the first 32 turns, and publishes it in the next; a session with its call pending serves, at every eighth
-/// turn, and looks for the answer. If no turn is left the call is published, unless it is pending. NOT_SERVED: the call has no answer yet,
+/// perform the call at once, in the first turn, and publishes it in the next; a session with its call pending serves, at every eighth
+/// turn, and looks for the answer. It serves within the bound that `pelgaisti_raw_session_bound_passes` has set. If no turn is left the call is published, unless it is pending. NOT_SERVED: the call has no answer yet,
 /// and `wait` says what to do before the next turn: so many pause instructions; `YIELD`: yield the processor; `NO_TURN`: no turn is left,
 /// and the call is pending. NO_MEMORY: memory was refused in a pass of the session, and the call is pending. PENDING: the session has
 /// another call pending, before the first turn. Writes how many sessions the office's waker is to wake after the turn to `told`.

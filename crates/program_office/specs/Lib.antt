@@ -8,6 +8,7 @@ pub mod WakeUps
 pub mod InTime
 pub mod Paths
 pub mod Seen
+pub mod Weights
 pub mod SingleCalls
 pub mod ProgramTurns
 pub mod PathTurns

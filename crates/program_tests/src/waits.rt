@@ -10,31 +10,33 @@ use std::alloc::Global;
 use std::process::Abort;
 use std::test::Fail;
 
-/// Expects an answer with these replies and this reason.
-fn want_replies(
-    rt: &impl Abort,
-    program: &Program,
-    answer: Option<Answer>,
+/// The answer that a program should get.
+#[derive(Clone, Copy)]
+struct Wanted<'a> {
+    /// The place of its first call.
     first: u64,
+    /// The replies to its calls.
+    replies: &'a [Reply],
+    /// Why it has no more of them.
     stop: Stop,
-    want: &[Reply],
-) {
-    assert!(rt; has_replies(program, answer, first, stop, want));
 }
 
-/// Serves a program, and expects these replies and this reason.
+/// Expects this answer.
+fn want_replies(rt: &impl Abort, program: &Program, answer: Option<Answer>, want: Wanted<'_>) {
+    assert!(rt; has_replies(program, answer, want.first, want.stop, want.replies));
+}
+
+/// Serves a program, and expects this answer.
 fn want_answer(
     rt: &impl Abort,
     programs: &mut Programs<Book>,
     session: u16,
     program: Program,
-    first: u64,
-    stop: Stop,
-    want: &[Reply],
+    want: Wanted<'_>,
 ) {
     let asked = program;
     let answer = ask(programs, session, program);
-    want_replies(rt, &asked, answer, first, stop, want);
+    want_replies(rt, &asked, answer, want);
 }
 
 /// Session 1 holds the file in X. The path of session 2 stops at the file, and its last lock is in no history.
@@ -42,26 +44,20 @@ fn want_stopped(rt: &impl Abort, programs: &mut Programs<Book>, file: Resource, 
     assert!(rt; page.level() == 3 && file.level() == 2);
     let (ix, x) = (Reply::Granted(Mode::IX), Reply::Granted(Mode::X));
     let writes = Program::locks(Start::Begins, &file, Mode::X, 0);
-    want_answer(
-        rt,
-        programs,
-        1,
-        writes,
-        0,
-        Stop::GoesOn,
-        &[Reply::Began(1), ix, x],
-    );
+    let want = Wanted {
+        first: 0,
+        replies: &[Reply::Began(1), ix, x],
+        stop: Stop::GoesOn,
+    };
+    want_answer(rt, programs, 1, writes, want);
     let reads = Program::locks(Start::Begins, &page, Mode::S, 0);
     let is = Reply::Granted(Mode::IS);
-    want_answer(
-        rt,
-        programs,
-        2,
-        reads,
-        3,
-        Stop::Waits,
-        &[Reply::Began(2), is, Reply::Waiting],
-    );
+    let want = Wanted {
+        first: 3,
+        replies: &[Reply::Began(2), is, Reply::Waiting],
+        stop: Stop::Waits,
+    };
+    want_answer(rt, programs, 2, reads, want);
     let last = Entry {
         session: 2,
         call: Call::Lock(file, Mode::IS),
@@ -78,40 +74,38 @@ fn want_told(rt: &impl Abort, programs: &mut Programs<Book>, page: Resource) {
     let mut items = [item(1, commit), item(1, begin)];
     assert_eq!(rt; ask_all(programs, &mut items), Some(2));
     let [ended, begun] = items;
-    want_replies(
-        rt,
-        &commit,
-        ended.reply,
-        6,
-        Stop::GoesOn,
-        &[Reply::Committed(2)],
-    );
-    want_replies(rt, &begin, begun.reply, 7, Stop::GoesOn, &[Reply::Began(3)]);
+    let want = Wanted {
+        first: 6,
+        replies: &[Reply::Committed(2)],
+        stop: Stop::GoesOn,
+    };
+    want_replies(rt, &commit, ended.reply, want);
+    let want = Wanted {
+        first: 7,
+        replies: &[Reply::Began(3)],
+        stop: Stop::GoesOn,
+    };
+    want_replies(rt, &begin, begun.reply, want);
     assert_eq!(rt; programs.ended().len(), 1);
     let rest = Program::locks(Start::Nothing, &page, Mode::S, 2);
     let answer = ask_on(programs, 2, rest);
-    want_replies(
-        rt,
-        &rest,
-        answer,
-        8,
-        Stop::GoesOn,
-        &[Reply::Granted(Mode::S)],
-    );
+    let want = Wanted {
+        first: 8,
+        replies: &[Reply::Granted(Mode::S)],
+        stop: Stop::GoesOn,
+    };
+    want_replies(rt, &rest, answer, want);
     assert_eq!(rt; programs.ended().first().copied(), Some(2));
     programs.tell_anew();
     assert!(rt; programs.ended().is_empty());
     let withdraw = Program::one(Call::Withdraw);
     let refused = Reply::Refused(Why::NotWaiting);
-    want_answer(
-        rt,
-        programs,
-        2,
-        withdraw,
-        9,
-        Stop::IsRefused(Why::NotWaiting),
-        &[refused],
-    );
+    let want = Wanted {
+        first: 9,
+        replies: &[refused],
+        stop: Stop::IsRefused(Why::NotWaiting),
+    };
+    want_answer(rt, programs, 2, withdraw, want);
 }
 
 /// Session 1 holds a page in X, session 2 the other page in S, and each asks for that of the other: session 2, whose transaction is
@@ -120,29 +114,33 @@ fn want_victim(rt: &impl Abort, programs: &mut Programs<Book>, page: Resource, o
     assert!(rt; page.level() == 3 && other.level() == 3);
     let (ix, x) = (Reply::Granted(Mode::IX), Reply::Granted(Mode::X));
     let writes = Program::locks(Start::Nothing, &other, Mode::X, 0);
-    want_answer(rt, programs, 1, writes, 10, Stop::GoesOn, &[ix, ix, x]);
+    let want = Wanted {
+        first: 10,
+        replies: &[ix, ix, x],
+        stop: Stop::GoesOn,
+    };
+    want_answer(rt, programs, 1, writes, want);
     let reads = Program::locks(Start::Nothing, &other, Mode::S, 2);
-    want_answer(rt, programs, 2, reads, 13, Stop::Waits, &[Reply::Waiting]);
+    let want = Wanted {
+        first: 13,
+        replies: &[Reply::Waiting],
+        stop: Stop::Waits,
+    };
+    want_answer(rt, programs, 2, reads, want);
     let asks = Program::locks(Start::Nothing, &page, Mode::X, 1);
-    want_answer(
-        rt,
-        programs,
-        1,
-        asks,
-        14,
-        Stop::IsVictim,
-        &[ix, Reply::Deadlock],
-    );
+    let want = Wanted {
+        first: 14,
+        replies: &[ix, Reply::Deadlock],
+        stop: Stop::IsVictim,
+    };
+    want_answer(rt, programs, 1, asks, want);
     let abort = Program::start(Start::AbortsAndBegins);
-    want_answer(
-        rt,
-        programs,
-        1,
-        abort,
-        16,
-        Stop::GoesOn,
-        &[Reply::Aborted(3), Reply::Began(4)],
-    );
+    let want = Wanted {
+        first: 16,
+        replies: &[Reply::Aborted(3), Reply::Began(4)],
+        stop: Stop::GoesOn,
+    };
+    want_answer(rt, programs, 1, abort, want);
     assert_eq!(rt; programs.ended().first().copied(), Some(2));
 }
 

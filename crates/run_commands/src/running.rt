@@ -9,7 +9,7 @@ ghost use Rattle.run_commands.specs.Runs.{HasPerformed, HasPerformedPart, IsRunO
 ghost use Rattle.run_commands.specs.Workers.{fault_of_stop};
 
 use crate::call_gate::Gate;
-use crate::threads::work_in_threads;
+use crate::threads::{Run, work_in_threads};
 use crate::workers::Stop;
 use lock_desk::Book;
 use lock_office::Office;
@@ -53,7 +53,13 @@ fn run_in_office<R: Threads + Wait, G: Gate>(
     let Ok((office, all)) = Office::open(alloc, sessions) else {
         return Err(Stop::NoMemory);
     };
-    let all = work_in_threads(rt, alloc, &office, all, rows, turns, gate)?;
+    let run = Run {
+        office: &office,
+        rows,
+        turns,
+        gate,
+    };
+    let all = work_in_threads(rt, alloc, all, &run)?;
     match office.close(all) {
         Ok(book) => Ok(book),
         Err(_) => unreachable!(),

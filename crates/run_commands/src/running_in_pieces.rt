@@ -15,6 +15,7 @@ ghost use Rattle.run_commands.specs.Streams.{HasWrittenRest, IsFaultOfRest, IsFa
 use crate::call_gate::Gate;
 use crate::running::greatest_session;
 use crate::streaming::{Streamed, stream_in_threads};
+use crate::threads::Run;
 use lock_desk::Book;
 use lock_office::{Office, Session};
 use lock_rules::MAX_SESSIONS;
@@ -24,6 +25,15 @@ use std::alloc::Global;
 use std::io::{Read, Write};
 use std::sync::Wait;
 use std::thread::Threads;
+
+/// How the calls of a run are made.
+#[derive(Clone, Copy)]
+struct Calling<'g, G> {
+    /// In how many turns at most.
+    turns: u64,
+    /// The gate round each of them.
+    gate: &'g G,
+}
 
 /// An office with one session more than perform rows.
 struct Opened {
@@ -119,8 +129,7 @@ fn stream_opened<T: Threads + Wait, W: Write, G: Gate>(
     alloc: Global,
     opened: Opened,
     rows: &[TraceRow],
-    turns: u64,
-    gate: &G,
+    calling: Calling<'_, G>,
     output: &mut W,
 ) -> Result<(), ToolFault>
     requires { (k : ℕ) × IsOpenedFor k opened.office opened.workers.items opened.taker × AreRows k rows.now }
@@ -132,13 +141,17 @@ fn stream_opened<T: Threads + Wait, W: Write, G: Gate>(
         workers,
         taker,
     } = opened;
+    let run = Run {
+        office: &office,
+        rows,
+        turns: calling.turns,
+        gate: calling.gate,
+    };
     let Streamed {
         output,
         taker,
         done,
-    } = stream_in_threads(
-        rt, alloc, &office, workers, taker, rows, turns, gate, output,
-    );
+    } = stream_in_threads(rt, alloc, workers, taker, &run, output);
     match done {
         Ok((done, next)) => close_and_write(alloc, office, done, taker, next, output),
         Err(fault) => Err(fault),
@@ -151,8 +164,7 @@ fn stream_rows<T: Threads + Wait, W: Write, G: Gate>(
     alloc: Global,
     rows: &[TraceRow],
     sessions: u16,
-    turns: u64,
-    gate: &G,
+    calling: Calling<'_, G>,
     output: &mut W,
 ) -> Result<(), ToolFault>
     requires few { sessions < MAX_SESSIONS }
@@ -161,7 +173,7 @@ fn stream_rows<T: Threads + Wait, W: Write, G: Gate>(
     ensures fault { IfErr result (λ fault. IsFaultOfStream (W.contents output.old) (W.contents output.new) fault) }
 {
     match open_with_taker(alloc, sessions) {
-        Some(opened) => stream_opened(rt, alloc, opened, rows, turns, gate, output),
+        Some(opened) => stream_opened(rt, alloc, opened, rows, calling, output),
         None => Err(ToolFault::NoMemory),
     }
 }
@@ -201,6 +213,7 @@ pub fn run_in_pieces<R: Read + Drop, W: Write, T: Threads + Wait, G: Gate>(
         Err(fault) => return Err(ToolFault::Trace(fault)),
     };
     let greatest = greatest_session(&rows, sessions);
-    stream_rows(rt, alloc, &rows, greatest, turns, gate, output)?;
+    let calling = Calling { turns, gate };
+    stream_rows(rt, alloc, &rows, greatest, calling, output)?;
     Ok(rows.len() as u64)
 }

@@ -7,10 +7,9 @@ ghost use Rattle.run_commands.specs.Workers.{IsNewSession, IsPerformed, fault_of
 
 use crate::call_gate::Gate;
 use crate::pacing::{Pace, Progress};
-use crate::threads::{join_all, start_all};
+use crate::threads::{Run, join_all, start_all};
 use crate::workers::Stop;
 use lock_office::{Office, Session};
-use lock_trace::TraceRow;
 use replay_commands::{ToolFault, write_piece};
 use std::alloc::Global;
 use std::io::Write;
@@ -27,6 +26,24 @@ pub(crate) struct Streamed<'o, W> {
     pub taker: Session,
     /// The sessions that performed the rows, and how many entries of the history are written.
     pub done: Result<(Vec<Session>, u64), ToolFault>,
+}
+
+/// A run whose threads may be at work.
+#[derive(Clone, Copy)]
+struct RunUnderWay<'a> {
+    /// Its office.
+    office: &'a Office,
+    /// How far it is.
+    progress: &'a Progress,
+}
+
+/// The sessions of a run whose history is written in pieces.
+#[derive(Drop)]
+struct Crew {
+    /// The sessions that perform rows.
+    workers: Vec<Session>,
+    /// The session that takes the history.
+    taker: Session,
 }
 
 /// Takes the entries that the lock table keeps, by one try, and writes their text behind that of the first `next` entries.
@@ -67,31 +84,30 @@ fn write_taken<W: Write>(
 /// that fails, no more calls are let in.
 fn write_due<W: Write>(
     alloc: Global,
-    office: &Office,
+    run: RunUnderWay<'_>,
     taker: &mut Session,
-    progress: &Progress,
     is_last: bool,
     next: u64,
     output: &mut W,
 ) -> Result<u64, ToolFault>
-    requires { IsSessionOf office.now taker.old }
-    ensures ours { IsSessionOf office.now taker.new }
+    requires { IsSessionOf run.office.now taker.old }
+    ensures ours { IsSessionOf run.entry.office.now taker.new }
     ensures same { bare taker.new ≡ bare taker.old }
     ensures written { IfOk result (λ end. (start : Option (List ℕ)) → IsWrittenUpTo next taker.old.front start (W.contents output.old)
         → IsWrittenUpTo end taker.new.front start (W.contents output.new)) }
     ensures fault { IfErr result (λ fault. (start : Option (List ℕ)) → IsWrittenUpTo next taker.old.front start (W.contents output.old)
         → IsFaultOfStream start (W.contents output.new) fault) }
 {
-    if !is_last && !progress.is_due(next) {
+    if !is_last && !run.progress.is_due(next) {
         return Ok(next);
     }
-    match write_taken(alloc, office, taker, next, output) {
+    match write_taken(alloc, run.office, taker, next, output) {
         Ok(end) => {
-            progress.note_written(end);
+            run.progress.note_written(end);
             Ok(end)
         }
         Err(fault) => {
-            progress.stop();
+            run.progress.stop();
             Err(fault)
         }
     }
@@ -101,14 +117,13 @@ fn write_due<W: Write>(
 fn write_while_at_work<R: Wait, W: Write>(
     rt: &R,
     alloc: Global,
-    office: &Office,
+    run: RunUnderWay<'_>,
     taker: &mut Session,
-    progress: &Progress,
     output: &mut W,
 ) -> Result<u64, ToolFault>
-    requires ours { IsSessionOf office.now taker.old }
+    requires ours { IsSessionOf run.office.now taker.old }
     requires new { taker.old.front ≡ [] }
-    ensures ours { IsSessionOf office.now taker.new }
+    ensures ours { IsSessionOf run.entry.office.now taker.new }
     ensures same { bare taker.new ≡ bare taker.old }
     ensures written { IfOk result (λ end. IsWrittenUpTo end taker.new.front (W.contents output.old) (W.contents output.new)) }
     ensures fault { IfErr result (λ fault. IsFaultOfStream (W.contents output.old) (W.contents output.new) fault) }
@@ -116,8 +131,8 @@ fn write_while_at_work<R: Wait, W: Write>(
     let mut next = 0;
     for _ in rt.forever() {
         // the calls of threads that have ended are served, so what is taken after this look is the last piece
-        let is_last = progress.is_over();
-        next = write_due(alloc, office, taker, progress, is_last, next, output)?;
+        let is_last = run.progress.is_over();
+        next = write_due(alloc, run, taker, is_last, next, output)?;
         if is_last {
             return Ok(next);
         }
@@ -152,39 +167,31 @@ fn start_and_stream<'s, 'o, E, R: Threads + Wait, W: Write, G: Gate>(
     scope: &Scope<'s, E>,
     rt: &R,
     alloc: Global,
-    office: &'s Office,
-    sessions: Vec<Session>,
-    taker: Session,
-    rows: &'s [TraceRow],
-    turns: u64,
-    pace: &'s Pace<'s, G>,
+    crew: Crew,
+    run: &Run<'s, Pace<'s, G>>,
     output: &'o mut W,
 ) -> Streamed<'o, W>
-    requires sessions { All (IsNewSession office.now) sessions.items }
-    requires taker { IsSessionOf office.now taker }
-    requires new { taker.front ≡ [] }
+    requires sessions { All (IsNewSession run.now.office.now) crew.workers.items }
+    requires taker { IsSessionOf run.now.office.now crew.taker }
+    requires new { crew.taker.front ≡ [] }
     ensures output { result.output.ghost_name ≡ output.entry.ghost_name }
-    ensures ours { IsSessionOf office.now result.taker }
-    ensures same { bare result.taker ≡ bare taker }
-    ensures numbers { IfOk result.done (λ done. numbers_of done.0.items ≡ numbers_of sessions.items) }
-    ensures performed { IfOk result.done (λ done. All (IsPerformed office.now rows.now) done.0.items) }
+    ensures ours { IsSessionOf run.now.office.now result.taker }
+    ensures same { bare result.taker ≡ bare crew.taker }
+    ensures numbers { IfOk result.done (λ done. numbers_of done.0.items ≡ numbers_of crew.workers.items) }
+    ensures performed { IfOk result.done (λ done. All (IsPerformed run.now.office.now run.now.rows.now) done.0.items) }
     ensures written { IfOk result.done (λ done. IsWrittenUpTo done.1 result.taker.front (W.contents output.entry.now) (W.contents result.output.now)) }
     ensures fault { IfErr result.done (λ fault. IsFaultOfStream (W.contents output.entry.now) (W.contents result.output.now) fault) }
 {
-    let progress = pace.progress;
+    let Crew { workers, taker } = crew;
     let mut taker = taker;
+    let under_way = RunUnderWay {
+        office: run.office,
+        progress: run.gate.progress,
+    };
     let mut started = Vec::new(alloc);
-    let reason = start_all(
-        scope,
-        office,
-        sessions,
-        rows,
-        turns,
-        pace,
-        &progress.at_work,
-        &mut started,
-    );
-    let written = write_while_at_work(rt, alloc, office, &mut taker, progress, output);
+    let at_work = &under_way.progress.at_work;
+    let reason = start_all(scope, workers, run, at_work, &mut started);
+    let written = write_while_at_work(rt, alloc, under_way, &mut taker, output);
     let joined = join_all(rt, alloc, started, reason);
     let done = combine_results(written, joined);
     Streamed {
@@ -199,49 +206,54 @@ fn start_and_stream<'s, 'o, E, R: Threads + Wait, W: Write, G: Gate>(
 pub(crate) fn stream_in_threads<'o, R: Threads + Wait, W: Write, G: Gate>(
     rt: &R,
     alloc: Global,
-    office: &Office,
     sessions: Vec<Session>,
     taker: Session,
-    rows: &[TraceRow],
-    turns: u64,
-    gate: &G,
+    run: &Run<'_, G>,
     output: &'o mut W,
 ) -> Streamed<'o, W>
-    requires sessions { All (IsNewSession office.now) sessions.items }
-    requires taker { IsSessionOf office.now taker }
+    requires sessions { All (IsNewSession run.now.office.now) sessions.items }
+    requires taker { IsSessionOf run.now.office.now taker }
     requires new { taker.front ≡ [] }
     ensures output { result.output.ghost_name ≡ output.entry.ghost_name }
-    ensures ours { IsSessionOf office.now result.taker }
+    ensures ours { IsSessionOf run.now.office.now result.taker }
     ensures same { bare result.taker ≡ bare taker }
     ensures numbers { IfOk result.done (λ done. numbers_of done.0.items ≡ numbers_of sessions.items) }
-    ensures performed { IfOk result.done (λ done. All (IsPerformed office.now rows.now) done.0.items) }
+    ensures performed { IfOk result.done (λ done. All (IsPerformed run.now.office.now run.now.rows.now) done.0.items) }
     ensures written { IfOk result.done (λ done. IsWrittenUpTo done.1 result.taker.front (W.contents output.entry.now) (W.contents result.output.now)) }
     ensures fault { IfErr result.done (λ fault. IsFaultOfStream (W.contents output.entry.now) (W.contents result.output.now) fault) }
 {
     let progress = Progress::new();
     let pace = Pace {
-        gate,
+        gate: run.gate,
         progress: &progress,
     };
-    let pace = &pace;
+    let paced = Run {
+        office: run.office,
+        rows: run.rows,
+        turns: run.turns,
+        gate: &pace,
+    };
+    let paced = &paced;
     thread::scope(
         thread::scope_env(),
         rt,
         move |scope| -> Streamed<'_, W>
-            requires sessions { All (IsNewSession office.now) sessions.items }
-            requires taker { IsSessionOf office.now taker }
+            requires sessions { All (IsNewSession paced.now.office.now) sessions.items }
+            requires taker { IsSessionOf paced.now.office.now taker }
             requires new { taker.front ≡ [] }
             ensures output { result.output.ghost_name ≡ output.entry.ghost_name }
-            ensures ours { IsSessionOf office.entry.now result.taker }
+            ensures ours { IsSessionOf paced.entry.now.office.now result.taker }
             ensures same { bare result.taker ≡ bare taker }
             ensures numbers { IfOk result.done (λ done. numbers_of done.0.items ≡ numbers_of sessions.items) }
-            ensures performed { IfOk result.done (λ done. All (IsPerformed office.entry.now rows.entry.now) done.0.items) }
+            ensures performed { IfOk result.done (λ done. All (IsPerformed paced.entry.now.office.now paced.entry.now.rows.now) done.0.items) }
             ensures written { IfOk result.done (λ done. IsWrittenUpTo done.1 result.taker.front (W.contents output.entry.now) (W.contents result.output.now)) }
             ensures fault { IfErr result.done (λ fault. IsFaultOfStream (W.contents output.entry.now) (W.contents result.output.now) fault) }
         {
-            start_and_stream(
-                scope, rt, alloc, office, sessions, taker, rows, turns, pace, output,
-            )
+            let crew = Crew {
+                workers: sessions,
+                taker,
+            };
+            start_and_stream(scope, rt, alloc, crew, paced, output)
         },
     )
 }

@@ -16,6 +16,19 @@ use std::sync::atomic::{AtomicUsize, Ordering};
 use std::thread;
 use std::thread::{Promise, PromisedHandle, Scope, Threads};
 
+/// What the threads of a run perform, and how.
+#[derive(Clone, Copy)]
+pub(crate) struct Run<'s, G> {
+    /// The office that their calls go through.
+    pub office: &'s Office,
+    /// The rows of all sessions.
+    pub rows: &'s [TraceRow],
+    /// In how many turns a call is made at most.
+    pub turns: u64,
+    /// The gate round each call.
+    pub gate: &'s G,
+}
+
 /// The result of a session's thread.
 #[derive(Drop)]
 pub(crate) struct ThreadResult {
@@ -97,17 +110,18 @@ fn has_row(rows: &[TraceRow], number: u16) -> bool
 #[tactic(auto, using(crate::proofs::IsPerformed::performed_none))]
 fn start_session<'s, E, G: Gate>(
     scope: &Scope<'s, E>,
-    office: &'s Office,
     session: Session,
-    rows: &'s [TraceRow],
-    turns: u64,
-    gate: &'s G,
+    run: &Run<'s, G>,
     at_work: &'s AtomicUsize,
 ) -> Option<Start<'s>>
-    requires { IsNewSession office.now session }
-    ensures start { IfSome result (IsStart office.now rows.now) }
+    requires { IsNewSession run.now.office.now session }
+    ensures start { IfSome result (IsStart run.now.office.now run.now.rows.now) }
     ensures number { IfSome result (λ started. number_of_start started ≡ session.number) }
 {
+    let office = run.office;
+    let rows = run.rows;
+    let turns = run.turns;
+    let gate = run.gate;
     let number = session.number();
     if !has_row(rows, number) {
         return Some(Start::Idle(session));
@@ -134,21 +148,18 @@ fn start_session<'s, E, G: Gate>(
 /// ones after it.
 pub(crate) fn start_all<'s, E, G: Gate>(
     scope: &Scope<'s, E>,
-    office: &'s Office,
     sessions: Vec<Session>,
-    rows: &'s [TraceRow],
-    turns: u64,
-    gate: &'s G,
+    run: &Run<'s, G>,
     at_work: &'s AtomicUsize,
     started: &mut Vec<Start<'s>>,
 ) -> Option<Stop>
-    requires new { All (IsNewSession office.now) sessions.items }
+    requires new { All (IsNewSession run.now.office.now) sessions.items }
     requires none { started.old.items ≡ [] }
-    ensures started { All (IsStart office.now rows.now) started.new.items }
+    ensures started { All (IsStart run.now.office.now run.now.rows.now) started.new.items }
     ensures all { result ≡ None → numbers_of_starts started.new.items ≡ numbers_of sessions.items }
 {
     for session in sessions {
-        let Some(start) = start_session(scope, office, session, rows, turns, gate, at_work) else {
+        let Some(start) = start_session(scope, session, run, at_work) else {
             return Some(Stop::Device);
         };
         if started.push(start).is_err() {
@@ -234,28 +245,16 @@ fn start_and_join<'s, E, R: Threads, G: Gate>(
     scope: &Scope<'s, E>,
     rt: &R,
     alloc: Global,
-    office: &'s Office,
     sessions: Vec<Session>,
-    rows: &'s [TraceRow],
-    turns: u64,
-    gate: &'s G,
+    run: &Run<'s, G>,
     at_work: &'s AtomicUsize,
 ) -> Result<Vec<Session>, Stop>
-    requires { All (IsNewSession office.now) sessions.items }
+    requires { All (IsNewSession run.now.office.now) sessions.items }
     ensures numbers { IfOk result (λ done. numbers_of done.items ≡ numbers_of sessions.items) }
-    ensures performed { IfOk result (λ done. All (IsPerformed office.now rows.now) done.items) }
+    ensures performed { IfOk result (λ done. All (IsPerformed run.now.office.now run.now.rows.now) done.items) }
 {
     let mut started = Vec::new(alloc);
-    let reason = start_all(
-        scope,
-        office,
-        sessions,
-        rows,
-        turns,
-        gate,
-        at_work,
-        &mut started,
-    );
+    let reason = start_all(scope, sessions, run, at_work, &mut started);
     join_all(rt, alloc, started, reason)
 }
 
@@ -264,16 +263,17 @@ fn start_and_join<'s, E, R: Threads, G: Gate>(
 pub(crate) fn work_in_threads<R: Threads + Wait, G: Gate>(
     rt: &R,
     alloc: Global,
-    office: &Office,
     sessions: Vec<Session>,
-    rows: &[TraceRow],
-    turns: u64,
-    gate: &G,
+    run: &Run<'_, G>,
 ) -> Result<Vec<Session>, Stop>
-    requires { All (IsNewSession office.now) sessions.items }
+    requires { All (IsNewSession run.now.office.now) sessions.items }
     ensures numbers { IfOk result (λ done. numbers_of done.items ≡ numbers_of sessions.items) }
-    ensures performed { IfOk result (λ done. All (IsPerformed office.now rows.now) done.items) }
+    ensures performed { IfOk result (λ done. All (IsPerformed run.now.office.now run.now.rows.now) done.items) }
 {
+    let office = run.office;
+    let rows = run.rows;
+    let turns = run.turns;
+    let gate = run.gate;
     let count = AtomicUsize::new(0);
     let at_work = &count;
     thread::scope(
@@ -284,9 +284,13 @@ pub(crate) fn work_in_threads<R: Threads + Wait, G: Gate>(
             ensures numbers { IfOk result (λ done. numbers_of done.items ≡ numbers_of sessions.items) }
             ensures performed { IfOk result (λ done. All (IsPerformed office.entry.now rows.entry.now) done.items) }
         {
-            start_and_join(
-                scope, rt, alloc, office, sessions, rows, turns, gate, at_work,
-            )
+            let run = Run {
+                office,
+                rows,
+                turns,
+                gate,
+            };
+            start_and_join(scope, rt, alloc, sessions, &run, at_work)
         },
     )
 }

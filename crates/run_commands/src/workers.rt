@@ -137,13 +137,21 @@ fn make_call<S: Service>(
     Err(Stop::TurnLimit)
 }
 
-/// Performs call number `index` of session `number`: enters the gate, makes the call and leaves the gate. Fails with
-/// `GateShut` if the gate stayed shut, or as `make_call` fails.
+/// Which call of a run it is, as the gate is told.
+#[derive(Clone, Copy)]
+struct CallNumber {
+    /// The session.
+    session: u16,
+    /// How many calls the session made before.
+    index: u64,
+}
+
+/// Performs the call with this number: enters the gate, makes the call and leaves the gate. Fails with `GateShut` if the gate
+/// stayed shut, or as `make_call` fails.
 fn call_through_gate<S: Service, G: Gate>(
     service: &S,
     session: &mut S::Session,
-    number: u16,
-    index: u64,
+    number: CallNumber,
     call: Call,
     turns: u64,
     gate: &G,
@@ -158,11 +166,11 @@ fn call_through_gate<S: Service, G: Gate>(
     ensures limit { result ≡ Err Stop.TurnLimit → (before : ℕ) → S.has_tried session.old before → S.has_tried session.new (before + turns) }
     ensures starved { result ≡ Err Stop.NoMemory → S.was_starved session.new }
 {
-    if !gate.enter(number, index) {
+    if !gate.enter(number.session, number.index) {
         return Err(Stop::GateShut);
     }
     make_call(service, session, call, turns)?;
-    gate.leave(number, index);
+    gate.leave(number.session, number.index);
     Ok(())
 }
 
@@ -187,7 +195,11 @@ pub(crate) fn work_through<S: Service, G: Gate>(
     let mut index = 0;
     for row in rows {
         if row.session == number {
-            call_through_gate(service, session, number, index, row.call, turns, gate)?;
+            let called = CallNumber {
+                session: number,
+                index,
+            };
+            call_through_gate(service, session, called, row.call, turns, gate)?;
             index += 1;
         }
     }

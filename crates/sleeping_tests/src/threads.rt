@@ -22,7 +22,7 @@ const CALLS: u64 = 10;
 /// How many calls they make together.
 const ALL_CALLS: u64 = CALLERS as u64 * CALLS;
 
-/// The pause instructions of a hold: ten times those of the turns that a session makes before it sleeps.
+/// The pause instructions of a hold: some thirty times those of the turns that a session makes before it sleeps.
 const HELD: u32 = 1_000_000;
 
 /// The pause instructions between two holds, and between two calls, so that most calls are made while the counter is held.

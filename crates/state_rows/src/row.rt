@@ -11,6 +11,7 @@ ghost use Rattle.lock_report.specs.declared.snapshot.Wait.{Wait as WaitValue};
 ghost use Rattle.report_text.specs.Claims.{word_of_kind};
 ghost use Rattle.lock_report.specs.StateRows.{fields_of_claim, fields_of_transaction, fields_of_wait, victim_field};
 ghost use Rattle.state_rows.specs.declared.row.StateRow.{StateRow as RowValue};
+ghost use Rattle.state_rows.specs.inner.Fields.{texts_of};
 ghost use Rattle.state_rows.specs.Rows.{IsClaim, IsNumbered, IsOpen, IsRow, IsSession, IsWait, fields_of_row, is_comma, line_of_row};
 
 use crate::fields::{kind_of, mode_of, number_of, resource_of, session_of, victim_of};
@@ -27,6 +28,25 @@ pub enum StateRow {
     Claim(Claim),
     /// Who waits directly for whom.
     Wait(Wait),
+}
+
+/// The seven fields of a row, none of which has a meaning yet.
+#[derive(Clone, Copy)]
+struct RowFields<'a> {
+    /// What the row tells: of a transaction, of a lock or a request, or of a wait.
+    word: &'a [u8],
+    /// The session.
+    session: &'a [u8],
+    /// The number of its transaction.
+    number: &'a [u8],
+    /// Whether the transaction is a victim.
+    victim: &'a [u8],
+    /// The resource of a lock or a request.
+    resource: &'a [u8],
+    /// The mode of a lock or a request.
+    mode: &'a [u8],
+    /// The session that is waited for.
+    other: &'a [u8],
 }
 
 /// The transaction of a number field and a victim field.
@@ -51,22 +71,14 @@ fn open_of(sessions: u16, session: &[u8], number: &[u8], victim: &[u8]) -> Optio
 }
 
 /// The lock or request of these fields.
-fn claim_of(
-    sessions: u16,
-    word: &[u8],
-    session: &[u8],
-    number: &[u8],
-    victim: &[u8],
-    resource: &[u8],
-    mode: &[u8],
-) -> Option<Claim>
-    ensures { (c : ClaimValue) → (result ≡ Some c) ↔ (IsClaim sessions c × (word.now ≡ word_of_kind c.kind) × (session.now ≡ decimal c.session) × (number.now ≡ decimal c.transaction.number)
-        × (victim.now ≡ victim_field c.transaction) × (resource.now ≡ text_of c.resource) × (mode.now ≡ name_of c.mode)) }
+fn claim_of(sessions: u16, fields: RowFields<'_>) -> Option<Claim>
+    ensures { (c : ClaimValue) → (result ≡ Some c) ↔ (IsClaim sessions c × (fields.entry.word.now ≡ word_of_kind c.kind) × (fields.entry.session.now ≡ decimal c.session) × (fields.entry.number.now ≡ decimal c.transaction.number)
+        × (fields.entry.victim.now ≡ victim_field c.transaction) × (fields.entry.resource.now ≡ text_of c.resource) × (fields.entry.mode.now ≡ name_of c.mode)) }
 {
-    let kind = kind_of(word)?;
-    let begun = open_of(sessions, session, number, victim)?;
-    let resource = resource_of(resource)?;
-    let mode = mode_of(mode)?;
+    let kind = kind_of(fields.word)?;
+    let begun = open_of(sessions, fields.session, fields.number, fields.victim)?;
+    let resource = resource_of(fields.resource)?;
+    let mode = mode_of(fields.mode)?;
     Some(Claim {
         resource,
         session: begun.session,
@@ -100,94 +112,52 @@ fn are_blank(a: &[u8], b: &[u8], c: &[u8]) -> bool
 }
 
 /// The open transaction of the seven fields of a row.
-fn open_in(
-    sessions: u16,
-    word: &[u8],
-    session: &[u8],
-    number: &[u8],
-    victim: &[u8],
-    resource: &[u8],
-    mode: &[u8],
-    other: &[u8],
-) -> Option<OpenTransaction>
-    ensures { (o : OpenValue) → (result ≡ Some o) ↔ (IsOpen sessions o × (word.now ∷ session.now ∷ number.now ∷ victim.now ∷ resource.now ∷ mode.now ∷ other.now ∷ [] ≡ fields_of_transaction o)) }
+fn open_in(sessions: u16, fields: RowFields<'_>) -> Option<OpenTransaction>
+    ensures { (o : OpenValue) → (result ≡ Some o) ↔ (IsOpen sessions o × (texts_of fields.entry ≡ fields_of_transaction o)) }
 {
-    if word != b"transaction".as_slice() {
+    if fields.word != b"transaction".as_slice() {
         return None;
     }
-    if !are_blank(resource, mode, other) {
+    if !are_blank(fields.resource, fields.mode, fields.other) {
         return None;
     }
-    open_of(sessions, session, number, victim)
+    open_of(sessions, fields.session, fields.number, fields.victim)
 }
 
 /// The lock or request of the seven fields of a row.
-fn claim_in(
-    sessions: u16,
-    word: &[u8],
-    session: &[u8],
-    number: &[u8],
-    victim: &[u8],
-    resource: &[u8],
-    mode: &[u8],
-    other: &[u8],
-) -> Option<Claim>
-    ensures { (c : ClaimValue) → (result ≡ Some c) ↔ (IsClaim sessions c × (word.now ∷ session.now ∷ number.now ∷ victim.now ∷ resource.now ∷ mode.now ∷ other.now ∷ [] ≡ fields_of_claim c)) }
+fn claim_in(sessions: u16, fields: RowFields<'_>) -> Option<Claim>
+    ensures { (c : ClaimValue) → (result ≡ Some c) ↔ (IsClaim sessions c × (texts_of fields.entry ≡ fields_of_claim c)) }
 {
-    if !other.is_empty() {
+    if !fields.other.is_empty() {
         return None;
     }
-    claim_of(sessions, word, session, number, victim, resource, mode)
+    claim_of(sessions, fields)
 }
 
 /// The wait of the seven fields of a row.
-fn wait_in(
-    sessions: u16,
-    word: &[u8],
-    session: &[u8],
-    number: &[u8],
-    victim: &[u8],
-    resource: &[u8],
-    mode: &[u8],
-    other: &[u8],
-) -> Option<Wait>
-    ensures { (w : WaitValue) → (result ≡ Some w) ↔ (IsWait sessions w × (word.now ∷ session.now ∷ number.now ∷ victim.now ∷ resource.now ∷ mode.now ∷ other.now ∷ [] ≡ fields_of_wait w)) }
+fn wait_in(sessions: u16, fields: RowFields<'_>) -> Option<Wait>
+    ensures { (w : WaitValue) → (result ≡ Some w) ↔ (IsWait sessions w × (texts_of fields.entry ≡ fields_of_wait w)) }
 {
-    if word != b"waits".as_slice() {
+    if fields.word != b"waits".as_slice() {
         return None;
     }
-    if !is_blank(victim) || !are_blank(number, resource, mode) {
+    if !is_blank(fields.victim) || !are_blank(fields.number, fields.resource, fields.mode) {
         return None;
     }
-    wait_of(sessions, session, other)
+    wait_of(sessions, fields.session, fields.other)
 }
 
 /// The row of seven fields.
-fn row_in(
-    sessions: u16,
-    word: &[u8],
-    session: &[u8],
-    number: &[u8],
-    victim: &[u8],
-    resource: &[u8],
-    mode: &[u8],
-    other: &[u8],
-) -> Option<StateRow>
-    ensures { (row : RowValue) → (result ≡ Some row) ↔ (IsRow sessions row × (word.now ∷ session.now ∷ number.now ∷ victim.now ∷ resource.now ∷ mode.now ∷ other.now ∷ [] ≡ fields_of_row row)) }
+fn row_in(sessions: u16, fields: RowFields<'_>) -> Option<StateRow>
+    ensures { (row : RowValue) → (result ≡ Some row) ↔ (IsRow sessions row × (texts_of fields.entry ≡ fields_of_row row)) }
 {
-    if let Some(begun) = open_in(
-        sessions, word, session, number, victim, resource, mode, other,
-    ) {
+    if let Some(begun) = open_in(sessions, fields) {
         return Some(StateRow::Transaction(begun));
     }
-    if let Some(wait) = wait_in(
-        sessions, word, session, number, victim, resource, mode, other,
-    ) {
+    if let Some(wait) = wait_in(sessions, fields) {
         return Some(StateRow::Wait(wait));
     }
-    let claim = claim_in(
-        sessions, word, session, number, victim, resource, mode, other,
-    )?;
+    let claim = claim_in(sessions, fields)?;
     Some(StateRow::Claim(claim))
 }
 
@@ -210,8 +180,14 @@ pub(crate) fn row_of(
     if fields.len() != 7 {
         return Ok(None);
     }
-    let row = row_in(
-        sessions, fields[0], fields[1], fields[2], fields[3], fields[4], fields[5], fields[6],
-    );
-    Ok(row)
+    let fields = RowFields {
+        word: fields[0],
+        session: fields[1],
+        number: fields[2],
+        victim: fields[3],
+        resource: fields[4],
+        mode: fields[5],
+        other: fields[6],
+    };
+    Ok(row_in(sessions, fields))
 }

@@ -2,7 +2,9 @@
 
 use crate::lanes::{ResourceLanes, SessionLanes};
 use crate::scale::Scale;
-use crate::svg::{BAR, put_circle, put_cross, put_diamond, put_line, put_rect, put_text};
+use crate::svg::{
+    BAR, Line, Rect, put_circle, put_cross, put_diamond, put_line, put_rect, put_text,
+};
 use lock_modes::{MODES, Mode};
 use std::alloc::{AllocError as NoMemory, Global};
 use std::fmt::Write;
@@ -147,7 +149,7 @@ pub(crate) fn put_axis(
             let mut number = String::new(alloc);
             write!(&mut number, "{place}")?;
             put_text(out, "tick", x, top.saturating_sub(4), &number)?;
-            put_line(out, "grid", x, top, x, bottom, "")?;
+            put_line(out, "grid", Line::down(x, top, bottom), "")?;
             put_text(out, "tick", x, bottom.saturating_add(12), &number)?;
         }
     }
@@ -170,14 +172,19 @@ fn put_words(out: &mut String, x: u64, y: u64, words: &str) -> Result<(), NoMemo
     )
 }
 
+/// The line of a sample that begins at `x`, at the height `y`.
+fn sample_line(x: u64, y: u64) -> Line {
+    Line::across(x, x.saturating_add(24), y)
+}
+
 /// Writes the samples of bars.
 fn put_bar_samples(out: &mut String, y: u64) -> Result<(), NoMemory> {
-    put_rect(out, "bar", sample_at(0), y, 24, BAR, "")?;
+    put_rect(out, "bar", Rect::bar(sample_at(0), y, 24), "")?;
     put_words(out, sample_at(0), y, "transaction (T) and call")?;
-    put_line(out, "call", 22, y, 22, y.saturating_add(BAR), "")?;
-    put_rect(out, "wait", sample_at(1), y, 24, BAR, "")?;
+    put_line(out, "call", Line::down(22, y, y.saturating_add(BAR)), "")?;
+    put_rect(out, "wait", Rect::bar(sample_at(1), y, 24), "")?;
     put_words(out, sample_at(1), y, "waits, for whom")?;
-    put_rect(out, "victim", sample_at(2), y, 24, BAR, "")?;
+    put_rect(out, "victim", Rect::bar(sample_at(2), y, 24), "")?;
     put_words(out, sample_at(2), y, "deadlock victim")?;
     let middle = y.saturating_add(7);
     put_circle(
@@ -199,13 +206,13 @@ fn put_mark_samples(out: &mut String, y: u64) -> Result<(), NoMemory> {
     put_diamond(out, "refused", sample_at(0).saturating_add(12), middle, "")?;
     put_words(out, sample_at(0), y, "refused call")?;
     let x = sample_at(1);
-    put_line(out, "grants", x, middle, x.saturating_add(24), middle, "")?;
+    put_line(out, "grants", sample_line(x, middle), "")?;
     put_words(out, x, y, "grants the request of")?;
     let x = sample_at(2);
-    put_line(out, "dooms", x, middle, x.saturating_add(24), middle, "")?;
+    put_line(out, "dooms", sample_line(x, middle), "")?;
     put_words(out, x, y, "makes a victim of")?;
     let x = sample_at(3);
-    put_line(out, "joins", x, middle, x.saturating_add(24), middle, "")?;
+    put_line(out, "joins", sample_line(x, middle), "")?;
     put_circle(out, "cycle", x.saturating_add(12), middle, 6, "")?;
     put_words(out, x, y, "closes a cycle of waits")
 }
@@ -215,7 +222,7 @@ fn put_mode_samples(out: &mut String, y: u64) -> Result<(), NoMemory> {
     let mut x = 10u64;
     for mode in MODES {
         if mode != Mode::NL {
-            put_rect(out, mode.name(), x, y, 24, BAR, "")?;
+            put_rect(out, mode.name(), Rect::bar(x, y, 24), "")?;
             put_text(
                 out,
                 "held",

@@ -4,7 +4,7 @@ use crate::lanes::SessionLanes;
 use crate::model::{Arrow, Closed, Deed, Timeline};
 use crate::scale::Scale;
 use crate::sessions::{BAR_DEPTH, MIDDLE};
-use crate::svg::{BAR, put_circle, put_line};
+use crate::svg::{BAR, Line, put_circle, put_line};
 use crate::titles::{put_arrow_title, put_cycle_title};
 use std::alloc::{AllocError as NoMemory, Global};
 
@@ -47,10 +47,13 @@ fn put_arrow(
     let ends = ends_of(from, to);
     let middle = scale.middle(arrow.place);
     match arrow.deed {
-        Deed::Granted => put_line(out, "grants", middle, ends.begin, middle, ends.end, &title),
+        Deed::Granted => {
+            let line = Line::down(middle, ends.begin, ends.end);
+            put_line(out, "grants", line, &title)
+        }
         Deed::Doomed => {
             let x = middle.saturating_add(ASIDE);
-            put_line(out, "dooms", x, ends.begin, x, ends.end, &title)
+            put_line(out, "dooms", Line::down(x, ends.begin, ends.end), &title)
         }
     }
 }
@@ -77,7 +80,7 @@ fn put_cycle(
             continue;
         }
         if let Some(before) = above {
-            put_line(out, "joins", x, before, x, y, &title)?;
+            put_line(out, "joins", Line::down(x, before, y), &title)?;
         }
         put_circle(out, "cycle", x, y, 6, &title)?;
         above = Some(y);

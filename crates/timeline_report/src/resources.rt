@@ -2,7 +2,7 @@
 
 use crate::lanes::{ABOVE, PlacedHold, ROW, ResourceLane, ResourceLanes};
 use crate::scale::Scale;
-use crate::svg::{put_line, put_rect, put_text, width_of};
+use crate::svg::{Line, Rect, put_line, put_rect, put_text, width_of};
 use crate::titles::put_hold_title;
 use std::alloc::{AllocError as NoMemory, Global};
 use std::fmt::Write;
@@ -69,7 +69,13 @@ fn put_hold(
     let y = top.saturating_add(ABOVE).saturating_add(row);
     let x = scale.middle(hold.from);
     let width = scale.middle(hold.upto).saturating_sub(x);
-    put_rect(out, hold.mode.name(), x, y, width, HOLDER, &title)?;
+    let rect = Rect {
+        x,
+        y,
+        width,
+        height: HOLDER,
+    };
+    put_rect(out, hold.mode.name(), rect, &title)?;
     if width_of(&name) <= width.saturating_sub(4) {
         put_text(
             out,
@@ -93,7 +99,7 @@ pub(crate) fn put_resources(
     let mut tops = Vec::new(alloc);
     let mut y = top;
     for lane in &lanes.lanes {
-        put_line(out, "border", 10, y, scale.right(), y, "")?;
+        put_line(out, "border", Line::across(10, scale.right(), y), "")?;
         put_label(out, alloc, lane, scale, y)?;
         tops.push(y)?;
         y = y.saturating_add(lane.height());

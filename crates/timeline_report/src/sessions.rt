@@ -3,7 +3,9 @@
 use crate::lanes::{LANE, SessionLanes};
 use crate::model::{Bar, End, Mark, Timeline, Waited};
 use crate::scale::Scale;
-use crate::svg::{BAR, put_circle, put_cross, put_diamond, put_line, put_rect, put_text, width_of};
+use crate::svg::{
+    BAR, Line, Rect, put_circle, put_cross, put_diamond, put_line, put_rect, put_text, width_of,
+};
 use crate::titles::{
     put_bar_title, put_blockers, put_mark_title, put_victim_title, put_wait_title,
 };
@@ -40,15 +42,8 @@ pub(crate) fn put_labels(
         write!(&mut label, "session {session}")?;
         put_text(out, "lane", 10, y.saturating_add(21), &label)?;
         let middle = y.saturating_add(MIDDLE);
-        put_line(
-            out,
-            "base",
-            scale.left,
-            middle,
-            scale.right(),
-            middle,
-            &label,
-        )?;
+        let line = Line::across(scale.left, scale.right(), middle);
+        put_line(out, "base", line, &label)?;
         y = y.saturating_add(LANE);
     }
     Ok(())
@@ -103,7 +98,7 @@ fn put_victim(
     put_victim_title(&mut title, bar, place)?;
     let x = scale.middle(place);
     let width = scale.middle(bar.upto).saturating_sub(x);
-    put_rect(out, "victim", x, y, width, BAR, &title)
+    put_rect(out, "victim", Rect::bar(x, y, width), &title)
 }
 
 /// Writes the bar of a transaction in the lane at `top`.
@@ -119,7 +114,8 @@ fn put_bar(
     let x = scale.middle(bar.from);
     let right = scale.middle(bar.upto);
     let y = top.saturating_add(BAR_DEPTH);
-    put_rect(out, "bar", x, y, right.saturating_sub(x), BAR, &title)?;
+    let rect = Rect::bar(x, y, right.saturating_sub(x));
+    put_rect(out, "bar", rect, &title)?;
     put_victim(out, alloc, bar, scale, y)?;
     put_names(out, alloc, bar, x, right, y.saturating_sub(2))?;
     if bar.upto < scale.upto() {
@@ -165,7 +161,7 @@ fn put_wait(
     let x = scale.middle(wait.from);
     let width = scale.middle(wait.upto).saturating_sub(x);
     let y = top.saturating_add(BAR_DEPTH);
-    put_rect(out, "wait", x, y, width, BAR, &title)?;
+    put_rect(out, "wait", Rect::bar(x, y, width), &title)?;
     put_wait_words(out, alloc, wait, x, width, top.saturating_add(WORDS_DEPTH))
 }
 
@@ -182,19 +178,12 @@ fn put_mark(
     let x = scale.middle(mark.place);
     let y = top.saturating_add(BAR_DEPTH);
     let below = y.saturating_add(BAR);
-    put_line(out, "call", x, y, x, below, &title)?;
+    put_line(out, "call", Line::down(x, y, below), &title)?;
     if let Reply::Refused(_) = mark.entry.reply {
         put_diamond(out, "refused", x, top.saturating_add(MIDDLE), &title)?;
     }
-    put_rect(
-        out,
-        "column",
-        scale.column(mark.place),
-        y,
-        scale.step,
-        BAR,
-        &title,
-    )
+    let column = Rect::bar(scale.column(mark.place), y, scale.step);
+    put_rect(out, "column", column, &title)
 }
 
 /// Writes the transactions and their waits.

@@ -9,6 +9,66 @@ pub(crate) const BAR: u64 = 14;
 /// About how wide a letter is.
 const LETTER: u64 = 6;
 
+/// A rectangle, by its upper left corner.
+#[derive(Clone, Copy)]
+pub(crate) struct Rect {
+    /// How far to the right it begins.
+    pub(crate) x: u64,
+    /// How far below the picture's upper edge it begins.
+    pub(crate) y: u64,
+    /// Its width.
+    pub(crate) width: u64,
+    /// Its height.
+    pub(crate) height: u64,
+}
+
+impl Rect {
+    /// A rectangle with the height of the bars of sessions.
+    pub(crate) fn bar(x: u64, y: u64, width: u64) -> Rect {
+        Rect {
+            x,
+            y,
+            width,
+            height: BAR,
+        }
+    }
+}
+
+/// A line, by its ends.
+#[derive(Clone, Copy)]
+pub(crate) struct Line {
+    /// How far to the right it begins.
+    x: u64,
+    /// How far below the picture's upper edge it begins.
+    y: u64,
+    /// How far to the right it ends.
+    to_x: u64,
+    /// How far below the picture's upper edge it ends.
+    to_y: u64,
+}
+
+impl Line {
+    /// A line straight down at `x`, between two heights.
+    pub(crate) fn down(x: u64, from: u64, to: u64) -> Line {
+        Line {
+            x,
+            y: from,
+            to_x: x,
+            to_y: to,
+        }
+    }
+
+    /// A line straight to the right at the height `y`.
+    pub(crate) fn across(from: u64, to: u64, y: u64) -> Line {
+        Line {
+            x: from,
+            y,
+            to_x: to,
+            to_y: y,
+        }
+    }
+}
+
 /// Writes the text, with what XML reserves as entities.
 pub(crate) fn push_escaped(out: &mut String, text: &str) -> Result<(), NoMemory> {
     for letter in text.chars() {
@@ -52,12 +112,15 @@ fn put_title(out: &mut String, title: &str) -> Result<(), NoMemory> {
 pub(crate) fn put_rect(
     out: &mut String,
     class: &str,
-    x: u64,
-    y: u64,
-    width: u64,
-    height: u64,
+    rect: Rect,
     title: &str,
 ) -> Result<(), NoMemory> {
+    let Rect {
+        x,
+        y,
+        width,
+        height,
+    } = rect;
     write!(
         out,
         "<rect class=\"{class}\" x=\"{x}\" y=\"{y}\" width=\"{width}\" height=\"{height}\">"
@@ -70,12 +133,10 @@ pub(crate) fn put_rect(
 pub(crate) fn put_line(
     out: &mut String,
     class: &str,
-    x: u64,
-    y: u64,
-    to_x: u64,
-    to_y: u64,
+    line: Line,
     title: &str,
 ) -> Result<(), NoMemory> {
+    let Line { x, y, to_x, to_y } = line;
     write!(out, "<path class=\"{class}\" d=\"M{x} {y}L{to_x} {to_y}\">")?;
     put_title(out, title)?;
     out.push_str("</path>\n")

@@ -62,7 +62,7 @@ mark-small true m e = omega (arith, e)
 mark-small false m e = omega (arith, e)
 
 -- `x && false` is `false`.
-and-false : (x : Bool) → (x && false) ≡ false
+pub and-false : (x : Bool) → (x && false) ≡ false
 and-false true = refl
 and-false false = refl
 

@@ -1,20 +1,19 @@
 //! The youngest session on a cycle with a given one.
 
-ghost use Rattle.std.specs.Prelude.{◌≡◌, ℕ, ◌+◌, ◌<◌, ◌≤◌, ◌↔◌, true, false, ◌&&◌, ◌||◌, ◌==◌, ◌/◌, Bool, Some, IfSome, IsSome, length};
+ghost use Rattle.std.specs.Prelude.{◌≡◌, ℕ, ◌+◌, ◌<◌, ◌≤◌, true, false, ◌&&◌, ◌||◌, ◌==◌, ◌/◌, Bool, Some, IfSome, length};
 ghost use Rattle.std.specs.Option.{ForSome};
 ghost use Rattle.waits_for.specs.Pairs.{pairs_of};
 ghost use Rattle.waits_for.specs.Walks.{Reaches, IsYoungestOnCircle};
 ghost use Rattle.waits_for.specs.inner.Bits.{has_bit, words_for};
-ghost use Rattle.waits_for.specs.inner.Search.{HasAllWaiting, HasAllOnCircle, HasSearched, IsBestBelow, IsTestOf, IsTo, younger};
+ghost use Rattle.waits_for.specs.inner.Search.{HasAllOnCircle, IsBestBelow, IsTestOf, IsTo, younger};
 
-use crate::bits::{has, have_common, next_common, set};
+use crate::bits::{has, next_common};
 use crate::matrix::Matrix;
-use crate::search::find_circle;
-use mode_lanes::and_into;
+use crate::search::Links;
 
 /// The position in the set with the greatest age, and the least of two positions of one age. `None` if the set has
 /// no position that has an age.
-fn youngest_in(set: &[u64], ages: &[u64]) -> Option<usize>
+pub(crate) fn youngest_in(set: &[u64], ages: &[u64]) -> Option<usize>
     requires { words_for (length ages.now) ≤ length set.now }
     ensures { IsBestBelow (has_bit set.now) ages.now (length ages.now) result }
 {
@@ -70,94 +69,37 @@ fn younger_of(ages: &[u64], best: Option<usize>, u: usize) -> usize
     }
 }
 
-/// The youngest session on a cycle with position `t`, and of two of one age the one at the lesser position. `None` if
-/// `t` is on no cycle.
-///
-/// If `searched` is the number of a session, every session on a cycle with it is in `circle`, before and after.
-/// `reached`, `marked` and `stack` are scratch. `hops` and `parents` may hold anything: steps are looked for there
-/// first.
-#[inline(never)]
-pub(crate) fn find_youngest(
-    matrix: &Matrix,
-    waiting: &[u64],
-    t: usize,
-    ages: &[u64],
-    searched: &mut usize,
-    circle: &mut [u64],
-    reached: &mut [u64],
-    marked: &mut [u64],
-    stack: &mut [usize],
-    hops: &mut [usize],
-    parents: &mut [usize],
-) -> Option<usize>
-    requires t_below { t < matrix.now.sessions }
-    requires waiting_room { length waiting.now ≡ words_for matrix.now.sessions }
-    requires waiting { HasAllWaiting (pairs_of matrix.now) waiting.now }
-    requires an_age_each { length ages.now ≡ matrix.now.sessions }
-    requires searched { HasSearched (pairs_of matrix.now) searched.old circle.old }
-    requires circle_room { length circle.old ≡ words_for matrix.now.sessions }
-    requires reached_room { length reached.old ≡ words_for matrix.now.sessions }
-    requires marked_room { length marked.old ≡ words_for matrix.now.sessions }
-    requires stack_room { length stack.old ≡ matrix.now.sessions }
-    requires hops_room { length hops.old ≡ matrix.now.sessions }
-    requires parents_room { length parents.old ≡ matrix.now.sessions }
-    ensures on_circle { IsSome result ↔ Reaches (pairs_of matrix.now) t t }
-    ensures youngest { IfSome result (IsYoungestOnCircle (pairs_of matrix.now) ages.now t) }
-    ensures searched { HasSearched (pairs_of matrix.now) searched.new circle.new }
-{
-    if *searched == t + 1 {
-        // who waits no more is on no cycle
-        and_into(circle, waiting);
-        if !have_common(matrix.row(t), circle) {
-            return None;
-        }
-        if let Some(v) = youngest_at_hand(matrix, t, circle, hops, parents, ages) {
-            return Some(v);
-        }
-    }
-    *searched = 0;
-    if !find_circle(
-        matrix, waiting, t, reached, marked, circle, stack, hops, parents,
-    ) {
-        return None;
-    }
-    *searched = t + 1;
-    youngest_in(circle, ages)
-}
-
 /// The youngest session on a cycle with position `t`, if it is found without a search. `circle` must have all
 /// sessions on a cycle with `t`.
 ///
 /// If steps lead from `t` to the youngest member, and steps through `circle` back to `t`, it is the one.
-fn youngest_at_hand(
+pub(crate) fn youngest_at_hand(
     matrix: &Matrix,
     t: usize,
     circle: &[u64],
-    hops: &[usize],
-    parents: &[usize],
+    links: &[Links],
     ages: &[u64],
 ) -> Option<usize>
     requires t_below { t < matrix.now.sessions }
     requires circle_room { length circle.now ≡ words_for matrix.now.sessions }
     requires circle { HasAllOnCircle (pairs_of matrix.now) t circle.now }
-    requires hops_room { length hops.now ≡ matrix.now.sessions }
-    requires parents_room { length parents.now ≡ matrix.now.sessions }
+    requires links_room { length links.now ≡ matrix.now.sessions }
     requires an_age_each { length ages.now ≡ matrix.now.sessions }
     ensures youngest { IfSome result (IsYoungestOnCircle (pairs_of matrix.now) ages.now t) }
 {
     let v = youngest_in(circle, ages)?;
-    if is_led_to(matrix, parents, t, v) && leads_to(matrix, circle, hops, v, t) {
+    if is_led_to(matrix, links, t, v) && leads_to(matrix, circle, links, v, t) {
         return Some(v);
     }
     None
 }
 
 /// Whether steps lead from position `t` to `u`, found backwards: each from `t` if it waits directly, and else from the
-/// first session that does of the one in `parents`, the one there for that, and so on. There may be other walks.
-fn is_led_to(matrix: &Matrix, parents: &[usize], t: usize, u: usize) -> bool
+/// first session that does of its parent in `links`, the parent of that, and so on. There may be other walks.
+fn is_led_to(matrix: &Matrix, links: &[Links], t: usize, u: usize) -> bool
     requires t_below { t < matrix.now.sessions }
     requires u_below { u < matrix.now.sessions }
-    requires parents_room { length parents.now ≡ matrix.now.sessions }
+    requires links_room { length links.now ≡ matrix.now.sessions }
     ensures { result ≡ true → IsTo (pairs_of matrix.now) u t }
 {
     if u == t {
@@ -170,8 +112,8 @@ fn is_led_to(matrix: &Matrix, parents: &[usize], t: usize, u: usize) -> bool
         if has(row, at) {
             return true;
         }
-        by = parents[by];
-        if by == t || by >= parents.len() {
+        by = links[by].parent;
+        if by == t || by >= links.len() {
             return false;
         }
         if has(matrix.row(by), at) {
@@ -181,13 +123,13 @@ fn is_led_to(matrix: &Matrix, parents: &[usize], t: usize, u: usize) -> bool
     false
 }
 
-/// Whether steps through `circle` lead from position `u` to `t`: each to the session in `hops`, if it is one that is
+/// Whether steps through `circle` lead from position `u` to `t`: each to its hop in `links`, if that is one that is
 /// waited for directly, and else to the least member that is. There may be other walks.
-fn leads_to(matrix: &Matrix, circle: &[u64], hops: &[usize], u: usize, t: usize) -> bool
+fn leads_to(matrix: &Matrix, circle: &[u64], links: &[Links], u: usize, t: usize) -> bool
     requires u_below { u < matrix.now.sessions }
     requires t_below { t < matrix.now.sessions }
     requires circle_room { length circle.now ≡ words_for matrix.now.sessions }
-    requires hops_room { length hops.now ≡ matrix.now.sessions }
+    requires links_room { length links.now ≡ matrix.now.sessions }
     ensures { result ≡ true → Reaches (pairs_of matrix.now) u t }
 {
     let mut at = u;
@@ -196,7 +138,7 @@ fn leads_to(matrix: &Matrix, circle: &[u64], hops: &[usize], u: usize, t: usize)
         if has(row, t) {
             return true;
         }
-        let hop = hops[at];
+        let hop = links[at].hop;
         match next_member(row, circle, hop) {
             Some(next) => at = next,
             None => return false,

@@ -2,8 +2,8 @@
 //!
 //! A session is given by its position, which is its session number less 1. [`Rows`] holds the edges: pairs (t, u) such
 //! that t waits for u. Its queries search walks along these edges. [`Marks`] is a set of sessions. `rows.rt` has the
-//! public calls, `matrix.rt` the edges as bits, `search.rt` the search, `choice.rt` the choice of the youngest, `bits.rt` operations on rows of bits, `laws.rt`
-//! the laws of edges and walks.
+//! public calls, `matrix.rt` the edges as bits, `circle_search.rt` the search with its memory, `search.rt` its steps,
+//! `choice.rt` the choice of the youngest, `bits.rt` operations on rows of bits, `laws.rt` the laws of edges and walks.
 //!
 //! [`Rows::youngest_on_circle`] searches depth first from the session that asks, and returns the youngest session on a
 //! cycle with it. It keeps what it found, so the next victim of the same request seldom needs a search.
@@ -19,6 +19,7 @@ pub use std::alloc::AllocError as NoMemory;
 
 mod bits;
 mod choice;
+mod circle_search;
 pub mod laws;
 mod marks;
 mod matrix;

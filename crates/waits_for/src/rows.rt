@@ -6,10 +6,10 @@ ghost use Rattle.waits_for.specs.Marks.{is_marked};
 ghost use Rattle.waits_for.specs.Walks.{Reaches, IsYoungestOnCircle};
 
 use crate::bits::{has, have_common, next_new, set, unset, words_for};
-use crate::choice::find_youngest;
+use crate::circle_search::CircleSearch;
 use crate::marks::Marks;
 use crate::matrix::Matrix;
-use crate::search::{find_reached, is_waited_for};
+use crate::search::is_waited_for;
 use crate::{MAX_SESSIONS, NoMemory};
 use std::alloc::Global;
 use std::marker::Model;
@@ -25,21 +25,8 @@ pub struct Rows {
     matrix: Matrix,
     /// The sessions that were given an edge since their row was last cleared. The rows of all others are empty.
     waiting: Vec<u64>,
-    /// Scratch: the sessions that a search has reached.
-    reached: Vec<u64>,
-    /// Scratch: the sessions whose rows a search has added, or those that wait and that it hasn't met.
-    marked: Vec<u64>,
-    /// The sessions on a circle, as the last search found them.
-    circle: Vec<u64>,
-    /// The session number of whom `circle` still has all sessions on a circle with it, though it may have more: since
-    /// the search for its circle no edge was added. 0 for none.
-    searched: usize,
-    /// Scratch: the stack of a search.
-    stack: Vec<usize>,
-    /// For each session on that circle a session on it that it waited for directly.
-    hops: Vec<usize>,
-    /// For each session on that circle, but the one that was asked for, a session on it that waited for it directly.
-    parents: Vec<usize>,
+    /// The search for circles, with the circle that it found last.
+    search: CircleSearch,
 }
 
 impl Model for Rows {
@@ -55,13 +42,8 @@ impl Model for Rows {
     ghost invariant = { λ r.
         (length r.waiting.items ≡ words_for r.matrix.sessions)
         × HasAllWaiting (pairs_of r.matrix) r.waiting.items
-        × (length r.reached.items ≡ words_for r.matrix.sessions)
-        × (length r.marked.items ≡ words_for r.matrix.sessions)
-        × (length r.circle.items ≡ words_for r.matrix.sessions)
-        × (length r.stack.items ≡ r.matrix.sessions)
-        × (length r.hops.items ≡ r.matrix.sessions)
-        × (length r.parents.items ≡ r.matrix.sessions)
-        × HasSearched (pairs_of r.matrix) r.searched r.circle.items };
+        × (r.search.sessions ≡ r.matrix.sessions)
+        × HasSearched (pairs_of r.matrix) r.search.searched r.search.circle };
 }
 
 impl Rows {
@@ -74,22 +56,11 @@ impl Rows {
     {
         let matrix = Matrix::new(alloc, sessions)?;
         let waiting = vec![in alloc; 0; words_for(sessions)]?;
-        let reached = vec![in alloc; 0; words_for(sessions)]?;
-        let marked = vec![in alloc; 0; words_for(sessions)]?;
-        let circle = vec![in alloc; 0; words_for(sessions)]?;
-        let stack = vec![in alloc; 0; sessions as usize]?;
-        let hops = vec![in alloc; 0; sessions as usize]?;
-        let parents = vec![in alloc; 0; sessions as usize]?;
+        let search = CircleSearch::new(alloc, sessions)?;
         Ok(Rows {
             matrix,
             waiting,
-            reached,
-            marked,
-            circle,
-            searched: 0,
-            stack,
-            hops,
-            parents,
+            search,
         })
     }
 
@@ -112,7 +83,7 @@ impl Rows {
     {
         self.matrix.set(t, u);
         set(&mut self.waiting, t);
-        self.searched = 0;
+        self.search.forget();
     }
 
     /// Removes an edge, if there is one: the session at position `t` no longer waits for the session at position `u`.
@@ -139,7 +110,7 @@ impl Rows {
     {
         self.matrix.set_met(t, numbers, codes, mask);
         set(&mut self.waiting, t);
-        self.searched = 0;
+        self.search.forget();
     }
 
     /// Removes all edges from the session at position `t`: it waits for nobody. Edges to it stay.
@@ -164,7 +135,7 @@ impl Rows {
     {
         self.matrix.wait_as(t, u);
         set(&mut self.waiting, t);
-        self.searched = 0;
+        self.search.forget();
     }
 
     /// Whether the session at position `t` waits directly for the session at position `u`.
@@ -203,14 +174,7 @@ impl Rows {
         ensures walk { IsTrue result ↔ Reaches (pairs_of self.old) t u }
         ensures same { self.new ≡ self.old }
     {
-        find_reached(
-            &self.matrix,
-            &self.waiting,
-            t,
-            &mut self.reached,
-            &mut self.marked,
-        );
-        has(&self.reached, u)
+        self.search.reaches(&self.matrix, &self.waiting, t, u)
     }
 
     /// Whether the session at position `t` is on a cycle, so in a deadlock.
@@ -239,22 +203,10 @@ impl Rows {
         if !have_common(self.matrix.row(t), &self.waiting) {
             return None;
         }
-        if self.searched != t + 1 && !is_waited_for(&self.matrix, &self.waiting, t) {
+        if !self.search.keeps(t) && !is_waited_for(&self.matrix, &self.waiting, t) {
             return None;
         }
-        find_youngest(
-            &self.matrix,
-            &self.waiting,
-            t,
-            ages,
-            &mut self.searched,
-            &mut self.circle,
-            &mut self.reached,
-            &mut self.marked,
-            &mut self.stack,
-            &mut self.hops,
-            &mut self.parents,
-        )
+        self.search.youngest(&self.matrix, &self.waiting, t, ages)
     }
 }
 

@@ -13,34 +13,41 @@ use crate::bits::{
 use crate::matrix::Matrix;
 use mode_lanes::{and_into, or_into};
 
-/// Finds the sessions on a cycle with position `t`, and returns whether there are any. If there are, they are the
-/// bits of `circle`. `hops` has for each a session that it waits for directly, as a rule one nearer to `t`, and
-/// `parents` for each but `t` the session in whose row it was found. `reached`, `unseen` and `stack` are scratch.
-pub(crate) fn find_circle(
+/// The steps of a search from a session that it met.
+#[derive(Clone, Copy)]
+pub(crate) struct Links {
+    /// A session that it waits for directly, as a rule one nearer to the session that was asked for.
+    pub(crate) hop: usize,
+    /// The session in whose row it was found, but of the session that was asked for.
+    pub(crate) parent: usize,
+}
+
+/// Removes from `circle`, which has `t` and sessions that reach it, those that are on no cycle with `t`, and adds all
+/// others that are on one. Returns whether there are any. `unseen` has the waiting sessions that `t` doesn't reach.
+/// `reached` is scratch.
+pub(crate) fn keep_on_circle(
     matrix: &Matrix,
     waiting: &[u64],
     t: usize,
     reached: &mut [u64],
-    unseen: &mut [u64],
+    unseen: &[u64],
     circle: &mut [u64],
-    stack: &mut [usize],
-    hops: &mut [usize],
-    parents: &mut [usize],
 ) -> bool
     requires t_below { t < matrix.now.sessions }
     requires waiting_room { length waiting.now ≡ words_for matrix.now.sessions }
     requires waiting { HasAllWaiting (pairs_of matrix.now) waiting.now }
     requires reached_room { length reached.old ≡ words_for matrix.now.sessions }
-    requires unseen_room { length unseen.old ≡ words_for matrix.now.sessions }
+    requires unseen_room { length unseen.now ≡ words_for matrix.now.sessions }
     requires circle_room { length circle.old ≡ words_for matrix.now.sessions }
-    requires stack_room { length stack.old ≡ matrix.now.sessions }
-    requires hops_room { length hops.old ≡ matrix.now.sessions }
-    requires parents_room { length parents.old ≡ matrix.now.sessions }
+    requires seen { (u : ℕ) → has_bit waiting.now u ≡ true → has_bit unseen.now u ≡ false →
+        IsFrom (pairs_of matrix.now) t u }
+    requires all { (u : ℕ) → IsFrom (pairs_of matrix.now) t u → has_bit unseen.now u ≡ false }
+    requires own { has_bit circle.old t ≡ true }
+    requires lead { (u : ℕ) → has_bit circle.old u ≡ true → IsTo (pairs_of matrix.now) t u }
     ensures found { IsTrue result ↔ Reaches (pairs_of matrix.now) t t }
     ensures circle { result ≡ true →
         (u : ℕ) → IsTrue (has_bit circle.new u) ↔ AreOnCircle (pairs_of matrix.now) t u }
 {
-    search_depth_first(matrix, waiting, t, unseen, circle, stack, hops, parents);
     set_without(reached, waiting, unseen);
     add_all_predecessors(matrix, waiting, t, reached, circle);
     if !have_common(matrix.row(t), circle) {
@@ -77,40 +84,35 @@ pub(crate) fn find_reached(
     }
 }
 
-/// Takes the waiting sessions that position `t` reaches, and `t` itself, out of `waiting`; what is left becomes the
-/// bits of `unseen`. The bits of `circle` become `t` and sessions that reach it: of those that `t` reaches all, if the
-/// only cycles are those through `t`, though no contract says so. `hops` has for each of them, but `t`, a session that
-/// it waits for directly and by which it reaches `t`. `parents` has for each session that was taken out, but `t`, the
-/// session in whose row it was found.
+/// Takes the sessions that position `t` reaches, and `t` itself, out of `unseen`, which has all that wait. The bits of
+/// `circle` become `t` and sessions that reach it: of those that `t` reaches all, if the only cycles are those through
+/// `t`, though no contract says so. In `links` each of them, but `t`, has a session that it waits for directly and by
+/// which it reaches `t`, and each session that was taken out, but `t`, the session in whose row it was found. They may
+/// hold anything before. `stack` is scratch.
 ///
 /// The search goes depth first: it is done with a session once it is done with all that this waits for. By then it
 /// knows from one of these whether the session reaches `t`. The search of a row goes on where it has come to.
-fn search_depth_first(
+pub(crate) fn search_depth_first(
     matrix: &Matrix,
-    waiting: &[u64],
     t: usize,
     unseen: &mut [u64],
     circle: &mut [u64],
     stack: &mut [usize],
-    hops: &mut [usize],
-    parents: &mut [usize],
+    links: &mut [Links],
 )
     requires t_below { t < matrix.now.sessions }
-    requires waiting_room { length waiting.now ≡ words_for matrix.now.sessions }
-    requires waiting { HasAllWaiting (pairs_of matrix.now) waiting.now }
     requires unseen_room { length unseen.old ≡ words_for matrix.now.sessions }
+    requires unseen { HasAllWaiting (pairs_of matrix.now) unseen.old }
     requires circle_room { length circle.old ≡ words_for matrix.now.sessions }
     requires stack_room { length stack.old ≡ matrix.now.sessions }
-    requires hops_room { length hops.old ≡ matrix.now.sessions }
-    requires parents_room { length parents.old ≡ matrix.now.sessions }
-    ensures seen { (u : ℕ) → has_bit waiting.now u ≡ true → has_bit unseen.new u ≡ false →
+    requires links_room { length links.old ≡ matrix.now.sessions }
+    ensures seen { (u : ℕ) → has_bit unseen.old u ≡ true → has_bit unseen.new u ≡ false →
         IsFrom (pairs_of matrix.now) t u }
     ensures all { (u : ℕ) → IsFrom (pairs_of matrix.now) t u → has_bit unseen.new u ≡ false }
     ensures own { has_bit circle.new t ≡ true }
     ensures lead { (u : ℕ) → has_bit circle.new u ≡ true → IsTo (pairs_of matrix.now) t u }
 {
     let sessions = matrix.sessions() as usize;
-    unseen.copy_from_slice(waiting);
     unset(unseen, t);
     clear(circle, 0, circle.len());
     set(circle, t);
@@ -122,15 +124,15 @@ fn search_depth_first(
         let row = matrix.row(v);
         if let Some(u) = next_common(row, unseen, from) {
             unset(unseen, u);
-            parents[u] = v;
+            links[u].parent = v;
             stack[depth] = u;
             depth += 1;
             from = 0;
         } else {
             depth -= 1;
             from = v + 1;
-            if note_if_leads(row, circle, hops, v) && depth > 0 {
-                note_lead(circle, hops, stack[depth - 1], v);
+            if note_if_leads(row, circle, links, v) && depth > 0 {
+                note_lead(circle, links, stack[depth - 1], v);
             }
         }
     }
@@ -138,23 +140,23 @@ fn search_depth_first(
 
 /// Adds position `v` to `circle`: it waits directly for position `u`, a member.
 #[inline(always)]
-fn note_lead(circle: &mut [u64], hops: &mut [usize], v: usize, u: usize)
+fn note_lead(circle: &mut [u64], links: &mut [Links], v: usize, u: usize)
     requires circle_room { v / 64 < length circle.old }
-    requires hops_room { v < length hops.old }
+    requires links_room { v < length links.old }
     ensures { (j : ℕ) → has_bit circle.new j ≡ (has_bit circle.old j || (j == v)) }
 {
     set(circle, v);
-    hops[v] = u;
+    links[v].hop = u;
 }
 
 /// Adds position `v`, whose row is `row`, to `circle` if it waits directly for a member. Returns whether it is a member
 /// now.
 #[inline(always)]
-fn note_if_leads(row: &[u64], circle: &mut [u64], hops: &mut [usize], v: usize) -> bool
+fn note_if_leads(row: &[u64], circle: &mut [u64], links: &mut [Links], v: usize) -> bool
     requires same { length circle.old ≡ length row.now }
     requires few { length row.now ≤ 1024 }
     requires circle_room { v / 64 < length circle.old }
-    requires hops_room { v < length hops.old }
+    requires links_room { v < length links.old }
     ensures leads { result ≡ true → has_bit circle.new v ≡ true }
     ensures adds { DoesAddLead row.now circle.old circle.new v }
 {
@@ -162,7 +164,7 @@ fn note_if_leads(row: &[u64], circle: &mut [u64], hops: &mut [usize], v: usize) 
         return true;
     }
     if let Some(u) = next_common(row, circle, 0) {
-        note_lead(circle, hops, v, u);
+        note_lead(circle, links, v, u);
         return true;
     }
     false

@@ -1,20 +1,38 @@
--- A combiner in a pass that serves so many calls at most.
-use Rattle.std.specs.Prelude.{◌≡◌, ◌≢◌, ℕ, ◌<◌, ◌≤◌, ◌↔◌, Bool, true, false, IsTrue, None, length}
+-- A combiner in a pass that serves calls within a bound.
+use Rattle.std.specs.Prelude.{◌≡◌, ◌≢◌, ◌⊎◌, ℕ, ◌*◌, ◌<◌, ◌≤◌, ◌↔◌, Bool, true, false, IsTrue, None, List, length, vec_len}
+use Rattle.std.specs.Global.{Vec}
 use mathlib.Core.List.{IsPrefix}
+use Rattle.sequential.specs.declared.entry.Entry.{Entry}
+use Rattle.sequential.specs.declared.entry.Item.{Item}
+use Rattle.sequential.specs.Batches.{asked_by}
 use Rattle.sequential.specs.Histories.{calls_of}
 use Rattle.publication.specs.Views.{TicketView}
 use Rattle.publication.specs.Boards.{heard_from, published_by}
 use Rattle.publication.specs.declared.slot.Load.{Load}
+use Rattle.combining.specs.Rounds.{weight_of, IsLight, HaveLed, IsFull}
+use Rattle.combining.specs.declared.bounds.PassBound.{PassBound}
 use Rattle.combining.specs.inner.Passes.{HasPassed}
 
-module _ {O C R : Type 0} where
-  -- Rounds of at most `calls` calls each, in which at most `most` were served.
-  pub record HasServedWithin (n : ℕ) (before after : TicketView C R) (old new : Load O C R) (most calls served : ℕ) (starved left : Bool) : Type 0 where
+-- A round that has opened so many calls, of so much weight, takes no further one.
+abbrev pub IsFilled : PassBound → ℕ → ℕ → Type 0
+IsFilled bound opened weight = (bound.calls ≤ opened) ⊎ (bound.weight ≤ weight)
+
+module _ {C R : Type 0} (weight : List (Entry C R) → ℕ → C → ℕ) where
+  -- The calls that a round has opened behind this history keep within the bound, and weigh so much in all.
+  pub record IsWithin (bound : PassBound) (history : List (Entry C R)) (row : Vec (Item C R)) (opened : ℕ) : Type 0 where
+    pub few : vec_len row ≤ bound.calls
+    pub weight_is : opened ≡ weight_of weight history (asked_by row.items)
+    pub light : IsLight weight bound.weight history (asked_by row.items)
+
+module _ {O C R : Type 0} (weight : List (Entry C R) → ℕ → C → ℕ) where
+  -- So many rounds within the bound.
+  pub record HasServedWithin (n : ℕ) (bound : PassBound) (made : ℕ) (before after : TicketView C R) (old new : Load O C R) (served : ℕ) (starved left : Bool) : Type 0 where
     pub passed : HasPassed before after served
     pub longer : IsPrefix before.front after.front
-    pub few : served ≤ most
-    -- a call was left only by a round that served as many as it may
-    pub full : starved ≡ false → left ≡ true → calls ≤ served
+    pub few : served ≤ made * bound.calls
+    pub led : starved ≡ false → HaveLed weight bound made before.front after.front
+    -- a call was left only by a round that served as much as it may
+    pub full : starved ≡ false → left ≡ true → IsFull weight bound served after.front
     pub put_back : IsTrue starved ↔ (before.put_backs < after.put_backs)
     pub kept : starved ≡ false → after.put_backs ≡ before.put_backs
     -- the session's own call is served, also if others are left

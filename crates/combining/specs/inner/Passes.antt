@@ -1,11 +1,11 @@
 -- A combiner at work, and in the middle of its pass.
-use Rattle.std.specs.Prelude.{◌≡◌, ◌≢◌, ◌⊎◌, ℕ, ◌+◌, ◌<◌, ◌≤◌, ◌↔◌, cond, is_some, Bool, true, false, IsTrue, Option, Some, None, List, [], ◌∷◌, ◌++◌, length, map, slice_set, slice_index_or, vec_len, vec_capacity}
+use Rattle.std.specs.Prelude.{◌≡◌, ◌≢◌, ◌⊎◌, ℕ, ◌+◌, ◌<◌, ◌≤◌, ◌↔◌, cond, is_some, Bool, true, false, IsTrue, Option, Some, None, List, [], ◌∷◌, ◌++◌, length, map, take, drop, slice_set, slice_index_or, vec_len, vec_capacity}
 use Rattle.std.specs.List.{range_with_len}
 use mathlib.Core.List.{IsPrefix}
 use Rattle.sequential.specs.declared.entry.Entry.{Entry}
 use Rattle.sequential.specs.Histories.{calls_of}
 use Rattle.sequential.specs.declared.entry.Item.{Item}
-use Rattle.sequential.specs.Batches.{IsItemWithin, item_of}
+use Rattle.sequential.specs.Batches.{IsItemWithin, item_of, asked_by, asked_in}
 use Rattle.publication.specs.Views.{BoardView, TicketView}
 use Rattle.publication.specs.Boards.{IsOf, IsNumber, OpensNone, opened_at, heard_from, published_by}
 use Rattle.publication.specs.List.{IsOn, behind}
@@ -23,6 +23,11 @@ module _ {C R : Type 0} where
   AreOpened sessions opened (i ∷ is) =
       IsItemWithin sessions i × (slice_index_or opened i.session None ≡ Some i.call)
       × AreOpened sessions (slice_set opened i.session None) is
+
+  -- The row has an item for this call of this session besides, wherever it was inserted.
+  pub record HasInserted (whose : ℕ) (call : C) (old new : List (Item C R)) : Type 0 where
+    pub place : ℕ
+    pub items : new ≡ take place old ++ (record { session = whose; call = call; reply = None }) ∷ drop place old
 
   -- At least `count` calls of session j are in the known history, counting one more if the combiner has opened record j.
   abbrev pub HasCalls : ℕ → ℕ → TicketView C R → Type 0
@@ -123,11 +128,11 @@ module _ {O C R : Type 0} (obj : Ghosts O C R) where
 
 module _ {O C R : Type 0} where
   -- What work leaves in which a pass was made: the combiner knows no less of the history, has put calls back exactly if the pass is
-  -- starved, and if it isn't, has served each call that it had heard of. It took no piece of the history.
-  pub record HasServed (n : ℕ) (before after : TicketView C R) (old new : Load O C R) (starved : Bool) : Type 0 where
+  -- starved, and if it isn't and left no call that it saw, has served each call that it had heard of. It took no piece of the history.
+  pub record HasServed (n : ℕ) (before after : TicketView C R) (old new : Load O C R) (starved left : Bool) : Type 0 where
     pub longer : IsPrefix before.front after.front
     pub put_back : IsTrue starved ↔ (before.put_backs < after.put_backs)
-    pub heard : starved ≡ false → (j : ℕ) → 0 < j → j ≤ n → heard_from before j ≤ length (calls_of j after.front)
+    pub heard : starved ≡ false → left ≡ false → (j : ℕ) → 0 < j → j ≤ n → heard_from before j ≤ length (calls_of j after.front)
     pub taken : new.pieces.items ≡ old.pieces.items
 
 module _ {O C R : Type 0} (obj : Ghosts O C R) (tells_from : O → ℕ → Type 0) where
@@ -139,6 +144,7 @@ module _ {O C R : Type 0} (obj : Ghosts O C R) (tells_from : O → ℕ → Type 
     pub put_backs : after.put_backs + served ≡ before.put_backs + vec_len old.row
     pub in_hand : IsObjectInHand obj n new.object after []
     pub longer : IsPrefix before.front after.front
+    pub asked : asked_in (drop (length before.front) after.front) ≡ asked_by (take served old.row.items)
     pub legal : obj.is_legal after.front
     pub starved_is : IsTrue starved ↔ (served < vec_len old.row)
     pub few : served ≤ vec_len old.row

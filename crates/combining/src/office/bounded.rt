@@ -1,4 +1,4 @@
-//! A pass that serves so many calls at most, in rounds.
+//! A pass that serves within a bound, in rounds.
 
 ghost use Rattle.std.specs.Prelude.{◌≡◌, ◌≢◌, ◌+◌, ◌*◌, ◌<◌, ◌≤◌, ◌↔◌, [], true, false, IsTrue, None, IfSome, IfNone, length};
 ghost use Rattle.sequential.specs.Histories.{calls_of};
@@ -6,9 +6,11 @@ ghost use Rattle.publication.specs.Rule.{IsHome};
 ghost use Rattle.publication.specs.Boards.{IsOf, OpensNone, HasCallsOf, heard_from};
 ghost use Rattle.combining.specs.Sessions.{IsSessionOf, IsPendingServed, HasTriedToList, IsPassed};
 ghost use Rattle.combining.specs.Ended.{AreToldBy, HasAddedTold, HasRoom, entered_since};
+ghost use Rattle.combining.specs.Rounds.{IsBound, AreRounds, IsFull};
 ghost use Rattle.combining.specs.inner.Passes.{HasMadePass};
 
-use crate::bounded_pass::{PassBound, Rounds, serve_rounds};
+use crate::bounded_pass::{Rounds, serve_rounds};
+use crate::bounds::PassBound;
 use crate::office::Office;
 use crate::told::Told;
 use publication::{Load, Ticket as Session};
@@ -26,7 +28,7 @@ pub enum BoundedTurn {
         served: u64,
         /// Whether calls stay published because memory was refused for one in the last round, as `Turn::Pass` tells it.
         starved: bool,
-        /// Whether the last round saw a published call that it left, since it had served as many as it may. What `false`
+        /// Whether the last round saw a published call that it left, since it had taken as much as it may. What `false`
         /// implies is proved (clause `heard` of `serve_bounded`), and that a round which leaves a call is full. That
         /// `true` means a published call is tested, not proved.
         left: bool,
@@ -52,7 +54,7 @@ impl<O: Batching> Office<O> {
         told: &mut T,
     ) -> Option<MadeRounds<O>>
         requires ours { IsSessionOf self.now session.old }
-        requires some { (0 < bound.calls) × (0 < bound.rounds) }
+        requires bound { IsBound bound }
         requires room { HasRoom (T.room told.old) self.now.sessions }
         ensures ours { IsOf self.now session.new }
         ensures made { IfSome result (λ made. HasMadePass O.Sequential (λ _ _. Unit) self.now.sessions session.old session.new made.load.value made.rounds.served) }
@@ -61,7 +63,8 @@ impl<O: Batching> Office<O> {
         ensures back { IfSome result (λ _. OpensNone session.new × (session.new.pending ≢ None → session.new.retired ≡ false)) }
         ensures none { IfNone result (IsSessionOf self.now session.new × HasTriedToList session.old session.new × (1 < self.now.sessions)) }
         ensures few { IfSome result (λ made. made.rounds.served ≤ bound.rounds * bound.calls) }
-        ensures full { IfSome result (λ made. made.rounds.starved ≡ false → made.rounds.left ≡ true → bound.calls ≤ made.rounds.served) }
+        ensures rounds { IfSome result (λ made. made.rounds.starved ≡ false → AreRounds T.weight bound made.rounds.served session.new.front) }
+        ensures full { IfSome result (λ made. made.rounds.starved ≡ false → made.rounds.left ≡ true → IsFull T.weight bound made.rounds.served session.new.front) }
         ensures starved { IfSome result (λ made. IsTrue made.rounds.starved ↔ (session.old.put_backs < session.new.put_backs)) }
         ensures rises { (j : _) → heard_from session.old j ≤ heard_from session.new j }
         ensures calls { IfNone result (HasCallsOf session.new.front session.new) }
@@ -94,7 +97,7 @@ impl<O: Batching> Office<O> {
         let MadeRounds { rounds, load } = made;
         self.board.release(session, load);
         BoundedTurn::Pass {
-            served: rounds.served,
+            served: u64::from(rounds.served),
             starved: rounds.starved,
             left: rounds.left,
         }
@@ -109,13 +112,14 @@ impl<O: Batching> Office<O> {
         told: &mut T,
     ) -> BoundedTurn
         requires ours { IsSessionOf self.now session.old }
-        requires some { (0 < bound.calls) × (0 < bound.rounds) }
+        requires bound { IsBound bound }
         requires room { HasRoom (T.room told.old) self.now.sessions }
         ensures ours { IsSessionOf self.now session.new }
         ensures elsewhere { result ≡ BoundedTurn.Elsewhere → HasTriedToList session.old session.new × (1 < self.now.sessions) }
         ensures pass { (served : _) (starved left : _) → result ≡ BoundedTurn.Pass served starved left → IsPassed O.Sequential session.old session.new served }
         ensures few { (served : _) (starved left : _) → result ≡ BoundedTurn.Pass served starved left → served ≤ bound.rounds * bound.calls }
-        ensures full { (served : _) → result ≡ BoundedTurn.Pass served false true → bound.calls ≤ served }
+        ensures rounds { (served : _) (left : _) → result ≡ BoundedTurn.Pass served false left → AreRounds T.weight bound served session.new.front }
+        ensures full { (served : _) → result ≡ BoundedTurn.Pass served false true → IsFull T.weight bound served session.new.front }
         ensures starved { (served : _) (starved left : _) → result ≡ BoundedTurn.Pass served starved left → IsTrue starved ↔ (session.old.put_backs < session.new.put_backs) }
         ensures rises { (j : _) → heard_from session.old j ≤ heard_from session.new j }
         ensures calls { HasCallsOf session.new.front session.new }
@@ -134,8 +138,9 @@ impl<O: Batching> Office<O> {
     }
 
     /// Tries once to become the combiner, and if it does, makes a bounded pass: rounds in each of which it serves at most `bound.calls`
-    /// calls, until a round finds none or memory is refused for a call, but at most `bound.rounds` rounds. It has the object for all
-    /// rounds. The session need not be pending. If its call isn't listed, it first tries once to have it listed.
+    /// calls, and takes no further one once those that it has taken weigh `bound.weight`, as `T` weighs them behind the history with which
+    /// the round begins. It makes rounds until one finds no call or memory is refused for one, but at most `bound.rounds`. It has the
+    /// object for all rounds. The session need not be pending. If its call isn't listed, it first tries once to have it listed.
     ///
     /// The first round serves the session's own published call in any case, and then others in the order of the publication list, so
     /// that one call of `serve_bounded` serves at most `bound.rounds` times `bound.calls` calls, however many are published, where
@@ -151,13 +156,14 @@ impl<O: Batching> Office<O> {
         told: &mut T,
     ) -> BoundedTurn
         requires ours { IsSessionOf self.now session.old }
-        requires some { (0 < bound.calls) × (0 < bound.rounds) }
+        requires bound { IsBound bound }
         requires room { HasRoom (T.room told.old) self.now.sessions }
         ensures ours { IsSessionOf self.now session.new }
         ensures elsewhere { result ≡ BoundedTurn.Elsewhere → HasTriedToList session.old session.new × (1 < self.now.sessions) }
         ensures pass { (served : _) (starved left : _) → result ≡ BoundedTurn.Pass served starved left → IsPassed O.Sequential session.old session.new served }
         ensures few { (served : _) (starved left : _) → result ≡ BoundedTurn.Pass served starved left → served ≤ bound.rounds * bound.calls }
-        ensures full { (served : _) → result ≡ BoundedTurn.Pass served false true → bound.calls ≤ served }
+        ensures rounds { (served : _) (left : _) → result ≡ BoundedTurn.Pass served false left → AreRounds T.weight bound served session.new.front }
+        ensures full { (served : _) → result ≡ BoundedTurn.Pass served false true → IsFull T.weight bound served session.new.front }
         ensures starved { (served : _) (starved left : _) → result ≡ BoundedTurn.Pass served starved left → IsTrue starved ↔ (session.old.put_backs < session.new.put_backs) }
         ensures rises { (j : _) → heard_from session.old j ≤ heard_from session.new j }
         ensures calls { HasCallsOf session.new.front session.new }

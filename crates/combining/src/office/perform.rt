@@ -1,11 +1,13 @@
 //! A call that its own session performs, without publishing it.
 
-ghost use Rattle.std.specs.Prelude.{◌≡◌, ◌+◌, ◌<◌, ◌≤◌, ◌↔◌, [], ℕ, false, IsTrue, length};
+ghost use Rattle.std.specs.Prelude.{◌≡◌, ◌+◌, ◌*◌, ◌<◌, ◌≤◌, ◌↔◌, [], ℕ, false, IsTrue, None, IfSome, length};
 ghost use Rattle.sequential.specs.Histories.{calls_of};
 ghost use Rattle.publication.specs.Boards.{HasCallsOf, heard_from};
 ghost use Rattle.combining.specs.Sessions.{IsSessionOf, IsIdle, IsPerformed, IsRefused};
 ghost use Rattle.combining.specs.Ended.{AreToldBy, HasAddedTold, HasRoom, entered_since};
+ghost use Rattle.combining.specs.Rounds.{IsBound};
 
+use crate::bounds::PassBound;
 use crate::office::{Answer, Office};
 use crate::own_call::serve_with_own;
 use crate::told::{Nobody, Told};
@@ -56,7 +58,7 @@ impl<O: Batching> Office<O> {
         ensures refused { result ≡ Performed.Starved → IsRefused O.Sequential session.old session.new }
         ensures calls { HasCallsOf session.new.front session.new }
     {
-        self.perform_adding(session, call, &mut Nobody)
+        self.perform_adding(session, call, None, &mut Nobody)
     }
 
     /// Performs as `perform` does, and tells whose wait the pass and the call have ended, as `serve_telling` tells it of a pass, also
@@ -89,16 +91,50 @@ impl<O: Batching> Office<O> {
         ensures notes { T.notes told.old session.old.front → T.notes told.new session.new.front }
     {
         told.clear();
-        self.perform_adding(session, call, told)
+        self.perform_adding(session, call, None, told)
     }
 
-    /// Performs as `perform` does, and adds the sessions whose waits the pass and the call have ended to those that were told.
+    /// Performs and tells as `perform_telling` does, but makes a pass as `serve_bounded` does, within the bound.
+    pub fn perform_bounded<T: Told<O>>(
+        &self,
+        session: &mut Session<O>,
+        call: O::Call,
+        bound: PassBound,
+        told: &mut T,
+    ) -> Performed<O::Reply>
+        requires ours { IsSessionOf self.now session.old }
+        requires idle { IsIdle session.old }
+        requires bound { IsBound bound }
+        requires room { HasRoom (T.room told.old) self.now.sessions }
+        ensures ours { IsSessionOf self.now session.new }
+        ensures idle { IsIdle session.new }
+        ensures answered { (answer : _) (served : _) (starved : _) → result ≡ Performed.Answered answer served starved
+            → IsPerformed O.Sequential (O.goes_first call) session.old session.new call answer.place answer.reply served }
+        ensures put_back { (answer : _) (served : _) (starved : _) → result ≡ Performed.Answered answer served starved
+            → IsTrue starved ↔ (session.old.put_backs < session.new.put_backs) }
+        ensures elsewhere { result ≡ Performed.Elsewhere → (session.new ≡ session.old) × (1 < self.now.sessions) }
+        ensures refused { result ≡ Performed.Starved → IsRefused O.Sequential session.old session.new }
+        ensures few { length (entered_since session.old session.new) ≤ bound.rounds * bound.calls + 1 }
+        ensures calls { HasCallsOf session.new.front session.new }
+        ensures told { AreToldBy T.ends self.now.sessions session.new.front (entered_since session.old session.new) (T.list told.new) }
+        ensures none { result ≡ Performed.Elsewhere → T.list told.new ≡ [] }
+        ensures room { T.room told.new ≡ T.room told.old }
+        ensures notes { T.notes told.old session.old.front → T.notes told.new session.new.front }
+    {
+        told.clear();
+        self.perform_adding(session, call, Some(bound), told)
+    }
+
+    /// Performs as `perform` does, with a pass within the bound that is given, if one is, and adds the sessions whose waits the pass and
+    /// the call have ended to those that were told.
     pub(crate) fn perform_adding<T: Told<O>>(
         &self,
         session: &mut Session<O>,
         call: O::Call,
+        bound: Option<PassBound>,
         told: &mut T,
     ) -> Performed<O::Reply>
+        requires bound { IfSome bound IsBound }
         requires ours { IsSessionOf self.now session.old }
         requires idle { IsIdle session.old }
         requires room { HasRoom (T.room told.old) self.now.sessions }
@@ -108,7 +144,8 @@ impl<O: Batching> Office<O> {
             → IsPerformed O.Sequential (O.goes_first call) session.old session.new call answer.place answer.reply served }
         ensures put_back { (answer : _) (served : _) (starved : _) → result ≡ Performed.Answered answer served starved
             → IsTrue starved ↔ (session.old.put_backs < session.new.put_backs) }
-        ensures heard { (answer : _) (served j : _) → result ≡ Performed.Answered answer served false → 0 < j → j ≤ self.now.sessions
+        ensures few { IfSome bound (λ b. length (entered_since session.old session.new) ≤ b.rounds * b.calls + 1) }
+        ensures heard { (answer : _) (served j : _) → bound ≡ None → result ≡ Performed.Answered answer served false → 0 < j → j ≤ self.now.sessions
             → heard_from session.old j ≤ length (calls_of j session.new.front) }
         ensures elsewhere { result ≡ Performed.Elsewhere → (session.new ≡ session.old) × (1 < self.now.sessions) }
         ensures refused { result ≡ Performed.Starved → IsRefused O.Sequential session.old session.new }
@@ -121,7 +158,7 @@ impl<O: Batching> Office<O> {
         let Some(mut load) = self.board.seize(session) else {
             return Performed::Elsewhere;
         };
-        let (pass, own) = serve_with_own(&self.board, session, &mut load, call, told);
+        let (pass, own) = serve_with_own(&self.board, session, &mut load, call, bound, told);
         self.board.release(session, load);
         match own {
             Some((place, reply)) => Performed::Answered {

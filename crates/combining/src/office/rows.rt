@@ -1,12 +1,14 @@
 //! A row of calls that its own session performs, one after another, in one taking of the object, without publishing them.
 
-ghost use Rattle.std.specs.Prelude.{◌≡◌, ◌<◌, ◌≤◌, ◌↔◌, [], false, IsTrue, length};
+ghost use Rattle.std.specs.Prelude.{◌≡◌, ◌+◌, ◌*◌, ◌<◌, ◌≤◌, ◌↔◌, [], false, IsTrue, None, IfSome, length};
 ghost use Rattle.sequential.specs.Histories.{calls_of};
 ghost use Rattle.publication.specs.Boards.{HasCallsOf, heard_from};
 ghost use Rattle.combining.specs.Sessions.{IsSessionOf, IsIdle};
 ghost use Rattle.combining.specs.Rows.{IsRowPerformed};
 ghost use Rattle.combining.specs.Ended.{AreToldBy, HasAddedTold, HasRoom, entered_since};
+ghost use Rattle.combining.specs.Rounds.{IsBound};
 
+use crate::bounds::PassBound;
 use crate::goes_on::GoesOn;
 use crate::office::{Answer, Office};
 use crate::own_row::serve_with_row;
@@ -79,17 +81,19 @@ impl<O: Batching> Office<O> {
         ensures room { T.room told.new ≡ T.room told.old }
     {
         told.clear();
-        self.perform_row_adding::<G, T>(session, calls, told)
+        self.perform_row_adding::<G, T>(session, calls, None, told)
     }
 
-    /// Performs a row as `perform_row` does, and adds the sessions whose waits the pass and the calls have ended to those that were
-    /// told.
+    /// Performs a row as `perform_row` does, with a pass within the bound that is given, if one is, and adds the sessions whose waits the
+    /// pass and the calls have ended to those that were told.
     pub(crate) fn perform_row_adding<G: GoesOn<O>, T: Told<O>>(
         &self,
         session: &mut Session<O>,
         calls: &[O::Call],
+        bound: Option<PassBound>,
         told: &mut T,
     ) -> PerformedRow<O::Reply>
+        requires bound { IfSome bound IsBound }
         requires ours { IsSessionOf self.now session.old }
         requires idle { IsIdle session.old }
         requires room { HasRoom (T.room told.old) self.now.sessions }
@@ -99,10 +103,11 @@ impl<O: Batching> Office<O> {
             → IsRowPerformed O.Sequential G.goes_on session.old session.new calls.now row served }
         ensures put_back { (row : _) (served : _) (starved : _) → result ≡ PerformedRow.Performed row served starved
             → IsTrue starved ↔ (session.old.put_backs < session.new.put_backs) }
-        ensures heard { (row : _) (served j : _) → result ≡ PerformedRow.Performed row served false → 0 < j → j ≤ self.now.sessions
+        ensures heard { (row : _) (served j : _) → bound ≡ None → result ≡ PerformedRow.Performed row served false → 0 < j → j ≤ self.now.sessions
             → heard_from session.old j ≤ length (calls_of j session.new.front) }
         ensures elsewhere { result ≡ PerformedRow.Elsewhere → (session.new ≡ session.old) × (1 < self.now.sessions) }
         ensures calls { HasCallsOf session.new.front session.new }
+        ensures few { IfSome bound (λ b. length (entered_since session.old session.new) ≤ b.rounds * b.calls + length calls.now) }
         ensures told { HasAddedTold T.ends self.now.sessions session.new.front (entered_since session.old session.new) (T.list told.old) (T.list told.new) }
         ensures none { result ≡ PerformedRow.Elsewhere → told.new ≡ told.old }
         ensures room { T.room told.new ≡ T.room told.old }
@@ -110,7 +115,14 @@ impl<O: Batching> Office<O> {
         let Some(mut load) = self.board.seize(session) else {
             return PerformedRow::Elsewhere;
         };
-        let (pass, row) = serve_with_row::<O, G, T>(&self.board, session, &mut load, calls, told);
+        let (pass, row) = serve_with_row::<O, G, T>(
+            &self.board,
+            session,
+            &mut load,
+            calls,
+            bound,
+            told,
+        );
         self.board.release(session, load);
         PerformedRow::Performed {
             row,

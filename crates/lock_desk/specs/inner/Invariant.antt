@@ -23,7 +23,7 @@ book_view_of a = record {
   cut = a.history.cut;
   bound = a.history.bound;
   ended = ended_in a.lock_table.value.ended;
-  deadlocks = a.deadlocks.most;
+  deadlocks = a.notes.log.most;
 }
 
 -- the history is legal, the lock table represents the state that the history leads to, there is a locker and a mark for each
@@ -39,7 +39,7 @@ pub record IsKept (a : Inside) : Type 0 where
   pub lockers : vec_len a.lock_table.value.lockers ≡ a.sessions
   pub counted : a.lock_table.value.count ≤ length a.history.items
   pub marked : a.marks.sessions ≡ a.sessions
-  pub log : IsLogFor (vec_len a.lock_table.value.lockers) a.deadlocks
-  pub told : AreDeadlocksTold (newest a.deadlocks.most (deadlocks_in a.history.items)) a.deadlocks.told
-  pub calls : AreCallsCounted a.history.items a.counts
-  pub waits : AreWaitsCounted a.history.items a.deadlocks.counts
+  pub log : IsLogFor (vec_len a.lock_table.value.lockers) a.notes.log
+  pub told : AreDeadlocksTold (newest a.notes.log.most (deadlocks_in a.history.items)) a.notes.log.told
+  pub calls : AreCallsCounted a.history.items a.notes.counts
+  pub waits : AreWaitsCounted a.history.items a.notes.log.counts

@@ -97,8 +97,7 @@ impl Book {
         let Ok(reply) = serve_recorded(
             &mut *self.lock_table,
             &mut self.history,
-            &mut self.deadlocks,
-            &mut self.counts,
+            &mut self.notes,
             asked.session,
             asked.call,
         ) else {
@@ -163,7 +162,7 @@ impl Book {
         if grant_run(
             &mut *self.lock_table,
             &mut self.history,
-            &mut self.counts,
+            &mut self.notes.counts,
             items,
             from,
             &run,

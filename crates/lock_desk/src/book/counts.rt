@@ -96,8 +96,8 @@ impl Book {
     {
         // the length of the history fits into 64 bits
         let served = self.history.count();
-        let ended = self.deadlocks.counts();
+        let ended = self.notes.log.counts();
         let waiting = self.lock_table.waiting();
-        counts_told(&self.counts, ended, waiting, served)
+        counts_told(&self.notes.counts, ended, waiting, served)
     }
 }

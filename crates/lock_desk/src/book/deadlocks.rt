@@ -18,7 +18,7 @@ impl Book {
         ensures ok { OnOk result (self.new ≡ record self.old { deadlocks = most }) }
         ensures err { OnErr result (self.new ≡ self.old) }
     {
-        self.deadlocks = DeadlockLog::keeping(alloc, self.sessions, most)?;
+        self.notes.log = DeadlockLog::keeping(alloc, self.sessions, most)?;
         Ok(())
     }
 
@@ -26,7 +26,7 @@ impl Book {
     pub fn deadlocks_kept(&self) -> usize
         ensures { result ≡ self.now.deadlocks }
     {
-        self.deadlocks.most()
+        self.notes.log.most()
     }
 
     /// The newest deadlocks, oldest first, as many as are kept: of each the call that made it, and the cycle as it was before the
@@ -38,7 +38,7 @@ impl Book {
     pub fn deadlocks(&self) -> &[Deadlock]
         ensures { AreDeadlocksTold (newest self.now.deadlocks (deadlocks_in self.now.history)) result.now }
     {
-        self.deadlocks.told()
+        self.notes.log.told()
     }
 
     /// Replaces the contents of `list` by copies of the deadlocks that `deadlocks` tells. Fails with `NoMemory` if memory is refused; the

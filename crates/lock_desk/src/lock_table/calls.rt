@@ -14,9 +14,10 @@ ghost use Rattle.lock_desk.specs.inner.Counting.{with_own_wait, AreCallsCounted}
 ghost use Rattle.lock_desk.specs.inner.Noting.{HasNoted, IsLogFor};
 ghost use Rattle.lock_desk.specs.inner.Shows.{Shows, DoesAnswer};
 
-use crate::call_counts::CallCounts;
 use crate::deadlock_log::DeadlockLog;
 use crate::lock_table::LockTable;
+use crate::lock_table::requests::LookedUp;
+use crate::notes::Notes;
 use lock_modes::Mode;
 use lock_rules::{Call, Op, Reply, Why};
 use lock_tree::Resource;
@@ -102,7 +103,12 @@ impl LockTable {
         if let Some(why) = self.lock_refusal(session, held, resource, mode) {
             return Ok(Reply::Refused(why));
         }
-        self.ask(session, place, resource, held, mode, served, log)
+        let found = LookedUp {
+            resource,
+            place,
+            held,
+        };
+        self.ask(session, found, mode, served, log)
     }
 
     /// Requests the conversion of a lock on `resource`, to the least mode at or above `mode` and what the session
@@ -140,7 +146,12 @@ impl LockTable {
         if let Some(why) = self.convert_refusal(session, held, resource, mode) {
             return Ok(Reply::Refused(why));
         }
-        self.ask(session, place, resource, held, mode, served, log)
+        let found = LookedUp {
+            resource,
+            place,
+            held,
+        };
+        self.ask(session, found, mode, served, log)
     }
 
     /// Requests a lock as `serve_lock` does, but is refused if the request would wait. If memory is refused, nothing that
@@ -175,7 +186,12 @@ impl LockTable {
         if let Some(why) = self.try_refusal(session, place, held, resource, mode) {
             return Ok(Reply::Refused(why));
         }
-        self.ask(session, place, resource, held, mode, served, log)
+        let found = LookedUp {
+            resource,
+            place,
+            held,
+        };
+        self.ask(session, found, mode, served, log)
     }
 
     /// Takes the session's waiting request back.
@@ -275,18 +291,17 @@ impl LockTable {
         Reply::Restarted(self.restart(session) as u32)
     }
 
-    /// Serves one call of `session`, and notes the deadlocks that it makes in `log`, and counts the wait that it gives up there;
-    /// `served` is the place of the call in the history. Counts the call with its reply. If memory is refused, nothing that contracts see changes.
+    /// Serves one call of `session`, and notes the deadlocks that it makes, the wait that it gives up, and the call with its
+    /// reply; `served` is the place of the call in the history. If memory is refused, nothing that contracts see changes.
     pub(crate) fn serve(
         &mut self,
         session: u16,
         call: Call,
         served: u64,
-        log: &mut DeadlockLog,
-        counts: &mut CallCounts,
+        notes: &mut Notes,
     ) -> Result<Reply, AllocError>
         requires may_serve { MayServe session self.old }
-        requires log { IsLogFor (vec_len self.old.lockers) log.old }
+        requires log { IsLogFor (vec_len self.old.lockers) notes.old.log }
         requires room { self.old.count < 18446744073709551615 }
         ensures step { (st : State) → IsSound st.table → IsNumbered st → Shows self.old st
             → IfOk result (DoesAnswer (step st session call) self.new) }
@@ -295,66 +310,66 @@ impl LockTable {
         ensures waits_ended { HasNotedEnded session self.old self.new }
         ensures count { self.new.count ≤ self.old.count + 1 }
         ensures kept { DoesKeep self.old self.new }
-        ensures log { IsLogFor (vec_len self.old.lockers) log.new }
+        ensures log { IsLogFor (vec_len self.old.lockers) notes.new.log }
         ensures noted { (st : State) → IsSound st.table → IsNumbered st → Shows self.old st
             → IfOk result (λ _. HasNoted (moments_at served session (deadlocks_of st session call))
-            (record log.old { counts = with_own_wait (is_waiting st session) call log.old.counts }) log.new) }
-        ensures unnoted { OnErr result (log.new ≡ log.old) }
-        ensures counted { (history : List EntryValue) → AreCallsCounted history counts.old → length history < 2 ^ 64 - 1
-            → IfOk result (λ reply. AreCallsCounted (history ++ record { session = session; call = call; reply = reply } ∷ []) counts.new) }
-        ensures uncounted { OnErr result (counts.new ≡ counts.old) }
+            (record notes.old.log { counts = with_own_wait (is_waiting st session) call notes.old.log.counts }) notes.new.log) }
+        ensures unnoted { OnErr result (notes.new.log ≡ notes.old.log) }
+        ensures counted { (history : List EntryValue) → AreCallsCounted history notes.old.counts → length history < 2 ^ 64 - 1
+            → IfOk result (λ reply. AreCallsCounted (history ++ record { session = session; call = call; reply = reply } ∷ []) notes.new.counts) }
+        ensures uncounted { OnErr result (notes.new.counts ≡ notes.old.counts) }
     {
         match call {
             Call::Begin => {
                 let reply = self.serve_begin(session);
-                counts.note(Op::Begin, &reply);
+                notes.counts.note(Op::Begin, &reply);
                 Ok(reply)
             }
             Call::Lock(resource, mode) => {
-                let reply = self.serve_lock(session, resource, mode, served, log)?;
-                counts.note(Op::Lock, &reply);
+                let reply = self.serve_lock(session, resource, mode, served, &mut notes.log)?;
+                notes.counts.note(Op::Lock, &reply);
                 Ok(reply)
             }
             Call::Convert(resource, mode) => {
-                let reply = self.serve_convert(session, resource, mode, served, log)?;
-                counts.note(Op::Convert, &reply);
+                let reply = self.serve_convert(session, resource, mode, served, &mut notes.log)?;
+                notes.counts.note(Op::Convert, &reply);
                 Ok(reply)
             }
             Call::Poll => {
                 let reply = self.serve_poll(session);
-                counts.note(Op::Poll, &reply);
+                notes.counts.note(Op::Poll, &reply);
                 Ok(reply)
             }
             Call::Release(resource) => {
                 let reply = self.serve_release(session, resource);
-                counts.note(Op::Release, &reply);
+                notes.counts.note(Op::Release, &reply);
                 Ok(reply)
             }
             Call::Commit => {
                 let reply = self.serve_commit(session);
-                counts.note(Op::Commit, &reply);
+                notes.counts.note(Op::Commit, &reply);
                 Ok(reply)
             }
             Call::Abort => {
-                log.count_abort(self.is_waiting(session));
+                notes.log.count_abort(self.is_waiting(session));
                 let reply = self.serve_abort(session);
-                counts.note(Op::Abort, &reply);
+                notes.counts.note(Op::Abort, &reply);
                 Ok(reply)
             }
             Call::Try(resource, mode) => {
-                let reply = self.serve_try(session, resource, mode, served, log)?;
-                counts.note(Op::Try, &reply);
+                let reply = self.serve_try(session, resource, mode, served, &mut notes.log)?;
+                notes.counts.note(Op::Try, &reply);
                 Ok(reply)
             }
             Call::Withdraw => {
                 let reply = self.serve_withdraw(session);
-                counts.note(Op::Withdraw, &reply);
+                notes.counts.note(Op::Withdraw, &reply);
                 Ok(reply)
             }
             Call::Restart => {
-                log.count_restart(self.is_waiting(session));
+                notes.log.count_restart(self.is_waiting(session));
                 let reply = self.serve_restart(session);
-                counts.note(Op::Restart, &reply);
+                notes.counts.note(Op::Restart, &reply);
                 Ok(reply)
             }
         }

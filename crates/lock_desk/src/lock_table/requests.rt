@@ -22,6 +22,17 @@ use lock_tree::Resource;
 use session_sets::position_of;
 use std::alloc::AllocError;
 
+/// A resource that was looked up for a session.
+#[derive(Clone, Copy)]
+pub(super) struct LookedUp {
+    /// The resource.
+    pub(super) resource: Resource,
+    /// The place of its cell, if it has one.
+    pub(super) place: Option<usize>,
+    /// The mode that the session holds on it, if it holds one.
+    pub(super) held: Option<Mode>,
+}
+
 impl LockTable {
     /// Requests a lock on a resource that the session does not hold. If memory is refused, nothing that contracts
     /// see changes.
@@ -123,7 +134,7 @@ impl LockTable {
         }
     }
 
-    /// Requests `resource` in the least mode at or above `mode` and `held`, and returns the reply.
+    /// Requests the resource that is found in the least mode at or above `mode` and the one held, and returns the reply.
     ///
     /// If the request waits, resolves the deadlocks that it closes, and notes them in `log`; `served` is the place of the call in the
     /// history. So the reply can be `Deadlock`, or `Granted` if the end of a victim's request has freed the resource.
@@ -131,33 +142,31 @@ impl LockTable {
     pub(super) fn ask(
         &mut self,
         session: u16,
-        place: Option<usize>,
-        resource: Resource,
-        held: Option<Mode>,
+        found: LookedUp,
         mode: Mode,
         served: u64,
         log: &mut DeadlockLog,
     ) -> Result<Reply, AllocError>
         requires may_serve { MayServe session self.old }
-        requires place { IsPlace resource self.old.cells.entries place }
-        requires held { held ≡ mode_held self.old session resource }
-        requires may { MayAsk session resource mode self.old }
+        requires place { IsPlace found.resource self.old.cells.entries found.place }
+        requires held { found.held ≡ mode_held self.old session found.resource }
+        requires may { MayAsk session found.resource mode self.old }
         requires log { IsLogFor (vec_len self.old.lockers) log.old }
         ensures ask { (st : State) → IsSound st.table → IsNumbered st → Shows self.old st
-            → let held = held_mode st.table session resource in
-            IfOk result (DoesAnswer (ask st session resource (target_of held mode)) self.new) }
+            → let held = held_mode st.table session found.resource in
+            IfOk result (DoesAnswer (ask st session found.resource (target_of held mode)) self.new) }
         ensures err { OnErr result (IsSameSeen self.old self.new) }
         ensures waits_ended { HasNotedEnded session self.old self.new }
         ensures count { self.new.count ≡ self.old.count }
         ensures kept { DoesKeep self.old self.new }
         ensures log { IsLogFor (vec_len self.old.lockers) log.new }
         ensures noted { (st : State) → IsSound st.table → IsNumbered st → Shows self.old st
-            → let held = held_mode st.table session resource in
-            IfOk result (λ _. HasNoted (moments_at served session (deadlocks_of_request st session resource (target_of held mode))) log.old log.new) }
+            → let held = held_mode st.table session found.resource in
+            IfOk result (λ _. HasNoted (moments_at served session (deadlocks_of_request st session found.resource (target_of held mode))) log.old log.new) }
         ensures unnoted { OnErr result (log.new ≡ log.old) }
     {
-        let target = target_of(held, mode);
-        match self.request(session, place, resource, held, target)? {
+        let target = target_of(found.held, mode);
+        match self.request(session, found.place, found.resource, found.held, target)? {
             RequestStatus::Granted => Ok(Reply::Granted(target)),
             RequestStatus::Waiting => {
                 self.resolve_for(session, served, log);

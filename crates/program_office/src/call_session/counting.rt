@@ -1,34 +1,67 @@
-//! How many calls of the history a session knows.
+//! What the passes of a session that makes single calls go by: whom they tell, how much they serve, and how many calls of the history the
+//! session knows.
 
 ghost use Rattle.std.specs.Prelude.{◌≡◌, ◌+◌, ◌-◌, ◌^◌, max, min, length};
+ghost use Rattle.combining.specs.declared.bounds.TheConstants.{UNBOUNDED};
 ghost use Rattle.lock_programs.specs.Answers.{replies_of};
+ghost use Rattle.lock_programs.specs.Calls.{calls_of};
+ghost use Rattle.program_office.specs.Weights.{begins_with_an_end};
 
-use combining::{Called, Next, Told};
-use lock_desk::Book;
+use combining::{Called, Next, PassBound, Told, UNBOUNDED};
+use lock_desk::{Book, Call};
 use lock_programs::{Answer as ProgramAnswer, Program};
 use programs::Programs;
 
-/// Who is told whose waits a session's passes have ended, with what a pass notes for a session that makes single calls.
+/// What a session's passes go by: who is told whose waits they have ended, and how much a pass in a whole call serves at most. It has
+/// besides what a pass notes for a session that makes single calls.
 #[derive(Drop)]
 pub struct Counted<T> {
     /// Who is told.
     pub told: T,
+    /// How much a pass in a whole call serves at most. The bound counts programs, each of which is one call or several, and weighs the
+    /// locks that they give back. A 0 counts as 1.
+    pub bound: PassBound,
     /// How many calls the history had when it was told last.
     pub(crate) seen: u64,
 }
 
 impl<T> Counted<T> {
-    /// Tells this one.
+    /// Tells this one. Passes serve all that is published.
     pub fn new(told: T) -> Counted<T>
-        ensures { result.told ≡ told }
+        ensures told { result.told ≡ told }
+        ensures bound { result.bound ≡ UNBOUNDED }
     {
-        Counted { told, seen: 0 }
+        Counted::within(told, UNBOUNDED)
     }
+
+    /// Tells this one. A pass in a whole call serves within the bound.
+    #[inline(always)]
+    pub fn within(told: T, bound: PassBound) -> Counted<T>
+        ensures told { result.told ≡ told }
+        ensures bound { result.bound ≡ bound }
+    {
+        Counted {
+            told,
+            bound,
+            seen: 0,
+        }
+    }
+}
+
+/// Whether the first call of the program gives back all locks of its session.
+fn begins_with_an_end(program: &Program) -> bool
+    ensures { result ≡ begins_with_an_end (calls_of program.now) }
+{
+    if program.length() == 0 {
+        return false;
+    }
+    matches!(program.call(0), Call::Commit | Call::Abort | Call::Restart)
 }
 
 impl<T: Told<Programs<Book>>> Told<Programs<Book>> for Counted<T> {
     ghost use Rattle.std.specs.Prelude.{◌≡◌};
     ghost use Rattle.program_office.specs.Seen.{number_of_calls};
+    ghost use Rattle.program_office.specs.Weights.{locks_given_back};
 
     ghost list = { λ c. T.list c.told };
 
@@ -37,6 +70,23 @@ impl<T: Told<Programs<Book>>> Told<Programs<Book>> for Counted<T> {
     ghost ends = { T.ends };
 
     ghost notes = { λ c history. c.seen ≡ number_of_calls history };
+
+    ghost most = { λ c. c.bound };
+
+    ghost weight = { locks_given_back };
+
+    #[inline(always)]
+    fn bound(&self) -> PassBound {
+        self.bound
+    }
+
+    #[inline(always)]
+    fn weigh(object: &Programs<Book>, session: u16, program: &Program) -> u32 {
+        if !begins_with_an_end(program) {
+            return 0;
+        }
+        object.object().locks_held(session) as u32
+    }
 
     #[inline(always)]
     fn clear(&mut self) {

@@ -4,6 +4,7 @@ ghost use Rattle.std.specs.Prelude.{◌≡◌, ◌≢◌, ◌+◌, ◌<◌, ◌�
 ghost use Rattle.combining.specs.declared.backoff.TheConstants.{TRIES_AT_ONCE};
 ghost use Rattle.combining.specs.Calls.{IsWaitingOn, HasGoneOn};
 ghost use Rattle.combining.specs.Ended.{AreToldBy, HasRoom, entered_since};
+ghost use Rattle.combining.specs.Rounds.{most_of};
 ghost use Rattle.combining.specs.Waits.{IsWaitAfterTry, IsWaitAfterLook};
 ghost use Rattle.lock_desk.specs.Paths.{lock_of_level, grants};
 ghost use Rattle.program_office.specs.Sessions.{IsSessionOf, IsIdle};
@@ -49,7 +50,6 @@ impl CallSession {
         resource: &Resource,
         mode: Mode,
         locked: u8,
-        tried: u64,
         told: &mut Counted<T>,
     ) -> NextOfPath
         requires ours { IsSessionOf office.now self.old }
@@ -64,21 +64,22 @@ impl CallSession {
         ensures starved { result ≡ NextOfPath.Starved → IsCalling self.old self.new (lock_of_level resource.now mode (locked + 1)) }
         ensures refused { result ≡ NextOfPath.Starved → HasStarvedCalling self.old self.new (lock_of_level resource.now mode (locked + 1)) }
         ensures waits { (w : _) → result ≡ NextOfPath.Wait w → (self.new ≡ self.old) × (1 < office.now.sessions) }
-        ensures wait { (w : _) → result ≡ NextOfPath.Wait w → IsWaitAfterTry tried w }
+        ensures wait { (w : _) → result ≡ NextOfPath.Wait w → IsWaitAfterTry w }
         ensures live { self.new.retired ≡ false }
         ensures on { HasGoneOn self.old self.new }
+        ensures few { length (entered_since self.old self.new) ≤ most_of told.old.bound + 1 }
         ensures told { AreToldBy T.ends office.now.sessions self.new.front (entered_since self.old self.new) (T.list told.new.told) }
         ensures room { T.room told.new.told ≡ T.room told.old.told }
     {
         // a resource has at most LEVELS numbers
         let _numbers = resource.numbers();
         let program = path_program(resource, mode, locked);
-        match self.perform_program(office, program, told) {
+        match self.perform_program_bounded(office, program, told) {
             Performed::Answered { answer: found, .. } => NextOfPath::Performed {
                 level: locked + levels_granted(&program, &found.reply) as u8,
                 answer: last_of(&program, &found.reply),
             },
-            Performed::Elsewhere => NextOfPath::Wait(after_try(tried)),
+            Performed::Elsewhere => NextOfPath::Wait(after_try()),
             Performed::Starved => {
                 self.publish(office, lock_of_level(resource, mode, locked + 1));
                 NextOfPath::Starved
@@ -122,11 +123,12 @@ impl CallSession {
         ensures published { (w : _) → result ≡ NextOfPath.Wait w → self.old.pending ≡ None → TRIES_AT_ONCE ≤ made
             → IsCalling self.old self.new (lock_of_level resource.now mode (locked + 1)) × (1 < office.now.sessions) }
         ensures waits { (w : _) → result ≡ NextOfPath.Wait w → self.old.pending ≢ None → IsWaitingOn self.old self.new }
-        ensures wait_tried { (w : _) → result ≡ NextOfPath.Wait w → self.old.pending ≡ None → made < TRIES_AT_ONCE → IsWaitAfterTry made w }
+        ensures wait_tried { (w : _) → result ≡ NextOfPath.Wait w → self.old.pending ≡ None → made < TRIES_AT_ONCE → IsWaitAfterTry w }
         ensures wait_published { (w : _) → result ≡ NextOfPath.Wait w → self.old.pending ≡ None → TRIES_AT_ONCE ≤ made → IsWaitAfterLook 0 w }
         ensures wait_looked { (w : _) → result ≡ NextOfPath.Wait w → self.old.pending ≢ None → IsWaitAfterLook made w }
         ensures live { self.new.retired ≡ false }
         ensures on { HasGoneOn self.old self.new }
+        ensures few { length (entered_since self.old self.new) ≤ most_of told.old.bound + 1 }
         ensures told { AreToldBy T.ends office.now.sessions self.new.front (entered_since self.old self.new) (T.list told.new.told) }
         ensures room { T.room told.new.told ≡ T.room told.old.told }
     {
@@ -144,6 +146,6 @@ impl CallSession {
                 Next::Wait(wait) => NextOfPath::Wait(wait),
             };
         }
-        self.try_path(office, resource, mode, locked, made, told)
+        self.try_path(office, resource, mode, locked, told)
     }
 }

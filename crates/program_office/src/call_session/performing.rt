@@ -1,9 +1,10 @@
 //! A call or program that its own session performs, without publishing it.
 
-ghost use Rattle.std.specs.Prelude.{◌≡◌, ◌<◌, ◌≤◌, ◌↔◌, [], false, IsTrue, length};
+ghost use Rattle.std.specs.Prelude.{◌≡◌, ◌+◌, ◌<◌, ◌≤◌, ◌↔◌, [], false, IsTrue, length};
 ghost use Rattle.sequential.specs.Histories.{calls_of as calls_of_session};
 ghost use Rattle.publication.specs.Boards.{HasCallsOf, heard_from};
 ghost use Rattle.combining.specs.Ended.{AreToldBy, HasRoom, entered_since};
+ghost use Rattle.combining.specs.Rounds.{most_of};
 ghost use Rattle.program_office.specs.Sessions.{IsSessionOf, IsIdle, IsRefused, IsPerformed as IsProgramPerformed};
 ghost use Rattle.program_office.specs.SingleCalls.{IsPerformed};
 
@@ -105,6 +106,34 @@ impl CallSession {
     {
         told.seen = self.seen;
         let performed = office.perform_telling(&mut self.session, program, told);
+        self.seen = told.seen;
+        performed
+    }
+
+    /// Performs a program of any calls at once and tells, as `Office::perform_bounded` does within the bound of `told`.
+    #[inline(always)]
+    pub(crate) fn perform_program_bounded<T: Told<Programs<Book>>>(
+        &mut self,
+        office: &Office,
+        program: Program,
+        told: &mut Counted<T>,
+    ) -> Performed<ProgramAnswer>
+        requires ours { IsSessionOf office.now self.old }
+        requires idle { IsIdle self.old }
+        requires room { HasRoom (T.room told.old.told) office.now.sessions }
+        ensures ours { IsSessionOf office.now self.new }
+        ensures idle { IsIdle self.new }
+        ensures answered { (answer : _) (served : _) (starved : _) → result ≡ Performed.Answered answer served starved
+            → IsProgramPerformed self.old self.new program answer.place answer.reply served }
+        ensures elsewhere { result ≡ Performed.Elsewhere → (self.new ≡ self.old) × (1 < office.now.sessions) }
+        ensures refused { result ≡ Performed.Starved → IsRefused self.old self.new }
+        ensures few { length (entered_since self.old self.new) ≤ most_of told.old.bound + 1 }
+        ensures told { AreToldBy T.ends office.now.sessions self.new.front (entered_since self.old self.new) (T.list told.new.told) }
+        ensures room { T.room told.new.told ≡ T.room told.old.told }
+    {
+        told.seen = self.seen;
+        let bound = told.bound.at_least_one();
+        let performed = office.perform_bounded(&mut self.session, program, bound, told);
         self.seen = told.seen;
         performed
     }

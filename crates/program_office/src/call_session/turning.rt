@@ -1,9 +1,10 @@
 //! One turn of a session's call.
 
-ghost use Rattle.std.specs.Prelude.{◌≡◌, ◌≢◌, ◌+◌, ◌%◌, ◌<◌, ◌≤◌, false, None};
+ghost use Rattle.std.specs.Prelude.{◌≡◌, ◌≢◌, ◌+◌, ◌%◌, ◌<◌, ◌≤◌, false, None, length};
 ghost use Rattle.combining.specs.declared.backoff.TheConstants.{TRIES_AT_ONCE, LOOKS_PER_TRY};
 ghost use Rattle.combining.specs.Calls.{IsWaitingOn, HasGoneOn};
 ghost use Rattle.combining.specs.Ended.{HasAddedTold, HasRoom, entered_since};
+ghost use Rattle.combining.specs.Rounds.{most_of};
 ghost use Rattle.combining.specs.Waits.{IsWaitAfterTry, IsWaitAfterLook};
 ghost use Rattle.program_office.specs.Sessions.{IsSessionOf, IsIdle};
 ghost use Rattle.program_office.specs.SingleCalls.{IsCalled, IsAnswered, IsCalling, HasStarvedCalling};
@@ -39,15 +40,14 @@ impl CallSession {
         ensures tried { (w : _) → result ≡ Next.Wait w → self.old.pending ≡ None → made < TRIES_AT_ONCE → (self.new ≡ self.old) × (1 < office.now.sessions) }
         ensures published { (w : _) → result ≡ Next.Wait w → self.old.pending ≡ None → TRIES_AT_ONCE ≤ made → IsCalling self.old self.new call.now × (1 < office.now.sessions) }
         ensures waits { (w : _) → result ≡ Next.Wait w → self.old.pending ≢ None → IsWaitingOn self.old self.new }
-        ensures wait_tried { (w : _) → result ≡ Next.Wait w → self.old.pending ≡ None → made < TRIES_AT_ONCE → IsWaitAfterTry made w }
+        ensures wait_tried { (w : _) → result ≡ Next.Wait w → self.old.pending ≡ None → made < TRIES_AT_ONCE → IsWaitAfterTry w }
         ensures wait_published { (w : _) → result ≡ Next.Wait w → self.old.pending ≡ None → TRIES_AT_ONCE ≤ made → IsWaitAfterLook 0 w }
         ensures wait_looked { (w : _) → result ≡ Next.Wait w → self.old.pending ≢ None → IsWaitAfterLook made w }
-        ensures tries_at_once { self.old.pending ≡ None → made < TRIES_AT_ONCE → self.new.tries ≤ self.old.tries + 1 }
-        ensures tries_published { self.old.pending ≡ None → self.new.tries ≤ self.old.tries + 2 }
-        ensures tries { self.old.pending ≢ None → self.new.tries ≤ self.old.tries + 1 }
+        ensures tries { self.new.tries ≤ self.old.tries + 1 }
         ensures untried { self.old.pending ≢ None → made % LOOKS_PER_TRY ≢ 0 → self.new.tries ≡ self.old.tries }
         ensures live { self.new.retired ≡ false }
         ensures on { HasGoneOn self.old self.new }
+        ensures few { length (entered_since self.old self.new) ≤ most_of told.old.bound + 1 }
         ensures told { HasAddedTold T.ends office.now.sessions self.new.front (entered_since self.old self.new) (T.list told.old.told) (T.list told.new.told) }
         ensures room { T.room told.new.told ≡ T.room told.old.told }
     {
@@ -83,6 +83,7 @@ impl CallSession {
         ensures untried { looked % LOOKS_PER_TRY ≢ 0 → self.new.tries ≡ self.old.tries }
         ensures wait { (w : _) → result ≡ Next.Wait w → IsWaitAfterLook looked w }
         ensures on { HasGoneOn self.old self.new }
+        ensures few { length (entered_since self.old self.new) ≤ most_of told.old.bound }
         ensures told { HasAddedTold T.ends office.now.sessions self.new.front (entered_since self.old self.new) (T.list told.old.told) (T.list told.new.told) }
         ensures room { T.room told.new.told ≡ T.room told.old.told }
     {

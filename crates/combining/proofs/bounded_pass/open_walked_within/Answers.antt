@@ -3,6 +3,8 @@ use Rattle.publication.specs.Views.{TicketView}
 use Rattle.publication.specs.List.{IsOn, first_of, behind}
 use Rattle.publication.specs.Kinds.{IsRoute}
 use Rattle.combining.specs.inner.Passes.{AreOpened, KeepsCalls, HasVisitedOpened, IsSameSession, IsNext, HasMet}
+use Rattle.combining.specs.inner.BoundedPasses.{IsWithin}
+use Rattle.publication.specs.declared.slot.Load.{Load}
 use Rattle.combining.proofs.CallsToServe.{visited-later, keeps-trans}
 use Rattle.combining.proofs.SameSession.{same_session-trans}
 use Rattle.combining.proofs.Walks.{met-next, next-on, ahead-smaller}
@@ -51,11 +53,12 @@ loop-next-preserved g c =
       );
       route = subst (λ (r : List ℕ). IsRoute (n + 1) r) (sym (ap (λ (x : TicketView _ _). x.route) same ∙ kept)) i.route;
       next = subst (λ (m : Option ℕ). IsNext m v.route) (sym next) (subst (λ (r : List ℕ). IsNext (first_of (behind q t.route)) r) (sym (ap (λ (x : TicketView _ _). x.route) same ∙ kept)) (next-on q t.route));
-      row = subst (λ (x : TicketView _ _). AreOpened n x.opened c.open_if_room.new.row.items) (sym same) e.row;
+      row = subst (λ (x : TicketView _ _). AreOpened n x.opened c.open_if_room.new.load.row.items) (sym same) e.row;
       room = e.room;
       calls = subst (λ (x : TicketView _ _). KeepsCalls before x) (sym same) (keeps-trans before t u i.calls e.calls);
       visited = subst (λ (x : TicketView _ _). HasVisitedOpened x) (sym same) e.visited;
-      few = e.few;
+      within = subst (λ (o : _). IsWithin g.T.Told.weight c.args.bound (g.O.Sequential.history o) c.open_if_room.new.load.row c.open_if_room.new.opening.weight) (ap (λ (x : Load _ _ _). x.object) i.load) e.within;
+      load = e.load ∙ ap (λ (x : Load _ _ _). record x { row = c.open_if_room.new.load.row }) i.load;
       met = subst (λ (m : Option ℕ). HasMet m v) (sym next) (subst (λ (x : TicketView _ _). HasMet (first_of (behind q t.route)) x) (sym same) met);
       kept = ap (λ (x : TicketView _ _). x.route) same ∙ (kept ∙ i.kept);
     }

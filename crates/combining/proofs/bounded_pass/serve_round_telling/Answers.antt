@@ -1,6 +1,7 @@
 use Rattle.std.proofs.Common.{◌∙◌, ℕ, List, length, ap, arith, subst}
 use Rattle.combining.specs.Ended.{HasRoom}
 use Rattle.combining.proofs.EndedWaits.{told-step}
+use Rattle.combining.proofs.RoundWeights.{led-once}
 use Rattle.combining.proofs.Places.{entered-step}
 use Rattle.combining.proofs.bounded_pass.serve_round_telling.Goals as goal
 
@@ -19,7 +20,8 @@ returns-clause-round g c =
     record {
       passed = e.pass;
       longer = e.longer;
-      few = e.few;
+      few = omega (arith, e.few);
+      led = λ unstarved. led-once g.T.Told.weight c.args.bound c.args.session.now.front c.serve_round-round.new.session.front (e.round unstarved);
       full = e.full;
       put_back = e.put_back;
       kept = e.kept;

@@ -1,8 +1,10 @@
-use Rattle.std.proofs.Common.{rules, ◌≡◌, ◌∙◌, ◌+◌, ◌*◌, ◌-◌, false, ℕ, length, refl}
+use Rattle.std.proofs.Common.{rules, ◌≡◌, ◌∙◌, ◌+◌, ◌*◌, ◌-◌, ◌%◌, ◌^◌, ◌≤◌, false, ℕ, length, refl, subst, arith}
 use Rattle.publication.proofs.Lists.{prefix_self, prefix_trans}
 use Rattle.combining.proofs.EndedWaits.{told-on, told-self}
 use Rattle.combining.proofs.OwnCalls.{pass-entered}
-use Rattle.combining.proofs.BoundedPasses.{passed-none, passed-on, rounds-on, rounds-fewer, no-round, next-round, all-rounds, served-is}
+use Rattle.combining.proofs.BoundedPasses.{passed-none, passed-on, rounds-on, no-round, next-round, all-rounds, served-is}
+use Rattle.combining.proofs.RoundWeights.{led-further}
+use Rattle.combining.specs.inner.BoundedPasses.{HasServedWithin}
 use Rattle.combining.proofs.bounded_pass.serve_rounds.Goals as goal
 
 pub loop-made-init : goal.loop-made-init
@@ -11,12 +13,14 @@ loop-made-init g c =
     record {
       work = c.requires.work;
       passed = (0, passed-none t, no-round c.args.bound.calls);
+      led = refl;
       longer = prefix_self t.front;
       backs = refl;
       pieces = refl;
-      few = c.requires.some.1;
+      few = c.requires.bound.2;
       told = told-self c.args.board.now.sessions t t (g.T.Told.list c.args.told.now) refl;
       room = refl;
+      most = refl;
     }
 
 pub loop-made-preserved : goal.loop-made-preserved
@@ -34,14 +38,16 @@ loop-made-preserved g c =
       passed = (
         served + next.result.served,
         passed-on t u v served next.result.served i.passed.1 e.round.passed,
-        next-round c.loop-made.made c.args.bound.calls served next.result.served i.passed.2 e.round.few,
+        next-round c.loop-made.made c.args.bound.calls served next.result.served i.passed.2 (omega (arith, e.round.few)),
       );
+      led = led-further g.T.Told.weight c.args.bound c.loop-made.made t.front u.front v.front i.led (e.round.led fed);
       longer = prefix_trans t.front u.front v.front i.longer e.round.longer;
       backs = e.round.kept fed ∙ i.backs;
       pieces = e.round.taken ∙ i.pieces;
       few = search rules;
       told = told-on c.args.board.now.sessions t u v _ _ _ (pass-entered t u served i.passed.1) e.round.longer (pass-entered u v next.result.served e.round.passed) i.told e.told;
       room = e.room ∙ i.room;
+      most = e.most ∙ i.most;
     }
 
 pub returns-then-made-bound-clause-rounds : goal.returns-then-made-bound-clause-rounds
@@ -55,11 +61,11 @@ returns-then-made-bound-clause-rounds g c =
     let last = c.serve_round_telling-last in
     let v = last.new.session in
     let e = last.ensures.round in
-    let all = rounds-on n t u v c.args.load.now c.loop-made.load last.new.load (c.loop-made.made * calls) calls served last.result.served last.result.starved last.result.left
-    i.passed.1 i.passed.2 i.longer i.backs i.pieces e in
+    let all = rounds-on n c.args.bound c.loop-made.made t u v c.args.load.now c.loop-made.load last.new.load served last.result.served last.result.starved last.result.left
+    i.passed.1 i.passed.2 i.led i.longer i.backs i.pieces e in
+    let made : c.loop-made.made + 1 ≤ c.args.bound.rounds = omega (arith, i.few) in
     let many : served + last.result.served ≡ c.seen.result - c.seen-known.result = served-is (length v.front) (length t.front) (served + last.result.served) c.seen.result c.seen-known.result all.passed.count c.seen.ensures c.seen-known.ensures in
-    rounds-fewer n t v c.args.load.now last.new.load (c.loop-made.made * calls + calls) (c.args.bound.rounds * calls) calls (served + last.result.served) (c.seen.result - c.seen-known.result) last.result.starved last.result.left
-    (all-rounds c.loop-made.made c.args.bound.rounds calls i.few) many all
+    (c.loop-made.made + 1, made, subst (λ (k : ℕ). HasServedWithin g.T.Told.weight n c.args.bound (c.loop-made.made + 1) t v c.args.load.now last.new.load k last.result.starved last.result.left) many all)
 
 pub returns-then-made-bound-clause-told : goal.returns-then-made-bound-clause-told
 returns-then-made-bound-clause-told g c =

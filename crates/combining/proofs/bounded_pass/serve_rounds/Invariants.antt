@@ -1,6 +1,7 @@
 use Rattle.std.proofs.Common.{◌≡◌, ◌≤◌, ◌<◌, ◌-◌, ◌*◌, ℕ}
 use mathlib.Core.List.{IsPrefix}
 use Rattle.combining.specs.Ended.{HasAddedTold, entered_since}
+use Rattle.combining.specs.Rounds.{HaveLed}
 use Rattle.combining.specs.inner.Passes.{HasPassed, IsAtWork}
 use Rattle.combining.proofs.bounded_pass.serve_rounds.Given as goal
 
@@ -9,12 +10,14 @@ abbrev pub invariant-loop-made : goal.invariant-loop-made
 invariant-loop-made g l = record {
   work : IsAtWork g.O.Sequential l.board l.session l.load;
   passed : (served : ℕ) × HasPassed l.initial.session l.session served × (served ≤ l.made * l.bound.calls);
+  led : HaveLed g.T.Told.weight l.bound l.made l.initial.session.front l.session.front;
   longer : IsPrefix l.initial.session.front l.session.front;
   backs : l.session.put_backs ≡ l.initial.session.put_backs;
   pieces : l.load.pieces.items ≡ l.initial.load.pieces.items;
   few : l.made < l.bound.rounds;
   told : HasAddedTold g.T.Told.ends l.board.sessions l.session.front (entered_since l.initial.session l.session) (g.T.Told.list l.initial.told) (g.T.Told.list l.told);
   room : g.T.Told.room l.told ≡ g.T.Told.room l.initial.told;
+  most : g.T.Told.most l.told ≡ g.T.Told.most l.initial.told;
 }
 
 abbrev pub decreases-loop-made : goal.decreases-loop-made

@@ -21,17 +21,12 @@ module _ {C R : Type 0} where
   none-pending : (t u : TicketView C R) → u ≡ t → t.pending ≡ None → u.pending ≡ None
   none-pending t u same idle = ap (λ (x : TicketView C R). x.pending) same ∙ idle
 
-  -- A turn more leaves no more tries than fit into a look more. In a first turn the session tries once, and where it publishes its call
-  -- behind `few` turns, twice.
-  tries-after : (made few : ℕ) (t u v : TicketView C R) → 8 ≤ few → (u.pending ≡ None → made < few → v.tries ≤ u.tries + 1) → (u.pending ≡ None → v.tries ≤ u.tries + 2)
-      → (u.pending ≢ None → v.tries ≤ u.tries + 1) → (u.pending ≢ None → made % LOOKS_PER_TRY ≢ 0 → v.tries ≡ u.tries)
-      → FitIntoLooks (u.tries - t.tries) made → ((u ≡ t) × (u.pending ≡ None)) ⊎ (u.pending ≢ None) → FitIntoLooks (v.tries - t.tries) (made + 1)
-  tries-after made few t u v wide at_once published looked between fit is = ⊎_elim
-      (λ still. let same : u.tries ≡ t.tries = ap (λ (x : TicketView C R). x.tries) still.0 in ⊎_elim
-      (λ early. let n = at_once still.1 early in omega (arith, same, n))
-      (λ late. let n = published still.1 in omega (arith, same, n, late, wide))
-      (less-or made few))
-      (λ some. fit-next t.tries u.tries v.tries made fit (looked some) (between some))
+  -- A turn more leaves no more tries than fit into a look more.
+  tries-after : (made : ℕ) (t u v : TicketView C R) → v.tries ≤ u.tries + 1 → (u.pending ≢ None → made % LOOKS_PER_TRY ≢ 0 → v.tries ≡ u.tries)
+      → FitIntoLooks (u.tries - t.tries) made → (u ≡ t) ⊎ (u.pending ≢ None) → FitIntoLooks (v.tries - t.tries) (made + 1)
+  tries-after made t u v more between fit is = ⊎_elim
+      (λ still. let same : u.tries ≡ t.tries = ap (λ (x : TicketView C R). x.tries) still in omega (arith, same, more))
+      (λ some. fit-next t.tries u.tries v.tries made fit more (between some))
       is
 
 pub returns-in-Answered-clause-answered : goal.returns-in-Answered-clause-answered
@@ -100,8 +95,8 @@ loop-made-preserved g c =
       ours = e.ours;
       calling = after.0;
       others = λ _. after.1;
-      tries = tries-after c.loop-made.made TRIES_AT_ONCE t u v (omega arith) e.tries_at_once e.tries_published e.tries e.untried i.tries
-          (⊎_elim (λ still. inl (still, none-pending t u still c.requires.idle.0)) (λ calling. inr (calling-pending t u c.args.call calling.0)) i.calling);
+      tries = tries-after c.loop-made.made t u v e.tries e.untried i.tries
+          (⊎_elim (λ still. inl still) (λ calling. inr (calling-pending t u c.args.call calling.0)) i.calling);
       told = told-on n t u v [] (g.T.Told.list c.loop-made.told) (g.T.Told.list c.turn.new.told) (gone n t u c.args.call i.calling).entered e.on.longer e.on.entered i.told e.told;
       room = e.room ∙ i.room;
       notes = λ before. e.notes_waits next is (i.notes before);
@@ -149,8 +144,8 @@ returns-in-Answered-clause-tries g c =
     let e = c.turn.ensures in
     let i = c.loop-made.invariant in
     fit-longer (v.tries - t.tries) (c.loop-made.made + 1) (c.args.turns + 1) (omega (arith, c.loop-made-test.true))
-    (tries-after c.loop-made.made TRIES_AT_ONCE t u v (omega arith) e.tries_at_once e.tries_published e.tries e.untried i.tries
-    (⊎_elim (λ still. inl (still, none-pending t u still c.requires.idle.0)) (λ calling. inr (calling-pending t u c.args.call calling.0)) i.calling))
+    (tries-after c.loop-made.made t u v e.tries e.untried i.tries
+    (⊎_elim (λ still. inl still) (λ calling. inr (calling-pending t u c.args.call calling.0)) i.calling))
 
 pub returns-in-Starved-clause-tries : goal.returns-in-Starved-clause-tries
 returns-in-Starved-clause-tries g c =
@@ -160,8 +155,8 @@ returns-in-Starved-clause-tries g c =
     let e = c.turn.ensures in
     let i = c.loop-made.invariant in
     fit-longer (v.tries - t.tries) (c.loop-made.made + 1) (c.args.turns + 1) (omega (arith, c.loop-made-test.true))
-    (tries-after c.loop-made.made TRIES_AT_ONCE t u v (omega arith) e.tries_at_once e.tries_published e.tries e.untried i.tries
-    (⊎_elim (λ still. inl (still, none-pending t u still c.requires.idle.0)) (λ calling. inr (calling-pending t u c.args.call calling.0)) i.calling))
+    (tries-after c.loop-made.made t u v e.tries e.untried i.tries
+    (⊎_elim (λ still. inl still) (λ calling. inr (calling-pending t u c.args.call calling.0)) i.calling))
 
 pub returns-clause-tries : goal.returns-clause-tries
 returns-clause-tries g c =

@@ -1,4 +1,4 @@
-use Rattle.std.proofs.Common.{◌≡◌, inr, List, refl, sym, subst, arith}
+use Rattle.std.proofs.Common.{◌≡◌, ⊎_elim, inr, true, List, refl, sym, ap, subst, arith}
 use Rattle.sequential.specs.declared.entry.Entry.{Entry}
 use Rattle.publication.specs.Views.{TicketView}
 use Rattle.publication.specs.Boards.{publishing}
@@ -6,86 +6,89 @@ use Rattle.combining.proofs.EndedWaits.{told-on, told-self}
 use Rattle.combining.proofs.Turns.{on-same, on-trans, posted-cases, posted-waits, posted-same, published, published-called, waiting-trans, tries-posted}
 use Rattle.combining.proofs.calling.publish_and_look.Goals as goal
 
-pub returns-clause-answered : goal.returns-clause-answered
-returns-clause-answered g c answer is =
+pub returns-in-Listed-clause-answered : goal.returns-in-Listed-clause-answered
+returns-in-Listed-clause-answered g c answer is =
     let t = c.args.session.now in
-    let u = c.publish-posted.new.session in
-    let p = c.publish-posted.ensures in
-    published-called t u c.look.new.session c.args.call answer.place answer.reply (posted-waits t u c.args.call (posted-cases c.publish-posted.result p.listed p.unlisted)) (c.look.ensures.answered answer is)
+    let u = c.publish.new.session in
+    let p = c.publish.ensures in
+    published-called t u c.look.new.session c.args.call answer.place answer.reply (posted-waits t u c.args.call (posted-cases c.publish.result p.listed p.unlisted)) (c.look.ensures.answered answer is)
 
-pub returns-clause-starved : goal.returns-clause-starved
-returns-clause-starved g c is =
+pub returns-in-Listed-clause-starved : goal.returns-in-Listed-clause-starved
+returns-in-Listed-clause-starved g c is =
     let t = c.args.session.now in
-    let u = c.publish-posted.new.session in
+    let u = c.publish.new.session in
     let v = c.look.new.session in
-    let p = c.publish-posted.ensures in
+    let p = c.publish.ensures in
     published {obj = g.O.Sequential} t t v c.args.call (inr refl)
-    (waiting-trans (publishing t c.args.call) u v (posted-waits t u c.args.call (posted-cases c.publish-posted.result p.listed p.unlisted)) (c.look.ensures.starved is).0)
+    (waiting-trans (publishing t c.args.call) u v (posted-waits t u c.args.call (posted-cases c.publish.result p.listed p.unlisted)) (c.look.ensures.starved is).0)
 
-pub returns-clause-waits : goal.returns-clause-waits
-returns-clause-waits g c w is =
+pub returns-in-Listed-clause-waits : goal.returns-in-Listed-clause-waits
+returns-in-Listed-clause-waits g c w is =
     let t = c.args.session.now in
-    let u = c.publish-posted.new.session in
+    let u = c.publish.new.session in
     let v = c.look.new.session in
-    let p = c.publish-posted.ensures in (
+    let p = c.publish.ensures in (
       published {obj = g.O.Sequential} t t v c.args.call (inr refl)
-          (waiting-trans (publishing t c.args.call) u v (posted-waits t u c.args.call (posted-cases c.publish-posted.result p.listed p.unlisted)) (c.look.ensures.waits w is)),
+          (waiting-trans (publishing t c.args.call) u v (posted-waits t u c.args.call (posted-cases c.publish.result p.listed p.unlisted)) (c.look.ensures.waits w is)),
       c.look.ensures.others w is refl,
     )
 
-pub returns-clause-on : goal.returns-clause-on
-returns-clause-on g c =
+pub returns-in-Listed-clause-on : goal.returns-in-Listed-clause-on
+returns-in-Listed-clause-on g c =
     let t = c.args.session.now in
-    let u = c.publish-posted.new.session in
-    let p = c.publish-posted.ensures in
-    let same = posted-same t u c.args.call (posted-cases c.publish-posted.result p.listed p.unlisted) in
+    let u = c.publish.new.session in
+    let p = c.publish.ensures in
+    let same = posted-same t u c.args.call (posted-cases c.publish.result p.listed p.unlisted) in
     on-trans t u c.look.new.session (on-same t u same.0 same.1) c.look.ensures.on
 
-pub returns-clause-told : goal.returns-clause-told
-returns-clause-told g c =
+pub returns-in-Listed-clause-told : goal.returns-in-Listed-clause-told
+returns-in-Listed-clause-told g c =
     let n = c.args.office.now.sessions in
     let t = c.args.session.now in
-    let u = c.publish-posted.new.session in
+    let u = c.publish.new.session in
     let v = c.look.new.session in
-    let p = c.publish-posted.ensures in
+    let p = c.publish.ensures in
     let e = c.look.ensures in
-    let same = posted-same t u c.args.call (posted-cases c.publish-posted.result p.listed p.unlisted) in
+    let same = posted-same t u c.args.call (posted-cases c.publish.result p.listed p.unlisted) in
     let first = on-same t u same.0 same.1 in
     told-on n t u v (g.T.Told.list c.args.told.now) (g.T.Told.list c.args.told.now) (g.T.Told.list c.look.new.told) first.entered e.on.longer e.on.entered
     (told-self n t u (g.T.Told.list c.args.told.now) same.1) e.told
 
-pub returns-clause-refused : goal.returns-clause-refused
-returns-clause-refused g c is =
+pub returns-in-Listed-clause-refused : goal.returns-in-Listed-clause-refused
+returns-in-Listed-clause-refused g c is =
     let t = c.args.session.now in
-    let u = c.publish-posted.new.session in
-    let p = c.publish-posted.ensures in
+    let u = c.publish.new.session in
+    let p = c.publish.ensures in
     let found = c.look.ensures.starved is in
-    inr (u, published {obj = g.O.Sequential} t t u c.args.call (inr refl) (posted-waits t u c.args.call (posted-cases c.publish-posted.result p.listed p.unlisted)), found.0, found.1)
+    inr (u, published {obj = g.O.Sequential} t t u c.args.call (inr refl) (posted-waits t u c.args.call (posted-cases c.publish.result p.listed p.unlisted)), found.0, found.1)
 
-pub returns-clause-tries : goal.returns-clause-tries
-returns-clause-tries g c =
-    let p = c.publish-posted.ensures in
-    let n = tries-posted c.args.session.now c.publish-posted.new.session c.args.call (posted-cases c.publish-posted.result p.listed p.unlisted) in
-    omega (arith, n, c.look.ensures.tries)
+pub returns-in-Listed-clause-tries : goal.returns-in-Listed-clause-tries
+returns-in-Listed-clause-tries g c =
+    let p = c.publish.ensures in
+    let u = c.publish.new.session in
+    let n = tries-posted c.args.session.now u c.args.call (posted-cases c.publish.result p.listed p.unlisted) in
+    let listed : u.listed ≡ true = ⊎_elim (λ is. ap (λ (x : TicketView _ _). x.listed) is) (λ is. ap (λ (x : TicketView _ _). x.listed) is) (p.listed c.in-Listed.is) in
+    let same = c.look.ensures.listed listed in
+    omega (arith, n, same)
 
 -- what was noted of the front when the call was published
 noted-published : {C R : Type 0} (notes : List (Entry C R) → Type 0) (t u : TicketView C R) → u.front ≡ t.front → notes t.front → notes u.front
 noted-published notes t u same before = subst notes (sym same) before
 
-pub returns-clause-noted : goal.returns-clause-noted
-returns-clause-noted g c answer is before =
-    let p = c.publish-posted.ensures in
-    let same = posted-same c.args.session.now c.publish-posted.new.session c.args.call (posted-cases c.publish-posted.result p.listed p.unlisted) in
-    c.look.ensures.noted answer is (noted-published (g.T.Told.notes c.args.told.now) c.args.session.now c.publish-posted.new.session same.0 before)
+pub returns-in-Listed-clause-noted : goal.returns-in-Listed-clause-noted
+returns-in-Listed-clause-noted g c answer is before =
+    let p = c.publish.ensures in
+    let same = posted-same c.args.session.now c.publish.new.session c.args.call (posted-cases c.publish.result p.listed p.unlisted) in
+    c.look.ensures.noted answer is (noted-published (g.T.Told.notes c.args.told.now) c.args.session.now c.publish.new.session same.0 before)
 
-pub returns-clause-notes_starved : goal.returns-clause-notes_starved
-returns-clause-notes_starved g c is before =
-    let p = c.publish-posted.ensures in
-    let same = posted-same c.args.session.now c.publish-posted.new.session c.args.call (posted-cases c.publish-posted.result p.listed p.unlisted) in
-    c.look.ensures.notes_starved is (noted-published (g.T.Told.notes c.args.told.now) c.args.session.now c.publish-posted.new.session same.0 before)
+pub returns-in-Listed-clause-notes_starved : goal.returns-in-Listed-clause-notes_starved
+returns-in-Listed-clause-notes_starved g c is before =
+    let p = c.publish.ensures in
+    let same = posted-same c.args.session.now c.publish.new.session c.args.call (posted-cases c.publish.result p.listed p.unlisted) in
+    c.look.ensures.notes_starved is (noted-published (g.T.Told.notes c.args.told.now) c.args.session.now c.publish.new.session same.0 before)
 
-pub returns-clause-notes_waits : goal.returns-clause-notes_waits
-returns-clause-notes_waits g c w is before =
-    let p = c.publish-posted.ensures in
-    let same = posted-same c.args.session.now c.publish-posted.new.session c.args.call (posted-cases c.publish-posted.result p.listed p.unlisted) in
-    c.look.ensures.notes_waits w is (noted-published (g.T.Told.notes c.args.told.now) c.args.session.now c.publish-posted.new.session same.0 before)
+pub returns-in-Listed-clause-notes_waits : goal.returns-in-Listed-clause-notes_waits
+returns-in-Listed-clause-notes_waits g c w is before =
+    let p = c.publish.ensures in
+    let same = posted-same c.args.session.now c.publish.new.session c.args.call (posted-cases c.publish.result p.listed p.unlisted) in
+    c.look.ensures.notes_waits w is (noted-published (g.T.Told.notes c.args.told.now) c.args.session.now c.publish.new.session same.0 before)

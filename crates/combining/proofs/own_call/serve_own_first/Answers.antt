@@ -41,5 +41,5 @@ pub returns-clause-served : goal.returns-clause-served
 returns-clause-served g c =
     let own = c.perform_own_telling-answer in
     let pass = c.serve_published_telling in
-    served-first c.args.board.now.sessions c.args.session.now own.new.session pass.new.session c.args.call own.result c.args.load.now own.new.load pass.new.load pass.result.starved
+    served-first c.args.board.now.sessions c.args.session.now own.new.session pass.new.session c.args.call own.result c.args.load.now own.new.load pass.new.load pass.result.starved pass.result.left
     own.ensures.some own.ensures.none own.ensures.taken pass.ensures.served

@@ -38,5 +38,5 @@ pub returns-clause-served : goal.returns-clause-served
 returns-clause-served g c =
     let own = c.perform_own_telling-answer in
     let pass = c.serve_published_telling-pass in
-    served-last c.args.board.now.sessions c.args.session.now pass.new.session own.new.session c.args.call own.result c.args.load.now pass.new.load own.new.load pass.result.starved
+    served-last c.args.board.now.sessions c.args.session.now pass.new.session own.new.session c.args.call own.result c.args.load.now pass.new.load own.new.load pass.result.starved pass.result.left
     own.ensures.some own.ensures.none own.ensures.taken pass.ensures.served

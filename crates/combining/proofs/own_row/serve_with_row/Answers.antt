@@ -13,7 +13,7 @@ pub returns-clause-served : goal.returns-clause-served
 returns-clause-served g c =
     let pass = c.serve_published_telling-pass in
     let row = c.perform_own_row-row in
-    served-with-row c.args.board.now.sessions c.args.session.now pass.new.session row.new.session row.ensures.row.entries c.args.load.now pass.new.load row.new.load pass.result.starved
+    served-with-row c.args.board.now.sessions c.args.session.now pass.new.session row.new.session row.ensures.row.entries c.args.load.now pass.new.load row.new.load pass.result.starved pass.result.left
     row.ensures.row.session row.ensures.taken pass.ensures.served
 
 pub returns-clause-told : goal.returns-clause-told

@@ -17,13 +17,8 @@ module _ {C R : Type 0} where
       subst (λ (l : Calls C). AreOpened n l after) (sym is)
       (subst (λ (r : List (Item C R)). AreOpened n (set t.opened i.session (Some i.call)) r) (sym put) (opened-insert n t.opened row place i within none few all))
 
-pub returns-then-gives-2-clause-row : goal.returns-then-gives-2-clause-row
-returns-then-gives-2-clause-row g c = let s = c.in-Some.ensures in
-    row-after c.args.board.now.sessions c.args.session.now c.open.new.ticket c.args.row.now.items c.if-gives.place (record { session = c.args.whose; call = c.in-Some.call; reply = None })
-    (record { some = omega arith; within = omega (arith, c.requires.whose.few) }) s.lacked c.requires.row (ap (λ (t : TicketView _ _). t.opened) s.ticket) s.opened c.insert_item.new.row.items (search rules)
-
-pub returns-else-gives-2-clause-row : goal.returns-else-gives-2-clause-row
-returns-else-gives-2-clause-row g c = let s = c.in-Some.ensures in
+pub returns-clause-row : goal.returns-clause-row
+returns-clause-row g c = let s = c.in-Some.ensures in
     row-after c.args.board.now.sessions c.args.session.now c.open.new.ticket c.args.row.now.items c.if-gives.place (record { session = c.args.whose; call = c.in-Some.call; reply = None })
     (record { some = omega arith; within = omega (arith, c.requires.whose.few) }) s.lacked c.requires.row (ap (λ (t : TicketView _ _). t.opened) s.ticket) s.opened c.insert_item.new.row.items (search rules)
 

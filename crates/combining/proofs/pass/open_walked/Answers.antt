@@ -8,8 +8,8 @@ use Rattle.combining.proofs.SameSession.{same_session-trans}
 use Rattle.combining.proofs.Walks.{met-next, next-on, ahead-smaller}
 use Rattle.combining.proofs.pass.open_walked.Goals as goal
 
-pub open_record-requires-clause-whose : goal.open_record-requires-clause-whose
-open_record-requires-clause-whose g c =
+pub open_record-call-requires-clause-whose : goal.open_record-call-requires-clause-whose
+open_record-call-requires-clause-whose g c =
     let i = c.loop-next.invariant in
     let on : IsOn c.in-Some.whose c.loop-next.session.route = subst (λ (n : Option ℕ). IsNext n c.loop-next.session.route) c.in-Some.is i.next in
     let w = i.route.within c.in-Some.whose on in record { some = w.0; few = omega (arith, w.1) }
@@ -19,13 +19,13 @@ walk-next-requires-clause-on g c =
     let i = c.loop-next.invariant in
     let on : IsOn c.in-Some.whose c.loop-next.session.route = subst (λ (n : Option ℕ). IsNext n c.loop-next.session.route) c.in-Some.is i.next in
     let w = i.route.within c.in-Some.whose on in
-    (record { some = w.0; few = omega (arith, w.1) }, subst (λ (r : List ℕ). IsOn c.in-Some.whose r) (sym c.open_record.ensures.session.2) on)
+    (record { some = w.0; few = omega (arith, w.1) }, subst (λ (r : List ℕ). IsOn c.in-Some.whose r) (sym c.open_record-call.ensures.session.2) on)
 
 pub loop-next-smaller : goal.loop-next-smaller
 loop-next-smaller g c =
     let i = c.loop-next.invariant in
     let w = c.walk-next.ensures.next in
-    let kept = c.open_record.ensures.session.2 in
+    let kept = c.open_record-call.ensures.session.2 in
     ahead-smaller c.loop-next.next c.walk-next.result c.loop-next.session.route c.walk-next.new.ticket.route c.in-Some.whose i.route.apart c.in-Some.is
     (w.1 ∙ ap (λ (r : List ℕ). first_of (behind c.in-Some.whose r)) kept) (ap (λ (x : TicketView _ _). x.route) w.0 ∙ kept)
 
@@ -35,10 +35,10 @@ loop-next-preserved g c =
     let q = c.in-Some.whose in
     let before = c.args.session.now in
     let t = c.loop-next.session in
-    let u = c.open_record.new.session in
+    let u = c.open_record-call.new.session in
     let v = c.walk-next.new.ticket in
     let n = c.args.board.now.sessions in
-    let e = c.open_record.ensures in
+    let e = c.open_record-call.ensures in
     let w = c.walk-next.ensures.next in
     let same : v ≡ u = w.0 in
     let kept : u.route ≡ t.route = e.session.2 in
@@ -51,7 +51,7 @@ loop-next-preserved g c =
       );
       route = subst (λ (r : List ℕ). IsRoute (n + 1) r) (sym (ap (λ (x : TicketView _ _). x.route) same ∙ kept)) i.route;
       next = subst (λ (m : Option ℕ). IsNext m v.route) (sym next) (subst (λ (r : List ℕ). IsNext (first_of (behind q t.route)) r) (sym (ap (λ (x : TicketView _ _). x.route) same ∙ kept)) (next-on q t.route));
-      row = subst (λ (x : TicketView _ _). AreOpened n x.opened c.open_record.new.row.items) (sym same) e.row;
+      row = subst (λ (x : TicketView _ _). AreOpened n x.opened c.open_record-call.new.row.items) (sym same) e.row;
       room = e.room;
       calls = subst (λ (x : TicketView _ _). KeepsCalls before x) (sym same) (keeps-trans before t u i.calls e.calls);
       visited = subst (λ (x : TicketView _ _). HasVisitedOpened x) (sym same) e.visited;

@@ -1,9 +1,9 @@
-use Rattle.std.proofs.Common.{rules, ◌≡◌, ◌∙◌, ◌++◌, ℕ, List, take, vec_len, length, sym, ap, subst, arith}
+use Rattle.std.proofs.Common.{rules, ◌≡◌, ◌∙◌, ◌++◌, ℕ, List, take, drop, vec_len, length, sym, ap, subst, arith}
 use Rattle.std.proofs.lemmas.Grind.{common_steps}
 use Rattle.std.specs.Prelude.{All}
 use Rattle.sequential.specs.declared.entry.Entry.{Entry}
 use Rattle.sequential.specs.declared.entry.Item.{Item}
-use Rattle.sequential.specs.Batches.{IsItemWithin}
+use Rattle.sequential.specs.Batches.{IsItemWithin, asked_in}
 use Rattle.combining.specs.inner.Ages.{sessions_of, sessions_since, noted}
 use Rattle.publication.specs.Views.{TicketView}
 use Rattle.combining.proofs.SameSession.{after_row}
@@ -44,6 +44,7 @@ returns g c =
           history = hand.history ∙ ap (λ (l : List (Entry _ _)). l ++ hand.entries) (sym same);
         };
         longer = search rules;
+        asked = ap (λ (l : List (Entry _ _)). asked_in (drop known l)) same ∙ c.serve_row-served.ensures.asked;
         legal = search rules;
         starved_is = search rules;
         few = search rules;

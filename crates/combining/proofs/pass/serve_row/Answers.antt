@@ -1,9 +1,9 @@
-use Rattle.std.proofs.Common.{rules, ◌≡◌, ◌++◌, ℕ, List, take, drop, length, refl, sym, subst}
+use Rattle.std.proofs.Common.{rules, ◌≡◌, ◌++◌, ℕ, List, take, drop, length, refl, sym, ap, ◌∙◌, subst}
 use Rattle.std.specs.Prelude.{All}
 use Rattle.sequential.specs.declared.entry.Item.{Item}
-use Rattle.sequential.specs.Batches.{IsItemWithin}
+use Rattle.sequential.specs.Batches.{IsItemWithin, asked_by}
 use Rattle.combining.proofs.CleanUpWalk.{row-within}
-use Rattle.combining.proofs.Batches.{opened-performed, written, batch-in_hand}
+use Rattle.combining.proofs.Batches.{opened-performed, written, batch-in_hand, asked-since}
 use Rattle.combining.proofs.PerformedCalls.{in-hand}
 use Rattle.combining.proofs.pass.serve_row.Goals as goal
 
@@ -43,3 +43,10 @@ pub returns-clause-tells : goal.returns-clause-tells
 returns-clause-tells g c some =
     let h = c.requires.object in
     subst (λ (l : List _). g.O.Serving.tells_from c.serve_batch-served.new.self (length l)) (in-hand c.args.board.now.sessions c.args.object.now c.args.session.now h) c.serve_batch-served.ensures.tells
+
+pub returns-clause-asked : goal.returns-clause-asked
+returns-clause-asked g c =
+    let b = c.serve_batch-served in
+    let row : c.as_mut_slice.result.now ≡ c.args.row.now.items = search rules in
+    asked-since c.args.board.now.sessions c.args.object.now b.new.self c.args.session.now c.answer_row.new.session c.as_mut_slice.result.now b.new.items b.result c.requires.object c.answer_row.ensures.object b.ensures.batch
+    ∙ ap (λ (l : List (Item _ _)). asked_by (take b.result l)) row

@@ -6,5 +6,5 @@ use Rattle.jam_report.proofs.aborting.mark_granted_next.Goals as goal
 
 pub returns-then-is_last-clause-marks : goal.returns-then-is_last-clause-marks
 returns-then-is_last-clause-marks c = λ u.
-    let granted = λ (r : List ℕ) (v : ℕ). ltb v (length c.args.marks.now.items) && is_granted_on (state_of c.args.book.now.history).table c.args.session r v in
+    let granted = λ (r : List ℕ) (v : ℕ). ltb v (length c.args.marks.now.items) && is_granted_on (state_of c.args.abort.book.now.history).table c.args.abort.session r v in
     last-told (λ r. granted r u) (is_marked c.args.marks.now.items u) c.args.last c.args.resource (sym c.if-is_last.true ∙ c.is_last.ensures) (one-seen granted (is_marked c.args.marks.now.items) c.args.last u c.requires.last)

@@ -7,4 +7,4 @@ pub returns-clause-marks : goal.returns-clause-marks
 returns-clause-marks c = λ u.
     c.in_ok-mark_granted.ensures.marks u
     ∙ ap (λ (b : Bool). is_marked c.args.marks.now.items u || (ltb u (length c.args.marks.now.items) && b))
-    (granted-on c.args.book.now.history c.args.session c.args.resource u c.in_ok-holders.holders.items c.deref.result.now c.args.requests.now c.in-Some._held c.requires c.in_ok-holders.ensures (c.deref.ensures.value ∙ c.in_ok-queue.ensures) (sym c.held.ensures ∙ c.in-Some.is))
+    (granted-on c.args.abort.book.now.history c.args.abort.session c.args.resource u c.in_ok-holders.holders.items c.deref.result.now c.args.abort.requests.now c.in-Some._held c.requires c.in_ok-holders.ensures (c.deref.ensures.value ∙ c.in_ok-queue.ensures) (sym c.held.ensures ∙ c.in-Some.is))

@@ -48,14 +48,14 @@ pub returns-in_err-reply-clause-told : goal.returns-in_err-reply-clause-told
 returns-in_err-reply-clause-told c =
     let same = c.in_err-reply.ensures.unnoted in
     subst (λ (l : LogView). AreDeadlocksTold (newest l.most (deadlocks_in c.reserve.new.self.items)) l.told) (sym same)
-    (subst (λ (es : List Entry). AreDeadlocksTold (newest c.args.log.now.most (deadlocks_in es)) c.args.log.now.told) (sym c.reserve.ensures.items) c.requires.told)
+    (subst (λ (es : List Entry). AreDeadlocksTold (newest c.args.notes.now.log.most (deadlocks_in es)) c.args.notes.now.log.told) (sym c.reserve.ensures.items) c.requires.told)
 
 pub returns-clause-told : goal.returns-clause-told
 returns-clause-told c =
     let es = c.args.history.now.items in
     let noted = c.in_ok-reply.ensures.noted (state_of es) (state-lawful es).sound (state-numbered es) c.requires.kept.shows in
     told-more es c.push_reserved.new.self.items (record { session = c.args.session; call = c.args.call; reply = c.in_ok-reply.reply }) c.count-served.result
-    (record c.args.log.now { counts = with_own_wait (is_waiting (state_of es) c.args.session) c.args.call c.args.log.now.counts }) c.serve.new.log
+    (record c.args.notes.now.log { counts = with_own_wait (is_waiting (state_of es) c.args.session) c.args.call c.args.notes.now.log.counts }) c.serve.new.notes.log
     (c.push_reserved.ensures.items ∙ ap (λ (xs : List Entry). xs ++ record { session = c.args.session; call = c.args.call; reply = c.in_ok-reply.reply } ∷ []) c.in_ok-reserve.ensures.items)
     (c.count-served.ensures.count ∙ ap length c.in_ok-reserve.ensures.items) noted c.requires.told
 
@@ -74,7 +74,7 @@ pub returns-clause-calls : goal.returns-clause-calls
 returns-clause-calls c =
     let es = c.args.history.now.items in
     let entry : Entry = record { session = c.args.session; call = c.args.call; reply = c.in_ok-reply.reply } in
-    subst (λ (xs : List Entry). AreCallsCounted xs c.serve.new.counts) (sym (c.push_reserved.ensures.items ∙ ap (λ (xs : List Entry). xs ++ entry ∷ []) c.in_ok-reserve.ensures.items))
+    subst (λ (xs : List Entry). AreCallsCounted xs c.serve.new.notes.counts) (sym (c.push_reserved.ensures.items ∙ ap (λ (xs : List Entry). xs ++ entry ∷ []) c.in_ok-reserve.ensures.items))
     (c.in_ok-reply.ensures.counted es c.requires.calls (omega (arith, c.in_ok-reserve.ensures.places, ap length c.in_ok-reserve.ensures.items)))
 
 pub returns-clause-waits : goal.returns-clause-waits
@@ -85,16 +85,16 @@ returns-clause-waits c =
     let numbered = state-numbered es in
     let s = c.in_ok-reply.ensures.step (state_of es) (state-lawful es).sound numbered k.shows in
     let noted = c.in_ok-reply.ensures.noted (state_of es) (state-lawful es).sound numbered k.shows in
-    waits-counted es c.push_reserved.new.self.items c.args.session c.args.call c.in_ok-reply.reply c.count-served.result c.args.log.now.counts c.serve.new.log.counts
+    waits-counted es c.push_reserved.new.self.items c.args.session c.args.call c.in_ok-reply.reply c.count-served.result c.args.notes.now.log.counts c.serve.new.notes.log.counts
     (c.push_reserved.ensures.items ∙ ap (λ (xs : List Entry). xs ++ entry ∷ []) c.in_ok-reserve.ensures.items) k.legal s.0 numbered
     (c.count-served.ensures.count ∙ ap length c.in_ok-reserve.ensures.items) (omega (arith, c.in_ok-reserve.ensures.places, ap length c.in_ok-reserve.ensures.items)) noted.counted c.requires.waits
 
 pub returns-in_err-reply-clause-calls : goal.returns-in_err-reply-clause-calls
 returns-in_err-reply-clause-calls c =
     subst (λ (n : CallCounts). AreCallsCounted c.reserve.new.self.items n) (sym c.in_err-reply.ensures.uncounted)
-    (subst (λ (es : List Entry). AreCallsCounted es c.args.counts.now) (sym c.reserve.ensures.items) c.requires.calls)
+    (subst (λ (es : List Entry). AreCallsCounted es c.args.notes.now.counts) (sym c.reserve.ensures.items) c.requires.calls)
 
 pub returns-in_err-reply-clause-waits : goal.returns-in_err-reply-clause-waits
 returns-in_err-reply-clause-waits c =
     subst (λ (l : LogView). AreWaitsCounted c.reserve.new.self.items l.counts) (sym c.in_err-reply.ensures.unnoted)
-    (subst (λ (es : List Entry). AreWaitsCounted es c.args.log.now.counts) (sym c.reserve.ensures.items) c.requires.waits)
+    (subst (λ (es : List Entry). AreWaitsCounted es c.args.notes.now.log.counts) (sym c.reserve.ensures.items) c.requires.waits)

@@ -5,12 +5,12 @@ pub returns-clause-numbers : goal.returns-clause-numbers
 returns-clause-numbers g c =
     of_joined _ c.combine_results-done.result c.join_all-joined.result c.write_while_at_work-written.result c.combine_results-done.ensures.done
     (all_joined _ c.join_all-joined.result c.start_all-reason.result _ _ c.join_all-joined.ensures.all
-    (c.join_all-joined.ensures.numbers c.args.office.now c.args.rows.now c.start_all-reason.ensures.started) c.start_all-reason.ensures.all)
+    (c.join_all-joined.ensures.numbers c.args.run.now.office.now c.args.run.now.rows.now c.start_all-reason.ensures.started) c.start_all-reason.ensures.all)
 
 pub returns-clause-performed : goal.returns-clause-performed
 returns-clause-performed g c =
     of_joined _ c.combine_results-done.result c.join_all-joined.result c.write_while_at_work-written.result c.combine_results-done.ensures.done
-    (c.join_all-joined.ensures.performed c.args.office.now c.args.rows.now c.start_all-reason.ensures.started)
+    (c.join_all-joined.ensures.performed c.args.run.now.office.now c.args.run.now.rows.now c.start_all-reason.ensures.started)
 
 pub returns-clause-written : goal.returns-clause-written
 returns-clause-written g c =

@@ -5,4 +5,4 @@ use Rattle.run_commands.proofs.threads.start_and_join.Goals as goal
 pub returns-clause-numbers : goal.returns-clause-numbers
 returns-clause-numbers g c =
     all_joined _ c.join_all.result c.start_all-reason.result _ _ c.join_all.ensures.all
-    (c.join_all.ensures.numbers c.args.office.now c.args.rows.now c.start_all-reason.ensures.started) c.start_all-reason.ensures.all
+    (c.join_all.ensures.numbers c.args.run.now.office.now c.args.run.now.rows.now c.start_all-reason.ensures.started) c.start_all-reason.ensures.all

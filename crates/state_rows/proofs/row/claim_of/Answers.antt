@@ -15,6 +15,6 @@ returns-in_err-begun c = λ x. (
 
 pub returns : goal.returns
 returns c =
-    claim-iff c.args.sessions c.args.word.now c.args.session.now c.args.number.now c.args.victim.now c.args.resource.now c.args.mode.now c.kind_of.result c.open_of.result c.resource_of.result c.mode_of.result
+    claim-iff c.args.sessions c.args.fields.word.now c.args.fields.session.now c.args.fields.number.now c.args.fields.victim.now c.args.fields.resource.now c.args.fields.mode.now c.kind_of.result c.open_of.result c.resource_of.result c.mode_of.result
     c.in_ok-kind.kind c.in_ok-begun.begun c.in_ok-resource.resource c.in_ok-mode.mode
     c.kind_of.ensures c.open_of.ensures c.resource_of.ensures c.mode_of.ensures (search rules) (search rules) (search rules) (search rules)

@@ -29,7 +29,7 @@ returns c =
     (search rules) (search rules) (search rules) (search rules) (search rules) (search rules) (search rules) in
     λ row. (
       λ e.
-          let h = (c.row_in-row.ensures row).0 e in
+          let h = (c.row_in.ensures row).0 e in
           (h.0, sym (join_with_byte-slice_split 44 c.args.line.now) ∙ ap (join_with_byte 44) (sym all ∙ (items ∙ h.1))),
-      λ h. (c.row_in-row.ensures row).1 (h.0, sym items ∙ (all ∙ fields-again c.args.sessions row c.args.line.now few h.0 h.1)),
+      λ h. (c.row_in.ensures row).1 (h.0, sym items ∙ (all ∙ fields-again c.args.sessions row c.args.line.now few h.0 h.1)),
     )

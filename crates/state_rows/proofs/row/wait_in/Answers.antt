@@ -5,7 +5,7 @@ use Rattle.state_rows.proofs.row.wait_in.Goals as goal
 
 pub returns : goal.returns
 returns c =
-    let word : c.args.word.now ≡ codes "waits" = search rules in
+    let word : c.args.fields.word.now ≡ codes "waits" = search rules in
     let victim = c.is_blank.ensures.0 (search rules) in
     let empty = c.are_blank.ensures.0 (search rules) in
     λ w. (

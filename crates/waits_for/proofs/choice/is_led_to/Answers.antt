@@ -1,4 +1,4 @@
-use Rattle.std.proofs.Common.{◌<◌, inl, inr, refl, sym, ◌∙◌, get_or, arith}
+use Rattle.std.proofs.Common.{◌<◌, inl, inr, refl, sym, ◌∙◌, arith}
 use Rattle.waits_for.specs.Pairs.{pairs_of}
 use Rattle.waits_for.proofs.Walks.{reaches-to}
 use Rattle.waits_for.proofs.choice.is_led_to.Goals as goal
@@ -16,7 +16,7 @@ returns-then-has c _ = inr (reaches-to (pairs_of c.args.matrix.now) c.args.u c.a
 
 pub loop-step-preserved : goal.loop-step-preserved
 loop-step-preserved c =
-    let below : get_or c.args.parents.now c.loop-step.by 0 < c.args.matrix.now.sessions = omega (arith, c.if-by-parents.false, c.requires.parents_room) in
+    let below : _ < c.args.matrix.now.sessions = omega (arith, c.if-by-links.false, c.requires.links_room) in
     elim c.if-has-2.branch [
       | then-has-2 w ↦
           let step = sym (c.row.ensures.bits c.loop-step.at) ∙ (sym c.has-in-loop-step.ensures ∙ w.if-has-2.true) in

@@ -11,18 +11,17 @@ loop-depth-init c =
     let p = pairs_of c.args.matrix.now in
     let t = c.args.t in
     let unseen = c.unset.new.words in
-    let one : (j : ℕ) → has_bit unseen j ≡ (has_bit c.args.waiting.now j && not (eqb j t)) = rw (← c.copy_from_slice.ensures.after) c.unset.ensures in
+    let one : (j : ℕ) → has_bit unseen j ≡ (has_bit c.args.unseen.now j && not (eqb j t)) = c.unset.ensures in
     let none = bit-all_cleared c.args.circle.now c.clear.new.words _ (omega arith) c.clear.ensures in
-    let own = less-own c.args.waiting.now unseen t one in
+    let own = less-own c.args.unseen.now unseen t one in
     let len = length-set c.args.stack.now 0 t in
     record {
-      unseen_room = omega (arith, c.unset.auto.words, c.copy_from_slice.ensures.len, c.requires.unseen_room);
+      unseen_room = omega (arith, c.unset.auto.words, c.requires.unseen_room);
       circle_room = omega (arith, c.set.auto.words, c.clear.auto.words, c.requires.circle_room);
       stack_room = omega (arith, len, c.requires.stack_room);
-      hops_room = c.requires.hops_room;
-      parents_room = c.requires.parents_room;
+      links_room = c.requires.links_room;
       few = unset-some c.args.matrix.now.sessions unseen t c.requires.t_below own;
-      search = depth_first-begun p t c.args.waiting.now c.requires.waiting unseen _ one (get_or-set_same c.args.stack.now 0 t 0 (omega (arith, c.requires.stack_room, c.requires.t_below)));
+      search = depth_first-begun p t c.args.unseen.now c.requires.unseen unseen _ one (get_or-set_same c.args.stack.now 0 t 0 (omega (arith, c.requires.stack_room, c.requires.t_below)));
       leading = leading-begun p t c.clear.new.words c.set.new.words _ none c.set.ensures;
     }
 
@@ -47,8 +46,8 @@ place n v len lt e = omega (arith, lt, e)
 pushed-within : (p : Pairs) (row : List ℕ) (v u : ℕ) → ((j : ℕ) → has_bit row j ≡ pairs_of p v j) → has_bit row u ≡ true → u < p.sessions
 pushed-within p row v u bits is = (pairs_of-within p v u (sym (bits u) ∙ is)).1
 
-pub bounds-parents-u : goal.bounds-parents-u
-bounds-parents-u c = omega (arith, pushed-within c.args.matrix.now c.row-row.result.now _ c.in-Some.u c.row-row.ensures.bits c.in-Some.ensures.some.1, c.loop-depth.invariant.parents_room)
+pub bounds-links-u : goal.bounds-links-u
+bounds-links-u c = omega (arith, pushed-within c.args.matrix.now c.row-row.result.now _ c.in-Some.u c.row-row.ensures.bits c.in-Some.ensures.some.1, c.loop-depth.invariant.links_room)
 
 pub bounds-stack-depth-in-Some : goal.bounds-stack-depth-in-Some
 bounds-stack-depth-in-Some c =
@@ -92,10 +91,9 @@ loop-depth-preserved-in-Some c =
       unseen_room = omega (arith, c.unset-in-Some.auto.words, h.unseen_room);
       circle_room = h.circle_room;
       stack_room = omega (arith, len, h.stack_room);
-      hops_room = h.hops_room;
-      parents_room = omega (arith, length-set c.loop-depth.parents u (get_or stack (depth - 1) 0), h.parents_room);
+      links_room = length-set c.loop-depth.links u _ ∙ h.links_room;
       few = omega (arith, h.few, more);
-      search = depth_first-pushed p c.args.t c.args.waiting.now c.loop-depth.unseen stack depth c.loop-depth.from (depth - 1) h.search top c.unset-in-Some.new.words u
+      search = depth_first-pushed p c.args.t c.args.unseen.now c.loop-depth.unseen stack depth c.loop-depth.from (depth - 1) h.search top c.unset-in-Some.new.words u
           step (λ j le lt to. c.in-Some.ensures.least j le lt (c.row-row.ensures.bits j ∙ to)) c.unset-in-Some.ensures room;
       leading = leading-pushed p c.args.t c.loop-depth.circle stack depth h.leading (depth - 1) u top step room;
     }
@@ -113,7 +111,7 @@ pub returns-clause-all : goal.returns-clause-all
 returns-clause-all c =
     let h = c.loop-depth.invariant.search in
     let e : c.loop-depth.depth ≡ 0 = omega (arith, c.loop-depth-test.false) in
-    depth_first-all (pairs_of c.args.matrix.now) c.args.t c.args.waiting.now c.loop-depth.unseen c.loop-depth.stack c.loop-depth.from (rw e at h)
+    depth_first-all (pairs_of c.args.matrix.now) c.args.t c.args.unseen.now c.loop-depth.unseen c.loop-depth.stack c.loop-depth.from (rw e at h)
 
 -- The top of the stack, and the session below it, are below the number of sessions.
 stack-within : (p : Pairs) (t : ℕ) (waiting unseen stack : List ℕ) (depth from : ℕ) → t < p.sessions → IsDepthFirst (pairs_of p) t waiting unseen stack depth from → (k : ℕ) → k < depth → get_or stack k 0 < p.sessions
@@ -123,13 +121,13 @@ pub note_if_leads-requires-clause-circle_room : goal.note_if_leads-requires-clau
 note_if_leads-requires-clause-circle_room c =
     let h = c.loop-depth.invariant in
     let depth = c.loop-depth.depth in
-    place c.args.matrix.now.sessions (get_or c.loop-depth.stack (depth - 1) 0) _ (stack-within c.args.matrix.now c.args.t c.args.waiting.now c.loop-depth.unseen c.loop-depth.stack depth c.loop-depth.from c.requires.t_below h.search (depth - 1) (omega (arith, c.loop-depth-test.true))) h.circle_room
+    place c.args.matrix.now.sessions (get_or c.loop-depth.stack (depth - 1) 0) _ (stack-within c.args.matrix.now c.args.t c.args.unseen.now c.loop-depth.unseen c.loop-depth.stack depth c.loop-depth.from c.requires.t_below h.search (depth - 1) (omega (arith, c.loop-depth-test.true))) h.circle_room
 
-pub note_if_leads-requires-clause-hops_room : goal.note_if_leads-requires-clause-hops_room
-note_if_leads-requires-clause-hops_room c =
+pub note_if_leads-requires-clause-links_room : goal.note_if_leads-requires-clause-links_room
+note_if_leads-requires-clause-links_room c =
     let h = c.loop-depth.invariant in
     let depth = c.loop-depth.depth in
-    omega (arith, stack-within c.args.matrix.now c.args.t c.args.waiting.now c.loop-depth.unseen c.loop-depth.stack depth c.loop-depth.from c.requires.t_below h.search (depth - 1) (omega (arith, c.loop-depth-test.true)), h.hops_room)
+    omega (arith, stack-within c.args.matrix.now c.args.t c.args.unseen.now c.loop-depth.unseen c.loop-depth.stack depth c.loop-depth.from c.requires.t_below h.search (depth - 1) (omega (arith, c.loop-depth-test.true)), h.links_room)
 
 pub offset_bounds-stack-depth-then-depth-gt0 : goal.offset_bounds-stack-depth-then-depth-gt0
 offset_bounds-stack-depth-then-depth-gt0 c = omega (arith, depth-within c.args.matrix.now.sessions c.loop-depth.depth c.loop-depth.unseen c.loop-depth.invariant.few, c.sessions-sessions.ensures.sessions, c.sessions-sessions.type_inv)
@@ -141,13 +139,13 @@ pub note_lead-requires-clause-circle_room : goal.note_lead-requires-clause-circl
 note_lead-requires-clause-circle_room c =
     let h = c.loop-depth.invariant in
     let depth = c.loop-depth.depth in
-    place c.args.matrix.now.sessions (get_or c.loop-depth.stack (depth - 1 - 1) 0) _ (stack-within c.args.matrix.now c.args.t c.args.waiting.now c.loop-depth.unseen c.loop-depth.stack depth c.loop-depth.from c.requires.t_below h.search (depth - 1 - 1) (omega (arith, c.loop-depth-test.true))) (c.note_if_leads.auto.circle ∙ h.circle_room)
+    place c.args.matrix.now.sessions (get_or c.loop-depth.stack (depth - 1 - 1) 0) _ (stack-within c.args.matrix.now c.args.t c.args.unseen.now c.loop-depth.unseen c.loop-depth.stack depth c.loop-depth.from c.requires.t_below h.search (depth - 1 - 1) (omega (arith, c.loop-depth-test.true))) (c.note_if_leads.auto.circle ∙ h.circle_room)
 
-pub note_lead-requires-clause-hops_room : goal.note_lead-requires-clause-hops_room
-note_lead-requires-clause-hops_room c =
+pub note_lead-requires-clause-links_room : goal.note_lead-requires-clause-links_room
+note_lead-requires-clause-links_room c =
     let h = c.loop-depth.invariant in
     let depth = c.loop-depth.depth in
-    omega (arith, stack-within c.args.matrix.now c.args.t c.args.waiting.now c.loop-depth.unseen c.loop-depth.stack depth c.loop-depth.from c.requires.t_below h.search (depth - 1 - 1) (omega (arith, c.loop-depth-test.true)), c.note_if_leads.auto.hops, h.hops_room)
+    omega (arith, stack-within c.args.matrix.now c.args.t c.args.unseen.now c.loop-depth.unseen c.loop-depth.stack depth c.loop-depth.from c.requires.t_below h.search (depth - 1 - 1) (omega (arith, c.loop-depth-test.true)), c.note_if_leads.auto.links, h.links_room)
 
 pub loop-depth-preserved : goal.loop-depth-preserved
 loop-depth-preserved c =
@@ -161,10 +159,9 @@ loop-depth-preserved c =
       unseen_room = h.unseen_room;
       circle_room = c.note_if_leads.auto.circle ∙ h.circle_room;
       stack_room = h.stack_room;
-      hops_room = c.note_if_leads.auto.hops ∙ h.hops_room;
-      parents_room = h.parents_room;
+      links_room = c.note_if_leads.auto.links ∙ h.links_room;
       few = omega (arith, h.few);
-      search = depth_first-popped p t c.args.waiting.now c.loop-depth.unseen stack depth c.loop-depth.from (depth - 1) h.search top (λ j le to. c.in_default.ensures.none j le (c.row-row.ensures.bits j ∙ to));
+      search = depth_first-popped p t c.args.unseen.now c.loop-depth.unseen stack depth c.loop-depth.from (depth - 1) h.search top (λ j le to. c.in_default.ensures.none j le (c.row-row.ensures.bits j ∙ to));
       leading = leading-noted p t c.loop-depth.circle stack (depth - 1) (leading-popped p t c.loop-depth.circle stack depth h.leading (depth - 1) (omega arith)) (get_or stack (depth - 1) 0) c.row-row.result.now c.note_if_leads.new.circle c.row-row.ensures.bits c.note_if_leads.ensures.adds;
     }
 
@@ -184,9 +181,8 @@ loop-depth-preserved-then-depth-gt0 c =
       unseen_room = h.unseen_room;
       circle_room = c.note_lead.auto.circle ∙ (c.note_if_leads.auto.circle ∙ h.circle_room);
       stack_room = h.stack_room;
-      hops_room = c.note_lead.auto.hops ∙ (c.note_if_leads.auto.hops ∙ h.hops_room);
-      parents_room = h.parents_room;
+      links_room = c.note_lead.auto.links ∙ (c.note_if_leads.auto.links ∙ h.links_room);
       few = omega (arith, h.few);
-      search = depth_first-popped p t c.args.waiting.now c.loop-depth.unseen stack depth c.loop-depth.from (depth - 1) h.search top (λ j le to. c.in_default.ensures.none j le (c.row-row.ensures.bits j ∙ to));
+      search = depth_first-popped p t c.args.unseen.now c.loop-depth.unseen stack depth c.loop-depth.from (depth - 1) h.search top (λ j le to. c.in_default.ensures.none j le (c.row-row.ensures.bits j ∙ to));
       leading = leading-more p t c.note_if_leads.new.circle stack (depth - 1) noted (get_or stack (depth - 1 - 1) 0) v c.note_lead.new.circle step (c.note_if_leads.ensures.leads c.if-note_if_leads.true) c.note_lead.ensures;
     }

@@ -10,10 +10,9 @@ invariant-loop-depth l = record {
   unseen_room : length l.unseen ≡ words_for l.matrix.sessions;
   circle_room : length l.circle ≡ words_for l.matrix.sessions;
   stack_room : length l.stack ≡ l.matrix.sessions;
-  hops_room : length l.hops ≡ l.matrix.sessions;
-  parents_room : length l.parents ≡ l.matrix.sessions;
+  links_room : length l.links ≡ l.matrix.sessions;
   few : l.depth ≤ unset_below l.matrix.sessions l.unseen;
-  search : IsDepthFirst (pairs_of l.matrix) l.t l.waiting l.unseen l.stack l.depth l.from;
+  search : IsDepthFirst (pairs_of l.matrix) l.t l.fn.unseen l.unseen l.stack l.depth l.from;
   leading : IsLeading (pairs_of l.matrix) l.t l.circle l.stack l.depth;
 }
 

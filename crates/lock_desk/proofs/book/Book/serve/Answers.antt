@@ -52,5 +52,5 @@ invariant_of-self-in-Err c =
     let e = c.serve_recorded.new.table in
     let f = c.deref_mut-in-Err.result.now in
     let done = c.in-Err.ensures in
-    subst (λ (t : LockTable). IsKept (record { sessions = c.self.inside.sessions; lock_table = record c.self.inside.lock_table { value = t }; history = c.serve_recorded.new.history; marks = c.self.inside.marks; deadlocks = c.serve_recorded.new.log; counts = c.serve_recorded.new.counts })) (sym (c.restore_ended.ensures ∙ ap (λ (t : LockTable). with_ended_count c.clear_ended-waits_ended.result t) c.deref_mut-in-Err.ensures.value))
+    subst (λ (t : LockTable). IsKept (record { sessions = c.self.inside.sessions; lock_table = record c.self.inside.lock_table { value = t }; history = c.serve_recorded.new.history; marks = c.self.inside.marks; notes = c.serve_recorded.new.notes })) (sym (c.restore_ended.ensures ∙ ap (λ (t : LockTable). with_ended_count c.clear_ended-waits_ended.result t) c.deref_mut-in-Err.ensures.value))
     (of-kept _ k.some k.few (kept-relisted e _ c.serve_recorded.new.history.items refl done.kept) (done.lockers ∙ (ap (λ (t : LockTable). vec_len t.lockers) cleared ∙ k.lockers)) k.marked done.log done.told done.calls done.waits)

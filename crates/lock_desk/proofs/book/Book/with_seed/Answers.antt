@@ -26,12 +26,12 @@ invariant_of-result c =
       lockers = lock_table.lockers;
       counted = subst (λ (es : List Entry). c.in_ok-lock_table.lock_table.value.count ≤ length es) none (omega (arith, lock_table.shows.count));
       marked = marks.sessions;
-      log = λ some. absurd (omega (arith, some, c.in_ok-deadlocks.ensures.most));
-      told = subst (λ (es : List Entry). AreDeadlocksTold (newest c.in_ok-deadlocks.deadlocks.most (deadlocks_in es)) c.in_ok-deadlocks.deadlocks.told) none
-          (subst (AreDeadlocksTold (newest c.in_ok-deadlocks.deadlocks.most [])) (sym c.in_ok-deadlocks.ensures.told) (subst (λ (n : ℕ). AreDeadlocksTold (newest n []) []) (sym c.in_ok-deadlocks.ensures.most) tt));
+      log = λ some. absurd (omega (arith, some, c.in_ok-log.ensures.most));
+      told = subst (λ (es : List Entry). AreDeadlocksTold (newest c.in_ok-log.log.most (deadlocks_in es)) c.in_ok-log.log.told) none
+          (subst (AreDeadlocksTold (newest c.in_ok-log.log.most [])) (sym c.in_ok-log.ensures.told) (subst (λ (n : ℕ). AreDeadlocksTold (newest n []) []) (sym c.in_ok-log.ensures.most) tt));
       calls = subst (λ (es : List Entry). AreCallsCounted es c.new-3.result) none c.new-3.ensures;
-      waits = subst (λ (es : List Entry). AreWaitsCounted es c.in_ok-deadlocks.deadlocks.counts) none
-          (subst (AreWaitsCounted []) (sym c.in_ok-deadlocks.ensures.counts) none-counted);
+      waits = subst (λ (es : List Entry). AreWaitsCounted es c.in_ok-log.log.counts) none
+          (subst (AreWaitsCounted []) (sym c.in_ok-log.ensures.counts) none-counted);
     }
 
 pub returns-clause-ended : goal.returns-clause-ended

@@ -18,12 +18,12 @@ pub index_mut-cell-requires : goal.index_mut-cell-requires
 index_mut-cell-requires c =
     let rs = in_use c.self.inside.resources.keys c.self.inside.has_provisional in
     let e = ap (λ (t : Table). t.entries) c.self.view_is in
-    omega (arith, cell-within rs c.self.inside.cells.items c.args.self.now.entries e c.args.resource c.args.place c.in-Some.place c.in-Some.is c.requires.place, c.self.inside.cells.ok.0)
+    omega (arith, cell-within rs c.self.inside.cells.items c.args.self.now.entries e c.args.given.resource c.args.place c.in-Some.place c.in-Some.is c.requires.place, c.self.inside.cells.ok.0)
 
 pub give_up-requires-clause-rising : goal.give_up-requires-clause-rising
 give_up-requires-clause-rising c =
     let cs = c.args.self.now.entries in
-    let r = c.args.resource in
+    let r = c.args.given.resource in
     let rs = in_use c.self.inside.resources.keys c.self.inside.has_provisional in
     let xs = c.self.inside.cells.items in
     let e = ap (λ (t : Table). t.entries) c.self.view_is in
@@ -34,7 +34,7 @@ give_up-requires-clause-rising c =
 pub give_up-requires-clause-room : goal.give_up-requires-clause-room
 give_up-requires-clause-room c =
     let cs = c.args.self.now.entries in
-    let r = c.args.resource in
+    let r = c.args.given.resource in
     let rs = in_use c.self.inside.resources.keys c.self.inside.has_provisional in
     let xs = c.self.inside.cells.items in
     let e = ap (λ (t : Table). t.entries) c.self.view_is in
@@ -45,30 +45,30 @@ give_up-requires-clause-room c =
 pub promote-requires-clause-once : goal.promote-requires-clause-once
 promote-requires-clause-once c =
     let cs = c.args.self.now.entries in
-    let r = c.args.resource in
+    let r = c.args.given.resource in
     let rs = in_use c.self.inside.resources.keys c.self.inside.has_provisional in
     let xs = c.self.inside.cells.items in
     let e = ap (λ (t : Table). t.entries) c.self.view_is in
     let x = c.index_mut-cell.result.now in
     let t = there rs xs cs e r c.args.place c.in-Some.place c.in-Some.is c.requires.place x c.index_mut-cell.ensures.value in
-    once-there c.args.claim r c.args.session cs x c.give_up.new.self t c.give_up.ensures.view (kept-at r cs x c.requires.cells t).once
+    once-there c.args.given.claim r c.args.given.session cs x c.give_up.new.self t c.give_up.ensures.view (kept-at r cs x c.requires.cells t).once
 
 pub promote-requires-clause-agree : goal.promote-requires-clause-agree
 promote-requires-clause-agree c =
     let cs = c.args.self.now.entries in
-    let r = c.args.resource in
+    let r = c.args.given.resource in
     let rs = in_use c.self.inside.resources.keys c.self.inside.has_provisional in
     let xs = c.self.inside.cells.items in
     let e = ap (λ (t : Table). t.entries) c.self.view_is in
     let x = c.index_mut-cell.result.now in
     let t = there rs xs cs e r c.args.place c.in-Some.place c.in-Some.is c.requires.place x c.index_mut-cell.ensures.value in
-    let v = view-left c.args.claim r c.args.session cs x c.give_up.new.self t c.give_up.ensures.view in
+    let v = view-left c.args.given.claim r c.args.given.session cs x c.give_up.new.self t c.give_up.ensures.view in
     subst (λ (w : View). DoAgree r w (standings_of c.args.lockers.now.items)) (sym v) c.requires.agree
 
 pub invariant_of-self-else-is_idle : goal.invariant_of-self-else-is_idle
 invariant_of-self-else-is_idle c = record {
   long = long-still _ _ c.in-Some.place c.promote.new.cell c.self.invariant.long;
-  idle = idle-still _ _ c.in-Some.place c.promote.new.cell (resource-within (in_use c.self.inside.resources.keys c.self.inside.has_provisional) c.self.inside.cells.items c.args.self.now.entries (ap (λ (t : Table). t.entries) c.self.view_is) c.args.resource c.args.place c.in-Some.place c.in-Some.is c.requires.place) c.self.invariant.idle;
+  idle = idle-still _ _ c.in-Some.place c.promote.new.cell (resource-within (in_use c.self.inside.resources.keys c.self.inside.has_provisional) c.self.inside.cells.items c.args.self.now.entries (ap (λ (t : Table). t.entries) c.self.view_is) c.args.given.resource c.args.place c.in-Some.place c.in-Some.is c.requires.place) c.self.invariant.idle;
 }
 
 pub vacate-requires-clause-within : goal.vacate-requires-clause-within
@@ -78,13 +78,13 @@ vacate-requires-clause-within c =
     let xs = c.self.inside.cells.items in
     let e = ap (λ (t : Table). t.entries) c.self.view_is in
     let new = c.promote.new.cell in
-    let within = resource-within rs xs cs e c.args.resource c.args.place c.in-Some.place c.in-Some.is c.requires.place in
+    let within = resource-within rs xs cs e c.args.given.resource c.args.place c.in-Some.place c.in-Some.is c.requires.place in
     omega (arith, within, length-beside rs (set xs c.in-Some.place new) (long-still xs (length rs) c.in-Some.place new c.self.invariant.long))
 
 pub vacate-requires-clause-idle : goal.vacate-requires-clause-idle
 vacate-requires-clause-idle c = λ q y h.
     let cs = c.args.self.now.entries in
-    let r = c.args.resource in
+    let r = c.args.given.resource in
     let rs = in_use c.self.inside.resources.keys c.self.inside.has_provisional in
     let xs = c.self.inside.cells.items in
     let e = ap (λ (t : Table). t.entries) c.self.view_is in
@@ -95,57 +95,57 @@ vacate-requires-clause-idle c = λ q y h.
 pub returns-then-is_idle-clause-cells : goal.returns-then-is_idle-clause-cells
 returns-then-is_idle-clause-cells c =
     let cs = c.args.self.now.entries in
-    let r = c.args.resource in
+    let r = c.args.given.resource in
     let rs = in_use c.self.inside.resources.keys c.self.inside.has_provisional in
     let xs = c.self.inside.cells.items in
     let e = ap (λ (t : Table). t.entries) c.self.view_is in
     let x = c.index_mut-cell.result.now in
     let t = there rs xs cs e r c.args.place c.in-Some.place c.in-Some.is c.requires.place x c.index_mut-cell.ensures.value in
     let new = c.promote.new.cell in
-    free-idle c.args.claim r c.args.session cs x c.give_up.new.self t c.give_up.ensures.view
+    free-idle c.args.given.claim r c.args.given.session cs x c.give_up.new.self t c.give_up.ensures.view
     new c.promote.ensures.view same_path (λ a b. refl) c.requires.cells c.vacate.new.self.entries _ (not-true (is_busy (view_of new)) (sym c.is_idle.ensures ∙ c.if-is_idle.true))
     (wrote rs xs cs e r c.args.place c.in-Some.place c.in-Some.is c.requires.place x c.index_mut-cell.ensures.value new (apart-in_use _ c.same_path_is_equality.ensures.code c.self.inside.resources.keys c.self.inside.has_provisional c.len-len.ensures.unique) c.self.invariant.long) (c.vacate.ensures.gone r new (written-entry rs xs cs e r c.args.place c.in-Some.place c.in-Some.is c.requires.place x c.index_mut-cell.ensures.value new))
 
 pub returns-then-is_idle-clause-agree : goal.returns-then-is_idle-clause-agree
 returns-then-is_idle-clause-agree c =
     let cs = c.args.self.now.entries in
-    let r = c.args.resource in
+    let r = c.args.given.resource in
     let rs = in_use c.self.inside.resources.keys c.self.inside.has_provisional in
     let xs = c.self.inside.cells.items in
     let e = ap (λ (t : Table). t.entries) c.self.view_is in
     let x = c.index_mut-cell.result.now in
     let t = there rs xs cs e r c.args.place c.in-Some.place c.in-Some.is c.requires.place x c.index_mut-cell.ensures.value in
-    agree-there c.args.claim r c.args.session cs x c.give_up.new.self t c.give_up.ensures.view c.promote.new.cell c.promote.ensures.view _ c.promote.ensures.agree
+    agree-there c.args.given.claim r c.args.given.session cs x c.give_up.new.self t c.give_up.ensures.view c.promote.new.cell c.promote.ensures.view _ c.promote.ensures.agree
 
 pub returns-else-is_idle-clause-cells : goal.returns-else-is_idle-clause-cells
 returns-else-is_idle-clause-cells c =
     let cs = c.args.self.now.entries in
-    let r = c.args.resource in
+    let r = c.args.given.resource in
     let rs = in_use c.self.inside.resources.keys c.self.inside.has_provisional in
     let xs = c.self.inside.cells.items in
     let e = ap (λ (t : Table). t.entries) c.self.view_is in
     let x = c.index_mut-cell.result.now in
     let t = there rs xs cs e r c.args.place c.in-Some.place c.in-Some.is c.requires.place x c.index_mut-cell.ensures.value in
     let new = c.promote.new.cell in
-    free-kept c.args.claim r c.args.session cs x c.give_up.new.self t c.give_up.ensures.view
+    free-kept c.args.given.claim r c.args.given.session cs x c.give_up.new.self t c.give_up.ensures.view
     new c.promote.ensures.view same_path (λ a b. refl) c.requires.cells _ c.promote.ensures.room c.promote.ensures.once (not-false (is_busy (view_of new)) (sym c.is_idle.ensures ∙ c.if-is_idle.false))
     (wrote rs xs cs e r c.args.place c.in-Some.place c.in-Some.is c.requires.place x c.index_mut-cell.ensures.value new (apart-in_use _ c.same_path_is_equality.ensures.code c.self.inside.resources.keys c.self.inside.has_provisional c.len-len.ensures.unique) c.self.invariant.long)
 
 pub returns-else-is_idle-clause-agree : goal.returns-else-is_idle-clause-agree
 returns-else-is_idle-clause-agree c =
     let cs = c.args.self.now.entries in
-    let r = c.args.resource in
+    let r = c.args.given.resource in
     let rs = in_use c.self.inside.resources.keys c.self.inside.has_provisional in
     let xs = c.self.inside.cells.items in
     let e = ap (λ (t : Table). t.entries) c.self.view_is in
     let x = c.index_mut-cell.result.now in
     let t = there rs xs cs e r c.args.place c.in-Some.place c.in-Some.is c.requires.place x c.index_mut-cell.ensures.value in
-    agree-there c.args.claim r c.args.session cs x c.give_up.new.self t c.give_up.ensures.view c.promote.new.cell c.promote.ensures.view _ c.promote.ensures.agree
+    agree-there c.args.given.claim r c.args.given.session cs x c.give_up.new.self t c.give_up.ensures.view c.promote.new.cell c.promote.ensures.view _ c.promote.ensures.agree
 
 pub follow_give_up-requires-clause-within : goal.follow_give_up-requires-clause-within
 follow_give_up-requires-clause-within c =
     let cs = c.args.self.now.entries in
-    let r = c.args.resource in
+    let r = c.args.given.resource in
     let rs = in_use c.self.inside.resources.keys c.self.inside.has_provisional in
     let xs = c.self.inside.cells.items in
     let e = ap (λ (t : Table). t.entries) c.self.view_is in
@@ -156,7 +156,7 @@ follow_give_up-requires-clause-within c =
 pub follow_give_up-requires-clause-once : goal.follow_give_up-requires-clause-once
 follow_give_up-requires-clause-once c =
     let cs = c.args.self.now.entries in
-    let r = c.args.resource in
+    let r = c.args.given.resource in
     let rs = in_use c.self.inside.resources.keys c.self.inside.has_provisional in
     let xs = c.self.inside.cells.items in
     let e = ap (λ (t : Table). t.entries) c.self.view_is in
@@ -167,18 +167,18 @@ follow_give_up-requires-clause-once c =
 pub follow_give_up-requires-clause-claimed : goal.follow_give_up-requires-clause-claimed
 follow_give_up-requires-clause-claimed c =
     let cs = c.args.self.now.entries in
-    let r = c.args.resource in
+    let r = c.args.given.resource in
     let rs = in_use c.self.inside.resources.keys c.self.inside.has_provisional in
     let xs = c.self.inside.cells.items in
     let e = ap (λ (t : Table). t.entries) c.self.view_is in
     let x = c.index_mut-cell.result.now in
     let t = there rs xs cs e r c.args.place c.in-Some.place c.in-Some.is c.requires.place x c.index_mut-cell.ensures.value in
-    ap (λ (o : Option Cell). has_session c.args.session (view_in o).waiting) t ∙ c.requires.claimed
+    ap (λ (o : Option Cell). has_session c.args.given.session (view_in o).waiting) t ∙ c.requires.claimed
 
 pub follow_give_up-requires-clause-written : goal.follow_give_up-requires-clause-written
 follow_give_up-requires-clause-written c =
     let cs = c.args.self.now.entries in
-    let r = c.args.resource in
+    let r = c.args.given.resource in
     let rs = in_use c.self.inside.resources.keys c.self.inside.has_provisional in
     let xs = c.self.inside.cells.items in
     let e = ap (λ (t : Table). t.entries) c.self.view_is in
@@ -189,30 +189,30 @@ follow_give_up-requires-clause-written c =
 pub promote-requires-clause-written : goal.promote-requires-clause-written
 promote-requires-clause-written c =
     let v = view_of c.index_mut-cell.result.now in
-    let left = view_after_giving_up c.args.claim c.args.session v in
+    let left = view_after_giving_up c.args.given.claim c.args.given.session v in
     let mid = c.follow_give_up.new.waits in
-    subst (λ (y : View). AreWritten y mid) (sym c.give_up.ensures.view) (written-mid v left c.args.waits.now mid c.follow_give_up.ensures (λ s. still-waits c.args.claim c.args.session s v))
+    subst (λ (y : View). AreWritten y mid) (sym c.give_up.ensures.view) (written-mid v left c.args.waits.now mid c.follow_give_up.ensures (λ s. still-waits c.args.given.claim c.args.given.session s v))
 
 pub returns-then-is_idle-clause-rows : goal.returns-then-is_idle-clause-rows
 returns-then-is_idle-clause-rows c =
     let cs = c.args.self.now.entries in
-    let r = c.args.resource in
+    let r = c.args.given.resource in
     let rs = in_use c.self.inside.resources.keys c.self.inside.has_provisional in
     let xs = c.self.inside.cells.items in
     let e = ap (λ (t : Table). t.entries) c.self.view_is in
     let x = c.index_mut-cell.result.now in
     let t = there rs xs cs e r c.args.place c.in-Some.place c.in-Some.is c.requires.place x c.index_mut-cell.ensures.value in
-    follows-freeing c.args.claim c.args.session (view_of x) (view_of c.give_up.new.self) (view_of c.promote.new.cell) _ _ c.args.waits.now c.follow_give_up.new.waits c.promote.new.waits c.follow_give_up.ensures c.give_up.ensures.view c.promote.ensures.rows
-    (ap view_in t) (view-promoted c.args.claim r c.args.session cs x c.give_up.new.self t c.give_up.ensures.view c.promote.new.cell c.promote.ensures.view)
+    follows-freeing c.args.given.claim c.args.given.session (view_of x) (view_of c.give_up.new.self) (view_of c.promote.new.cell) _ _ c.args.waits.now c.follow_give_up.new.waits c.promote.new.waits c.follow_give_up.ensures c.give_up.ensures.view c.promote.ensures.rows
+    (ap view_in t) (view-promoted c.args.given.claim r c.args.given.session cs x c.give_up.new.self t c.give_up.ensures.view c.promote.new.cell c.promote.ensures.view)
 
 pub returns-else-is_idle-clause-rows : goal.returns-else-is_idle-clause-rows
 returns-else-is_idle-clause-rows c =
     let cs = c.args.self.now.entries in
-    let r = c.args.resource in
+    let r = c.args.given.resource in
     let rs = in_use c.self.inside.resources.keys c.self.inside.has_provisional in
     let xs = c.self.inside.cells.items in
     let e = ap (λ (t : Table). t.entries) c.self.view_is in
     let x = c.index_mut-cell.result.now in
     let t = there rs xs cs e r c.args.place c.in-Some.place c.in-Some.is c.requires.place x c.index_mut-cell.ensures.value in
-    follows-freeing c.args.claim c.args.session (view_of x) (view_of c.give_up.new.self) (view_of c.promote.new.cell) _ _ c.args.waits.now c.follow_give_up.new.waits c.promote.new.waits c.follow_give_up.ensures c.give_up.ensures.view c.promote.ensures.rows
-    (ap view_in t) (view-promoted c.args.claim r c.args.session cs x c.give_up.new.self t c.give_up.ensures.view c.promote.new.cell c.promote.ensures.view)
+    follows-freeing c.args.given.claim c.args.given.session (view_of x) (view_of c.give_up.new.self) (view_of c.promote.new.cell) _ _ c.args.waits.now c.follow_give_up.new.waits c.promote.new.waits c.follow_give_up.ensures c.give_up.ensures.view c.promote.ensures.rows
+    (ap view_in t) (view-promoted c.args.given.claim r c.args.given.session cs x c.give_up.new.self t c.give_up.ensures.view c.promote.new.cell c.promote.ensures.view)

@@ -18,7 +18,7 @@ pub returns-in-Granted-clause-ask : goal.returns-in-Granted-clause-ask
 returns-in-Granted-clause-ask c = λ st i j h.
     let d = c.args.self.now in
     let s = c.args.session in
-    let r = c.args.resource in
+    let r = c.args.found.resource in
     let m = c.target_of-target.result in
     granted-answer d c.request.new.self st s r c.args.mode m c.requires.may_serve.whole i h c.requires.may (c.target_of-target.ensures ∙ ap (λ o. target_of o c.args.mode) c.requires.held)
     (λ y. (c.in_ok-request.ensures.held y).1)
@@ -28,13 +28,13 @@ pub returns-in-Waiting-clause-ask : goal.returns-in-Waiting-clause-ask
 returns-in-Waiting-clause-ask c = λ st i j h.
     let d = c.args.self.now in
     let s = c.args.session in
-    let r = c.args.resource in
+    let r = c.args.found.resource in
     let m = c.target_of-target.result in
     let target = c.target_of-target.ensures ∙ ap (λ o. target_of o c.args.mode) c.requires.held in
-    elim (cases_Bool (is_held (mode_held c.args.self.now c.args.session c.args.resource) c.target_of-target.result)) [
+    elim (cases_Bool (is_held (mode_held c.args.self.now c.args.session c.args.found.resource) c.target_of-target.result)) [
       | inl y ↦ absurd (let a = (c.in_ok-request.ensures.held y).0 in let b = ap is_granted c.in-Waiting.is in cc)
       | inr n ↦
-          let k = subst (λ (b : Bool). HasAsked c.args.session c.args.resource c.target_of-target.result b c.args.self.now c.request.new.self) (ap is_granted c.in-Waiting.is) (c.in_ok-request.ensures.asked n) in
+          let k = subst (λ (b : Bool). HasAsked c.args.session c.args.found.resource c.target_of-target.result b c.args.self.now c.request.new.self) (ap is_granted c.in-Waiting.is) (c.in_ok-request.ensures.asked n) in
           let sound = waits-sound d c.request.new.self st s r c.args.mode m c.requires.may_serve.whole i h c.requires.may target n k in
           let first = waits-shown_first d c.request.new.self st s r c.args.mode m c.requires.may_serve.whole i h c.requires.may target n k in
           let numbered = waits-numbered d c.request.new.self st s r c.args.mode m c.requires.may_serve.whole i h c.requires.may target n k j in
@@ -51,7 +51,7 @@ pub returns-in-Granted-clause-noted : goal.returns-in-Granted-clause-noted
 returns-in-Granted-clause-noted c = λ st i j h.
     let d = c.args.self.now in
     let s = c.args.session in
-    let r = c.args.resource in
+    let r = c.args.found.resource in
     let m = c.target_of-target.result in
     let target = c.target_of-target.ensures ∙ ap (λ o. target_of o c.args.mode) c.requires.held in
     let none = none-if-granted d c.request.new.self st s r c.args.mode m h target
@@ -62,10 +62,10 @@ pub returns-in-Waiting-clause-noted : goal.returns-in-Waiting-clause-noted
 returns-in-Waiting-clause-noted c = λ st i j h.
     let d = c.args.self.now in
     let s = c.args.session in
-    let r = c.args.resource in
+    let r = c.args.found.resource in
     let m = c.target_of-target.result in
     let target = c.target_of-target.ensures ∙ ap (λ o. target_of o c.args.mode) c.requires.held in
-    elim (cases_Bool (is_held (mode_held c.args.self.now c.args.session c.args.resource) c.target_of-target.result)) [
+    elim (cases_Bool (is_held (mode_held c.args.self.now c.args.session c.args.found.resource) c.target_of-target.result)) [
       | inl y ↦ absurd (let a = (c.in_ok-request.ensures.held y).0 in let b = ap is_granted c.in-Waiting.is in cc)
       | inr n ↦
           let e = c.request.new.self in

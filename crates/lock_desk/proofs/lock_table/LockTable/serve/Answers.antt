@@ -21,7 +21,7 @@ returns-in_err-reply-in-Try-clause-err c = λ st h. on-err-from c.from_residual-
 
 pub returns-in-Abort-clause-noted : goal.returns-in-Abort-clause-noted
 returns-in-Abort-clause-noted c = λ st i n h.
-    let log = c.args.log.now in
+    let log = c.args.notes.now.log in
     let same = c.count_abort.ensures in
     let waits = c.is_waiting.ensures ∙ waits-shown c.args.self.now st c.args.session c.requires.may_serve.whole h in
     let is = same ∙ ap (λ (b : Bool). record log { counts = with_abort b log.counts }) waits in
@@ -31,7 +31,7 @@ returns-in-Abort-clause-noted c = λ st i n h.
 
 pub returns-in-Restart-clause-noted : goal.returns-in-Restart-clause-noted
 returns-in-Restart-clause-noted c = λ st i n h.
-    let log = c.args.log.now in
+    let log = c.args.notes.now.log in
     let same = c.count_restart.ensures in
     let waits = c.is_waiting-in-Restart.ensures ∙ waits-shown c.args.self.now st c.args.session c.requires.may_serve.whole h in
     let is = same ∙ ap (λ (b : Bool). record log { counts = with_restart b log.counts }) waits in

@@ -20,11 +20,6 @@ invariant_of-self c =
     rw whole (
       c.unset.auto.words ∙ ap length c.deref_mut.ensures.value ∙ k.0 ∙ same,
       λ a b h. let p = parts a b h in one a ∙ and_from (has_bit w.items a) (not (eqb a c.args.t)) (k.1 a b p.0) p.1,
-      k.2 ∙ same,
-      k.3 ∙ same,
-      k.4 ∙ same,
-      k.5 ∙ sym c.clear_row.ensures.sessions,
-      k.6 ∙ sym c.clear_row.ensures.sessions,
-      k.7 ∙ sym c.clear_row.ensures.sessions,
-      λ a is. circle-before old new (λ x y h. (parts x y h).0) a c.self.inside.circle.items (k.8 a is),
+      k.2 ∙ sym c.clear_row.ensures.sessions,
+      λ a is. circle-before old new (λ x y h. (parts x y h).0) a c.self.inside.search.circle (k.3 a is),
     )

@@ -8,13 +8,8 @@ invariant_of-result c =
     let m = c.in_ok-matrix.ensures.sessions in (
       omega (arith, m, c.in_ok-waiting.ensures.len, c.words_for.ensures),
       λ t u h. absurd (false≢true (sym (none t u) ∙ h)),
-      omega (arith, m, c.in_ok-reached.ensures.len, c.words_for-2.ensures),
-      omega (arith, m, c.in_ok-marked.ensures.len, c.words_for-3.ensures),
-      omega (arith, m, c.in_ok-circle.ensures.len, c.words_for-4.ensures),
-      omega (arith, m, c.in_ok-stack.ensures.len),
-      omega (arith, m, c.in_ok-hops.ensures.len),
-      omega (arith, m, c.in_ok-parents.ensures.len),
-      λ t is. absurd (omega (arith, is)),
+      c.in_ok-search.ensures.sessions ∙ sym m,
+      λ t is. absurd (omega (arith, is, c.in_ok-search.ensures.none)),
     )
 
 pub returns-clause-no_pairs : goal.returns-clause-no_pairs

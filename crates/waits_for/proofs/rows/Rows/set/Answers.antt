@@ -22,7 +22,7 @@ invariant_of-self c =
     let one : (j : ℕ) → has_bit new j ≡ (has_bit w.items j || eqb j c.args.t) = λ j. rw (← c.deref_mut.ensures.value) (c.set-2.ensures j) in
     let marked = waiting-more (pairs_of c.self.inside.matrix) (pairs_of c.set.new.self) w.items new c.args.t c.args.u k.1 c.set.ensures.pairs one in
     let same = ap words_for (sym c.set.ensures.sessions) in
-    rw whole (c.set-2.auto.words ∙ ap length c.deref_mut.ensures.value ∙ k.0 ∙ same, marked, k.2 ∙ same, k.3 ∙ same, k.4 ∙ same, k.5 ∙ sym c.set.ensures.sessions, k.6 ∙ sym c.set.ensures.sessions, k.7 ∙ sym c.set.ensures.sessions, λ a is. absurd (omega (arith, is)))
+    rw whole (c.set-2.auto.words ∙ ap length c.deref_mut.ensures.value ∙ k.0 ∙ same, marked, c.forget.ensures.sessions ∙ k.2 ∙ sym c.set.ensures.sessions, λ a is. absurd (omega (arith, is, c.forget.ensures.none)))
 
 pub returns-clause-pairs : goal.returns-clause-pairs
 returns-clause-pairs c = rw (← c.self.view_is) c.set.ensures.pairs

@@ -12,4 +12,4 @@ invariant_of-self c =
     let was : (a b : ℕ) → new a b ≡ true → old a b ≡ true = λ a b h. (and_parts (old a b) (not (eqb a c.args.t && eqb b c.args.u)) (sym (c.unset.ensures.pairs a b) ∙ h)).0 in
     let k = c.self.invariant in
     let same = ap words_for (sym c.unset.ensures.sessions) in
-    (k.0 ∙ same, λ a b h. k.1 a b (was a b h), k.2 ∙ same, k.3 ∙ same, k.4 ∙ same, k.5 ∙ sym c.unset.ensures.sessions, k.6 ∙ sym c.unset.ensures.sessions, k.7 ∙ sym c.unset.ensures.sessions, λ a is. circle-before old new was a c.self.inside.circle.items (k.8 a is))
+    (k.0 ∙ same, λ a b h. k.1 a b (was a b h), k.2 ∙ sym c.unset.ensures.sessions, λ a is. circle-before old new was a c.self.inside.search.circle (k.3 a is))

@@ -2,7 +2,7 @@ use Rattle.std.proofs.Common.{◌∙◌, ℕ, List, length, ap, arith, subst}
 use Rattle.combining.specs.Ended.{HasRoom}
 use Rattle.combining.proofs.EndedWaits.{told-step}
 use Rattle.combining.proofs.Places.{entered-step}
-use Rattle.combining.proofs.own_call.serve_published_telling.Goals as goal
+use Rattle.combining.proofs.own_call.serve_all_telling.Goals as goal
 
 pub add-requires : goal.add-requires
 add-requires g c =

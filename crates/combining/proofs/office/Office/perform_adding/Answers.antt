@@ -1,0 +1,37 @@
+use Rattle.std.proofs.Common.{◌≡◌, ◌≤◌, ◌+◌, ◌*◌, ◌++◌, ◌∙◌, ℕ, Option, List, length, ap, subst, arith}
+use Rattle.std.specs.Prelude.{IfSome, IfNone}
+use Rattle.std.specs.List.{range_with_len}
+use Rattle.publication.specs.Views.{TicketView}
+use Rattle.combining.specs.Ended.{entered_since}
+use Rattle.combining.specs.declared.bounds.PassBound.{PassBound}
+use Rattle.combining.specs.inner.OwnCalls.{IsPassWithOwn}
+use Rattle.combining.specs.inner.Passes.{HasPassed}
+use Rattle.combining.proofs.OwnCalls.{some_weaker}
+use Rattle.combining.proofs.Places.{entered-count}
+use Rattle.combining.proofs.office.Office.perform_adding.Goals as goal
+
+pub returns-in-Some-own-clause-few : goal.returns-in-Some-own-clause-few
+returns-in-Some-own-clause-few g c =
+    let t = c.args.session.now in
+    let s = c.seize.new.ticket in
+    let u = c.serve_with_own-own.new.session in
+    let v = c.release.new.ticket in
+    let served = c.serve_with_own-own.result.0.served in
+    let own = subst (λ (o : Option (ℕ × _)). IfSome o (λ (r : ℕ × _). IsPassWithOwn (g.O.Serving.goes_first c.args.call) s u c.args.call r.0 r.1 served)) c.in-Some-own.is c.serve_with_own-own.ensures.performed in
+    let entered : v.entered ≡ t.entered ++ range_with_len (length s.front) (served + 1) = ap (λ (x : TicketView _ _). x.entered) c.release.ensures.ticket
+    ∙ (own.entered ∙ ap (λ (x : TicketView _ _). x.entered ++ range_with_len (length s.front) (served + 1)) c.in-Some.ensures.ticket) in
+    let count = entered-count t v (length s.front) (served + 1) entered in
+    some_weaker c.args.bound (λ (b : PassBound). served ≤ b.rounds * b.calls) (λ (b : PassBound). length (entered_since t v) ≤ b.rounds * b.calls + 1) (λ b few. omega (arith, count, few)) c.serve_with_own-own.ensures.few
+
+pub returns-in-None-clause-few : goal.returns-in-None-clause-few
+returns-in-None-clause-few g c =
+    let t = c.args.session.now in
+    let s = c.seize.new.ticket in
+    let u = c.serve_with_own-own.new.session in
+    let v = c.release.new.ticket in
+    let served = c.serve_with_own-own.result.0.served in
+    let pass = subst (λ (o : Option (ℕ × _)). IfNone o (HasPassed s u served)) c.in-None.is c.serve_with_own-own.ensures.refused in
+    let entered : v.entered ≡ t.entered ++ range_with_len (length s.front) served = ap (λ (x : TicketView _ _). x.entered) c.release.ensures.ticket
+    ∙ (pass.entered ∙ ap (λ (x : TicketView _ _). x.entered ++ range_with_len (length s.front) served) c.in-Some.ensures.ticket) in
+    let count = entered-count t v (length s.front) served entered in
+    some_weaker c.args.bound (λ (b : PassBound). served ≤ b.rounds * b.calls) (λ (b : PassBound). length (entered_since t v) ≤ b.rounds * b.calls + 1) (λ b few. omega (arith, count, few)) c.serve_with_own-own.ensures.few
