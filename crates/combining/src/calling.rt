@@ -57,6 +57,7 @@ fn serve_if<O: Batching, T: Told<O>>(
     ensures few { length (entered_since session.old session.new) ≤ most_of (T.most told.old) }
     ensures told { HasAddedTold T.ends office.now.sessions session.new.front (entered_since session.old session.new) (T.list told.old) (T.list told.new) }
     ensures room { T.room told.new ≡ T.room told.old }
+    ensures most { T.most told.new ≡ T.most told.old }
     ensures notes { T.notes told.old session.old.front → T.notes told.new session.new.front }
 {
     if !serve_now {
@@ -97,6 +98,7 @@ pub fn look<O: Batching, T: Told<O>>(
     ensures few { length (entered_since session.old session.new) ≤ most_of (T.most told.old) }
     ensures told { HasAddedTold T.ends office.now.sessions session.new.front (entered_since session.old session.new) (T.list told.old) (T.list told.new) }
     ensures room { T.room told.new ≡ T.room told.old }
+    ensures most { T.most told.new ≡ T.most told.old }
     ensures noted { (answer : _) → result ≡ Next.Answered answer → T.notes told.old session.old.front → IsNotedUpTo (T.notes told.new) session.new.front (answer.place + 1) }
     ensures notes_starved { result ≡ Next.Starved → T.notes told.old session.old.front → T.notes told.new session.new.front }
     ensures notes_waits { (w : _) → result ≡ Next.Wait w → T.notes told.old session.old.front → T.notes told.new session.new.front }
@@ -136,6 +138,7 @@ fn publish_and_look<O: Batching, T: Told<O>>(
     ensures few { length (entered_since session.old session.new) ≤ most_of (T.most told.old) }
     ensures told { HasAddedTold T.ends office.now.sessions session.new.front (entered_since session.old session.new) (T.list told.old) (T.list told.new) }
     ensures room { T.room told.new ≡ T.room told.old }
+    ensures most { T.most told.new ≡ T.most told.old }
     ensures noted { (answer : _) → result ≡ Next.Answered answer → T.notes told.old session.old.front → IsNotedUpTo (T.notes told.new) session.new.front (answer.place + 1) }
     ensures notes_starved { result ≡ Next.Starved → T.notes told.old session.old.front → T.notes told.new session.new.front }
     ensures notes_waits { (w : _) → result ≡ Next.Wait w → T.notes told.old session.old.front → T.notes told.new session.new.front }
@@ -169,6 +172,7 @@ fn try_at_once<O: Batching, T: Told<O>>(
     ensures few { length (entered_since session.old session.new) ≤ most_of (T.most told.old) + 1 }
     ensures told { HasAddedTold T.ends office.now.sessions session.new.front (entered_since session.old session.new) (T.list told.old) (T.list told.new) }
     ensures room { T.room told.new ≡ T.room told.old }
+    ensures most { T.most told.new ≡ T.most told.old }
     ensures noted { (answer : _) → result ≡ Next.Answered answer → T.notes told.old session.old.front → IsNotedUpTo (T.notes told.new) session.new.front (answer.place + 1) }
     ensures notes_starved { result ≡ Next.Starved → T.notes told.old session.old.front → T.notes told.new session.new.front }
     ensures notes_waits { (w : _) → result ≡ Next.Wait w → T.notes told.old session.old.front → T.notes told.new session.new.front }
@@ -220,6 +224,7 @@ pub fn turn<O: Batching, T: Told<O>>(
     ensures few { length (entered_since session.old session.new) ≤ most_of (T.most told.old) + 1 }
     ensures told { HasAddedTold T.ends office.now.sessions session.new.front (entered_since session.old session.new) (T.list told.old) (T.list told.new) }
     ensures room { T.room told.new ≡ T.room told.old }
+    ensures most { T.most told.new ≡ T.most told.old }
     ensures noted { (answer : _) → result ≡ Next.Answered answer → T.notes told.old session.old.front → IsNotedUpTo (T.notes told.new) session.new.front (answer.place + 1) }
     ensures notes_starved { result ≡ Next.Starved → T.notes told.old session.old.front → T.notes told.new session.new.front }
     ensures notes_waits { (w : _) → result ≡ Next.Wait w → T.notes told.old session.old.front → T.notes told.new session.new.front }
@@ -271,6 +276,7 @@ pub fn resume<O: Batching, T: Told<O>>(
     ensures tries { FitIntoLooks (session.new.tries - session.old.tries) turns }
     ensures told { AreToldBy T.ends office.now.sessions session.new.front (entered_since session.old session.new) (T.list told.new) }
     ensures room { T.room told.new ≡ T.room told.old }
+    ensures most { T.most told.new ≡ T.most told.old }
     ensures noted { (answer : _) → result ≡ Called.Answered answer → T.notes told.old session.old.front → IsNotedUpTo (T.notes told.new) session.new.front (answer.place + 1) }
     ensures notes_starved { result ≡ Called.Starved → T.notes told.old session.old.front → T.notes told.new session.new.front }
     ensures notes_not_yet { result ≡ Called.NotYet → T.notes told.old session.old.front → T.notes told.new session.new.front }
@@ -311,6 +317,7 @@ pub fn call<O: Batching, T: Told<O>>(
     ensures tries { FitIntoLooks (session.new.tries - session.old.tries) (turns + 1) }
     ensures told { AreToldBy T.ends office.now.sessions session.new.front (entered_since session.old session.new) (T.list told.new) }
     ensures room { T.room told.new ≡ T.room told.old }
+    ensures most { T.most told.new ≡ T.most told.old }
     ensures noted { (answer : _) → result ≡ Called.Answered answer → T.notes told.old session.old.front → IsNotedUpTo (T.notes told.new) session.new.front (answer.place + 1) }
     ensures notes_starved { result ≡ Called.Starved → T.notes told.old session.old.front → T.notes told.new session.new.front }
     ensures notes_not_yet { result ≡ Called.NotYet → T.notes told.old session.old.front → T.notes told.new session.new.front }

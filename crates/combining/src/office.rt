@@ -167,6 +167,7 @@ impl<O: Batching> Office<O> {
         ensures told { AreToldBy T.ends self.now.sessions session.new.front (entered_since session.old session.new) (T.list told.new) }
         ensures none { result ≡ Turn.Elsewhere → T.list told.new ≡ [] }
         ensures room { T.room told.new ≡ T.room told.old }
+        ensures most { T.most told.new ≡ T.most told.old }
         ensures notes { T.notes told.old session.old.front → T.notes told.new session.new.front }
     {
         told.clear();

@@ -59,6 +59,7 @@ pub(crate) fn perform_own_telling<O: Batching, T: Told<O>>(
     ensures taken { load.new.pieces.items ≡ load.old.pieces.items }
     ensures told { HasAddedTold T.ends board.now.sessions session.new.front (entered_since session.old session.new) (T.list told.old) (T.list told.new) }
     ensures room { T.room told.new ≡ T.room told.old }
+    ensures most { T.most told.new ≡ T.most told.old }
     ensures notes { T.notes told.old session.old.front → T.notes told.new session.new.front }
 {
     let answer = perform_own(board, session, load, call)?;
@@ -83,6 +84,7 @@ fn serve_all_telling<O: Batching, T: Told<O>>(
     ensures whole { result.left ≡ false }
     ensures told { HasAddedTold T.ends board.now.sessions session.new.front (entered_since session.old session.new) (T.list told.old) (T.list told.new) }
     ensures room { T.room told.new ≡ T.room told.old }
+    ensures most { T.most told.new ≡ T.most told.old }
     ensures noted { T.notes told.new session.new.front }
 {
     let pass = serve_published(board, session, load);
@@ -114,6 +116,7 @@ pub(crate) fn serve_published_telling<O: Batching, T: Told<O>>(
     ensures few { IfSome bound (λ b. result.served ≤ b.rounds * b.calls) }
     ensures told { HasAddedTold T.ends board.now.sessions session.new.front (entered_since session.old session.new) (T.list told.old) (T.list told.new) }
     ensures room { T.room told.new ≡ T.room told.old }
+    ensures most { T.most told.new ≡ T.most told.old }
     ensures noted { T.notes told.new session.new.front }
 {
     match bound {
@@ -144,6 +147,7 @@ fn serve_own_first<O: Batching, T: Told<O>>(
     ensures few { IfSome bound (λ b. result.0.served ≤ b.rounds * b.calls) }
     ensures told { HasAddedTold T.ends board.now.sessions session.new.front (entered_since session.old session.new) (T.list told.old) (T.list told.new) }
     ensures room { T.room told.new ≡ T.room told.old }
+    ensures most { T.most told.new ≡ T.most told.old }
     ensures noted { T.notes told.new session.new.front }
 {
     let answer = perform_own_telling(board, session, load, call, told);
@@ -175,6 +179,7 @@ fn serve_own_last<O: Batching, T: Told<O>>(
     ensures few { IfSome bound (λ b. result.0.served ≤ b.rounds * b.calls) }
     ensures told { HasAddedTold T.ends board.now.sessions session.new.front (entered_since session.old session.new) (T.list told.old) (T.list told.new) }
     ensures room { T.room told.new ≡ T.room told.old }
+    ensures most { T.most told.new ≡ T.most told.old }
     ensures noted { T.notes told.new session.new.front }
 {
     let pass = serve_published_telling(board, session, load, bound, told);
@@ -205,6 +210,7 @@ pub(crate) fn serve_with_own<O: Batching, T: Told<O>>(
     ensures few { IfSome bound (λ b. result.0.served ≤ b.rounds * b.calls) }
     ensures told { HasAddedTold T.ends board.now.sessions session.new.front (entered_since session.old session.new) (T.list told.old) (T.list told.new) }
     ensures room { T.room told.new ≡ T.room told.old }
+    ensures most { T.most told.new ≡ T.most told.old }
     ensures noted { T.notes told.new session.new.front }
 {
     if O::goes_first(&call) {

@@ -33,6 +33,7 @@ fn perform_own_row<O: Batching, G: GoesOn<O>, T: Told<O>>(
     ensures taken { load.new.pieces.items ≡ load.old.pieces.items }
     ensures told { HasAddedTold T.ends board.now.sessions session.new.front (entered_since session.old session.new) (T.list told.old) (T.list told.new) }
     ensures room { T.room told.new ≡ T.room told.old }
+    ensures most { T.most told.new ≡ T.most told.old }
 {
     let mut performed = 0;
     let mut last = None;
@@ -87,6 +88,7 @@ pub(crate) fn serve_with_row<O: Batching, G: GoesOn<O>, T: Told<O>>(
     ensures few { IfSome bound (λ b. result.0.served ≤ b.rounds * b.calls) }
     ensures told { HasAddedTold T.ends board.now.sessions session.new.front (entered_since session.old session.new) (T.list told.old) (T.list told.new) }
     ensures room { T.room told.new ≡ T.room told.old }
+    ensures most { T.most told.new ≡ T.most told.old }
 {
     let pass = serve_published_telling(board, session, load, bound, told);
     let row = perform_own_row::<O, G, T>(board, session, load, calls, told);

@@ -56,6 +56,7 @@ fn try_row_at_once<O: Batching, G: GoesOn<O>, T: Told<O>>(
     ensures few { length (entered_since session.old session.new) ≤ most_of (T.most told.old) + length calls.now }
     ensures told { HasAddedTold T.ends office.now.sessions session.new.front (entered_since session.old session.new) (T.list told.old) (T.list told.new) }
     ensures room { T.room told.new ≡ T.room told.old }
+    ensures most { T.most told.new ≡ T.most told.old }
 {
     let bound = told.bound().at_least_one();
     match office.perform_row_adding::<G, T>(session, calls, Some(bound), told) {
@@ -113,6 +114,7 @@ pub fn row_turn<O: Batching, G: GoesOn<O>, T: Told<O>>(
     ensures few { length (entered_since session.old session.new) ≤ most_of (T.most told.old) + length calls.now }
     ensures told { HasAddedTold T.ends office.now.sessions session.new.front (entered_since session.old session.new) (T.list told.old) (T.list told.new) }
     ensures room { T.room told.new ≡ T.room told.old }
+    ensures most { T.most told.new ≡ T.most told.old }
 {
     if session.is_idle() && made < TRIES_AT_ONCE {
         return try_row_at_once::<O, G, T>(office, session, calls, told);

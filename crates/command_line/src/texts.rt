@@ -3,8 +3,8 @@
 /// The version of the project.
 pub const VERSION: &str = "0.8.0";
 
-/// The text of `--version`: the project's version, and the kit and the logic that it was proved with.
-pub const VERSION_TEXT: &str = "glm 0.8.0\nproved with rattle-kit-13f, logic dac8208d650f15bf\n";
+/// The text of `--version`: the project's version, and the logic of the kit that it was proved with.
+pub const VERSION_TEXT: &str = "glm 0.8.0\nproved with the Rattle kit, logic dac8208d650f15bf\n";
 
 /// The beginning of the help of `replay`.
 pub(crate) const ABOUT_REPLAY: &str =

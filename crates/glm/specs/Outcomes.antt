@@ -202,9 +202,9 @@ pub record HasAnsweredShell (words : List Text) (old new : Option (List ℕ)) (a
   pub part : OnErr answer (HasTalkedPart sessions old new)
   pub faults : IfErr answer (λ fault. IsFaultOfShell fault)
 
--- the text of `--version`: the project's version, and the kit and the logic that it was proved with
+-- the text of `--version`: the project's version, and the logic of the kit that it was proved with
 abbrev pub text_of_version : List ℕ
-text_of_version = codes "glm 0.8.0\nproved with rattle-kit-13f, logic dac8208d650f15bf\n"
+text_of_version = codes "glm 0.8.0\nproved with the Rattle kit, logic dac8208d650f15bf\n"
 
 -- what an outcome says of the words, the bytes of what was read, and what was written, which holds `old` before and `new` after
 abbrev pub HasDone : List Text → Option (List ℕ) → Option (List ℕ) → Option (List ℕ) → Outcome → Type 0

@@ -116,6 +116,7 @@ pub fn lock_path<T: Told<Book>>(
     ensures told { AreToldBy T.ends office.now.sessions session.new.front (entered_since session.old session.new) (T.list told.new) }
     ensures none { result ≡ PathPerformed.Elsewhere → T.list told.new ≡ [] }
     ensures room { T.room told.new ≡ T.room told.old }
+    ensures most { T.most told.new ≡ T.most told.old }
 {
     let mut calls = [Call::Poll; LEVELS];
     let count = write_path(&resource, mode, locked, &mut calls);
@@ -202,6 +203,7 @@ pub fn path_turn<T: Told<Book>>(
     ensures on { HasGoneOn session.old session.new }
     ensures told { HasAddedTold T.ends office.now.sessions session.new.front (entered_since session.old session.new) (T.list told.old) (T.list told.new) }
     ensures room { T.room told.new ≡ T.room told.old }
+    ensures most { T.most told.new ≡ T.most told.old }
 {
     let mut calls = [Call::Poll; LEVELS];
     let count = write_path(&resource, mode, locked, &mut calls);

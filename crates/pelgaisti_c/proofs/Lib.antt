@@ -15,3 +15,4 @@ pub mod Lending
 pub mod Copying
 pub mod ItemLists
 pub mod ListKinds
+pub mod ServedWithin

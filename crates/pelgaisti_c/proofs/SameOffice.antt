@@ -10,4 +10,5 @@ same-trans a b c one two = record {
   sessions = two.sessions ∙ one.sessions;
   mark = two.mark ∙ one.mark;
   waker = two.waker ∙ one.waker;
+  bound = two.bound ∙ one.bound;
 }

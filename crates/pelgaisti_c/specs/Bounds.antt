@@ -1,7 +1,8 @@
--- How much the passes of a session's whole calls serve, as the export states it.
-use Rattle.std.specs.Prelude.{◌≡◌, ◌⊎◌, ℕ, ◌<◌}
+-- How much the passes of a session's whole calls serve, as the exports state it.
+use Rattle.std.specs.Prelude.{◌≡◌, ◌⊎◌, ℕ, ◌+◌, ◌<◌, ◌≤◌, length}
 use Rattle.combining.specs.declared.bounds.PassBound.{PassBound}
-use Rattle.pelgaisti_c.specs.Sessions.{IsSameOffice}
+use Rattle.combining.specs.Ended.{entered_since}
+use Rattle.combining.specs.Rounds.{most_of}
 use Rattle.pelgaisti_c.specs.declared.session_share.SessionShare.{SessionShare}
 
 -- the bound has these numbers
@@ -18,4 +19,12 @@ pub record HasBound (calls locks rounds : ℕ) (before after : SessionShare) : T
   pub session : after.session ≡ before.session
   pub ended : after.ended ≡ before.ended
   pub told : after.told.told ≡ before.told.told
-  pub office : IsSameOffice before after
+  pub office : after.office ≡ before.office
+  pub handed : after.handed.items ≡ before.handed.items
+  pub sessions : after.sessions ≡ before.sessions
+  pub mark : after.mark ≡ before.mark
+  pub waker : after.waker ≡ before.waker
+
+-- the session has entered at most as many calls as a pass within the share's bound may serve, and `own` more
+abbrev pub HasServedWithin : ℕ → SessionShare → SessionShare → Type 0
+HasServedWithin own before after = length (entered_since before.session after.session) ≤ most_of before.told.bound + own

@@ -22,13 +22,14 @@ use Rattle.pelgaisti_c.specs.declared.numbers.EntryNumbers.{EntryNumbers}
 use Rattle.pelgaisti_c.specs.Calls.{are_written}
 use Rattle.pelgaisti_c.specs.Numbers.{IsCall, numbers_of_reply, numbers_of_entry}
 
--- the share keeps its office, the sessions handed in to it, its mark and its waker
+-- the share keeps its office, the sessions handed in to it, its mark, its waker, and the bound of its passes
 pub record IsSameOffice (before after : SessionShare) : Type 0 where
   pub office : after.office ≡ before.office
   pub handed : after.handed.items ≡ before.handed.items
   pub sessions : after.sessions ≡ before.sessions
   pub mark : after.mark ≡ before.mark
   pub waker : after.waker ≡ before.waker
+  pub bound : after.told.bound ≡ before.told.bound
 
 -- the call that the numbers encode is published, as a program of this one call, and pending. 1: the call is listed, after one try or none, and
 -- the session counts all its calls as heard of. 2: the call is not listed after one try, which happens only in an office with other sessions

@@ -9,6 +9,7 @@ ghost use Rattle.program_office.specs.SingleCalls.{IsCalled, IsCalling, IsAnswer
 ghost use Rattle.program_office.specs.Ended.{AreToldBy};
 ghost use Rattle.lock_desk.specs.Paths.{lock_of_level, grants};
 ghost use Rattle.program_office.specs.PathTurns.{IsPathPerformed};
+ghost use Rattle.pelgaisti_c.specs.Bounds.{HasServedWithin};
 ghost use Rattle.pelgaisti_c.specs.Numbers.{IsModeCode, numbers_of_reply};
 ghost use Rattle.pelgaisti_c.specs.Sessions.{IsSameOffice, AreToWake};
 ghost use Rattle.pelgaisti_c.specs.PathTurns.{IsPathEnded, HasPathLeft, IsPathLate, IsPathStarved};
@@ -55,6 +56,7 @@ fn make_path_turn(
     ensures waits { (w : _) → result ≡ NextOfPath.Wait w → share.old.session.pending ≢ None
         → IsWaitingOn share.old.session share.new.session × IsWaitAfterLook made w }
     ensures told { share.new.waker ≢ 0 → AreToldBy share.new.sessions share.new.session.front (entered_since share.old.session share.new.session) share.new.told.told.list }
+    ensures few { HasServedWithin 1 share.old share.new }
     ensures same { IsSameOffice share.old share.new }
 {
     if share.waker == 0 {
@@ -116,6 +118,7 @@ pub(crate) fn path_turn(
         ⊎ (IsPathLate resource mode share.old share.new level.old made.old turns wait.new × (level.new ≡ level.old) × (answer.new ≡ answer.old)
         × (made.old < turns → made.new ≡ made.old + 1) × (turns ≤ made.old → made.new ≡ made.old)) }
     ensures told { (result ≡ OK) ⊎ ((result ≡ NO_MEMORY) ⊎ (result ≡ NOT_SERVED)) → AreToWake share.old share.new told.new }
+    ensures few { (result ≡ OK) ⊎ ((result ≡ NO_MEMORY) ⊎ (result ≡ NOT_SERVED)) → HasServedWithin 1 share.old share.new }
     ensures first { (result ≡ OK) ⊎ ((result ≡ NO_MEMORY) ⊎ (result ≡ NOT_SERVED)) → made.old ≡ 0 → share.old.session.pending ≡ None }
     ensures failed { result ≢ OK → result ≢ NOT_SERVED → (level.new ≡ level.old) × (answer.new ≡ answer.old) × (made.new ≡ made.old) × (wait.new ≡ wait.old) }
     ensures same { result ≢ OK → result ≢ NO_MEMORY → result ≢ NOT_SERVED → (share.new ≡ share.old) × (told.new ≡ told.old) }

@@ -11,6 +11,7 @@ ghost use Rattle.program_office.specs.Ended.{AreToldBy};
 ghost use Rattle.combining.specs.Calls.{IsCalling, IsWaitingOn};
 ghost use Rattle.combining.specs.Ended.{entered_since};
 ghost use Rattle.combining.specs.Waits.{IsWaitAfterTry, IsWaitAfterLook};
+ghost use Rattle.pelgaisti_c.specs.Bounds.{HasServedWithin};
 ghost use Rattle.pelgaisti_c.specs.Programs.{numbers_of_answer};
 ghost use Rattle.pelgaisti_c.specs.Sessions.{IsSameOffice, AreToWake};
 ghost use Rattle.pelgaisti_c.specs.Turns.{number_of_wait, IsLookStarved, IsLookMade};
@@ -91,6 +92,7 @@ fn make_turn(share: &mut SessionShare, program: &Program, made: u64) -> Next<Ans
     ensures waits { (w : _) → result ≡ Next.Wait w → share.old.session.pending ≢ None
         → IsWaitingOn share.old.session share.new.session × IsWaitAfterLook made w }
     ensures told { share.new.waker ≢ 0 → AreToldBy share.new.sessions share.new.session.front (entered_since share.old.session share.new.session) share.new.told.told.list }
+    ensures few { HasServedWithin 1 share.old share.new }
     ensures same { IsSameOffice share.old share.new }
 {
     if share.waker == 0 {
@@ -117,6 +119,7 @@ fn make_look(share: &mut SessionShare, looked: u64) -> Next<Answer>
         → IsWaitingOn share.old.session share.new.session × IsWaitAfterLook looked w }
     ensures others { (w : _) → result ≡ Next.Wait w → looked % LOOKS_PER_TRY ≡ 0 → 1 < share.old.sessions }
     ensures told { share.new.waker ≢ 0 → AreToldBy share.new.sessions share.new.session.front (entered_since share.old.session share.new.session) share.new.told.told.list }
+    ensures few { HasServedWithin 0 share.old share.new }
     ensures same { IsSameOffice share.old share.new }
 {
     if share.waker == 0 {
@@ -162,6 +165,7 @@ fn turn_of(
     ensures memory { result ≡ NO_MEMORY → IsProgramStarved share.old share.new program.now }
     ensures late { result ≡ NOT_SERVED → IsProgramLate share.old share.new program.now made turns wait.new }
     ensures told { AreToWake share.old share.new told.new }
+    ensures few { HasServedWithin 1 share.old share.new }
     ensures failed { result ≢ OK → answer.new ≡ answer.old }
     ensures unread { result ≢ NOT_SERVED → wait.new ≡ wait.old }
     ensures statuses { (result ≡ OK) ⊎ ((result ≡ NO_MEMORY) ⊎ (result ≡ NOT_SERVED)) }
@@ -194,6 +198,7 @@ pub(crate) fn run_turn(
     ensures memory { result ≡ NO_MEMORY → IsRunStarved share.old share.new asked.now }
     ensures late { result ≡ NOT_SERVED → IsRunMade share.old share.new asked.now made turns wait.new }
     ensures told { (result ≡ OK) ⊎ ((result ≡ NO_MEMORY) ⊎ (result ≡ NOT_SERVED)) → AreToWake share.old share.new told.new }
+    ensures few { (result ≡ OK) ⊎ ((result ≡ NO_MEMORY) ⊎ (result ≡ NOT_SERVED)) → HasServedWithin 1 share.old share.new }
     ensures first { (result ≡ OK) ⊎ ((result ≡ NO_MEMORY) ⊎ (result ≡ NOT_SERVED)) → made ≡ 0 → share.old.session.pending ≡ None }
     ensures failed { result ≢ OK → answer.new ≡ answer.old }
     ensures unread { result ≢ NOT_SERVED → wait.new ≡ wait.old }
@@ -232,6 +237,7 @@ pub(crate) fn run_look(
     ensures memory { result ≡ NO_MEMORY → IsLookStarved share.old share.new }
     ensures late { result ≡ NOT_SERVED → IsLookMade share.old share.new looked turns wait.new }
     ensures told { result ≢ NOTHING_PENDING → AreToWake share.old share.new told.new }
+    ensures few { result ≢ NOTHING_PENDING → HasServedWithin 0 share.old share.new }
     ensures failed { result ≢ OK → answer.new ≡ answer.old }
     ensures unread { result ≢ NOT_SERVED → wait.new ≡ wait.old }
     ensures same { result ≡ NOTHING_PENDING → (share.new ≡ share.old) × (told.new ≡ told.old) }

@@ -3,6 +3,7 @@
 ghost use Rattle.std.specs.Prelude.{◌≡◌, ◌≢◌, ◌≤◌, ◌⊎◌, ◌↔◌, true, Some, None};
 ghost use denote.RawPtr.{null_ptr};
 ghost use Rattle.lock_programs.specs.declared.program.Program.{Program};
+ghost use Rattle.pelgaisti_c.specs.Bounds.{HasServedWithin};
 ghost use Rattle.pelgaisti_c.specs.Sessions.{AreToWake};
 ghost use Rattle.pelgaisti_c.specs.Turns.{IsLookStarved, IsLookMade};
 ghost use Rattle.pelgaisti_c.specs.ProgramTurns.{IsOfCalls, IsRunFault, IsRunAnswered, IsRunStarved, IsRunMade, IsRunLookAnswered};
@@ -41,6 +42,8 @@ pub extern "C" fn pelgaisti_raw_session_run_turn(
         × IsRunMade before after program.old.behind made turns wait.new }
     ensures told { (result ≡ OK) ⊎ ((result ≡ NO_MEMORY) ⊎ (result ≡ NOT_SERVED)) → (before after : SessionShare) × (session.old.behind.held.share ≡ Some before) × (session.new.behind.held.share ≡ Some after)
         × AreToWake before after told.new }
+    ensures few { (result ≡ OK) ⊎ ((result ≡ NO_MEMORY) ⊎ (result ≡ NOT_SERVED)) → (before after : SessionShare) × (session.old.behind.held.share ≡ Some before) × (session.new.behind.held.share ≡ Some after)
+        × HasServedWithin 1 before after }
     ensures first { (result ≡ OK) ⊎ ((result ≡ NO_MEMORY) ⊎ (result ≡ NOT_SERVED)) → made ≡ 0 → (share : SessionShare) × (session.old.behind.held.share ≡ Some share) × (share.session.pending ≡ None) }
     ensures failed { result ≢ OK → answer.new.behind ≡ answer.old.behind }
     ensures unread { result ≢ NOT_SERVED → wait.new ≡ wait.old }
@@ -95,6 +98,8 @@ pub extern "C" fn pelgaisti_raw_session_run_look(
         × IsLookMade before after looked turns wait.new }
     ensures told { (result ≡ OK) ⊎ ((result ≡ NO_MEMORY) ⊎ (result ≡ NOT_SERVED)) → (before after : SessionShare) × (session.old.behind.held.share ≡ Some before) × (session.new.behind.held.share ≡ Some after)
         × AreToWake before after told.new }
+    ensures few { (result ≡ OK) ⊎ ((result ≡ NO_MEMORY) ⊎ (result ≡ NOT_SERVED)) → (before after : SessionShare) × (session.old.behind.held.share ≡ Some before) × (session.new.behind.held.share ≡ Some after)
+        × HasServedWithin 0 before after }
     ensures failed { result ≢ OK → answer.new.behind ≡ answer.old.behind }
     ensures unread { result ≢ NOT_SERVED → wait.new ≡ wait.old }
     ensures same { (result ≡ NULL_POINTER) ⊎ ((result ≡ CLOSED) ⊎ (result ≡ NOTHING_PENDING)) → (session.new.behind.held.share ≡ session.old.behind.held.share) × (told.new ≡ told.old) }

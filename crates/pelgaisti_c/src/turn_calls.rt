@@ -11,6 +11,7 @@ ghost use Rattle.program_office.specs.Ended.{AreToldBy};
 ghost use Rattle.combining.specs.Calls.{IsWaitingOn};
 ghost use Rattle.combining.specs.Ended.{entered_since};
 ghost use Rattle.combining.specs.Waits.{IsWaitAfterTry, IsWaitAfterLook};
+ghost use Rattle.pelgaisti_c.specs.Bounds.{HasServedWithin};
 ghost use Rattle.pelgaisti_c.specs.Numbers.{IsCall, IsCallFault, numbers_of_reply};
 ghost use Rattle.pelgaisti_c.specs.Sessions.{IsSameOffice, AreToWake};
 ghost use Rattle.pelgaisti_c.specs.Turns.{number_of_wait, IsCallAnswered, IsCallStarved, IsCallLate, IsTurnAnswered, IsTurnStarved, IsTurnMade, IsLookAnswered, IsLookStarved, IsLookMade};
@@ -101,6 +102,7 @@ fn make_turn(share: &mut SessionShare, call: &Call, made: u64) -> Next<Reply>
     ensures waits { (w : _) → result ≡ Next.Wait w → share.old.session.pending ≢ None
         → IsWaitingOn share.old.session share.new.session × IsWaitAfterLook made w }
     ensures told { share.new.waker ≢ 0 → AreToldBy share.new.sessions share.new.session.front (entered_since share.old.session share.new.session) share.new.told.told.list }
+    ensures few { HasServedWithin 1 share.old share.new }
     ensures same { IsSameOffice share.old share.new }
 {
     if share.waker == 0 {
@@ -126,6 +128,7 @@ fn make_look(share: &mut SessionShare, looked: u64) -> Next<Reply>
         → IsWaitingOn share.old.session share.new.session × IsWaitAfterLook looked w }
     ensures others { (w : _) → result ≡ Next.Wait w → looked % LOOKS_PER_TRY ≡ 0 → 1 < share.old.sessions }
     ensures told { share.new.waker ≢ 0 → AreToldBy share.new.sessions share.new.session.front (entered_since share.old.session share.new.session) share.new.told.told.list }
+    ensures few { HasServedWithin 0 share.old share.new }
     ensures same { IsSameOffice share.old share.new }
 {
     if share.waker == 0 {
@@ -166,6 +169,7 @@ fn turn_of(
     ensures memory { result ≡ NO_MEMORY → IsCallStarved share.old share.new call.now }
     ensures late { result ≡ NOT_SERVED → IsCallLate share.old share.new call.now made turns wait.new }
     ensures told { AreToWake share.old share.new told.new }
+    ensures few { HasServedWithin 1 share.old share.new }
     ensures failed { result ≢ OK → answer.new ≡ answer.old }
     ensures unread { result ≢ NOT_SERVED → wait.new ≡ wait.old }
     ensures statuses { (result ≡ OK) ⊎ ((result ≡ NO_MEMORY) ⊎ (result ≡ NOT_SERVED)) }
@@ -198,6 +202,7 @@ fn turn_waking(
     ensures memory { result ≡ NO_MEMORY → IsCallStarved share.old share.new call.now }
     ensures late { result ≡ NOT_SERVED → IsCallLate share.old share.new call.now made turns wait.new }
     ensures told { AreToWake share.old share.new told.new }
+    ensures few { HasServedWithin 1 share.old share.new }
     ensures failed { result ≢ OK → answer.new ≡ answer.old }
     ensures unread { result ≢ NOT_SERVED → wait.new ≡ wait.old }
     ensures statuses { (result ≡ OK) ⊎ ((result ≡ NO_MEMORY) ⊎ (result ≡ NOT_SERVED)) }
@@ -220,6 +225,7 @@ pub(crate) fn turn(
     ensures memory { result ≡ NO_MEMORY → IsTurnStarved share.old share.new asked.now }
     ensures late { result ≡ NOT_SERVED → IsTurnMade share.old share.new asked.now made turns wait.new }
     ensures told { (result ≡ OK) ⊎ ((result ≡ NO_MEMORY) ⊎ (result ≡ NOT_SERVED)) → AreToWake share.old share.new told.new }
+    ensures few { (result ≡ OK) ⊎ ((result ≡ NO_MEMORY) ⊎ (result ≡ NOT_SERVED)) → HasServedWithin 1 share.old share.new }
     ensures first { (result ≡ OK) ⊎ ((result ≡ NO_MEMORY) ⊎ (result ≡ NOT_SERVED)) → made ≡ 0 → share.old.session.pending ≡ None }
     ensures failed { result ≢ OK → answer.new ≡ answer.old }
     ensures unread { result ≢ NOT_SERVED → wait.new ≡ wait.old }
@@ -259,6 +265,7 @@ pub(crate) fn look(
     ensures memory { result ≡ NO_MEMORY → IsLookStarved share.old share.new }
     ensures late { result ≡ NOT_SERVED → IsLookMade share.old share.new looked turns wait.new }
     ensures told { result ≢ NOTHING_PENDING → result ≢ PENDING → AreToWake share.old share.new told.new }
+    ensures few { result ≢ NOTHING_PENDING → result ≢ PENDING → HasServedWithin 0 share.old share.new }
     ensures failed { result ≢ OK → answer.new ≡ answer.old }
     ensures unread { result ≢ NOT_SERVED → wait.new ≡ wait.old }
     ensures same { (result ≡ NOTHING_PENDING) ⊎ (result ≡ PENDING) → (share.new ≡ share.old) × (told.new ≡ told.old) }

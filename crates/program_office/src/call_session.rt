@@ -206,6 +206,7 @@ impl CallSession {
         ensures told { AreToldBy T.ends office.now.sessions self.new.front (entered_since self.old self.new) (T.list told.new.told) }
         ensures none { result ≡ Turn.Elsewhere → T.list told.new.told ≡ [] }
         ensures room { T.room told.new.told ≡ T.room told.old.told }
+        ensures most { told.new.bound ≡ told.old.bound }
     {
         told.seen = self.seen;
         let turn = office.serve_telling(&mut self.session, told);

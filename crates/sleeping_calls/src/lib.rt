@@ -67,6 +67,7 @@ pub fn call<O: Batching, R: Wait, T: Told<O>>(
     ensures refused { result ≡ Called.Starved → HasStarvedCalling O.Sequential session.old session.new call }
     ensures told { AreToldBy T.ends office.now.sessions session.new.front (entered_since session.old session.new) (T.list told.new) }
     ensures room { T.room told.new ≡ T.room told.old }
+    ensures most { T.most told.new ≡ T.most told.old }
     ensures noted { (answer : _) → result ≡ Called.Answered answer → T.notes told.old session.old.front → IsNotedUpTo (T.notes told.new) session.new.front (answer.place + 1) }
     ensures notes_starved { result ≡ Called.Starved → T.notes told.old session.old.front → T.notes told.new session.new.front }
 {

@@ -74,6 +74,7 @@ impl<O: Batching> Office<O> {
         ensures told { IfSome result (λ _. HasAddedTold T.ends self.now.sessions session.new.front (entered_since session.old session.new) (T.list told.old) (T.list told.new)) }
         ensures untold { IfNone result (told.new ≡ told.old) }
         ensures room { T.room told.new ≡ T.room told.old }
+        ensures most { T.most told.new ≡ T.most told.old }
         ensures noted { IfSome result (λ _. T.notes told.new session.new.front) }
     {
         self.enlist(session);
@@ -129,6 +130,7 @@ impl<O: Batching> Office<O> {
         ensures told { HasAddedTold T.ends self.now.sessions session.new.front (entered_since session.old session.new) (T.list told.old) (T.list told.new) }
         ensures none { result ≡ BoundedTurn.Elsewhere → told.new ≡ told.old }
         ensures room { T.room told.new ≡ T.room told.old }
+        ensures most { T.most told.new ≡ T.most told.old }
         ensures notes { T.notes told.old session.old.front → T.notes told.new session.new.front }
     {
         let Some(made) = self.make_rounds(session, bound, told) else {
@@ -173,6 +175,7 @@ impl<O: Batching> Office<O> {
         ensures told { AreToldBy T.ends self.now.sessions session.new.front (entered_since session.old session.new) (T.list told.new) }
         ensures none { result ≡ BoundedTurn.Elsewhere → T.list told.new ≡ [] }
         ensures room { T.room told.new ≡ T.room told.old }
+        ensures most { T.most told.new ≡ T.most told.old }
         ensures notes { T.notes told.old session.old.front → T.notes told.new session.new.front }
     {
         told.clear();

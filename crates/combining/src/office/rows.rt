@@ -79,6 +79,7 @@ impl<O: Batching> Office<O> {
         ensures told { AreToldBy T.ends self.now.sessions session.new.front (entered_since session.old session.new) (T.list told.new) }
         ensures none { result ≡ PerformedRow.Elsewhere → T.list told.new ≡ [] }
         ensures room { T.room told.new ≡ T.room told.old }
+        ensures most { T.most told.new ≡ T.most told.old }
     {
         told.clear();
         self.perform_row_adding::<G, T>(session, calls, None, told)
@@ -111,6 +112,7 @@ impl<O: Batching> Office<O> {
         ensures told { HasAddedTold T.ends self.now.sessions session.new.front (entered_since session.old session.new) (T.list told.old) (T.list told.new) }
         ensures none { result ≡ PerformedRow.Elsewhere → told.new ≡ told.old }
         ensures room { T.room told.new ≡ T.room told.old }
+        ensures most { T.most told.new ≡ T.most told.old }
     {
         let Some(mut load) = self.board.seize(session) else {
             return PerformedRow::Elsewhere;

@@ -36,6 +36,7 @@ impl CallSession {
         ensures tries { FitIntoLooks (self.new.tries - self.old.tries) (turns + 1) }
         ensures told { AreToldBy T.ends office.now.sessions self.new.front (entered_since self.old self.new) (T.list told.new.told) }
         ensures room { T.room told.new.told ≡ T.room told.old.told }
+        ensures most { told.new.bound ≡ told.old.bound }
     {
         self.asked = Program::one(call);
         let asked = self.asked;
@@ -69,6 +70,7 @@ impl CallSession {
         ensures tries { FitIntoLooks (self.new.tries - self.old.tries) turns }
         ensures told { AreToldBy T.ends office.now.sessions self.new.front (entered_since self.old self.new) (T.list told.new.told) }
         ensures room { T.room told.new.told ≡ T.room told.old.told }
+        ensures most { told.new.bound ≡ told.old.bound }
     {
         let asked = self.asked;
         told.seen = self.seen;

@@ -70,6 +70,7 @@ impl CallSession {
         ensures few { length (entered_since self.old self.new) ≤ most_of told.old.bound + 1 }
         ensures told { AreToldBy T.ends office.now.sessions self.new.front (entered_since self.old self.new) (T.list told.new.told) }
         ensures room { T.room told.new.told ≡ T.room told.old.told }
+        ensures most { told.new.bound ≡ told.old.bound }
     {
         // a resource has at most LEVELS numbers
         let _numbers = resource.numbers();
@@ -131,6 +132,7 @@ impl CallSession {
         ensures few { length (entered_since self.old self.new) ≤ most_of told.old.bound + 1 }
         ensures told { AreToldBy T.ends office.now.sessions self.new.front (entered_since self.old self.new) (T.list told.new.told) }
         ensures room { T.room told.new.told ≡ T.room told.old.told }
+        ensures most { told.new.bound ≡ told.old.bound }
     {
         // a resource has at most LEVELS numbers
         let _numbers = resource.numbers();

@@ -61,6 +61,7 @@ impl CallSession {
         ensures told { AreToldBy T.ends office.now.sessions self.new.front (entered_since self.old self.new) (T.list told.new.told) }
         ensures none { result ≡ Performed.Elsewhere → T.list told.new.told ≡ [] }
         ensures room { T.room told.new.told ≡ T.room told.old.told }
+        ensures most { told.new.bound ≡ told.old.bound }
     {
         let asked = Program::one(call);
         match self.perform_program(office, asked, told) {
@@ -103,6 +104,7 @@ impl CallSession {
         ensures told { AreToldBy T.ends office.now.sessions self.new.front (entered_since self.old self.new) (T.list told.new.told) }
         ensures none { result ≡ Performed.Elsewhere → T.list told.new.told ≡ [] }
         ensures room { T.room told.new.told ≡ T.room told.old.told }
+        ensures most { told.new.bound ≡ told.old.bound }
     {
         told.seen = self.seen;
         let performed = office.perform_telling(&mut self.session, program, told);
@@ -130,6 +132,7 @@ impl CallSession {
         ensures few { length (entered_since self.old self.new) ≤ most_of told.old.bound + 1 }
         ensures told { AreToldBy T.ends office.now.sessions self.new.front (entered_since self.old self.new) (T.list told.new.told) }
         ensures room { T.room told.new.told ≡ T.room told.old.told }
+        ensures most { told.new.bound ≡ told.old.bound }
     {
         told.seen = self.seen;
         let bound = told.bound.at_least_one();

@@ -79,6 +79,7 @@ impl CallSession {
         ensures few { length (entered_since self.old self.new) ≤ most_of told.old.bound + 1 }
         ensures told { HasAddedTold T.ends office.now.sessions self.new.front (entered_since self.old self.new) (T.list told.old.told) (T.list told.new.told) }
         ensures room { T.room told.new.told ≡ T.room told.old.told }
+        ensures most { told.new.bound ≡ told.old.bound }
     {
         let asked = *program;
         self.asked = asked;
@@ -122,6 +123,7 @@ impl CallSession {
         ensures few { length (entered_since self.old self.new) ≤ most_of told.old.bound + 1 }
         ensures told { HasAddedTold T.ends office.now.sessions self.new.front (entered_since self.old self.new) (T.list told.old.told) (T.list told.new.told) }
         ensures room { T.room told.new.told ≡ T.room told.old.told }
+        ensures most { told.new.bound ≡ told.old.bound }
     {
         if !self.is_idle() {
             return self.run_look(office, made, told);
@@ -152,6 +154,7 @@ impl CallSession {
         ensures few { length (entered_since self.old self.new) ≤ most_of told.old.bound }
         ensures told { HasAddedTold T.ends office.now.sessions self.new.front (entered_since self.old self.new) (T.list told.old.told) (T.list told.new.told) }
         ensures room { T.room told.new.told ≡ T.room told.old.told }
+        ensures most { told.new.bound ≡ told.old.bound }
     {
         let asked = self.asked;
         told.seen = self.seen;

@@ -50,6 +50,7 @@ impl CallSession {
         ensures few { length (entered_since self.old self.new) ≤ most_of told.old.bound + 1 }
         ensures told { HasAddedTold T.ends office.now.sessions self.new.front (entered_since self.old self.new) (T.list told.old.told) (T.list told.new.told) }
         ensures room { T.room told.new.told ≡ T.room told.old.told }
+        ensures most { told.new.bound ≡ told.old.bound }
     {
         if !self.is_idle() {
             return self.look(office, made, told);
@@ -86,6 +87,7 @@ impl CallSession {
         ensures few { length (entered_since self.old self.new) ≤ most_of told.old.bound }
         ensures told { HasAddedTold T.ends office.now.sessions self.new.front (entered_since self.old self.new) (T.list told.old.told) (T.list told.new.told) }
         ensures room { T.room told.new.told ≡ T.room told.old.told }
+        ensures most { told.new.bound ≡ told.old.bound }
     {
         let asked = self.pending_program();
         match self.run_look(office, looked, told) {

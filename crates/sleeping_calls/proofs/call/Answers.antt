@@ -110,5 +110,6 @@ loop-preserved g c =
       told = subst (λ (x : TicketView _ _). HasAddedTold g.T.Told.ends n x.front (entered_since t x) [] (g.T.Told.list c.turn.new.told)) (sym same)
           (told-on n t u v [] (g.T.Told.list c.loop.told) (g.T.Told.list c.turn.new.told) (gone t u c.args.call i.calling).entered e.on.longer e.on.entered i.told e.told);
       room = e.room ∙ i.room;
+      most = e.most ∙ i.most;
       notes = λ before. subst (λ (x : TicketView _ _). g.T.Told.notes c.turn.new.told x.front) (sym same) (e.notes_waits pause is (i.notes before));
     }

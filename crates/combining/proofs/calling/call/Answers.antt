@@ -99,6 +99,7 @@ loop-made-preserved g c =
           (⊎_elim (λ still. inl still) (λ calling. inr (calling-pending t u c.args.call calling.0)) i.calling);
       told = told-on n t u v [] (g.T.Told.list c.loop-made.told) (g.T.Told.list c.turn.new.told) (gone n t u c.args.call i.calling).entered e.on.longer e.on.entered i.told e.told;
       room = e.room ∙ i.room;
+      most = e.most ∙ i.most;
       notes = λ before. e.notes_waits next is (i.notes before);
     }
 

@@ -37,6 +37,7 @@ loop-looked-preserved g c =
       tries = fit-next t.tries u.tries v.tries c.loop-looked.looked i.tries e.tries e.untried;
       told = told-on n t u v [] (g.T.Told.list c.loop-looked.told) (g.T.Told.list c.look.new.told) i.waits.entered e.on.longer e.on.entered i.told e.told;
       room = e.room ∙ i.room;
+      most = e.most ∙ i.most;
       notes = λ before. e.notes_waits c.in-Wait.next c.in-Wait.is (i.notes before);
     }
 

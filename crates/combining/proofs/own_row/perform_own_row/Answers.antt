@@ -50,4 +50,5 @@ loop-performed-preserved g c =
           (own-entered u own.new.session call own.result own.ensures.some own.ensures.none)
           i.told own.ensures.told;
       room = own.ensures.room ∙ i.room;
+      most = own.ensures.most ∙ i.most;
     }

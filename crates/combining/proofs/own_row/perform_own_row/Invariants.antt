@@ -12,6 +12,7 @@ invariant-loop-performed g l = record {
   taken : l.load.pieces.items ≡ l.initial.load.pieces.items;
   told : HasAddedTold g.T.Told.ends l.board.sessions l.session.front (entered_since l.initial.session l.session) (g.T.Told.list l.initial.told) (g.T.Told.list l.told);
   room : g.T.Told.room l.told ≡ g.T.Told.room l.initial.told;
+  most : g.T.Told.most l.told ≡ g.T.Told.most l.initial.told;
 }
 
 abbrev pub decreases-loop-performed : goal.decreases-loop-performed

@@ -14,6 +14,10 @@ returns-clause-ok c = λ _.
         session = refl;
         ended = refl;
         told = refl;
-        office = record { office = refl; handed = refl; sessions = refl; mark = refl; waker = refl };
+        office = refl;
+        handed = refl;
+        sessions = refl;
+        mark = refl;
+        waker = refl;
       },
     )

@@ -6,6 +6,7 @@ use Rattle.program_office.specs.SingleCalls.{IsCalling}
 use Rattle.pelgaisti_c.specs.declared.numbers.AnswerNumbers.{AnswerNumbers}
 use Rattle.pelgaisti_c.proofs.SameOffice.{same-trans}
 use Rattle.pelgaisti_c.proofs.PathTurns.{gone-performed, gone-answered}
+use Rattle.pelgaisti_c.proofs.ServedWithin.{within-since, within-none}
 use Rattle.pelgaisti_c.proofs.path_turn_calls.path_turn.Goals.{in-Performed, in-Answered}
 use Rattle.pelgaisti_c.proofs.path_turn_calls.path_turn.Goals as goal
 
@@ -112,3 +113,19 @@ returns-clause-late c = λ e.
             refl,
           )
     ])
+
+pub returns-clause-few : goal.returns-clause-few
+returns-clause-few c = λ _. within-since 1 c.args.share.now c.forget_told.new.share c.make_path_turn-next.new.share c.forget_told.ensures.session c.forget_told.ensures.same.bound c.make_path_turn-next.ensures.few
+
+pub returns-in-Wait-clause-few : goal.returns-in-Wait-clause-few
+returns-in-Wait-clause-few c = λ _. within-since 1 c.args.share.now c.forget_told.new.share c.make_path_turn-next.new.share c.forget_told.ensures.session c.forget_told.ensures.same.bound c.make_path_turn-next.ensures.few
+
+pub returns-in-Starved-clause-few : goal.returns-in-Starved-clause-few
+returns-in-Starved-clause-few c = λ _. within-since 1 c.args.share.now c.forget_told.new.share c.make_path_turn-next.new.share c.forget_told.ensures.session c.forget_told.ensures.same.bound c.make_path_turn-next.ensures.few
+
+pub returns-then-not-goes_on-clause-few : goal.returns-then-not-goes_on-clause-few
+returns-then-not-goes_on-clause-few c = λ _. within-since 1 c.args.share.now c.forget_told.new.share c.make_path_turn-next.new.share c.forget_told.ensures.session c.forget_told.ensures.same.bound c.make_path_turn-next.ensures.few
+
+pub returns-then-made-turns-clause-few : goal.returns-then-made-turns-clause-few
+returns-then-made-turns-clause-few c = λ _. within-since 1 c.args.share.now c.forget_told.new.share c.publish_last.new.share c.forget_told.ensures.session c.forget_told.ensures.same.bound
+    (within-none 1 c.forget_told.new.share c.publish_last.new.share c.publish_last.ensures.entered)

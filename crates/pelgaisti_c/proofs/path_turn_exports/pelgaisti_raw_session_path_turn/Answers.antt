@@ -67,6 +67,11 @@ returns-clause-told c = λ e.
     let was : c.args.session.now.behind.held.share ≡ Some c.deref_mut.result.now = search rules in
     (c.deref_mut.result.now, c.path_turn-status.new.share, was, c.put.ensures.1, c.path_turn-status.ensures.told e)
 
+pub returns-clause-few : goal.returns-clause-few
+returns-clause-few c = λ e.
+    let was : c.args.session.now.behind.held.share ≡ Some c.deref_mut.result.now = search rules in
+    (c.deref_mut.result.now, c.path_turn-status.new.share, was, c.put.ensures.1, c.path_turn-status.ensures.few e)
+
 pub returns-clause-first : goal.returns-clause-first
 returns-clause-first c = λ e none.
     let was : c.args.session.now.behind.held.share ≡ Some c.deref_mut.result.now = search rules in

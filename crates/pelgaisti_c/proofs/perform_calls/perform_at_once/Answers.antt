@@ -25,5 +25,5 @@ returns-clause-ok c = λ e.
       is_one pass.starved (done.put_back _ _ _ found.1),
       done.calls,
       (λ none j some few. done.heard _ _ j (whole none) some (omega (arith, few, many))),
-      record { office = refl; handed = refl; sessions = refl; mark = refl; waker = refl },
+      record { office = refl; handed = refl; sessions = refl; mark = refl; waker = refl; bound = refl },
     )

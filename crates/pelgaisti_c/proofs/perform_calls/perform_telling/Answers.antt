@@ -30,7 +30,7 @@ returns-clause-ok c = λ e.
         is_one pass.starved (done.put_back _ _ _ found.1),
         done.calls,
         (λ none j some few. done.heard _ _ j (whole none) some (omega (arith, few, many))),
-        record { office = refl; handed = refl; sessions = refl; mark = refl; waker = refl },
+        record { office = refl; handed = refl; sessions = refl; mark = refl; waker = refl; bound = refl },
       ),
       elim c.if-status-ne-ELSEWHERE.branch [
         | then-status-ne-ELSEWHERE w ↦ (told, subst (λ (n : ℕ). AreToldBy n c.perform_telling-performed.new.self.front (entered_since c.args.share.now.session c.perform_telling-performed.new.self) told) many done.told, w.list-is ∙ w.write_ended.ensures.list, w.count-is ∙ w.write_ended.ensures.count.0, (let few = w.write_ended.ensures.count.1 in omega (arith, w.count-is, few)))

@@ -5,6 +5,7 @@ use Rattle.combining.specs.Calls.{IsWaitingOn}
 use Rattle.pelgaisti_c.specs.Programs.{numbers_of_answer}
 use Rattle.pelgaisti_c.specs.ProgramTurns.{IsPendingAnswered}
 use Rattle.pelgaisti_c.proofs.SameOffice.{same-trans}
+use Rattle.pelgaisti_c.proofs.ServedWithin.{within-since, within-none}
 use Rattle.pelgaisti_c.proofs.program_turn_calls.run_look.Goals as goal
 
 pub returns-clause-late : goal.returns-clause-late
@@ -43,3 +44,9 @@ returns-clause-ok c = λ e.
       idle = made.ensures.idle found.0 found.1;
       office = same-trans c.args.share.now forgot.new.share after forgot.ensures.same made.ensures.same;
     }
+
+pub returns-clause-few : goal.returns-clause-few
+returns-clause-few c = λ _. within-since 0 c.args.share.now c.forget_told.new.share c.make_look-next.new.share c.forget_told.ensures.session c.forget_told.ensures.same.bound c.make_look-next.ensures.few
+
+pub returns-then-looked-turns-clause-few : goal.returns-then-looked-turns-clause-few
+returns-then-looked-turns-clause-few c = λ _. within-none 0 c.args.share.now c.forget_told.new.share (ap (λ (t : TicketView). t.entered) c.forget_told.ensures.session)

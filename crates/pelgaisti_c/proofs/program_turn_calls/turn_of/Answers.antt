@@ -6,6 +6,7 @@ use Rattle.lock_programs.specs.declared.program.Program.{Program}
 use Rattle.pelgaisti_c.specs.Programs.{numbers_of_answer}
 use Rattle.pelgaisti_c.specs.ProgramTurns.{IsPendingAnswered}
 use Rattle.pelgaisti_c.proofs.SameOffice.{same-trans}
+use Rattle.pelgaisti_c.proofs.ServedWithin.{within-since, within-none}
 use Rattle.pelgaisti_c.proofs.program_turn_calls.turn_of.Goals as goal
 
 pub returns-clause-ok : goal.returns-clause-ok
@@ -85,3 +86,10 @@ returns-clause-memory c = λ e.
       put_back = λ some. subst (λ (t : TicketView). t.put_backs < after.session.put_backs) back (made.ensures.starved_on is (λ none. some (sym (ap (λ (t : TicketView). t.pending) back) ∙ none))).1;
       office = same-trans c.args.share.now forgot.new.share after forgot.ensures.same made.ensures.same;
     }
+
+pub returns-clause-few : goal.returns-clause-few
+returns-clause-few c = within-since 1 c.args.share.now c.forget_told.new.share c.make_turn-next.new.share c.forget_told.ensures.session c.forget_told.ensures.same.bound c.make_turn-next.ensures.few
+
+pub returns-then-made-turns-clause-few : goal.returns-then-made-turns-clause-few
+returns-then-made-turns-clause-few c = within-since 1 c.args.share.now c.forget_told.new.share c.publish_last.new.share c.forget_told.ensures.session c.forget_told.ensures.same.bound
+    (within-none 1 c.forget_told.new.share c.publish_last.new.share c.publish_last.ensures.entered)

@@ -19,6 +19,11 @@ returns-clause-told c = λ e. let was : c.args.session.now.behind.held.share ≡
     let some : c.run_look-status.result ≢ 10 = λ none. ⊎_elim (λ a. absurd (omega (arith, a, none))) (λ b. ⊎_elim (λ a. absurd (omega (arith, a, none))) (λ a. absurd (omega (arith, a, none))) b) e in
     (c.deref_mut.result.now, c.run_look-status.new.share, was, c.put.ensures.1, c.run_look-status.ensures.told some)
 
+pub returns-clause-few : goal.returns-clause-few
+returns-clause-few c = λ e. let was : c.args.session.now.behind.held.share ≡ Some c.deref_mut.result.now = search rules in
+    let some : c.run_look-status.result ≢ 10 = λ none. ⊎_elim (λ a. absurd (omega (arith, a, none))) (λ b. ⊎_elim (λ a. absurd (omega (arith, a, none))) (λ a. absurd (omega (arith, a, none))) b) e in
+    (c.deref_mut.result.now, c.run_look-status.new.share, was, c.put.ensures.1, c.run_look-status.ensures.few some)
+
 pub returns-clause-nothing : goal.returns-clause-nothing
 returns-clause-nothing c = λ here. let was : c.args.session.now.behind.held.share ≡ Some c.deref_mut.result.now = search rules in (
   (λ e. (c.deref_mut.result.now, was, c.run_look-status.ensures.nothing.0 e)),

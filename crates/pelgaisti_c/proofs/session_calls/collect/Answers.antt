@@ -8,5 +8,5 @@ returns-in-Some-clause-ok c = λ _.
       c.reply_numbers.ensures,
       c.is_single.ensures.single single,
       c.in-Some.ensures.some,
-      record { office = refl; handed = refl; sessions = refl; mark = refl; waker = refl },
+      record { office = refl; handed = refl; sessions = refl; mark = refl; waker = refl; bound = refl },
     )

@@ -16,6 +16,6 @@ returns-clause-ok c = λ _.
         h.heard,
         h.calls.0,
         subst (λ (t : TicketView). HasCallsOf c.hear.new.self.front t) h.other h.calls.1,
-        record { office = refl; handed = refl; sessions = refl; mark = refl; waker = refl },
+        record { office = refl; handed = refl; sessions = refl; mark = refl; waker = refl; bound = refl },
       ),
     )

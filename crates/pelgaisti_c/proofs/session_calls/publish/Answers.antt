@@ -16,5 +16,5 @@ returns-clause-ok c = λ _.
       live,
       (λ one. made.2 (posted.listed one)),
       (λ two. let r = made.3 (posted.unlisted two) in (r.0, (let some = r.1 in omega (arith, some, many)))),
-      record { office = refl; handed = refl; sessions = refl; mark = refl; waker = refl },
+      record { office = refl; handed = refl; sessions = refl; mark = refl; waker = refl; bound = refl },
     )

@@ -23,7 +23,7 @@ returns-clause-ok c = λ e.
         turn.calls,
         (λ none. turn.own _ (whole none)),
         (λ none j some few. turn.heard _ j (whole none) some (omega (arith, few, many))),
-        record { office = refl; handed = refl; sessions = refl; mark = refl; waker = refl },
+        record { office = refl; handed = refl; sessions = refl; mark = refl; waker = refl; bound = refl },
       ),
       elim c.if-status-eq-OK.branch [
         | then-status-eq-OK w ↦ (told, subst (λ (n : ℕ). AreToldBy n c.serve_telling-turn.new.self.front (entered_since c.args.share.now.session c.serve_telling-turn.new.self) told) many turn.told, w.list-is ∙ w.write_ended.ensures.list, w.count-is ∙ w.write_ended.ensures.count.0, (let few = w.write_ended.ensures.count.1 in omega (arith, w.count-is, few)))

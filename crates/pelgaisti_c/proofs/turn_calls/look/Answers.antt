@@ -1,7 +1,8 @@
-use Rattle.std.proofs.Common.{arith, subst}
+use Rattle.std.proofs.Common.{ap, arith, subst}
 use Rattle.program_office.specs.ProgramBoards.{TicketView}
 use Rattle.combining.specs.Calls.{IsWaitingOn}
 use Rattle.pelgaisti_c.proofs.SameOffice.{same-trans}
+use Rattle.pelgaisti_c.proofs.ServedWithin.{within-since, within-none}
 use Rattle.pelgaisti_c.proofs.turn_calls.look.Goals as goal
 
 pub returns-clause-late : goal.returns-clause-late
@@ -17,3 +18,9 @@ returns-clause-late c = λ e.
       last = λ over. absurd (let left = c.if-looked-turns.false in omega (arith, left, over));
       office = same-trans c.args.share.now forgot.new.share after forgot.ensures.same made.ensures.same;
     }
+
+pub returns-clause-few : goal.returns-clause-few
+returns-clause-few c = λ _ _. within-since 0 c.args.share.now c.forget_told.new.share c.make_look-next.new.share c.forget_told.ensures.session c.forget_told.ensures.same.bound c.make_look-next.ensures.few
+
+pub returns-then-looked-turns-clause-few : goal.returns-then-looked-turns-clause-few
+returns-then-looked-turns-clause-few c = λ _ _. within-none 0 c.args.share.now c.forget_told.new.share (ap (λ (t : TicketView). t.entered) c.forget_told.ensures.session)

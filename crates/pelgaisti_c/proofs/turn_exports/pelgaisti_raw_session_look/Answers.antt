@@ -20,6 +20,12 @@ returns-clause-told c = λ e. let was : c.args.session.now.behind.held.share ≡
     let single : c.look-status.result ≢ 9 = λ is. ⊎_elim (λ a. absurd (omega (arith, a, is))) (λ b. ⊎_elim (λ a. absurd (omega (arith, a, is))) (λ a. absurd (omega (arith, a, is))) b) e in
     (c.deref_mut.result.now, c.look-status.new.share, was, c.put.ensures.1, c.look-status.ensures.told some single)
 
+pub returns-clause-few : goal.returns-clause-few
+returns-clause-few c = λ e. let was : c.args.session.now.behind.held.share ≡ Some c.deref_mut.result.now = search rules in
+    let some : c.look-status.result ≢ 10 = λ none. ⊎_elim (λ a. absurd (omega (arith, a, none))) (λ b. ⊎_elim (λ a. absurd (omega (arith, a, none))) (λ a. absurd (omega (arith, a, none))) b) e in
+    let single : c.look-status.result ≢ 9 = λ is. ⊎_elim (λ a. absurd (omega (arith, a, is))) (λ b. ⊎_elim (λ a. absurd (omega (arith, a, is))) (λ a. absurd (omega (arith, a, is))) b) e in
+    (c.deref_mut.result.now, c.look-status.new.share, was, c.put.ensures.1, c.look-status.ensures.few some single)
+
 pub returns-clause-nothing : goal.returns-clause-nothing
 returns-clause-nothing c = λ here. let was : c.args.session.now.behind.held.share ≡ Some c.deref_mut.result.now = search rules in (
   (λ e. (c.deref_mut.result.now, was, c.look-status.ensures.nothing.0 e)),
