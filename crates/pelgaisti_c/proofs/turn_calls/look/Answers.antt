@@ -1,9 +1,27 @@
-use Rattle.std.proofs.Common.{ap, arith, subst}
+use Rattle.std.proofs.Common.{ℕ, ap, sym, arith, subst}
 use Rattle.program_office.specs.ProgramBoards.{TicketView}
+use Rattle.program_office.specs.SingleCalls.{IsAnswered}
 use Rattle.combining.specs.Calls.{IsWaitingOn}
 use Rattle.pelgaisti_c.proofs.SameOffice.{same-trans}
 use Rattle.pelgaisti_c.proofs.ServedWithin.{within-since, within-none}
 use Rattle.pelgaisti_c.proofs.turn_calls.look.Goals as goal
+
+pub returns-clause-ok : goal.returns-clause-ok
+returns-clause-ok c = λ e.
+    let found = c.write_next.ensures.ok e in
+    let made = c.make_look-next in
+    let before = c.args.share.now in
+    let after = made.new.share in
+    let forgot = c.forget_told in
+    let reply = found.0.reply in record {
+      single = c.is_single.ensures.single c.if-not-is_single.false;
+      reply = reply;
+      reply_is = found.3;
+      answered = subst (λ (p : ℕ). IsAnswered before.session after.session p reply) (sym found.2)
+          (subst (λ (t : TicketView). IsAnswered t after.session found.0.place reply) forgot.ensures.session (made.ensures.answered found.0 found.1));
+      idle = made.ensures.idle found.0 found.1;
+      office = same-trans before forgot.new.share after forgot.ensures.same made.ensures.same;
+    }
 
 pub returns-clause-late : goal.returns-clause-late
 returns-clause-late c = λ e.
