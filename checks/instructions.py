@@ -109,7 +109,7 @@ CASES = [
     ("the cell of a lock that ends is found at the noted place, without a hash", ends, 4000, 205),
     ("modes of many holders are tested 16 at a time", readers_beside_readers, None, 575),
     ("a wait for many holders is written by their mask", writers_beside_readers, None, 1600),
-    ("a second holder joins the first without memory", new_resources, None, 70),
+    ("a second holder joins the first without memory", new_resources, None, 86),
 ]
 # Each of the dearest calls: what it is, its rows, the sessions, the most instructions of one.
 DEAREST = [
