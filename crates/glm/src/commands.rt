@@ -20,7 +20,7 @@ ghost use Rattle.glm.specs.Statuses.{IsStatus};
 use crate::hints::{Hints, write_hints};
 use crate::outcomes::{Outcome, file_failed};
 use crate::verdicts::write_verdict;
-use crate::wrong_replies::{explained, shown};
+use crate::wrong_replies::{ReportRequest, explained, shown};
 use clap::Error;
 use clap::error::ErrorKind;
 use command_line::{CommandRequest, Delivery, Request, VERSION_TEXT, request_of, usage_text};
@@ -38,6 +38,17 @@ use std::fs::Files;
 use std::io::{Read, Write};
 use std::sync::Wait;
 use std::thread::Threads;
+
+/// What the program runs on.
+#[derive(Clone, Copy)]
+struct Host<'a, T, G> {
+    /// The runtime's threads and files.
+    rt: &'a T,
+    /// The allocator.
+    alloc: Global,
+    /// The gate of a run on threads.
+    gate: &'a G,
+}
 
 /// Handles an error of the parser: writes help or the version to `output`, or a usage error to `errors`. Returns the outcome.
 fn outcome_of_error<W: Write, E: Write>(error: &Error, output: &mut W, errors: &mut E) -> Outcome
@@ -82,9 +93,7 @@ fn replayed<R: Read + Drop, W: Write>(
 
 /// Runs a trace on threads, with at most `turns` tries for each answer, and writes its history whole or in pieces.
 fn run_on_threads<T: Threads + Wait, R: Read + Drop, W: Write, G: Gate>(
-    rt: &T,
-    alloc: Global,
-    gate: &G,
+    host: &Host<'_, T, G>,
     input: R,
     output: &mut W,
     sessions: u16,
@@ -97,18 +106,18 @@ fn run_on_threads<T: Threads + Wait, R: Read + Drop, W: Write, G: Gate>(
 {
     let turns = u64::from(turns);
     match delivery {
-        Delivery::Whole => Outcome::Run(run(rt, alloc, input, output, sessions, turns, gate)),
-        Delivery::InPieces => {
-            Outcome::RunInPieces(run_in_pieces(rt, alloc, input, output, sessions, turns, gate))
-        }
+        Delivery::Whole => Outcome::Run(run(
+            host.rt, host.alloc, input, output, sessions, turns, host.gate,
+        )),
+        Delivery::InPieces => Outcome::RunInPieces(run_in_pieces(
+            host.rt, host.alloc, input, output, sessions, turns, host.gate,
+        )),
     }
 }
 
 /// Runs a command: reads `input`, and writes to `output`. `check`, `show` and `explain` put the first wrong reply into `wrong`.
 fn perform<T: Threads + Wait + Files, R: Read + Drop, W: Write, G: Gate>(
-    rt: &T,
-    alloc: Global,
-    gate: &G,
+    host: &Host<'_, T, G>,
     command: CommandRequest,
     input: R,
     output: &mut W,
@@ -117,24 +126,27 @@ fn perform<T: Threads + Wait + Files, R: Read + Drop, W: Write, G: Gate>(
     requires numbers { HasNumbers command }
     ensures { (words : List Text) → Ask words command → HasDone words (R.remaining input) (W.contents output.old) (W.contents output.new) result }
 {
+    let alloc = host.alloc;
     match command {
         CommandRequest::Replay(sessions, delivery) => {
             replayed(alloc, input, output, sessions, delivery)
         }
         CommandRequest::Run(sessions, turns, delivery) => {
-            run_on_threads(rt, alloc, gate, input, output, sessions, turns, delivery)
+            run_on_threads(host, input, output, sessions, turns, delivery)
         }
         CommandRequest::Check(sessions, delivery) => {
             Outcome::Check(write_verdict(alloc, input, output, sessions, delivery, wrong))
         }
         CommandRequest::Show(sessions, place, form) => {
-            Outcome::Show(shown(alloc, input, output, sessions, place, form, wrong))
+            let asked = ReportRequest { place, form };
+            Outcome::Show(shown(alloc, input, output, sessions, asked, wrong))
         }
         CommandRequest::Dump(sessions, form) => {
             Outcome::Dump(show_dump(alloc, input, output, sessions, form))
         }
         CommandRequest::Explain(sessions, place, form) => {
-            Outcome::Explain(explained(alloc, input, output, sessions, place, form, wrong))
+            let asked = ReportRequest { place, form };
+            Outcome::Explain(explained(alloc, input, output, sessions, asked, wrong))
         }
         CommandRequest::Timeline(sessions, from, to) => {
             Outcome::Timeline(timeline(alloc, input, output, sessions, from, to))
@@ -143,16 +155,14 @@ fn perform<T: Threads + Wait + Files, R: Read + Drop, W: Write, G: Gate>(
             Outcome::Stats(stats(alloc, input, output, sessions, form))
         }
         CommandRequest::Shell(sessions) => {
-            Outcome::Shell(shell(rt, alloc, input, output, sessions))
+            Outcome::Shell(shell(host.rt, alloc, input, output, sessions))
         }
     }
 }
 
 /// Runs a command that writes to the file at `path`, which gets the text only if the command was done.
 fn perform_to_file<T: Threads + Wait + Files, R: Read + Drop, E: Write, G: Gate>(
-    rt: &T,
-    alloc: Global,
-    gate: &G,
+    host: &Host<'_, T, G>,
     command: CommandRequest,
     input: R,
     path: &str,
@@ -162,19 +172,28 @@ fn perform_to_file<T: Threads + Wait + Files, R: Read + Drop, E: Write, G: Gate>
     requires numbers { HasNumbers command }
     ensures { (words : List Text) → Ask words command → HasDoneInFile words (R.remaining input) result }
 {
-    let mut file = match NewFile::create(rt, alloc, path) {
+    let mut file = match NewFile::create(host.rt, host.alloc, path) {
         Ok(file) => file,
         Err(error) => return file_failed("write", path, &error, errors),
     };
-    let outcome = perform(rt, alloc, gate, command, input, &mut file.output, wrong);
+    let outcome = perform(host, command, input, &mut file.output, wrong);
     if !outcome.is_done() {
-        file.remove(rt);
+        file.remove(host.rt);
         return outcome;
     }
-    match file.replace(rt) {
+    match file.replace(host.rt) {
         Ok(()) => outcome,
         Err(error) => file_failed("write", path, &error, errors),
     }
+}
+
+/// What hints are written from, besides the outcome.
+#[derive(Clone, Copy)]
+struct HintSource<'a> {
+    /// The rows that were read last.
+    rows: &'a KeptRows,
+    /// The first wrong reply of a history, if there is one.
+    wrong: Option<WrongReply>,
 }
 
 /// Reports the outcome of a request on `errors`, with hints if they are wanted.
@@ -183,12 +202,12 @@ fn report_request<E: Write>(
     outcome: &Outcome,
     request: Request<'_>,
     hints: Hints,
-    rows: &KeptRows,
-    wrong: Option<WrongReply>,
+    hint_source: HintSource<'_>,
     errors: &mut E,
 ) {
     outcome.report(errors);
     if wants_hints(request, hints) {
+        let HintSource { rows, wrong } = hint_source;
         write_hints(alloc, outcome, request.command, rows, wrong, errors);
     }
 }
@@ -200,9 +219,7 @@ fn wants_hints(request: Request<'_>, hints: Hints) -> bool {
 
 /// Runs the command of a request on the files that it names, and reports its outcome. `input` and `output` are the standard streams.
 fn run_request<'a, T: Threads + Wait + Files, R: Read + Drop, W: Write, E: Write, G: Gate>(
-    rt: &T,
-    alloc: Global,
-    gate: &G,
+    host: &Host<'_, T, G>,
     request: Request<'a>,
     input: R,
     output: &mut W,
@@ -213,26 +230,28 @@ fn run_request<'a, T: Threads + Wait + Files, R: Read + Drop, W: Write, E: Write
     ensures { (words : List Text) → Ask words request.entry.command → HasStreamsOf (subcommand_of glm_command words) request.entry
         → HasOutcome words (R.remaining input) (W.contents output.old) (W.contents output.new) result }
 {
-    let text = match open_source(rt, request.input, input) {
+    let text = match open_source(host.rt, request.input, input) {
         Ok(source) => SkipComments::new(source, request.skips_comments),
         Err(error) => {
             return file_failed("read", request.input.unwrap_or("-"), &error, errors);
         }
     };
     let command = request.command;
-    let mut kept = Kept::new(alloc, text, wants_hints(request, hints));
+    let mut kept = Kept::new(host.alloc, text, wants_hints(request, hints));
     let mut wrong = None;
     match request.output {
         None => {
-            let outcome = perform(rt, alloc, gate, command, &mut kept, output, &mut wrong);
-            report_request(alloc, &outcome, request, hints, kept.rows(), wrong, errors);
+            let outcome = perform(host, command, &mut kept, output, &mut wrong);
+            let rows = kept.rows();
+            let hint_source = HintSource { rows, wrong };
+            report_request(host.alloc, &outcome, request, hints, hint_source, errors);
             outcome
         }
         Some(path) => {
-            let outcome = perform_to_file(
-                rt, alloc, gate, command, &mut kept, path, errors, &mut wrong,
-            );
-            report_request(alloc, &outcome, request, hints, kept.rows(), wrong, errors);
+            let outcome = perform_to_file(host, command, &mut kept, path, errors, &mut wrong);
+            let rows = kept.rows();
+            let hint_source = HintSource { rows, wrong };
+            report_request(host.alloc, &outcome, request, hints, hint_source, errors);
             outcome
         }
     }
@@ -241,9 +260,7 @@ fn run_request<'a, T: Threads + Wait + Files, R: Read + Drop, W: Write, E: Write
 /// Parses the words and runs the command that they ask for. Usage errors and the outcome are reported on `errors`.
 fn outcome_of<'a, T: Threads + Wait + Files, R: Read + Drop, W: Write, E: Write, G: Gate>(
     words: &'a [&'a str],
-    rt: &T,
-    alloc: Global,
-    gate: &G,
+    host: &Host<'_, T, G>,
     input: R,
     output: &mut W,
     errors: &mut E,
@@ -251,8 +268,8 @@ fn outcome_of<'a, T: Threads + Wait + Files, R: Read + Drop, W: Write, E: Write,
 ) -> Outcome
     ensures { HasOutcome (texts words.entry.now) (R.remaining input) (W.contents output.old) (W.contents output.new) result }
 {
-    match request_of(alloc, words) {
-        Ok(Some(request)) => run_request(rt, alloc, gate, request, input, output, errors, hints),
+    match request_of(host.alloc, words) {
+        Ok(Some(request)) => run_request(host, request, input, output, errors, hints),
         Ok(None) => {
             let _reported = errors.write_all(usage_text(words).as_bytes());
             Outcome::Misused
@@ -285,7 +302,8 @@ pub fn program_with_hints<
 ) -> u8
     ensures { HasRun (texts words.entry.now) (R.remaining input) (W.contents output.old) (W.contents output.new) result }
 {
-    outcome_of(words, rt, alloc, gate, input, output, errors, hints).status()
+    let host = Host { rt, alloc, gate };
+    outcome_of(words, &host, input, output, errors, hints).status()
 }
 
 /// Runs the whole program except its streams. `words` are the command line with the program's own name first, and `gate`

@@ -11,6 +11,15 @@ use history_commands::{Finding, ShowFault, Verdict, WrongReply, explain_found, s
 use std::alloc::Global;
 use std::io::{Read, Write};
 
+/// What `show` or `explain` is to report of a history.
+#[derive(Clone, Copy)]
+pub(crate) struct ReportRequest {
+    /// The place in the history; with `None` the end for `show`, and every place for `explain`.
+    pub(crate) place: Option<u32>,
+    /// The form of the report.
+    pub(crate) form: Form,
+}
+
 /// The wrong reply of a finding, if there is one.
 pub(crate) fn wrong_of(finding: &Finding) -> Option<WrongReply> {
     match finding {
@@ -25,18 +34,17 @@ pub(crate) fn shown<R: Read + Drop, W: Write>(
     input: R,
     output: &mut W,
     sessions: u16,
-    place: Option<u32>,
-    form: Form,
+    asked: ReportRequest,
     wrong: &mut Option<WrongReply>,
 ) -> Result<Verdict, ShowFault>
     requires some { 0 < sessions }
     requires few { sessions ≤ MAX_SESSIONS }
     ensures kept { IfErr result (λ fault. fault ≢ ShowFault.Device → Keeps (W.contents output.old) (W.contents output.new)) }
-    ensures part { IfErr result (λ fault. fault ≡ ShowFault.Device → HasShownPart form sessions place (W.contents output.old) (W.contents output.new)) }
-    ensures shown { IfOk result (λ verdict. HasShown form sessions place verdict (W.contents output.old) (W.contents output.new)) }
-    ensures shows { (bytes : List ℕ) → R.remaining input ≡ Some bytes → Shows form sessions place bytes (W.contents output.old) (W.contents output.new) result }
+    ensures part { IfErr result (λ fault. fault ≡ ShowFault.Device → HasShownPart asked.form sessions asked.place (W.contents output.old) (W.contents output.new)) }
+    ensures shown { IfOk result (λ verdict. HasShown asked.form sessions asked.place verdict (W.contents output.old) (W.contents output.new)) }
+    ensures shows { (bytes : List ℕ) → R.remaining input ≡ Some bytes → Shows asked.form sessions asked.place bytes (W.contents output.old) (W.contents output.new) result }
 {
-    let finding = show_found(alloc, input, output, sessions, place, form)?;
+    let finding = show_found(alloc, input, output, sessions, asked.place, asked.form)?;
     *wrong = wrong_of(&finding);
     Ok(finding.verdict())
 }
@@ -47,18 +55,17 @@ pub(crate) fn explained<R: Read + Drop, W: Write>(
     input: R,
     output: &mut W,
     sessions: u16,
-    place: Option<u32>,
-    form: Form,
+    asked: ReportRequest,
     wrong: &mut Option<WrongReply>,
 ) -> Result<Verdict, ShowFault>
     requires some { 0 < sessions }
     requires few { sessions ≤ MAX_SESSIONS }
     ensures kept { IfErr result (λ fault. fault ≢ ShowFault.Device → Keeps (W.contents output.old) (W.contents output.new)) }
-    ensures part { IfErr result (λ fault. fault ≡ ShowFault.Device → HasExplainedPart form sessions place (W.contents output.old) (W.contents output.new)) }
-    ensures explained { IfOk result (λ verdict. HasExplained form sessions place verdict (W.contents output.old) (W.contents output.new)) }
-    ensures explains { (bytes : List ℕ) → R.remaining input ≡ Some bytes → Explains form sessions place bytes (W.contents output.old) (W.contents output.new) result }
+    ensures part { IfErr result (λ fault. fault ≡ ShowFault.Device → HasExplainedPart asked.form sessions asked.place (W.contents output.old) (W.contents output.new)) }
+    ensures explained { IfOk result (λ verdict. HasExplained asked.form sessions asked.place verdict (W.contents output.old) (W.contents output.new)) }
+    ensures explains { (bytes : List ℕ) → R.remaining input ≡ Some bytes → Explains asked.form sessions asked.place bytes (W.contents output.old) (W.contents output.new) result }
 {
-    let finding = explain_found(alloc, input, output, sessions, place, form)?;
+    let finding = explain_found(alloc, input, output, sessions, asked.place, asked.form)?;
     *wrong = wrong_of(&finding);
     Ok(finding.verdict())
 }

@@ -22,6 +22,17 @@ use std::sync::Wait;
 use std::thread::Threads;
 use std::{env, io};
 
+/// Standard input, and where a user is prompted for it.
+#[derive(Drop)]
+struct StandardInput<I, P> {
+    /// The bytes.
+    input: I,
+    /// Whether they come from a terminal.
+    is_terminal: bool,
+    /// What a hint or a prompt is written to.
+    prompts: P,
+}
+
 /// What a user is shown, if standard input comes from a terminal: a prompt before each line of a shell, or a hint that rows are awaited.
 fn shown_for(words: &[&str], is_terminal: bool) -> Shown {
     if !is_terminal {
@@ -33,8 +44,7 @@ fn shown_for(words: &[&str], is_terminal: bool) -> Shown {
     }
 }
 
-/// Runs the program and returns its exit status. `prompts` is what a hint or a prompt is written to. Fails if the command line can't be read: memory is refused, or a word isn't
-/// UTF-8.
+/// Runs the program and returns its exit status. Fails if the command line can't be read: memory is refused, or a word isn't UTF-8.
 fn status<
     R: Runtime + AllocGlobal + Threads + Wait,
     I: Read + Drop,
@@ -43,9 +53,7 @@ fn status<
     E: Write,
 >(
     rt: &R,
-    input: I,
-    is_terminal: bool,
-    prompts: P,
+    standard: StandardInput<I, P>,
     output: &mut O,
     errors: &mut E,
     hints: Hints,
@@ -56,6 +64,11 @@ fn status<
     for word in &given {
         words.push(word.as_str())?;
     }
+    let StandardInput {
+        input,
+        is_terminal,
+        prompts,
+    } = standard;
     let input = Awaited::new(input, prompts, shown_for(&words, is_terminal));
     let status = program_with_hints(rt, alloc, &words, input, output, errors, &OpenGate, hints);
     Ok(status)
@@ -71,15 +84,12 @@ fn main(rt: HostRuntime) -> ExitCode {
     } else {
         Hints::AsAsked
     };
-    match status(
-        &rt,
-        rt.stdin(),
+    let standard = StandardInput {
+        input: rt.stdin(),
         is_terminal,
-        rt.stderr(),
-        &mut output,
-        &mut errors,
-        hints,
-    ) {
+        prompts: rt.stderr(),
+    };
+    match status(&rt, standard, &mut output, &mut errors, hints) {
         Ok(status) => ExitCode::from(status),
         Err(error) if error.kind() == ErrorKind::InvalidData => {
             let _written = eprintln!(rt;

@@ -16,6 +16,21 @@ use lock_report::{Doom, answer_rows, answer_text};
 use lock_trace::piece_text;
 use std::alloc::Global;
 
+/// A served call, with the lock table before it and after it.
+#[derive(Clone, Copy)]
+pub struct ServedCall<'a> {
+    /// The lock table before the call.
+    pub before: &'a Book,
+    /// The entries that `before` has served.
+    pub front: &'a [Entry],
+    /// The entry of the call.
+    pub entry: &'a Entry,
+    /// The lock table after the call.
+    pub after: &'a Book,
+    /// The place of the entry in the history.
+    pub place: u64,
+}
+
 /// The account of an entry with this explanation at a place. Fails if memory is refused.
 fn account_text(
     alloc: Global,
@@ -93,79 +108,68 @@ fn is_poll(call: Call) -> bool
     matches!(call, Call::Poll)
 }
 
-/// Appends what the answer tells, if the call is a poll. The entries are those that `before` has served. Fails if memory is
-/// refused.
+/// Appends what the answer tells, if the call is a poll. Fails if memory is refused.
 fn add_answer(
     alloc: Global,
-    before: &Book,
-    front: &[Entry],
-    entry: &Entry,
-    place: u64,
+    call: &ServedCall<'_>,
     form: Form,
     text: &mut Vec<u8>,
 ) -> Result<(), NoMemory>
-    requires within { All (IsEntryWithin before.now.sessions) front.now }
-    requires front { before.now.history ≡ front.now }
-    requires place { place ≡ length before.now.history }
-    ensures { OnOk result (text.new.items ≡ text.old.items ++ answer_told form before.now.sessions before.now.history entry.now) }
+    requires within { All (IsEntryWithin call.now.before.now.sessions) call.now.front.now }
+    requires front { call.now.before.now.history ≡ call.now.front.now }
+    requires place { call.now.place ≡ length call.now.before.now.history }
+    ensures { OnOk result (text.new.items ≡ text.old.items ++ answer_told form call.now.before.now.sessions call.now.before.now.history call.now.entry.now) }
 {
-    if !is_poll(entry.call) {
+    if !is_poll(call.entry.call) {
         return Ok(());
     }
-    let told = answer_of(alloc, before, front, entry.session, place, form)?;
+    let told = answer_of(
+        alloc,
+        call.before,
+        call.front,
+        call.entry.session,
+        call.place,
+        form,
+    )?;
     text.extend_from_slice(told.as_bytes())?;
     Ok(())
 }
 
-/// The account of the entry that `after` has served and `before` hasn't, which is at this place, with what its answer tells if it
-/// is a poll. The entries are those that `before` has served. Fails if memory is refused.
-pub fn account(
-    alloc: Global,
-    before: &Book,
-    front: &[Entry],
-    entry: &Entry,
-    after: &Book,
-    place: u64,
-    form: Form,
-) -> Result<Vec<u8>, NoMemory>
-    requires within { All (IsEntryWithin before.now.sessions) front.now }
-    requires front { before.now.history ≡ front.now }
-    requires sessions { after.now.sessions ≡ before.now.sessions }
-    requires served { after.now.history ≡ before.now.history ++ entry.now ∷ [] }
-    requires place { place ≡ length before.now.history }
-    ensures { IfOk result (λ text. IsAccount form before.now.sessions before.now.history entry.now text.items) }
+/// The account of the call, with what its answer tells if it is a poll. Fails if memory is refused.
+pub fn account(alloc: Global, call: &ServedCall<'_>, form: Form) -> Result<Vec<u8>, NoMemory>
+    requires within { All (IsEntryWithin call.now.before.now.sessions) call.now.front.now }
+    requires front { call.now.before.now.history ≡ call.now.front.now }
+    requires sessions { call.now.after.now.sessions ≡ call.now.before.now.sessions }
+    requires served { call.now.after.now.history ≡ call.now.before.now.history ++ call.now.entry.now ∷ [] }
+    requires place { call.now.place ≡ length call.now.before.now.history }
+    ensures { IfOk result (λ text. IsAccount form call.now.before.now.sessions call.now.before.now.history call.now.entry.now text.items) }
 {
-    let explanation = lock_explain::explain(alloc, before, entry, after)?;
-    let mut text = account_text(alloc, place, entry, &explanation, form)?;
-    add_answer(alloc, before, front, entry, place, form, &mut text)?;
+    let explanation = lock_explain::explain(alloc, call.before, call.entry, call.after)?;
+    let mut text = account_text(alloc, call.place, call.entry, &explanation, form)?;
+    add_answer(alloc, call, form, &mut text)?;
     Ok(text)
 }
 
-/// Appends the account of `entry` to `text` if the call is eventful. `before` ends just ahead of the entry, with the entries of
-/// `front`, and `after` with it. Fails if memory is refused.
+/// Appends the account of the call to `text` if it is eventful. Fails if memory is refused.
 pub(crate) fn add_account_if_eventful(
     alloc: Global,
-    before: &Book,
-    front: &[Entry],
-    entry: &Entry,
-    after: &Book,
-    place: u64,
+    call: &ServedCall<'_>,
     form: Form,
     text: &mut Vec<u8>,
 ) -> Result<(), NoMemory>
-    requires within { All (IsEntryWithin before.now.sessions) front.now }
-    requires front { before.now.history ≡ front.now }
-    requires sessions { after.now.sessions ≡ before.now.sessions }
-    requires served { after.now.history ≡ before.now.history ++ entry.now ∷ [] }
-    requires ended { after.now.ended ≡ ended_waits before.now.sessions entry.now.session (state_of before.now.history) (step (state_of before.now.history) entry.now.session entry.now.call).state }
-    requires place { place ≡ length before.now.history }
-    ensures { OnOk result ((added : List ℕ) × (IsAccountIfEventful (is_entry_eventful before.now.sessions before.now.history entry.now) form before.now.sessions before.now.history entry.now added × (text.new.items ≡ text.old.items ++ added))) }
+    requires within { All (IsEntryWithin call.now.before.now.sessions) call.now.front.now }
+    requires front { call.now.before.now.history ≡ call.now.front.now }
+    requires sessions { call.now.after.now.sessions ≡ call.now.before.now.sessions }
+    requires served { call.now.after.now.history ≡ call.now.before.now.history ++ call.now.entry.now ∷ [] }
+    requires ended { call.now.after.now.ended ≡ ended_waits call.now.before.now.sessions call.now.entry.now.session (state_of call.now.before.now.history) (step (state_of call.now.before.now.history) call.now.entry.now.session call.now.entry.now.call).state }
+    requires place { call.now.place ≡ length call.now.before.now.history }
+    ensures { OnOk result ((added : List ℕ) × (IsAccountIfEventful (is_entry_eventful call.now.before.now.sessions call.now.before.now.history call.now.entry.now) form call.now.before.now.sessions call.now.before.now.history call.now.entry.now added × (text.new.items ≡ text.old.items ++ added))) }
 {
-    let eventful = is_eventful(entry, after.ended());
+    let eventful = is_eventful(call.entry, call.after.ended());
     if !eventful {
         return Ok(());
     }
-    let appended = account(alloc, before, front, entry, after, place, form)?;
+    let appended = account(alloc, call, form)?;
     text.extend_from_slice(&appended)?;
     Ok(())
 }

@@ -10,7 +10,7 @@ ghost use Rattle.lock_trace.specs.Entries.{IsEntry};
 ghost use Rattle.history_commands.specs.Explaining.{AreAccounts, Explains, HasExplained, HasExplainedPart, HasPlace, IsTextExplained};
 ghost use Rattle.history_commands.specs.Verdicts.{Finds, IsFirstWrong, IsVerdict, text_of_verdict, verdict_in, verdict_of};
 
-use crate::accounts::{account, add_account_if_eventful};
+use crate::accounts::{ServedCall, account, add_account_if_eventful};
 use crate::checking::{Verdict, finding_behind, first_wrong, fresh_book, is_same, verdict_line};
 use crate::finding::Finding;
 use crate::show_fault::ShowFault;
@@ -28,6 +28,15 @@ struct Report {
     verdict: Verdict,
     /// The accounts of its calls, or the line of the verdict.
     text: Vec<u8>,
+}
+
+/// A history whose calls are explained.
+#[derive(Clone, Copy)]
+struct ExplainedHistory<'a> {
+    /// The entries of the history.
+    entries: &'a [Entry],
+    /// The form of the accounts.
+    form: Form,
 }
 
 /// Serves the call of the entry, and returns whether the book's reply is the recorded one. Fails if the book finds no memory for
@@ -83,16 +92,14 @@ fn report_on_call(
     if let Some(first) = here {
         return illegal_report(alloc, first);
     }
-    let front = &entries[..place];
-    let text = account(
-        alloc,
+    let call = ServedCall {
         before,
-        front,
-        &entries[place],
+        front: &entries[..place],
+        entry: &entries[place],
         after,
-        place as u64,
-        form,
-    )?;
+        place: place as u64,
+    };
+    let text = account(alloc, &call, form)?;
     let late = first_wrong(after, entries, place + 1, entries.len())?;
     if let Some(first) = late {
         return illegal_report(alloc, first);
@@ -110,33 +117,39 @@ fn add_next_account(
     alloc: Global,
     before: &mut Book,
     after: &mut Book,
-    entries: &[Entry],
+    history: ExplainedHistory<'_>,
     place: usize,
-    form: Form,
     text: &mut Vec<u8>,
 ) -> Result<bool, NoMemory>
-    requires within { All (IsEntry before.old.sessions) entries.now }
-    requires there { place < length entries.now }
+    requires within { All (IsEntry before.old.sessions) history.entries.now }
+    requires there { place < length history.entries.now }
     requires sessions { after.old.sessions ≡ before.old.sessions }
-    requires behind { before.old.history ≡ take place entries.now }
-    requires ahead { after.old.history ≡ take place entries.now }
-    requires legal { IsLegal (take place entries.now) }
-    requires accounts { AreAccounts form before.old.sessions [] (take place entries.now) text.old.items }
-    ensures wrong { IfOk result (λ alike. alike ≡ false → IsFirstWrong entries.now place) }
+    requires behind { before.old.history ≡ take place history.entries.now }
+    requires ahead { after.old.history ≡ take place history.entries.now }
+    requires legal { IsLegal (take place history.entries.now) }
+    requires accounts { AreAccounts history.form before.old.sessions [] (take place history.entries.now) text.old.items }
+    ensures wrong { IfOk result (λ alike. alike ≡ false → IsFirstWrong history.entry.entries.now place) }
     ensures sessions { IfOk result (λ alike. alike ≡ true → before.new.sessions ≡ before.old.sessions) }
     ensures others { IfOk result (λ alike. alike ≡ true → after.new.sessions ≡ before.old.sessions) }
-    ensures behind { IfOk result (λ alike. alike ≡ true → before.new.history ≡ take (place + 1) entries.now) }
-    ensures ahead { IfOk result (λ alike. alike ≡ true → after.new.history ≡ take (place + 1) entries.now) }
-    ensures legal { IfOk result (λ alike. alike ≡ true → IsLegal (take (place + 1) entries.now)) }
-    ensures accounts { IfOk result (λ alike. alike ≡ true → AreAccounts form before.old.sessions [] (take (place + 1) entries.now) text.new.items) }
+    ensures behind { IfOk result (λ alike. alike ≡ true → before.new.history ≡ take (place + 1) history.entry.entries.now) }
+    ensures ahead { IfOk result (λ alike. alike ≡ true → after.new.history ≡ take (place + 1) history.entry.entries.now) }
+    ensures legal { IfOk result (λ alike. alike ≡ true → IsLegal (take (place + 1) history.entry.entries.now)) }
+    ensures accounts { IfOk result (λ alike. alike ≡ true → AreAccounts history.entry.form before.old.sessions [] (take (place + 1) history.entry.entries.now) text.new.items) }
 {
+    let entries = history.entries;
     let entry = &entries[place];
     let alike = serve_alike(after, entry)?;
     if !alike {
         return Ok(false);
     }
-    let front = &entries[..place];
-    add_account_if_eventful(alloc, before, front, entry, after, place as u64, form, text)?;
+    let call = ServedCall {
+        before,
+        front: &entries[..place],
+        entry,
+        after,
+        place: place as u64,
+    };
+    add_account_if_eventful(alloc, &call, history.form, text)?;
     serve_alike(before, entry)?;
     Ok(true)
 }
@@ -147,21 +160,20 @@ fn add_all_accounts(
     alloc: Global,
     before: &mut Book,
     after: &mut Book,
-    entries: &[Entry],
-    form: Form,
+    history: ExplainedHistory<'_>,
     text: &mut Vec<u8>,
 ) -> Result<Option<u64>, NoMemory>
-    requires within { All (IsEntry before.old.sessions) entries.now }
+    requires within { All (IsEntry before.old.sessions) history.entries.now }
     requires sessions { after.old.sessions ≡ before.old.sessions }
     requires behind { before.old.history ≡ [] }
     requires ahead { after.old.history ≡ [] }
     requires empty { text.old.items ≡ [] }
-    ensures wrong { IfOk result (λ found. IfSome found (IsFirstWrong entries.now)) }
-    ensures legal { IfOk result (λ found. IfNone found (IsLegal entries.now)) }
-    ensures accounts { IfOk result (λ found. IfNone found (AreAccounts form before.old.sessions [] entries.now text.new.items)) }
+    ensures wrong { IfOk result (λ found. IfSome found (IsFirstWrong history.entry.entries.now)) }
+    ensures legal { IfOk result (λ found. IfNone found (IsLegal history.entry.entries.now)) }
+    ensures accounts { IfOk result (λ found. IfNone found (AreAccounts history.entry.form before.old.sessions [] history.entry.entries.now text.new.items)) }
 {
-    for place in 0..entries.len() {
-        let alike = add_next_account(alloc, before, after, entries, place, form, text)?;
+    for place in 0..history.entries.len() {
+        let alike = add_next_account(alloc, before, after, history, place, text)?;
         if !alike {
             return Ok(Some(place as u64));
         }
@@ -185,7 +197,8 @@ fn report_on_all(
     ensures text { IfOk result (λ report. IsTextExplained form before.old.sessions None entries.now report.verdict report.text.items) }
 {
     let mut text = Vec::new(alloc);
-    let wrong = add_all_accounts(alloc, before, after, entries, form, &mut text)?;
+    let history = ExplainedHistory { entries, form };
+    let wrong = add_all_accounts(alloc, before, after, history, &mut text)?;
     if let Some(first) = wrong {
         return illegal_report(alloc, first);
     }

@@ -17,7 +17,7 @@ mod finding;
 mod show_fault;
 mod showing;
 
-pub use accounts::{account, answer_of, doom_of};
+pub use accounts::{ServedCall, account, answer_of, doom_of};
 pub use checking::{Verdict, check, check_whole, finding_on, verdict_line};
 pub use checking_by_row::check_by_row;
 pub use drawing::timeline;

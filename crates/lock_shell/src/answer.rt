@@ -65,15 +65,7 @@ fn answer_path(
 {
     marks.push(desk.after.served())?;
     let mut text = Vec::new(alloc);
-    serve_path(
-        alloc,
-        &mut desk.before,
-        &mut desk.after,
-        session,
-        resource,
-        mode,
-        &mut text,
-    )?;
+    serve_path(alloc, desk, session, resource, mode, &mut text)?;
     Ok(text)
 }
 

@@ -90,25 +90,24 @@ pub(crate) fn serve_told(
 /// Stops at the first call that isn't granted. Fails if memory is refused; the books may differ then.
 pub(crate) fn serve_path(
     alloc: Global,
-    before: &mut Book,
-    after: &mut Book,
+    desk: &mut Desk,
     session: u16,
     resource: Resource,
     mode: Mode,
     text: &mut Vec<u8>,
 ) -> Result<(), NoMemory>
     requires some { 1 ≤ session }
-    requires within { session ≤ after.old.sessions }
-    requires alike { AreAlike after.old.sessions before.old after.old }
-    ensures alike { OnOk result (AreAlike after.old.sessions before.new after.new) }
-    ensures served { OnOk result (HasServedPath after.old.sessions session resource mode after.old.history after.new.history text.old.items text.new.items) }
+    requires within { session ≤ desk.old.after.sessions }
+    requires alike { AreAlike desk.old.after.sessions desk.old.before desk.old.after }
+    ensures alike { OnOk result (AreAlike desk.old.after.sessions desk.new.before desk.new.after) }
+    ensures served { OnOk result (HasServedPath desk.old.after.sessions session resource mode desk.old.after.history desk.new.after.history text.old.items text.new.items) }
 {
     for level in 0..resource.level() {
         let row = TraceRow {
             session,
             call: lock_of_level(&resource, mode, level + 1),
         };
-        let reply = serve_told(alloc, before, after, &row, text)?;
+        let reply = serve_told(alloc, &mut desk.before, &mut desk.after, &row, text)?;
         if !grants(&reply) {
             return Ok(());
         }

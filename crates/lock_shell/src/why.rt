@@ -8,7 +8,7 @@ ghost use Rattle.lock_shell.specs.Turns.{IsAccountAt, IsLastCall, IsPlaceTold, I
 use crate::desk::desk_again;
 use crate::texts::NO_CALL;
 use command_line::Form;
-use history_commands::{account, answer_of, doom_of};
+use history_commands::{ServedCall, account, answer_of, doom_of};
 use lock_desk::{Book, Call, Entry, NO_BOUND, NoMemory};
 use std::alloc::Global;
 
@@ -60,15 +60,14 @@ fn account_at(alloc: Global, after: &Book, place: usize) -> Result<Vec<u8>, NoMe
     let front = desk_again(alloc, after, place)?;
     let back = desk_again(alloc, after, place + 1)?;
     let entries = after.history();
-    account(
-        alloc,
-        &front.after,
-        &entries[..place],
-        &entries[place],
-        &back.after,
-        place as u64,
-        Form::Lines,
-    )
+    let call = ServedCall {
+        before: &front.after,
+        front: &entries[..place],
+        entry: &entries[place],
+        after: &back.after,
+        place: place as u64,
+    };
+    account(alloc, &call, Form::Lines)
 }
 
 /// What the call that is told did and why, or that there is none. Fails if memory is refused.

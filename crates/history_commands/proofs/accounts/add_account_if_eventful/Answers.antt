@@ -4,17 +4,17 @@ use Rattle.history_commands.proofs.accounts.add_account_if_eventful.Goals as goa
 
 pub returns-then-not-eventful : goal.returns-then-not-eventful
 returns-then-not-eventful c =
-    let before = c.args.before.now in
-    let e = c.args.entry.now in
-    let listed = told_as_listed before.sessions before.history e c.ended.result.now c.args.after.now.ended c.requires.ended c.ended.ensures.ended in
+    let before = c.args.call.now.before.now in
+    let e = c.args.call.now.entry.now in
+    let listed = told_as_listed before.sessions before.history e c.ended.result.now c.args.call.now.after.now.ended c.requires.ended c.ended.ensures.ended in
     let no : c.is_eventful-eventful.result ≡ false = first_of (cc, search rules) in
     ([], (nothing_told c.args.form before.sessions before.history e (sym listed ∙ sym c.is_eventful-eventful.ensures ∙ no), sym (append-nil c.args.text.now.items)))
 
 pub returns : goal.returns
 returns c =
-    let before = c.args.before.now in
-    let e = c.args.entry.now in
-    let listed = told_as_listed before.sessions before.history e c.ended.result.now c.args.after.now.ended c.requires.ended c.ended.ensures.ended in
+    let before = c.args.call.now.before.now in
+    let e = c.args.call.now.entry.now in
+    let listed = told_as_listed before.sessions before.history e c.ended.result.now c.args.call.now.after.now.ended c.requires.ended c.ended.ensures.ended in
     let yes : c.is_eventful-eventful.result ≡ true = first_of (cc, search rules) in (
       c.in_ok-appended.appended.items,
       (

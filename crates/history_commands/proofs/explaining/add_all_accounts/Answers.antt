@@ -20,13 +20,13 @@ pub add_next_account-requires : goal.add_next_account-requires
 add_next_account-requires c =
     let so_far = c.loop-place.invariant in
     record {
-      within = subst (λ (n : ℕ). All (IsEntry n) c.args.entries.now) (sym so_far.sessions) c.requires.within;
+      within = subst (λ (n : ℕ). All (IsEntry n) c.args.history.entries.now) (sym so_far.sessions) c.requires.within;
       there = omega arith;
       sessions = so_far.others ∙ sym so_far.sessions;
       behind = so_far.behind;
       ahead = so_far.ahead;
       legal = so_far.legal;
-      accounts = subst (λ (n : ℕ). AreAccounts c.args.form n [] (take c.loop-place.place c.args.entries.now) c.loop-place.text.items) (sym so_far.sessions) so_far.accounts;
+      accounts = subst (λ (n : ℕ). AreAccounts c.args.history.form n [] (take c.loop-place.place c.args.history.entries.now) c.loop-place.text.items) (sym so_far.sessions) so_far.accounts;
     }
 
 pub returns-then-not-alike : goal.returns-then-not-alike
@@ -47,15 +47,15 @@ loop-place-preserved c =
       sessions = next.sessions alike ∙ so_far.sessions;
       others = next.others alike ∙ so_far.sessions;
       legal = next.legal alike;
-      accounts = subst (λ (n : ℕ). AreAccounts c.args.form n [] (take (c.loop-place.place + 1) c.args.entries.now) c.add_next_account.new.text.items) so_far.sessions (next.accounts alike);
+      accounts = subst (λ (n : ℕ). AreAccounts c.args.history.form n [] (take (c.loop-place.place + 1) c.args.history.entries.now) c.add_next_account.new.text.items) so_far.sessions (next.accounts alike);
     }
 
 pub returns : goal.returns
 returns c =
-    let ends : length c.args.entries.now ≤ c.loop-place.place = omega arith in
-    let all = take_all c.loop-place.place c.args.entries.now ends in
+    let ends : length c.args.history.entries.now ≤ c.loop-place.place = omega arith in
+    let all = take_all c.loop-place.place c.args.history.entries.now ends in
     record {
       wrong = tt;
       legal = subst IsLegal all c.loop-place.invariant.legal;
-      accounts = subst (λ (es : List Entry). AreAccounts c.args.form c.args.before.now.sessions [] es c.loop-place.text.items) all c.loop-place.invariant.accounts;
+      accounts = subst (λ (es : List Entry). AreAccounts c.args.history.form c.args.before.now.sessions [] es c.loop-place.text.items) all c.loop-place.invariant.accounts;
     }

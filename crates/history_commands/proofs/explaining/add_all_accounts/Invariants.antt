@@ -6,10 +6,10 @@ use Rattle.history_commands.proofs.explaining.add_all_accounts.Given as goal
 -- the entries so far are legal and are the history of both books, and the text has their accounts
 abbrev pub invariant-loop-place : goal.invariant-loop-place
 invariant-loop-place l = record {
-  behind : l.before.history ≡ take l.place l.entries;
-  ahead : l.after.history ≡ take l.place l.entries;
+  behind : l.before.history ≡ take l.place l.history.entries.now;
+  ahead : l.after.history ≡ take l.place l.history.entries.now;
   sessions : l.before.sessions ≡ l.fn.before.sessions;
   others : l.after.sessions ≡ l.fn.before.sessions;
-  legal : IsLegal (take l.place l.entries);
-  accounts : AreAccounts l.form l.fn.before.sessions [] (take l.place l.entries) l.text.items;
+  legal : IsLegal (take l.place l.history.entries.now);
+  accounts : AreAccounts l.history.form l.fn.before.sessions [] (take l.place l.history.entries.now) l.text.items;
 }

@@ -10,14 +10,14 @@ use Rattle.history_commands.proofs.explaining.add_next_account.Goals as goal
 
 pub serve_alike-requires : goal.serve_alike-requires
 serve_alike-requires c =
-    let at = within_at c.args.before.now.sessions c.args.entries.now c.args.place c.index-entries-place.result c.requires.within c.requires.there c.index-entries-place.is in
+    let at = within_at c.args.before.now.sessions c.args.history.entries.now c.args.place c.index-entries-place.result c.requires.within c.requires.there c.index-entries-place.is in
     record { some = omega (arith, at.first); within = omega (arith, at.last, c.requires.sessions) }
 
 pub returns-then-not-alike : goal.returns-then-not-alike
 returns-then-not-alike c =
     let e = c.index-entries-place.result in
     record {
-      wrong = λ _. first_wrong c.args.entries.now c.args.place e (step (state_of c.args.after.now.history) e.session e.call).reply c.args.after.now.history
+      wrong = λ _. first_wrong c.args.history.entries.now c.args.place e (step (state_of c.args.after.now.history) e.session e.call).reply c.args.after.now.history
           c.requires.there c.index-entries-place.is c.requires.ahead c.requires.legal refl
           (λ same. false≢true (sym c.if-not-alike.true ∙ c.in_ok-alike.ensures.reply.1 same));
       sessions = λ yes. absurd (false≢true yes);
@@ -33,24 +33,24 @@ add_account_if_eventful-requires c =
     let e = c.index-entries-place.result in
     let alike = c.requires.ahead ∙ sym c.requires.behind in
     record {
-      within = within_front c.args.before.now.sessions c.args.place c.args.entries.now c.requires.within;
+      within = within_front c.args.before.now.sessions c.args.place c.args.history.entries.now c.requires.within;
       front = c.requires.behind;
       sessions = c.in_ok-alike.ensures.sessions ∙ c.requires.sessions;
       served = c.in_ok-alike.ensures.served c.if-not-alike.false ∙ ap (λ (es : List Entry). es ++ e ∷ []) alike;
       ended = c.in_ok-alike.ensures.ended
           ∙ ended_alike c.args.after.now.sessions c.args.before.now.sessions c.args.after.now.history c.args.before.now.history e c.requires.sessions alike;
-      place = omega (arith, ap length c.requires.behind, length-take c.args.place c.args.entries.now, c.requires.there);
+      place = omega (arith, ap length c.requires.behind, length-take c.args.place c.args.history.entries.now, c.requires.there);
     }
 
 pub serve_alike-requires-2 : goal.serve_alike-requires-2
 serve_alike-requires-2 c =
-    let at = within_at c.args.before.now.sessions c.args.entries.now c.args.place c.index-entries-place.result c.requires.within c.requires.there c.index-entries-place.is in
+    let at = within_at c.args.before.now.sessions c.args.history.entries.now c.args.place c.index-entries-place.result c.requires.within c.requires.there c.index-entries-place.is in
     record { some = omega (arith, at.first); within = at.last }
 
 pub returns : goal.returns
 returns c =
     let e = c.index-entries-place.result in
-    let es = c.args.entries.now in
+    let es = c.args.history.entries.now in
     let place = c.args.place in
     let is = c.index-entries-place.is in
     let alike = c.requires.ahead ∙ sym c.requires.behind in
@@ -64,6 +64,6 @@ returns c =
       ahead = λ _. served_more es place e c.args.after.now.history c.serve_alike.new.book.history c.requires.there is c.requires.ahead
           (c.in_ok-alike.ensures.served c.if-not-alike.false);
       legal = λ _. right es place e e.reply c.args.after.now.history c.requires.there is c.requires.ahead c.requires.legal (sym reply) refl;
-      accounts = λ _. told_more c.args.form c.args.before.now.sessions c.args.before.now.sessions es place e c.args.before.now.history c.args.text.now.items
+      accounts = λ _. told_more c.args.history.form c.args.before.now.sessions c.args.before.now.sessions es place e c.args.before.now.history c.args.text.now.items
           c.add_account_if_eventful.new.text.items c.requires.there is refl c.requires.behind c.requires.accounts c.in_ok-add_account_if_eventful.ensures;
     }
