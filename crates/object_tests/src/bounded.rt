@@ -239,14 +239,13 @@ fn a_round_stops_at_its_weight(rt: HostRuntime) -> Result<(), Fail> {
     Ok(())
 }
 
-/// An idle session performs a call that adds 10 within a bound. The call has this place and reply, behind so many published ones.
+/// An idle session performs a call that adds 10 within a bound. The call has this answer, behind so many published ones.
 fn want_performed(
     rt: &impl Abort,
     office: &Office<Counter>,
     session: &mut Session<Counter>,
     bound: PassBound,
-    place: u64,
-    reply: u64,
+    answer: Answer<u64>,
     served: u32,
 )
     requires ours { IsSessionOf office.now session.old }
@@ -255,11 +254,16 @@ fn want_performed(
 {
     assert!(rt; session.is_idle());
     let want = Performed::Answered {
-        answer: Answer { place, reply },
+        answer,
         served,
         starved: false,
     };
     assert!(rt; office.perform_bounded(session, 10, bound, &mut Weighing) == want);
+}
+
+/// An answer that has this place and reply.
+fn answer(place: u64, reply: u64) -> Answer<u64> {
+    Answer { place, reply }
 }
 
 /// Sessions 2 to 4 publish calls. Session 1 performs one behind a round of two calls, of session 4 and 3; then, once session 3 has
@@ -289,7 +293,7 @@ fn want_bounded_calls(
         weight: 100,
         rounds: 1,
     };
-    want_performed(rt, office, first, two, 2, 6, 2);
+    want_performed(rt, office, first, two, answer(2, 6), 2);
     want_answer(rt, office, fourth, 0, 0);
     want_answer(rt, office, third, 1, 4);
     assert!(rt; office.collect(second) == None);
@@ -299,10 +303,10 @@ fn want_bounded_calls(
         weight: 5,
         rounds: 1,
     };
-    want_performed(rt, office, first, light, 4, 21, 1);
+    want_performed(rt, office, first, light, answer(4, 21), 1);
     want_answer(rt, office, third, 3, 16);
     assert!(rt; office.collect(second) == None);
-    want_performed(rt, office, first, light, 6, 32, 1);
+    want_performed(rt, office, first, light, answer(6, 32), 1);
     want_answer(rt, office, second, 5, 31);
 }
 

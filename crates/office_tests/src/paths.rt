@@ -20,15 +20,14 @@ fn two_calls(place: u64, reply: Reply) -> Row {
     }
 }
 
-/// Locks the path to `resource` in X by two calls. Wants this level, and this reply to the second call.
+/// Locks the path to `resource` in X. Wants this level and these calls.
 fn want_path(
     rt: &impl Abort,
     office: &Office,
     session: &mut Session,
     resource: Resource,
     level: u8,
-    place: u64,
-    reply: Reply,
+    row: Row,
 )
     requires ours { IsSessionOf office.now session.old × IsIdle session.old }
     ensures ours { IsSessionOf office.now session.new × IsIdle session.new }
@@ -36,7 +35,7 @@ fn want_path(
     let locked = lock_path(office, session, resource, Mode::X, 0, &mut Nobody);
     let wanted = PathPerformed::Performed {
         level,
-        row: two_calls(place, reply),
+        row,
         served: 0,
         starved: false,
     };
@@ -58,9 +57,11 @@ fn want_wait(
     ensures second { IsSessionOf office.now second.new × IsIdle second.new }
 {
     want(rt, office, first, &Call::Begin, 0, Reply::Began(1));
-    want_path(rt, office, first, file, 2, 2, Reply::Granted(Mode::X));
+    let granted = two_calls(2, Reply::Granted(Mode::X));
+    want_path(rt, office, first, file, 2, granted);
     want(rt, office, second, &Call::Begin, 3, Reply::Began(2));
-    want_path(rt, office, second, page, 1, 5, Reply::Waiting);
+    let waits = two_calls(5, Reply::Waiting);
+    want_path(rt, office, second, page, 1, waits);
 }
 
 /// Session 1 commits, which tells that session 2 waits no more. A turn of session 2 locks the rest of its path.

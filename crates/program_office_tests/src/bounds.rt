@@ -99,15 +99,14 @@ fn want_round(
     assert!(rt; session.serve_bounded(office, bound, told) == want);
 }
 
-/// One turn of a call of the session, whose pass serves within the bound, has this reply, at this place of the history of calls.
+/// One turn of a call of the session, whose pass serves within the bound, has this answer.
 fn want_turn(
     rt: &impl Abort,
     office: &Office,
     session: &mut CallSession,
     call: Call,
     bound: PassBound,
-    place: u64,
-    reply: Reply,
+    want: Answer<Reply>,
 )
     requires ours { IsSessionOf office.now session.old }
     ensures ours { IsSessionOf office.now session.new }
@@ -115,7 +114,7 @@ fn want_turn(
     assert!(rt; session.is_idle());
     let told = &mut Counted::within(Nobody, bound);
     let next = session.turn(office, &call, 0, told);
-    assert!(rt; next == Next::Answered(Answer { place, reply }));
+    assert!(rt; next == Next::Answered(want));
 }
 
 /// Session 1 holds three locks, session 2 five, and session 3 two, by 13 calls. Each publishes its commit, in this order.
@@ -194,15 +193,11 @@ fn a_turn_serves_no_more_than_its_bound(rt: HostRuntime) -> Result<(), Fail> {
         weight: 4,
         rounds: 1,
     };
-    want_turn(
-        &rt,
-        &office,
-        &mut four.fourth,
-        Call::Begin,
-        light,
-        15,
-        Reply::Began(4),
-    );
+    let began = Answer {
+        place: 15,
+        reply: Reply::Began(4),
+    };
+    want_turn(&rt, &office, &mut four.fourth, Call::Begin, light, began);
     want_collected(&rt, &office, &mut four.third, 13, Reply::Committed(2));
     want_collected(&rt, &office, &mut four.second, 14, Reply::Committed(5));
     assert!(rt; four.third.is_idle());
@@ -212,14 +207,17 @@ fn a_turn_serves_no_more_than_its_bound(rt: HostRuntime) -> Result<(), Fail> {
         weight: 0,
         rounds: 0,
     };
+    let committed = Answer {
+        place: 16,
+        reply: Reply::Committed(0),
+    };
     want_turn(
         &rt,
         &office,
         &mut four.fourth,
         Call::Commit,
         least,
-        16,
-        Reply::Committed(0),
+        committed,
     );
     want_collected(&rt, &office, &mut four.third, 17, Reply::Began(5));
     assert!(rt; four.first.collect(&office) == None);

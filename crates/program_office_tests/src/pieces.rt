@@ -14,6 +14,17 @@ use std::alloc::Global;
 use std::process::Abort;
 use std::test::Fail;
 
+/// A page, and what it is in.
+#[derive(Clone, Copy)]
+struct Path {
+    /// The database.
+    database: Resource,
+    /// The file.
+    file: Resource,
+    /// The page.
+    page: Resource,
+}
+
 /// Opens an office of one session that keeps three entries.
 fn open_keeping(alloc: Global) -> Result<(Office, Vec<Session>), NoMemory>
     ensures ready { IfOk result (λ made. All (λ session. IsSessionOf made.0 session × IsIdle session) made.1.items) }
@@ -35,17 +46,28 @@ fn take_a_path(
     alloc: Global,
     office: &Office,
     only: &mut Session,
-    database: Resource,
-    file: Resource,
-    page: Resource,
+    path: Path,
 ) -> Result<(), NoMemory>
     requires ours { IsSessionOf office.now only.old }
     ensures ours { IfOk result (λ _. IsSessionOf office.now only.new) }
 {
+    let Path {
+        database,
+        file,
+        page,
+    } = path;
     assert!(rt; page.level() == 3);
     let (ix, x) = (Reply::Granted(Mode::IX), Reply::Granted(Mode::X));
-    let path = Program::locks(Start::Begins, &page, Mode::X, 0);
-    want(rt, office, only, &path, 0, 0, &[Reply::Began(1), ix, ix, x]);
+    let locks = Program::locks(Start::Begins, &page, Mode::X, 0);
+    want(
+        rt,
+        office,
+        only,
+        &locks,
+        0,
+        0,
+        &[Reply::Began(1), ix, ix, x],
+    );
     let oldest = office.take_oldest(alloc, only, 2)?.expect(rt, "a piece");
     let above = [
         entry(1, Call::Lock(database, Mode::IX), ix),
@@ -92,16 +114,14 @@ fn take_both(
     alloc: Global,
     office: &Office,
     sessions: &mut Vec<Session>,
-    database: Resource,
-    file: Resource,
-    page: Resource,
+    path: Path,
 ) -> Result<(), NoMemory>
     requires ours { All (λ session. IsSessionOf office.now session × IsIdle session) sessions.old.items }
     ensures ours { IfOk result (λ _. All (IsSessionOf office.now) sessions.new.items) }
 {
     assert!(rt; !sessions.is_empty());
     let only = &mut sessions[0];
-    take_a_path(rt, alloc, office, only, database, file, page)?;
+    take_a_path(rt, alloc, office, only, path)?;
     take_a_commit(rt, alloc, office, only);
     Ok(())
 }
@@ -122,7 +142,12 @@ fn pieces_have_entries_of_calls(rt: HostRuntime) -> Result<(), Fail> {
     let page = Resource::from_numbers(&[7, 2, 5]).ok_or("no resource")?;
     let (office, mut sessions) = open_keeping(rt.alloc())?;
     let alloc = rt.alloc();
-    take_both(&rt, alloc, &office, &mut sessions, database, file, page)?;
+    let path = Path {
+        database,
+        file,
+        page,
+    };
+    take_both(&rt, alloc, &office, &mut sessions, path)?;
     let object = closed(&rt, office, sessions);
     want_left(&rt, &object);
     Ok(())
