@@ -1,11 +1,12 @@
 //! Locking a path in one taking of the lock table: the ancestors of a resource, from the database down, and then the resource.
 //! `lock_path` tries once, `path_turn` makes one turn.
 
-ghost use Rattle.std.specs.Prelude.{◌≡◌, ◌≢◌, ◌+◌, ◌<◌, ◌≤◌, ◌↔◌, ℕ, if◌then◌else◌, [], false, None, IsTrue, length, take};
+ghost use Rattle.std.specs.Prelude.{◌≡◌, ◌≢◌, ◌+◌, ◌-◌, ◌<◌, ◌≤◌, ◌↔◌, ℕ, if◌then◌else◌, [], false, None, IsTrue, length, take};
 ghost use Rattle.sequential.specs.Histories.{calls_of};
 ghost use Rattle.publication.specs.Boards.{HasCallsOf, heard_from};
 ghost use Rattle.combining.specs.Calls.{IsCalled, IsCalling, IsAnswered, IsWaitingOn, HasStarvedCalling, HasGoneOn};
 ghost use Rattle.combining.specs.Ended.{AreToldBy, HasAddedTold, HasRoom, entered_since};
+ghost use Rattle.combining.specs.Rounds.{most_of};
 ghost use Rattle.combining.specs.declared.backoff.TheConstants.{TRIES_AT_ONCE};
 ghost use Rattle.combining.specs.Waits.{IsWaitAfterTry, IsWaitAfterLook};
 ghost use Rattle.lock_board.specs.LockBoards.{book_object};
@@ -204,6 +205,7 @@ pub fn path_turn<T: Told<Book>>(
     ensures told { HasAddedTold T.ends office.now.sessions session.new.front (entered_since session.old session.new) (T.list told.old) (T.list told.new) }
     ensures room { T.room told.new ≡ T.room told.old }
     ensures most { T.most told.new ≡ T.most told.old }
+    ensures few { length (entered_since session.old session.new) ≤ most_of (T.most told.old) + (length resource - locked) }
 {
     let mut calls = [Call::Poll; LEVELS];
     let count = write_path(&resource, mode, locked, &mut calls);
