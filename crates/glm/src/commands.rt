@@ -187,27 +187,18 @@ fn perform_to_file<T: Threads + Wait + Files, R: Read + Drop, E: Write, G: Gate>
     }
 }
 
-/// What hints are written from, besides the outcome.
-#[derive(Clone, Copy)]
-struct HintSource<'a> {
-    /// The rows that were read last.
-    rows: &'a KeptRows,
-    /// The first wrong reply of a history, if there is one.
-    wrong: Option<WrongReply>,
-}
-
 /// Reports the outcome of a request on `errors`, with hints if they are wanted.
 fn report_request<E: Write>(
     alloc: Global,
     outcome: &Outcome,
     request: Request<'_>,
     hints: Hints,
-    hint_source: HintSource<'_>,
+    rows: &KeptRows,
+    wrong: Option<WrongReply>,
     errors: &mut E,
 ) {
     outcome.report(errors);
     if wants_hints(request, hints) {
-        let HintSource { rows, wrong } = hint_source;
         write_hints(alloc, outcome, request.command, rows, wrong, errors);
     }
 }
@@ -242,16 +233,28 @@ fn run_request<'a, T: Threads + Wait + Files, R: Read + Drop, W: Write, E: Write
     match request.output {
         None => {
             let outcome = perform(host, command, &mut kept, output, &mut wrong);
-            let rows = kept.rows();
-            let hint_source = HintSource { rows, wrong };
-            report_request(host.alloc, &outcome, request, hints, hint_source, errors);
+            report_request(
+                host.alloc,
+                &outcome,
+                request,
+                hints,
+                kept.rows(),
+                wrong,
+                errors,
+            );
             outcome
         }
         Some(path) => {
             let outcome = perform_to_file(host, command, &mut kept, path, errors, &mut wrong);
-            let rows = kept.rows();
-            let hint_source = HintSource { rows, wrong };
-            report_request(host.alloc, &outcome, request, hints, hint_source, errors);
+            report_request(
+                host.alloc,
+                &outcome,
+                request,
+                hints,
+                kept.rows(),
+                wrong,
+                errors,
+            );
             outcome
         }
     }
