@@ -227,34 +227,19 @@ fn run_request<'a, T: Threads + Wait + Files, R: Read + Drop, W: Write, E: Write
             return file_failed("read", request.input.unwrap_or("-"), &error, errors);
         }
     };
+    let alloc = host.alloc;
     let command = request.command;
-    let mut kept = Kept::new(host.alloc, text, wants_hints(request, hints));
+    let mut kept = Kept::new(alloc, text, wants_hints(request, hints));
     let mut wrong = None;
     match request.output {
         None => {
             let outcome = perform(host, command, &mut kept, output, &mut wrong);
-            report_request(
-                host.alloc,
-                &outcome,
-                request,
-                hints,
-                kept.rows(),
-                wrong,
-                errors,
-            );
+            report_request(alloc, &outcome, request, hints, kept.rows(), wrong, errors);
             outcome
         }
         Some(path) => {
             let outcome = perform_to_file(host, command, &mut kept, path, errors, &mut wrong);
-            report_request(
-                host.alloc,
-                &outcome,
-                request,
-                hints,
-                kept.rows(),
-                wrong,
-                errors,
-            );
+            report_request(alloc, &outcome, request, hints, kept.rows(), wrong, errors);
             outcome
         }
     }
