@@ -115,3 +115,8 @@ pub mod Paths
 pub mod BookHistories
 -- whose wait a batch has ended, said of its entries
 pub mod EndedInBatches
+-- a request is added to a queue, also one that would be granted
+pub mod QueuedRequests
+-- a resumed table
+-- its state stays one between two calls, and the lock table represents it
+pub mod ResumedStates

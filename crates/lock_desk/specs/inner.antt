@@ -15,3 +15,5 @@ pub mod Shows
 pub mod Runs
 pub mod Paths
 pub mod Invariant
+pub mod Queueing
+pub mod Resuming

@@ -36,6 +36,7 @@ mod book;
 mod call_counts;
 mod cell_table;
 mod cells;
+mod change;
 mod counts;
 mod deadlock_log;
 mod gauges;
@@ -45,6 +46,7 @@ mod notes;
 mod object;
 mod promotion;
 mod recording;
+mod resumed_table;
 mod tending;
 mod wait_counts;
 mod waits;
@@ -58,6 +60,7 @@ pub use lock_rules::{
     Call, Claim, ClaimKind, Entry, MAX_LOCKS, MAX_SESSIONS, Reply, Transaction, Why,
 };
 pub use lock_tree::Resource;
+pub use resumed_table::ResumedTable;
 pub use tending::{CountIdle, Reserve, Shrink};
 pub use trimmed_list::{MOST_DROPPED, NO_BOUND};
 

@@ -26,6 +26,7 @@ mod queues;
 mod refusals;
 mod requests;
 mod restarts;
+mod resuming;
 pub(crate) mod runs;
 
 use crate::cell_table::{CellTable, GivenUpClaim};
