@@ -34,3 +34,43 @@ invariant_of-self c = record {
   long = long-still _ _ c.args.place c.queue_request.new.self c.self.invariant.long;
   idle = idle-still _ _ c.args.place c.queue_request.new.self (resource-within (in_use c.self.inside.resources.keys c.self.inside.has_provisional) c.self.inside.cells.items c.args.self.now.entries (ap (λ (t : Table). t.entries) c.self.view_is) c.args.resource (Some c.args.place) c.args.place refl c.requires.place) c.self.invariant.idle;
 }
+
+pub invariant_of-self-2 : goal.invariant_of-self-2
+invariant_of-self-2 c = record {
+  long = long-still _ _ c.args.place c.queue_request.new.self c.self.invariant.long;
+  idle = idle-still _ _ c.args.place c.queue_request.new.self (resource-within (in_use c.self.inside.resources.keys c.self.inside.has_provisional) c.self.inside.cells.items c.args.self.now.entries (ap (λ (t : Table). t.entries) c.self.view_is) c.args.resource (Some c.args.place) c.args.place refl c.requires.place) c.self.invariant.idle;
+}
+
+pub returns-in_err-queue_request-clause-err : goal.returns-in_err-queue_request-clause-err
+returns-in_err-queue_request-clause-err c =
+    let t = there (in_use c.self.inside.resources.keys c.self.inside.has_provisional) c.self.inside.cells.items c.args.self.now.entries (ap (λ (t : Table). t.entries) c.self.view_is) c.args.resource (Some c.args.place) c.args.place refl c.requires.place c.index_mut-cell.result.now c.index_mut-cell.ensures.value in
+    on-err-from c.from_residual.result (wrote-kept (in_use c.self.inside.resources.keys c.self.inside.has_provisional) c.self.inside.cells.items c.args.self.now.entries (ap (λ (t : Table). t.entries) c.self.view_is) c.args.resource (Some c.args.place) c.args.place refl c.requires.place c.index_mut-cell.result.now c.index_mut-cell.ensures.value c.queue_request.new.self
+    (apart-in_use _ c.same_path_is_equality.ensures.code c.self.inside.resources.keys c.self.inside.has_provisional c.len-len.ensures.unique) c.self.invariant.long _ c.requires.kept c.queue_request.ensures.kept (c.in_err-queue_request.ensures.err ∙ ap view_in t))
+
+pub follow_queued-requires-clause-within : goal.follow_queued-requires-clause-within
+follow_queued-requires-clause-within c =
+    let t = there (in_use c.self.inside.resources.keys c.self.inside.has_provisional) c.self.inside.cells.items c.args.self.now.entries (ap (λ (t : Table). t.entries) c.self.view_is) c.args.resource (Some c.args.place) c.args.place refl c.requires.place c.index_mut-cell.result.now c.index_mut-cell.ensures.value in
+    subst (IsOfSessions c.args.waits.now.rows.sessions) (sym (c.in_ok-queue_request.ensures.view ∙ ap (λ (o : Option Cell). view_queued c.args.asker (view_in o)) t)) (numbered-queued c.args.waits.now.rows.sessions c.args.asker _ c.requires.some c.requires.within c.requires.written.within)
+
+pub follow_queued-requires-clause-queued : goal.follow_queued-requires-clause-queued
+follow_queued-requires-clause-queued c =
+    let t = there (in_use c.self.inside.resources.keys c.self.inside.has_provisional) c.self.inside.cells.items c.args.self.now.entries (ap (λ (t : Table). t.entries) c.self.view_is) c.args.resource (Some c.args.place) c.args.place refl c.requires.place c.index_mut-cell.result.now c.index_mut-cell.ensures.value in
+    record {
+      before = cell_view c.args.resource c.args.self.now.entries;
+      written = c.requires.written;
+      idle = c.requires.idle;
+      after = c.in_ok-queue_request.ensures.view ∙ ap (λ (o : Option Cell). view_queued c.args.asker (view_in o)) t;
+    }
+
+pub returns-clause-ok : goal.returns-clause-ok
+returns-clause-ok c =
+    let t = there (in_use c.self.inside.resources.keys c.self.inside.has_provisional) c.self.inside.cells.items c.args.self.now.entries (ap (λ (t : Table). t.entries) c.self.view_is) c.args.resource (Some c.args.place) c.args.place refl c.requires.place c.index_mut-cell.result.now c.index_mut-cell.ensures.value in
+    wrote-kept (in_use c.self.inside.resources.keys c.self.inside.has_provisional) c.self.inside.cells.items c.args.self.now.entries (ap (λ (t : Table). t.entries) c.self.view_is) c.args.resource (Some c.args.place) c.args.place refl c.requires.place c.index_mut-cell.result.now c.index_mut-cell.ensures.value c.queue_request.new.self
+    (apart-in_use _ c.same_path_is_equality.ensures.code c.self.inside.resources.keys c.self.inside.has_provisional c.len-len.ensures.unique) c.self.invariant.long _ c.requires.kept c.queue_request.ensures.kept (c.in_ok-queue_request.ensures.view ∙ ap (λ (o : Option Cell). view_queued c.args.asker (view_in o)) t)
+
+pub returns-clause-rows : goal.returns-clause-rows
+returns-clause-rows c =
+    let t = there (in_use c.self.inside.resources.keys c.self.inside.has_provisional) c.self.inside.cells.items c.args.self.now.entries (ap (λ (t : Table). t.entries) c.self.view_is) c.args.resource (Some c.args.place) c.args.place refl c.requires.place c.index_mut-cell.result.now c.index_mut-cell.ensures.value in
+    let after = c.in_ok-queue_request.ensures.view ∙ ap (λ (o : Option Cell). view_queued c.args.asker (view_in o)) t in
+    subst (λ (v : View). DoFollow (cell_view c.args.resource c.args.self.now.entries) v c.args.waits.now c.follow_queued.new.waits) after
+    (c.follow_queued.ensures (record { before = cell_view c.args.resource c.args.self.now.entries; written = c.requires.written; idle = c.requires.idle; after = after }))
