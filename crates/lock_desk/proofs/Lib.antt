@@ -118,5 +118,7 @@ pub mod EndedInBatches
 -- a request is added to a queue, also one that would be granted
 pub mod QueuedRequests
 -- a resumed table
--- its state stays one between two calls, and the lock table represents it
+-- the states by which its state is put together
 pub mod ResumedStates
+-- what is added to its lock table, and its parts
+pub mod Resuming

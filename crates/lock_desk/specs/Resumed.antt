@@ -1,12 +1,20 @@
--- The state of a lock table that begins in a given state: how it is put together, and how it goes on.
-use Rattle.std.specs.Prelude.{ℕ, false, List, [], ◌∷◌, Some, None}
+-- The state of a lock table that begins in a given state: how it is put together, and what is told of it.
+use Rattle.std.specs.Prelude.{◌≡◌, ℕ, ◌≤◌, ◌==◌, false, if◌then◌else◌, List, [], ◌∷◌, Option, Some, None}
 use Rattle.lock_modes.specs.declared.Mode.{Mode}
+use Rattle.lock_rules.specs.declared.calls.Transaction.{Transaction}
+use Rattle.lock_rules.specs.declared.listing.Claim.{Claim as ListedClaim}
 use Rattle.lock_rules.specs.State.{State, no_locks, with_begun, with_table}
 use Rattle.lock_rules.specs.Queue.{with_request}
 use Rattle.lock_rules.specs.Waits.{after_victim}
 use Rattle.lock_rules.specs.Step.{step}
+use Rattle.lock_rules.specs.Sound.{IsSound, IsNumbered}
+use Rattle.lock_rules.specs.Laws.{DoesNobodyWaitNeedlessly, HasNoCircle}
+use Rattle.lock_rules.specs.Listing.{listing_of}
 use Rattle.lock_desk.specs.declared.change.Change.{Change}
 use Rattle.lock_desk.specs.declared.change.Change.TheVariants.{Opened, Doomed, Queued, Served}
+use Rattle.lock_desk.specs.declared.open_session.OpenSession.{OpenSession}
+
+-- how a state is put together
 
 -- the state in which n transactions have begun, of which none is open
 abbrev pub none_open : ℕ → State
@@ -32,6 +40,14 @@ abbrev pub after_changes : State → List Change → State
 after_changes st [] = st
 after_changes st (c ∷ cs) = after_changes (after_change c st) cs
 
+-- what holds of a state between two calls: its table is sound, open transactions have different numbers, the first request of no queue
+-- fits, and no waits form a cycle
+pub record IsBetweenCalls (st : State) : Type 0 where
+  pub sound : IsSound st.table
+  pub numbered : IsNumbered st
+  pub unfit : DoesNobodyWaitNeedlessly st
+  pub no_circle : HasNoCircle st
+
 -- what contracts see of a resumed table: its number of sessions, how many transactions had begun at first, and what its state was made
 -- by, with the calls since
 pub record ResumedView : Type 0 where
@@ -42,3 +58,18 @@ pub record ResumedView : Type 0 where
 -- the state of a resumed table
 abbrev pub state_now : ResumedView → State
 state_now v = after_changes (none_open v.first) v.changes
+
+-- the state that lists describe
+
+-- the transaction of session s among these, the first if there are several, None if it has none
+abbrev pub transaction_among : ℕ → List OpenSession → Option Transaction
+transaction_among s [] = None
+transaction_among s (o ∷ os) = if o.session == s then Some o.transaction else transaction_among s os
+
+-- the state is one between two calls, of sessions 1 to n, in which as many transactions have begun as `number`; these are the open ones,
+-- and these lines its locks and waiting requests, in the order of a listing
+pub record IsListed (n number : ℕ) (opens : List OpenSession) (lines : List ListedClaim) (st : State) : Type 0 where
+  pub between : IsBetweenCalls st
+  pub count : st.count ≡ number
+  pub transactions : (s : ℕ) → 1 ≤ s → s ≤ n → st.begun s ≡ transaction_among s opens
+  pub claims : listing_of st ≡ lines

@@ -17,3 +17,4 @@ pub mod Paths
 pub mod Invariant
 pub mod Queueing
 pub mod Resuming
+pub mod ResumedTables

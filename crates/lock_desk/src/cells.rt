@@ -5,6 +5,7 @@ ghost use Rattle.waits_for.specs.Pairs.{pairs_of};
 ghost use Rattle.lock_holders.specs.declared.session_mode.SessionMode.{SessionMode as SessionModeValue};
 ghost use Rattle.lock_desk.specs.inner.Cells.{no_view, view_of, view_after_giving_up, next_grant, can_grant, is_granted, behind_conversions, queue_with, view_after_asking, view_with_holder, codes_unless_waited, HasRoom, HasRoomFor, IsKeptCell, is_busy};
 ghost use Rattle.lock_desk.specs.inner.Queueing.{view_queued};
+ghost use Rattle.lock_desk.specs.inner.Resuming.{begins_with_conversion, is_needless};
 ghost use Rattle.lock_holders.specs.SessionModes.{has_session, mode_of, pair_of, with_holder, fits_among, go_with, Ascends, is_nobody, holder_blocks, AreOfSessions};
 ghost use Rattle.lock_holders.specs.Holders.{IsPlaceOf};
 
@@ -307,6 +308,23 @@ impl Cell {
             self.enqueue(asker);
             Ok(RequestStatus::Waiting)
         }
+    }
+
+    /// Whether the first request of the queue is a conversion.
+    fn begins_with_conversion(&self) -> bool
+        ensures { result ≡ begins_with_conversion (view_of self.now).holders (view_of self.now).waiting }
+    {
+        match self.waiting.first() {
+            Some(first) => self.holders.has(first.session),
+            None => false,
+        }
+    }
+
+    /// Whether a request of `asker` would be granted, and no conversion waits before it.
+    pub(crate) fn is_needless(&self, asker: SessionMode) -> bool
+        ensures { result ≡ is_needless asker (view_of self.now) }
+    {
+        self.would_grant(asker) && !self.begins_with_conversion()
     }
 
     /// Adds a request of a session that has none here to the queue, also one that would be granted. If memory is refused,

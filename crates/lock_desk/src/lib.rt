@@ -39,27 +39,34 @@ mod cells;
 mod change;
 mod counts;
 mod deadlock_log;
+mod flaw;
 mod gauges;
 mod lock_table;
 mod lockers;
 mod notes;
 mod object;
+mod open_session;
 mod promotion;
 mod recording;
 mod resumed_table;
+mod resuming;
+mod table_parts;
 mod tending;
 mod wait_counts;
 mod waits;
 
 pub use book::{Book, Item, PathLocked, grants, lock_of_level, pages_tell_each_lock_once};
+pub use change::Change;
 pub use counts::{Calls, Counts, Refusals};
 pub use deadlock_log::{Deadlock, Member};
+pub use flaw::Flaw;
 pub use gauges::Gauges;
 pub use lock_modes::Mode;
 pub use lock_rules::{
     Call, Claim, ClaimKind, Entry, MAX_LOCKS, MAX_SESSIONS, Reply, Transaction, Why,
 };
 pub use lock_tree::Resource;
+pub use open_session::OpenSession;
 pub use resumed_table::ResumedTable;
 pub use tending::{CountIdle, Reserve, Shrink};
 pub use trimmed_list::{MOST_DROPPED, NO_BOUND};

@@ -15,6 +15,7 @@ ghost use Rattle.lock_desk.specs.inner.Ended.{waits_at};
 ghost use Rattle.lock_desk.specs.inner.Ready.{IsReadyTable};
 ghost use Rattle.lock_desk.specs.inner.Shows.{Shows};
 
+mod additions;
 mod calls;
 mod deadlocks;
 mod gauges;

@@ -1,25 +1,24 @@
 //! A lock table that begins in a given state and goes on from there.
 
-ghost use Rattle.std.specs.Prelude.{◌≡◌, ◌≤◌, [], ◌∷◌, ◌++◌, vec_len, IfOk, OnOk, OnErr};
-ghost use Rattle.lock_rules.specs.State.{held_mode, is_waiting};
+ghost use Rattle.std.specs.Prelude.{◌≡◌, ℕ, ◌≤◌, true, false, [], ◌∷◌, ◌++◌, vec_len, IfOk, OnOk, OnErr};
+ghost use Rattle.lock_rules.specs.State.{held_mode, holders, is_waiting};
 ghost use Rattle.lock_rules.specs.Step.{step};
 ghost use Rattle.lock_rules.specs.Waits.{waits_for};
 ghost use Rattle.lock_rules.specs.Listing.{listing_of, waiting_line};
 ghost use Rattle.lock_desk.specs.declared.change.Change.TheVariants.{Served};
-ghost use Rattle.lock_desk.specs.Resumed.{none_open, state_now};
-ghost use Rattle.lock_desk.specs.inner.Changes.{IsWhole};
-ghost use Rattle.lock_desk.specs.inner.Ready.{IsReadyTable};
-ghost use Rattle.lock_desk.specs.inner.Shows.{Shows};
+ghost use Rattle.lock_desk.specs.Resumed.{state_now, transaction_among, IsBetweenCalls, IsListed};
+ghost use Rattle.lock_desk.specs.inner.Changes.{MayServe};
+ghost use Rattle.lock_desk.specs.inner.Noting.{IsLogFor};
+ghost use Rattle.lock_desk.specs.inner.Resuming.{IsAt, ArePartsOf, state_of_parts};
 
-use crate::call_counts::CallCounts;
 use crate::change::Change;
-use crate::deadlock_log::DeadlockLog;
-use crate::lock_table::LockTable;
-use crate::notes::Notes;
-use ghost_list::GhostList;
+use crate::flaw::Flaw;
+use crate::open_session::OpenSession;
+use crate::resuming::{enter_all, parts_after};
+use crate::table_parts::TableParts;
 use lock_modes::Mode;
 use lock_rules::{Call, Claim, MAX_SESSIONS, Reply, Transaction};
-use lock_tree::Resource;
+use lock_tree::{Resource, same_path_is_equality};
 use std::alloc::{AllocError as NoMemory, Global};
 use std::marker::Model;
 
@@ -32,14 +31,10 @@ use std::marker::Model;
 pub struct ResumedTable {
     /// Sessions are numbered from 1 to this number, which is from 1 to `MAX_SESSIONS`.
     sessions: u16,
-    /// Represents the state.
-    lock_table: Box<LockTable>,
-    /// What the lock table notes of the served calls. No deadlock is kept.
-    notes: Notes,
     /// How many transactions had begun at first.
     first: u64,
-    /// What the state was made by, and the calls since.
-    changes: GhostList<Change>,
+    /// The lock table, which represents the state, and what the state was made by.
+    parts: Box<TableParts>,
 }
 
 impl Model for ResumedTable {
@@ -47,49 +42,176 @@ impl Model for ResumedTable {
 
     ghost Value = { ResumedView };
 
-    ghost use Rattle.lock_desk.specs.inner.Resuming.{resumed_view_of, IsResumed};
+    ghost use Rattle.lock_desk.specs.inner.ResumedTables.{resumed_view_of, IsResumed};
 
     ghost view = { resumed_view_of };
 
     ghost invariant = { IsResumed };
 }
 
-/// A lock table as `LockTable::after_transactions` makes it, in memory of its own. Fails if memory is refused.
-fn boxed_after(alloc: Global, sessions: u16, count: u64) -> Result<Box<LockTable>, NoMemory>
-    requires some { 1 ≤ sessions }
-    requires few { sessions ≤ MAX_SESSIONS }
-    ensures shows { IfOk result (λ made. Shows made.value (none_open count)) }
-    ensures whole { IfOk result (λ made. IsWhole made.value) }
-    ensures ready { IfOk result (λ made. IsReadyTable made.value) }
-    ensures lockers { IfOk result (λ made. vec_len made.value.lockers ≡ sessions) }
+/// The parts in memory of their own. Fails if memory is refused.
+fn boxed_parts(alloc: Global, parts: TableParts) -> Result<Box<TableParts>, NoMemory>
+    ensures { IfOk result (λ made. made.value ≡ parts) }
 {
-    match Box::new(alloc, LockTable::after_transactions(alloc, sessions, count)?) {
+    match Box::new(alloc, parts) {
         Ok(made) => Ok(made),
         Err(_) => Err(NoMemory),
     }
 }
 
+/// Serves one call of `session`, and adds it to the changes. Fails, with the state unchanged, if memory is refused, or if 2^64 - 1
+/// transactions have begun.
+fn serve_parts(parts: &mut TableParts, session: u16, call: Call) -> Result<Reply, NoMemory>
+    requires may_serve { MayServe session parts.old.table }
+    requires log { IsLogFor (vec_len parts.old.table.lockers) parts.old.notes.log }
+    ensures reply { (first : ℕ) → IsAt parts.old.table (state_of_parts first parts.old)
+        → IfOk result (λ reply. reply ≡ (step (state_of_parts first parts.old) session call).reply) }
+    ensures at { (first : ℕ) → IsAt parts.old.table (state_of_parts first parts.old) → IsAt parts.new.table (state_of_parts first parts.new) }
+    ensures parts { (n : ℕ) → ArePartsOf n parts.old → ArePartsOf n parts.new }
+    ensures served { OnOk result (parts.new.changes.items ≡ parts.old.changes.items ++ Served session call ∷ []) }
+    ensures err { OnErr result (parts.new.changes.items ≡ parts.old.changes.items) }
+{
+    if parts.table.count() == u64::MAX {
+        return Err(NoMemory);
+    }
+    let asked = call;
+    let reply = parts.table.serve(session, call, 0, &mut parts.notes)?;
+    parts.changes.push(&Change::Served(session, asked));
+    Ok(reply)
+}
+
+/// Whether two lines of a listing differ.
+fn is_other_claim(told: Claim, claim: Claim) -> bool
+    ensures { result ≡ false → told ≡ claim }
+{
+    same_path_is_equality();
+    !(told.resource == claim.resource
+        && told.session == claim.session
+        && told.transaction == claim.transaction
+        && told.mode == claim.mode
+        && told.kind == claim.kind)
+}
+
+/// Whether two listings are the same.
+fn are_same_claims(told: &[Claim], claims: &[Claim]) -> bool
+    ensures { result ≡ true → told.now ≡ claims.now }
+{
+    if told.len() != claims.len() {
+        return false;
+    }
+    for index in 0..told.len() {
+        let line = told[index];
+        let claim = claims[index];
+        if is_other_claim(line, claim) {
+            return false;
+        }
+    }
+    true
+}
+
+/// The transaction of `session` among these, the first if there are several.
+fn transaction_among(session: u16, opens: &[OpenSession]) -> Option<Transaction>
+    ensures { result ≡ transaction_among session opens.now }
+{
+    for index in 0..opens.len() {
+        let begun = opens[index];
+        if begun.session == session {
+            return Some(begun.transaction);
+        }
+    }
+    None
+}
+
+/// Whether the transaction told differs from the one listed, or only one of them is there.
+fn is_other_transaction(told: Option<Transaction>, listed: Option<Transaction>) -> bool
+    ensures { result ≡ false → told ≡ listed }
+{
+    !(told == listed)
+}
+
+/// Whether these are the open transactions of the table.
+fn are_open(table: &ResumedTable, opens: &[OpenSession]) -> bool
+    ensures { result ≡ true → (s : ℕ) → 1 ≤ s → s ≤ table.now.sessions → (state_now table.now).begun s ≡ transaction_among s opens.now }
+{
+    let sessions = table.sessions();
+    for before in 0..sessions {
+        let told = table.transaction(before + 1);
+        let listed = transaction_among(before + 1, opens);
+        if is_other_transaction(told, listed) {
+            return false;
+        }
+    }
+    true
+}
+
 impl ResumedTable {
-    /// A table for sessions 1 to `sessions`, in which `count` transactions have begun, of which none is open.
-    ///
-    /// `sessions` is from 1 to `MAX_SESSIONS`. Fails with `NoMemory` if memory is refused.
-    pub fn new(alloc: Global, sessions: u16, count: u64) -> Result<ResumedTable, NoMemory>
+    /// The table of these parts. Fails if memory is refused.
+    fn of_parts(
+        alloc: Global,
+        sessions: u16,
+        first: u64,
+        parts: TableParts,
+    ) -> Result<ResumedTable, NoMemory>
         requires some { 1 ≤ sessions }
         requires few { sessions ≤ MAX_SESSIONS }
-        ensures { IfOk result (λ made. made ≡ record { sessions = sessions; first = count; changes = [] }) }
+        requires parts { ArePartsOf sessions parts }
+        requires at { IsAt parts.table (state_of_parts first parts) }
+        ensures { IfOk result (λ made. made.sessions ≡ sessions) }
     {
-        let lock_table = boxed_after(alloc, sessions, count)?;
-        let log = DeadlockLog::none(alloc)?;
+        let parts = boxed_parts(alloc, parts)?;
         Ok(ResumedTable {
             sessions,
-            lock_table,
-            notes: Notes {
-                log,
-                counts: CallCounts::new(),
-            },
-            first: count,
-            changes: GhostList::new(),
+            first,
+            parts,
         })
+    }
+
+    /// A table for sessions 1 to `sessions` that begins in the state that lists describe: `count` transactions have begun, `opens` are the
+    /// open ones, and `claims` all locks and waiting requests, in the order in which `Book::locks` lists them.
+    ///
+    /// `sessions` is from 1 to `MAX_SESSIONS`. Whatever tells a state of a lock table by `Book::locks` and `Book::transaction` tells it by such
+    /// lists. Fails with a flaw if they describe no state between two calls, or if memory is refused.
+    pub fn of_lists(
+        alloc: Global,
+        sessions: u16,
+        count: u64,
+        opens: &[OpenSession],
+        claims: &[Claim],
+    ) -> Result<ResumedTable, Flaw>
+        requires some { 1 ≤ sessions }
+        requires few { sessions ≤ MAX_SESSIONS }
+        ensures sessions { IfOk result (λ made. made.sessions ≡ sessions) }
+        ensures listed { IfOk result (λ made. IsListed sessions count opens.now claims.now (state_now made)) }
+    {
+        let mut parts = parts_after(alloc, sessions, count)?;
+        enter_all(&mut parts, sessions, opens, claims)?;
+        let made = ResumedTable::of_parts(alloc, sessions, count, parts)?;
+        let told = made.tells(alloc, count, opens, claims)?;
+        if told {
+            return Ok(made);
+        }
+        Err(Flaw::ToldOtherwise)
+    }
+
+    /// Whether these lists describe the state. Fails if memory is refused.
+    fn tells(
+        &self,
+        alloc: Global,
+        count: u64,
+        opens: &[OpenSession],
+        claims: &[Claim],
+    ) -> Result<bool, NoMemory>
+        ensures { IfOk result (λ told. told ≡ true → IsListed self.now.sessions count opens.now claims.now (state_now self.now)) }
+    {
+        let mut list = Vec::new(alloc);
+        self.locks(alloc, &mut list)?;
+        let begun = self.count();
+        if begun == count {
+            if are_open(self, opens) {
+                return Ok(are_same_claims(&list, claims));
+            }
+        }
+        Ok(false)
     }
 
     /// Serves one call of `session`: the reply is the one that the sequential lock manager of `lock_rules` gives in the state, and
@@ -103,15 +225,7 @@ impl ResumedTable {
         ensures served { OnOk result (self.new ≡ record self.old { changes = self.old.changes ++ Served session call ∷ [] }) }
         ensures err { OnErr result (self.new ≡ self.old) }
     {
-        if self.lock_table.count() == u64::MAX {
-            return Err(NoMemory);
-        }
-        let asked = call;
-        let reply = self
-            .lock_table
-            .serve(session, call, 0, &mut self.notes)?;
-        self.changes.push(&Change::Served(session, asked));
-        Ok(reply)
+        serve_parts(&mut *self.parts, session, call)
     }
 
     /// The number of sessions that was given at its creation, from 1 to `MAX_SESSIONS`.
@@ -123,39 +237,57 @@ impl ResumedTable {
         self.sessions
     }
 
+    /// How many transactions have begun, which is the number of the newest. The state is one between two calls.
+    pub fn count(&self) -> u64
+        ensures count { result ≡ (state_now self.now).count }
+        ensures between { IsBetweenCalls (state_now self.now) }
+    {
+        self.parts.table.count()
+    }
+
     /// The open transaction of `session`, `None` if it has none. A session that the table doesn't have has none.
     pub fn transaction(&self, session: u16) -> Option<Transaction>
         ensures { result ≡ (state_now self.now).begun session }
     {
-        self.lock_table.transaction(session)
+        self.parts.table.transaction(session)
     }
 
     /// The mode of the lock that `session` holds on `resource` itself, `None` if it holds none.
     pub fn held(&self, session: u16, resource: Resource) -> Option<Mode>
         ensures { result ≡ held_mode (state_now self.now).table session resource }
     {
-        self.lock_table.held(session, resource)
+        self.parts.table.held(session, resource)
     }
 
     /// Whether a request of `session` waits. A session that the table doesn't have doesn't wait.
     pub fn is_waiting(&self, session: u16) -> bool
         ensures { result ≡ is_waiting (state_now self.now) session }
     {
-        self.lock_table.is_waiting(session)
+        self.parts.table.is_waiting(session)
     }
 
     /// The waiting request of `session`, with its target mode; `None` if it doesn't wait.
     pub fn request(&self, session: u16) -> Option<Claim>
         ensures { result ≡ waiting_line (state_now self.now) session }
     {
-        self.lock_table.waiting_request(session)
+        self.parts.table.waiting_request(session)
     }
 
     /// Whether `session` waits for `other` directly. Returns false if the table has no such session.
     pub fn waits_for(&self, session: u16, other: u16) -> bool
         ensures { result ≡ waits_for (state_now self.now).table session other }
     {
-        self.lock_table.waits_for(session, other)
+        self.parts.table.waits_for(session, other)
+    }
+
+    /// Replaces the contents of `list` by the sessions that hold `resource`, each with its mode, by session number.
+    ///
+    /// Fails with `NoMemory` if memory is refused; the contents of `list` are unchanged then.
+    pub fn holders(&self, resource: Resource, list: &mut Vec<(u16, Mode)>) -> Result<(), NoMemory>
+        ensures ok { OnOk result (list.new.items ≡ holders resource (state_now self.now).table.held) }
+        ensures err { OnErr result (list.new.items ≡ list.old.items) }
+    {
+        self.parts.table.holders(resource, list)
     }
 
     /// Replaces the contents of `list` by all locks and all waiting requests, in the order of `Book::locks`.
@@ -165,6 +297,6 @@ impl ResumedTable {
         ensures ok { OnOk result (list.new.items ≡ listing_of (state_now self.now)) }
         ensures err { OnErr result (list.new.items ≡ list.old.items) }
     {
-        self.lock_table.locks(alloc, list)
+        self.parts.table.locks(alloc, list)
     }
 }

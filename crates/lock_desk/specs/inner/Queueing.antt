@@ -1,13 +1,13 @@
 -- Internal to this crate, cited by no public contract: a lock table is put into a given state. A transaction is opened with its
 -- number, and a request is queued that might have been granted.
-use Rattle.std.specs.Prelude.{◌≡◌, ℕ, Bool, true, false, not, ◌&&◌, ◌==◌, if◌then◌else◌, List, [], ◌∷◌, Some}
+use Rattle.std.specs.Prelude.{◌≡◌, ℕ, false, ◌==◌, if◌then◌else◌, Some}
 use Rattle.lock_modes.specs.declared.Mode.{Mode}
 use Rattle.lock_tree.specs.Paths.{same_path}
 use Rattle.lock_holders.specs.declared.session_mode.SessionMode.{SessionMode}
 use Rattle.lock_holders.specs.SessionModes.{has_session}
 use Rattle.lock_desk.specs.declared.waits.Waits.{Waits}
 use Rattle.lock_desk.specs.declared.lock_table.LockTable.{LockTable}
-use Rattle.lock_desk.specs.inner.Cells.{View, queue_with, can_grant}
+use Rattle.lock_desk.specs.inner.Cells.{View, queue_with}
 use Rattle.lock_desk.specs.inner.Blocking.{IsWritten}
 use Rattle.lock_desk.specs.inner.Changes.{standing, view_at}
 
@@ -34,12 +34,3 @@ pub record HasQueued (s : ℕ) (r : List ℕ) (m : Mode) (d e : LockTable) : Typ
   pub count : e.count ≡ d.count
   pub transactions : (u : ℕ) → (standing u e).transaction ≡ (standing u d).transaction
   pub views : (q : List ℕ) → view_at q e ≡ (if same_path r q then view_queued (record { session = s; mode = m }) (view_at r d) else view_at q d)
-
--- the first request of this queue is a conversion
-abbrev pub begins_with_conversion : List SessionMode → List SessionMode → Bool
-begins_with_conversion hs [] = false
-begins_with_conversion hs (q ∷ qs) = has_session q.session hs
-
--- the request would be granted, and no conversion waits before it
-abbrev pub is_needless : SessionMode → View → Bool
-is_needless c v = can_grant c v && not (begins_with_conversion v.holders v.waiting)

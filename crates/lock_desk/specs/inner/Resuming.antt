@@ -1,38 +1,47 @@
--- Internal to this crate, cited by no public contract: the invariant of a resumed table.
-use Rattle.std.specs.Prelude.{◌≡◌, ◌≤◌, vec_len}
-use Rattle.waits_for.specs.declared.TheConstants.{MAX_SESSIONS}
+-- Internal to this crate, cited by no public contract: a lock table is put into a given state.
+use Rattle.std.specs.Prelude.{◌≡◌, ℕ, Bool, false, not, ◌&&◌, List, Option, Some, None, slice_get, vec_len}
 use Rattle.lock_rules.specs.State.{State}
-use Rattle.lock_rules.specs.Sound.{IsSound, IsNumbered}
-use Rattle.lock_rules.specs.Laws.{DoesNobodyWaitNeedlessly, HasNoCircle}
-use Rattle.lock_desk.specs.Resumed.{ResumedView, state_now}
+use Rattle.lock_holders.specs.declared.session_mode.SessionMode.{SessionMode}
+use Rattle.lock_holders.specs.SessionModes.{has_session}
+use Rattle.lock_desk.specs.declared.lock_table.LockTable.{LockTable}
+use Rattle.lock_desk.specs.declared.table_parts.TableParts.{TableParts}
+use Rattle.lock_desk.specs.Resumed.{none_open, after_changes, IsBetweenCalls}
+use Rattle.lock_desk.specs.inner.Cells.{View, can_grant}
 use Rattle.lock_desk.specs.inner.Changes.{IsWhole}
 use Rattle.lock_desk.specs.inner.Noting.{IsLogFor}
 use Rattle.lock_desk.specs.inner.Ready.{IsReadyTable}
 use Rattle.lock_desk.specs.inner.Shows.{Shows}
-use Rattle.lock_desk.specs.declared.resumed_table.ResumedTable.TheInside.{Inside}
 
--- what holds of a state between two calls
-pub record IsBetweenCalls (st : State) : Type 0 where
-  pub sound : IsSound st.table
-  pub numbered : IsNumbered st
-  pub unfit : DoesNobodyWaitNeedlessly st
-  pub no_circle : HasNoCircle st
+-- the lock table represents the state, which is one between two calls
+pub record IsAt (d : LockTable) (st : State) : Type 0 where
+  pub shows : Shows d st
+  pub between : IsBetweenCalls st
 
--- what contracts see of a resumed table
-abbrev pub resumed_view_of : Inside → ResumedView
-resumed_view_of a = record { sessions = a.sessions; first = a.first; changes = a.changes.items }
+-- the request is that of a holder, if there is one
+abbrev pub is_conversion_beside : List SessionMode → Option SessionMode → Bool
+is_conversion_beside hs None = false
+is_conversion_beside hs (Some q) = has_session q.session hs
 
--- the state of a resumed table
-abbrev pub state_within : Inside → State
-state_within a = state_now (resumed_view_of a)
+-- the first request of this queue is a conversion
+abbrev pub begins_with_conversion : List SessionMode → List SessionMode → Bool
+begins_with_conversion hs qs = is_conversion_beside hs (slice_get qs 0)
 
--- the lock table represents the state, which is one between two calls, and there is a locker for each session
-pub record IsResumed (a : Inside) : Type 0 where
-  pub some : 1 ≤ a.sessions
-  pub few : a.sessions ≤ MAX_SESSIONS
-  pub between : IsBetweenCalls (state_within a)
-  pub shows : Shows a.lock_table.value (state_within a)
-  pub whole : IsWhole a.lock_table.value
-  pub ready : IsReadyTable a.lock_table.value
-  pub lockers : vec_len a.lock_table.value.lockers ≡ a.sessions
-  pub log : IsLogFor (vec_len a.lock_table.value.lockers) a.notes.log
+-- the request would be granted, and no conversion waits before it
+abbrev pub is_needless : SessionMode → View → Bool
+is_needless c v = can_grant c v && not (begins_with_conversion v.holders v.waiting)
+
+-- the parts of a table of `n` sessions: its lock table is whole and ready
+pub record ArePartsOf (n : ℕ) (p : TableParts) : Type 0 where
+  pub whole : IsWhole p.table
+  pub ready : IsReadyTable p.table
+  pub lockers : vec_len p.table.lockers ≡ n
+  pub log : IsLogFor (vec_len p.table.lockers) p.notes.log
+
+-- the state of these parts, if so many transactions had begun at first
+abbrev pub state_of_parts : ℕ → TableParts → State
+state_of_parts first p = after_changes (none_open first) p.changes.items
+
+-- from the first parts to the second their state goes on: if the lock table represented it, it does so again
+pub record DoPartsGoOn (n : ℕ) (p q : TableParts) : Type 0 where
+  pub parts : ArePartsOf n q
+  pub at : (first : ℕ) → IsAt p.table (state_of_parts first p) → IsAt q.table (state_of_parts first q)

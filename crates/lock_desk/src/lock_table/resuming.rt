@@ -45,7 +45,7 @@ impl LockTable {
     }
 
     /// Opens the transaction of `session` with this number.
-    pub(crate) fn open(&mut self, session: u16, number: u64)
+    pub(crate) fn open_transaction(&mut self, session: u16, number: u64)
         requires may_serve { MayServe session self.old }
         ensures opened { HasOpened session number self.old self.new }
         ensures kept { DoesKeep self.old self.new }

@@ -7,7 +7,7 @@ use Rattle.lock_desk.specs.inner.Lockers.{standing_of}
 use Rattle.lock_desk.proofs.Asking.{within}
 use Rattle.lock_desk.proofs.BeginAndEnd.{told-whole, transaction-each}
 use Rattle.lock_desk.proofs.RowsOfTheTable.{ready-numbered}
-use Rattle.lock_desk.proofs.lock_table.LockTable.open.Goals as goal
+use Rattle.lock_desk.proofs.lock_table.LockTable.open_transaction.Goals as goal
 
 pub returns-clause-opened : goal.returns-clause-opened
 returns-clause-opened c =

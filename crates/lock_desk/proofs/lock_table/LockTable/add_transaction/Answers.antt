@@ -1,0 +1,6 @@
+use Rattle.std.proofs.Common.{sym}
+use Rattle.lock_desk.proofs.Resuming.{opened-at}
+use Rattle.lock_desk.proofs.lock_table.LockTable.add_transaction.Goals as goal
+
+pub returns-clause-added : goal.returns-clause-added
+returns-clause-added c = opened-at c.args.self.now c.open_transaction.new.self c.args.session c.args.number c.open_transaction.ensures.opened (sym c.if-is_unbegun.ensures) (sym c.if-is_taken.ensures)

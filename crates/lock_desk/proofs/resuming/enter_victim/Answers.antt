@@ -1,0 +1,12 @@
+use Rattle.std.proofs.Common.{sym}
+use Rattle.lock_desk.specs.declared.change.Change.TheVariants.{Doomed}
+use Rattle.lock_desk.proofs.Resuming.{may-enter, log-kept, parts-more}
+use Rattle.lock_desk.proofs.resuming.enter_victim.Goals as goal
+
+pub add_victim-requires-clause-may_serve : goal.add_victim-requires-clause-may_serve
+add_victim-requires-clause-may_serve c = may-enter c.args.sessions c.args.parts.now c.args.session c.requires (sym c.if-is_no_session.ensures)
+
+pub returns : goal.returns
+returns c =
+    parts-more c.args.sessions c.args.parts.now _ (Doomed c.args.session) c.requires c.add_victim.ensures.kept
+    (log-kept c.args.parts.now c.add_victim.new.self c.add_victim.ensures.kept c.requires.log) c.push.ensures c.add_victim.ensures.added

@@ -1,0 +1,6 @@
+use Rattle.lock_desk.specs.inner.Resuming.{DoPartsGoOn}
+use Rattle.lock_desk.proofs.resuming.enter_victims.Given as goal
+
+-- what was entered so far goes on from the parts at first
+abbrev pub invariant-loop-begun : goal.invariant-loop-begun
+invariant-loop-begun l = DoPartsGoOn l.sessions l.fn.parts l.parts

@@ -1,0 +1,210 @@
+//! Enters what lists of a state have into a lock table, in an order in which each can be entered beside what is there.
+
+ghost use Rattle.std.specs.Prelude.{◌≡◌, ◌≤◌, ◌||◌, [], nat_lt, IfOk, OnOk};
+ghost use Rattle.lock_desk.specs.Resumed.{none_open};
+ghost use Rattle.lock_desk.specs.inner.Resuming.{IsAt, ArePartsOf, DoPartsGoOn};
+
+use crate::call_counts::CallCounts;
+use crate::change::Change;
+use crate::deadlock_log::DeadlockLog;
+use crate::flaw::Flaw;
+use crate::lock_table::LockTable;
+use crate::notes::Notes;
+use crate::open_session::OpenSession;
+use crate::table_parts::TableParts;
+use ghost_list::GhostList;
+use lock_modes::Mode;
+use lock_rules::{Call, Claim, ClaimKind, MAX_SESSIONS};
+use lock_tree::LEVELS;
+use std::alloc::{AllocError, Global};
+
+/// Whether `session` isn't one of the sessions 1 to `sessions`.
+fn is_no_session(session: u16, sessions: u16) -> bool
+    ensures { result ≡ (nat_lt session 1 || nat_lt sessions session) }
+{
+    session < 1 || sessions < session
+}
+
+/// Whether the claim is a lock on a resource of this level, in U or not.
+fn is_lock_at(claim: &Claim, level: usize, in_u: bool) -> bool {
+    matches!(claim.kind, ClaimKind::Held)
+        && claim.resource.level() as usize == level
+        && matches!(claim.mode, Mode::U) == in_u
+}
+
+/// The parts of a table in which `count` transactions have begun, of which none is open. Fails if memory is refused.
+pub(crate) fn parts_after(
+    alloc: Global,
+    sessions: u16,
+    count: u64,
+) -> Result<TableParts, AllocError>
+    requires some { 1 ≤ sessions }
+    requires few { sessions ≤ MAX_SESSIONS }
+    ensures parts { IfOk result (ArePartsOf sessions) }
+    ensures at { IfOk result (λ parts. IsAt parts.table (none_open count)) }
+    ensures changes { IfOk result (λ parts. parts.changes.items ≡ []) }
+{
+    let table = LockTable::after_transactions(alloc, sessions, count)?;
+    let log = DeadlockLog::none(alloc)?;
+    Ok(TableParts {
+        table,
+        notes: Notes {
+            log,
+            counts: CallCounts::new(),
+        },
+        changes: GhostList::new(),
+    })
+}
+
+/// Enters an open transaction, as no victim.
+fn enter_transaction(parts: &mut TableParts, sessions: u16, begun: &OpenSession) -> Result<(), Flaw>
+    requires { ArePartsOf sessions parts.old }
+    ensures { OnOk result (DoPartsGoOn sessions parts.old parts.new) }
+{
+    let session = begun.session;
+    let number = begun.transaction.number;
+    if is_no_session(session, sessions) {
+        return Err(Flaw::NoSuchSession);
+    }
+    parts.table.add_transaction(session, number)?;
+    parts.changes.push(&Change::Opened(session, number));
+    Ok(())
+}
+
+/// Enters a lock.
+fn enter_lock(parts: &mut TableParts, sessions: u16, claim: &Claim) -> Result<(), Flaw>
+    requires { ArePartsOf sessions parts.old }
+    ensures { OnOk result (DoPartsGoOn sessions parts.old parts.new) }
+{
+    let session = claim.session;
+    let resource = claim.resource;
+    let mode = claim.mode;
+    if is_no_session(session, sessions) {
+        return Err(Flaw::NoSuchSession);
+    }
+    parts
+        .table
+        .add_lock(session, resource, mode, &mut parts.notes.log)?;
+    parts
+        .changes
+        .push(&Change::Served(session, Call::Try(resource, mode)));
+    Ok(())
+}
+
+/// Enters that the transaction of a session is a deadlock victim.
+fn enter_victim(parts: &mut TableParts, sessions: u16, session: u16) -> Result<(), Flaw>
+    requires { ArePartsOf sessions parts.old }
+    ensures { OnOk result (DoPartsGoOn sessions parts.old parts.new) }
+{
+    if is_no_session(session, sessions) {
+        return Err(Flaw::NoSuchSession);
+    }
+    parts.table.add_victim(session);
+    parts.changes.push(&Change::Doomed(session));
+    Ok(())
+}
+
+/// Enters a waiting request.
+fn enter_request(parts: &mut TableParts, sessions: u16, claim: &Claim) -> Result<(), Flaw>
+    requires { ArePartsOf sessions parts.old }
+    ensures { OnOk result (DoPartsGoOn sessions parts.old parts.new) }
+{
+    let session = claim.session;
+    let resource = claim.resource;
+    let mode = claim.mode;
+    if is_no_session(session, sessions) {
+        return Err(Flaw::NoSuchSession);
+    }
+    parts.table.add_request(session, resource, mode)?;
+    parts.changes.push(&Change::Queued(session, resource, mode));
+    Ok(())
+}
+
+/// Enters the open transactions.
+fn enter_transactions(
+    parts: &mut TableParts,
+    sessions: u16,
+    opens: &[OpenSession],
+) -> Result<(), Flaw>
+    requires { ArePartsOf sessions parts.old }
+    ensures { OnOk result (DoPartsGoOn sessions parts.old parts.new) }
+{
+    for begun in opens {
+        enter_transaction(parts, sessions, begun)?;
+    }
+    Ok(())
+}
+
+/// Enters the locks on resources of this level, those in U or the others.
+fn enter_locks_at(
+    parts: &mut TableParts,
+    sessions: u16,
+    claims: &[Claim],
+    level: usize,
+    in_u: bool,
+) -> Result<(), Flaw>
+    requires { ArePartsOf sessions parts.old }
+    ensures { OnOk result (DoPartsGoOn sessions parts.old parts.new) }
+{
+    for claim in claims {
+        if is_lock_at(claim, level, in_u) {
+            enter_lock(parts, sessions, claim)?;
+        }
+    }
+    Ok(())
+}
+
+/// Enters the locks level by level, so that parents come first; on each level those in U last, since U may be asked for beside a lock that
+/// may not be asked for beside U.
+fn enter_locks(parts: &mut TableParts, sessions: u16, claims: &[Claim]) -> Result<(), Flaw>
+    requires { ArePartsOf sessions parts.old }
+    ensures { OnOk result (DoPartsGoOn sessions parts.old parts.new) }
+{
+    for above in 0..LEVELS {
+        enter_locks_at(parts, sessions, claims, above + 1, false)?;
+        enter_locks_at(parts, sessions, claims, above + 1, true)?;
+    }
+    Ok(())
+}
+
+/// Enters which of the open transactions are deadlock victims.
+fn enter_victims(parts: &mut TableParts, sessions: u16, opens: &[OpenSession]) -> Result<(), Flaw>
+    requires { ArePartsOf sessions parts.old }
+    ensures { OnOk result (DoPartsGoOn sessions parts.old parts.new) }
+{
+    for begun in opens {
+        if begun.transaction.doomed {
+            enter_victim(parts, sessions, begun.session)?;
+        }
+    }
+    Ok(())
+}
+
+/// Enters the waiting requests, in their order.
+fn enter_requests(parts: &mut TableParts, sessions: u16, claims: &[Claim]) -> Result<(), Flaw>
+    requires { ArePartsOf sessions parts.old }
+    ensures { OnOk result (DoPartsGoOn sessions parts.old parts.new) }
+{
+    for claim in claims {
+        if !matches!(claim.kind, ClaimKind::Held) {
+            enter_request(parts, sessions, claim)?;
+        }
+    }
+    Ok(())
+}
+
+/// Enters all that the lists have.
+pub(crate) fn enter_all(
+    parts: &mut TableParts,
+    sessions: u16,
+    opens: &[OpenSession],
+    claims: &[Claim],
+) -> Result<(), Flaw>
+    requires { ArePartsOf sessions parts.old }
+    ensures { OnOk result (DoPartsGoOn sessions parts.old parts.new) }
+{
+    enter_transactions(parts, sessions, opens)?;
+    enter_locks(parts, sessions, claims)?;
+    enter_victims(parts, sessions, opens)?;
+    enter_requests(parts, sessions, claims)
+}
