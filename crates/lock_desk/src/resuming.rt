@@ -32,6 +32,16 @@ fn is_lock_at(claim: &Claim, level: usize, in_u: bool) -> bool {
         && matches!(claim.mode, Mode::U) == in_u
 }
 
+/// Whether the transaction is a deadlock victim.
+fn is_victim(begun: &OpenSession) -> bool {
+    begun.transaction.doomed
+}
+
+/// Whether the claim is a waiting request.
+fn is_request(claim: &Claim) -> bool {
+    !matches!(claim.kind, ClaimKind::Held)
+}
+
 /// The parts of a table in which `count` transactions have begun, of which none is open. Fails if memory is refused.
 pub(crate) fn parts_after(
     alloc: Global,
@@ -120,6 +130,45 @@ fn enter_request(parts: &mut TableParts, sessions: u16, claim: &Claim) -> Result
     Ok(())
 }
 
+/// Enters the claim if it is a lock on a resource of this level, in U or not.
+fn enter_lock_at(
+    parts: &mut TableParts,
+    sessions: u16,
+    claim: &Claim,
+    level: usize,
+    in_u: bool,
+) -> Result<(), Flaw>
+    requires { ArePartsOf sessions parts.old }
+    ensures { OnOk result (DoPartsGoOn sessions parts.old parts.new) }
+{
+    if is_lock_at(claim, level, in_u) {
+        return enter_lock(parts, sessions, claim);
+    }
+    Ok(())
+}
+
+/// Enters that the transaction is a deadlock victim, if it is.
+fn enter_if_victim(parts: &mut TableParts, sessions: u16, begun: &OpenSession) -> Result<(), Flaw>
+    requires { ArePartsOf sessions parts.old }
+    ensures { OnOk result (DoPartsGoOn sessions parts.old parts.new) }
+{
+    if is_victim(begun) {
+        return enter_victim(parts, sessions, begun.session);
+    }
+    Ok(())
+}
+
+/// Enters the claim if it is a waiting request.
+fn enter_if_request(parts: &mut TableParts, sessions: u16, claim: &Claim) -> Result<(), Flaw>
+    requires { ArePartsOf sessions parts.old }
+    ensures { OnOk result (DoPartsGoOn sessions parts.old parts.new) }
+{
+    if is_request(claim) {
+        return enter_request(parts, sessions, claim);
+    }
+    Ok(())
+}
+
 /// Enters the open transactions.
 fn enter_transactions(
     parts: &mut TableParts,
@@ -147,9 +196,7 @@ fn enter_locks_at(
     ensures { OnOk result (DoPartsGoOn sessions parts.old parts.new) }
 {
     for claim in claims {
-        if is_lock_at(claim, level, in_u) {
-            enter_lock(parts, sessions, claim)?;
-        }
+        enter_lock_at(parts, sessions, claim, level, in_u)?;
     }
     Ok(())
 }
@@ -173,9 +220,7 @@ fn enter_victims(parts: &mut TableParts, sessions: u16, opens: &[OpenSession]) -
     ensures { OnOk result (DoPartsGoOn sessions parts.old parts.new) }
 {
     for begun in opens {
-        if begun.transaction.doomed {
-            enter_victim(parts, sessions, begun.session)?;
-        }
+        enter_if_victim(parts, sessions, begun)?;
     }
     Ok(())
 }
@@ -186,9 +231,7 @@ fn enter_requests(parts: &mut TableParts, sessions: u16, claims: &[Claim]) -> Re
     ensures { OnOk result (DoPartsGoOn sessions parts.old parts.new) }
 {
     for claim in claims {
-        if !matches!(claim.kind, ClaimKind::Held) {
-            enter_request(parts, sessions, claim)?;
-        }
+        enter_if_request(parts, sessions, claim)?;
     }
     Ok(())
 }

@@ -3,8 +3,8 @@ use Rattle.lock_desk.specs.declared.change.Change.TheVariants.{Queued}
 use Rattle.lock_desk.proofs.Resuming.{may-enter, log-kept, parts-more}
 use Rattle.lock_desk.proofs.resuming.enter_request.Goals as goal
 
-pub add_request-requires-clause-may_serve : goal.add_request-requires-clause-may_serve
-add_request-requires-clause-may_serve c = may-enter c.args.sessions c.args.parts.now c.args.claim.now.session c.requires (sym c.if-is_no_session.ensures)
+pub add_request-requires : goal.add_request-requires
+add_request-requires c = record { may_serve = may-enter c.args.sessions c.args.parts.now c.args.claim.now.session c.requires (sym c.if-is_no_session.ensures) }
 
 pub returns : goal.returns
 returns c =

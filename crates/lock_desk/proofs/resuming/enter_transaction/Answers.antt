@@ -3,8 +3,8 @@ use Rattle.lock_desk.specs.declared.change.Change.TheVariants.{Opened}
 use Rattle.lock_desk.proofs.Resuming.{may-enter, log-kept, parts-more}
 use Rattle.lock_desk.proofs.resuming.enter_transaction.Goals as goal
 
-pub add_transaction-requires-clause-may_serve : goal.add_transaction-requires-clause-may_serve
-add_transaction-requires-clause-may_serve c = may-enter c.args.sessions c.args.parts.now c.args.begun.now.session c.requires (sym c.if-is_no_session.ensures)
+pub add_transaction-requires : goal.add_transaction-requires
+add_transaction-requires c = record { may_serve = may-enter c.args.sessions c.args.parts.now c.args.begun.now.session c.requires (sym c.if-is_no_session.ensures) }
 
 pub returns : goal.returns
 returns c =

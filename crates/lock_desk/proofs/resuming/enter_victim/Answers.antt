@@ -3,8 +3,8 @@ use Rattle.lock_desk.specs.declared.change.Change.TheVariants.{Doomed}
 use Rattle.lock_desk.proofs.Resuming.{may-enter, log-kept, parts-more}
 use Rattle.lock_desk.proofs.resuming.enter_victim.Goals as goal
 
-pub add_victim-requires-clause-may_serve : goal.add_victim-requires-clause-may_serve
-add_victim-requires-clause-may_serve c = may-enter c.args.sessions c.args.parts.now c.args.session c.requires (sym c.if-is_no_session.ensures)
+pub add_victim-requires : goal.add_victim-requires
+add_victim-requires c = record { may_serve = may-enter c.args.sessions c.args.parts.now c.args.session c.requires (sym c.if-is_no_session.ensures) }
 
 pub returns : goal.returns
 returns c =

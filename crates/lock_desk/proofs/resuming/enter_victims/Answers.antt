@@ -4,8 +4,8 @@ use Rattle.lock_desk.proofs.resuming.enter_victims.Goals as goal
 pub loop-begun-init : goal.loop-begun-init
 loop-begun-init c = parts-same c.args.sessions c.args.parts.now c.requires
 
-pub enter_victim-requires : goal.enter_victim-requires
-enter_victim-requires c = c.loop-begun.invariant.parts
+pub enter_if_victim-requires : goal.enter_if_victim-requires
+enter_if_victim-requires c = c.loop-begun.invariant.parts
 
 pub loop-begun-preserved : goal.loop-begun-preserved
-loop-begun-preserved c = parts-on c.args.sessions c.args.parts.now c.loop-begun.parts c.enter_victim.new.parts c.loop-begun.invariant c.in_ok-enter_victim.ensures
+loop-begun-preserved c = parts-on c.args.sessions c.args.parts.now c.loop-begun.parts c.enter_if_victim.new.parts c.loop-begun.invariant c.in_ok-enter_if_victim.ensures

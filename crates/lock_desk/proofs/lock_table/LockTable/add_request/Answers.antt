@@ -16,10 +16,10 @@ queue-requires-clause-can c =
     (lock-may d c.args.session c.args.resource c.args.target c.requires.may_serve.whole
     (first-none (idle_tests d c.args.session) (lock_tests d c.args.session c.args.resource c.args.target) flaw.idle ∙ sym flaw.lock)).can
 
-pub is_on_cycle-requires-clause-may_serve : goal.is_on_cycle-requires-clause-may_serve
-is_on_cycle-requires-clause-may_serve c =
+pub is_on_cycle-requires : goal.is_on_cycle-requires
+is_on_cycle-requires c =
     let kept = c.in_ok-queue.ensures.kept in
-    record { session = session-on kept c.requires.may_serve.session; whole = kept.whole; ready = kept.ready }
+    record { may_serve = record { session = session-on kept c.requires.may_serve.session; whole = kept.whole; ready = kept.ready } }
 
 pub returns-clause-added : goal.returns-clause-added
 returns-clause-added c = λ st at.

@@ -1,0 +1,5 @@
+use Rattle.lock_desk.proofs.Resuming.{parts-same}
+use Rattle.lock_desk.proofs.resuming.enter_lock_at.Goals as goal
+
+pub returns : goal.returns
+returns c = parts-same c.args.sessions c.args.parts.now c.requires
