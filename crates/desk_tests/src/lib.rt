@@ -16,3 +16,5 @@ mod engine;
 mod paths;
 #[cfg(test)]
 mod refusals;
+#[cfg(test)]
+mod resumed;
