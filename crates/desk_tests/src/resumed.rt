@@ -3,7 +3,8 @@
 ghost use Rattle.std.specs.Prelude.{◌≡◌, ◌≤◌};
 
 use lock_desk::{
-    Call, Claim, ClaimKind, Flaw, Mode, OpenSession, Reply, Resource, ResumedTable, Transaction, Why,
+    Call, Claim, ClaimKind, Flaw, Mode, OpenSession, Reply, Resource, ResumedTable, Transaction,
+    Why,
 };
 use std::alloc::Global;
 use std::process::Abort;
@@ -65,11 +66,17 @@ fn want_conversions(rt: &impl Abort, table: &mut ResumedTable, database: Resourc
     want_poll(rt, table, 3, Reply::Waiting);
     assert!(rt; table.waits_for(3, 2));
     assert!(rt; !table.waits_for(3, 4));
-    assert_eq!(rt; table.serve(4, Call::Commit).ok(), Some(Reply::Committed(1)));
+    assert_eq!(rt;
+        table.serve(4, Call::Commit).ok(),
+        Some(Reply::Committed(1))
+    );
     want_poll(rt, table, 2, Reply::Clear);
     assert_eq!(rt; table.held(2, database), Some(Mode::IX));
     want_poll(rt, table, 3, Reply::Waiting);
-    assert_eq!(rt; table.serve(2, Call::Commit).ok(), Some(Reply::Committed(1)));
+    assert_eq!(rt;
+        table.serve(2, Call::Commit).ok(),
+        Some(Reply::Committed(1))
+    );
     want_poll(rt, table, 3, Reply::Clear);
     assert_eq!(rt; table.held(3, database), Some(Mode::S));
     assert_eq!(rt; table.serve(1, Call::Begin).ok(), Some(Reply::Began(5)));
@@ -106,11 +113,26 @@ fn flaw_of(alloc: Global, opens: &[OpenSession], claims: &[Claim]) -> Option<Fla
 #[test]
 fn open_transactions_have_flaws(rt: HostRuntime) -> Result<(), Fail> {
     let alloc = rt.alloc();
-    assert_eq!(rt; flaw_of(alloc, &[begun(5, 1)], &[]), Some(Flaw::NoSuchSession));
-    assert_eq!(rt; flaw_of(alloc, &[begun(2, 1), begun(2, 2)], &[]), Some(Flaw::OpenTwice));
-    assert_eq!(rt; flaw_of(alloc, &[begun(2, 0)], &[]), Some(Flaw::NoSuchNumber));
-    assert_eq!(rt; flaw_of(alloc, &[begun(2, 5)], &[]), Some(Flaw::NoSuchNumber));
-    assert_eq!(rt; flaw_of(alloc, &[begun(2, 1), begun(3, 1)], &[]), Some(Flaw::NumberTwice));
+    assert_eq!(rt;
+        flaw_of(alloc, &[begun(5, 1)], &[]),
+        Some(Flaw::NoSuchSession)
+    );
+    assert_eq!(rt;
+        flaw_of(alloc, &[begun(2, 1), begun(2, 2)], &[]),
+        Some(Flaw::OpenTwice)
+    );
+    assert_eq!(rt;
+        flaw_of(alloc, &[begun(2, 0)], &[]),
+        Some(Flaw::NoSuchNumber)
+    );
+    assert_eq!(rt;
+        flaw_of(alloc, &[begun(2, 5)], &[]),
+        Some(Flaw::NoSuchNumber)
+    );
+    assert_eq!(rt;
+        flaw_of(alloc, &[begun(2, 1), begun(3, 1)], &[]),
+        Some(Flaw::NumberTwice)
+    );
     Ok(())
 }
 
@@ -124,11 +146,20 @@ fn locks_have_flaws(rt: HostRuntime) -> Result<(), Fail> {
     let twice = [held(2, database, Mode::IS), held(2, database, Mode::S)];
     assert_eq!(rt; flaw_of(alloc, &opens, &twice), Some(Flaw::HeldTwice));
     let alone = [held(4, database, Mode::S)];
-    assert_eq!(rt; flaw_of(alloc, &opens, &alone), Some(Flaw::Lock(Why::NoTransaction)));
+    assert_eq!(rt;
+        flaw_of(alloc, &opens, &alone),
+        Some(Flaw::Lock(Why::NoTransaction))
+    );
     let orphan = [held(2, file, Mode::S)];
-    assert_eq!(rt; flaw_of(alloc, &opens, &orphan), Some(Flaw::Lock(Why::ParentNotHeld)));
+    assert_eq!(rt;
+        flaw_of(alloc, &opens, &orphan),
+        Some(Flaw::Lock(Why::ParentNotHeld))
+    );
     let writers = [held(2, database, Mode::X), held(3, database, Mode::X)];
-    assert_eq!(rt; flaw_of(alloc, &opens, &writers), Some(Flaw::Lock(Why::WouldWait)));
+    assert_eq!(rt;
+        flaw_of(alloc, &opens, &writers),
+        Some(Flaw::Lock(Why::WouldWait))
+    );
     let turned = [held(3, database, Mode::S), held(2, database, Mode::S)];
     assert_eq!(rt; flaw_of(alloc, &opens, &turned), Some(Flaw::ToldOtherwise));
     let update = [held(2, database, Mode::U), held(3, database, Mode::S)];
@@ -155,7 +186,10 @@ fn requests_have_flaws(rt: HostRuntime) -> Result<(), Fail> {
         held(2, right, Mode::X),
         fresh(3, right, Mode::S),
     ];
-    assert_eq!(rt; flaw_of(alloc, &opens, &twice), Some(Flaw::Request(Why::IsWaiting)));
+    assert_eq!(rt;
+        flaw_of(alloc, &opens, &twice),
+        Some(Flaw::Request(Why::IsWaiting))
+    );
     let cycle = [
         held(2, left, Mode::X),
         fresh(3, left, Mode::S),
