@@ -121,4 +121,4 @@ pub mod QueuedRequests
 -- the states by which its state is put together
 pub mod ResumedStates
 -- what is added to its lock table, and its parts
-pub mod Resuming
+pub mod ResumedParts

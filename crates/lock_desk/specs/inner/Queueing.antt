@@ -1,6 +1,6 @@
 -- Internal to this crate, cited by no public contract: a lock table is put into a given state. A transaction is opened with its
 -- number, and a request is queued that might have been granted.
-use Rattle.std.specs.Prelude.{◌≡◌, ℕ, false, ◌==◌, if◌then◌else◌, Some}
+use Rattle.std.specs.Prelude.{◌≡◌, ℕ, false, ◌==◌, if◌then◌else◌, List, Some}
 use Rattle.lock_modes.specs.declared.Mode.{Mode}
 use Rattle.lock_tree.specs.Paths.{same_path}
 use Rattle.lock_holders.specs.declared.session_mode.SessionMode.{SessionMode}

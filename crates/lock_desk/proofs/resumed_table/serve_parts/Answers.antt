@@ -3,7 +3,7 @@ use Rattle.lock_desk.specs.declared.change.Change.TheVariants.{Served}
 use Rattle.lock_desk.specs.Resumed.{none_open, after_changes}
 use Rattle.lock_desk.specs.inner.Resuming.{IsAt, state_of_parts}
 use Rattle.lock_desk.proofs.ResumedStates.{after_changes-push}
-use Rattle.lock_desk.proofs.Resuming.{call-at}
+use Rattle.lock_desk.proofs.ResumedParts.{call-at}
 use Rattle.lock_desk.proofs.resumed_table.serve_parts.Goals as goal
 
 pub returns-clause-reply : goal.returns-clause-reply

@@ -1,4 +1,4 @@
-use Rattle.lock_desk.proofs.Resuming.{parts-on}
+use Rattle.lock_desk.proofs.ResumedParts.{parts-on}
 use Rattle.lock_desk.proofs.Results.{to-ok}
 use Rattle.lock_desk.proofs.resuming.enter_all.Goals as goal
 

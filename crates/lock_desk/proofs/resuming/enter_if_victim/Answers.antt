@@ -1,4 +1,4 @@
-use Rattle.lock_desk.proofs.Resuming.{parts-same}
+use Rattle.lock_desk.proofs.ResumedParts.{parts-same}
 use Rattle.lock_desk.proofs.resuming.enter_if_victim.Goals as goal
 
 pub returns : goal.returns

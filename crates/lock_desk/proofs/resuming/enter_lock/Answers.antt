@@ -1,7 +1,7 @@
 use Rattle.std.proofs.Common.{sym}
 use Rattle.lock_rules.specs.declared.calls.Call.TheVariants.{Try}
 use Rattle.lock_desk.specs.declared.change.Change.TheVariants.{Served}
-use Rattle.lock_desk.proofs.Resuming.{may-enter, log-kept, parts-more}
+use Rattle.lock_desk.proofs.ResumedParts.{may-enter, log-kept, parts-more}
 use Rattle.lock_desk.proofs.resuming.enter_lock.Goals as goal
 
 pub add_lock-requires-clause-may_serve : goal.add_lock-requires-clause-may_serve

@@ -1,4 +1,4 @@
-use Rattle.lock_desk.proofs.Resuming.{parts-same, parts-on}
+use Rattle.lock_desk.proofs.ResumedParts.{parts-same, parts-on}
 use Rattle.lock_desk.proofs.resuming.enter_requests.Goals as goal
 
 pub loop-claim-init : goal.loop-claim-init

@@ -1,6 +1,6 @@
 use Rattle.std.proofs.Common.{sym}
 use Rattle.lock_desk.specs.declared.change.Change.TheVariants.{Opened}
-use Rattle.lock_desk.proofs.Resuming.{may-enter, log-kept, parts-more}
+use Rattle.lock_desk.proofs.ResumedParts.{may-enter, log-kept, parts-more}
 use Rattle.lock_desk.proofs.resuming.enter_transaction.Goals as goal
 
 pub add_transaction-requires : goal.add_transaction-requires

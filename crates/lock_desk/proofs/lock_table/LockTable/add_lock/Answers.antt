@@ -1,6 +1,6 @@
 use Rattle.std.proofs.Common.{sym, ◌∙◌}
 use Rattle.lock_rules.specs.declared.calls.Call.TheVariants.{Try}
-use Rattle.lock_desk.proofs.Resuming.{call-at}
+use Rattle.lock_desk.proofs.ResumedParts.{call-at}
 use Rattle.lock_desk.proofs.lock_table.LockTable.add_lock.Goals as goal
 
 pub returns-clause-added : goal.returns-clause-added

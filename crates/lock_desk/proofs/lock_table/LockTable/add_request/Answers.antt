@@ -5,7 +5,7 @@ use Rattle.lock_desk.specs.inner.Changes.{idle_tests, lock_tests, DoesKeep}
 use Rattle.lock_desk.specs.inner.Resuming.{IsAt}
 use Rattle.lock_desk.proofs.Asking.{session-on}
 use Rattle.lock_desk.proofs.Results.{first-none}
-use Rattle.lock_desk.proofs.Resuming.{queued-at}
+use Rattle.lock_desk.proofs.ResumedParts.{queued-at}
 use Rattle.lock_desk.proofs.Simulation.{lock-may}
 use Rattle.lock_desk.proofs.lock_table.LockTable.add_request.Goals as goal
 

@@ -1,5 +1,5 @@
 use Rattle.std.proofs.Common.{sym}
-use Rattle.lock_desk.proofs.Resuming.{opened-at}
+use Rattle.lock_desk.proofs.ResumedParts.{opened-at}
 use Rattle.lock_desk.proofs.lock_table.LockTable.add_transaction.Goals as goal
 
 pub returns-clause-added : goal.returns-clause-added

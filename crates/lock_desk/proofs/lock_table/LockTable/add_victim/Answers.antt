@@ -1,4 +1,4 @@
-use Rattle.lock_desk.proofs.Resuming.{victim-at}
+use Rattle.lock_desk.proofs.ResumedParts.{victim-at}
 use Rattle.lock_desk.proofs.lock_table.LockTable.add_victim.Goals as goal
 
 pub returns-clause-added : goal.returns-clause-added

@@ -3,7 +3,7 @@ use Rattle.lock_rules.specs.State.{State, holders}
 use Rattle.lock_desk.specs.inner.Resuming.{state_of_parts}
 use Rattle.lock_desk.proofs.Simulation.{holders-shown}
 use Rattle.lock_desk.proofs.Results.{to-ok}
-use Rattle.lock_desk.proofs.Resuming.{behind, seen-state}
+use Rattle.lock_desk.proofs.ResumedParts.{behind, seen-state}
 use Rattle.lock_desk.proofs.resumed_table.ResumedTable.holders.Goals as goal
 
 pub returns-clause-ok : goal.returns-clause-ok

@@ -3,7 +3,7 @@ use Rattle.lock_rules.specs.State.{State}
 use Rattle.lock_rules.specs.Listing.{waiting_line}
 use Rattle.lock_desk.specs.inner.Resuming.{state_of_parts}
 use Rattle.lock_desk.proofs.Listings.{request-shown}
-use Rattle.lock_desk.proofs.Resuming.{behind, seen-state}
+use Rattle.lock_desk.proofs.ResumedParts.{behind, seen-state}
 use Rattle.lock_desk.proofs.resumed_table.ResumedTable.request.Goals as goal
 
 pub returns : goal.returns

@@ -5,7 +5,7 @@ use Rattle.lock_rules.specs.Step.{step}
 use Rattle.lock_desk.specs.declared.change.Change.TheVariants.{Served}
 use Rattle.lock_desk.specs.Resumed.{ResumedView}
 use Rattle.lock_desk.proofs.Results.{to-ok, on-err}
-use Rattle.lock_desk.proofs.Resuming.{behind, seen-state, served-view, same-view}
+use Rattle.lock_desk.proofs.ResumedParts.{behind, seen-state, served-view, same-view}
 use Rattle.lock_desk.proofs.resumed_table.ResumedTable.serve.Goals as goal
 
 pub serve_parts-requires-clause-may_serve : goal.serve_parts-requires-clause-may_serve

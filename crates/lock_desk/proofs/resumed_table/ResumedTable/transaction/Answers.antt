@@ -1,7 +1,7 @@
 use Rattle.std.proofs.Common.{◌∙◌, ap}
 use Rattle.lock_rules.specs.State.{State}
 use Rattle.lock_desk.specs.inner.Resuming.{state_of_parts}
-use Rattle.lock_desk.proofs.Resuming.{behind, seen-state}
+use Rattle.lock_desk.proofs.ResumedParts.{behind, seen-state}
 use Rattle.lock_desk.proofs.resumed_table.ResumedTable.transaction.Goals as goal
 
 pub returns : goal.returns

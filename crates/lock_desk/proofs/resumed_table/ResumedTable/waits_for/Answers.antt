@@ -4,7 +4,7 @@ use Rattle.lock_rules.specs.Waits.{waits_for}
 use Rattle.lock_desk.specs.inner.Resuming.{state_of_parts}
 use Rattle.lock_desk.proofs.RowsOfTheTable.{written-blocks}
 use Rattle.lock_desk.proofs.WaitsOfTheState.{pairs-shown}
-use Rattle.lock_desk.proofs.Resuming.{behind, seen-state}
+use Rattle.lock_desk.proofs.ResumedParts.{behind, seen-state}
 use Rattle.lock_desk.proofs.resumed_table.ResumedTable.waits_for.Goals as goal
 
 pub returns : goal.returns
