@@ -7,11 +7,11 @@ loop-above-init c = parts-same c.args.sessions c.args.parts.now c.requires
 pub enter_locks_at-requires : goal.enter_locks_at-requires
 enter_locks_at-requires c = c.loop-above.invariant.parts
 
-pub enter_locks_at-2-requires : goal.enter_locks_at-2-requires
-enter_locks_at-2-requires c = c.in_ok-enter_locks_at.ensures.parts
+pub enter_locks_at-requires-in-loop-above : goal.enter_locks_at-requires-in-loop-above
+enter_locks_at-requires-in-loop-above c = c.in_ok-enter_locks_at.ensures.parts
 
 pub loop-above-preserved : goal.loop-above-preserved
 loop-above-preserved c =
-    parts-on c.args.sessions c.args.parts.now c.enter_locks_at.new.parts c.enter_locks_at-2.new.parts
+    parts-on c.args.sessions c.args.parts.now c.enter_locks_at.new.parts c.enter_locks_at-in-loop-above.new.parts
     (parts-on c.args.sessions c.args.parts.now c.loop-above.parts c.enter_locks_at.new.parts c.loop-above.invariant c.in_ok-enter_locks_at.ensures)
     c.in_ok-enter_locks_at-2.ensures
