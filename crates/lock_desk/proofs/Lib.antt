@@ -122,3 +122,8 @@ pub mod QueuedRequests
 pub mod ResumedStates
 -- what is added to its lock table, and its parts
 pub mod ResumedParts
+-- what lists of a state have can be entered
+-- the locks, by tries
+pub mod LocksTaken
+-- the requests, in the order of the queues
+pub mod RequestsTaken
