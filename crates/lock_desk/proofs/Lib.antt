@@ -127,3 +127,5 @@ pub mod ResumedParts
 pub mod LocksTaken
 -- the requests, in the order of the queues
 pub mod RequestsTaken
+-- what can be entered has no flaw in the lock table
+pub mod NoFlaws

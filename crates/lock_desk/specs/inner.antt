@@ -17,4 +17,5 @@ pub mod Paths
 pub mod Invariant
 pub mod Queueing
 pub mod Resuming
+pub mod Entering
 pub mod ResumedTables

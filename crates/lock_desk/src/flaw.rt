@@ -1,5 +1,8 @@
 //! Why lists describe no state.
 
+ghost use Rattle.std.specs.Prelude.{◌≡◌};
+ghost use Rattle.lock_desk.specs.declared.flaw.Flaw.TheVariants.{NoMemory};
+
 use lock_rules::Why;
 use std::alloc::AllocError;
 
@@ -37,7 +40,9 @@ pub enum Flaw {
 }
 
 impl From<AllocError> for Flaw {
-    fn from(_refused: AllocError) -> Flaw {
+    fn from(_refused: AllocError) -> Flaw
+        ensures { result ≡ NoMemory }
+    {
         Flaw::NoMemory
     }
 }

@@ -1,17 +1,21 @@
 //! What is added to a lock table that is put into a given state: an open transaction, a lock, a deadlock victim, a waiting request. Each is
 //! tested first.
 
-ghost use Rattle.std.specs.Prelude.{◌≡◌, ◌-◌, ◌||◌, ◌==◌, nat_lt, true, false, None, OnOk, IfNone, vec_len};
+ghost use Rattle.std.specs.Prelude.{◌≡◌, ◌-◌, ◌||◌, ◌==◌, nat_lt, true, false, None, OnOk, IfErr, IfNone, IfSome, vec_len};
 ghost use Rattle.std.specs.List.{list_any};
 ghost use Rattle.waits_for.specs.Pairs.{pairs_of};
 ghost use Rattle.waits_for.specs.Walks.{Reaches};
+ghost use Rattle.lock_modes.specs.declared.Mode.{Mode as ModeValue};
 ghost use Rattle.lock_rules.specs.declared.calls.Call.TheVariants.{Try};
+ghost use Rattle.lock_rules.specs.declared.calls.Reply.TheVariants.{Granted};
 ghost use Rattle.lock_rules.specs.State.{State, number_in};
-ghost use Rattle.lock_rules.specs.Step.{target_of, first_failing, step};
+ghost use Rattle.lock_rules.specs.Step.{is_held, target_of, first_failing, step};
 ghost use Rattle.lock_rules.specs.Waits.{after_victim};
+ghost use Rattle.lock_desk.specs.declared.flaw.Flaw.TheVariants.{NoMemory};
 ghost use Rattle.lock_desk.specs.Resumed.{opened, queued};
 ghost use Rattle.lock_desk.specs.inner.Cells.{IsPlace};
 ghost use Rattle.lock_desk.specs.inner.Changes.{view_at, mode_held, idle_tests, lock_tests, DoesKeep, MayServe, IsSession, CanAsk};
+ghost use Rattle.lock_desk.specs.inner.Entering.{CanOpen, CanHold, CanWait, HasNoFlaw};
 ghost use Rattle.lock_desk.specs.inner.Noting.{IsLogFor};
 ghost use Rattle.lock_desk.specs.inner.Queueing.{HasQueued};
 ghost use Rattle.lock_desk.specs.inner.Resuming.{is_needless, IsAt};
@@ -28,7 +32,8 @@ use lock_tree::Resource;
 
 /// Whether `target` isn't a mode above the one held, if one is held.
 fn is_vain(held: Option<Mode>, target: Mode) -> bool
-    ensures { result ≡ false → target_of held target ≡ target }
+    ensures not_vain { result ≡ false → target_of held target ≡ target }
+    ensures vain { result ≡ true → target_of held target ≡ target → is_held held target ≡ false → ⊥ }
 {
     match held {
         Some(held) => held.covers(target) || target_of(Some(held), target) != target,
@@ -37,7 +42,9 @@ fn is_vain(held: Option<Mode>, target: Mode) -> bool
 }
 
 /// The flaw of a lock by the reply to a try for it.
-fn lock_flaw(reply: Reply) -> Option<Flaw> {
+fn lock_flaw(reply: Reply) -> Option<Flaw>
+    ensures { (m : ModeValue) → reply ≡ Granted m → result ≡ None }
+{
     match reply {
         Reply::Granted(_) => None,
         Reply::Refused(why) => Some(Flaw::Lock(why)),
@@ -65,6 +72,7 @@ impl LockTable {
         requires may_serve { MayServe session self.old }
         ensures added { OnOk result ((st : State) → IsAt self.old st → IsAt self.new (opened session number st)) }
         ensures kept { OnOk result (DoesKeep self.old self.new) }
+        ensures taken { (st : State) → IsAt self.old st → CanOpen session number st → IfErr result (λ flaw. flaw ≡ NoMemory) }
     {
         if self.locker(session).is_open() {
             return Err(Flaw::OpenTwice);
@@ -92,6 +100,7 @@ impl LockTable {
         ensures added { OnOk result ((st : State) → IsAt self.old st → IsAt self.new (step st session (Try resource mode)).state) }
         ensures kept { OnOk result (DoesKeep self.old self.new) }
         ensures log { OnOk result (IsLogFor (vec_len self.new.lockers) log.new) }
+        ensures taken { (st : State) → IsAt self.old st → CanHold session resource mode st → IfErr result (λ flaw. flaw ≡ NoMemory) }
     {
         if self.held(session, resource).is_some() {
             return Err(Flaw::HeldTwice);
@@ -129,6 +138,7 @@ impl LockTable {
         ensures lock { IfNone result (None ≡ first_failing (lock_tests self.now session resource target)) }
         ensures target { IfNone result (target_of (mode_held self.now session resource) target ≡ target) }
         ensures needed { IfNone result (is_needless (record { session = session; mode = target }) (view_at resource self.now) ≡ false) }
+        ensures flawed { IfSome result (λ _. HasNoFlaw session resource target self.now → ⊥) }
     {
         if let Some(why) = self.idle_refusal(session) {
             return Some(Flaw::Request(why));
@@ -164,6 +174,7 @@ impl LockTable {
         requires can { CanAsk session resource self.old }
         ensures queued { OnOk result (HasQueued session resource target self.old self.new) }
         ensures kept { OnOk result (DoesKeep self.old self.new) }
+        ensures taken { is_needless (record { session = session; mode = target }) (view_at resource self.old) ≡ false → IfErr result (λ flaw. flaw ≡ NoMemory) }
     {
         let Some(place) = place else {
             return Err(Flaw::Needless);
@@ -179,6 +190,7 @@ impl LockTable {
     fn is_on_cycle(&mut self, session: u16) -> bool
         requires may_serve { MayServe session self.old }
         ensures none { result ≡ false → Reaches (pairs_of self.old.waits.rows) (session - 1) (session - 1) → ⊥ }
+        ensures some { result ≡ true → Reaches (pairs_of self.old.waits.rows) (session - 1) (session - 1) }
         ensures same { self.new ≡ self.old }
     {
         match victim(&mut self.waits, session) {
@@ -197,6 +209,7 @@ impl LockTable {
         requires may_serve { MayServe session self.old }
         ensures added { OnOk result ((st : State) → IsAt self.old st → IsAt self.new (queued session resource target st)) }
         ensures kept { OnOk result (DoesKeep self.old self.new) }
+        ensures taken { (st : State) → IsAt self.old st → CanWait session resource target st → IfErr result (λ flaw. flaw ≡ NoMemory) }
     {
         let place = self.cells.place_of(resource);
         let held = self.cells.mode_at(place, session);

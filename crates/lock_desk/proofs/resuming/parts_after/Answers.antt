@@ -1,5 +1,3 @@
-use Rattle.lock_desk.proofs.RequestsTaken.{next-free}
-use Rattle.lock_desk.proofs.LocksTaken.{try-grants}
 use Rattle.std.proofs.Common.{List, sym, subst, arith}
 use Rattle.lock_desk.proofs.ResumedStates.{none_open-between}
 use Rattle.lock_desk.proofs.resuming.parts_after.Goals as goal
