@@ -129,3 +129,11 @@ pub mod LocksTaken
 pub mod RequestsTaken
 -- what can be entered has no flaw in the lock table
 pub mod NoFlaws
+-- all open transactions and all victims are entered
+pub mod TransactionsEntered
+-- all locks are
+pub mod LocksEntered
+-- all requests are
+pub mod RequestsEntered
+-- the requests of a listing are in an order in which they can be entered
+pub mod RequestOrders

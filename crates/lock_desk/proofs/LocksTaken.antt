@@ -3,7 +3,6 @@ use Rattle.std.proofs.Common.{◌≡◌, ℕ, ◌+◌, ◌<◌, ◌≤◌, Bool,
 use Rattle.std.proofs.lemmas.Bool.Decides.{nat_tests}
 use Rattle.std.proofs.lemmas.Bool.{and_left, and_right, cases_Bool}
 use Rattle.lock_modes.specs.declared.Mode.{Mode}
-use Rattle.lock_modes.specs.declared.Mode.TheVariants.{U}
 use Rattle.lock_modes.specs.Order.{at_or_below, need_of}
 use Rattle.lock_modes.specs.Compatibility.{are_compatible}
 use Rattle.lock_modes.proofs.Every.{every2-at, implied}
@@ -21,11 +20,7 @@ use Rattle.lock_rules.proofs.Alters.{true≢false}
 use Rattle.lock_rules.proofs.Lists.{request_of-claims_but}
 use Rattle.lock_rules.proofs.Sound.{eqb-swap, lacks-same, unfit-some}
 use Rattle.lock_rules.proofs.Steps.{AllPass}
-
--- the mode is U
-abbrev pub is_update : Mode → Bool
-is_update U = true
-is_update _ = false
+use Rattle.lock_desk.specs.inner.Entering.{is_update}
 
 -- if all tests of a list pass, none is the first to fail
 pub none-failing : (ts : List (Bool × Why)) → AllPass ts → first_failing ts ≡ None

@@ -46,7 +46,7 @@ same-rest : (x y : Claim) (xs ys : List Claim) → x ∷ xs ≡ y ∷ ys → xs 
 same-rest x y xs ys e = cc
 
 -- what one test keeps another keeps, or drops
-kept-same : (p g : Claim → Bool) → ((q : Claim) → g q ≡ true → p q ≡ true) → (xs : List Claim) → filter p (filter g xs) ≡ filter g xs
+pub kept-same : (p g : Claim → Bool) → ((q : Claim) → g q ≡ true → p q ≡ true) → (xs : List Claim) → filter p (filter g xs) ≡ filter g xs
 kept-same p g each [] = refl
 kept-same p g each (x ∷ xs) = go (g x) refl (kept-same p g each xs)
   where
@@ -54,7 +54,7 @@ kept-same p g each (x ∷ xs) = go (g x) refl (kept-same p g each xs)
     go true e next = ap (λ (b : Bool). cond b (x ∷ filter p (filter g xs)) (filter p (filter g xs))) (each x e) ∙ ap (λ (ys : List Claim). x ∷ ys) next
     go false e next = next
 
-kept-none : (p g : Claim → Bool) → ((q : Claim) → g q ≡ true → p q ≡ false) → (xs : List Claim) → filter p (filter g xs) ≡ []
+pub kept-none : (p g : Claim → Bool) → ((q : Claim) → g q ≡ true → p q ≡ false) → (xs : List Claim) → filter p (filter g xs) ≡ []
 kept-none p g each [] = refl
 kept-none p g each (x ∷ xs) = go (g x) refl (kept-none p g each xs)
   where
@@ -162,7 +162,7 @@ front-request u (c ∷ f) g q h = go (eqb c.session u) h (front-request u f g q)
     go true h next = h
     go false h next = next h
 
-middle-in : (f g : List Claim) (q : Claim) → In q (f ++ q ∷ g)
+pub middle-in : (f g : List Claim) (q : Claim) → In q (f ++ q ∷ g)
 middle-in [] g q = inl refl
 middle-in (x ∷ f) g q = inr (middle-in f g q)
 

@@ -1,5 +1,6 @@
 -- The state of a lock table that begins in a given state: how it is put together, and what is told of it.
 use Rattle.std.specs.Prelude.{◌≡◌, ℕ, ◌≤◌, ◌==◌, false, if◌then◌else◌, List, [], ◌∷◌, Option, Some, None}
+use Rattle.std.specs.List.{flat_map, range_with_len}
 use Rattle.lock_modes.specs.declared.Mode.{Mode}
 use Rattle.lock_rules.specs.declared.calls.Transaction.{Transaction}
 use Rattle.lock_rules.specs.declared.listing.Claim.{Claim as ListedClaim}
@@ -60,6 +61,15 @@ abbrev pub state_now : ResumedView → State
 state_now v = after_changes (none_open v.first) v.changes
 
 -- the state that lists describe
+
+-- the open transaction of session s in a list, the empty list if it has none
+abbrev pub open_in : ℕ → Option Transaction → List OpenSession
+open_in s None = []
+open_in s (Some x) = record { session = s; transaction = x } ∷ []
+
+-- the open transactions of the sessions 1 to n, by session number
+abbrev pub opens_in : ℕ → State → List OpenSession
+opens_in n st = flat_map (λ s. open_in s (st.begun s)) (range_with_len 1 n)
 
 -- the transaction of session s among these, the first if there are several, None if it has none
 abbrev pub transaction_among : ℕ → List OpenSession → Option Transaction
