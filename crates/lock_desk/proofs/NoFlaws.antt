@@ -1,18 +1,24 @@
 -- What can be entered into the state that a lock table represents has no flaw in the lock table.
-use Rattle.std.proofs.Common.{◌≡◌, ℕ, ◌-◌, Bool, true, false, List, Option, Some, None, is_some, refl, sym, ◌∙◌, ap}
+use Rattle.std.proofs.Common.{◌≡◌, ℕ, zero, suc, ◌-◌, Bool, true, false, eqb, inl, inr, List, [], ◌∷◌, map, Option, Some, None, is_some, refl, sym, ◌∙◌, ap, arith}
+use Rattle.std.specs.List.{list_any}
+use Rattle.std.proofs.lemmas.Bool.{or_cases}
+use Rattle.std.proofs.lemmas.Bool.Decides.{Decides-eqb}
 use Rattle.waits_for.specs.Pairs.{pairs_of}
 use Rattle.waits_for.specs.Walks.{Reaches}
 use Rattle.lock_modes.specs.declared.Mode.{Mode}
 use Rattle.lock_rules.specs.declared.calls.Call.TheVariants.{Lock}
+use Rattle.lock_rules.specs.declared.calls.Transaction.{Transaction}
 use Rattle.lock_rules.specs.State as rules
 use Rattle.lock_rules.specs.Waits.{reaches}
 use Rattle.lock_rules.specs.Step.{is_held, target_of, first_failing}
 use Rattle.lock_rules.proofs.Alters.{true≢false}
 use Rattle.lock_rules.proofs.Steps.{front-passes}
+use Rattle.lock_desk.specs.declared.lockers.Locker.{Locker}
 use Rattle.lock_desk.specs.declared.lock_table.LockTable.{LockTable}
 use Rattle.lock_desk.specs.Resumed.{queued}
 use Rattle.lock_desk.specs.inner.Changes.{view_at, mode_held, idle_tests, lock_tests, call_tests, IsWhole, DoesKeep, MayServe}
-use Rattle.lock_desk.specs.inner.Entering.{CanHold, CanWait, HasNoFlaw}
+use Rattle.lock_desk.specs.inner.Entering.{CanOpen, CanHold, CanWait, HasNoFlaw}
+use Rattle.lock_desk.specs.inner.Lockers.{standing_of, standings_of, standing_at}
 use Rattle.lock_desk.specs.inner.Queueing.{HasQueued}
 use Rattle.lock_desk.specs.inner.Resuming.{is_needless, IsAt}
 use Rattle.lock_desk.proofs.QueuedRequests.{queued-shown}
@@ -46,3 +52,25 @@ closes-none d e s r m may k kept st at can there =
 -- a lock that can be held isn't held yet
 pub not-held : (d : LockTable) (st : rules.State) (s : ℕ) (r : List ℕ) (m : Mode) → IsAt d st → CanHold s r m st → is_some (mode_held d s r) ≡ false
 not-held d st s r m at can = ap is_some (mode-shown d st s r at.shows ∙ can.new)
+
+-- a number that some locker has is that of an open transaction, or 0
+some-taken : (n : ℕ) (ws : List Locker) → list_any (λ w. eqb (rules.number_in w.transaction) n) ws ≡ true → (u : ℕ) × (rules.number_in (standing_at u (standings_of ws)).transaction ≡ n)
+some-taken n ws h = let r = go ws h in (suc r.0, r.1)
+  where
+    go : (xs : List Locker) → list_any (λ w. eqb (rules.number_in w.transaction) n) xs ≡ true → (i : ℕ) × (rules.number_in (standing_at i (map standing_of xs)).transaction ≡ n)
+    go [] h = absurd (cc)
+    go (x ∷ xs) h = elim (or_cases (eqb (rules.number_in x.transaction) n) (list_any (λ w. eqb (rules.number_in w.transaction) n) xs) h) [
+      | inl k ↦ (zero, (Decides-eqb (rules.number_in x.transaction) n).0 k)
+      | inr k ↦ (let r = go xs k in (suc r.0, r.1))
+    ]
+
+-- the number of a transaction that can be opened isn't taken
+pub not-taken : (d : LockTable) (st : rules.State) (s n : ℕ) → IsAt d st → CanOpen s n st → list_any (λ w. eqb (rules.number_in w.transaction) n) d.lockers.items ≡ true → ⊥
+not-taken d st s n at can taken =
+    let r = some-taken n d.lockers.items taken in
+    let same = ap rules.number_in (sym (at.shows.transactions r.0)) ∙ r.1 in
+    can.apart r.0 (there (st.begun r.0) same) same
+  where
+    there : (o : Option Transaction) → rules.number_in o ≡ n → is_some o ≡ true
+    there None e = let one = can.some in absurd (omega (arith, one, e))
+    there (Some x) e = refl

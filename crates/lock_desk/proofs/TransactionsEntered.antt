@@ -43,7 +43,7 @@ module _ (n : ℕ) (whole : State) (b : IsBetweenCalls whole) (within : (s : ℕ
     table = h.table;
   }
     where
-      nothing : (c : Bool) → cond c (None {T = Transaction}) None ≡ None
+      nothing : (c : Bool) → cond c (restarted None) None ≡ None
       nothing true = refl
       nothing false = refl
 

@@ -40,9 +40,9 @@ pub enum Flaw {
 }
 
 impl From<AllocError> for Flaw {
-    fn from(_refused: AllocError) -> Flaw
-        ensures { result ≡ NoMemory }
-    {
+    ghost from_gives = { λ _ flaw. flaw ≡ NoMemory };
+
+    fn from(_refused: AllocError) -> Flaw {
         Flaw::NoMemory
     }
 }

@@ -1,6 +1,3 @@
-use Rattle.lock_desk.proofs.RequestOrders.{listed-requests}
-use Rattle.lock_desk.proofs.TransactionsEntered.{opens-taken}
-use Rattle.lock_desk.proofs.RequestsEntered.{requests-taken}
 use Rattle.std.proofs.Common.{List, sym, subst, arith}
 use Rattle.lock_desk.proofs.ResumedStates.{none_open-between}
 use Rattle.lock_desk.proofs.resuming.parts_after.Goals as goal

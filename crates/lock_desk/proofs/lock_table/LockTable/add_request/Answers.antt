@@ -4,6 +4,7 @@ use Rattle.lock_desk.specs.Resumed.{queued}
 use Rattle.lock_desk.specs.inner.Changes.{idle_tests, lock_tests, DoesKeep}
 use Rattle.lock_desk.specs.inner.Resuming.{IsAt}
 use Rattle.lock_desk.proofs.Asking.{session-on}
+use Rattle.lock_desk.proofs.NoFlaws.{no-flaw, closes-none}
 use Rattle.lock_desk.proofs.Results.{first-none}
 use Rattle.lock_desk.proofs.ResumedParts.{queued-at}
 use Rattle.lock_desk.proofs.Simulation.{lock-may}
@@ -30,3 +31,10 @@ returns-clause-added c = λ st at.
 
 pub returns-clause-kept : goal.returns-clause-kept
 returns-clause-kept c = subst (DoesKeep c.args.self.now) (sym c.is_on_cycle.ensures.same) c.in_ok-queue.ensures.kept
+
+pub returns-in-Some-clause-taken : goal.returns-in-Some-clause-taken
+returns-in-Some-clause-taken c = λ st at can. absurd (c.in-Some.ensures.flawed (no-flaw c.args.self.now st c.args.session c.args.resource c.args.target c.requires.may_serve.whole at can))
+
+pub returns-then-is_on_cycle-clause-taken : goal.returns-then-is_on_cycle-clause-taken
+returns-then-is_on_cycle-clause-taken c = λ st at can.
+    absurd (closes-none c.args.self.now c.queue.new.self c.args.session c.args.resource c.args.target c.requires.may_serve c.in_ok-queue.ensures.queued c.in_ok-queue.ensures.kept st at can (c.is_on_cycle.ensures.some c.if-is_on_cycle.true))
