@@ -137,3 +137,7 @@ pub mod LocksEntered
 pub mod RequestsEntered
 -- the requests of a listing are in an order in which they can be entered
 pub mod RequestOrders
+-- what is entered, one thing after another
+pub mod EnteredParts
+-- and so are its locks
+pub mod LockOrders

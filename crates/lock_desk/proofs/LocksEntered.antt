@@ -101,7 +101,7 @@ push-own u y (d ∷ f) g c n h = go (eqb d.session u && same_path d.resource y) 
     go false k next = next k
 
 -- the session's own claim on its own resource
-own-claim : (c : Claim) → (eqb c.session c.session && same_path c.resource c.resource) ≡ true
+pub own-claim : (c : Claim) → (eqb c.session c.session && same_path c.resource c.resource) ≡ true
 own-claim c = λ i. eqb-refl c.session i && same_path-refl c.resource i
 
 -- the order in which the locks of a state are entered: each once, parents first, and on each resource those in U last

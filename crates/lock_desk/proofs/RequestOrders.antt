@@ -78,7 +78,7 @@ no-requests r f (q ∷ qs) h = go (same_path q.resource r) h (no-requests r f qs
     go false h next = next h
 
 -- a claim that passes the test is kept
-In-kept : (p : Claim → Bool) (q : Claim) (xs : List Claim) → In q xs → p q ≡ true → In q (filter p xs)
+pub In-kept : (p : Claim → Bool) (q : Claim) (xs : List Claim) → In q xs → p q ≡ true → In q (filter p xs)
 In-kept p q [] k e = absurd k
 In-kept p q (x ∷ xs) k e = go (p x) refl k (λ j. In-kept p q xs j e)
   where
@@ -96,13 +96,13 @@ times-kept u p (x ∷ xs) each = go (eqb x.session u) (p x) refl refl (times-kep
     go : (a b : Bool) → eqb x.session u ≡ a → p x ≡ b → times u xs ≤ times u (filter p xs) → cond a 1 0 + times u xs ≤ times u (cond b (x ∷ filter p xs) (filter p xs))
     go a true e f next = let own : cond (eqb x.session u) 1 0 ≡ cond a 1 0 = ap (λ (b : Bool). cond b 1 0) e in omega (arith, own, next)
     go true false e f next = absurd (let z = sym f ∙ each x (inl refl) ((Decides-eqb x.session u).0 e) in cc)
-    go false false e f next = next
+    go false false e f next = omega (arith, next)
 
-In-left : (h : Claim) (xs ys : List Claim) → In h xs → In h (xs ++ ys)
+pub In-left : (h : Claim) (xs ys : List Claim) → In h xs → In h (xs ++ ys)
 In-left h [] ys k = absurd k
 In-left h (x ∷ xs) ys k = elim k [ inl e ↦ inl e | inr j ↦ inr (In-left h xs ys j) ]
 
-In-right : (h : Claim) (xs ys : List Claim) → In h ys → In h (xs ++ ys)
+pub In-right : (h : Claim) (xs ys : List Claim) → In h ys → In h (xs ++ ys)
 In-right h [] ys k = k
 In-right h (x ∷ xs) ys k = inr (In-right h xs ys k)
 

@@ -1,7 +1,8 @@
 -- What is added to a lock table that is put into a given state: it goes on representing a state between two calls.
-use Rattle.std.proofs.Common.{◌≡◌, ℕ, zero, suc, ◌-◌, ◌≤◌, Bool, true, false, eqb, ltb, ◌||◌, List, [], ◌∷◌, ◌++◌, map, Option, Some, None, is_some, refl, sym, ◌∙◌, ap, subst, arith}
+use Rattle.std.proofs.Common.{◌≡◌, ℕ, zero, suc, ◌-◌, ◌≤◌, Bool, true, false, eqb, ltb, ◌||◌, List, [], ◌∷◌, ◌++◌, map, Option, Some, None, is_some, refl, sym, ◌∙◌, ap, subst, arith, append_assoc}
 use Rattle.std.specs.Prelude.{vec_len}
 use Rattle.std.specs.List.{list_any}
+use Rattle.std.proofs.lemmas.List.{append-nil}
 use Rattle.std.proofs.lemmas.Bool.{or_parts, false≢true}
 use Rattle.std.proofs.lemmas.Bool.Decides.{nat_tests, Decides-eqb}
 use Rattle.waits_for.specs.Pairs.{pairs_of}
@@ -93,17 +94,22 @@ may-enter n p s k within =
     record { session = record { some = grind (arith, nat_tests, some); within = grind (arith, nat_tests, few, long) }; whole = k.whole; ready = k.ready }
 
 -- nothing is entered
-pub parts-same : (n : ℕ) (p : TableParts) → ArePartsOf n p → DoPartsGoOn n p p
-parts-same n p k = record { parts = k; at = λ first at. at }
+pub parts-same : (n : ℕ) (p : TableParts) → ArePartsOf n p → DoPartsGoOn n [] p p
+parts-same n p k = record { parts = k; changes = sym (append-nil p.changes.items); at = λ first at. at }
 
 -- one thing after another is
-pub parts-on : (n : ℕ) (p q r : TableParts) → DoPartsGoOn n p q → DoPartsGoOn n q r → DoPartsGoOn n p r
-parts-on n p q r h k = record { parts = k.parts; at = λ first at. k.at first (h.at first at) }
+pub parts-on : (n : ℕ) (cs ds : List Change) (p q r : TableParts) → DoPartsGoOn n cs p q → DoPartsGoOn n ds q r → DoPartsGoOn n (cs ++ ds) p r
+parts-on n cs ds p q r h k = record {
+  parts = k.parts;
+  changes = k.changes ∙ (ap (λ (xs : List Change). xs ++ ds) h.changes ∙ append_assoc p.changes.items cs ds);
+  at = λ first at. k.at first (h.at first at);
+}
 
 -- one change is entered
 pub parts-more : (n : ℕ) (p q : TableParts) (c : Change) → ArePartsOf n p → DoesKeep p.table q.table → IsLogFor (vec_len q.table.lockers) q.notes.log → q.changes.items ≡ p.changes.items ++ c ∷ []
-    → ((st : rules.State) → IsAt p.table st → IsAt q.table (after_change c st)) → DoPartsGoOn n p q
+    → ((st : rules.State) → IsAt p.table st → IsAt q.table (after_change c st)) → DoPartsGoOn n (c ∷ []) p q
 parts-more n p q c k kept log is adds = record {
+  changes = is;
   parts = record { whole = kept.whole; ready = kept.ready; lockers = kept.lockers ∙ k.lockers; log = log };
   at = λ first at. subst (IsAt q.table) (sym (ap (after_changes (none_open first)) is ∙ after_changes-push (none_open first) p.changes.items c)) (adds (state_of_parts first p) at);
 }

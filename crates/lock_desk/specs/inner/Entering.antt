@@ -1,6 +1,6 @@
 -- Internal to this crate, cited by no public contract: what can be entered into a lock table that is put into a given state.
-use Rattle.std.specs.Prelude.{◌≡◌, ℕ, ◌+◌, ◌≤◌, Bool, true, false, not, ◌&&◌, ◌==◌, if◌then◌else◌, List, [], ◌∷◌, ◌++◌, length, Option, Some, None, Result, IfErr}
-use Rattle.std.specs.List.{flat_map, range_with_len}
+use Rattle.std.specs.Prelude.{◌≡◌, ℕ, zero, suc, ◌+◌, ◌≤◌, Bool, true, false, not, ◌&&◌, ◌==◌, if◌then◌else◌, List, [], ◌∷◌, ◌++◌, length, Option, Some, None, Result, IfErr}
+use Rattle.std.specs.List.{flat_map}
 use Rattle.lock_modes.specs.declared.Mode.{Mode}
 use Rattle.lock_modes.specs.declared.Mode.TheVariants.{U}
 use Rattle.lock_tree.specs.declared.levels.TheConstants.{LEVELS}
@@ -99,9 +99,14 @@ queueing_if l = if is_lock_kind l.kind then [] else queueing l
 abbrev pub holding_below : List ListedClaim → ℕ → List Change
 holding_below ls above = flat_map (holding_at (above + 1) false) ls ++ flat_map (holding_at (above + 1) true) ls
 
--- all locks are given, level by level
+-- the locks of so many levels are given, level by level
+abbrev pub holdings_up : List ListedClaim → ℕ → List Change
+holdings_up ls zero = []
+holdings_up ls (suc k) = holdings_up ls k ++ holding_below ls k
+
+-- all locks are given
 abbrev pub holdings : List ListedClaim → List Change
-holdings ls = flat_map (holding_below ls) (range_with_len 0 LEVELS)
+holdings ls = holdings_up ls LEVELS
 
 -- all that the lists have is entered
 abbrev pub entering : List OpenSession → List ListedClaim → List Change

@@ -1,8 +1,9 @@
 -- Internal to this crate, cited by no public contract: a lock table is put into a given state.
-use Rattle.std.specs.Prelude.{◌≡◌, ℕ, Bool, false, not, ◌&&◌, List, Option, Some, None, slice_get, vec_len}
+use Rattle.std.specs.Prelude.{◌≡◌, ℕ, Bool, false, not, ◌&&◌, List, ◌++◌, Option, Some, None, slice_get, vec_len}
 use Rattle.lock_rules.specs.State.{State}
 use Rattle.lock_holders.specs.declared.session_mode.SessionMode.{SessionMode}
 use Rattle.lock_holders.specs.SessionModes.{has_session}
+use Rattle.lock_desk.specs.declared.change.Change.{Change}
 use Rattle.lock_desk.specs.declared.lock_table.LockTable.{LockTable}
 use Rattle.lock_desk.specs.declared.table_parts.TableParts.{TableParts}
 use Rattle.lock_desk.specs.Resumed.{none_open, after_changes, IsBetweenCalls}
@@ -41,7 +42,8 @@ pub record ArePartsOf (n : ℕ) (p : TableParts) : Type 0 where
 abbrev pub state_of_parts : ℕ → TableParts → State
 state_of_parts first p = after_changes (none_open first) p.changes.items
 
--- from the first parts to the second their state goes on: if the lock table represented it, it does so again
-pub record DoPartsGoOn (n : ℕ) (p q : TableParts) : Type 0 where
+-- from the first parts to the second their state goes on by these changes: if the lock table represented it, it does so again
+pub record DoPartsGoOn (n : ℕ) (cs : List Change) (p q : TableParts) : Type 0 where
   pub parts : ArePartsOf n q
+  pub changes : q.changes.items ≡ p.changes.items ++ cs
   pub at : (first : ℕ) → IsAt p.table (state_of_parts first p) → IsAt q.table (state_of_parts first q)

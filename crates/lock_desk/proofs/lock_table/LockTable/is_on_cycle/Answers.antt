@@ -1,5 +1,3 @@
-use Rattle.lock_desk.proofs.RequestOrders.{listed-requests}
-use Rattle.lock_desk.proofs.TransactionsEntered.{opens-taken}
 use Rattle.std.proofs.Common.{◌-◌}
 use Rattle.waits_for.specs.Pairs.{pairs_of}
 use Rattle.waits_for.proofs.Walks.{reaches-trans}

@@ -8,12 +8,12 @@ pub enter_all-requires : goal.enter_all-requires
 enter_all-requires c = c.in_ok-parts.ensures.parts
 
 pub of_parts-requires-clause-parts : goal.of_parts-requires-clause-parts
-of_parts-requires-clause-parts c = c.in_ok-enter_all.ensures.parts
+of_parts-requires-clause-parts c = c.in_ok-enter_all.ensures.entered.parts
 
 pub of_parts-requires-clause-at : goal.of_parts-requires-clause-at
 of_parts-requires-clause-at c =
     let made = c.in_ok-parts.ensures in
-    c.in_ok-enter_all.ensures.at c.args.count
+    c.in_ok-enter_all.ensures.entered.at c.args.count
     (subst (λ (cs : List Change). IsAt c.in_ok-parts.parts.table (after_changes (none_open c.args.count) cs)) (sym made.changes) made.at)
 
 pub returns-then-told-clause-listed : goal.returns-then-told-clause-listed
