@@ -141,3 +141,9 @@ pub mod RequestOrders
 pub mod EnteredParts
 -- and so are its locks
 pub mod LockOrders
+-- all that lists of a state have
+pub mod ListsTaken
+-- states with the same listing
+pub mod StatesAlike
+-- the lists of a state are accepted
+pub mod ListsAccepted

@@ -40,7 +40,7 @@ at_level-phase k u c h =
     let f = mode u p.1 in
     omega (arith, e, f)
   where
-    mode : (u : Bool) → cond u (is_update c.mode) (not (is_update c.mode)) ≡ true → cond (is_update c.mode) 1 0 ≡ cond u 1 0
+    mode : (u : Bool) → cond u (is_update c.mode) (not (is_update c.mode)) ≡ true → ◌≡◌ {A = ℕ} (cond (is_update c.mode) 1 0) (cond u 1 0)
     mode true h = ap (λ (b : Bool). cond b 1 0) h
     mode false h = ap (λ (b : Bool). cond b 1 0) (not-true (is_update c.mode) h)
 

@@ -94,7 +94,7 @@ times-kept u p [] each = omega arith
 times-kept u p (x ∷ xs) each = go (eqb x.session u) (p x) refl refl (times-kept u p xs (λ c j. each c (inr j)))
   where
     go : (a b : Bool) → eqb x.session u ≡ a → p x ≡ b → times u xs ≤ times u (filter p xs) → cond a 1 0 + times u xs ≤ times u (cond b (x ∷ filter p xs) (filter p xs))
-    go a true e f next = let own : cond (eqb x.session u) 1 0 ≡ cond a 1 0 = ap (λ (b : Bool). cond b 1 0) e in omega (arith, own, next)
+    go a true e f next = let own : ◌≡◌ {A = ℕ} (cond (eqb x.session u) 1 0) (cond a 1 0) = ap (λ (b : Bool). cond b 1 0) e in omega (arith, own, next)
     go true false e f next = absurd (let z = sym f ∙ each x (inl refl) ((Decides-eqb x.session u).0 e) in cc)
     go false false e f next = omega (arith, next)
 
@@ -122,7 +122,7 @@ module _ (st : State) (once : IsOnce st.table.requests) where
           let k = (or_parts (list_any (λ c. same_path c.resource y) st.table.held) (list_any (λ c. same_path c.resource y) st.table.requests) both).1 in
           sym (λ i. no-requests y (λ q. is_some (held_mode st.table q.session y)) st.table.requests k i ++ no-requests y (λ q. not (is_some (held_mode st.table q.session y))) st.table.requests k i)
 
-  all-there : (q : Claim) → In q (queued_all st) → In q st.table.requests
+  pub all-there : (q : Claim) → In q (queued_all st) → In q st.table.requests
   all-there q j = (In-queue st.table q.resource q (subst (In q) (queue-kept q.resource) (In-kept (on q.resource) q (queued_all st) j (same_path-refl q.resource)))).0
 
   in-queue : (q : Claim) → In q st.table.requests → In q (queue st.table q.resource)
@@ -135,7 +135,7 @@ module _ (st : State) (once : IsOnce st.table.requests) where
           (In-kept (λ c. same_path c.resource q.resource && not (is_some (held_mode st.table c.session q.resource))) q st.table.requests j
             (and_from (same_path q.resource q.resource) (not (is_some (held_mode st.table q.session q.resource))) (same_path-refl q.resource) (ap not e)))
 
-  there-all : (q : Claim) → In q st.table.requests → In q (queued_all st)
+  pub there-all : (q : Claim) → In q st.table.requests → In q (queued_all st)
   there-all q j = (In-filter (on q.resource) q (queued_all st) (subst (In q) (sym (queue-kept q.resource)) (in-queue q j))).0
 
   own : (q : Claim) → In q st.table.requests → request_of q.session st.table.requests ≡ Some q

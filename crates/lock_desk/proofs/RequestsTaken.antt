@@ -185,10 +185,10 @@ module _ (t x : Table) (same : (u : ℕ) (y : List ℕ) → held_mode x u y ≡ 
   parted-there : (y : List ℕ) → IsParted (has y) (filter (on y) f ++ filter (on y) g)
   parted-there y = subst (IsParted (has y)) (sym (ordered y) ∙ filter-append (on y) f g) (parted (on y) (has y) t.requests)
 
-  conversions-so-far : (y : List ℕ) → conversions x y ≡ filter (has y) (filter (on y) f)
+  pub conversions-so-far : (y : List ℕ) → conversions x y ≡ filter (has y) (filter (on y) f)
   conversions-so-far y = (λ i. filter (λ (c : Claim). on y c && is_some (same c.session y i)) (so_far i)) ∙ filter-both (on y) (has y) f
 
-  fresh-so-far : (y : List ℕ) → fresh_requests x y ≡ filter (λ c. not (has y c)) (filter (on y) f)
+  pub fresh-so-far : (y : List ℕ) → fresh_requests x y ≡ filter (λ c. not (has y c)) (filter (on y) f)
   fresh-so-far y = (λ i. filter (λ (c : Claim). on y c && not (is_some (same c.session y i))) (so_far i)) ∙ filter-both (on y) (λ c. not (has y c)) f
 
   -- its queues are fronts of those of `t`

@@ -1,15 +1,17 @@
 -- The state of a lock table that begins in a given state: how it is put together, and what is told of it.
-use Rattle.std.specs.Prelude.{◌≡◌, ℕ, ◌≤◌, ◌==◌, false, if◌then◌else◌, List, [], ◌∷◌, Option, Some, None}
+use Rattle.std.specs.Prelude.{◌≡◌, ℕ, ◌<◌, ◌≤◌, ◌==◌, true, false, if◌then◌else◌, List, [], ◌∷◌, length, Option, Some, None}
 use Rattle.std.specs.List.{flat_map, range_with_len}
 use Rattle.lock_modes.specs.declared.Mode.{Mode}
+use Rattle.lock_tree.specs.declared.levels.TheConstants.{LEVELS}
+use Rattle.lock_rules.specs.declared.calls.TheConstants.{MAX_LOCKS}
 use Rattle.lock_rules.specs.declared.calls.Transaction.{Transaction}
 use Rattle.lock_rules.specs.declared.listing.Claim.{Claim as ListedClaim}
-use Rattle.lock_rules.specs.State.{State, no_locks, with_begun, with_table}
+use Rattle.lock_rules.specs.State.{Claim, State, no_locks, with_begun, with_table, held_mode, request_of, claims_of, is_open, number_of}
 use Rattle.lock_rules.specs.Queue.{with_request}
 use Rattle.lock_rules.specs.Waits.{after_victim}
-use Rattle.lock_rules.specs.Step.{step}
+use Rattle.lock_rules.specs.Step.{is_held, step}
 use Rattle.lock_rules.specs.Sound.{IsSound, IsNumbered}
-use Rattle.lock_rules.specs.Laws.{DoesNobodyWaitNeedlessly, HasNoCircle}
+use Rattle.lock_rules.specs.Laws.{DoesNobodyWaitNeedlessly, HasNoCircle, AreLocksBounded, DoDoomedWaitForNothing}
 use Rattle.lock_rules.specs.Listing.{listing_of}
 use Rattle.lock_desk.specs.declared.change.Change.{Change}
 use Rattle.lock_desk.specs.declared.change.Change.TheVariants.{Opened, Doomed, Queued, Served}
@@ -83,3 +85,15 @@ pub record IsListed (n number : ℕ) (opens : List OpenSession) (lines : List Li
   pub count : st.count ≡ number
   pub transactions : (s : ℕ) → 1 ≤ s → s ≤ n → st.begun s ≡ transaction_among s opens
   pub claims : listing_of st ≡ lines
+
+-- the state is within the limits of a table for sessions 1 to n, and as a history leads to it: transactions are numbered from 1 on, resources
+-- are on 1 to LEVELS levels, no session holds more than MAX_LOCKS locks or would with the one that it waits for, a doomed transaction waits for
+-- nothing, and who waits does so for a mode that what it holds doesn't cover
+pub record IsWithinLimits (n : ℕ) (st : State) : Type 0 where
+  pub sessions : (s : ℕ) → is_open st s ≡ true → (1 ≤ s) × (s ≤ n)
+  pub numbers : (s : ℕ) → is_open st s ≡ true → 1 ≤ number_of st s
+  pub levels : (s : ℕ) (r : List ℕ) (m : Mode) → held_mode st.table s r ≡ Some m → (1 ≤ length r) × (length r ≤ LEVELS)
+  pub locks : AreLocksBounded st
+  pub room : (s : ℕ) (q : Claim) → request_of s st.table.requests ≡ Some q → held_mode st.table s q.resource ≡ None → length (claims_of s st.table.held) < MAX_LOCKS
+  pub victims : DoDoomedWaitForNothing st
+  pub higher : (s : ℕ) (q : Claim) → request_of s st.table.requests ≡ Some q → is_held (held_mode st.table s q.resource) q.mode ≡ false

@@ -1,12 +1,13 @@
 //! A lock table that begins in a given state and goes on from there.
 
-ghost use Rattle.std.specs.Prelude.{◌≡◌, ℕ, ◌≤◌, true, false, [], ◌∷◌, ◌++◌, vec_len, IfOk, OnOk, OnErr};
-ghost use Rattle.lock_rules.specs.State.{held_mode, holders, is_waiting};
+ghost use Rattle.std.specs.Prelude.{◌≡◌, ℕ, ◌≤◌, true, false, [], ◌∷◌, ◌++◌, vec_len, IfOk, IfErr, OnOk, OnErr};
+ghost use Rattle.lock_rules.specs.State.{State, held_mode, holders, is_waiting};
 ghost use Rattle.lock_rules.specs.Step.{step};
 ghost use Rattle.lock_rules.specs.Waits.{waits_for};
 ghost use Rattle.lock_rules.specs.Listing.{listing_of, waiting_line};
 ghost use Rattle.lock_desk.specs.declared.change.Change.TheVariants.{Served};
-ghost use Rattle.lock_desk.specs.Resumed.{state_now, transaction_among, IsBetweenCalls, IsListed};
+ghost use Rattle.lock_desk.specs.declared.flaw.Flaw.TheVariants.{NoMemory as NoMemoryFlaw};
+ghost use Rattle.lock_desk.specs.Resumed.{state_now, opens_in, transaction_among, IsBetweenCalls, IsWithinLimits, IsListed};
 ghost use Rattle.lock_desk.specs.inner.Changes.{MayServe};
 ghost use Rattle.lock_desk.specs.inner.Noting.{IsLogFor};
 ghost use Rattle.lock_desk.specs.inner.Resuming.{IsAt, ArePartsOf, state_of_parts};
@@ -82,7 +83,8 @@ fn serve_parts(parts: &mut TableParts, session: u16, call: Call) -> Result<Reply
 
 /// Whether two lines of a listing differ.
 fn is_other_claim(told: Claim, claim: Claim) -> bool
-    ensures { result ≡ false → told ≡ claim }
+    ensures other { result ≡ false → told ≡ claim }
+    ensures same { told ≡ claim → result ≡ false }
 {
     same_path_is_equality();
     !(told.resource == claim.resource
@@ -94,7 +96,8 @@ fn is_other_claim(told: Claim, claim: Claim) -> bool
 
 /// Whether two listings are the same.
 fn are_same_claims(told: &[Claim], claims: &[Claim]) -> bool
-    ensures { result ≡ true → told.now ≡ claims.now }
+    ensures same { result ≡ true → told.now ≡ claims.now }
+    ensures told { told.now ≡ claims.now → result ≡ true }
 {
     if told.len() != claims.len() {
         return false;
@@ -124,14 +127,16 @@ fn transaction_among(session: u16, opens: &[OpenSession]) -> Option<Transaction>
 
 /// Whether the transaction told differs from the one listed, or only one of them is there.
 fn is_other_transaction(told: Option<Transaction>, listed: Option<Transaction>) -> bool
-    ensures { result ≡ false → told ≡ listed }
+    ensures other { result ≡ false → told ≡ listed }
+    ensures same { told ≡ listed → result ≡ false }
 {
     !(told == listed)
 }
 
 /// Whether these are the open transactions of the table.
 fn are_open(table: &ResumedTable, opens: &[OpenSession]) -> bool
-    ensures { result ≡ true → (s : ℕ) → 1 ≤ s → s ≤ table.now.sessions → (state_now table.now).begun s ≡ transaction_among s opens.now }
+    ensures open { result ≡ true → (s : ℕ) → 1 ≤ s → s ≤ table.now.sessions → (state_now table.now).begun s ≡ transaction_among s opens.now }
+    ensures told { ((s : ℕ) → 1 ≤ s → s ≤ table.now.sessions → (state_now table.now).begun s ≡ transaction_among s opens.now) → result ≡ true }
 {
     let sessions = table.sessions();
     for before in 0..sessions {
@@ -156,7 +161,8 @@ impl ResumedTable {
         requires few { sessions ≤ MAX_SESSIONS }
         requires parts { ArePartsOf sessions parts }
         requires at { IsAt parts.table (state_of_parts first parts) }
-        ensures { IfOk result (λ made. made.sessions ≡ sessions) }
+        ensures sessions { IfOk result (λ made. made.sessions ≡ sessions) }
+        ensures state { IfOk result (λ made. state_now made ≡ state_of_parts first parts) }
     {
         let parts = boxed_parts(alloc, parts)?;
         Ok(ResumedTable {
@@ -182,6 +188,8 @@ impl ResumedTable {
         requires few { sessions ≤ MAX_SESSIONS }
         ensures sessions { IfOk result (λ made. made.sessions ≡ sessions) }
         ensures listed { IfOk result (λ made. IsListed sessions count opens.now claims.now (state_now made)) }
+        ensures taken { (st : State) → IsListed sessions count opens.now claims.now st → opens.now ≡ opens_in sessions st → IsWithinLimits sessions st
+            → IfErr result (λ flaw. flaw ≡ NoMemoryFlaw) }
     {
         let mut parts = parts_after(alloc, sessions, count)?;
         enter_all(&mut parts, sessions, opens, claims)?;
@@ -201,7 +209,10 @@ impl ResumedTable {
         opens: &[OpenSession],
         claims: &[Claim],
     ) -> Result<bool, NoMemory>
-        ensures { IfOk result (λ told. told ≡ true → IsListed self.now.sessions count opens.now claims.now (state_now self.now)) }
+        ensures listed { IfOk result (λ told. told ≡ true → IsListed self.now.sessions count opens.now claims.now (state_now self.now)) }
+        ensures told { IfOk result (λ told. (state_now self.now).count ≡ count
+            → ((s : ℕ) → 1 ≤ s → s ≤ self.now.sessions → (state_now self.now).begun s ≡ transaction_among s opens.now)
+            → listing_of (state_now self.now) ≡ claims.now → told ≡ true) }
     {
         let mut list = Vec::new(alloc);
         self.locks(alloc, &mut list)?;

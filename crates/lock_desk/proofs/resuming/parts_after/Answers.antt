@@ -1,4 +1,3 @@
-use Rattle.lock_desk.proofs.LockOrders.{listed-locks}
 use Rattle.std.proofs.Common.{List, sym, subst, arith}
 use Rattle.lock_desk.proofs.ResumedStates.{none_open-between}
 use Rattle.lock_desk.proofs.resuming.parts_after.Goals as goal
