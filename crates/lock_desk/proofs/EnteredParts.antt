@@ -4,7 +4,7 @@ use Rattle.std.proofs.Common.{◌≡◌, ℕ, zero, suc, ◌+◌, ◌<◌, ◌�
 use Rattle.std.specs.List.{flat_map}
 use Rattle.std.proofs.lemmas.Bool.Decides.{nat_tests, Decides-eqb}
 use Rattle.std.proofs.lemmas.Bool.{cases_Bool}
-use Rattle.std.proofs.lemmas.List.{append-nil, take_more, take_all, flat_map_more}
+use Rattle.std.proofs.lemmas.List.{append-nil, get_or_default, take_more, take_all, flat_map_more}
 use Rattle.lock_tree.specs.declared.levels.TheConstants.{LEVELS}
 use Rattle.lock_rules.specs.declared.listing.Claim.{Claim as ListedClaim}
 use Rattle.lock_rules.specs.State as rules
@@ -67,7 +67,16 @@ module _ {A : Type 0} (f : A → List Change) where
       let r = splits xs i x lt in
       taken-next n (flat_map f (take i xs)) (f x) r.0 p q Q h k first at
       (subst (λ (cs : List Change). CanChangeAll n cs (state_of_parts first p))
-        (r.1 ∙ ap (λ (y : A). flat_map f (take i xs) ++ (f y ++ r.0)) (sym is)) can)
+      (r.1 ∙ ap (λ (y : A). flat_map f (take i xs) ++ (f y ++ r.0)) (sym is)) can)
+
+  -- the same, of an item at its place
+  pub item-on-at : (n : ℕ) (xs : List A) (i : ℕ) (d : A) → i < length xs → (p q r : TableParts) → DoPartsGoOn n (flat_map f (take i xs)) p q → DoPartsGoOn n (f (get_or xs i d)) q r → DoPartsGoOn n (flat_map f (take (i + 1) xs)) p r
+  item-on-at n xs i d lt p q r h k = item-on n xs i (get_or xs i d) lt (get_or_default xs i d (get_or xs i d) lt) p q r h k
+
+  pub item-taken-at : (n : ℕ) (xs : List A) (i : ℕ) (d : A) → i < length xs → (p q : TableParts) (Q : Type 0) → DoPartsGoOn n (flat_map f (take i xs)) p q
+      → ((first : ℕ) → IsAt q.table (state_of_parts first q) → CanChangeAll n (f (get_or xs i d)) (state_of_parts first q) → Q)
+      → (first : ℕ) → IsAt p.table (state_of_parts first p) → CanChangeAll n (flat_map f xs) (state_of_parts first p) → Q
+  item-taken-at n xs i d lt p q Q h k first at can = item-taken n xs i (get_or xs i d) lt (get_or_default xs i d (get_or xs i d) lt) p q Q h k first at can
 
   -- at the end all items are
   pub items-done : (n : ℕ) (xs : List A) (i : ℕ) → length xs ≤ i → (p q : TableParts) → DoPartsGoOn n (flat_map f (take i xs)) p q → DoPartsGoOn n (flat_map f xs) p q
@@ -81,9 +90,11 @@ up-splits ls k zero lt = absurd (omega (arith, lt))
 up-splits ls k (suc j) lt = elim (cases_Bool (eqb k j)) [
   | inl e ↦ ([], ap (λ (i : ℕ). holdings_up ls i ++ holding_below ls i) (sym ((Decides-eqb k j).0 e)) ∙ ap (λ (cs : List Change). holdings_up ls k ++ cs) (sym (append-nil (holding_below ls k))))
   | inr n ↦ (let below : k < j = grind (arith, nat_tests, n, lt) in
-      let r = up-splits ls k j below in
-      (r.0 ++ holding_below ls j, ap (λ (cs : List Change). cs ++ holding_below ls j) r.1 ∙ (append_assoc (holdings_up ls k) (holding_below ls k ++ r.0) (holding_below ls j)
-        ∙ ap (λ (cs : List Change). holdings_up ls k ++ cs) (append_assoc (holding_below ls k) r.0 (holding_below ls j)))))
+      let r = up-splits ls k j below in (
+        r.0 ++ holding_below ls j,
+        ap (λ (cs : List Change). cs ++ holding_below ls j) r.1 ∙ (append_assoc (holdings_up ls k) (holding_below ls k ++ r.0) (holding_below ls j)
+            ∙ ap (λ (cs : List Change). holdings_up ls k ++ cs) (append_assoc (holding_below ls k) r.0 (holding_below ls j))),
+      ))
 ]
 
 -- those of one level: first those that aren't in U, then those in U
@@ -103,7 +114,7 @@ module _ (n : ℕ) (ls : List ListedClaim) (k : ℕ) where
       let r = up-splits ls k LEVELS lt in
       taken-next n (holdings_up ls k) (flat_map (holding_at (k + 1) false) ls) (flat_map (holding_at (k + 1) true) ls ++ r.0) p q Q h next first at
       (subst (λ (cs : List Change). CanChangeAll n cs (state_of_parts first p))
-        (r.1 ∙ ap (λ (cs : List Change). holdings_up ls k ++ cs) (append_assoc (flat_map (holding_at (k + 1) false) ls) (flat_map (holding_at (k + 1) true) ls) r.0)) can)
+      (r.1 ∙ ap (λ (cs : List Change). holdings_up ls k ++ cs) (append_assoc (flat_map (holding_at (k + 1) false) ls) (flat_map (holding_at (k + 1) true) ls) r.0)) can)
 
   -- and those in U
   pub update-taken : k < LEVELS → (p q r : TableParts) (Q : Type 0) → DoPartsGoOn n (holdings_up ls k) p q → DoPartsGoOn n (flat_map (holding_at (k + 1) false) ls) q r
@@ -114,8 +125,8 @@ module _ (n : ℕ) (ls : List ListedClaim) (k : ℕ) where
       taken-next n (holdings_up ls k ++ flat_map (holding_at (k + 1) false) ls) (flat_map (holding_at (k + 1) true) ls) s.0 p r Q
       (parts-on n (holdings_up ls k) (flat_map (holding_at (k + 1) false) ls) p q r h i) next first at
       (subst (λ (cs : List Change). CanChangeAll n cs (state_of_parts first p))
-        (s.1 ∙ (ap (λ (cs : List Change). holdings_up ls k ++ cs) (append_assoc (flat_map (holding_at (k + 1) false) ls) (flat_map (holding_at (k + 1) true) ls) s.0)
-        ∙ sym (append_assoc (holdings_up ls k) (flat_map (holding_at (k + 1) false) ls) (flat_map (holding_at (k + 1) true) ls ++ s.0)))) can)
+      (s.1 ∙ (ap (λ (cs : List Change). holdings_up ls k ++ cs) (append_assoc (flat_map (holding_at (k + 1) false) ls) (flat_map (holding_at (k + 1) true) ls) s.0)
+      ∙ sym (append_assoc (holdings_up ls k) (flat_map (holding_at (k + 1) false) ls) (flat_map (holding_at (k + 1) true) ls ++ s.0)))) can)
 
 -- all that the lists have
 module _ (n : ℕ) (o h v q : List Change) where
@@ -139,7 +150,7 @@ module _ (n : ℕ) (o h v q : List Change) where
   last-taken a b c d Q i j k next first at can =
       taken-next n (o ++ (h ++ v)) q [] a d Q (parts-on n o (h ++ v) a b d i (parts-on n h v b c d j k)) next first at
       (subst (λ (cs : List Change). CanChangeAll n cs (state_of_parts first a))
-        (ap (λ (cs : List Change). o ++ (h ++ (v ++ cs))) (sym (append-nil q)) ∙ (ap (λ (cs : List Change). o ++ cs) (sym (append_assoc h v (q ++ []))) ∙ sym (append_assoc o (h ++ v) (q ++ [])))) can)
+      (ap (λ (cs : List Change). o ++ (h ++ (v ++ cs))) (sym (append-nil q)) ∙ (ap (λ (cs : List Change). o ++ cs) (sym (append_assoc h v (q ++ []))) ∙ sym (append_assoc o (h ++ v) (q ++ [])))) can)
 
 -- a session that is one of those of the table is refused by no test of its number
 pub one-of : (n s : ℕ) → IsOneOf n s → true ≡ (ltb s 1 || ltb n s) → ⊥

@@ -109,8 +109,7 @@ module _ (n : ℕ) (st : State) (b : IsBetweenCalls st) (l : IsWithinLimits n st
       let x3 : State = after_changes x2 vs in
       let h1 = locks x1 opens.1 in
       let h2 = victims x2 h1.1 in
-      let h3 = requests x3 h2.1 in
-      (
+      let h3 = requests x3 h2.1 in (
         can-both n os (hs ++ (vs ++ qs)) x0 opens.0 (can-both n hs (vs ++ qs) x1 h1.0 (can-both n vs qs x2 h2.0 h3.0)),
         subst (HasRequests st (queued_all st)) (sym (after_changes-append x0 os (hs ++ (vs ++ qs)) ∙ (after_changes-append x1 hs (vs ++ qs) ∙ after_changes-append x2 vs qs))) h3.1,
       )

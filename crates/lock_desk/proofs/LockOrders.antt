@@ -233,7 +233,7 @@ module _ (st : State) (o : IsOrdered st.table.held) where
   listed-complete : (u : ℕ) (y : List ℕ) (k : Mode) → held_mode st.table u y ≡ Some k → In (record { session = u; resource = y; mode = k }) (locks_listed st (listed_resources st))
   listed-complete u y k e =
       let among = among-resources y (st.table.held ++ st.table.requests) ∙ (list_any-append (λ (c : Claim). same_path c.resource y) st.table.held st.table.requests
-          ∙ or_left (list_any (λ c. same_path c.resource y) st.table.held) (list_any (λ c. same_path c.resource y) st.table.requests) (held-there u y k st.table.held e)) in
+      ∙ or_left (list_any (λ c. same_path c.resource y) st.table.held) (list_any (λ c. same_path c.resource y) st.table.requests) (held-there u y k st.table.held e)) in
       listed-there (record { session = u; resource = y; mode = k }) (listed_resources st) among
       (member-map u k y (holders y st.table.held) (contains-member (u, k) (holders y st.table.held) (((holders-listed st o).listed u y k).1 e)))
 
@@ -265,9 +265,9 @@ module _ (st : State) (ls : List Claim) (sound : (c : Claim) → In c ls → hel
   up-rising (suc k) =
       rising-append (locks_up ls k) (filter (at_level (k + 1) false) ls ++ filter (at_level (k + 1) true) ls) (up-rising k)
       (rising-append (filter (at_level (k + 1) false) ls) (filter (at_level (k + 1) true) ls)
-        (rising-same (k + 1 + (k + 1) + 0) (filter (at_level (k + 1) false) ls) (λ c j. (in-level (k + 1) false c j).1))
-        (rising-same (k + 1 + (k + 1) + 1) (filter (at_level (k + 1) true) ls) (λ c j. (in-level (k + 1) true c j).1))
-        (λ c d i j. let a = (in-level (k + 1) false c i).1 in let b = (in-level (k + 1) true d j).1 in omega (arith, a, b)))
+      (rising-same (k + 1 + (k + 1) + 0) (filter (at_level (k + 1) false) ls) (λ c j. (in-level (k + 1) false c j).1))
+      (rising-same (k + 1 + (k + 1) + 1) (filter (at_level (k + 1) true) ls) (λ c j. (in-level (k + 1) true c j).1))
+      (λ c d i j. let a = (in-level (k + 1) false c i).1 in let b = (in-level (k + 1) true d j).1 in omega (arith, a, b)))
       (λ c d i j. let a = (in-up k c i).1 in let b = (in-both k d j).1.0 in omega (arith, a, b))
 
   -- locks at other places are other locks
@@ -287,10 +287,10 @@ module _ (st : State) (ls : List Claim) (sound : (c : Claim) → In c ls → hel
   up-apart a (suc k) =
       apart-append (locks_up ls k) (filter (at_level (k + 1) false) ls ++ filter (at_level (k + 1) true) ls) (up-apart a k)
       (apart-append (filter (at_level (k + 1) false) ls) (filter (at_level (k + 1) true) ls) (apart-filter (at_level (k + 1) false) ls a) (apart-filter (at_level (k + 1) true) ls a)
-        (λ c i. let p = in-level (k + 1) false c i in let x = p.1 in elsewhere c p.0 (filter (at_level (k + 1) true) ls)
-          (λ d j. let q = in-level (k + 1) true d j in let y = q.1 in (q.0, λ e. absurd (omega (arith, x, y, e))))))
+      (λ c i. let p = in-level (k + 1) false c i in let x = p.1 in elsewhere c p.0 (filter (at_level (k + 1) true) ls)
+      (λ d j. let q = in-level (k + 1) true d j in let y = q.1 in (q.0, λ e. absurd (omega (arith, x, y, e))))))
       (λ c i. let p = in-up k c i in let x = p.1 in elsewhere c p.0 (filter (at_level (k + 1) false) ls ++ filter (at_level (k + 1) true) ls)
-        (λ d j. let q = in-both k d j in let y = q.1.0 in (q.0, λ e. absurd (omega (arith, x, y, e)))))
+      (λ d j. let q = in-both k d j in let y = q.1.0 in (q.0, λ e. absurd (omega (arith, x, y, e)))))
 
   up-complete : (c : Claim) → In c ls → 1 ≤ length c.resource → (k : ℕ) → length c.resource ≤ k → In c (locks_up ls k)
   up-complete c i some zero few = absurd (omega (arith, some, few))
@@ -395,7 +395,7 @@ module _ (st : State) where
     where
       go : (b : Bool) → flat_map (holding_at k u) (map (λ h. listed_as st Held (record { session = h.0; resource = r; mode = h.1 })) hs) ≡ map giving (filter (at_level k u) (map (claim_on r) hs))
           → cond b (giving (claim_on r h) ∷ []) [] ++ flat_map (holding_at k u) (map (λ h. listed_as st Held (record { session = h.0; resource = r; mode = h.1 })) hs)
-            ≡ map giving (cond b (claim_on r h ∷ filter (at_level k u) (map (claim_on r) hs)) (filter (at_level k u) (map (claim_on r) hs)))
+          ≡ map giving (cond b (claim_on r h ∷ filter (at_level k u) (map (claim_on r) hs)) (filter (at_level k u) (map (claim_on r) hs)))
       go true next = ap (λ (cs : List Change). giving (claim_on r h) ∷ cs) next
       go false next = next
 
@@ -411,7 +411,7 @@ module _ (st : State) where
   lines-on k u r =
       flat_map-append (holding_at k u) (map (λ h. listed_as st Held (record { session = h.0; resource = r; mode = h.1 })) (holders r st.table.held) ++ map (listed_as st Conversion) (conversions st.table r)) (map (listed_as st Fresh) (fresh_requests st.table r))
       ∙ (ap (λ (cs : List Change). cs ++ flat_map (holding_at k u) (map (listed_as st Fresh) (fresh_requests st.table r)))
-        (flat_map-append (holding_at k u) (map (λ h. listed_as st Held (record { session = h.0; resource = r; mode = h.1 })) (holders r st.table.held)) (map (listed_as st Conversion) (conversions st.table r)))
+      (flat_map-append (holding_at k u) (map (λ h. listed_as st Held (record { session = h.0; resource = r; mode = h.1 })) (holders r st.table.held)) (map (listed_as st Conversion) (conversions st.table r)))
       ∙ ((λ i. (lock-lines k u r (holders r st.table.held) i ++ conversion-lines k u (conversions st.table r) i) ++ fresh-lines k u (fresh_requests st.table r) i)
       ∙ (append-nil (map giving (filter (at_level k u) (map (claim_on r) (holders r st.table.held))) ++ []) ∙ append-nil (map giving (filter (at_level k u) (map (claim_on r) (holders r st.table.held)))))))
 
@@ -428,7 +428,7 @@ module _ (st : State) where
   levels-listed (suc k) =
       (λ i. levels-listed k i ++ (level-lines (k + 1) false (listed_resources st) i ++ level-lines (k + 1) true (listed_resources st) i))
       ∙ (ap (λ (cs : List Change). map giving (locks_up (locks_listed st (listed_resources st)) k) ++ cs)
-        (sym (map-both (filter (at_level (k + 1) false) (locks_listed st (listed_resources st))) (filter (at_level (k + 1) true) (locks_listed st (listed_resources st)))))
+      (sym (map-both (filter (at_level (k + 1) false) (locks_listed st (listed_resources st))) (filter (at_level (k + 1) true) (locks_listed st (listed_resources st)))))
       ∙ sym (map-both (locks_up (locks_listed st (listed_resources st)) k) (filter (at_level (k + 1) false) (locks_listed st (listed_resources st)) ++ filter (at_level (k + 1) true) (locks_listed st (listed_resources st)))))
 
   pub listed-locks : holdings (listing_of st) ≡ map giving (locks_up (locks_listed st (listed_resources st)) LEVELS)

@@ -46,7 +46,7 @@ no-flaw d st s r m w at k =
 pub closes-none : (d e : LockTable) (s : ℕ) (r : List ℕ) (m : Mode) → MayServe s d → HasQueued s r m d e → DoesKeep d e → (st : rules.State) → IsAt d st → CanWait s r m st → Reaches (pairs_of e.waits.rows) (s - 1) (s - 1) → ⊥
 closes-none d e s r m may k kept st at can there =
     let on = cycle-found e kept.whole e.waits kept.ready.filled (queued s r m st) (queued-shown d e st s r m k at.shows)
-        (queued-sound st s r m at.between can.passes can.target) (queued-numbered st s r m at.between can.passes can.target) s may.session.some there in
+    (queued-sound st s r m at.between can.passes can.target) (queued-numbered st s r m at.between can.passes can.target) s may.session.some there in
     true≢false on can.free
 
 -- a lock that can be held isn't held yet

@@ -44,7 +44,7 @@ on-queue : (t : Table) (y x : List ℕ) → filter (on y) (queue t x) ≡ cond (
 on-queue t y x =
     filter-append (on y) (conversions t x) (fresh_requests t x)
     ∙ ((λ i. kept-there y (λ q. same_path q.resource x && is_some (held_mode t q.session x)) (same_path x y) (λ q e. there q (is_some (held_mode t q.session x)) e) t.requests i
-      ++ kept-there y (λ q. same_path q.resource x && not (is_some (held_mode t q.session x))) (same_path x y) (λ q e. there q (not (is_some (held_mode t q.session x))) e) t.requests i)
+    ++ kept-there y (λ q. same_path q.resource x && not (is_some (held_mode t q.session x))) (same_path x y) (λ q e. there q (not (is_some (held_mode t q.session x))) e) t.requests i)
     ∙ both (same_path x y))
   where
     there : (q : Claim) (b : Bool) → (same_path q.resource x && b) ≡ true → on y q ≡ same_path x y
@@ -133,7 +133,7 @@ module _ (st : State) (once : IsOnce st.table.requests) where
           (In-kept (λ c. same_path c.resource q.resource && is_some (held_mode st.table c.session q.resource)) q st.table.requests j (and_from (same_path q.resource q.resource) (is_some (held_mode st.table q.session q.resource)) (same_path-refl q.resource) e))
       go false e = In-right q (conversions st.table q.resource) (fresh_requests st.table q.resource)
           (In-kept (λ c. same_path c.resource q.resource && not (is_some (held_mode st.table c.session q.resource))) q st.table.requests j
-            (and_from (same_path q.resource q.resource) (not (is_some (held_mode st.table q.session q.resource))) (same_path-refl q.resource) (ap not e)))
+          (and_from (same_path q.resource q.resource) (not (is_some (held_mode st.table q.session q.resource))) (same_path-refl q.resource) (ap not e)))
 
   pub there-all : (q : Claim) → In q st.table.requests → In q (queued_all st)
   there-all q j = (In-filter (on q.resource) q (queued_all st) (subst (In q) (sym (queue-kept q.resource)) (in-queue q j))).0
@@ -150,13 +150,13 @@ module _ (st : State) (once : IsOnce st.table.requests) where
           let there = all-there q (request-in u (queued_all st) q e) in
           let session = request_of-session u (queued_all st) q e in
           let kept = times-kept u (on q.resource) (queued_all st) (λ c j s.
-              let same : Some c ≡ Some q = sym (own c (all-there c j)) ∙ (ap (λ (v : ℕ). request_of v st.table.requests) (s ∙ sym session) ∙ own q there) in
-              let is : c ≡ q = cc in
-              ap (on q.resource) is ∙ same_path-refl q.resource) in
+          let same : Some c ≡ Some q = sym (own c (all-there c j)) ∙ (ap (λ (v : ℕ). request_of v st.table.requests) (s ∙ sym session) ∙ own q there) in
+          let is : c ≡ q = cc in
+          ap (on q.resource) is ∙ same_path-refl q.resource) in
           let counted = ap (times u) (queue-kept q.resource) in
           let both = times-append u (conversions st.table q.resource) (fresh_requests st.table q.resource) in
           let few = times-apart u (λ c. same_path c.resource q.resource && is_some (held_mode st.table c.session q.resource)) (λ c. same_path c.resource q.resource && not (is_some (held_mode st.table c.session q.resource))) st.table.requests
-              (λ c h. other (same_path c.resource q.resource) (is_some (held_mode st.table c.session q.resource)) h) in
+          (λ c h. other (same_path c.resource q.resource) (is_some (held_mode st.table c.session q.resource)) h) in
           omega (arith, kept, counted, both, few, once u)
         where
           other : (a b : Bool) → (a && b) ≡ true → (a && not b) ≡ false
@@ -202,7 +202,7 @@ module _ (st : State) where
   lines-on r =
       flat_map-append queueing_if (map (λ h. listed_as st Held (record { session = h.0; resource = r; mode = h.1 })) (holders r st.table.held) ++ map (listed_as st Conversion) (conversions st.table r)) (map (listed_as st Fresh) (fresh_requests st.table r))
       ∙ (ap (λ (cs : List Change). cs ++ flat_map queueing_if (map (listed_as st Fresh) (fresh_requests st.table r)))
-        (flat_map-append queueing_if (map (λ h. listed_as st Held (record { session = h.0; resource = r; mode = h.1 })) (holders r st.table.held)) (map (listed_as st Conversion) (conversions st.table r)))
+      (flat_map-append queueing_if (map (λ h. listed_as st Held (record { session = h.0; resource = r; mode = h.1 })) (holders r st.table.held)) (map (listed_as st Conversion) (conversions st.table r)))
       ∙ ((λ i. (lock-lines r (holders r st.table.held) i ++ conversion-lines (conversions st.table r) i) ++ fresh-lines (fresh_requests st.table r) i)
       ∙ sym (map-both (conversions st.table r) (fresh_requests st.table r))))
 

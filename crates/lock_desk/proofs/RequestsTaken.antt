@@ -269,8 +269,19 @@ module _ (st whole : State) (f g : List Claim) (s : ℕ) (r : List ℕ) (m : Mod
   pub next-passes : first_failing (tests st s (Lock r m)) ≡ None
   next-passes =
       let under = b.sound.asked_under s (new s r m) there in
-      none-failing (tests st s (Lock r m)) (ap not opened, (ap is_some none-yet, (well, (under.1,
-        (ap (lacks_parent st.table s r) next-target ∙ lacks-same whole.table st.table s r m (n.held s (parent_of r)) under.0, (few, tt))))))
+      none-failing (tests st s (Lock r m)) (
+        ap not opened,
+        (
+          ap is_some none-yet,
+          (
+            well,
+            (
+              under.1,
+              (ap (lacks_parent st.table s r) next-target ∙ lacks-same whole.table st.table s r m (n.held s (parent_of r)) under.0, (few, tt)),
+            ),
+          ),
+        ),
+      )
     where
       opened : is_open st s ≡ true
       opened = ap is_some (n.begun s) ∙ b.numbered.owners.waiting s (new s r m) there

@@ -65,14 +65,14 @@ conversions-kept : (t : Table) (y : List ℕ) → filter (λ c. is_some (held_mo
 conversions-kept t y =
     filter-append (λ c. is_some (held_mode t c.session y)) (conversions t y) (fresh_requests t y)
     ∙ ((λ i. kept-same (λ c. is_some (held_mode t c.session y)) (λ q. same_path q.resource y && is_some (held_mode t q.session y)) (λ q e. (and_parts (same_path q.resource y) (is_some (held_mode t q.session y)) e).1) t.requests i
-      ++ kept-none (λ c. is_some (held_mode t c.session y)) (λ q. same_path q.resource y && not (is_some (held_mode t q.session y))) (λ q e. not-true (is_some (held_mode t q.session y)) (and_parts (same_path q.resource y) (not (is_some (held_mode t q.session y))) e).1) t.requests i)
+    ++ kept-none (λ c. is_some (held_mode t c.session y)) (λ q. same_path q.resource y && not (is_some (held_mode t q.session y))) (λ q e. not-true (is_some (held_mode t q.session y)) (and_parts (same_path q.resource y) (not (is_some (held_mode t q.session y))) e).1) t.requests i)
     ∙ append-nil (conversions t y))
 
 fresh-kept : (t : Table) (y : List ℕ) → filter (λ c. not (is_some (held_mode t c.session y))) (queue t y) ≡ fresh_requests t y
 fresh-kept t y =
     filter-append (λ c. not (is_some (held_mode t c.session y))) (conversions t y) (fresh_requests t y)
     ∙ (λ i. kept-none (λ c. not (is_some (held_mode t c.session y))) (λ q. same_path q.resource y && is_some (held_mode t q.session y)) (λ q e. ap not (and_parts (same_path q.resource y) (is_some (held_mode t q.session y)) e).1) t.requests i
-      ++ kept-same (λ c. not (is_some (held_mode t c.session y))) (λ q. same_path q.resource y && not (is_some (held_mode t q.session y))) (λ q e. (and_parts (same_path q.resource y) (not (is_some (held_mode t q.session y))) e).1) t.requests i)
+    ++ kept-same (λ c. not (is_some (held_mode t c.session y))) (λ q. same_path q.resource y && not (is_some (held_mode t q.session y))) (λ q e. (and_parts (same_path q.resource y) (not (is_some (held_mode t q.session y))) e).1) t.requests i)
 
 -- which resources are listed
 

@@ -91,14 +91,15 @@ module _ (n : ℕ) (whole : State) (b : IsBetweenCalls whole) (within : (s : ℕ
     where
       go : (o : Option Transaction) → whole.begun a ≡ o
           → ((y : State) → HasOpens whole (a + 1) y → CanChangeAll n (flat_map opening (flat_map (λ s. open_in s (whole.begun s)) (range_with_len (a + 1) k))) y
-            × HasOpens whole (a + 1 + k) (after_changes y (flat_map opening (flat_map (λ s. open_in s (whole.begun s)) (range_with_len (a + 1) k)))))
+          × HasOpens whole (a + 1 + k) (after_changes y (flat_map opening (flat_map (λ s. open_in s (whole.begun s)) (range_with_len (a + 1) k)))))
           → CanChangeAll n (flat_map opening (open_in a o ++ flat_map (λ s. open_in s (whole.begun s)) (range_with_len (a + 1) k))) x
-            × HasOpens whole (a + suc k) (after_changes x (flat_map opening (open_in a o ++ flat_map (λ s. open_in s (whole.begun s)) (range_with_len (a + 1) k))))
+          × HasOpens whole (a + suc k) (after_changes x (flat_map opening (open_in a o ++ flat_map (λ s. open_in s (whole.begun s)) (range_with_len (a + 1) k))))
       go None e next = let r = next x (skipped a x h e) in (r.0, subst (λ (i : ℕ). HasOpens whole i (after_changes x (flat_map opening (flat_map (λ s. open_in s (whole.begun s)) (range_with_len (a + 1) k))))) (omega arith) r.1)
       go (Some t) e next =
-          let r = next (opened a t.number x) (added a t x h e) in
-          (((within a (ap is_some e), can-open a t x h e), r.0),
-          subst (λ (i : ℕ). HasOpens whole i (after_changes (opened a t.number x) (flat_map opening (flat_map (λ s. open_in s (whole.begun s)) (range_with_len (a + 1) k))))) (omega arith) r.1)
+          let r = next (opened a t.number x) (added a t x h e) in (
+            ((within a (ap is_some e), can-open a t x h e), r.0),
+            subst (λ (i : ℕ). HasOpens whole i (after_changes (opened a t.number x) (flat_map opening (flat_map (λ s. open_in s (whole.begun s)) (range_with_len (a + 1) k))))) (omega arith) r.1,
+          )
 
 -- the state has the open transactions of another, those of sessions before `a` as victims if they are, and its locks, but no request
 pub record HasVictims (whole : State) (a : ℕ) (x : State) : Type 0 where
@@ -154,9 +155,9 @@ module _ (n : ℕ) (whole : State) (within : (s : ℕ) → is_open whole s ≡ t
     where
       go : (o : Option Transaction) → whole.begun a ≡ o
           → ((y : State) → HasVictims whole (a + 1) y → CanChangeAll n (flat_map dooming (flat_map (λ s. open_in s (whole.begun s)) (range_with_len (a + 1) k))) y
-            × HasVictims whole (a + 1 + k) (after_changes y (flat_map dooming (flat_map (λ s. open_in s (whole.begun s)) (range_with_len (a + 1) k)))))
+          × HasVictims whole (a + 1 + k) (after_changes y (flat_map dooming (flat_map (λ s. open_in s (whole.begun s)) (range_with_len (a + 1) k)))))
           → CanChangeAll n (flat_map dooming (open_in a o ++ flat_map (λ s. open_in s (whole.begun s)) (range_with_len (a + 1) k))) x
-            × HasVictims whole (a + suc k) (after_changes x (flat_map dooming (open_in a o ++ flat_map (λ s. open_in s (whole.begun s)) (range_with_len (a + 1) k))))
+          × HasVictims whole (a + suc k) (after_changes x (flat_map dooming (open_in a o ++ flat_map (λ s. open_in s (whole.begun s)) (range_with_len (a + 1) k))))
       go None e next =
           let r = next x (kept a x h (ap restarted e ∙ sym e)) in
           (r.0, subst (λ (i : ℕ). HasVictims whole i (after_changes x (flat_map dooming (flat_map (λ s. open_in s (whole.begun s)) (range_with_len (a + 1) k))))) (omega arith) r.1)
@@ -164,7 +165,7 @@ module _ (n : ℕ) (whole : State) (within : (s : ℕ) → is_open whole s ≡ t
         where
           victim : (d : Bool) → t.doomed ≡ d
               → CanChangeAll n (cond d (Doomed a ∷ []) [] ++ flat_map dooming (flat_map (λ s. open_in s (whole.begun s)) (range_with_len (a + 1) k))) x
-                × HasVictims whole (a + suc k) (after_changes x (cond d (Doomed a ∷ []) [] ++ flat_map dooming (flat_map (λ s. open_in s (whole.begun s)) (range_with_len (a + 1) k))))
+              × HasVictims whole (a + suc k) (after_changes x (cond d (Doomed a ∷ []) [] ++ flat_map dooming (flat_map (λ s. open_in s (whole.begun s)) (range_with_len (a + 1) k))))
           victim false f =
               let r = next x (kept a x h (ap restarted e ∙ (ap (λ (d : Bool). Some (record { number = t.number; doomed = d })) (sym f) ∙ sym e))) in
               (r.0, subst (λ (i : ℕ). HasVictims whole i (after_changes x (flat_map dooming (flat_map (λ s. open_in s (whole.begun s)) (range_with_len (a + 1) k))))) (omega arith) r.1)

@@ -177,6 +177,8 @@ impl ResumedTable {
     ///
     /// `sessions` is from 1 to `MAX_SESSIONS`. Whatever tells a state of a lock table by `Book::locks` and `Book::transaction` tells it by such
     /// lists. Fails with a flaw if they describe no state between two calls, or if memory is refused.
+    ///
+    /// Lists of a state within the limits (`IsWithinLimits`), its open transactions by session number, are refused by nothing but memory.
     pub fn of_lists(
         alloc: Global,
         sessions: u16,

@@ -22,5 +22,5 @@ loop-before-preserved c = λ s some few.
 
 pub returns-then-is_other_transaction-clause-told : goal.returns-then-is_other_transaction-clause-told
 returns-then-is_other_transaction-clause-told c = λ each.
-    let here = each (c.loop-before.before + 1) (omega arith) (omega (arith, c.loop-before-test.true, c.sessions.ensures.sessions)) in
+    let here = each (c.loop-before.before + 1) (omega arith) (omega (arith, c.loop-before-test.true, c.sessions-sessions.ensures.sessions)) in
     absurd (true≢false c.if-is_other_transaction.true (c.is_other_transaction.ensures.same (c.transaction-told.ensures ∙ (here ∙ sym c.transaction_among-listed.ensures))))

@@ -29,21 +29,21 @@ pub returns-in_err-enter_locks-clause-taken : goal.returns-in_err-enter_locks-cl
 returns-in_err-enter_locks-clause-taken c = λ first at can.
     passed-err (λ (flaw : Flaw). flaw ≡ NoMemory) c.from_residual-in_err-enter_locks.result c.in_err-enter_locks.field-0.0 c.from_residual-in_err-enter_locks.ensures.1
     (second-taken c.args.sessions (flat_map opening c.args.opens.now) (holdings c.args.claims.now) (flat_map dooming c.args.opens.now) (flat_map queueing_if c.args.claims.now)
-      c.args.parts.now c.enter_transactions.new.parts (c.in_err-enter_locks.field-0.0 ≡ NoMemory) c.in_ok-enter_transactions.ensures.entered c.in_err-enter_locks.ensures.taken first at can)
+    c.args.parts.now c.enter_transactions.new.parts (c.in_err-enter_locks.field-0.0 ≡ NoMemory) c.in_ok-enter_transactions.ensures.entered c.in_err-enter_locks.ensures.taken first at can)
 
 pub returns-in_err-enter_victims-clause-taken : goal.returns-in_err-enter_victims-clause-taken
 returns-in_err-enter_victims-clause-taken c = λ first at can.
     passed-err (λ (flaw : Flaw). flaw ≡ NoMemory) c.from_residual-in_err-enter_victims.result c.in_err-enter_victims.field-0.0 c.from_residual-in_err-enter_victims.ensures.1
     (third-taken c.args.sessions (flat_map opening c.args.opens.now) (holdings c.args.claims.now) (flat_map dooming c.args.opens.now) (flat_map queueing_if c.args.claims.now)
-      c.args.parts.now c.enter_transactions.new.parts c.enter_locks.new.parts (c.in_err-enter_victims.field-0.0 ≡ NoMemory) c.in_ok-enter_transactions.ensures.entered c.in_ok-enter_locks.ensures.entered
-      c.in_err-enter_victims.ensures.taken first at can)
+    c.args.parts.now c.enter_transactions.new.parts c.enter_locks.new.parts (c.in_err-enter_victims.field-0.0 ≡ NoMemory) c.in_ok-enter_transactions.ensures.entered c.in_ok-enter_locks.ensures.entered
+    c.in_err-enter_victims.ensures.taken first at can)
 
 pub returns-clause-entered : goal.returns-clause-entered
 returns-clause-entered c =
     to-ok c.enter_requests.result _ _ c.enter_requests.ensures.entered (λ waits.
-      all-on c.args.sessions (flat_map opening c.args.opens.now) (holdings c.args.claims.now) (flat_map dooming c.args.opens.now) (flat_map queueing_if c.args.claims.now)
-      c.args.parts.now c.enter_transactions.new.parts c.enter_locks.new.parts c.enter_victims.new.parts c.enter_requests.new.parts
-      c.in_ok-enter_transactions.ensures.entered c.in_ok-enter_locks.ensures.entered c.in_ok-enter_victims.ensures.entered waits)
+    all-on c.args.sessions (flat_map opening c.args.opens.now) (holdings c.args.claims.now) (flat_map dooming c.args.opens.now) (flat_map queueing_if c.args.claims.now)
+    c.args.parts.now c.enter_transactions.new.parts c.enter_locks.new.parts c.enter_victims.new.parts c.enter_requests.new.parts
+    c.in_ok-enter_transactions.ensures.entered c.in_ok-enter_locks.ensures.entered c.in_ok-enter_victims.ensures.entered waits)
 
 pub returns-clause-taken : goal.returns-clause-taken
 returns-clause-taken c = λ first at can.

@@ -27,13 +27,13 @@ pub returns-in_err-enter_locks_at-clause-taken : goal.returns-in_err-enter_locks
 returns-in_err-enter_locks_at-clause-taken c = λ first at can.
     passed-err (λ (flaw : Flaw). flaw ≡ NoMemory) c.from_residual.result c.in_err-enter_locks_at.field-0.0 c.from_residual.ensures.1
     (plain-taken c.args.sessions c.args.claims.now c.loop-above.above c.loop-above-test.true c.args.parts.now c.loop-above.parts (c.in_err-enter_locks_at.field-0.0 ≡ NoMemory)
-      c.loop-above.invariant c.in_err-enter_locks_at.ensures.taken first at can)
+    c.loop-above.invariant c.in_err-enter_locks_at.ensures.taken first at can)
 
 pub returns-in_err-enter_locks_at-2-clause-taken : goal.returns-in_err-enter_locks_at-2-clause-taken
 returns-in_err-enter_locks_at-2-clause-taken c = λ first at can.
     passed-err (λ (flaw : Flaw). flaw ≡ NoMemory) c.from_residual-in_err-enter_locks_at-2.result c.in_err-enter_locks_at-2.field-0.0 c.from_residual-in_err-enter_locks_at-2.ensures.1
     (update-taken c.args.sessions c.args.claims.now c.loop-above.above c.loop-above-test.true c.args.parts.now c.loop-above.parts c.enter_locks_at.new.parts (c.in_err-enter_locks_at-2.field-0.0 ≡ NoMemory)
-      c.loop-above.invariant c.in_ok-enter_locks_at.ensures.entered c.in_err-enter_locks_at-2.ensures.taken first at can)
+    c.loop-above.invariant c.in_ok-enter_locks_at.ensures.entered c.in_err-enter_locks_at-2.ensures.taken first at can)
 
 pub returns-clause-entered : goal.returns-clause-entered
 returns-clause-entered c =

@@ -6,4 +6,4 @@ use Rattle.lock_desk.proofs.resuming.enter_requests.Given as goal
 
 -- what was entered so far goes on from the parts at first
 abbrev pub invariant-loop-claim : goal.invariant-loop-claim
-invariant-loop-claim l = DoPartsGoOn l.sessions (flat_map (queueing_if) (take l.claim-index l.claims)) l.fn.parts l.parts
+invariant-loop-claim l = DoPartsGoOn l.sessions (flat_map queueing_if (take l.claim-index l.claims)) l.fn.parts l.parts

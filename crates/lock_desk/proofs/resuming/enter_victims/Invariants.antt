@@ -6,4 +6,4 @@ use Rattle.lock_desk.proofs.resuming.enter_victims.Given as goal
 
 -- what was entered so far goes on from the parts at first
 abbrev pub invariant-loop-begun : goal.invariant-loop-begun
-invariant-loop-begun l = DoPartsGoOn l.sessions (flat_map (dooming) (take l.begun-index l.opens)) l.fn.parts l.parts
+invariant-loop-begun l = DoPartsGoOn l.sessions (flat_map dooming (take l.begun-index l.opens)) l.fn.parts l.parts

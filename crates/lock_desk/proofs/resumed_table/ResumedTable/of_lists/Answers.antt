@@ -34,8 +34,8 @@ returns-in_err-enter_all-clause-taken c = λ st listed open_ limits.
     let empty = ap (after_changes (none_open c.args.count)) made.changes in
     passed-err (λ (flaw : Flaw). flaw ≡ NoMemory) c.from_residual-in_err-enter_all.result c.in_err-enter_all.field-0.0 c.from_residual-in_err-enter_all.ensures.1
     (c.in_err-enter_all.ensures.taken c.args.count
-      (subst (λ (cs : List Change). IsAt c.in_ok-parts.parts.table (after_changes (none_open c.args.count) cs)) (sym made.changes) made.at)
-      (parts-taken c.args.sessions c.args.count c.args.opens.now c.args.claims.now st listed open_ limits c.in_ok-parts.parts empty))
+    (subst (λ (cs : List Change). IsAt c.in_ok-parts.parts.table (after_changes (none_open c.args.count) cs)) (sym made.changes) made.at)
+    (parts-taken c.args.sessions c.args.count c.args.opens.now c.args.claims.now st listed open_ limits c.in_ok-parts.parts empty))
 
 pub returns-in_err-made-clause-taken : goal.returns-in_err-made-clause-taken
 returns-in_err-made-clause-taken c = λ st listed open_ limits. if-err (λ (flaw : Flaw). flaw ≡ NoMemory) c.from_residual-in_err-made.result c.from_residual-in_err-made.ensures.1
@@ -56,7 +56,7 @@ returns-clause-taken c = λ st listed open_ limits.
     let x = state_now c.in_ok-made.made in
     let is = c.in_ok-made.ensures.state in
     absurd (true≢false
-      (c.in_ok-told.ensures.told (told-count n k os ls st listed open_ limits p empty q on x is)
-        (λ s some few. told-open n k os ls st listed open_ limits p empty q on x is s some (subst (λ (m : ℕ). s ≤ m) c.in_ok-made.ensures.sessions few))
-        (told-lines n k os ls st listed open_ limits p empty q on x is))
-      c.if-told.false)
+    (c.in_ok-told.ensures.told (told-count n k os ls st listed open_ limits p empty q on x is)
+    (λ s some few. told-open n k os ls st listed open_ limits p empty q on x is s some (subst (λ (m : ℕ). s ≤ m) c.in_ok-made.ensures.sessions few))
+    (told-lines n k os ls st listed open_ limits p empty q on x is))
+    c.if-told.false)
