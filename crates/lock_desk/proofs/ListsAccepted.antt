@@ -1,9 +1,8 @@
 -- The lists of a state are accepted: all that they have can be entered, and what the table tells then are these lists.
-use Rattle.std.proofs.Common.{◌≡◌, ℕ, ◌≤◌, List, refl, sym, ◌∙◌, ap, subst}
+use Rattle.std.proofs.Common.{◌≡◌, ℕ, ◌≤◌, List, sym, ◌∙◌, ap, subst}
 use Rattle.lock_rules.specs.declared.listing.Claim.{Claim as ListedClaim}
 use Rattle.lock_rules.specs.Listing.{listing_of}
 use Rattle.lock_rules.specs.State.{State}
-use Rattle.lock_desk.specs.declared.change.Change.{Change}
 use Rattle.lock_desk.specs.declared.open_session.OpenSession.{OpenSession}
 use Rattle.lock_desk.specs.declared.table_parts.TableParts.{TableParts}
 use Rattle.lock_desk.specs.Resumed.{none_open, opens_in, transaction_among, after_changes, IsListed, IsWithinLimits}

@@ -1,9 +1,7 @@
 -- What lists of a state have can be entered, all of it, into a state in which no transaction is open.
-use Rattle.std.proofs.Common.{◌≡◌, ℕ, ◌+◌, ◌<◌, ◌≤◌, Bool, true, false, cond, ltb, inl, inr, List, [], ◌∷◌, ◌++◌, map, Option, Some, None, is_some, refl, sym, ◌∙◌, ap, subst, arith}
+use Rattle.std.proofs.Common.{◌≡◌, ℕ, ◌+◌, Bool, true, false, cond, ltb, List, [], ◌++◌, Option, Some, None, is_some, refl, sym, ◌∙◌, ap, subst, arith}
 use Rattle.std.specs.List.{flat_map}
 use Rattle.std.proofs.lemmas.Bool.Decides.{nat_tests}
-use Rattle.std.proofs.lemmas.Bool.{cases_Bool}
-use Rattle.lock_modes.specs.declared.Mode.{Mode}
 use Rattle.lock_rules.specs.declared.calls.Transaction.{Transaction}
 use Rattle.lock_rules.specs.Listing.{listing_of}
 use Rattle.lock_rules.specs.State.{Table, State, held_mode, is_open}
@@ -14,9 +12,9 @@ use Rattle.lock_desk.specs.Resumed.{none_open, opens_in, after_changes, IsBetwee
 use Rattle.lock_desk.specs.inner.Entering.{opening, dooming, queueing_if, holdings, entering, IsOneOf, CanChangeAll}
 use Rattle.lock_desk.proofs.EnteredParts.{can-both, after_changes-append}
 use Rattle.lock_desk.proofs.LockOrders.{locks_all, lock-order, listed-locks}
-use Rattle.lock_desk.proofs.LocksEntered.{HasLocks, giving, locks-taken}
+use Rattle.lock_desk.proofs.LocksEntered.{HasLocks, locks-taken}
 use Rattle.lock_desk.proofs.RequestOrders.{queued_all, request-order, listed-requests}
-use Rattle.lock_desk.proofs.RequestsEntered.{HasRequests, CanBeAsked, asking, requests-taken}
+use Rattle.lock_desk.proofs.RequestsEntered.{HasRequests, CanBeAsked, requests-taken}
 use Rattle.lock_desk.proofs.TransactionsEntered.{HasOpens, HasVictims, opens-taken, victims-taken}
 
 module _ (n : ℕ) (st : State) (b : IsBetweenCalls st) (l : IsWithinLimits n st) where

@@ -1,5 +1,5 @@
 -- The locks of a listing, level by level and on each level those in U last, are in an order in which they can be entered.
-use Rattle.std.proofs.Common.{◌≡◌, ℕ, zero, suc, ◌+◌, ◌<◌, ◌≤◌, Bool, true, false, cond, not, ◌&&◌, ◌||◌, eqb, inl, inr, List, [], ◌∷◌, ◌++◌, length, map, filter, Option, Some, None, is_some, refl, sym, ◌∙◌, ap, subst, arith}
+use Rattle.std.proofs.Common.{◌≡◌, ℕ, zero, suc, ◌+◌, ◌≤◌, Bool, true, false, cond, not, ◌&&◌, ◌||◌, eqb, inl, inr, List, [], ◌∷◌, ◌++◌, length, map, filter, Option, Some, None, is_some, refl, sym, ◌∙◌, ap, subst, arith}
 use Rattle.std.specs.List.{list_any, flat_map}
 use Rattle.std.proofs.lemmas.Bool.Decides.{nat_tests, Decides-eqb}
 use Rattle.std.proofs.lemmas.Bool.{and_parts, and_from, and_right, or_parts, or_left, not-true, cases_Bool}
@@ -20,7 +20,7 @@ use Rattle.lock_rules.proofs.Lists.{eqb-refl, same_path-refl, same_path-true, sa
 use Rattle.lock_rules.proofs.Once.{holders-listed}
 use Rattle.lock_rules.proofs.ResourceOrder.{is_among, precedes, rise, not-behind}
 use Rattle.lock_desk.specs.declared.change.Change.{Change}
-use Rattle.lock_desk.specs.inner.Entering.{is_update, holding_at, holding_below, holdings_up, holdings}
+use Rattle.lock_desk.specs.inner.Entering.{is_update, holding_at, holdings_up, holdings}
 use Rattle.lock_desk.proofs.LocksEntered.{IsLockOrder, giving, own-claim}
 use Rattle.lock_desk.proofs.RequestOrders.{In-kept, In-left, In-right, among-resources, rise-resources}
 use Rattle.lock_desk.proofs.RequestsTaken.{middle-in}

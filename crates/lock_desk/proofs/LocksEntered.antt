@@ -6,9 +6,8 @@ use Rattle.std.proofs.lemmas.List.{append-nil}
 use Rattle.lock_modes.specs.declared.Mode.{Mode}
 use Rattle.lock_tree.specs.Paths.{same_path, has_parent, parent_of}
 use Rattle.lock_rules.specs.declared.calls.Call.TheVariants.{Try}
-use Rattle.lock_rules.specs.declared.calls.TheConstants.{MAX_LOCKS}
 use Rattle.lock_rules.specs.declared.calls.Transaction.{Transaction}
-use Rattle.lock_rules.specs.State.{Claim, State, mode_in, held_mode, claims_of, claims_but, doomed_in, is_open, is_doomed}
+use Rattle.lock_rules.specs.State.{Claim, State, mode_in, held_mode, claims_of, claims_but, doomed_in, is_open}
 use Rattle.lock_rules.specs.Queue.{locks_but, with_lock}
 use Rattle.lock_rules.specs.Laws.{AreLocksBounded}
 use Rattle.lock_rules.specs.Sound.{IsOrdered}

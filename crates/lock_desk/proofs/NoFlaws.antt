@@ -1,5 +1,5 @@
 -- What can be entered into the state that a lock table represents has no flaw in the lock table.
-use Rattle.std.proofs.Common.{◌≡◌, ℕ, zero, suc, ◌-◌, Bool, true, false, eqb, inl, inr, List, [], ◌∷◌, map, Option, Some, None, is_some, refl, sym, ◌∙◌, ap, arith}
+use Rattle.std.proofs.Common.{◌≡◌, ℕ, zero, suc, ◌-◌, true, false, eqb, inl, inr, List, [], ◌∷◌, map, Option, Some, None, is_some, refl, sym, ◌∙◌, ap, arith}
 use Rattle.std.specs.List.{list_any}
 use Rattle.std.proofs.lemmas.Bool.{or_cases}
 use Rattle.std.proofs.lemmas.Bool.Decides.{Decides-eqb}
@@ -9,14 +9,13 @@ use Rattle.lock_modes.specs.declared.Mode.{Mode}
 use Rattle.lock_rules.specs.declared.calls.Call.TheVariants.{Lock}
 use Rattle.lock_rules.specs.declared.calls.Transaction.{Transaction}
 use Rattle.lock_rules.specs.State as rules
-use Rattle.lock_rules.specs.Waits.{reaches}
 use Rattle.lock_rules.specs.Step.{is_held, target_of, first_failing}
 use Rattle.lock_rules.proofs.Alters.{true≢false}
 use Rattle.lock_rules.proofs.Steps.{front-passes}
 use Rattle.lock_desk.specs.declared.lockers.Locker.{Locker}
 use Rattle.lock_desk.specs.declared.lock_table.LockTable.{LockTable}
 use Rattle.lock_desk.specs.Resumed.{queued}
-use Rattle.lock_desk.specs.inner.Changes.{view_at, mode_held, idle_tests, lock_tests, call_tests, IsWhole, DoesKeep, MayServe}
+use Rattle.lock_desk.specs.inner.Changes.{mode_held, idle_tests, lock_tests, call_tests, IsWhole, DoesKeep, MayServe}
 use Rattle.lock_desk.specs.inner.Entering.{CanOpen, CanHold, CanWait, HasNoFlaw}
 use Rattle.lock_desk.specs.inner.Lockers.{standing_of, standings_of, standing_at}
 use Rattle.lock_desk.specs.inner.Queueing.{HasQueued}

@@ -1,14 +1,14 @@
 -- The requests of a state are entered in an order in which each queue is in its own: each can wait.
-use Rattle.std.proofs.Common.{◌≡◌, ℕ, ◌<◌, ◌≤◌, true, false, List, [], ◌∷◌, ◌++◌, length, map, filter, Option, Some, None, is_some, refl, sym, ◌∙◌, ap, subst, arith, append_assoc}
+use Rattle.std.proofs.Common.{◌≡◌, ℕ, ◌<◌, true, false, List, [], ◌∷◌, ◌++◌, length, map, filter, Option, Some, None, is_some, sym, ◌∙◌, ap, subst, arith, append_assoc}
 use Rattle.std.proofs.lemmas.List.{append-nil}
 use Rattle.lock_modes.specs.declared.Mode.{Mode}
 use Rattle.lock_rules.specs.declared.calls.TheConstants.{MAX_LOCKS}
 use Rattle.lock_rules.specs.State.{Claim, State, held_mode, request_of, claims_of, is_open}
-use Rattle.lock_rules.specs.Queue.{queue, with_request}
+use Rattle.lock_rules.specs.Queue.{queue}
 use Rattle.lock_rules.specs.Laws.{DoDoomedWaitForNothing}
 use Rattle.lock_rules.specs.Sound.{IsOnce, IsOrdered}
 use Rattle.lock_rules.specs.Step.{is_held}
-use Rattle.lock_rules.proofs.Lists.{In, In-request}
+use Rattle.lock_rules.proofs.Lists.{In-request}
 use Rattle.lock_desk.specs.declared.change.Change.{Change}
 use Rattle.lock_desk.specs.declared.change.Change.TheVariants.{Queued}
 use Rattle.lock_desk.specs.Resumed.{IsBetweenCalls, queued, after_changes}

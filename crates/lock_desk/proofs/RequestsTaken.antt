@@ -1,6 +1,6 @@
 -- The requests of a state are entered in the order of its queues: each passes its tests beside those before it, isn't needless, and closes no
 -- cycle.
-use Rattle.std.proofs.Common.{◌≡◌, ℕ, ◌+◌, ◌<◌, ◌≤◌, Bool, true, false, cond, not, eqb, leb, ◌&&◌, ◌||◌, inl, inr, List, [], ◌∷◌, ◌++◌, length, Option, Some, None, is_some, filter, refl, sym, ◌∙◌, ap, subst, arith, append_assoc}
+use Rattle.std.proofs.Common.{◌≡◌, ℕ, ◌+◌, ◌<◌, Bool, true, false, cond, not, eqb, leb, ◌&&◌, ◌||◌, inl, inr, List, [], ◌∷◌, ◌++◌, length, Option, Some, None, is_some, filter, refl, sym, ◌∙◌, ap, subst, arith, append_assoc}
 use Rattle.std.proofs.lemmas.Bool.Decides.{nat_tests}
 use Rattle.std.proofs.lemmas.Bool.{and_left, and_right, and_parts, and_from, or_cases, or_left, or_right, cases_Bool, not-true}
 use Rattle.std.proofs.lemmas.List.{append-nil}
@@ -10,10 +10,9 @@ use Rattle.lock_modes.specs.Order.{at_or_below, sup_of}
 use Rattle.lock_modes.proofs.Every.{every2-at, implied}
 use Rattle.lock_modes.proofs.Order.{at_or_below-antisym}
 use Rattle.lock_tree.specs.Paths.{same_path, parent_of}
-use Rattle.waits_for.specs.Walks.{Reaches}
 use Rattle.lock_rules.specs.declared.calls.Call.TheVariants.{Lock}
 use Rattle.lock_rules.specs.declared.calls.TheConstants.{MAX_LOCKS}
-use Rattle.lock_rules.specs.State.{Claim, Table, State, held_mode, mode_or_nothing, request_of, claims_of, is_open, is_waiting, is_doomed, doomed_in}
+use Rattle.lock_rules.specs.State.{Claim, Table, State, held_mode, mode_or_nothing, request_of, claims_of, is_open, is_doomed, doomed_in}
 use Rattle.lock_rules.specs.Queue.{fits, conversions, fresh_requests, queue, is_empty, is_granted_at_once, with_request}
 use Rattle.lock_rules.specs.Waits.{conflicts, stands_before, keeps_waiting, waits_for, reaches}
 use Rattle.lock_rules.specs.Step.{target_of, lacks_parent, tests, first_failing}
@@ -22,7 +21,6 @@ use Rattle.lock_rules.specs.Laws.{DoDoomedWaitForNothing}
 use Rattle.lock_rules.proofs.Alters.{true≢false, walk-wider}
 use Rattle.lock_rules.proofs.Begins.{new}
 use Rattle.lock_rules.proofs.Lists.{eqb-refl, same_path-refl, times-append, none-times, In, In-request}
-use Rattle.lock_rules.proofs.Marks.{below-sup}
 use Rattle.lock_rules.proofs.Settle.{reached-walk}
 use Rattle.lock_rules.proofs.Sound.{lacks-same, unfit-some, fits-tells}
 use Rattle.lock_desk.specs.Resumed.{IsBetweenCalls}

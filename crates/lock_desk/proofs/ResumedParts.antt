@@ -1,5 +1,5 @@
 -- What is added to a lock table that is put into a given state: it goes on representing a state between two calls.
-use Rattle.std.proofs.Common.{◌≡◌, ℕ, zero, suc, ◌-◌, ◌≤◌, Bool, true, false, eqb, ltb, ◌||◌, List, [], ◌∷◌, ◌++◌, map, Option, Some, None, is_some, refl, sym, ◌∙◌, ap, subst, arith, append_assoc}
+use Rattle.std.proofs.Common.{◌≡◌, ℕ, zero, suc, ◌-◌, true, false, eqb, ltb, ◌||◌, List, [], ◌∷◌, ◌++◌, map, Option, None, is_some, sym, ◌∙◌, ap, subst, arith, append_assoc}
 use Rattle.std.specs.Prelude.{vec_len}
 use Rattle.std.specs.List.{list_any}
 use Rattle.std.proofs.lemmas.List.{append-nil}
@@ -11,15 +11,15 @@ use Rattle.lock_modes.specs.declared.Mode.{Mode}
 use Rattle.lock_rules.specs.declared.calls.Call.{Call}
 use Rattle.lock_rules.specs.declared.calls.Call.TheVariants.{Lock}
 use Rattle.lock_rules.specs.State as rules
-use Rattle.lock_rules.specs.Waits.{reaches, after_victim}
+use Rattle.lock_rules.specs.Waits.{after_victim}
 use Rattle.lock_rules.specs.Step.{target_of, tests, first_failing, step}
 use Rattle.lock_desk.specs.declared.change.Change.{Change}
 use Rattle.lock_desk.specs.declared.lockers.Locker.{Locker}
 use Rattle.lock_desk.specs.declared.lock_table.LockTable.{LockTable}
 use Rattle.lock_desk.specs.declared.table_parts.TableParts.{TableParts}
 use Rattle.lock_desk.specs.Resumed.{ResumedView, none_open, opened, queued, after_change, after_changes, state_now}
-use Rattle.lock_desk.specs.inner.Changes.{view_at, standing, mode_held, idle_tests, lock_tests, call_tests, IsWhole, DoesKeep, IsSession, MayServe, HasDoomed}
-use Rattle.lock_desk.specs.inner.Lockers.{Standing, standing_of, standings_of, standing_at}
+use Rattle.lock_desk.specs.inner.Changes.{view_at, mode_held, idle_tests, lock_tests, DoesKeep, MayServe, HasDoomed}
+use Rattle.lock_desk.specs.inner.Lockers.{standing_of, standings_of, standing_at}
 use Rattle.lock_desk.specs.inner.Noting.{IsLogFor}
 use Rattle.lock_desk.specs.inner.Queueing.{HasOpened, HasQueued}
 use Rattle.lock_desk.specs.inner.Resuming.{is_needless, IsAt, ArePartsOf, DoPartsGoOn, state_of_parts}

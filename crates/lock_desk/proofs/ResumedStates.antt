@@ -1,5 +1,5 @@
 -- The states by which a resumed table's state is put together are states between two calls.
-use Rattle.std.proofs.Common.{◌≡◌, ℕ, ◌≤◌, Bool, true, false, cond, not, eqb, ◌&&◌, ◌||◌, inl, inr, List, [], ◌∷◌, ◌++◌, map, Option, Some, None, is_some, refl, sym, ◌∙◌, ap, subst, arith}
+use Rattle.std.proofs.Common.{◌≡◌, ℕ, ◌≤◌, Bool, true, false, cond, not, eqb, ◌&&◌, ◌||◌, inl, inr, List, [], ◌∷◌, ◌++◌, map, Option, Some, None, is_some, refl, sym, ◌∙◌, ap, subst}
 use Rattle.std.specs.Prelude.{filter}
 use Rattle.std.proofs.lemmas.Bool.{and_parts, not-false, not-true, false≢true}
 use Rattle.std.proofs.lemmas.Bool.Decides.{Decides-eqb}
@@ -12,7 +12,7 @@ use Rattle.lock_rules.specs.declared.calls.Transaction.{Transaction}
 use Rattle.lock_rules.specs.State as rules
 use Rattle.lock_rules.specs.Queue.{conversions, fresh_requests, queue, is_empty, fits, with_request, is_granted_at_once}
 use Rattle.lock_rules.specs.Waits.{waits_for, reaches, after_victim}
-use Rattle.lock_rules.specs.Step.{is_nothing, lacks_parent, target_of, tests, first_failing, step}
+use Rattle.lock_rules.specs.Step.{lacks_parent, target_of, tests, first_failing, step}
 use Rattle.lock_rules.specs.Sound.{IsSound, IsNumbered, Stands}
 use Rattle.lock_rules.proofs.Marks.{below-sup}
 use Rattle.lock_rules.proofs.Lists.{same_path_tells}
@@ -22,7 +22,6 @@ use Rattle.lock_rules.proofs.Cuts.{IsQuiescent, cancelled-follows, cancelled-unf
 use Rattle.lock_rules.proofs.Begins.{new, begins-sound, begins-beside, begins-unfit, queue-beside, queue-converted}
 use Rattle.lock_rules.proofs.Steps.{all-pass, is-none, none-lawful, step-lawful}
 use Rattle.lock_rules.proofs.Owners.{step-numbered, victim-numbered, waiting-numbered}
-use Rattle.lock_holders.specs.SessionModes.{has_session}
 use Rattle.lock_desk.specs.declared.change.Change.{Change}
 use Rattle.lock_desk.specs.Resumed.{none_open, opened, queued, after_change, after_changes, IsBetweenCalls}
 use Rattle.lock_desk.specs.inner.Resuming.{begins_with_conversion, is_needless}

@@ -1,5 +1,5 @@
 -- A state with the transactions, the locks and the requests of another has the same listing.
-use Rattle.std.proofs.Common.{◌≡◌, ℕ, ◌<◌, Bool, true, false, cond, not, ◌&&◌, ◌||◌, ◌⊎◌, eqb, ltb, inl, inr, List, [], ◌∷◌, ◌++◌, map, filter, Option, Some, None, is_some, refl, sym, ◌∙◌, ap, subst, arith}
+use Rattle.std.proofs.Common.{◌≡◌, ℕ, ◌<◌, Bool, true, false, cond, not, ◌&&◌, ◌||◌, ◌⊎◌, eqb, ltb, inl, inr, List, [], ◌∷◌, ◌++◌, map, filter, Some, None, is_some, refl, sym, ◌∙◌, ap, arith}
 use Rattle.std.specs.List.{list_any, flat_map}
 use Rattle.std.proofs.lemmas.Bool.Decides.{nat_tests, Decides-eqb}
 use Rattle.std.proofs.lemmas.Bool.{and_parts, cases_Bool, not-true}
@@ -15,8 +15,8 @@ use Rattle.lock_rules.specs.Queue.{conversions, fresh_requests, queue}
 use Rattle.lock_rules.specs.Sound.{after, ascend}
 use Rattle.lock_rules.specs.State.{Claim, Table, State, held_mode, holders, number_in, doomed_in}
 use Rattle.lock_rules.proofs.Alters.{true≢false}
-use Rattle.lock_rules.proofs.Lists.{eqb-refl, same_path-refl, seek, seek-after, mode_in-seek, after-trans, In}
-use Rattle.lock_rules.proofs.ResourceOrder.{is_among, same-lists}
+use Rattle.lock_rules.proofs.Lists.{eqb-refl, seek, seek-after, mode_in-seek, after-trans, In}
+use Rattle.lock_rules.proofs.ResourceOrder.{same-lists}
 use Rattle.lock_desk.specs.Resumed.{IsBetweenCalls}
 use Rattle.lock_desk.proofs.RequestOrders.{queued_all, request-order, all-there, there-all, among-resources, rise-resources}
 use Rattle.lock_desk.proofs.RequestsEntered.{HasRequests}

@@ -1,5 +1,5 @@
 -- The open transactions of a state are entered by session number, and, when its locks are there, which of them are victims.
-use Rattle.std.proofs.Common.{◌≡◌, ℕ, zero, suc, ◌+◌, ◌<◌, ◌≤◌, Bool, true, false, cond, eqb, ltb, inl, inr, List, [], ◌∷◌, ◌++◌, Option, Some, None, is_some, refl, sym, ◌∙◌, ap, subst, arith}
+use Rattle.std.proofs.Common.{◌≡◌, ℕ, zero, suc, ◌+◌, ◌≤◌, Bool, true, false, cond, eqb, ltb, inl, inr, List, [], ◌∷◌, ◌++◌, Option, Some, None, is_some, refl, sym, ◌∙◌, ap, subst, arith}
 use Rattle.std.specs.List.{flat_map, range_with_len}
 use Rattle.std.proofs.lemmas.Bool.Decides.{nat_tests, Decides-eqb}
 use Rattle.std.proofs.lemmas.Bool.{cases_Bool}
@@ -10,7 +10,6 @@ use Rattle.lock_rules.specs.Sound.{IsOrdered}
 use Rattle.lock_rules.specs.Step.{restarted}
 use Rattle.lock_rules.specs.Waits.{resource_of_request, doom, after_cancel, after_victim}
 use Rattle.lock_rules.proofs.Alters.{true≢false}
-use Rattle.lock_rules.proofs.Lists.{eqb-refl}
 use Rattle.lock_desk.specs.declared.change.Change.TheVariants.{Doomed}
 use Rattle.lock_desk.specs.Resumed.{IsBetweenCalls, opened, open_in, after_changes}
 use Rattle.lock_desk.specs.inner.Entering.{IsOneOf, CanOpen, CanChangeAll, opening, dooming}

@@ -3,8 +3,8 @@ use Rattle.std.specs.List.{flat_map}
 use Rattle.lock_desk.specs.declared.flaw.Flaw.{Flaw}
 use Rattle.lock_desk.specs.declared.flaw.Flaw.TheVariants.{NoMemory}
 use Rattle.lock_desk.specs.declared.change.Change.{Change}
-use Rattle.lock_desk.specs.inner.Entering.{opening, dooming, queueing_if, holdings, entering}
-use Rattle.lock_desk.specs.inner.Resuming.{DoPartsGoOn, state_of_parts}
+use Rattle.lock_desk.specs.inner.Entering.{opening, dooming, queueing_if, holdings}
+use Rattle.lock_desk.specs.inner.Resuming.{state_of_parts}
 use Rattle.lock_desk.proofs.EnteredParts.{can-front, all-on, second-taken, third-taken, last-taken}
 use Rattle.lock_desk.proofs.Results.{to-ok, passed-err}
 use Rattle.lock_desk.proofs.resuming.enter_all.Goals as goal

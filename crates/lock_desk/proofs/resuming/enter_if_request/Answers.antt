@@ -1,4 +1,4 @@
-use Rattle.std.proofs.Common.{◌≡◌, Bool, [], ◌∷◌, cond, sym, subst, OnOk}
+use Rattle.std.proofs.Common.{Bool, [], cond, sym, subst, OnOk}
 use Rattle.std.proofs.lemmas.Bool.{not-true, not-false}
 use Rattle.lock_desk.specs.inner.Entering.{is_lock_kind, queueing, CanChangeAll}
 use Rattle.lock_desk.specs.inner.Resuming.{DoPartsGoOn, state_of_parts}

@@ -5,7 +5,7 @@ use Rattle.lock_desk.specs.declared.flaw.Flaw.{Flaw}
 use Rattle.lock_desk.specs.declared.flaw.Flaw.TheVariants.{NoMemory}
 use Rattle.lock_desk.specs.inner.Resuming.{state_of_parts}
 use Rattle.lock_desk.proofs.EnteredParts.{one-of}
-use Rattle.lock_desk.proofs.ResumedParts.{may-enter, log-kept, parts-more}
+use Rattle.lock_desk.proofs.ResumedParts.{may-enter, parts-more}
 use Rattle.lock_desk.proofs.Results.{passed-err}
 use Rattle.lock_desk.proofs.resuming.enter_lock.Goals as goal
 

@@ -1,4 +1,4 @@
-use Rattle.std.proofs.Common.{◌≡◌, Bool, [], ◌∷◌, cond, sym, subst, OnOk}
+use Rattle.std.proofs.Common.{Bool, [], cond, sym, subst, OnOk}
 use Rattle.lock_desk.specs.inner.Entering.{holding, CanChangeAll}
 use Rattle.lock_desk.specs.inner.Resuming.{DoPartsGoOn, state_of_parts}
 use Rattle.lock_desk.proofs.ResumedParts.{parts-same}

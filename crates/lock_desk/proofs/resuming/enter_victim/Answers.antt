@@ -1,11 +1,7 @@
-use Rattle.std.proofs.Common.{◌≡◌, sym}
+use Rattle.std.proofs.Common.{sym}
 use Rattle.lock_desk.specs.declared.change.Change.TheVariants.{Doomed}
-use Rattle.lock_desk.specs.declared.flaw.Flaw.{Flaw}
-use Rattle.lock_desk.specs.declared.flaw.Flaw.TheVariants.{NoMemory}
-use Rattle.lock_desk.specs.inner.Resuming.{state_of_parts}
 use Rattle.lock_desk.proofs.EnteredParts.{one-of}
 use Rattle.lock_desk.proofs.ResumedParts.{may-enter, log-kept, parts-more}
-use Rattle.lock_desk.proofs.Results.{passed-err}
 use Rattle.lock_desk.proofs.resuming.enter_victim.Goals as goal
 
 pub add_victim-requires : goal.add_victim-requires

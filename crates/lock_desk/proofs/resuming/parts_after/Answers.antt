@@ -1,4 +1,4 @@
-use Rattle.std.proofs.Common.{List, sym, subst, arith}
+use Rattle.std.proofs.Common.{arith}
 use Rattle.lock_desk.proofs.ResumedStates.{none_open-between}
 use Rattle.lock_desk.proofs.resuming.parts_after.Goals as goal
 

@@ -1,4 +1,4 @@
-use Rattle.std.proofs.Common.{◌≡◌, true, false, Some, None, is_some, ap, sym, ◌∙◌}
+use Rattle.std.proofs.Common.{◌≡◌, Some, None, is_some, ap, sym, ◌∙◌}
 use Rattle.lock_rules.specs.declared.calls.Call.TheVariants.{Try}
 use Rattle.lock_rules.proofs.Alters.{true≢false}
 use Rattle.lock_desk.specs.declared.flaw.Flaw.{Flaw}

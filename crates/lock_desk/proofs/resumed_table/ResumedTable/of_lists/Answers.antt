@@ -1,4 +1,4 @@
-use Rattle.std.proofs.Common.{◌≡◌, ◌∙◌, ℕ, ◌≤◌, List, sym, ap, subst}
+use Rattle.std.proofs.Common.{◌≡◌, ℕ, ◌≤◌, List, sym, ap, subst}
 use Rattle.lock_rules.proofs.Alters.{true≢false}
 use Rattle.lock_desk.specs.declared.flaw.Flaw.{Flaw}
 use Rattle.lock_desk.specs.declared.flaw.Flaw.TheVariants.{NoMemory}

@@ -1,4 +1,4 @@
-use Rattle.std.proofs.Common.{◌∙◌, sym, ap, arith}
+use Rattle.std.proofs.Common.{◌∙◌, sym}
 use Rattle.lock_desk.proofs.resumed_table.ResumedTable.tells.Goals as goal
 
 pub returns-then-are_open-clause-listed : goal.returns-then-are_open-clause-listed
