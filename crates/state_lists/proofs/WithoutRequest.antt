@@ -5,7 +5,7 @@ use Rattle.std.proofs.lemmas.List.Concat.{flat_map-cons}
 use Rattle.lock_report.specs.declared.snapshot.Wait.{Wait}
 use Rattle.lock_rules.specs.State.{Claim, State, request_of}
 use Rattle.lock_rules.specs.Listing.{listed_request}
-use Rattle.history_commands.specs.Showing.{wait_of, waits_by}
+use Rattle.state_lists.specs.Lists.{wait_of, waits_by}
 
 -- it has no edge to another session
 no-wait : (st : State) (s u : ℕ) → request_of s st.table.requests ≡ None → wait_of st s u ≡ []
