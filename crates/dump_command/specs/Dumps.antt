@@ -25,6 +25,14 @@ HasDump form n old new = (lists : StateLists) × (AreLists n lists × Appends ol
 abbrev pub HasDumpPart : Form → ℕ → Option (List ℕ) → Option (List ℕ) → Type 0
 HasDumpPart form n old new = (lists : StateLists) × (AreLists n lists × AppendsPart old new (text_in form n lists))
 
+-- the result of reading the dump of the sessions 1 to n that these bytes are
+abbrev pub ReadsDump : ℕ → List ℕ → Result StateLists DumpFault → Type 0
+ReadsDump n bytes (Ok lists) = (bytes ≡ text_of lists) × AreLists n lists
+ReadsDump n bytes (Err (fault.Row k)) = IsNoState n bytes × IsFaulty n bytes k
+ReadsDump n bytes (Err fault.NoMemory) = Unit {0}
+ReadsDump n bytes (Err fault.Unread) = Unit {0}
+ReadsDump n bytes (Err fault.Device) = ⊥
+
 -- the result of showing the dump that these bytes are; the output holds `old` before and `new` after
 abbrev pub ShowsDump : {X : Type 0} → Form → ℕ → List ℕ → Option (List ℕ) → Option (List ℕ) → Result X DumpFault → Type 0
 ShowsDump form n bytes old new (Ok _) = (lists : StateLists) × ((bytes ≡ text_of lists) × AreLists n lists × Appends old new (text_in form n lists))

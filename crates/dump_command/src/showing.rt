@@ -1,18 +1,18 @@
 //! The command `show --state`: a dump of a lock table in a form of `show`.
 
-ghost use Rattle.std.specs.Prelude.{◌≡◌, ◌≢◌, ◌⊎◌, ℕ, ◌<◌, ◌≤◌, List, Some, Err, IfOk, IfErr, string_bytes};
+ghost use Rattle.std.specs.Prelude.{◌≡◌, ◌≢◌, ◌⊎◌, ℕ, ◌<◌, ◌≤◌, List, Some, IfOk, IfErr};
 ghost use Rattle.std.specs.Io.KnownBytes.{Keeps};
 ghost use Rattle.lock_rules.specs.declared.calls.TheConstants.{MAX_SESSIONS};
-ghost use Rattle.state_rows.specs.States.{AreLists, IsFaulty, IsNoState, text_of};
+ghost use Rattle.state_rows.specs.States.{AreLists};
 ghost use Rattle.dump_command.specs.declared.dump_fault.DumpFault.TheVariants as fault;
-ghost use Rattle.dump_command.specs.Dumps.{HasDump, HasDumpPart, ShowsDump, text_in};
+ghost use Rattle.dump_command.specs.Dumps.{HasDump, HasDumpPart, ReadsDump, ShowsDump};
 
 use crate::dump_fault::DumpFault;
+use crate::forms::text_in;
 use command_line::Form;
-use dump_report::{graph_of_dump, lines_of_dump, waits_of_dump};
 use replay_commands::write_text;
 use state_rows::{StateFault, StateLists, read_state};
-use std::alloc::{AllocError as NoMemory, Global};
+use std::alloc::Global;
 use std::io::{ErrorKind, Read, Write};
 
 /// All that the reader gives. Fails with `NoMemory` or `Unread`.
@@ -29,33 +29,34 @@ fn whole_text<R: Read + Drop>(alloc: Global, input: R) -> Result<Vec<u8>, DumpFa
     }
 }
 
-/// The text of a dump in this form. Fails if memory is refused.
-fn text_in(alloc: Global, lists: &StateLists, sessions: u16, form: Form) -> Result<String, NoMemory>
-    requires some { 0 < sessions }
-    requires few { sessions ≤ MAX_SESSIONS }
-    requires lists { AreLists sessions lists.now }
-    ensures { IfOk result (λ text. string_bytes text ≡ text_in form sessions lists.now) }
-{
-    match form {
-        Form::Lines => lines_of_dump(alloc, sessions, lists),
-        Form::Rows => lock_report::state_rows(alloc, &lists.opens, &lists.claims, &lists.waits),
-        Form::Graph => graph_of_dump(alloc, lists),
-        Form::Waits => waits_of_dump(alloc, lists),
-    }
-}
-
 /// The dump that a text is. Fails with `Row` or `NoMemory`.
 fn dump_in(alloc: Global, text: &[u8], sessions: u16) -> Result<StateLists, DumpFault>
-    ensures ok { IfOk result (λ lists. AreLists sessions lists × (text.now ≡ text_of lists)) }
-    ensures none { (k : ℕ) → result ≡ Err (fault.Row k) → IsNoState sessions text.now }
-    ensures row { (k : ℕ) → result ≡ Err (fault.Row k) → IsFaulty sessions text.now k }
-    ensures not_device { IfErr result (λ why. (why ≢ fault.Device) × (why ≢ fault.Unread)) }
+    ensures { ReadsDump sessions text.now result }
 {
     match read_state(alloc, text, sessions) {
         Ok(lists) => Ok(lists),
         Err(StateFault::Line(line)) => Err(DumpFault::Row(line)),
         Err(StateFault::NoMemory) => Err(DumpFault::NoMemory),
     }
+}
+
+/// Reads a dump of the sessions 1 to `sessions`: the rows that `glm show --csv` writes of a state and `pelgaisti_dump_line` of a lock table
+/// in use, and no other text. The fault `Row` names the first row with which the rows aren't the beginning of those of any state; `Device`
+/// isn't told. Whether some history leads to the state isn't tested.
+pub fn read_dump<R: Read + Drop>(
+    alloc: Global,
+    input: R,
+    sessions: u16,
+) -> Result<StateLists, DumpFault>
+    // hold for every reader
+    ensures rows { IfOk result (λ lists. AreLists sessions lists) }
+    ensures not_device { IfErr result (λ why. why ≢ fault.Device) }
+
+    // holds for a reader whose bytes are known
+    ensures reads { (bytes : List ℕ) → R.remaining input ≡ Some bytes → ReadsDump sessions bytes result }
+{
+    let text = whole_text(alloc, input)?;
+    dump_in(alloc, &text, sessions)
 }
 
 /// Reads a dump of the sessions 1 to `sessions`, at most `MAX_SESSIONS`: the rows that `glm show --csv` writes of a state and
@@ -82,8 +83,7 @@ pub fn show_dump<R: Read + Drop, W: Write>(
     // holds for a reader whose bytes are known
     ensures shows { (bytes : List ℕ) → R.remaining input ≡ Some bytes → ShowsDump form sessions bytes (W.contents output.old) (W.contents output.new) result }
 {
-    let text = whole_text(alloc, input)?;
-    let lists = dump_in(alloc, &text, sessions)?;
+    let lists = read_dump(alloc, input, sessions)?;
     let Ok(shown) = text_in(alloc, &lists, sessions, form) else {
         return Err(DumpFault::NoMemory);
     };

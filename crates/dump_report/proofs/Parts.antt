@@ -2,13 +2,11 @@
 use Rattle.std.proofs.Common.{ℕ, List, [], ◌∷◌, ◌++◌, map}
 use Rattle.std.specs.Prelude.{All}
 use Rattle.std.proofs.lemmas.List.Elements.{All-cons, All-head, All-nil, All-tail}
-use Rattle.lock_rules.specs.declared.listing.Claim.{Claim}
-use Rattle.lock_report.specs.declared.snapshot.OpenTransaction.{OpenTransaction}
-use Rattle.lock_report.specs.declared.snapshot.Wait.{Wait}
 use Rattle.state_rows.specs.declared.row.StateRow.{StateRow}
 use Rattle.state_rows.specs.declared.row.StateRow.TheVariants as row
-use Rattle.state_rows.specs.Rows.{IsOpen, IsRow, IsWait}
-use Rattle.state_rows.specs.States.{rows_in}
+use Rattle.state_rows.specs.declared.reading.StateLists.{StateLists}
+use Rattle.state_rows.specs.Rows.{IsOpen, IsRow, IsSession, IsWait}
+use Rattle.state_rows.specs.States.{AreLists}
 
 -- what holds of a list holds of its front
 front : {X : Type 0} (P : X → Type 0) (xs ys : List X) → All P (xs ++ ys) → All P xs
@@ -25,13 +23,16 @@ unmapped : {X Y : Type 0} (P : X → Type 0) (f : Y → X) (ys : List Y) → All
 unmapped P f [] all = All-nil (λ y. P (f y))
 unmapped P f (y ∷ ys) all = All-cons (λ y. P (f y)) y ys (All-head P (f y) (map f ys) all) (unmapped P f ys (All-tail P (f y) (map f ys) all))
 
--- the open transactions of a dump are of its sessions
-pub opens_within : (n : ℕ) (opens : List OpenTransaction) (claims : List Claim) (waits : List Wait) → All (IsRow n) (rows_in opens claims waits) → All (IsOpen n) opens
-opens_within n opens claims waits all =
-    unmapped (IsRow n) row.Transaction opens (front (IsRow n) (map row.Transaction opens) (map row.Claim claims ++ map row.Wait waits) all)
+-- the sessions of a dump's open transactions are its sessions
+pub opens_within : (n : ℕ) (l : StateLists) → AreLists n l → All (λ o. IsSession n o.session) l.opens.items
+opens_within n l all =
+    let is : All (IsOpen n) l.opens.items =
+    unmapped (IsRow n) row.Transaction l.opens.items (front (IsRow n) (map row.Transaction l.opens.items) (map row.Claim l.claims.items ++ map row.Wait l.waits.items) all) in
+    λ i d lt. (is i d lt).0
 
 -- the waits of a dump are of its sessions
-pub waits_within : (n : ℕ) (opens : List OpenTransaction) (claims : List Claim) (waits : List Wait) → All (IsRow n) (rows_in opens claims waits) → All (IsWait n) waits
-waits_within n opens claims waits all =
-    unmapped (IsRow n) row.Wait waits
-    (rest (IsRow n) (map row.Claim claims) (map row.Wait waits) (rest (IsRow n) (map row.Transaction opens) (map row.Claim claims ++ map row.Wait waits) all))
+pub waits_within : (n : ℕ) (l : StateLists) → AreLists n l → All (IsWait n) l.waits.items
+waits_within n l all =
+    unmapped (IsRow n) row.Wait l.waits.items
+    (rest (IsRow n) (map row.Claim l.claims.items) (map row.Wait l.waits.items)
+    (rest (IsRow n) (map row.Transaction l.opens.items) (map row.Claim l.claims.items ++ map row.Wait l.waits.items) all))

@@ -2,7 +2,7 @@
 
 ghost use Rattle.std.specs.Prelude.{◌≡◌, ◌≤◌, ◌++◌, All, IfOk, OnOk};
 ghost use Rattle.lock_rules.specs.declared.calls.TheConstants.{MAX_SESSIONS};
-ghost use Rattle.state_rows.specs.Rows.{IsOpen, IsWait};
+ghost use Rattle.state_rows.specs.Rows.{IsSession, IsWait};
 ghost use Rattle.dump_report.specs.Blockers.{requests_among};
 ghost use Rattle.dump_report.specs.Jam.{is_root, root_of, roots_of};
 ghost use Rattle.dump_report.specs.inner.Graph.{AreWaitsOf};
@@ -33,7 +33,7 @@ fn add_root(
     rows: &mut Rows,
     roots: &mut Vec<Root>,
 ) -> Result<(), NoMemory>
-    requires open { IsOpen rows.old.sessions begun.now }
+    requires open { IsSession rows.old.sessions begun.now.session }
     requires pairs { AreWaitsOf rows.old waits.now }
     ensures same { OnOk result (rows.new ≡ rows.old) }
     ensures roots { OnOk result (roots.new.items ≡ roots.old.items ++ root_of rows.old.sessions claims.now waits.now begun.now) }
@@ -63,7 +63,7 @@ pub(crate) fn roots_of(
 ) -> Result<Vec<Root>, NoMemory>
     requires some { 1 ≤ sessions }
     requires few { sessions ≤ MAX_SESSIONS }
-    requires opens { All (IsOpen sessions) opens.now }
+    requires opens { All (λ begun. IsSession sessions begun.session) opens.now }
     requires waits { All (IsWait sessions) waits.now }
     ensures { IfOk result (λ roots. roots.items ≡ roots_of sessions opens.now claims.now waits.now) }
 {

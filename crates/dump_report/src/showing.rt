@@ -1,8 +1,8 @@
 //! The texts of a dump.
 
-ghost use Rattle.std.specs.Prelude.{◌≡◌, ◌<◌, ◌≤◌, IfOk, string_bytes};
+ghost use Rattle.std.specs.Prelude.{◌≡◌, ◌<◌, ◌≤◌, All, IfOk, string_bytes};
 ghost use Rattle.lock_rules.specs.declared.calls.TheConstants.{MAX_SESSIONS};
-ghost use Rattle.state_rows.specs.States.{AreLists};
+ghost use Rattle.state_rows.specs.Rows.{IsSession, IsWait};
 ghost use Rattle.dump_report.specs.Shown.{graph_of_dump, lines_of_dump, waits_of_dump};
 
 use crate::blockers::ranked_waits;
@@ -16,11 +16,12 @@ use std::alloc::{AllocError as NoMemory, Global};
 /// victims, which transactions are open, who holds what, who waits for what, and for whom. Fails only with `NoMemory`.
 ///
 /// It has what `glm show` writes of a state of a history, but for the places, which a dump hasn't got. Who waits for whom is what the rows
-/// of waits say.
+/// of waits say. All sessions of the open transactions and of the waits are from 1 to `sessions`.
 pub fn lines_of_dump(alloc: Global, sessions: u16, lists: &StateLists) -> Result<String, NoMemory>
     requires some { 0 < sessions }
     requires few { sessions ≤ MAX_SESSIONS }
-    requires lists { AreLists sessions lists.now }
+    requires opens { All (λ begun. IsSession sessions begun.session) lists.now.opens.items }
+    requires waits { All (IsWait sessions) lists.now.waits.items }
     ensures { IfOk result (λ text. string_bytes text ≡ lines_of_dump sessions lists.now) }
 {
     let roots = roots_of(alloc, sessions, &lists.opens, &lists.claims, &lists.waits)?;

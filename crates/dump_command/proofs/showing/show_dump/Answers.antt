@@ -4,6 +4,7 @@ use Rattle.std.specs.Result.{is_err}
 use Rattle.std.specs.Io.KnownBytes.{Appends}
 use Rattle.std.proofs.lemmas.Bool.{false≢true}
 use Rattle.replay_commands.specs.Written.{AppendsPart}
+use Rattle.dump_report.proofs.Parts.{opens_within, waits_within}
 use Rattle.dump_command.proofs.showing.show_dump.Goals as goal
 
 -- a call that didn't fail ensures what it ensures on success
@@ -21,7 +22,7 @@ pub returns-then-is_err-clause-part : goal.returns-then-is_err-clause-part
 returns-then-is_err-clause-part g c _ = (
   c.in_ok-lists.lists,
   (
-    c.in_ok-lists.ensures.ok.0,
+    c.in_ok-lists.ensures.rows,
     subst (λ (bs : List ℕ). AppendsPart (g.W.Write.contents c.args.output.now) (g.W.Write.contents c.write_text.new.output) bs)
         (c.as_bytes.ensures.value ∙ c.in-Ok.ensures) (of_failed _ _ c.if-is_err.ensures.value c.write_text.ensures.part),
   ),
@@ -32,8 +33,8 @@ pub returns-then-is_err-clause-shows : goal.returns-then-is_err-clause-shows
 returns-then-is_err-clause-shows g c bytes is = (
   c.in_ok-lists.lists,
   (
-    sym (c.in_ok-text.ensures.bytes bytes is) ∙ sym c.deref.ensures.value ∙ c.in_ok-lists.ensures.ok.1,
-    c.in_ok-lists.ensures.ok.0,
+    (c.in_ok-lists.ensures.reads bytes is).0,
+    c.in_ok-lists.ensures.rows,
     subst (λ (bs : List ℕ). AppendsPart (g.W.Write.contents c.args.output.now) (g.W.Write.contents c.write_text.new.output) bs)
         (c.as_bytes.ensures.value ∙ c.in-Ok.ensures) (of_failed _ _ c.if-is_err.ensures.value c.write_text.ensures.part),
   ),
@@ -44,7 +45,7 @@ pub returns-clause-shown : goal.returns-clause-shown
 returns-clause-shown g c = (
   c.in_ok-lists.lists,
   (
-    c.in_ok-lists.ensures.ok.0,
+    c.in_ok-lists.ensures.rows,
     subst (λ (bs : List ℕ). Appends (g.W.Write.contents c.args.output.now) (g.W.Write.contents c.write_text.new.output) bs)
         (c.as_bytes.ensures.value ∙ c.in-Ok.ensures) (of_done _ _ c.if-is_err.ensures.value c.write_text.ensures.written),
   ),
@@ -55,9 +56,15 @@ pub returns-clause-shows : goal.returns-clause-shows
 returns-clause-shows g c bytes is = (
   c.in_ok-lists.lists,
   (
-    sym (c.in_ok-text.ensures.bytes bytes is) ∙ sym c.deref.ensures.value ∙ c.in_ok-lists.ensures.ok.1,
-    c.in_ok-lists.ensures.ok.0,
+    (c.in_ok-lists.ensures.reads bytes is).0,
+    c.in_ok-lists.ensures.rows,
     subst (λ (bs : List ℕ). Appends (g.W.Write.contents c.args.output.now) (g.W.Write.contents c.write_text.new.output) bs)
         (c.as_bytes.ensures.value ∙ c.in-Ok.ensures) (of_done _ _ c.if-is_err.ensures.value c.write_text.ensures.written),
   ),
 )
+
+pub text_in-requires-clause-opens : goal.text_in-requires-clause-opens
+text_in-requires-clause-opens g c = opens_within c.args.sessions c.in_ok-lists.lists c.in_ok-lists.ensures.rows
+
+pub text_in-requires-clause-waits : goal.text_in-requires-clause-waits
+text_in-requires-clause-waits g c = waits_within c.args.sessions c.in_ok-lists.lists c.in_ok-lists.ensures.rows
