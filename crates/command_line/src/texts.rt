@@ -96,7 +96,12 @@ and its queue, and an edge leads from each session that waits to the first that 
 whom is written as a graph, and nothing else. 'dot -Tsvg' draws either.
 
 With --state it reads a dump in place of a history: the rows of 'show --csv', as the library writes them of a lock table in
-use. A dump has no place, so --at isn't taken.";
+use. A dump has no place, so --at isn't taken.
+
+With --from the history begins in the state of a dump, read from a file, and not in that of a table without locks. Its
+rows are counted from the dump on: the first is at place 0. --from isn't taken with --state.
+
+  glm show --from dump.csv since.csv";
 
 /// The beginning of the help of `explain`.
 pub(crate) const ABOUT_EXPLAIN: &str =
@@ -164,7 +169,7 @@ A line that can't be read changes nothing.";
 /// The list of exit statuses at the end of the help texts.
 pub(crate) const STATUSES: &str = "Exit status:
   0  done, or help or the version asked for
-  1  a row was refused, which standard error names
+  1  a row or a dump was refused, as standard error says
   2  the words of the command line are off, or a place isn't one of the history
   3  the history isn't legal
   4  memory was refused
@@ -180,10 +185,10 @@ sessions
 For more information, try '--help'.
 ";
 
-/// The message for `show --state` with a place, or with a number that isn't written in digits.
+/// The message for `show --state` with a place, with `--from`, or with a number that isn't written in digits.
 pub const STATE_ALONE: &str =
-    "error: a dump has no place: --state is taken without --at, and a number is written with digits alone, with no sign and no
-zero before it
+    "error: a dump is shown alone: --state is taken without --at and without --from, and a number is written with digits
+alone, with no sign and no zero before it
 
 For more information, try '--help'.
 ";
