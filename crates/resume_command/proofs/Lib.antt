@@ -1,0 +1,6 @@
+pub mod Counted
+pub mod Judged
+pub mod Told
+pub mod WithinSessions
+pub mod TablesReached
+pub mod TransactionsReached
