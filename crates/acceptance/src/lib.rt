@@ -5,6 +5,8 @@
 #[cfg(test)]
 mod call_gates;
 #[cfg(test)]
+mod dumps;
+#[cfg(test)]
 mod examples;
 #[cfg(test)]
 mod harness;
