@@ -4,3 +4,4 @@ pub mod Told
 pub mod WithinSessions
 pub mod TablesReached
 pub mod TransactionsReached
+pub mod DumpedStates
