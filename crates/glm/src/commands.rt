@@ -13,7 +13,7 @@ ghost use Rattle.glm.specs.Programs.{HasRun};
 ghost use Rattle.command_line.specs.declared.args.CommandRequest.TheVariants as request;
 ghost use Rattle.command_line.specs.CommandLine.{Ask, AskReplayInPieces, AskRunInPieces, AskShell, HasNumbers, glm_command, most_sessions};
 ghost use Rattle.command_line.specs.Streams.{HasStreamsOf, SkipComments as AskNoComments, input_file, output_file};
-ghost use Rattle.glm.specs.Outcomes.{HasDone, status_of_outcome};
+ghost use Rattle.glm.specs.Outcomes.{HasDone, show_request, status_of_outcome};
 ghost use Rattle.glm.specs.Streams.{HasDoneInFile, HasOutcome, IsFileFault};
 ghost use Rattle.glm.specs.ParserErrors.{IsOutcomeOfError};
 ghost use Rattle.glm.specs.Statuses.{IsStatus};
@@ -24,7 +24,7 @@ use crate::verdicts::write_verdict;
 use crate::wrong_replies::{ReportRequest, explained, shown, shown_from};
 use clap::Error;
 use clap::error::ErrorKind;
-use command_line::{CommandRequest, Delivery, Request, VERSION_TEXT, request_of, usage_text};
+use command_line::{CommandRequest, Delivery, Form, Request, VERSION_TEXT, request_of, usage_text};
 use dump_command::show_dump;
 use either::Either;
 use file_streams::{NewFile, open_source};
@@ -128,6 +128,17 @@ fn run_on_threads<T: Threads + Wait, R: Read + Drop, W: Write, G: Gate>(
     }
 }
 
+/// What is to be shown of a history that begins in the state of a dump.
+fn show_request(sessions: u16, place: Option<u32>, form: Form) -> ShowRequest
+    ensures { result ≡ show_request sessions place form }
+{
+    ShowRequest {
+        sessions,
+        place,
+        form,
+    }
+}
+
 /// Runs a command: reads `sources`, and writes to `output`. `check`, `show` and `explain` put the first wrong reply into `wrong`.
 fn perform<T: Threads + Wait + Files, D: Read + Drop, R: Read + Drop, W: Write, G: Gate>(
     host: &Host<'_, T, G>,
@@ -159,11 +170,7 @@ fn perform<T: Threads + Wait + Files, D: Read + Drop, R: Read + Drop, W: Write, 
             Outcome::Dump(show_dump(alloc, input, output, sessions, form))
         }
         CommandRequest::ShowFrom(sessions, place, form) => {
-            let asked = ShowRequest {
-                sessions,
-                place,
-                form,
-            };
+            let asked = show_request(sessions, place, form);
             Outcome::ShowFrom(shown_from(alloc, dump, input, output, asked, wrong))
         }
         CommandRequest::Explain(sessions, place, form) => {

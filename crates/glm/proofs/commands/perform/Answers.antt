@@ -59,6 +59,7 @@ returns-in-Dump c c' =
 pub returns-in-ShowFrom : goal.returns-in-ShowFrom
 returns-in-ShowFrom c c' =
     let done = c'.shown_from.ensures in
+    let same = c'.show_request-asked.ensures in
     λ words asked. record {
       sessions = c'.in-ShowFrom.sessions;
       place = c'.in-ShowFrom.place;
@@ -66,9 +67,9 @@ returns-in-ShowFrom c c' =
       asked = (let is : c'.args.command ≡ request.ShowFrom c'.in-ShowFrom.sessions c'.in-ShowFrom.place c'.in-ShowFrom.form = search rules in subst (λ (r : CommandRequest). Ask words r) is asked);
       dump = _;
       kept = done.kept;
-      part = done.part;
-      shown = done.shown;
-      tells = done.tells;
+      part = rw same at done.part;
+      shown = rw same at done.shown;
+      tells = rw same at done.tells;
     }
 
 pub returns-in-Explain : goal.returns-in-Explain
