@@ -5,3 +5,4 @@ pub mod WithinSessions
 pub mod TablesReached
 pub mod TransactionsReached
 pub mod DumpedStates
+pub mod WaitsListed

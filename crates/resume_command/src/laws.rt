@@ -7,7 +7,7 @@ ghost use Rattle.lock_trace.specs.Entries.{IsEntry};
 ghost use Rattle.lock_desk.specs.Resumed.{IsBetweenCalls, IsWithinLimits};
 ghost use Rattle.state_rows.specs.declared.reading.StateLists.{StateLists};
 ghost use Rattle.resume_command.specs.Showing.{AreListsOf};
-ghost use Rattle.resume_command.specs.Starts.{IsNoStart};
+ghost use Rattle.resume_command.specs.Starts.{HasOtherWaits, IsNoStart};
 
 /// Each state that a history of the sessions 1 to `n` leads to is one between two calls and within the limits: so a lock table may
 /// begin in it (`lock_desk::ResumedTable::of_lists`).
@@ -21,6 +21,14 @@ pub fn states_of_histories_may_be_begun_in()
 pub fn dumps_of_histories_are_dumps_of_states()
     ensures { (n : ℕ) (front rest : List Entry) (lists : StateLists) →
         All (IsEntry n) front → AreListsOf n (state_of front) lists → ¬ IsNoStart n lists rest }
+{
+    states_of_histories_may_be_begun_in();
+}
+
+/// The dump of a state that a history of the sessions 1 to `n` leads to is never refused for its waits: they follow from its locks and requests.
+pub fn dumps_of_histories_have_their_waits()
+    ensures { (n : ℕ) (front rest : List Entry) (lists : StateLists) →
+        All (IsEntry n) front → AreListsOf n (state_of front) lists → ¬ HasOtherWaits n lists rest }
 {
     states_of_histories_may_be_begun_in();
 }
