@@ -1,4 +1,5 @@
-//! A law of the states that histories lead to. A caller's proof cites a law by calling it; the call does nothing at run time.
+//! Laws of the states that histories lead to, and of their dumps. A caller's proof cites a law by calling it; the call does nothing at run
+//! time.
 
 ghost use Rattle.std.specs.Prelude.{ℕ, List, All};
 ghost use Rattle.lock_rules.specs.Entries.{Entry};
