@@ -119,7 +119,8 @@ fn shown_on(
 /// The whole text is made before its first byte is written. After every fault but that of the writer nothing was written; after that the
 /// beginning of the text may have been written, and nothing else. `Dump` tells why the dump isn't read, `NoState` what of its rows goes
 /// with no state, `OtherWaits` that its waits don't follow from its other rows. `History` has the fault of the history, of the place, of
-/// memory, or of the writer. What the dump costs grows with its rows, the history with its calls.
+/// memory, or of the writer; that of memory also if 2^64 - 1 transactions have begun, since none could begin behind them. What the dump
+/// costs grows with its rows, the history with its calls.
 pub fn show_from<S: Read + Drop, R: Read + Drop, W: Write>(
     alloc: Global,
     dump: S,
