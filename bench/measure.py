@@ -18,7 +18,6 @@ The sections, with the minutes that they take on 4 free processors:
     programs      a mutex, an office and Berkeley DB, by single calls and by programs, by bench/programs.c   4
     store         examples/store over offices, RocksDB's own transactions and Berkeley DB, by bench/store.cpp  15
     hash_table    its orders over a hash table, by these, a mutex and reader-writer locks, by bench/store.cpp  15
-    objects       a queue and a map, by an office, a mutex, and queues without a lock, by object_bench       1 1/2
     waiting       three ways to wait for locks, by bench/waiting.c                                           1
     embedding     the boundary to C beside lock_bench seq and, if its library is there, Berkeley DB          1/2
     instructions  what checks/instructions.py counts; needs valgrind; once                                   1/2
@@ -40,13 +39,12 @@ import time
 from pathlib import Path
 
 sys.dont_write_bytecode = True
-from sections import GLM, LIBRARY, LOCK_BENCH, OBJECT_BENCH, SECTIONS, TOP  # noqa: E402
+from sections import GLM, LIBRARY, LOCK_BENCH, SECTIONS, TOP  # noqa: E402
 
 # what builds each of these, and where
 BUILDS = {
     GLM: (["./glm", "--help"], TOP),
     LOCK_BENCH: (["rt", "run", "--", "--help"], TOP / "crates/lock_bench"),
-    OBJECT_BENCH: (["rt", "run", "--", "--help"], TOP / "crates/object_bench"),
     LIBRARY: (["./embed"], TOP),
 }
 README = TOP / "bench/README.md"

@@ -13,7 +13,6 @@ import worst
 TOP = Path(__file__).resolve().parent.parent
 GLM = TOP / "crates/glm_main/out/glm_main"
 LOCK_BENCH = TOP / "crates/lock_bench/out/lock_bench"
-OBJECT_BENCH = TOP / "crates/object_bench/out/object_bench"
 LIBRARY = TOP / "out/libpelgaisti.a"
 # --quick makes so many times fewer repetitions and rows
 LESS = 100
@@ -246,36 +245,6 @@ class LockBench(Sharing):
         numbers = sorted({case[1:] for case in sharing.CASES})
         rows = [[f"{t}, {s}", *(found.pair((kind, t, s), list(sharing.COMMANDS)) for kind in kinds)] for t, s in numbers]
         return table(["threads, sessions", *kinds], rows)
-
-
-class Objects(Section):
-    name, heading, needs = "objects", "How threads share small objects: `object_bench`", (OBJECT_BENCH,)
-    how = "Nanoseconds a call, 8,000,000 calls in all."
-    THREADS = (1, 2, 4, 8)
-    # with fewer, a thread may be done before the next one has come to a processor of its own
-    CALLS = 8_000_000
-    # each object and way to share it, as object_bench calls them, and what the table does
-    WAYS = {
-        ("queue", "office"): "queue, office",
-        ("queue", "mutex"): "queue, mutex",
-        ("queue", "array"): "`ArrayQueue`",
-        ("queue", "segments"): "`SegQueue`",
-        ("map", "office"): "map, office",
-        ("map", "mutex"): "map, mutex",
-    }
-
-    def cases(self):
-        keys = [(way, threads) for threads in self.THREADS for way in self.WAYS]
-        return [(key, lambda k=key: self.told(*k)) for key in keys]
-
-    def told(self, way, threads):
-        calls = self.few(self.CALLS) // threads
-        line = output_of([OBJECT_BENCH, *way, str(threads), str(calls)])
-        return {"each": int(re.search(r"nanoseconds=(\d+)", line)[1]) / (calls * threads)}
-
-    def tables(self, found):
-        rows = [[threads, *(found.text((way, threads), "each") for way in self.WAYS)] for threads in self.THREADS]
-        return table(["threads", *self.WAYS.values()], rows)
 
 
 class Waiting(Section):
@@ -514,6 +483,6 @@ class Instructions(Section):
 
 
 SECTIONS = [
-    Replay, Worst, Memory, Growth, Sharing, LockBench, Programs, Store, StoreInMemory, Objects, Waiting, Embedding, Instructions,
+    Replay, Worst, Memory, Growth, Sharing, LockBench, Programs, Store, StoreInMemory, Waiting, Embedding, Instructions,
 ]
 

@@ -1,5 +1,5 @@
-//! Tests of sequential objects: each call of the traits once with success, of a counter, a queue, a map and a book; a board, an
-//! office and rows of calls of a counter; the smallest board; calls and batches that are refused memory; and threads that share a counter, a queue and a map.
+//! Tests of sequential objects: each call of the traits once with success, of a counter, a queue, a map and a book; a board and an
+//! office of a counter; calls and batches that are refused memory; and threads that share a counter, a queue and a map.
 #![tactic(auto)]
 
 #[cfg(test)]
@@ -12,8 +12,6 @@ mod bounded;
 mod calls;
 #[cfg(test)]
 mod choices;
-#[cfg(test)]
-mod clocked;
 #[cfg(test)]
 mod offices;
 #[cfg(test)]

@@ -1,10 +1,10 @@
-//! Programs of a book: a path, a commit with the next begin, conversions, and single calls.
+//! Programs of a book: a path, a commit with the next begin, conversions, single calls, and a program that the book runs itself.
 
-use crate::asking::ask;
+use crate::asking::{ask, item, run_program};
 use lock_desk::{Book, Call, Mode, Reply, Resource};
 use lock_programs::{Answer, Last, Program, Start, Stop};
-use programs::Programs;
-use sequential::{Fresh, Sequential};
+use programs::{Programs, serve_each_on};
+use sequential::{Fresh, Sequential, are_within};
 use std::process::Abort;
 use std::test::Fail;
 
@@ -87,5 +87,30 @@ fn programs_are_answered_by_the_rules(rt: HostRuntime) -> Result<(), Fail> {
     let mut programs = Programs::<Book>::fresh(rt.alloc(), 1)?;
     want_paths(&rt, &mut programs, file, page);
     want_calls(&rt, &mut programs, file, page);
+    Ok(())
+}
+
+/// Two calls of sessions 2 and 1, one after another.
+fn want_each(rt: &impl Abort, book: &mut Book) {
+    let mut calls = [item(2, Call::Begin), item(1, Call::Poll)];
+    assert!(rt; are_within(&calls, book.sessions()));
+    assert_eq!(rt; serve_each_on(book, &mut calls), 2);
+    let [first, second] = calls;
+    assert_eq!(rt; first.reply, Some(Reply::Began(2)));
+    assert_eq!(rt; second.reply, Some(Reply::Clear));
+}
+
+/// The book that an object of programs gives back runs a program, and serves several calls.
+#[test]
+fn books_run_programs(rt: HostRuntime) -> Result<(), Fail> {
+    let file = Resource::from_numbers(&[7, 2]).ok_or("no resource")?;
+    let mut book = Programs::<Book>::fresh(rt.alloc(), 2)?.into_object();
+    let path = Program::locks(Start::Begins, &file, Mode::S, 0);
+    let answer = run_program(&mut book, 1, &path);
+    let (is, s) = (Reply::Granted(Mode::IS), Reply::Granted(Mode::S));
+    let want = [Reply::Began(1), is, s];
+    assert!(rt; has_replies(&path, answer, 0, Stop::GoesOn, &want));
+    want_each(&rt, &mut book);
+    assert_eq!(rt; book.served(), 5);
     Ok(())
 }

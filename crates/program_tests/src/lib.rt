@@ -1,8 +1,6 @@
-//! Tests of programs: each call of `programs`, `counter_programs` and `lock_programs` once with success, of a counter and of a book.
+//! Tests of programs: each call of `programs` and `lock_programs` once with success, of a book.
 #![tactic(auto)]
 
-#[cfg(test)]
-mod adds;
 #[cfg(test)]
 mod asking;
 #[cfg(test)]

@@ -4,5 +4,4 @@ pub mod Sessions
 pub mod Runs
 pub mod Pushes
 pub mod Waits
-pub mod ListsTell
 pub mod GoingOn

@@ -7,6 +7,5 @@ pub mod Fronts
 pub mod Determined
 pub mod Total
 pub mod Laws
-pub mod Lists
 pub mod Views
 pub mod inner

@@ -7,8 +7,7 @@
 //! `continuing.rt` has the trait of an object that tells of several calls at once, `form.rt` that of one whose calls may be made
 //! in programs. `run_calls.rt` runs a program. `programs.rt` has the object whose calls are programs; its folder has what lets go of a
 //! history, tells whose waits have ended, and makes an object for a number of sessions, where the object of the calls does.
-//! `counted.rt` has the list of its history, `lists.rt` programs and answers that list calls and replies. `laws.rt` says what
-//! follows of histories.
+//! `counted.rt` has the list of its history. `laws.rt` says what follows of histories.
 //!
 //! Not said by any clause: that memory is refused to a call only if there is none.
 #![tactic(auto)]
@@ -17,12 +16,10 @@ mod continuing;
 mod counted;
 mod form;
 pub mod laws;
-mod lists;
 mod programs;
 mod run_calls;
 
 pub use continuing::{Continuing, serve_each_on};
 pub use form::Programmed;
-pub use lists::{CallList, ReplyList};
 pub use programs::Programs;
 pub use run_calls::run;

@@ -1,5 +1,0 @@
-pub mod Closed
-pub mod Counters
-pub mod Kinds
-pub mod Moments
-pub mod Rule
