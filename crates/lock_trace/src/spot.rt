@@ -1,7 +1,7 @@
 //! Where in a line a text goes on.
 
 ghost use Rattle.std.specs.Prelude.{◌≡◌};
-ghost use Rattle.row_comments.specs.Comments.{is_shown, spot_behind};
+ghost use Rattle.lock_trace.specs.Comments.{is_shown, spot_behind};
 
 /// Where in a line the next byte stands.
 #[derive(Clone, Copy, Debug, Drop, PartialEq, Eq)]

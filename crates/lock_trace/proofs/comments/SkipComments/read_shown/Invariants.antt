@@ -1,7 +1,7 @@
 use Rattle.std.proofs.Common.{◌≡◌, true, length}
 use Rattle.std.specs.Io.KnownBytes.{Keeps}
-use Rattle.row_comments.specs.Reading.{remaining_of}
-use Rattle.row_comments.proofs.skipping.SkipComments.read_shown.Given as goal
+use Rattle.lock_trace.specs.SkippingComments.{remaining_of}
+use Rattle.lock_trace.proofs.comments.SkipComments.read_shown.Given as goal
 
 -- what was read so far was comments
 abbrev pub invariant-loop : goal.invariant-loop

@@ -1,7 +1,7 @@
 use Rattle.std.proofs.Common.{arith, sym, ◌≡◌, ◌∙◌, ◌<◌, ◌≤◌, length}
-use Rattle.row_comments.proofs.Skipped.{kept_all, kept_no_more, kept_one}
-use Rattle.row_comments.proofs.skipping.keep_shown.Goals as goal
-use Rattle.row_comments.proofs.skipping.keep_shown.Goals.{then-is_shown, else-is_shown}
+use Rattle.lock_trace.proofs.Skipped.{kept_all, kept_no_more, kept_one}
+use Rattle.lock_trace.proofs.comments.keep_shown.Goals as goal
+use Rattle.lock_trace.proofs.comments.keep_shown.Goals.{then-is_shown, else-is_shown}
 
 pub loop-at-preserved : goal.loop-at-preserved
 loop-at-preserved c =

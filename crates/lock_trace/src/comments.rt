@@ -3,8 +3,8 @@
 ghost use Rattle.std.specs.Prelude.{◌≡◌, ◌≤◌, true, length, take, IfOk};
 ghost use Rattle.std.specs.Io.{ReadsAtMost};
 ghost use Rattle.std.specs.Io.KnownBytes.{ReadConsumes};
-ghost use Rattle.row_comments.specs.Comments.{spot_after, text_read, without_comments_from};
-ghost use Rattle.row_comments.specs.Reading.{HasReadShown, remaining_of};
+ghost use Rattle.lock_trace.specs.Comments.{spot_after, text_read, without_comments_from};
+ghost use Rattle.lock_trace.specs.SkippingComments.{HasReadShown, remaining_of};
 
 use crate::spot::Spot;
 use std::io;

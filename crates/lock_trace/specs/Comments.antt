@@ -1,7 +1,7 @@
 -- Comments: lines that begin with `#`, and a text without them.
 use Rattle.std.specs.Prelude.{◌==◌, ◌||◌, not, ℕ, Bool, true, if◌then◌else◌, List, [], ◌∷◌, Option, option_map}
-use Rattle.row_comments.specs.declared.spot.Spot.{Spot}
-use Rattle.row_comments.specs.declared.spot.Spot.TheVariants as spot
+use Rattle.lock_trace.specs.declared.spot.Spot.{Spot}
+use Rattle.lock_trace.specs.declared.spot.Spot.TheVariants as spot
 
 -- the byte ends a line: LF is 10, CR is 13
 abbrev pub is_line_end : ℕ → Bool

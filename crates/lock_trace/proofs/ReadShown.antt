@@ -2,9 +2,9 @@
 use Rattle.std.proofs.Common.{rules, arith, ap, ap₂, sym, refl, subst, ◌≡◌, ◌∙◌, ◌++◌, ◌+◌, ◌-◌, ◌<◌, ◌≤◌, min, ℕ, Bool, true, false, List, [], Option, Some, None, length, take, drop, option_map, if◌then◌else◌, length-append, length-drop, length-take}
 use lib.Seq.{take-append-le}
 use Rattle.std.specs.Io.KnownBytes.{Consumes, IsAtEnd, Keeps}
-use Rattle.row_comments.specs.declared.spot.Spot.{Spot}
-use Rattle.row_comments.specs.Comments.{spot_after, without_comments_from}
-use Rattle.row_comments.proofs.Skipped.{consumes_shown}
+use Rattle.lock_trace.specs.declared.spot.Spot.{Spot}
+use Rattle.lock_trace.specs.Comments.{spot_after, without_comments_from}
+use Rattle.lock_trace.proofs.Skipped.{consumes_shown}
 
 -- known bytes of which none is left have none left without comments
 at_end_shown : (s : Spot) (bytes : Option (List ℕ)) → IsAtEnd bytes → IsAtEnd (option_map (without_comments_from s) bytes)

@@ -2,8 +2,8 @@
 use Rattle.std.proofs.Common.{rules, arith, ap, ap₂, sym, refl, subst, ◌≡◌, ◌∙◌, ◌++◌, ◌+◌, ◌<◌, ◌≤◌, ℕ, suc, Bool, true, false, List, [], ◌∷◌, Option, Some, None, length, take, drop, slice_set, slice_index, option_map, if◌then◌else◌, append_assoc, append-nil, length-set, drop-set-lt}
 use Rattle.std.proofs.lemmas.List.{at_drop_more, at_drop_all, take_more_set}
 use Rattle.std.specs.Io.KnownBytes.{Consumes}
-use Rattle.row_comments.specs.declared.spot.Spot.{Spot}
-use Rattle.row_comments.specs.Comments.{is_shown, spot_after, spot_behind, without_comments_from}
+use Rattle.lock_trace.specs.declared.spot.Spot.{Spot}
+use Rattle.lock_trace.specs.Comments.{is_shown, spot_after, spot_behind, without_comments_from}
 
 -- a byte in front of a list in two parts, or none
 in_front : (b : Bool) (x : ℕ) (all front back : List ℕ) → all ≡ front ++ back

@@ -1,5 +1,5 @@
-use Rattle.row_comments.proofs.Skipped.{KeptUpTo}
-use Rattle.row_comments.proofs.skipping.keep_shown.Given as goal
+use Rattle.lock_trace.proofs.Skipped.{KeptUpTo}
+use Rattle.lock_trace.proofs.comments.keep_shown.Given as goal
 
 -- the bytes up to the place were moved to the front without comments
 abbrev pub invariant-loop-at : goal.invariant-loop-at

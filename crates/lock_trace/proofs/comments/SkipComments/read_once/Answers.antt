@@ -1,5 +1,5 @@
-use Rattle.row_comments.proofs.ReadShown.{read_shown_once}
-use Rattle.row_comments.proofs.skipping.SkipComments.read_once.Goals as goal
+use Rattle.lock_trace.proofs.ReadShown.{read_shown_once}
+use Rattle.lock_trace.proofs.comments.SkipComments.read_once.Goals as goal
 
 pub returns-clause-read : goal.returns-clause-read
 returns-clause-read g c = rw c.requires.skips

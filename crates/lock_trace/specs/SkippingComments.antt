@@ -1,8 +1,8 @@
 -- What a reader that skips comments has left, and what one read of it does.
 use Rattle.std.specs.Prelude.{◌≡◌, ◌<◌, ℕ, Bool, List, Option, length, take, option_map, if◌then◌else◌, Result, MatchResult}
 use Rattle.std.specs.Io.KnownBytes.{Consumes, IsAtEnd, Keeps}
-use Rattle.row_comments.specs.Comments.{without_comments_from}
-use Rattle.row_comments.specs.declared.skipping.SkipComments.{SkipComments}
+use Rattle.lock_trace.specs.Comments.{without_comments_from}
+use Rattle.lock_trace.specs.declared.comments.SkipComments.{SkipComments}
 
 -- the bytes that are left: those of the reader below, without comments if they are skipped
 abbrev pub remaining_of : {R : Type 0} → (R → Option (List ℕ)) → SkipComments R → Option (List ℕ)
