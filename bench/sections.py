@@ -30,7 +30,8 @@ def numbers_of(words):
 
 def table(head, rows):
     """The lines of a table in Markdown."""
-    return ["| " + " | ".join(map(str, row)) + " |" for row in (head, ["---"] * len(head), *rows)]
+    lines = ["| " + " | ".join(map(str, row)) + " |" for row in (head, *rows)]
+    return [lines[0], "|" + "---|" * len(head), *lines[1:]]
 
 
 class Section:
@@ -328,8 +329,12 @@ def side_by_side(count):
         turn += 1
 
 
-def short_table(head, rows, threads, ways, base, digits, found):
-    """A row for each of `rows`, the beginnings of keys by their names, and a column for each number of threads: thousands of transactions
+# the numbers of threads that bench/README.md has
+SHOWN_THREADS = (1, 4, 16)
+
+
+def short_table(head, rows, ways, base, digits, found):
+    """A row for each of `rows`, the beginnings of keys by their names, and a column for each of `SHOWN_THREADS`: thousands of transactions
     a second by the way `base`, and behind it, of each other way, the ratio to that. A line says which ways."""
 
     def cell(begin, count):
@@ -342,8 +347,8 @@ def short_table(head, rows, threads, ways, base, digits, found):
 
     others = "; ".join(f"*{told}*" for way, told in ways.items() if way != base)
     line = f"Thousands of transactions a second, *{ways[base]}*; behind the colon the ratios to it: {others}."
-    shown = [[name, *(cell(begin, count) for count in threads)] for name, begin in rows.items()]
-    return [line, "", *table([head, *(f"{count} threads" if count > 1 else "1 thread" for count in threads)], shown)]
+    shown = [[name, *(cell(begin, count) for count in SHOWN_THREADS)] for name, begin in rows.items()]
+    return [line, "", *table([head, *(f"{count} threads" if count > 1 else "1 thread" for count in SHOWN_THREADS)], shown)]
 
 
 class Programs(Section):
@@ -391,7 +396,7 @@ class Programs(Section):
         return lines[1:]
 
     def short_tables(self, found):
-        return short_table("workload", {work: (work,) for work in self.WORKLOADS}, self.THREADS, self.WAYS, "book", 0, found)
+        return short_table("workload", {work: (work,) for work in self.WORKLOADS}, self.WAYS, "book", 0, found)
 
 
 class Store(Section):
@@ -457,7 +462,7 @@ class Store(Section):
 
     def short_tables(self, found):
         rows = {f"{work}, {n}": (work, n) for work in self.WORKLOADS for n in self.WAREHOUSES}
-        return short_table("workload, warehouses", rows, self.THREADS, self.WAYS, self.BASE, 1, found)
+        return short_table("workload, warehouses", rows, self.WAYS, self.BASE, 1, found)
 
 
 class StoreInMemory(Store):
@@ -530,10 +535,7 @@ class Instructions(Section):
     most_rounds = 1
     # what bench/README.md has of the lines
     SHOWN = (
-        "the parent's cell is found at the noted place, without a hash",
-        "a second holder joins the first without memory",
         "a request on a line of 1,024, 1,023 victims",
-        "a cycle of 1,024 whose asker is its victim, again and again",
         "locks are granted by a pass of an office",
         "a call is performed at once",
         "a commit before 1,023 readers",
