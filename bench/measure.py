@@ -25,10 +25,11 @@ The sections, with the minutes that they take on 4 free processors:
     instructions  what checks/instructions.py counts; needs valgrind; once                                   1/2
 
 The sections come out one by one, and what they are at goes to standard error. --paste also writes all figures of each into
-bench/results/SECTION.md, and puts the short text in the place of what bench/README.md has of it, up to the next heading. --quick
-makes one round with few repetitions, to try this script: its figures are none. Needs a C compiler, `$CC` or cc; `store` and
-`hash_table` need RocksDB, and `$CXX` or c++ for C++17. Builds the programs and the library first, if they aren't built; with
---over-gate, takes those that a full run of the gate and checks/embedding have left. Status 1: a section was left out.
+bench/results/SECTION.md, and puts the short text in the place of what bench/README.md has of it, up to the next heading; of
+`lock_bench` and `instructions` it has links alone. --quick makes one round with few repetitions, to try this script: its figures
+are none. Needs a C compiler, `$CC` or cc; `store` and `hash_table` need RocksDB, and `$CXX` or c++ for C++17. Builds the programs
+and the library first, if they aren't built; with --over-gate, takes those that a full run of the gate and checks/embedding have
+left. Status 1: a section was left out.
 """
 import argparse
 import os
@@ -178,12 +179,13 @@ def texts_of(section, rounds):
 
 
 def paste(section, whole, short):
-    """Writes all figures of a section into bench/results, and puts its short text in the place of what bench/README.md has of it: from the
-    comment that names it to the next heading."""
+    """Writes all figures of a section into bench/results, and puts its short text in the place of what bench/README.md has of it, if it has
+    any: from the comment that names it to the next heading."""
     line = f"<!-- bench/measure.py --only {section.name} replaces what follows, up to the next heading -->\n"
-    before, behind = README.read_text().split(line)
-    next_heading = behind.find("\n#")
-    README.write_text(f"{before}{line}\n{short}\n{behind[next_heading:] if next_heading >= 0 else ''}")
+    before, comment, behind = README.read_text().partition(line)
+    if comment:
+        next_heading = behind.find("\n#")
+        README.write_text(f"{before}{line}\n{short}\n{behind[next_heading:] if next_heading >= 0 else ''}")
     RESULTS.mkdir(exist_ok=True)
     title = section.heading.replace("`", "")
     (RESULTS / f"{section.name}.md").write_text(f"# {title}\n\nWritten by `bench/measure.py --paste --only {section.name}`.\n\n{whole}\n")

@@ -259,7 +259,7 @@ class Sharing(Section):
 class LockBench(Sharing):
     name, heading, needs = "lock_bench", "Threads: `lock_bench`", (LOCK_BENCH,)
     how = "Nanoseconds a call, mutex/office, of the fastest of 7 turns."
-    short_how = ""
+    short_how, short_tables = "", Section.short_tables
     TURNS = 7
 
     def cases(self):
@@ -271,9 +271,6 @@ class LockBench(Sharing):
 
     def tables(self, found):
         return self.grid(lambda case: found.pair(case, list(sharing.COMMANDS)))
-
-    def short_tables(self, found):
-        return self.tables(found.medians())
 
 
 class Waiting(Section):
@@ -533,15 +530,6 @@ class Instructions(Section):
     name, heading, needs = "instructions", "Instructions: `checks/instructions.py`", (GLM, LOCK_BENCH, LIBRARY)
     how = "Counted once by callgrind, which sees no clock."
     most_rounds = 1
-    # what bench/README.md has of the lines
-    SHOWN = (
-        "a request on a line of 1,024, 1,023 victims",
-        "locks are granted by a pass of an office",
-        "a call is performed at once",
-        "a commit before 1,023 readers",
-        "a transfer by calls of an office",
-        "a transfer by programs of an office",
-    )
 
     def cases(self):
         if shutil.which("valgrind") is None:
@@ -558,10 +546,6 @@ class Instructions(Section):
 
     def tables(self, _found):
         return table(["calls", "instructions", "at most"], [[told, f"{int(a):,}", f"{int(b):,}"] for told, a, b in self.lines])
-
-    def short_tables(self, _found):
-        shown = [[told, f"{int(counted):,}"] for told, counted, _ in self.lines if told in self.SHOWN]
-        return table(["calls", "instructions"], shown)
 
 
 SECTIONS = [
