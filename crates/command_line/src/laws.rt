@@ -7,8 +7,8 @@ ghost use Rattle.command_line.specs.declared.args.CommandRequest.{CommandRequest
 ghost use Rattle.command_line.specs.declared.args.TheConstants.{MAX_STREAMED_SESSIONS, MAX_TURNS};
 ghost use Rattle.command_line.specs.declared.args.Delivery.TheVariants as Delivery;
 ghost use Rattle.command_line.specs.declared.args.Form.TheVariants as Form;
-ghost use Rattle.command_line.specs.CommandLine.{Ask, AskCheck, AskDump, AskExplain, AskHelp, AskNothing, AskReplay, AskReplayInPieces, AskRun, AskRunInPieces, AskShell, AskShow, AskShowFrom, AskStats, AskTimeline, AskVersion};
-ghost use Rattle.command_line.specs.Streams.{SkipComments, WantHints, input_file, output_file, start_file};
+ghost use Rattle.command_line.specs.CommandLine.{Ask, AskCheck, AskDump, AskExplain, AskHelp, AskNothing, AskReplay, AskReplayInPieces, AskRun, AskRunInPieces, AskShell, AskShow, AskStats, AskTimeline, AskVersion};
+ghost use Rattle.command_line.specs.Streams.{SkipComments, WantHints, input_file, output_file};
 
 /// A command line asks for at most one command with its numbers. A command line that asks for a command asks neither for
 /// help nor for the version.
@@ -63,10 +63,6 @@ pub fn words_ask_as_documented()
     ensures show_state { AskDump (codes "glm" ∷ codes "show" ∷ codes "--state" ∷ []) 256 Form.Lines }
     ensures show_state_rows { AskDump (codes "glm" ∷ codes "show" ∷ codes "--state" ∷ codes "--csv" ∷ codes "--sessions=3" ∷ []) 3 Form.Rows }
     ensures show_state_at { AskNothing (codes "glm" ∷ codes "show" ∷ codes "--state" ∷ codes "--at=7" ∷ []) }
-    ensures show_from { AskShowFrom (codes "glm" ∷ codes "show" ∷ codes "--from" ∷ codes "d.csv" ∷ []) 256 None Form.Lines }
-    ensures show_from_at { AskShowFrom (codes "glm" ∷ codes "show" ∷ codes "--from=d.csv" ∷ codes "--at=7" ∷ codes "--sessions=3" ∷ codes "--csv" ∷ []) 3 (Some 7) Form.Rows }
-    ensures show_from_state { AskNothing (codes "glm" ∷ codes "show" ∷ codes "--state" ∷ codes "--from" ∷ codes "d.csv" ∷ []) }
-    ensures explain_from { AskNothing (codes "glm" ∷ codes "explain" ∷ codes "--from" ∷ codes "d.csv" ∷ []) }
     ensures explain_state { AskNothing (codes "glm" ∷ codes "explain" ∷ codes "--state" ∷ []) }
     ensures show_two_graphs { AskNothing (codes "glm" ∷ codes "show" ∷ codes "--dot" ∷ codes "--waits" ∷ []) }
     ensures show_rows_and_waits { AskNothing (codes "glm" ∷ codes "show" ∷ codes "--csv" ∷ codes "--waits" ∷ []) }
@@ -91,9 +87,8 @@ pub fn words_ask_as_documented()
     ensures shell_zeros { AskNothing (codes "glm" ∷ codes "shell" ∷ codes "--sessions=02" ∷ []) }
 {}
 
-/// Command lines with the files that they name: `-` is a standard stream, and so is a file that is left out; `--from` of `show` names
-/// one more to read. No command takes two files as its argument, and `shell` takes none. Each other command has the flags `--comments`
-/// and `--hints`.
+/// Command lines with the files that they name: `-` is a standard stream, and so is a file that is left out. No command takes two
+/// files to read, and `shell` takes none. Each other command has the flags `--comments` and `--hints`.
 pub fn words_name_files()
     ensures none { (input_file (codes "glm" ∷ codes "replay" ∷ []) ≡ None) × (output_file (codes "glm" ∷ codes "replay" ∷ []) ≡ None) }
     ensures read { AskReplay (codes "glm" ∷ codes "replay" ∷ codes "a.csv" ∷ []) 256 × (input_file (codes "glm" ∷ codes "replay" ∷ codes "a.csv" ∷ []) ≡ Some (codes "a.csv")) }
@@ -102,8 +97,6 @@ pub fn words_name_files()
     ensures write { AskCheck (codes "glm" ∷ codes "check" ∷ codes "-o" ∷ codes "b.txt" ∷ []) 256 Delivery.Whole × (output_file (codes "glm" ∷ codes "check" ∷ codes "-o" ∷ codes "b.txt" ∷ []) ≡ Some (codes "b.txt")) }
     ensures write_long { output_file (codes "glm" ∷ codes "show" ∷ codes "--output=b.txt" ∷ []) ≡ Some (codes "b.txt") }
     ensures write_dash { output_file (codes "glm" ∷ codes "explain" ∷ codes "-o" ∷ codes "-" ∷ []) ≡ None }
-    ensures start { start_file (codes "glm" ∷ codes "show" ∷ codes "--from" ∷ codes "d.csv" ∷ []) ≡ Some (codes "d.csv") }
-    ensures no_start { start_file (codes "glm" ∷ codes "show" ∷ []) ≡ None }
     ensures two { AskNothing (codes "glm" ∷ codes "replay" ∷ codes "a.csv" ∷ codes "b.csv" ∷ []) }
     ensures shell_file { AskNothing (codes "glm" ∷ codes "shell" ∷ codes "a.csv" ∷ []) }
     ensures no_target { AskNothing (codes "glm" ∷ codes "replay" ∷ codes "-o" ∷ []) }

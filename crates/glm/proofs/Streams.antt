@@ -10,7 +10,7 @@ use Rattle.command_line.specs.declared.args.CommandRequest.{CommandRequest}
 use Rattle.command_line.specs.declared.args.Request.{Request}
 use Rattle.command_line.specs.CommandLine.{Ask, AskVersion, glm_command}
 use Rattle.command_line.specs.Streams.{HasStreamsOf, SkipComments, input_file, output_file}
-use Rattle.row_comments.specs.Comments.{text_read, without_comments}
+use Rattle.lock_trace.specs.Comments.{text_read, without_comments}
 use Rattle.glm.specs.declared.outcomes.Outcome.{Outcome}
 use Rattle.glm.specs.declared.outcomes.Outcome.TheVariants as outcome
 use Rattle.glm.specs.Outcomes.{HasDone}
@@ -39,7 +39,6 @@ kept_by_outcome words input old new (outcome.Show answer) s kept = kept_on_strea
 kept_by_outcome words input old new (outcome.Explain answer) s kept = kept_on_streams words input old new _ s (kept _ _ _ s.has_done)
 kept_by_outcome words input old new (outcome.Timeline answer) s kept = kept_on_streams words input old new _ s (kept _ _ _ s.has_done)
 kept_by_outcome words input old new (outcome.Dump answer) s kept = kept_on_streams words input old new _ s (kept _ _ _ s.has_done)
-kept_by_outcome words input old new (outcome.ShowFrom answer) s kept = kept_on_streams words input old new _ s (kept _ _ _ s.has_done)
 kept_by_outcome words input old new (outcome.Stats answer) s kept = kept_on_streams words input old new _ s (kept _ _ _ s.has_done)
 kept_by_outcome words input old new (outcome.Shell answer) s kept = kept_on_streams words input old new _ s (kept s.read s.before s.after s.has_done)
 kept_by_outcome words input old new outcome.HelpShown d kept = kept input old new d
@@ -70,7 +69,6 @@ standard words input old new (outcome.Show answer) r w c s = on_standard words i
 standard words input old new (outcome.Explain answer) r w c s = on_standard words input old new _ r w c s
 standard words input old new (outcome.Timeline answer) r w c s = on_standard words input old new _ r w c s
 standard words input old new (outcome.Dump answer) r w c s = on_standard words input old new _ r w c s
-standard words input old new (outcome.ShowFrom answer) r w c s = on_standard words input old new _ r w c s
 standard words input old new (outcome.Stats answer) r w c s = on_standard words input old new _ r w c s
 standard words input old new (outcome.Shell answer) r w c s = on_standard words input old new _ r w c s
 standard words input old new outcome.HelpShown r w c d = d
@@ -97,7 +95,6 @@ on_streams words asked input old new (outcome.Show answer) ask s = s
 on_streams words asked input old new (outcome.Explain answer) ask s = s
 on_streams words asked input old new (outcome.Timeline answer) ask s = s
 on_streams words asked input old new (outcome.Dump answer) ask s = s
-on_streams words asked input old new (outcome.ShowFrom answer) ask s = s
 on_streams words asked input old new (outcome.Stats answer) ask s = s
 on_streams words asked input old new (outcome.Shell answer) ask s = s
 on_streams words asked input old new outcome.HelpShown ask s = s.has_done

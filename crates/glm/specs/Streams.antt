@@ -3,7 +3,7 @@ use Rattle.std.specs.Prelude.{◌≡◌, ◌≢◌, ◌⊎◌, ℕ, List, Option
 use Rattle.std.specs.Io.KnownBytes.{Keeps}
 use Rattle.clap.specs.Walk.{Text}
 use Rattle.command_line.specs.Streams.{SkipComments, input_file, output_file}
-use Rattle.row_comments.specs.Comments.{without_comments}
+use Rattle.lock_trace.specs.Comments.{without_comments}
 use Rattle.glm.specs.declared.outcomes.Outcome.{Outcome}
 use Rattle.glm.specs.declared.outcomes.Outcome.TheVariants as outcome
 use Rattle.glm.specs.Outcomes.{HasDone}
@@ -39,7 +39,6 @@ HasOutcome words input old new (outcome.RunInPieces answer) = HasDoneOnStreams w
 HasOutcome words input old new (outcome.Check answer) = HasDoneOnStreams words input old new (outcome.Check answer)
 HasOutcome words input old new (outcome.Show answer) = HasDoneOnStreams words input old new (outcome.Show answer)
 HasOutcome words input old new (outcome.Dump answer) = HasDoneOnStreams words input old new (outcome.Dump answer)
-HasOutcome words input old new (outcome.ShowFrom answer) = HasDoneOnStreams words input old new (outcome.ShowFrom answer)
 HasOutcome words input old new (outcome.Explain answer) = HasDoneOnStreams words input old new (outcome.Explain answer)
 HasOutcome words input old new (outcome.Timeline answer) = HasDoneOnStreams words input old new (outcome.Timeline answer)
 HasOutcome words input old new (outcome.Stats answer) = HasDoneOnStreams words input old new (outcome.Stats answer)

@@ -2,10 +2,9 @@
 
 use crate::outcomes::Outcome;
 use command_line::CommandRequest;
-use history_commands::{Finding, ShowFault, Verdict, WrongReply};
+use history_commands::{ShowFault, Verdict, WrongReply};
 use lock_trace::TraceFault;
 use replay_commands::ToolFault;
-use resume_command::ResumeFault;
 use row_hints::{Command, KeptRows, write_expected, write_hint};
 use std::alloc::Global;
 use std::io::Write;
@@ -27,9 +26,9 @@ fn command_for(request: CommandRequest) -> (Command, u16) {
         }
         CommandRequest::Run(sessions, _, _) => (Command::Run, sessions),
         CommandRequest::Check(sessions, _) => (Command::Check, sessions),
-        CommandRequest::Show(sessions, _, _)
-        | CommandRequest::Dump(sessions, _)
-        | CommandRequest::ShowFrom(sessions, _, _) => (Command::Show, sessions),
+        CommandRequest::Show(sessions, _, _) | CommandRequest::Dump(sessions, _) => {
+            (Command::Show, sessions)
+        }
         CommandRequest::Explain(sessions, _, _) => (Command::Explain, sessions),
         CommandRequest::Timeline(sessions, _, _) => (Command::Timeline, sessions),
         CommandRequest::Stats(sessions, _) => (Command::Stats, sessions),
@@ -48,7 +47,6 @@ fn row_fault(outcome: &Outcome) -> Option<TraceFault> {
         Outcome::Show(Err(ShowFault::Trace(fault)))
         | Outcome::Explain(Err(ShowFault::Trace(fault)))
         | Outcome::Timeline(Err(ShowFault::Trace(fault))) => Some(*fault),
-        Outcome::ShowFrom(Err(ResumeFault::History(ShowFault::Trace(fault)))) => Some(*fault),
         _ => None,
     }
 }
@@ -58,7 +56,6 @@ fn is_illegal(outcome: &Outcome) -> bool {
     match outcome {
         Outcome::Check(Ok(Verdict::Illegal(_))) => true,
         Outcome::Show(Ok(Verdict::Illegal(_))) | Outcome::Explain(Ok(Verdict::Illegal(_))) => true,
-        Outcome::ShowFrom(Ok(Finding::Wrong(_))) => true,
         _ => false,
     }
 }

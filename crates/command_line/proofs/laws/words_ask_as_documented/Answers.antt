@@ -10,11 +10,11 @@ use Rattle.lock_tree.specs.Numerals.{reading_of_numeral}
 use Rattle.lock_tree.specs.declared.numeral.NumeralFault.{NumeralFault}
 use Rattle.lock_tree.specs.declared.numeral.NumeralFault.TheVariants.{LeadingZero, NotANumber}
 use Rattle.lock_rules.specs.declared.calls.TheConstants.{MAX_SESSIONS}
-use Rattle.command_line.specs.CommandLine.{AskNothing, Gives, GivesFile, HasFlag, IsRequest, WantsForm, faults_of, glm_command}
+use Rattle.command_line.specs.CommandLine.{AskNothing, Gives, HasFlag, IsRequest, WantsForm, faults_of, glm_command}
 use Rattle.command_line.specs.declared.args.Form.{Form}
 use Rattle.command_line.specs.declared.args.TheConstants.{MAX_PLACE, MAX_TURNS}
 use Rattle.command_line.specs.declared.args.TheConstants.{MAX_STREAMED_SESSIONS}
-use Rattle.command_line.proofs.Ask.{faulty, no_dump_at, no_dump_from, no_first_place, no_last_place, nothing_told, no_streamed, no_such_sessions, sessions_text}
+use Rattle.command_line.proofs.Ask.{faulty, no_dump_at, no_first_place, no_last_place, nothing_told, no_streamed, no_such_sessions, sessions_text}
 use Rattle.command_line.proofs.AskShow.{place_given, place_not_given, rows_and_waits, two_forms, two_graphs}
 use Rattle.command_line.proofs.Gives.{numeral_given}
 use Rattle.command_line.proofs.laws.words_ask_as_documented.Goals as goal
@@ -80,16 +80,6 @@ at_a_dump : (words : List Text) (name : Text) (rows : List Row) (text : Text) (p
     → name ≡ codes "show" → HasFlag (codes "state") rows → first_of (codes "at") rows ≡ Some text → reading_of_numeral MAX_PLACE text ≡ Ok place → AskNothing words
 at_a_dump words name rows text place whole is named state given read = record {
   no_request = λ asked ask. no_dump_at rows place state (place_given _ text place rows given read) asked
-      (subst (λ (n : Text). IsRequest (Some (n, rows)) asked) named (subst (λ (f : Option (Text × List Row)). IsRequest f asked) is ask.request_is));
-  no_help = λ help. let bad : [] ≡ DisplayHelp ∷ [] = sym whole ∙ help in cc;
-  no_version = λ version. let bad : [] ≡ DisplayVersion ∷ [] = sym whole ∙ version in cc;
-}
-
--- words without an error ask for nothing if they name `show`, the flag `--state` and a file for `--from`
-from_a_dump : (words : List Text) (name : Text) (rows : List Row) → faults_of words ≡ [] → subcommand_of glm_command words ≡ Some (name, rows)
-    → name ≡ codes "show" → HasFlag (codes "state") rows → GivesFile (codes "start") rows → AskNothing words
-from_a_dump words name rows whole is named state file = record {
-  no_request = λ asked ask. no_dump_from rows state file asked
       (subst (λ (n : Text). IsRequest (Some (n, rows)) asked) named (subst (λ (f : Option (Text × List Row)). IsRequest f asked) is ask.request_is));
   no_help = λ help. let bad : [] ≡ DisplayHelp ∷ [] = sym whole ∙ help in cc;
   no_version = λ version. let bad : [] ≡ DisplayVersion ∷ [] = sym whole ∙ version in cc;
@@ -239,51 +229,35 @@ returns-clause-version_short c = inl refl
 
 pub returns-clause-show : goal.returns-clause-show
 unfolding clap_on_literals
-returns-clause-show c = record { whole = refl; request_is = (refl, numeral_given (codes "sessions") (codes "256") MAX_SESSIONS 256 _ (omega arith) refl refl (search rules), refl, (λ flag. let no : Some (codes "false") ≡ Some (codes "true") = flag in cc, λ flag. let no : Some (codes "false") ≡ Some (codes "true") = flag in cc, λ flag. let no : Some (codes "false") ≡ Some (codes "true") = flag in cc), (λ flag. let no : Some (codes "false") ≡ Some (codes "true") = flag in cc), refl) }
+returns-clause-show c = record { whole = refl; request_is = (refl, numeral_given (codes "sessions") (codes "256") MAX_SESSIONS 256 _ (omega arith) refl refl (search rules), refl, (λ flag. let no : Some (codes "false") ≡ Some (codes "true") = flag in cc, λ flag. let no : Some (codes "false") ≡ Some (codes "true") = flag in cc, λ flag. let no : Some (codes "false") ≡ Some (codes "true") = flag in cc), λ flag. let no : Some (codes "false") ≡ Some (codes "true") = flag in cc) }
 
 pub returns-clause-show_at : goal.returns-clause-show_at
 unfolding clap_on_literals
-returns-clause-show_at c = record { whole = refl; request_is = (refl, numeral_given (codes "sessions") (codes "256") MAX_SESSIONS 256 _ (omega arith) refl refl (search rules), place_given _ (codes "0") 0 _ refl refl, (λ flag. let no : Some (codes "false") ≡ Some (codes "true") = flag in cc, λ flag. let no : Some (codes "false") ≡ Some (codes "true") = flag in cc, λ flag. let no : Some (codes "false") ≡ Some (codes "true") = flag in cc), (λ flag. let no : Some (codes "false") ≡ Some (codes "true") = flag in cc), refl) }
+returns-clause-show_at c = record { whole = refl; request_is = (refl, numeral_given (codes "sessions") (codes "256") MAX_SESSIONS 256 _ (omega arith) refl refl (search rules), place_given _ (codes "0") 0 _ refl refl, (λ flag. let no : Some (codes "false") ≡ Some (codes "true") = flag in cc, λ flag. let no : Some (codes "false") ≡ Some (codes "true") = flag in cc, λ flag. let no : Some (codes "false") ≡ Some (codes "true") = flag in cc), λ flag. let no : Some (codes "false") ≡ Some (codes "true") = flag in cc) }
 
 pub returns-clause-show_rows : goal.returns-clause-show_rows
 unfolding clap_on_literals
-returns-clause-show_rows c = record { whole = refl; request_is = (refl, numeral_given (codes "sessions") (codes "3") MAX_SESSIONS 3 _ (omega arith) refl refl (search rules), place_given _ (codes "7") 7 _ refl refl, (refl, λ flag. let no : Some (codes "false") ≡ Some (codes "true") = flag in cc, λ flag. let no : Some (codes "false") ≡ Some (codes "true") = flag in cc), (λ flag. let no : Some (codes "false") ≡ Some (codes "true") = flag in cc), refl) }
+returns-clause-show_rows c = record { whole = refl; request_is = (refl, numeral_given (codes "sessions") (codes "3") MAX_SESSIONS 3 _ (omega arith) refl refl (search rules), place_given _ (codes "7") 7 _ refl refl, (refl, λ flag. let no : Some (codes "false") ≡ Some (codes "true") = flag in cc, λ flag. let no : Some (codes "false") ≡ Some (codes "true") = flag in cc), λ flag. let no : Some (codes "false") ≡ Some (codes "true") = flag in cc) }
 
 pub returns-clause-show_graph : goal.returns-clause-show_graph
 unfolding clap_on_literals
-returns-clause-show_graph c = record { whole = refl; request_is = (refl, numeral_given (codes "sessions") (codes "256") MAX_SESSIONS 256 _ (omega arith) refl refl (search rules), refl, (λ flag. let no : Some (codes "false") ≡ Some (codes "true") = flag in cc, refl, λ flag. let no : Some (codes "false") ≡ Some (codes "true") = flag in cc), (λ flag. let no : Some (codes "false") ≡ Some (codes "true") = flag in cc), refl) }
+returns-clause-show_graph c = record { whole = refl; request_is = (refl, numeral_given (codes "sessions") (codes "256") MAX_SESSIONS 256 _ (omega arith) refl refl (search rules), refl, (λ flag. let no : Some (codes "false") ≡ Some (codes "true") = flag in cc, refl, λ flag. let no : Some (codes "false") ≡ Some (codes "true") = flag in cc), λ flag. let no : Some (codes "false") ≡ Some (codes "true") = flag in cc) }
 
 pub returns-clause-show_waits : goal.returns-clause-show_waits
 unfolding clap_on_literals
-returns-clause-show_waits c = record { whole = refl; request_is = (refl, numeral_given (codes "sessions") (codes "256") MAX_SESSIONS 256 _ (omega arith) refl refl (search rules), refl, (λ flag. let no : Some (codes "false") ≡ Some (codes "true") = flag in cc, λ flag. let no : Some (codes "false") ≡ Some (codes "true") = flag in cc, refl), (λ flag. let no : Some (codes "false") ≡ Some (codes "true") = flag in cc), refl) }
+returns-clause-show_waits c = record { whole = refl; request_is = (refl, numeral_given (codes "sessions") (codes "256") MAX_SESSIONS 256 _ (omega arith) refl refl (search rules), refl, (λ flag. let no : Some (codes "false") ≡ Some (codes "true") = flag in cc, λ flag. let no : Some (codes "false") ≡ Some (codes "true") = flag in cc, refl), λ flag. let no : Some (codes "false") ≡ Some (codes "true") = flag in cc) }
 
 pub returns-clause-show_state : goal.returns-clause-show_state
 unfolding clap_on_literals
-returns-clause-show_state c = record { whole = refl; request_is = (refl, numeral_given (codes "sessions") (codes "256") MAX_SESSIONS 256 _ (omega arith) refl refl (search rules), refl, (λ flag. let no : Some (codes "false") ≡ Some (codes "true") = flag in cc, λ flag. let no : Some (codes "false") ≡ Some (codes "true") = flag in cc, λ flag. let no : Some (codes "false") ≡ Some (codes "true") = flag in cc), refl, refl) }
+returns-clause-show_state c = record { whole = refl; request_is = (refl, numeral_given (codes "sessions") (codes "256") MAX_SESSIONS 256 _ (omega arith) refl refl (search rules), refl, (λ flag. let no : Some (codes "false") ≡ Some (codes "true") = flag in cc, λ flag. let no : Some (codes "false") ≡ Some (codes "true") = flag in cc, λ flag. let no : Some (codes "false") ≡ Some (codes "true") = flag in cc), refl) }
 
 pub returns-clause-show_state_rows : goal.returns-clause-show_state_rows
 unfolding clap_on_literals
-returns-clause-show_state_rows c = record { whole = refl; request_is = (refl, numeral_given (codes "sessions") (codes "3") MAX_SESSIONS 3 _ (omega arith) refl refl (search rules), refl, (refl, λ flag. let no : Some (codes "false") ≡ Some (codes "true") = flag in cc, λ flag. let no : Some (codes "false") ≡ Some (codes "true") = flag in cc), refl, refl) }
+returns-clause-show_state_rows c = record { whole = refl; request_is = (refl, numeral_given (codes "sessions") (codes "3") MAX_SESSIONS 3 _ (omega arith) refl refl (search rules), refl, (refl, λ flag. let no : Some (codes "false") ≡ Some (codes "true") = flag in cc, λ flag. let no : Some (codes "false") ≡ Some (codes "true") = flag in cc), refl) }
 
 pub returns-clause-show_state_at : goal.returns-clause-show_state_at
 unfolding clap_on_literals
 returns-clause-show_state_at c = at_a_dump _ _ _ (codes "7") 7 refl refl refl refl refl refl
-
-pub returns-clause-show_from : goal.returns-clause-show_from
-unfolding clap_on_literals
-returns-clause-show_from c = record { whole = refl; request_is = (refl, numeral_given (codes "sessions") (codes "256") MAX_SESSIONS 256 _ (omega arith) refl refl (search rules), refl, (λ flag. let no : Some (codes "false") ≡ Some (codes "true") = flag in cc, λ flag. let no : Some (codes "false") ≡ Some (codes "true") = flag in cc, λ flag. let no : Some (codes "false") ≡ Some (codes "true") = flag in cc), (λ flag. let no : Some (codes "false") ≡ Some (codes "true") = flag in cc), (codes "d.csv", refl)) }
-
-pub returns-clause-show_from_at : goal.returns-clause-show_from_at
-unfolding clap_on_literals
-returns-clause-show_from_at c = record { whole = refl; request_is = (refl, numeral_given (codes "sessions") (codes "3") MAX_SESSIONS 3 _ (omega arith) refl refl (search rules), place_given _ (codes "7") 7 _ refl refl, (refl, λ flag. let no : Some (codes "false") ≡ Some (codes "true") = flag in cc, λ flag. let no : Some (codes "false") ≡ Some (codes "true") = flag in cc), (λ flag. let no : Some (codes "false") ≡ Some (codes "true") = flag in cc), (codes "d.csv", refl)) }
-
-pub returns-clause-show_from_state : goal.returns-clause-show_from_state
-unfolding clap_on_literals
-returns-clause-show_from_state c = from_a_dump _ _ _ refl refl refl refl (codes "d.csv", refl)
-
-pub returns-clause-explain_from : goal.returns-clause-explain_from
-unfolding clap_on_literals
-returns-clause-explain_from c = faulty _ UnknownArgument [] refl (search rules) (search rules)
 
 pub returns-clause-explain_state : goal.returns-clause-explain_state
 unfolding clap_on_literals

@@ -38,14 +38,6 @@ pub returns-clause-write_dash : goal.returns-clause-write_dash
 unfolding clap_on_literals
 returns-clause-write_dash c = refl
 
-pub returns-clause-start : goal.returns-clause-start
-unfolding clap_on_literals
-returns-clause-start c = refl
-
-pub returns-clause-no_start : goal.returns-clause-no_start
-unfolding clap_on_literals
-returns-clause-no_start c = refl
-
 pub returns-clause-two : goal.returns-clause-two
 unfolding clap_on_literals
 returns-clause-two c = faulty _ UnknownArgument [] refl (search rules) (search rules)
