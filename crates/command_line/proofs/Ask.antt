@@ -199,18 +199,6 @@ no_name name rows replay run check show explain timeline stats shell (request.Ti
 no_name name rows replay run check show explain timeline stats shell (request.Stats n f) is = stats is.0
 no_name name rows replay run check show explain timeline stats shell (request.Shell n) is = shell is.0
 
--- the text of the option `--sessions` of the command that was found
-abbrev pub sessions_text : Option (Text × List Row) → Option Text
-sessions_text None = None
-sessions_text (Some found) = first_of (codes "sessions") found.1
-
--- no request is in a command whose `--sessions` isn't read as a number
-pub no_such_sessions : (found : Option (Text × List Row)) (text : Text) (fault : NumeralFault) → sessions_text found ≡ Some text
-    → reading_of_numeral MAX_SESSIONS text ≡ Err fault → (asked : CommandRequest) → ¬ IsRequest found asked
-no_such_sessions None text fault is wrong asked h = h
-no_such_sessions (Some found) text fault is wrong asked h =
-    no_sessions found.0 found.1 (numeral_not_given _ text MAX_SESSIONS found.1 (omega arith) is (λ m read some. let bad : Ok m ≡ Err fault = sym read ∙ wrong in cc)) asked h
-
 -- a name with its options is at most one request
 one-in : (name : Text) (rows : List Row) (r q : CommandRequest) → IsRequestIn name rows r → IsRequestIn name rows q → r ≡ q
 one-in name rows (request.Replay n d) (request.Replay m e) a b = ap₂ (λ k l. request.Replay k l) (sessions-one rows n m a.1 b.1) (delivery-one rows d e a.2 b.2)

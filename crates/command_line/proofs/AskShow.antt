@@ -54,24 +54,3 @@ place_not_given option text rows is none (Some n) gives =
     let same : Some text ≡ Some (decimal n) = sym is ∙ gives.given in
     let text_is : text ≡ decimal n = cc in
     none n ((reading_iff text MAX_PLACE n (omega arith)).1 (gives.few, text_is))
-
--- options with both flags want no form
-pub two_forms : (rows : List Row) → HasFlag (codes "csv") rows → HasFlag (codes "dot") rows → (asked : Form) → ¬ WantsForm rows asked
-two_forms rows csv dot form.Lines wants = wants.0 csv
-two_forms rows csv dot form.Rows wants = wants.1 dot
-two_forms rows csv dot form.Graph wants = wants.0 csv
-two_forms rows csv dot form.Waits wants = wants.0 csv
-
--- options with the flags of both graphs want no form
-pub two_graphs : (rows : List Row) → HasFlag (codes "dot") rows → HasFlag (codes "waits") rows → (asked : Form) → ¬ WantsForm rows asked
-two_graphs rows dot waits form.Lines wants = wants.1 dot
-two_graphs rows dot waits form.Rows wants = wants.1 dot
-two_graphs rows dot waits form.Graph wants = wants.2 waits
-two_graphs rows dot waits form.Waits wants = wants.1 dot
-
--- options with the flags of rows and of waits want no form
-pub rows_and_waits : (rows : List Row) → HasFlag (codes "csv") rows → HasFlag (codes "waits") rows → (asked : Form) → ¬ WantsForm rows asked
-rows_and_waits rows csv waits form.Lines wants = wants.0 csv
-rows_and_waits rows csv waits form.Rows wants = wants.2 waits
-rows_and_waits rows csv waits form.Graph wants = wants.0 csv
-rows_and_waits rows csv waits form.Waits wants = wants.0 csv
