@@ -1,12 +1,9 @@
 -- The request of a parsed command, from its options up to the words: at most one, and when there is none.
 use Rattle.std.proofs.Common.{rules, arith, ap, ap₂, get_or, inl, inr, refl, subst, sym, ◌≡◌, ◌≢◌, ◌⊎◌, ◌∙◌, ◌<◌, ◌^◌, ℕ, List, [], ◌∷◌, Option, Some, None, codes}
-use Rattle.std.specs.Prelude.{Ok, Err, IfSome, IfNone, decimal}
+use Rattle.std.specs.Prelude.{IfSome, IfNone, decimal}
 use Rattle.std.proofs.lemmas.Fmt.{decimal_injective}
 use Rattle.clap.specs.Simple.{subcommand_of}
-use Rattle.clap.specs.Walk.{Row, Text, first_of}
-use Rattle.lock_tree.specs.Numerals.{reading_of_numeral}
-use Rattle.lock_tree.specs.declared.numeral.NumeralFault.{NumeralFault}
-use Rattle.command_line.proofs.Gives.{numeral_not_given}
+use Rattle.clap.specs.Walk.{Row, Text}
 use Rattle.lock_rules.specs.declared.calls.TheConstants.{MAX_SESSIONS}
 use Rattle.command_line.specs.declared.args.TheConstants.{MAX_TURNS}
 use Rattle.command_line.specs.declared.args.TheConstants.{MAX_STREAMED_SESSIONS}

@@ -1,5 +1,5 @@
 -- The place that an option gives, and the form that `show` or `explain` is asked for: at most one of each, and when there is none.
-use Rattle.std.proofs.Common.{arith, ap, refl, sym, ◌≡◌, ◌∙◌, ℕ, List, Option, Some, None, codes}
+use Rattle.std.proofs.Common.{arith, ap, refl, sym, ◌≡◌, ◌∙◌, ℕ, List, Option, Some, None}
 use Rattle.std.specs.Prelude.{Ok, decimal}
 use Rattle.std.proofs.lemmas.Fmt.{decimal_injective}
 use Rattle.clap.specs.Walk.{Row, Text, first_of}
@@ -8,7 +8,7 @@ use Rattle.lock_tree.proofs.Numerals.{reading_iff}
 use Rattle.command_line.specs.declared.args.TheConstants.{MAX_PLACE}
 use Rattle.command_line.specs.declared.args.Form.{Form}
 use Rattle.command_line.specs.declared.args.Form.TheVariants as form
-use Rattle.command_line.specs.CommandLine.{GivesPlace, HasFlag, WantsForm}
+use Rattle.command_line.specs.CommandLine.{GivesPlace, WantsForm}
 
 -- an option gives at most one place
 pub place-one : (option : Text) (rows : List Row) (p q : Option ℕ) → GivesPlace option rows p → GivesPlace option rows q → p ≡ q

@@ -1,21 +1,7 @@
-use Rattle.std.proofs.Common.{rules, arith, refl, subst, sym, inl, inr, codes, ◌≡◌, ◌≢◌, ◌⊎◌, ◌∙◌, ℕ, List, [], ◌∷◌, Option, Some, None}
-use Rattle.std.specs.Prelude.{Err, Ok}
-use Rattle.clap.specs.Kinds.{Kinds}
-use Rattle.clap.specs.Simple.{subcommand_of}
-use Rattle.clap.specs.Walk.{Row, Text, first_of}
-use Rattle.clap.specs.declared.error.kind.ErrorKind.{ErrorKind}
-use Rattle.clap.specs.declared.error.kind.ErrorKind.TheVariants.{DisplayHelp, DisplayVersion, MissingSubcommand, UnknownArgument, InvalidSubcommand, ValueValidation}
+use Rattle.std.proofs.Common.{rules, arith, refl, codes, ◌≡◌, Some, None}
 use Rattle.clap.proofs.OnLiterals.{clap_on_literals}
-use Rattle.lock_tree.specs.Numerals.{reading_of_numeral}
-use Rattle.lock_tree.specs.declared.numeral.NumeralFault.{NumeralFault}
-use Rattle.lock_tree.specs.declared.numeral.NumeralFault.TheVariants.{LeadingZero, NotANumber}
 use Rattle.lock_rules.specs.declared.calls.TheConstants.{MAX_SESSIONS}
-use Rattle.command_line.specs.CommandLine.{AskNothing, Gives, HasFlag, IsRequest, WantsForm, faults_of, glm_command}
-use Rattle.command_line.specs.declared.args.Form.{Form}
-use Rattle.command_line.specs.declared.args.TheConstants.{MAX_PLACE, MAX_TURNS}
-use Rattle.command_line.specs.declared.args.TheConstants.{MAX_STREAMED_SESSIONS}
-use Rattle.command_line.proofs.Ask.{faulty, no_dump_at, no_first_place, no_last_place, nothing_told, no_streamed, no_such_sessions, sessions_text}
-use Rattle.command_line.proofs.AskShow.{place_given, place_not_given, rows_and_waits, two_forms, two_graphs}
+use Rattle.command_line.specs.declared.args.TheConstants.{MAX_TURNS}
 use Rattle.command_line.proofs.Gives.{numeral_given}
 use Rattle.command_line.proofs.laws.words_ask_as_documented.Goals as goal
 
