@@ -3,22 +3,19 @@
 ghost use Rattle.std.specs.Prelude.{IfOk};
 ghost use Rattle.row_hints.specs.HintTexts.{IsHintText};
 
-use crate::lexing::{Span, field_span, row_length};
+use crate::lexing::{field_span, first_row};
 use crate::lines::Lines;
 use crate::marked_row::put_marked_row;
 use lock_rules::{Entry, Reply};
 use lock_trace::piece_text;
 use std::alloc::{AllocError as NoMemory, Global};
-use std::io::Write;
 
 /// Writes the row of an entry behind `head`, with a mark below the reply and its value.
 fn put_entry(lines: &mut Lines, head: &str, place: u64, entry: Entry) -> Result<(), NoMemory> {
     let text = piece_text(lines.alloc(), place, &[entry])?;
-    let (length, _) = row_length(&text);
-    let row = text.get(..length).unwrap_or(b"");
+    let row = first_row(&text);
     let start = field_span(row, 5).start;
-    let end = row.len();
-    put_marked_row(lines, head, row, Span { start, end })
+    put_marked_row(lines, head, row, start..row.len())
 }
 
 /// Lines that show the row of a history at `place` as it is told, and with the reply that the lock table gives there, each with
@@ -33,7 +30,7 @@ pub fn expected_text(
 {
     let mut lines = Lines::new(alloc);
     let first = format!(in alloc; "place {place}: the reply isn't the lock table's")?;
-    lines.put_first(first.as_str())?;
+    lines.put("glm: ", first.as_str())?;
     put_entry(&mut lines, "in the history:   ", place, *told)?;
     let right = Entry {
         session: told.session,
@@ -42,17 +39,4 @@ pub fn expected_text(
     };
     put_entry(&mut lines, "the lock table's: ", place, right)?;
     Ok(lines.into_text())
-}
-
-/// Writes [`expected_text`] to `errors`, in one write. Nothing if memory is refused; a failure of `errors` is ignored.
-pub fn write_expected<E: Write>(
-    alloc: Global,
-    place: u64,
-    told: &Entry,
-    given: &Reply,
-    errors: &mut E,
-) {
-    if let Ok(text) = expected_text(alloc, place, told, given) {
-        let _written = errors.write_all(&text);
-    }
 }
