@@ -15,13 +15,9 @@ one_more text line h is = (
   All-append IsHintLine h.0 (line ∷ []) h.2 (All-cons IsHintLine line [] is (All-nil IsHintLine)),
 )
 
--- What is shown of a byte is printable.
-is_printable : (byte : ℕ) → IsPrintable (printable_byte byte)
-is_printable byte = grind arith
-
 -- What is shown of words is printable.
 words_are_printable : (words : List ℕ) → All IsPrintable (map printable_byte words)
-words_are_printable words = All-map IsPrintable printable_byte words (λ k d lt. is_printable (get_or words k d))
+words_are_printable words = All-map IsPrintable printable_byte words (λ k d lt. let byte = get_or words k d in grind arith)
 
 -- A line of words behind its start.
 pub hint_line : (start words : List ℕ) → IsStart start → IsHintLine (start ++ map printable_byte words)

@@ -1,4 +1,4 @@
-//! The hint to the fault of a row.
+//! The hint to the fault of a row, and a wrong reply of a history beside the right one.
 
 ghost use Rattle.std.specs.Prelude.{◌≡◌, IfOk, map};
 ghost use Rattle.lock_modes.specs.Codes.{name_of};
@@ -7,14 +7,13 @@ ghost use Rattle.row_hints.specs.HintTexts.{IsHintText};
 ghost use Rattle.row_hints.specs.inner.WordLists.{listed};
 
 use crate::kept::KeptRows;
-use crate::lexing::field_span;
+use crate::lexing::{field_span, first_row};
 use crate::lines::Lines;
 use crate::marked_row::put_marked_row;
 use lock_modes::MODES;
-use lock_rules::{OPS, REPLY_KINDS};
-use lock_trace::{TraceFault, TraceKind};
+use lock_rules::{Entry, OPS, REPLY_KINDS, Reply};
+use lock_trace::{TraceFault, TraceKind, piece_text};
 use std::alloc::{AllocError as NoMemory, Global};
-use std::ops::Range;
 
 /// The ops.
 const OP_WORDS: &str =
@@ -27,11 +26,8 @@ const MODE_WORDS: &str = "NL, IS, IX, S, SIX, U or X";
 const REPLY_WORDS: &str =
     "began, granted, waiting, deadlock, clear, released, committed, aborted, refused, withdrawn or restarted";
 
-/// The form of a resource.
-const PATH_FORM: &str = "1 to 5 numbers from 0 to 4294967295, without leading zeros, joined by '/'";
-
-/// What a field has that isn't used.
-const EMPTY: &str = "an empty field";
+/// What a resource is.
+const PATH_FORM: &str = "1 to 5 numbers up to 4294967295 without leading zeros, joined by '/'";
 
 /// The words are those of rows, in their order.
 fn words_are_those_of_rows()
@@ -40,103 +36,67 @@ fn words_are_those_of_rows()
     ensures replies { REPLY_WORDS.now ≡ listed (map word_of_reply REPLY_KINDS) }
 {}
 
-/// The form of the rows that a command reads.
+/// The form of the rows that a command reads, and the field with which they begin: in both forms fields have the indices that they
+/// have in a history, from 0.
 #[derive(Clone, Copy, Debug, Drop, PartialEq, Eq)]
 pub enum RowForm {
-    /// Rows of a trace.
-    Trace,
     /// Rows of a history.
-    History,
-}
-
-impl RowForm {
-    /// How many fields a row has, and their names.
-    fn fields(self) -> &'static str {
-        match self {
-            RowForm::Trace => "4 fields: session,op,resource,mode",
-            RowForm::History => "7 fields: place,session,op,resource,mode,reply,value",
-        }
-    }
-
-    /// The index of a field of a row, from 0, by its index in a history.
-    fn index(self, in_history: usize) -> usize {
-        match self {
-            RowForm::Trace => in_history.saturating_sub(1),
-            RowForm::History => in_history,
-        }
-    }
+    History = 0,
+    /// Rows of a trace.
+    Trace = 1,
 }
 
 /// The field at this index of the row, without the quotes round it.
-fn field(row: &[u8], index: usize) -> &[u8] {
-    match row.get(field_span(row, index)).unwrap_or(b"") {
+fn field(row: &[u8], form: RowForm, index: usize) -> &[u8] {
+    match row
+        .get(field_span(row, form as usize, index))
+        .unwrap_or(b"")
+    {
         [b'"', inner @ .., b'"'] => inner,
         field => field,
     }
 }
 
-/// The part of the row that is wrong.
-fn wrong_part(row: &[u8], form: RowForm, kind: TraceKind) -> Range<usize> {
-    let index = match kind {
-        TraceKind::Shape | TraceKind::Device | TraceKind::NoMemory => return 0..row.len(),
-        TraceKind::Place => 0,
-        TraceKind::Session => 1,
-        TraceKind::Op => 2,
-        TraceKind::Path(_) => 3,
-        TraceKind::Mode => 4,
-        // the resource, unless it is none that the op takes
-        TraceKind::Extra
-            if !matches!(field(row, form.index(2)), b"release")
-                && !field(row, form.index(3)).is_empty() => { 3 }
-        TraceKind::Extra => 4,
-        TraceKind::Reply => 5,
-        TraceKind::Value => 6,
-    };
-    field_span(row, form.index(index))
+/// The index of the field that the op of the row doesn't take and that isn't empty: the mode, if there is no resource or the op takes one.
+fn extra_field(row: &[u8], form: RowForm) -> usize {
+    if field(row, form, 3).is_empty() || matches!(field(row, form, 2), b"release") {
+        4
+    } else {
+        3
+    }
 }
 
-/// What the reply of this row of a history has as its value.
-fn expected_value(row: &[u8]) -> &'static str {
-    match field(row, 5) {
+/// The value that the reply of this row of a history has.
+fn value_words(row: &[u8]) -> &'static str {
+    match field(row, RowForm::History, 5) {
         b"granted" => MODE_WORDS,
         b"began" => "the number of the transaction",
         b"refused" => "the name of a refusal, as NotHeld",
         b"committed" | b"aborted" | b"restarted" => "the number of locks given back",
-        _ => EMPTY,
+        _ => "an empty field",
     }
 }
 
-/// What is expected in place of the wrong part.
-fn expected(
-    alloc: Global,
-    row: &[u8],
-    form: RowForm,
-    fault: &TraceFault,
-    sessions: u16,
-) -> Result<String, NoMemory> {
-    let words = match fault.kind {
-        TraceKind::Place => {
-            let place = fault.row.saturating_sub(1);
-            return format!(in alloc; "expected {place}");
-        }
-        TraceKind::Session => {
-            return format!(in alloc;
-                "expected a number from 1 to {sessions}, without leading zeros"
-            );
-        }
-        TraceKind::Op => OP_WORDS,
-        TraceKind::Path(_) => PATH_FORM,
-        TraceKind::Mode => MODE_WORDS,
-        TraceKind::Extra => EMPTY,
-        TraceKind::Reply => REPLY_WORDS,
-        TraceKind::Value => expected_value(row),
-        TraceKind::Shape | TraceKind::Device | TraceKind::NoMemory => form.fields(),
-    };
-    format!(in alloc; "expected {words}")
+/// The index of the field that is wrong, and what is expected there. With too few fields the index is behind the row.
+fn expected(row: &[u8], form: RowForm, kind: TraceKind) -> (usize, &'static str) {
+    match kind {
+        TraceKind::Place => (0, ""),
+        TraceKind::Session => (1, "a number without leading zeros, from 1 to "),
+        TraceKind::Op => (2, OP_WORDS),
+        TraceKind::Path(_) => (3, PATH_FORM),
+        TraceKind::Mode => (4, MODE_WORDS),
+        TraceKind::Extra => (extra_field(row, form), "an empty field"),
+        TraceKind::Reply => (5, REPLY_WORDS),
+        TraceKind::Value => (6, value_words(row)),
+        TraceKind::Shape | TraceKind::Device | TraceKind::NoMemory => match form {
+            RowForm::Trace => (5, "4 fields: session,op,resource,mode"),
+            RowForm::History => (7, "7 fields: place,session,op,resource,mode,reply,value"),
+        },
+    }
 }
 
 /// The hint to a fault of a row, for the lines behind `glm: row R: KIND`: the line of the file with the row, a mark below the
-/// part that is wrong, and what is expected there. Empty if the row isn't kept, and for `Device` and `NoMemory`. `sessions` is
+/// field that is wrong, and what is expected there. Empty if the row isn't kept, and for `Device` and `NoMemory`. `sessions` is
 /// how many sessions the command has. Fails only with `NoMemory`.
 pub fn hint_text(
     alloc: Global,
@@ -152,14 +112,47 @@ pub fn hint_text(
         return Ok(lines.into_text());
     }
     if let Some((row, line)) = rows.row(fault.row) {
+        let (index, words) = expected(row, form, fault.kind);
         let head = format!(in alloc; "line {line}: ")?;
-        put_marked_row(
-            &mut lines,
-            head.as_str(),
-            row,
-            wrong_part(row, form, fault.kind),
-        )?;
-        lines.put("  ", expected(alloc, row, form, fault, sessions)?.as_str())?;
+        let mark = field_span(row, form as usize, index);
+        put_marked_row(&mut lines, head.as_str(), row, mark)?;
+        let place = fault.row.saturating_sub(1);
+        let text = match fault.kind {
+            TraceKind::Place => format!(in alloc; "expected {words}{place}")?,
+            TraceKind::Session => format!(in alloc; "expected {words}{sessions}")?,
+            _ => format!(in alloc; "expected {words}")?,
+        };
+        lines.put("  ", text.as_str())?;
     }
+    Ok(lines.into_text())
+}
+
+/// Writes the row of an entry behind `head`, with a mark below the reply and its value.
+fn put_entry(lines: &mut Lines, head: &str, place: u64, entry: Entry) -> Result<(), NoMemory> {
+    let text = piece_text(lines.alloc(), place, &[entry])?;
+    let row = first_row(&text);
+    let start = field_span(row, 0, 5).start;
+    put_marked_row(lines, head, row, start..row.len())
+}
+
+/// Lines that show the row of a history at `place` as it is told, and with the reply that the lock table gives there, each with
+/// a mark below the reply. Fails only with `NoMemory`.
+pub fn expected_text(
+    alloc: Global,
+    place: u64,
+    told: &Entry,
+    given: &Reply,
+) -> Result<Vec<u8>, NoMemory>
+    ensures lines { IfOk result (λ text. IsHintText text.items) }
+{
+    let mut lines = Lines::new(alloc);
+    let first = format!(in alloc; "place {place}: the reply isn't the lock table's")?;
+    lines.put("glm: ", first.as_str())?;
+    put_entry(&mut lines, "in the history:   ", place, *told)?;
+    let right = Entry {
+        reply: *given,
+        ..*told
+    };
+    put_entry(&mut lines, "the lock table's: ", place, right)?;
     Ok(lines.into_text())
 }

@@ -8,15 +8,12 @@ use std::alloc::Global;
 use std::io;
 use std::io::Read;
 
-/// How many bytes are kept at most.
+/// How many bytes are kept before rows are let go.
 pub const KEPT_BYTES: usize = 64 * 1024;
 
-/// How many bytes are taken in at once.
-const PIECE_BYTES: usize = KEPT_BYTES / 4;
-
-/// The last rows of a file that was read so far, at most [`KEPT_BYTES`] bytes, and how many rows and lines were before them.
-/// A quarter of that without a row start ends what is kept: no trace or history has such a row, so a row that is refused is
-/// that one or one before it.
+/// The last rows of a file that was read so far, [`KEPT_BYTES`] and what one read gives at most, and how many rows and lines were
+/// before them. Half of that without a row start ends what is kept: no trace or history has such a row, so a row that is refused
+/// is that one or one before it.
 #[derive(Drop)]
 pub struct KeptRows {
     /// The kept bytes. The first is the first of the file or of a row.
@@ -50,10 +47,10 @@ impl KeptRows {
         Some((row, line.saturating_add(1)))
     }
 
-    /// Lets go of rows from the front, half of what may be kept or more. Ends what is kept if no row begins behind that.
+    /// Lets go of rows from the front, half of the kept bytes or more. Ends what is kept if no row begins behind these.
     fn drop_rows(&mut self) {
         let text = self.rows_text();
-        let Some(counted) = row_behind(text, KEPT_BYTES / 2, 0) else {
+        let Some(counted) = row_behind(text, text.len() / 2, 0) else {
             self.is_open = false;
             return;
         };
@@ -65,17 +62,14 @@ impl KeptRows {
         self.text.truncate(left);
     }
 
-    /// Keeps bytes that were read next, and lets go of rows for which there is no room. Refused memory ends what is kept, and
-    /// leaves nothing.
+    /// Keeps bytes that were read next. Refused memory ends what is kept, and leaves nothing.
     fn keep(&mut self, bytes: &[u8]) {
-        for piece in bytes.chunks(PIECE_BYTES) {
-            if self.is_open && self.text.len() > KEPT_BYTES - PIECE_BYTES {
-                self.drop_rows();
-            }
-            if self.is_open && self.text.extend_from_slice(piece).is_err() {
-                self.is_open = false;
-                self.text.clear();
-            }
+        if self.is_open && self.text.len() >= KEPT_BYTES {
+            self.drop_rows();
+        }
+        if self.is_open && self.text.extend_from_slice(bytes).is_err() {
+            self.is_open = false;
+            self.text.clear();
         }
     }
 }

@@ -75,30 +75,25 @@ pub(crate) fn row_behind(text: &[u8], bytes: usize, rows: u64) -> Option<Counted
     None
 }
 
-/// The row at the front of the text, without its line end.
-pub(crate) fn first_row(text: &[u8]) -> &[u8] {
-    let mut spot = Spot::RowStart;
+/// Where the field at this index of the row at the front of the text is, with its quotes, if the first one has the index `first`.
+/// The last one if the row has fewer.
+pub(crate) fn field_span(text: &[u8], first: usize, index: usize) -> Range<usize> {
+    let (mut start, mut field, mut spot) = (0, first, Spot::RowStart);
     for (at, byte) in text.iter().enumerate() {
         spot = spot.after(*byte);
-        if spot == Spot::RowStart {
-            return text.get(..at).unwrap_or(text);
+        if spot == Spot::RowStart || (spot == Spot::FieldStart && field == index) {
+            return start..at;
         }
-    }
-    text
-}
-
-/// Where the field at this index of the row is, counted from 0, with its quotes. The last one if the row has fewer.
-pub(crate) fn field_span(row: &[u8], index: usize) -> Range<usize> {
-    let (mut start, mut count, mut spot) = (0, 0, Spot::RowStart);
-    for (at, byte) in row.iter().enumerate() {
-        spot = spot.after(*byte);
         if spot == Spot::FieldStart {
-            if count == index {
-                return start..at;
-            }
-            count = count.saturating_add(1);
+            field = field.saturating_add(1);
             start = at.saturating_add(1);
         }
     }
-    start..row.len()
+    start..text.len()
+}
+
+/// The row at the front of the text, without its line end.
+pub(crate) fn first_row(text: &[u8]) -> &[u8] {
+    let end = field_span(text, 0, usize::MAX).end;
+    text.get(..end).unwrap_or(text)
 }

@@ -2,20 +2,17 @@
 //! wrong, and what is expected there.
 //!
 //! `kept.rt` is a reader that keeps the last rows of what it reads, `lexing.rt` finds rows and fields in them. `hint.rt` makes
-//! the hint to a fault, `marked_row.rt` shows the row. `expected.rt` shows a wrong reply of a history beside the right one.
-//! `lines.rt` is what each text is written to.
+//! the texts of `lines.rt`'s lines, in which `marked_row.rt` shows a row.
 //!
 //! Proved: a hint has only lines that begin with two blanks or `glm: `, of printable ASCII, whatever the input has; the reader
 //! gives what the reader in it gives, also if memory is refused. Only tested: what the hints say. A hint changes nothing else.
 #![tactic(auto)]
 
-mod expected;
 mod hint;
 mod kept;
 mod lexing;
 mod lines;
 mod marked_row;
 
-pub use expected::expected_text;
-pub use hint::{RowForm, hint_text};
+pub use hint::{RowForm, expected_text, hint_text};
 pub use kept::{KEPT_BYTES, Kept, KeptRows};

@@ -32,9 +32,10 @@ fn printable(byte: u8) -> u8
     ensures { result ≡ printable_byte byte }
 {
     if byte < b' ' || byte > b'~' {
-        return b'?';
+        b'?'
+    } else {
+        byte
     }
-    byte
 }
 
 /// A line that begins with `start` and has these words, with its line feed.

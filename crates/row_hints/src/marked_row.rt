@@ -11,14 +11,10 @@ const SHOWN_BYTES: usize = 72;
 /// How many bytes in front of the mark are shown of a longer row.
 const BYTES_IN_FRONT: usize = 24;
 
-/// Appends a part of the row, each byte that isn't printable ASCII as an escape of Rust's, and a backslash as two.
+/// Appends a part of the row, each byte that isn't printable ASCII by its hexadecimal number.
 fn put_part(out: &mut String, row: &[u8], part: Range<usize>) -> Result<(), NoMemory> {
     for byte in row.get(part).unwrap_or(b"") {
         match *byte {
-            b'\n' => out.push_str("\\n")?,
-            b'\r' => out.push_str("\\r")?,
-            b'\t' => out.push_str("\\t")?,
-            b'\\' => out.push_str("\\\\")?,
             b' '..=b'~' => out.push(char::from(*byte))?,
             other => write!(out, "\\x{other:02x}")?,
         }
