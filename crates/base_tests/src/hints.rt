@@ -5,50 +5,38 @@ use row_hints::{KEPT_BYTES, Kept, RowForm, hint_text};
 use std::alloc::{AllocError, Global};
 use std::test::Fail;
 
-/// Traces, each of a front, so many times a middle, and a back, with the hint to the first fault.
-const TRACES: [(&str, &str, usize, &str, &str); 6] = [
-    (
-        "1,lock,",
-        "7",
-        200,
-        ",S",
-        "  line 1: 1,lock,77777777777777777777777777777777777777777777777777777777777777777..
+/// The hint to a row of which only the front is shown.
+const FRONT: &str =
+    "  line 1: 1,lock,77777777777777777777777777777777777777777777777777777777777777777..
                  ^~~~~~~~~~~~~~~~~~~~~~~~~~~~~~~~~~~~~~~~~~~~~~~~~~~~~~~~~~~~~~~~~
-  expected 1 to 5 numbers up to 4294967295 without leading zeros, joined by '/'\n",
-    ),
-    (
-        "1,lock,",
-        "7",
-        100,
-        ",S,X\n",
-        "  line 1: ..77777777777777777777777777777777777777777777777777777777777777777777,S,X
-                                                                                   ^
-  expected 4 fields: session,op,resource,mode\n",
-    ),
-    (
-        "1,begin,,\n\n",
-        "1",
-        3 * KEPT_BYTES,
-        "\n",
-        "  line 3: 111111111111111111111111111111111111111111111111111111111111111111111111..
-          ^~~~~~~~~~~~~~~~~~~~~~~~~~~~~~~~~~~~~~~~~~~~~~~~~~~~~~~~~~~~~~~~~~~~~~~~
-  expected 4 fields: session,op,resource,mode\n",
-    ),
-    ("\n\n", "1,poll,,\n\n", 10000, "1,wait,,", BEHIND_MANY),
-    (
-        "\u{feff}\n\n",
-        "1,poll,,\n\r\n",
-        10000,
-        "1,wait,,",
-        BEHIND_MANY,
-    ),
-    ("1,begin,,\n", "", 0, "\r\n", ""),
-];
+  expected 1 to 5 numbers up to 4294967295 without leading zeros, joined by '/'\n";
 
-/// The hint to a row behind 10000 rows of two lines each, one of which is empty.
-const BEHIND_MANY: &str = "  line 20003: 1,wait,,
+/// The hint to a row of which only the end is shown.
+const END: &str =
+    "  line 1: ..77777777777777777777777777777777777777777777777777777777777777777777,S,X
+                                                                                   ^
+  expected 4 fields: session,op,resource,mode\n";
+
+/// The hint to a row that isn't kept to its end.
+const LONG: &str =
+    "  line 3: 111111111111111111111111111111111111111111111111111111111111111111111111..
+          ^~~~~~~~~~~~~~~~~~~~~~~~~~~~~~~~~~~~~~~~~~~~~~~~~~~~~~~~~~~~~~~~~~~~~~~~
+  expected 4 fields: session,op,resource,mode\n";
+
+/// The hint to a row behind 9999 rows of two lines each, one of which is empty.
+const FAR: &str = "  line 20001: 1,wait,,
                 ^~~~
   expected begin, lock, convert, poll, release, commit, abort, try, withdraw or restart\n";
+
+/// Traces, each of a front, so many times a middle, and a back, with the hint to the first fault.
+const TRACES: [(&str, &str, usize, &str, &str); 6] = [
+    ("1,lock,", "7", 200, ",S", FRONT),
+    ("1,lock,", "7", 100, ",S,X\n", END),
+    ("1,begin,,\n\n", "1", 3 * KEPT_BYTES, "\n", LONG),
+    ("\n\n", "1,poll,,\n\n", 9999, "1,wait,,", FAR),
+    ("\u{feff}\n\n", "1,poll,,\n\r\n", 9999, "1,wait,,", FAR),
+    ("1,begin,,\n", "", 0, "\r\n", ""),
+];
 
 /// The hint to the first fault of a trace. Empty if it has none.
 fn hint_to(alloc: Global, text: &str) -> Result<Vec<u8>, AllocError> {

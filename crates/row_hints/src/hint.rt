@@ -48,21 +48,10 @@ pub enum RowForm {
 
 /// The field at this index of the row, without the quotes round it.
 fn field(row: &[u8], form: RowForm, index: usize) -> &[u8] {
-    match row
-        .get(field_span(row, form as usize, index))
-        .unwrap_or(b"")
-    {
+    let span = field_span(row, form as usize, index);
+    match row.get(span).unwrap_or(b"") {
         [b'"', inner @ .., b'"'] => inner,
         field => field,
-    }
-}
-
-/// The index of the field that the op of the row doesn't take and that isn't empty: the mode, if there is no resource or the op takes one.
-fn extra_field(row: &[u8], form: RowForm) -> usize {
-    if field(row, form, 3).is_empty() || matches!(field(row, form, 2), b"release") {
-        4
-    } else {
-        3
     }
 }
 
@@ -85,7 +74,8 @@ fn expected(row: &[u8], form: RowForm, kind: TraceKind) -> (usize, &'static str)
         TraceKind::Op => (2, OP_WORDS),
         TraceKind::Path(_) => (3, PATH_FORM),
         TraceKind::Mode => (4, MODE_WORDS),
-        TraceKind::Extra => (extra_field(row, form), "an empty field"),
+        TraceKind::Extra if field(row, form, 4).is_empty() => (3, "an empty field"),
+        TraceKind::Extra => (4, "an empty field"),
         TraceKind::Reply => (5, REPLY_WORDS),
         TraceKind::Value => (6, value_words(row)),
         TraceKind::Shape | TraceKind::Device | TraceKind::NoMemory => match form {

@@ -40,7 +40,7 @@ impl Spot {
 }
 
 /// What is in front of a place in a text.
-#[derive(Clone, Copy, Debug, Drop, PartialEq, Eq)]
+#[derive(Clone, Copy, Debug, Default, Drop, PartialEq, Eq)]
 pub(crate) struct Counted {
     /// How many bytes.
     pub(crate) bytes: usize,
@@ -52,11 +52,7 @@ pub(crate) struct Counted {
 
 /// Counts up to the first row behind `bytes` bytes and `rows` rows. `None` if there is none.
 pub(crate) fn row_behind(text: &[u8], bytes: usize, rows: u64) -> Option<Counted> {
-    let mut counted = Counted {
-        bytes: 0,
-        rows: 0,
-        lines: 0,
-    };
+    let mut counted = Counted::default();
     let mut spot = Spot::RowStart;
     for byte in text {
         let next = spot.after(*byte);

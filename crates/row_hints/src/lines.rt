@@ -44,11 +44,8 @@ fn line_of(alloc: Global, start: &str, words: &str) -> Result<Vec<u8>, NoMemory>
 {
     let mut line: Vec<u8> = Vec::with_capacity(alloc, words.len().saturating_add(8))?;
     line.extend_from_slice(start.as_bytes())?;
-    let shown: Vec<u8> = words
-        .as_bytes()
-        .iter()
-        .map(|byte| printable(*byte))
-        .collect(alloc)?;
+    let bytes = words.as_bytes();
+    let shown: Vec<u8> = bytes.iter().map(|byte| printable(*byte)).collect(alloc)?;
     line.extend_from_slice(&shown)?;
     line.push(b'\n')?;
     Ok(line)
