@@ -36,8 +36,8 @@ fn words_are_those_of_rows()
     ensures replies { REPLY_WORDS.now ≡ listed (map word_of_reply REPLY_KINDS) }
 {}
 
-/// The form of the rows that a command reads, and the field with which they begin: in both forms fields have the indices that they
-/// have in a history, from 0.
+/// The form of the rows that a command reads, and the index of their first field: in both forms a field has the index that it has
+/// in a history, from 0.
 #[derive(Clone, Copy, Debug, Drop, PartialEq, Eq)]
 pub enum RowForm {
     /// Rows of a history.

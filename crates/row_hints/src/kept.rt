@@ -11,9 +11,9 @@ use std::io::Read;
 /// How many bytes are kept before rows are let go.
 pub const KEPT_BYTES: usize = 64 * 1024;
 
-/// The last rows of a file that was read so far, [`KEPT_BYTES`] and what one read gives at most, and how many rows and lines were
-/// before them. Half of that without a row start ends what is kept: no trace or history has such a row, so a row that is refused
-/// is that one or one before it.
+/// The last rows of a file that was read so far, less than [`KEPT_BYTES`] and what one read gives, and how many rows and lines were
+/// before them. If no row begins in the second half, nothing more is kept: no trace or history has so long a row, so a row that is
+/// refused is that one or one before it, unless these bytes are line ends.
 #[derive(Drop)]
 pub struct KeptRows {
     /// The kept bytes. The first is the first of the file or of a row.
