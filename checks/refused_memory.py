@@ -334,7 +334,8 @@ def trials_of_the_program(folder):
 
 
     line = b"glm: row 2: Path LeadingZero\n"
-    hint = b"  line 2: 1,lock,01,S\n                 ^~\n  numbers have no leading zeros\n"
+    expected = b"  expected 1 to 5 numbers up to 4294967295 without leading zeros, joined by '/'\n"
+    hint = b"  line 2: 1,lock,01,S\n                 ^~\n" + expected
     yield Trial("replay --hints of a faulty row", [PROGRAM, "replay", "--hints"], ends_with_hint(line, hint), faulty)
 
 

@@ -1,12 +1,9 @@
 -- The request of a parsed command, from its options up to the words: at most one, and when there is none.
 use Rattle.std.proofs.Common.{rules, arith, ap, ap₂, get_or, inl, inr, refl, subst, sym, ◌≡◌, ◌≢◌, ◌⊎◌, ◌∙◌, ◌<◌, ◌^◌, ℕ, List, [], ◌∷◌, Option, Some, None, codes}
-use Rattle.std.specs.Prelude.{Ok, Err, IfSome, IfNone, decimal}
+use Rattle.std.specs.Prelude.{IfSome, IfNone, decimal}
 use Rattle.std.proofs.lemmas.Fmt.{decimal_injective}
 use Rattle.clap.specs.Simple.{subcommand_of}
-use Rattle.clap.specs.Walk.{Row, Text, first_of}
-use Rattle.lock_tree.specs.Numerals.{reading_of_numeral}
-use Rattle.lock_tree.specs.declared.numeral.NumeralFault.{NumeralFault}
-use Rattle.command_line.proofs.Gives.{numeral_not_given}
+use Rattle.clap.specs.Walk.{Row, Text}
 use Rattle.lock_rules.specs.declared.calls.TheConstants.{MAX_SESSIONS}
 use Rattle.command_line.specs.declared.args.TheConstants.{MAX_TURNS}
 use Rattle.command_line.specs.declared.args.TheConstants.{MAX_STREAMED_SESSIONS}
@@ -198,18 +195,6 @@ no_name name rows replay run check show explain timeline stats shell (request.Ex
 no_name name rows replay run check show explain timeline stats shell (request.Timeline n p q) is = timeline is.0
 no_name name rows replay run check show explain timeline stats shell (request.Stats n f) is = stats is.0
 no_name name rows replay run check show explain timeline stats shell (request.Shell n) is = shell is.0
-
--- the text of the option `--sessions` of the command that was found
-abbrev pub sessions_text : Option (Text × List Row) → Option Text
-sessions_text None = None
-sessions_text (Some found) = first_of (codes "sessions") found.1
-
--- no request is in a command whose `--sessions` isn't read as a number
-pub no_such_sessions : (found : Option (Text × List Row)) (text : Text) (fault : NumeralFault) → sessions_text found ≡ Some text
-    → reading_of_numeral MAX_SESSIONS text ≡ Err fault → (asked : CommandRequest) → ¬ IsRequest found asked
-no_such_sessions None text fault is wrong asked h = h
-no_such_sessions (Some found) text fault is wrong asked h =
-    no_sessions found.0 found.1 (numeral_not_given _ text MAX_SESSIONS found.1 (omega arith) is (λ m read some. let bad : Ok m ≡ Err fault = sym read ∙ wrong in cc)) asked h
 
 -- a name with its options is at most one request
 one-in : (name : Text) (rows : List Row) (r q : CommandRequest) → IsRequestIn name rows r → IsRequestIn name rows q → r ≡ q

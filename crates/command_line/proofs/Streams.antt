@@ -1,8 +1,7 @@
 -- What a request has beside its command: its files, whether comments are skipped and hints asked for, and numbers within their bounds.
-use Rattle.std.proofs.Common.{rules, sym, subst, refl, ◌≡◌, List, Option, Some, None}
+use Rattle.std.proofs.Common.{rules, sym, subst, ◌≡◌, List, Option, Some, None}
 use Rattle.std.specs.Prelude.{IfSome}
 use Rattle.clap.specs.Walk.{Row, Text}
-use Rattle.command_line.specs.declared.args.Delivery.TheVariants as delivery
 use Rattle.command_line.specs.declared.args.CommandRequest.{CommandRequest}
 use Rattle.command_line.specs.declared.args.CommandRequest.TheVariants as request
 use Rattle.command_line.specs.declared.args.Request.{Request}

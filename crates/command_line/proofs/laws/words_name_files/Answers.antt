@@ -1,11 +1,7 @@
-use Rattle.std.proofs.Common.{rules, arith, refl, sym, codes, ◌≡◌, ◌≢◌, ◌∙◌, List, [], ◌∷◌, Option, Some}
-use Rattle.clap.specs.Kinds.{Kinds}
-use Rattle.clap.specs.Walk.{Text}
-use Rattle.clap.specs.declared.error.kind.ErrorKind.{ErrorKind}
-use Rattle.clap.specs.declared.error.kind.ErrorKind.TheVariants.{DisplayHelp, DisplayVersion, UnknownArgument, InvalidValue}
+use Rattle.std.proofs.Common.{rules, arith, refl, codes, ◌≡◌, [], Some}
+use Rattle.clap.specs.declared.error.kind.ErrorKind.TheVariants.{UnknownArgument, InvalidValue}
 use Rattle.clap.proofs.OnLiterals.{clap_on_literals}
 use Rattle.lock_rules.specs.declared.calls.TheConstants.{MAX_SESSIONS}
-use Rattle.command_line.specs.CommandLine.{AskNothing, faults_of}
 use Rattle.command_line.proofs.Ask.{faulty}
 use Rattle.command_line.proofs.Gives.{numeral_given}
 use Rattle.command_line.proofs.laws.words_name_files.Goals as goal
