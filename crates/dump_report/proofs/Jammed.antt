@@ -3,16 +3,16 @@ use Rattle.std.proofs.Common.{◌≡◌, ℕ, ◌+◌, ◌<◌, List, [], ◌∷
 use Rattle.std.specs.List.{flat_map}
 use Rattle.std.proofs.lemmas.List.{flat_map_more, take_more}
 use Rattle.std.proofs.lemmas.List.Folds.{flat_map-map}
+use Rattle.report_text.proofs.Pieces.{with_next}
 
 -- with what is told of the next one, what is told of one more is listed
-pub next_mapped : {Q X Y : Type 0} (f : List X → List Y) (items : Q → List X) (qs : List Q) (i : ℕ) (d : Q) (out out2 : List Y) → i < length qs
-    → out ≡ flat_map f (map items (take i qs)) → out2 ≡ out ++ f (items (get_or qs i d)) → out2 ≡ flat_map f (map items (take (i + 1) qs))
-next_mapped {Q} {X} {Y} f items qs i d out out2 lt so_far more =
-    let q : Q = get_or qs i d in
+pub next_mapped : {Q X Y : Type 0} (f : List X → List Y) (items : Q → List X) (qs : List Q) (i : ℕ) (q : Q) (out out2 : List Y) → i < length qs → q ≡ get_or qs i q
+    → out ≡ flat_map f (map items (take i qs)) → out2 ≡ out ++ f (items q) → out2 ≡ flat_map f (map items (take (i + 1) qs))
+next_mapped {Q} {X} {Y} f items qs i q out out2 lt at so_far more =
     more
     ∙ (ap (λ (l : List Y). l ++ f (items q)) (so_far ∙ flat_map-map f items (take i qs))
     ∙ (flat_map_more (λ (x : Q). f (items x)) [] (take i qs) q
-    ∙ (ap (flat_map (λ (x : Q). f (items x))) (sym (take_more qs i d lt))
+    ∙ (ap (flat_map (λ (x : Q). f (items x))) (sym (with_next qs i q lt at))
     ∙ sym (flat_map-map f items (take (i + 1) qs)))))
 
 -- likewise behind what was listed before, for a number that stays as it was

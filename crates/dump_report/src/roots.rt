@@ -46,7 +46,7 @@ fn add_root(
     requires open { IsSession rows.old.sessions begun.now.session }
     requires pairs { AreWaitsOf rows.old jam.waits.now }
     ensures same { OnOk result (rows.new ≡ rows.old) }
-    ensures roots { OnOk result (roots.new.items ≡ roots.old.items ++ root_of rows.old.sessions jam.requests.now (map (λ q. q.items) jam.jammed.now) jam.waits.now begun.now) }
+    ensures roots { OnOk result (roots.new.items ≡ roots.old.items ++ root_of rows.old.sessions jam.entry.requests.now (map (λ q. q.items) jam.entry.jammed.now) jam.entry.waits.now begun.now) }
 {
     if !is_root(jam.requests, jam.waits, begun.session) {
         return Ok(());
@@ -72,7 +72,7 @@ fn add_roots(
 ) -> Result<(), NoMemory>
     requires opens { All (λ begun. IsSession rows.old.sessions begun.session) opens.now }
     requires pairs { AreWaitsOf rows.old jam.waits.now }
-    ensures { OnOk result (roots.new.items ≡ roots.old.items ++ flat_map (root_of rows.old.sessions jam.requests.now (map (λ q. q.items) jam.jammed.now) jam.waits.now) opens.now) }
+    ensures { OnOk result (roots.new.items ≡ roots.old.items ++ flat_map (root_of rows.old.sessions jam.entry.requests.now (map (λ q. q.items) jam.entry.jammed.now) jam.entry.waits.now) opens.now) }
 {
     for begun in opens {
         add_root(alloc, begun, jam, rows, roots)?;

@@ -5,4 +5,4 @@ use Rattle.dump_report.proofs.blockers.add_others.Given as goal
 
 -- the waits so far are listed
 abbrev pub invariant-loop-wait : goal.invariant-loop-wait
-invariant-loop-wait l = l.ranked.items ≡ l.fn.ranked.items ++ flat_map (other_wait l.first) (take l.wait-index l.waits)
+invariant-loop-wait l = l.told.items ≡ l.fn.told.items ++ flat_map (other_wait l.first) (take l.wait-index l.waits)
