@@ -16,7 +16,7 @@ pub(crate) fn is_request(claim: &Claim) -> bool
 }
 
 /// The waiting requests among the claims. Fails if memory is refused.
-pub(crate) fn requests_among(alloc: Global, claims: &[Claim]) -> Result<Vec<Claim>, NoMemory>
+pub fn requests_among(alloc: Global, claims: &[Claim]) -> Result<Vec<Claim>, NoMemory>
     ensures { IfOk result (λ requests. requests.items ≡ requests_among claims.now) }
 {
     let mut requests = Vec::new(alloc);

@@ -5,6 +5,5 @@ pub mod StateText
 pub mod StateRows
 pub mod Dot
 pub mod LocksDot
-pub mod DumpText
 -- What only private contracts speak of.
 pub mod inner

@@ -110,13 +110,8 @@ places_of boxed zero = []
 places_of boxed (suc count) = places_of boxed count ++ placed_behind boxed count
 
 -- the edge of a wait for a first blocker, nothing for another wait
-abbrev pub edge_from : ToldWait → Option ℕ → List ℕ
-edge_from w None = []
-edge_from w (Some since) = edge_of w.wait
-
--- the same of a wait
 abbrev pub edge_if_first : ToldWait → List ℕ
-edge_if_first w = edge_from w w.since
+edge_if_first w = if w.first then edge_of w.wait else []
 
 -- the first lines of the graph: edges lead to the right, what isn't joined is laid out apart and then put together, and little room is
 -- left between nodes and round their labels

@@ -2,8 +2,7 @@
 //!
 //! `text.rt` writes the text for people, `rows.rt` the rows, `dot.rt` the waits-for graph, `boxes.rt` the contended resources
 //! and the waits for first blockers; `queues.rt` finds those resources, `rows_of_boxes.rt` places their boxes. `jam.rt` has the
-//! parts of the text that tell who blocks whom, `answer.rt` what the answer to a poll tells. `dumped.rt` writes the text and the
-//! graph of a state of which no place in a history is known. `snapshot.rt` has the open
+//! parts of the text that tell who blocks whom, `answer.rt` what the answer to a poll tells. `snapshot.rt` has the open
 //! transactions, the waits and the roots that a report shows beside the claims of a listing, `by_session.rt` sorts the claims by
 //! session.
 //!
@@ -19,7 +18,6 @@ mod answer;
 mod boxes;
 mod by_session;
 mod dot;
-mod dumped;
 mod jam;
 mod queues;
 mod rows;
@@ -30,9 +28,8 @@ mod text;
 pub use answer::{answer_rows, answer_text};
 pub use boxes::locks_dot;
 pub use dot::waits_dot;
-pub use dumped::{dump_dot, dump_text};
 pub use queues::{begins_queue, claims_on};
 pub use rows::state_rows;
-pub use snapshot::{Doom, OpenTransaction, RankedWait, Root, ToldWait, Wait};
+pub use snapshot::{Doom, OpenTransaction, Root, ToldWait, Wait};
 pub use std::alloc::AllocError as NoMemory;
 pub use text::state_text;
