@@ -35,7 +35,7 @@ use resume_command::ShowRequest;
 use row_comments::SkipComments;
 use row_hints::{Kept, KeptRows};
 use run_commands::{Gate, run, run_in_pieces};
-use stats_command::stats;
+use stats_report::stats;
 use std::alloc::Global;
 use std::fs::Files;
 use std::io;

@@ -1,18 +1,15 @@
 -- The counters of a history as text: a line for each, with its group, its name and its number. The format is this project's own
 -- choice.
-use Rattle.std.specs.Prelude.{ℕ, ◌-◌, max, Bool, List, [], ◌∷◌, ◌++◌, length, replicate, codes, decimal}
-use Rattle.std.specs.List.{flat_map, range_with_len}
+use Rattle.std.specs.Prelude.{ℕ, ◌-◌, List, [], ◌∷◌, ◌++◌, length, replicate, codes, decimal}
+use Rattle.std.specs.List.{flat_map}
 use Rattle.lock_rules.specs.declared.kinds.TheConstants.{OPS, REFUSALS}
-use Rattle.lock_rules.specs.declared.listing.Claim.{Claim}
 use Rattle.lock_rules.specs.Names.{name_of_why}
 use Rattle.lock_rules.specs.Entries.{Entry}
-use Rattle.lock_rules.specs.State.{Table, State, is_open}
-use Rattle.lock_rules.specs.Queue.{queue}
 use Rattle.lock_rules.specs.Legal.{state_of}
-use Rattle.lock_rules.specs.Listing.{listed_resources, listing_of}
 use Rattle.lock_trace.specs.Words.{word_of}
-use Rattle.lock_counts.specs.Counts.{count_if, calls, refusals, requests, granted_at_once, requests_refused, waits_begun, waits_granted, waits_doomed, waits_withdrawn, waits_aborted, waits_restarted, still_waiting, deadlocks}
-use Rattle.report_text.specs.Claims.{is_lock_kind}
+use Rattle.lock_counts.specs.Counts.{calls, refusals, requests, granted_at_once, requests_refused, waits_begun, waits_granted, waits_doomed, waits_withdrawn, waits_aborted, waits_restarted, still_waiting, deadlocks}
+use Rattle.lock_desk.specs.declared.gauges.Gauges.{Gauges}
+use Rattle.lock_desk.specs.Gauges.{gauges_of}
 use Rattle.command_line.specs.declared.args.Form.{Form}
 use Rattle.command_line.specs.declared.args.Form.TheVariants as form
 
@@ -57,34 +54,16 @@ lines_of_deadlocks form h =
 abbrev pub lines_of_refusals : Form → List Entry → List ℕ
 lines_of_refusals form h = flat_map (λ w. line_of form (codes "refusals") (name_of_why w) (refusals w h)) REFUSALS
 
--- the line of a listing is a lock
-abbrev pub is_lock : Claim → Bool
-is_lock l = is_lock_kind l.kind
-
--- the length of the longest of the queues of these resources
-abbrev pub longest_of : Table → List (List ℕ) → ℕ
-longest_of t [] = 0
-longest_of t (r ∷ rs) = max (length (queue t r)) (longest_of t rs)
-
--- the length of the longest queue: the most requests that wait for one resource
-abbrev pub longest_queue : State → ℕ
-longest_queue st = longest_of st.table (listed_resources st)
-
--- the lines of these gauges: open transactions, locks, waiting requests, and the length of the longest queue
-abbrev pub gauge_lines : Form → ℕ → ℕ → ℕ → ℕ → List ℕ
-gauge_lines form transactions locks waiting longest =
-    line_of form (codes "now") (codes "transactions") transactions
-    ++ line_of form (codes "now") (codes "locks") locks
-    ++ line_of form (codes "now") (codes "waiting") waiting
-    ++ line_of form (codes "now") (codes "longest_queue") longest
-
--- the open transactions of the sessions 1 to n, the locks and the waiting requests of all resources, and the longest queue
-abbrev pub lines_of_gauges : Form → ℕ → State → List ℕ
-lines_of_gauges form n st =
-    gauge_lines form (count_if (is_open st) (range_with_len 1 n)) (count_if is_lock (listing_of st)) (length st.table.requests) (longest_queue st)
+-- the lines of these gauges
+abbrev pub gauge_lines : Form → Gauges → List ℕ
+gauge_lines form g =
+    line_of form (codes "now") (codes "transactions") g.transactions
+    ++ line_of form (codes "now") (codes "locks") g.locks
+    ++ line_of form (codes "now") (codes "waiting") g.waiting
+    ++ line_of form (codes "now") (codes "longest_queue") g.longest_queue
 
 -- the counters of a history of the sessions 1 to n, and the gauges of the state that it leads to
 abbrev pub text_of_stats : Form → ℕ → List Entry → List ℕ
 text_of_stats form n h =
     lines_of_calls form h ++ lines_of_requests form h ++ lines_of_waits form h ++ lines_of_deadlocks form h ++ lines_of_refusals form h
-    ++ lines_of_gauges form n (state_of h)
+    ++ gauge_lines form (gauges_of n (state_of h))
