@@ -17,7 +17,5 @@ pub mod EndedWaits
 pub mod OwnCalls
 pub mod Turns
 pub mod OneHistory
-pub mod OwnRows
-pub mod RowTurns
 pub mod RoundWeights
 pub mod BoundedPasses

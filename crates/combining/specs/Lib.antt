@@ -8,4 +8,3 @@ pub mod Waits
 pub mod Rounds
 -- What only private contracts cite.
 pub mod inner
-pub mod Rows

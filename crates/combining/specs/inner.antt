@@ -2,5 +2,4 @@ pub mod Passes
 pub mod Ages
 pub mod OwnCalls
 pub mod EndedList
-pub mod OwnRows
 pub mod BoundedPasses

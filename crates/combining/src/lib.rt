@@ -2,13 +2,12 @@
 //! Each session publishes a call in a record of its own. The session that wins the object is the combiner and serves the
 //! published calls of all sessions.
 //!
-//! `office.rt` has the calls of sessions, `office/perform.rt` a call that its session performs itself, `office/rows.rt` a row of such
-//! calls, `office/taking.rt` the taking of the history, `office/looks.rt` a look at the object, `office/sleeping.rt` the sleep of
-//! sessions, `office/bounded.rt` a pass within a bound, `office/passes.rt` what all ways to serve have in common. `calling.rt`
-//! makes a whole call turn by turn, `row_calling.rt` a row of calls, `backoff.rt` says how it waits between turns. `pass.rt` is the
-//! combiner's pass, `bounded_pass.rt` one in rounds within a bound (`bounds.rt`), `own_call.rt` a pass with a call of its own, `own_row.rt`
-//! one with a row of them, `clean_up.rt` takes unused records off the publication list. `goes_on.rt` says behind which replies a row
-//! goes on, `told.rt` who is told whose waits a pass has ended, and how much it serves, `ended.rt` is the list of them.
+//! `office.rt` has the calls of sessions, `office/perform.rt` a call that its session performs itself, `office/taking.rt` the taking of
+//! the history, `office/looks.rt` a look at the object, `office/sleeping.rt` the sleep of sessions, `office/bounded.rt` a pass within a
+//! bound, `office/passes.rt` what all ways to serve have in common. `calling.rt` makes a whole call turn by turn, `backoff.rt` says how
+//! it waits between turns. `pass.rt` is the combiner's pass, `bounded_pass.rt` one in rounds within a bound (`bounds.rt`), `own_call.rt`
+//! a pass with a call of its own, `clean_up.rt` takes unused records off the publication list. `told.rt` says who is told whose waits a
+//! pass has ended, and how much it serves, `ended.rt` is the list of them.
 //!
 //! A pass seizes the object, opens the posted records, serves their calls as one batch, answers them, and gives the object back.
 //!
@@ -23,13 +22,10 @@ mod bounds;
 mod calling;
 mod clean_up;
 mod ended;
-mod goes_on;
 pub mod laws;
 mod office;
 mod own_call;
-mod own_row;
 mod pass;
-mod row_calling;
 mod told;
 
 pub use backoff::{
@@ -39,10 +35,6 @@ pub use backoff::{
 pub use bounds::{PassBound, UNBOUNDED};
 pub use calling::{Called, Next, call, look, publish_if_idle, resume, turn};
 pub use ended::Ended;
-pub use goes_on::GoesOn;
-pub use office::{
-    Answer, BoundedTurn, HistoryPiece, Office, OpenFault, Performed, PerformedRow, Row, Turn,
-};
+pub use office::{Answer, BoundedTurn, HistoryPiece, Office, OpenFault, Performed, Turn};
 pub use publication::{CloseFault, Knowledge, Load, Posted, Ticket as Session};
-pub use row_calling::{NextOfRow, row_turn};
 pub use told::{Nobody, Told};

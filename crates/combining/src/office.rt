@@ -14,7 +14,6 @@ mod bounded;
 mod looks;
 mod passes;
 mod perform;
-mod rows;
 mod sleeping;
 mod taking;
 
@@ -22,7 +21,6 @@ use crate::told::{Nobody, Told};
 pub use bounded::BoundedTurn;
 pub use perform::Performed;
 use publication::{Board, CloseFault, Knowledge, Posted, Ticket as Session};
-pub use rows::{PerformedRow, Row};
 use sequential::{Batching, Fresh, MAX_SESSIONS};
 use std::alloc::{AllocError as NoMemory, Global};
 use std::marker::Model;

@@ -16,5 +16,3 @@ mod engine;
 mod paths;
 #[cfg(test)]
 mod refusals;
-#[cfg(test)]
-mod resumed;

@@ -10,7 +10,7 @@ use Rattle.command_line.specs.declared.args.CommandRequest.{CommandRequest}
 use Rattle.command_line.specs.declared.args.Request.{Request}
 use Rattle.command_line.specs.CommandLine.{Ask, AskVersion, glm_command}
 use Rattle.command_line.specs.Streams.{HasStreamsOf, SkipComments, input_file, output_file}
-use Rattle.row_comments.specs.Comments.{text_read, without_comments}
+use Rattle.lock_trace.specs.Comments.{text_read, without_comments}
 use Rattle.glm.specs.declared.outcomes.Outcome.{Outcome}
 use Rattle.glm.specs.declared.outcomes.Outcome.TheVariants as outcome
 use Rattle.glm.specs.Outcomes.{HasDone}

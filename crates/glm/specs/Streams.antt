@@ -3,7 +3,7 @@ use Rattle.std.specs.Prelude.{◌≡◌, ◌≢◌, ◌⊎◌, ℕ, List, Option
 use Rattle.std.specs.Io.KnownBytes.{Keeps}
 use Rattle.clap.specs.Walk.{Text}
 use Rattle.command_line.specs.Streams.{SkipComments, input_file, output_file}
-use Rattle.row_comments.specs.Comments.{without_comments}
+use Rattle.lock_trace.specs.Comments.{without_comments}
 use Rattle.glm.specs.declared.outcomes.Outcome.{Outcome}
 use Rattle.glm.specs.declared.outcomes.Outcome.TheVariants as outcome
 use Rattle.glm.specs.Outcomes.{HasDone}

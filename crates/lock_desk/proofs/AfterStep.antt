@@ -123,7 +123,7 @@ granted-view s r x m t i n =
         ∙ sym (ap (λ (b : Bool). cond b (record { holders = with_holder (in_mode s m) (claims_on r t.held); waiting = map short (queue t r) }) (view x t)) h))
 
 -- the views after a request is queued
-pub waiting-view : (s : ℕ) (r x : List ℕ) (m : Mode) (t : rules.Table)
+waiting-view : (s : ℕ) (r x : List ℕ) (m : Mode) (t : rules.Table)
     → view x (with_request s r m t) ≡ cond (same_path r x) (record { holders = claims_on r t.held; waiting = queue_with (in_mode s m) (claims_on r t.held) (map short (queue t r)) }) (view x t)
 waiting-view s r x m t = elim (same_path_tells r x) [
   | inl h ↦ at (sym h.1) h.0

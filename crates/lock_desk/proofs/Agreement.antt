@@ -165,7 +165,7 @@ module _ (ss : List Standing) (s : ℕ) (r : List ℕ) (c : SessionMode) (lt : s
   abbrev standings_after_asking : Bool → List Standing
   standings_after_asking b = set ss s (standing_after_asking b r (standing_at s ss))
 
-  pub asked-either : (standing_at s ss).wanted ≡ None → (v : View) (b : Bool) → DoAgree r v ss → DoAgree r (cond b (record { holders = with_holder c v.holders; waiting = v.waiting }) (record { holders = v.holders; waiting = queue_with c v.holders v.waiting })) (standings_after_asking b)
+  asked-either : (standing_at s ss).wanted ≡ None → (v : View) (b : Bool) → DoAgree r v ss → DoAgree r (cond b (record { holders = with_holder c v.holders; waiting = v.waiting }) (record { holders = v.holders; waiting = queue_with c v.holders v.waiting })) (standings_after_asking b)
   asked-either idle v true a = record {
     held = λ u. elim (cases_Bool (eqb s u)) [
       | inl h ↦ let f = (Decides-eqb s u).0 h in rw (← f) (ap (λ (x : Standing). has_path r x.held) (own-standing ss s (standing_after_asking true r (standing_at s ss)) lt) ∙ (has_path-with r (standing_at s ss).held ∙ sym (own-holder v.holders)))

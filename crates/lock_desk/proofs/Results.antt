@@ -1,5 +1,5 @@
 -- From one clause of a result to another.
-use Rattle.std.proofs.Common.{◌≡◌, Bool, true, false, cond, List, [], ◌∷◌, ◌++◌, Some, None, refl, sym, subst, Result, Ok, Err, OnOk, OnErr, IsErrAnd, IfErr}
+use Rattle.std.proofs.Common.{◌≡◌, Bool, true, false, cond, List, [], ◌∷◌, ◌++◌, Some, None, refl, Result, Ok, Err, OnOk, OnErr}
 use Rattle.lock_rules.specs.declared.calls.Why.{Why}
 use Rattle.lock_rules.specs.Step.{first_failing}
 
@@ -17,16 +17,6 @@ on-err (Err e) P Q h f = f h
 pub on-err-from : {T E P : Type 0} (r : Result T E) → P → OnErr r P
 on-err-from (Ok x) p = tt
 on-err-from (Err e) p = p
-
--- what an error is, if there is one
-pub if-err : {T E : Type 0} (Q : E → Type 0) (r : Result T E) → IsErrAnd r Q → IfErr r Q
-if-err Q (Ok x) h = tt
-if-err Q (Err e) h = h
-
--- what holds of an error holds of it when it is passed on
-pub passed-err : {T E : Type 0} (Q : E → Type 0) (r : Result T E) (e : E) → IsErrAnd r (λ x. x ≡ e) → Q e → IfErr r Q
-passed-err Q (Ok x) e h k = tt
-passed-err Q (Err x) e h k = subst Q (sym h) k
 
 -- lists of tests
 

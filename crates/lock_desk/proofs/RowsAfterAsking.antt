@@ -161,93 +161,6 @@ blocks-inserted hs front rest c s u n h = ap (target_blocks s u (both hs (front 
 
 -- the rows follow
 
--- when the request is added to the queue, whether it would be granted or not
-module _ (c : SessionMode) (v : View) (w new : Waits) (k : IsWritten c.session v w) (idle : has_session c.session v.waiting ≡ false) (x : View) (once : IsOnce x) (queued : x ≡ both v.holders (queue_with c v.holders v.waiting))
-    (i : ℕ) (d : SessionMode) (within : i < length x.waiting) (here : (get_or x.waiting i d).session ≡ c.session) where
-  abbrev front : List SessionMode
-  front = take i v.waiting
-
-  abbrev rest : List SessionMode
-  rest = drop i v.waiting
-
-  whole : front ++ rest ≡ v.waiting
-  whole = split-at v.waiting i
-
-  inserted : x ≡ both v.holders (front ++ c ∷ rest)
-  inserted = queued ∙ ap (both v.holders) (queued-at c v.holders v.waiting i d idle (subst (λ (y : View). i < length y.waiting) queued within) (ap (λ (y : View). (get_or y.waiting i d).session) (sym queued) ∙ here))
-
-  below : i ≤ length v.waiting
-  below =
-      let lt : i < length (front ++ c ∷ rest) = subst (λ (y : View). i < length y.waiting) inserted within in
-      omega (arith, lt, length-append front (c ∷ rest), length-append front rest, ap length whole)
-
-  few : (s : ℕ) → times s v.waiting ≤ 1
-  few s = let o : times s (queue_with c v.holders v.waiting) ≤ 1 = subst (λ (y : View). times s y.waiting ≤ 1) queued (once.once s) in omega (arith, o, times-queued s c v.holders v.waiting)
-
-  was : (s u : ℕ) → view_blocks s u (both v.holders (front ++ rest)) ≡ view_blocks s u v
-  was s u = ap (λ (ws : List SessionMode). view_blocks s u (both v.holders ws)) whole
-
-  later : (s u : ℕ) → eqb c.session s ≡ false → has_session s v.waiting ≡ true → view_blocks s u x ≡ (view_blocks s u v || (not (has_session s front) && eqb c.session u))
-  later s u n h = ap (view_blocks s u) inserted ∙ (blocks-inserted v.holders front rest c s u n (ap (has_session s) whole ∙ h) ∙ ap (λ (b : Bool). b || (not (has_session s front) && eqb c.session u)) (was s u))
-
-  parts : (s : ℕ) → has_session s v.waiting ≡ (has_session s front || has_session s rest)
-  parts s = ap (has_session s) (sym whole) ∙ list_any-append (λ (q : SessionMode). eqb q.session s) front rest
-
-  -- the rows of the requests ahead of it are current
-  pub queued-ahead : (a b : ℕ) → has_session (a + 1) (take i x.waiting) ≡ true → pairs_of w.rows a b ≡ view_blocks (a + 1) (b + 1) x
-  queued-ahead a b h =
-      let f : has_session (a + 1) front ≡ true = ap (has_session (a + 1)) (sym (ap (λ (y : View). take i y.waiting) inserted ∙ take-front v.waiting (c ∷ rest) i below)) ∙ h in
-      let there : has_session (a + 1) v.waiting ≡ true = parts (a + 1) ∙ ap (λ (b : Bool). b || has_session (a + 1) rest) f in
-      k.waiting a b there
-      ∙ sym (later (a + 1) (b + 1) (apart (a + 1) c.session v.waiting there idle) there ∙ (ap (λ (t : Bool). view_blocks (a + 1) (b + 1) v || (not t && eqb c.session (b + 1))) f ∙ or-false (view_blocks (a + 1) (b + 1) v)))
-
-  -- and the rows follow when its own row is written, and the edges to it are added
-  pub follows-queued : (mid : ℕ → ℕ → Bool) → new.rows.sessions ≡ w.rows.sessions → new.numbers ≡ w.numbers → ((a b : ℕ) → mid a b ≡ (pairs_of w.rows a b || (eqb (a + 1) (get_or x.waiting i d).session && view_blocks (a + 1) (b + 1) x)))
-      → ((a b : ℕ) → pairs_of new.rows a b ≡ (mid a b || (eqb (b + 1) c.session && has_session (a + 1) (drop (suc i) x.waiting)))) → DoFollow v x w new
-  follows-queued mid sessions numbers own added = record {
-    sessions = sessions;
-    numbers = numbers;
-    pairs = λ a b.
-        let p = pairs_of w.rows a b in
-        let y = view_blocks (a + 1) (b + 1) x in
-        added a b
-        ∙ (ap (λ (t : Bool). t || (eqb (b + 1) c.session && has_session (a + 1) (drop (suc i) x.waiting))) (own a b ∙ ap (λ (s : ℕ). p || (eqb (a + 1) s && y)) here)
-        ∙ (ap (λ (ws : List SessionMode). (p || (eqb (a + 1) c.session && y)) || (eqb (b + 1) c.session && has_session (a + 1) ws)) behind ∙ go a b (eqb (a + 1) c.session) (has_session (a + 1) v.waiting) refl refl));
-  }
-    where
-      behind : drop (suc i) x.waiting ≡ rest
-      behind = ap (λ (y : View). drop (suc i) y.waiting) inserted ∙ drop-front v.waiting rest c i below
-
-      swap : (s t : ℕ) → eqb s t ≡ eqb t s
-      swap s t = grind (arith, nat_tests)
-
-      same : (p e : Bool) → ((p || false) || (e && false)) ≡ ((p && true) || false)
-      same true e = refl
-      same false true = refl
-      same false false = refl
-
-      go : (a b : ℕ) (t h : Bool) → eqb (a + 1) c.session ≡ t → has_session (a + 1) v.waiting ≡ h
-          → ((pairs_of w.rows a b || (t && view_blocks (a + 1) (b + 1) x)) || (eqb (b + 1) c.session && has_session (a + 1) rest)) ≡ ((pairs_of w.rows a b && not h) || view_blocks (a + 1) (b + 1) x)
-      go a b true h e f =
-          let at : a + 1 ≡ c.session = (Decides-eqb (a + 1) c.session).0 e in
-          let none : pairs_of w.rows a b ≡ false = k.idle a b at in
-          let away : has_session (a + 1) rest ≡ false = (or_parts (has_session (a + 1) front) (has_session (a + 1) rest) (sym (parts (a + 1)) ∙ (ap (λ (s : ℕ). has_session s v.waiting) at ∙ idle))).1 in
-          let y = view_blocks (a + 1) (b + 1) x in
-          (λ j. (none j || y) || (eqb (b + 1) c.session && away j)) ∙ (ap (λ (t : Bool). y || t) (and-false (eqb (b + 1) c.session)) ∙ (or-false y ∙ sym (ap (λ (t : Bool). (t && not h) || y) none)))
-      go a b false true e f =
-          let p = pairs_of w.rows a b in
-          let before = view_blocks (a + 1) (b + 1) v in
-          let n : eqb c.session (a + 1) ≡ false = swap c.session (a + 1) ∙ e in
-          let other = behind-or-front (a + 1) front rest (ap (has_session (a + 1)) whole ∙ f) (subst (λ (ws : List SessionMode). times (a + 1) ws ≤ 1) (sym whole) (few (a + 1))) in
-          ap (λ (t : Bool). t || (eqb (b + 1) c.session && has_session (a + 1) rest)) (or-false p)
-          ∙ ((λ j. k.waiting a b f j || (swap (b + 1) c.session j && other j))
-          ∙ (ap (λ (t : Bool). before || t) (and_comm (eqb c.session (b + 1)) (not (has_session (a + 1) front))) ∙ (sym (later (a + 1) (b + 1) n f) ∙ from-none p (view_blocks (a + 1) (b + 1) x))))
-      go a b false false e f =
-          let p = pairs_of w.rows a b in
-          let away : has_session (a + 1) rest ≡ false = (or_parts (has_session (a + 1) front) (has_session (a + 1) rest) (sym (parts (a + 1)) ∙ f)).1 in
-          let none : has_session (a + 1) x.waiting ≡ false = ap (λ (y : View). has_session (a + 1) y.waiting) queued ∙ (has_session-queued (a + 1) c v.holders v.waiting ∙ (λ j. (swap c.session (a + 1) ∙ e) j || f j)) in
-          ap (λ (t : Bool). (p || false) || (eqb (b + 1) c.session && t)) away ∙ (same p (eqb (b + 1) c.session) ∙ sym (ap (λ (t : Bool). (p && true) || t) (blocks-none (a + 1) (b + 1) x none)))
-
 module _ (c : SessionMode) (v : View) (w new : Waits) (k : IsWritten c.session v w) (idle : has_session c.session v.waiting ≡ false) (x : View) (is : x ≡ view_after_asking c v) (once : IsOnce x) where
   granted-view : can_grant c v ≡ true → x ≡ both (with_holder c v.holders) v.waiting
   granted-view g = is ∙ ap (λ (b : Bool). cond b (both (with_holder c v.holders) v.waiting) (both v.holders (queue_with c v.holders v.waiting))) g
@@ -273,14 +186,89 @@ module _ (c : SessionMode) (v : View) (w new : Waits) (k : IsWritten c.session v
       ∙ (has_session-queued c.session c v.holders v.waiting ∙ ap (λ (b : Bool). b || has_session c.session v.waiting) ((Decides-eqb c.session c.session).1 refl))
 
   module _ (waits : can_grant c v ≡ false) (i : ℕ) (d : SessionMode) (within : i < length x.waiting) (here : (get_or x.waiting i d).session ≡ c.session) where
+    abbrev front : List SessionMode
+    front = take i v.waiting
+
+    abbrev rest : List SessionMode
+    rest = drop i v.waiting
+
+    whole : front ++ rest ≡ v.waiting
+    whole = split-at v.waiting i
+
     queued : x ≡ both v.holders (queue_with c v.holders v.waiting)
     queued = is ∙ ap (λ (b : Bool). cond b (both (with_holder c v.holders) v.waiting) (both v.holders (queue_with c v.holders v.waiting))) waits
 
+    inserted : x ≡ both v.holders (front ++ c ∷ rest)
+    inserted = queued ∙ ap (both v.holders) (queued-at c v.holders v.waiting i d idle (subst (λ (y : View). i < length y.waiting) queued within) (ap (λ (y : View). (get_or y.waiting i d).session) (sym queued) ∙ here))
+
+    below : i ≤ length v.waiting
+    below =
+        let lt : i < length (front ++ c ∷ rest) = subst (λ (y : View). i < length y.waiting) inserted within in
+        omega (arith, lt, length-append front (c ∷ rest), length-append front rest, ap length whole)
+
+    few : (s : ℕ) → times s v.waiting ≤ 1
+    few s = let o : times s (queue_with c v.holders v.waiting) ≤ 1 = subst (λ (y : View). times s y.waiting ≤ 1) queued (once.once s) in omega (arith, o, times-queued s c v.holders v.waiting)
+
+    was : (s u : ℕ) → view_blocks s u (both v.holders (front ++ rest)) ≡ view_blocks s u v
+    was s u = ap (λ (ws : List SessionMode). view_blocks s u (both v.holders ws)) whole
+
+    later : (s u : ℕ) → eqb c.session s ≡ false → has_session s v.waiting ≡ true → view_blocks s u x ≡ (view_blocks s u v || (not (has_session s front) && eqb c.session u))
+    later s u n h = ap (view_blocks s u) inserted ∙ (blocks-inserted v.holders front rest c s u n (ap (has_session s) whole ∙ h) ∙ ap (λ (b : Bool). b || (not (has_session s front) && eqb c.session u)) (was s u))
+
+    parts : (s : ℕ) → has_session s v.waiting ≡ (has_session s front || has_session s rest)
+    parts s = ap (has_session s) (sym whole) ∙ list_any-append (λ (q : SessionMode). eqb q.session s) front rest
+
     -- when the request waits, the rows of the requests ahead of it are current
     pub written-ahead : (a b : ℕ) → has_session (a + 1) (take i x.waiting) ≡ true → pairs_of w.rows a b ≡ view_blocks (a + 1) (b + 1) x
-    written-ahead = queued-ahead c v w new k idle x once queued i d within here
+    written-ahead a b h =
+        let f : has_session (a + 1) front ≡ true = ap (has_session (a + 1)) (sym (ap (λ (y : View). take i y.waiting) inserted ∙ take-front v.waiting (c ∷ rest) i below)) ∙ h in
+        let there : has_session (a + 1) v.waiting ≡ true = parts (a + 1) ∙ ap (λ (b : Bool). b || has_session (a + 1) rest) f in
+        k.waiting a b there
+        ∙ sym (later (a + 1) (b + 1) (apart (a + 1) c.session v.waiting there idle) there ∙ (ap (λ (t : Bool). view_blocks (a + 1) (b + 1) v || (not t && eqb c.session (b + 1))) f ∙ or-false (view_blocks (a + 1) (b + 1) v)))
 
     -- and the rows follow when its own row is written, and the edges to it are added
     pub follows-waiting : (mid : ℕ → ℕ → Bool) → new.rows.sessions ≡ w.rows.sessions → new.numbers ≡ w.numbers → ((a b : ℕ) → mid a b ≡ (pairs_of w.rows a b || (eqb (a + 1) (get_or x.waiting i d).session && view_blocks (a + 1) (b + 1) x)))
         → ((a b : ℕ) → pairs_of new.rows a b ≡ (mid a b || (eqb (b + 1) c.session && has_session (a + 1) (drop (suc i) x.waiting)))) → DoFollow v x w new
-    follows-waiting = follows-queued c v w new k idle x once queued i d within here
+    follows-waiting mid sessions numbers own added = record {
+      sessions = sessions;
+      numbers = numbers;
+      pairs = λ a b.
+          let p = pairs_of w.rows a b in
+          let y = view_blocks (a + 1) (b + 1) x in
+          added a b
+          ∙ (ap (λ (t : Bool). t || (eqb (b + 1) c.session && has_session (a + 1) (drop (suc i) x.waiting))) (own a b ∙ ap (λ (s : ℕ). p || (eqb (a + 1) s && y)) here)
+          ∙ (ap (λ (ws : List SessionMode). (p || (eqb (a + 1) c.session && y)) || (eqb (b + 1) c.session && has_session (a + 1) ws)) behind ∙ go a b (eqb (a + 1) c.session) (has_session (a + 1) v.waiting) refl refl));
+    }
+      where
+        behind : drop (suc i) x.waiting ≡ rest
+        behind = ap (λ (y : View). drop (suc i) y.waiting) inserted ∙ drop-front v.waiting rest c i below
+
+        swap : (s t : ℕ) → eqb s t ≡ eqb t s
+        swap s t = grind (arith, nat_tests)
+
+        same : (p e : Bool) → ((p || false) || (e && false)) ≡ ((p && true) || false)
+        same true e = refl
+        same false true = refl
+        same false false = refl
+
+        go : (a b : ℕ) (t h : Bool) → eqb (a + 1) c.session ≡ t → has_session (a + 1) v.waiting ≡ h
+            → ((pairs_of w.rows a b || (t && view_blocks (a + 1) (b + 1) x)) || (eqb (b + 1) c.session && has_session (a + 1) rest)) ≡ ((pairs_of w.rows a b && not h) || view_blocks (a + 1) (b + 1) x)
+        go a b true h e f =
+            let at : a + 1 ≡ c.session = (Decides-eqb (a + 1) c.session).0 e in
+            let none : pairs_of w.rows a b ≡ false = k.idle a b at in
+            let away : has_session (a + 1) rest ≡ false = (or_parts (has_session (a + 1) front) (has_session (a + 1) rest) (sym (parts (a + 1)) ∙ (ap (λ (s : ℕ). has_session s v.waiting) at ∙ idle))).1 in
+            let y = view_blocks (a + 1) (b + 1) x in
+            (λ j. (none j || y) || (eqb (b + 1) c.session && away j)) ∙ (ap (λ (t : Bool). y || t) (and-false (eqb (b + 1) c.session)) ∙ (or-false y ∙ sym (ap (λ (t : Bool). (t && not h) || y) none)))
+        go a b false true e f =
+            let p = pairs_of w.rows a b in
+            let before = view_blocks (a + 1) (b + 1) v in
+            let n : eqb c.session (a + 1) ≡ false = swap c.session (a + 1) ∙ e in
+            let other = behind-or-front (a + 1) front rest (ap (has_session (a + 1)) whole ∙ f) (subst (λ (ws : List SessionMode). times (a + 1) ws ≤ 1) (sym whole) (few (a + 1))) in
+            ap (λ (t : Bool). t || (eqb (b + 1) c.session && has_session (a + 1) rest)) (or-false p)
+            ∙ ((λ j. k.waiting a b f j || (swap (b + 1) c.session j && other j))
+            ∙ (ap (λ (t : Bool). before || t) (and_comm (eqb c.session (b + 1)) (not (has_session (a + 1) front))) ∙ (sym (later (a + 1) (b + 1) n f) ∙ from-none p (view_blocks (a + 1) (b + 1) x))))
+        go a b false false e f =
+            let p = pairs_of w.rows a b in
+            let away : has_session (a + 1) rest ≡ false = (or_parts (has_session (a + 1) front) (has_session (a + 1) rest) (sym (parts (a + 1)) ∙ f)).1 in
+            let none : has_session (a + 1) x.waiting ≡ false = ap (λ (y : View). has_session (a + 1) y.waiting) queued ∙ (has_session-queued (a + 1) c v.holders v.waiting ∙ (λ j. (swap c.session (a + 1) ∙ e) j || f j)) in
+            ap (λ (t : Bool). (p || false) || (eqb (b + 1) c.session && t)) away ∙ (same p (eqb (b + 1) c.session) ∙ sym (ap (λ (t : Bool). (p && true) || t) (blocks-none (a + 1) (b + 1) x none)))

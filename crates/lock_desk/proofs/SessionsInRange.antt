@@ -73,7 +73,7 @@ among n (c ∷ cs) k u h = go (eqb c.session u) refl h (among n cs (All-tail (λ
     go false e f next = next f
 
 -- sessions 1 to `n` stay such if one of them is added
-pub more-numbered : (n : ℕ) (c : SessionMode) (cs more : List SessionMode) → 1 ≤ c.session → c.session ≤ n → AreOfSessions n cs → ((u : ℕ) → has_session u more ≡ (eqb c.session u || has_session u cs)) → AreOfSessions n more
+more-numbered : (n : ℕ) (c : SessionMode) (cs more : List SessionMode) → 1 ≤ c.session → c.session ≤ n → AreOfSessions n cs → ((u : ℕ) → has_session u more ≡ (eqb c.session u || has_session u cs)) → AreOfSessions n more
 more-numbered n c cs more some few k is = all-numbered n more none (λ u e. (each u (sym (is u) ∙ e)).1)
   where
     each : (u : ℕ) → (eqb c.session u || has_session u cs) ≡ true → (1 ≤ u) × (u ≤ n)

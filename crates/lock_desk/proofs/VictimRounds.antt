@@ -146,12 +146,6 @@ module _ (d : LockTable) (w : IsWhole d) (waits : Waits) (filled : IsCurrent d.c
       go false f = refl
       go true f = absurd (none (down (pairs_of waits.rows) (waits_for st.table) same-pairs some-wait (s - 1) (s - 1) (subst (λ (x : ℕ). Reaches (waits_for st.table) x x) (sym e) (reached-walk st.table s s f))))
 
-  -- a session on a cycle of edges is on one of the state
-  pub cycle-found : (s : ℕ) → 1 ≤ s → Reaches (pairs_of waits.rows) (s - 1) (s - 1) → reaches st.table s s ≡ true
-  cycle-found s some r =
-      let e : s - 1 + 1 ≡ s = omega (arith, some) in
-      reaches-walk st.table s s (subst (λ (x : ℕ). Reaches (waits_for st.table) x x) e (up (pairs_of waits.rows) (waits_for st.table) same-pairs some-wait (s - 1) (s - 1) r))
-
   -- a victim that is found is that of the state
   pub found : (s v : ℕ) → 1 ≤ s → 1 ≤ v → IsYoungestOnCircle (pairs_of waits.rows) waits.numbers.items (s - 1) (v - 1) → (reaches st.table s s ≡ true) × (victim_of st s ≡ v)
   found s v some one y =

@@ -7,7 +7,6 @@ pub mod Pages
 pub mod Deadlocks
 pub mod Counts
 pub mod Gauges
-pub mod Resumed
 pub mod BookLaws
 -- what only private contracts cite
 pub mod inner

@@ -15,7 +15,3 @@ pub mod Shows
 pub mod Runs
 pub mod Paths
 pub mod Invariant
-pub mod Queueing
-pub mod Resuming
-pub mod Entering
-pub mod ResumedTables

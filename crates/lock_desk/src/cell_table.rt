@@ -14,7 +14,6 @@ ghost use Rattle.lock_desk.specs.inner.Ended.{DoNoteEnded};
 ghost use Rattle.lock_desk.specs.inner.Blocking.{IsOfSessions, AreWritten, IsWritten, DoFollow};
 
 mod grants;
-mod queueing;
 mod resource_keys;
 
 use crate::cells::{Cell, GivenUp, RequestStatus};

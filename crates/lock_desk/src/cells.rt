@@ -4,8 +4,6 @@ ghost use Rattle.std.specs.Prelude.{◌≡◌, ℕ, ◌+◌, ◌<◌, ◌≤◌,
 ghost use Rattle.waits_for.specs.Pairs.{pairs_of};
 ghost use Rattle.lock_holders.specs.declared.session_mode.SessionMode.{SessionMode as SessionModeValue};
 ghost use Rattle.lock_desk.specs.inner.Cells.{no_view, view_of, view_after_giving_up, next_grant, can_grant, is_granted, behind_conversions, queue_with, view_after_asking, view_with_holder, codes_unless_waited, HasRoom, HasRoomFor, IsKeptCell, is_busy};
-ghost use Rattle.lock_desk.specs.inner.Queueing.{view_queued};
-ghost use Rattle.lock_desk.specs.inner.Resuming.{begins_with_conversion, is_needless};
 ghost use Rattle.lock_holders.specs.SessionModes.{has_session, mode_of, pair_of, with_holder, fits_among, go_with, Ascends, is_nobody, holder_blocks, AreOfSessions};
 ghost use Rattle.lock_holders.specs.Holders.{IsPlaceOf};
 
@@ -308,40 +306,6 @@ impl Cell {
             self.enqueue(asker);
             Ok(RequestStatus::Waiting)
         }
-    }
-
-    /// Whether the first request of the queue is a conversion.
-    fn begins_with_conversion(&self) -> bool
-        ensures { result ≡ begins_with_conversion (view_of self.now).holders (view_of self.now).waiting }
-    {
-        match self.waiting.first() {
-            Some(first) => self.holders.has(first.session),
-            None => false,
-        }
-    }
-
-    /// Whether a request of `asker` would be granted, and no conversion waits before it.
-    pub(crate) fn is_needless(&self, asker: SessionMode) -> bool
-        ensures { result ≡ is_needless asker (view_of self.now) }
-    {
-        self.would_grant(asker) && !self.begins_with_conversion()
-    }
-
-    /// Adds a request of a session that has none here to the queue, also one that would be granted. If memory is refused,
-    /// holders and queue are unchanged.
-    pub(crate) fn queue_request(&mut self, asker: SessionMode) -> Result<(), AllocError>
-        requires some { 1 ≤ asker.session }
-        requires kept { IsKeptCell self.old }
-        requires idle { has_session asker.session (view_of self.old).waiting ≡ false }
-        ensures view { OnOk result (view_of self.new ≡ view_queued asker (view_of self.old)) }
-        ensures err { OnErr result (view_of self.new ≡ view_of self.old) }
-        ensures kept { IsKeptCell self.new }
-    {
-        let waiting = self.waiting.len();
-        self.holders.reserve(waiting + 1)?;
-        self.waiting.reserve(1)?;
-        self.enqueue(asker);
-        Ok(())
     }
 
     /// Adds to `rows` an edge from the session of `request` to each other holder whose mode conflicts with the

@@ -25,10 +25,6 @@
 //!    (`counts.rt`: what they are; kept by `call_counts.rt` and `wait_counts.rt`, and passed on with the log in `notes.rt`), `book/gauges.rt` what is there now
 //!    (`gauges.rt`). `recording.rt` serves one call and adds it to the history. `object.rt` makes the book a sequential object, which threads can share; `tending.rt` has what is
 //!    done with the memory of one that is shared.
-//! 4. The resumed table: the lock table without a history, which begins in a given state (`resumed_table.rt`). `resuming.rt` enters what
-//!    lists of the state have (`open_session.rt`), by the operations of `lock_table/additions.rt` and `lock_table/resuming.rt`; a request
-//!    that would be granted today is queued by `waits/queueing.rt` and `cell_table/queueing.rt`. `change.rt` has what its state was made by,
-//!    `table_parts.rt` the lock table with it, `flaw.rt` why lists describe no state.
 //!
 //! Proved: each reply is that of the sequential lock manager of `lock_rules` in the state that the history leads to,
 //! and a call for which memory is refused changes nothing that callers see. Only tested: that memory follows the
@@ -40,38 +36,28 @@ mod book;
 mod call_counts;
 mod cell_table;
 mod cells;
-mod change;
 mod counts;
 mod deadlock_log;
-mod flaw;
 mod gauges;
 mod lock_table;
 mod lockers;
 mod notes;
 mod object;
-mod open_session;
 mod promotion;
 mod recording;
-mod resumed_table;
-mod resuming;
-mod table_parts;
 mod tending;
 mod wait_counts;
 mod waits;
 
 pub use book::{Book, Item, PathLocked, grants, lock_of_level, pages_tell_each_lock_once};
-pub use change::Change;
 pub use counts::{Calls, Counts, Refusals};
 pub use deadlock_log::{Deadlock, Member};
-pub use flaw::Flaw;
 pub use gauges::Gauges;
 pub use lock_modes::Mode;
 pub use lock_rules::{
     Call, Claim, ClaimKind, Entry, MAX_LOCKS, MAX_SESSIONS, Reply, Transaction, Why,
 };
 pub use lock_tree::Resource;
-pub use open_session::OpenSession;
-pub use resumed_table::ResumedTable;
 pub use tending::{CountIdle, Reserve, Shrink};
 pub use trimmed_list::{MOST_DROPPED, NO_BOUND};
 

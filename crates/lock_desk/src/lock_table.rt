@@ -15,7 +15,6 @@ ghost use Rattle.lock_desk.specs.inner.Ended.{waits_at};
 ghost use Rattle.lock_desk.specs.inner.Ready.{IsReadyTable};
 ghost use Rattle.lock_desk.specs.inner.Shows.{Shows};
 
-mod additions;
 mod calls;
 mod deadlocks;
 mod gauges;
@@ -27,7 +26,6 @@ mod queues;
 mod refusals;
 mod requests;
 mod restarts;
-mod resuming;
 pub(crate) mod runs;
 
 use crate::cell_table::{CellTable, GivenUpClaim};

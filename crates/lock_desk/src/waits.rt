@@ -8,8 +8,6 @@ ghost use Rattle.lock_desk.specs.inner.Cells.{View, view_of, view_after_giving_u
 ghost use Rattle.lock_holders.specs.SessionModes.{has_session, times, AreOfSessions};
 ghost use Rattle.lock_desk.specs.inner.Blocking.{cell_blocks, fits_beside, has_fitting, has_fitting_beside, has_conflicting, IsOfSessions, IsSizedFor, AreWritten, HasRequestedAt, DoFollow};
 
-pub(crate) mod queueing;
-
 use crate::cells::{Cell, GivenUp, RequestStatus};
 use lock_holders::SessionMode;
 use lock_modes::Mode;

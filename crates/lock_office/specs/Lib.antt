@@ -2,5 +2,4 @@ pub mod Sessions
 pub mod Closed
 pub mod Ended
 pub mod Queries
-pub mod Paths
 pub mod Dump

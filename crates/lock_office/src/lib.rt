@@ -2,10 +2,9 @@
 //! its object.
 //!
 //! Sessions publish, serve and collect by the calls of `combining`. `opening.rt` opens an office that lets go of its history,
-//! `paths.rt` locks a path in one taking of the lock table, `queries.rt` has questions that a session asks of the lock table meanwhile,
-//! of any object with a book (`has_book.rt`), `pages.rt` tells the locks of one session by pages, `counts.rt` the counters, the gauges and
-//! the passes, `dump.rt` copies its locks, requests and transactions of one moment, `memory.rt` makes room in the table and gives memory
-//! back, and `laws.rt` says what holds of locks.
+//! `queries.rt` has questions that a session asks of the lock table meanwhile, of any object with a book (`has_book.rt`), `pages.rt` tells
+//! the locks of one session by pages, `counts.rt` the counters, the gauges and the passes, `dump.rt` copies its locks, requests and
+//! transactions of one moment, `memory.rt` makes room in the table and gives memory back, and `laws.rt` says what holds of locks.
 //!
 //! Proved, beside what `combining` proves of any object: each reply is the one that the sequential lock manager gives at its
 //! place, no two transactions ever have incompatible access to a resource, no waits form a circle, and no wake-up is lost
@@ -19,12 +18,11 @@ pub mod laws;
 pub mod memory;
 mod opening;
 pub mod pages;
-mod paths;
 pub mod queries;
 
 pub use combining::{
-    BoundedTurn, CloseFault, Ended, GoesOn, Nobody, OpenFault, PassBound, Posted, Told, Turn, Wait,
-    back_off, call, resume, row_turn, turn,
+    BoundedTurn, CloseFault, Ended, Nobody, OpenFault, PassBound, Posted, Told, Turn, Wait,
+    back_off, call, resume, turn,
 };
 pub use has_book::HasBook;
 pub use lock_board::{Knowledge, Ticket as Session};
@@ -32,7 +30,6 @@ use lock_desk::{Book, Entry, Reply};
 pub use opening::{
     book_keeping, book_seeded, book_telling, open_keeping, open_seeded, open_telling,
 };
-pub use paths::{NextOfPath, PathPerformed, WhileGranted, lock_path, path_turn};
 
 /// A lock table that threads share by reference, each with sessions of its own.
 pub type Office = combining::Office<Book>;
@@ -42,15 +39,6 @@ pub type Answer = combining::Answer<Reply>;
 
 /// The outcome of one call of `Office::perform`.
 pub type Performed = combining::Performed<Reply>;
-
-/// How far a row of calls came.
-pub type Row = combining::Row<Reply>;
-
-/// The outcome of one call of `Office::perform_row`.
-pub type PerformedRow = combining::PerformedRow<Reply>;
-
-/// The outcome of one turn of a row of calls.
-pub type NextOfRow = combining::NextOfRow<Reply>;
 
 /// The outcome of one turn of a call.
 pub type Next = combining::Next<Reply>;

@@ -6,9 +6,9 @@ ghost use Rattle.lock_shell.specs.inner.Asked.{AreLoaded, AreRead, IsFound, IsNo
 
 use crate::texts::{NO_CALLS, kind_name, put_bad_row, put_fault};
 use crate::trace_text::trace_text;
-use file_streams::NewFile;
 use lock_desk::{Entry, NoMemory};
 use lock_trace::{TraceFault, TraceKind, TraceRow, read_trace};
+use replay_commands::NewFile;
 use std::alloc::Global;
 use std::fs::{File, Files};
 use std::io;

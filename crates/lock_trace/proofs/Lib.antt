@@ -16,3 +16,5 @@ pub mod LineSteps
 pub mod Lines
 pub mod ReadBack
 pub mod HistoryLaws
+pub mod ReadShown
+pub mod Skipped

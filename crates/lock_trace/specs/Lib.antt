@@ -10,5 +10,7 @@ pub mod Traces
 pub mod Histories
 pub mod ReadHistories
 pub mod HistoryReaders
+pub mod Comments
+pub mod SkippingComments
 -- What only private contracts speak of.
 pub mod inner

@@ -17,8 +17,6 @@ mod offices;
 #[cfg(test)]
 mod refusals;
 #[cfg(test)]
-mod rows;
-#[cfg(test)]
 mod threads;
 #[cfg(test)]
 mod workers;

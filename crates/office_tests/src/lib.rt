@@ -18,8 +18,6 @@ pub mod own_office;
 #[cfg(test)]
 mod passes;
 #[cfg(test)]
-mod paths;
-#[cfg(test)]
 mod pieces;
 #[cfg(test)]
 mod questions;

@@ -28,7 +28,7 @@ use Rattle.combining.specs.declared.calling.Called.{Called}
 use Rattle.combining.specs.declared.calling.Next.{Next}
 use Rattle.combining.proofs.EndedWaits.{split-at}
 use Rattle.lock_office.specs.Sessions.{Answer}
-use Rattle.lock_office.specs.Paths.{rest_of_path}
+use Rattle.program_office.specs.Paths.{rest_of_path}
 use Rattle.program_office.specs.declared.call_session.CallSession.TheInside.{Inside}
 use Rattle.program_office.specs.declared.call_session.descending.NextOfPath.{NextOfPath}
 use Rattle.program_office.specs.inner.CallSessions.{MakesACall, IsReadable}

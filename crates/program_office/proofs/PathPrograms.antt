@@ -19,8 +19,7 @@ use Rattle.lock_programs.specs.Starts.{path_calls}
 use Rattle.lock_programs.specs.Fits.{goes_on_behind, fits, Fits}
 use Rattle.lock_programs.specs.Answers.{program_form}
 use Rattle.lock_desk.specs.Paths.{lock_of_level, grants}
-use Rattle.lock_office.specs.Paths.{rest_of_path}
-use Rattle.program_office.specs.Paths.{granted_among}
+use Rattle.program_office.specs.Paths.{rest_of_path, granted_among}
 
 -- the calls of a path, from a level on
 levels-alike : (r : List ℕ) (m : Mode) (from n : ℕ) → from + n ≡ length r + 1 → path_calls r (need_of m) (Locks m) from n ≡ map (lock_of_level r m) (range_with_len from n)

@@ -6,10 +6,9 @@ use Rattle.lock_programs.specs.declared.program.Program.{Program}
 use Rattle.lock_programs.specs.declared.answer.Answer.{Answer}
 use Rattle.lock_programs.specs.Calls.{calls_of}
 use Rattle.lock_programs.specs.Answers.{replies_of}
-use Rattle.lock_office.specs.Paths.{rest_of_path}
+use Rattle.program_office.specs.Paths.{rest_of_path, granted_among}
 use Rattle.program_office.specs.ProgramBoards.{TicketView}
 use Rattle.program_office.specs.Sessions.{IsPerformed}
-use Rattle.program_office.specs.Paths.{granted_among}
 
 -- The session performed a program that locks the rest of the path to resource r in mode m, behind level `locked`, and `level` levels are
 -- locked now. The last reply of the program has this place in the history of calls, of which 64 bits are told.

@@ -23,14 +23,13 @@ ghost use Rattle.publication.specs.Collected.{HasCollected};
 ghost use Rattle.lock_board.specs.HoldsAsTold.{HoldsAsTold as HoldsAsToldByCalls};
 ghost use Rattle.lock_board.specs.WakeUps.{WasToldToWait};
 ghost use Rattle.lock_office.specs.Ended.{AreWakesTold};
-ghost use Rattle.lock_office.specs.Paths.{rest_of_path};
+ghost use Rattle.program_office.specs.Paths.{rest_of_path, granted_among, IsGrantedFirst};
 ghost use Rattle.program_office.specs.ProgramBoards.{ProgramsView, ProgramEntry, AnsweredProgram, Pending, TicketView, Load, BoardState, IsHome, IsLegal, IsRuled, IsRun, history_of, flat_history, calls_answered};
 ghost use Rattle.program_office.specs.Closed.{IsClosed, IsOneHistory};
 ghost use Rattle.program_office.specs.HoldsAsTold.{KeepsLock, KeptLock, HoldsAsTold, ReadsAsTold, WritesAsTold, ToldModesGoTogether, IsToldExclusive, IsToldAccessCompatible};
 ghost use Rattle.program_office.specs.Ended.{AreToldBy, places_of_calls};
 ghost use Rattle.program_office.specs.WakeUps.{IsNotForgotten};
 ghost use Rattle.program_office.specs.InTime.{DoProgramsRespectTime};
-ghost use Rattle.program_office.specs.Paths.{granted_among, IsGrantedFirst};
 
 use combining::laws::closed_offices_have_one_history as one_history_of_any_object;
 use lock_desk::Book;
@@ -155,9 +154,9 @@ pub fn single_calls_stand_where_told()
     programs_stand_side_by_side::<Book>();
 }
 
-/// A path of locks is one program. `path_program` has the calls that `lock_office::lock_path` makes of the rest of a path, one for each
-/// level. As many levels of the rest are locked as locks were granted (`levels_granted`): those, from the uppermost on, have a reply that
-/// grants them, and behind them the path is locked, or the next reply grants nothing and is the last, or memory was refused.
+/// A path of locks is one program. `path_program` has the calls of the rest of a path, one for each level (`rest_of_path`). As many
+/// levels of the rest are locked as locks were granted (`levels_granted`): those, from the uppermost on, have a reply that grants them,
+/// and behind them the path is locked, or the next reply grants nothing and is the last, or memory was refused.
 pub fn paths_are_programs()
     ensures { (history : List ProgramEntry) (place : ℕ) (program : ProgramEntry) (resource : List ℕ) (mode : Mode) (locked : ℕ) → IsLegal history →
         slice_get history place ≡ Some program → calls_of program.call ≡ rest_of_path resource mode locked →

@@ -20,7 +20,7 @@ mod single;
 
 pub use call_session::{CallKnowledge, CallSession, Counted, NextOfPath};
 pub use combining::{
-    BoundedTurn, CloseFault, Ended, GoesOn, Nobody, OpenFault, PassBound, Posted, Told, Turn, Wait,
+    BoundedTurn, CloseFault, Ended, Nobody, OpenFault, PassBound, Posted, Told, Turn, Wait,
     back_off, call, look, resume, turn,
 };
 use lock_desk::{Book, Entry};

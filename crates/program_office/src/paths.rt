@@ -4,14 +4,14 @@ ghost use Rattle.std.specs.Prelude.{◌≡◌, ◌<◌, ◌≤◌, length};
 ghost use Rattle.lock_programs.specs.declared.program.TheConstants.{CALLS};
 ghost use Rattle.lock_programs.specs.Calls.{calls_of};
 ghost use Rattle.lock_programs.specs.Answers.{replies_of};
-ghost use Rattle.lock_office.specs.Paths.{rest_of_path};
-ghost use Rattle.program_office.specs.Paths.{granted_among};
+ghost use Rattle.program_office.specs.Paths.{rest_of_path, granted_among};
 
 use lock_desk::{Mode, Resource, grants};
 use lock_programs::{Answer as ProgramAnswer, Program, Start};
 
 /// The program that locks a path to `resource` in `mode` from behind level `locked` on: each ancestor in `mode.parent_need()`, and then
-/// `resource` in `mode`. Its calls are those that `lock_office::lock_path` makes, which takes the lock table for a row of them.
+/// `resource` in `mode`, one call for each level. That a path is locked from the top down in intention modes is from Gray, Lorie, Putzolu
+/// and Traiger (1976), that one program does it is this project's own.
 pub fn path_program(resource: &Resource, mode: Mode, locked: u8) -> Program
     requires rest { locked < length resource.now }
     ensures { calls_of result ≡ rest_of_path resource.now mode locked }

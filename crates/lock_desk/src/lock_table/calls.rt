@@ -157,7 +157,7 @@ impl LockTable {
     /// Requests a lock as `serve_lock` does, but is refused if the request would wait. If memory is refused, nothing that
     /// contracts see changes.
     #[inline(never)]
-    pub(super) fn serve_try(
+    fn serve_try(
         &mut self,
         session: u16,
         resource: Resource,

@@ -29,7 +29,7 @@ impl LockTable {
 
     /// Makes the transaction of `session` a deadlock's victim: removes its waiting request, lists it among the ended
     /// waits, and marks it doomed. It keeps its locks.
-    pub(super) fn doom(&mut self, session: u16)
+    fn doom(&mut self, session: u16)
         requires may_serve { MayServe session self.old }
         ensures doomed { HasDoomed session self.old self.new }
         ensures waits_ended { HasNotedEnded 0 self.old self.new }

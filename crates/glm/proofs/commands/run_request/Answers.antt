@@ -2,7 +2,7 @@ use Rattle.std.proofs.Common.{ap, refl, sym, ◌≡◌, ◌∙◌, None, Some, O
 use Rattle.std.proofs.KnownBytes.{Keeps-refl}
 use Rattle.either.specs.Either.{either}
 use Rattle.either.specs.declared.Either.TheVariants.{Left}
-use Rattle.row_comments.specs.Reading.{remaining_of}
+use Rattle.lock_trace.specs.SkippingComments.{remaining_of}
 use Rattle.glm.proofs.Streams.{of_request}
 use Rattle.glm.proofs.commands.run_request.Goals as goal
 use Rattle.glm.proofs.commands.run_request.Goals.{in-None, in-Some}

@@ -1,8 +1,0 @@
-pub mod Counted
-pub mod Judged
-pub mod Told
-pub mod WithinSessions
-pub mod TablesReached
-pub mod TransactionsReached
-pub mod DumpedStates
-pub mod WaitsListed

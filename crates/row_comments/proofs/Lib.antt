@@ -1,2 +1,0 @@
-pub mod ReadShown
-pub mod Skipped
