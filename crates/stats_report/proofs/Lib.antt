@@ -1,1 +1,2 @@
 pub mod CountedParts
+pub mod Lines

@@ -1,9 +1,7 @@
 //! The counters and the gauges of a book, a line for each.
 
-ghost use Rattle.std.specs.Prelude.{◌≡◌, ◌++◌, List, OnOk, IfOk, string_bytes};
-ghost use Rattle.lock_rules.specs.Entries.{Entry as EntryValue};
-ghost use Rattle.lock_desk.specs.Counts.{calls_of, refusals_of, counts_of};
-ghost use Rattle.stats_report.specs.StatsText.{padded, line_of, lines_of_calls, lines_of_requests, lines_of_waits, lines_of_deadlocks, lines_of_refusals, gauge_lines, text_of_stats};
+ghost use Rattle.std.specs.Prelude.{◌≡◌, ◌++◌, OnOk, IfOk, string_bytes};
+ghost use Rattle.stats_report.specs.StatsText.{padded, line_of, lines_of_calls, lines_of_requests, lines_of_waits, lines_of_deadlocks, lines_of_refusals, lines_of_gauges, text_of_stats};
 
 use command_line::Form;
 use lock_desk::{Book, Calls, Counts, Gauges, NoMemory, Refusals};
@@ -62,7 +60,7 @@ fn put_counter(
 
 /// Writes how many calls of each operation there were.
 fn put_calls(out: &mut String, form: Form, calls: &Calls) -> Result<(), NoMemory>
-    ensures { (history : List EntryValue) → calls.now ≡ calls_of history → OnOk result (string_bytes out.new ≡ string_bytes out.old ++ lines_of_calls form history) }
+    ensures { OnOk result (string_bytes out.new ≡ string_bytes out.old ++ lines_of_calls form calls.now) }
 {
     put_counter(out, form, "calls", "begin", calls.begin)?;
     put_counter(out, form, "calls", "lock", calls.lock)?;
@@ -78,7 +76,7 @@ fn put_calls(out: &mut String, form: Form, calls: &Calls) -> Result<(), NoMemory
 
 /// Writes how requests were answered.
 fn put_requests(out: &mut String, form: Form, counts: &Counts) -> Result<(), NoMemory>
-    ensures { (history : List EntryValue) → counts.now ≡ counts_of history → OnOk result (string_bytes out.new ≡ string_bytes out.old ++ lines_of_requests form history) }
+    ensures { OnOk result (string_bytes out.new ≡ string_bytes out.old ++ lines_of_requests form counts.now) }
 {
     put_counter(out, form, "requests", "all", counts.requests)?;
     put_counter(out, form, "requests", "granted", counts.granted_at_once)?;
@@ -88,7 +86,7 @@ fn put_requests(out: &mut String, form: Form, counts: &Counts) -> Result<(), NoM
 
 /// Writes how waits ended.
 fn put_waits(out: &mut String, form: Form, counts: &Counts) -> Result<(), NoMemory>
-    ensures { (history : List EntryValue) → counts.now ≡ counts_of history → OnOk result (string_bytes out.new ≡ string_bytes out.old ++ lines_of_waits form history) }
+    ensures { OnOk result (string_bytes out.new ≡ string_bytes out.old ++ lines_of_waits form counts.now) }
 {
     put_counter(out, form, "waits", "begun", counts.waits_begun)?;
     put_counter(out, form, "waits", "granted", counts.waits_granted)?;
@@ -101,7 +99,7 @@ fn put_waits(out: &mut String, form: Form, counts: &Counts) -> Result<(), NoMemo
 
 /// Writes how many calls closed a cycle of waits, and how many victims there were.
 fn put_deadlocks(out: &mut String, form: Form, counts: &Counts) -> Result<(), NoMemory>
-    ensures { (history : List EntryValue) → counts.now ≡ counts_of history → OnOk result (string_bytes out.new ≡ string_bytes out.old ++ lines_of_deadlocks form history) }
+    ensures { OnOk result (string_bytes out.new ≡ string_bytes out.old ++ lines_of_deadlocks form counts.now) }
 {
     put_counter(out, form, "deadlocks", "calls", counts.deadlocks)?;
     put_counter(out, form, "deadlocks", "victims", counts.victims)
@@ -109,7 +107,7 @@ fn put_deadlocks(out: &mut String, form: Form, counts: &Counts) -> Result<(), No
 
 /// Writes how many calls were refused, by reason.
 fn put_refusals(out: &mut String, form: Form, refusals: &Refusals) -> Result<(), NoMemory>
-    ensures { (history : List EntryValue) → refusals.now ≡ refusals_of history → OnOk result (string_bytes out.new ≡ string_bytes out.old ++ lines_of_refusals form history) }
+    ensures { OnOk result (string_bytes out.new ≡ string_bytes out.old ++ lines_of_refusals form refusals.now) }
 {
     put_counter(out, form, "refusals", "AlreadyOpen", refusals.already_open)?;
     put_counter(
@@ -150,7 +148,7 @@ fn put_refusals(out: &mut String, form: Form, refusals: &Refusals) -> Result<(),
 
 /// Writes what the lock table has now.
 fn put_gauges(out: &mut String, form: Form, gauges: &Gauges) -> Result<(), NoMemory>
-    ensures { OnOk result (string_bytes out.new ≡ string_bytes out.old ++ gauge_lines form gauges.now) }
+    ensures { OnOk result (string_bytes out.new ≡ string_bytes out.old ++ lines_of_gauges form gauges.now) }
 {
     put_counter(out, form, "now", "transactions", gauges.transactions)?;
     put_counter(out, form, "now", "locks", gauges.locks)?;
