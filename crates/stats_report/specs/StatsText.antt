@@ -62,26 +62,26 @@ lines_of_deadlocks form c =
 
 -- how many calls were refused, by reason
 abbrev pub lines_of_refusals : Form → Refusals → List ℕ
-lines_of_refusals form c =
-    line_of form (codes "refusals") (codes "AlreadyOpen") c.already_open
-    ++ line_of form (codes "refusals") (codes "NoTransaction") c.no_transaction
-    ++ line_of form (codes "refusals") (codes "IsWaiting") c.is_waiting
-    ++ line_of form (codes "refusals") (codes "IsDoomed") c.is_doomed
-    ++ line_of form (codes "refusals") (codes "NothingAsked") c.nothing_asked
-    ++ line_of form (codes "refusals") (codes "NotHeld") c.not_held
-    ++ line_of form (codes "refusals") (codes "ParentNotHeld") c.parent_not_held
-    ++ line_of form (codes "refusals") (codes "ChildHeld") c.child_held
-    ++ line_of form (codes "refusals") (codes "TooManyLocks") c.too_many_locks
-    ++ line_of form (codes "refusals") (codes "WouldWait") c.would_wait
-    ++ line_of form (codes "refusals") (codes "NotWaiting") c.not_waiting
+lines_of_refusals form r =
+    line_of form (codes "refusals") (codes "AlreadyOpen") r.already_open
+    ++ line_of form (codes "refusals") (codes "NoTransaction") r.no_transaction
+    ++ line_of form (codes "refusals") (codes "IsWaiting") r.is_waiting
+    ++ line_of form (codes "refusals") (codes "IsDoomed") r.is_doomed
+    ++ line_of form (codes "refusals") (codes "NothingAsked") r.nothing_asked
+    ++ line_of form (codes "refusals") (codes "NotHeld") r.not_held
+    ++ line_of form (codes "refusals") (codes "ParentNotHeld") r.parent_not_held
+    ++ line_of form (codes "refusals") (codes "ChildHeld") r.child_held
+    ++ line_of form (codes "refusals") (codes "TooManyLocks") r.too_many_locks
+    ++ line_of form (codes "refusals") (codes "WouldWait") r.would_wait
+    ++ line_of form (codes "refusals") (codes "NotWaiting") r.not_waiting
 
 -- the open transactions, the locks, the waiting requests, and the length of the longest queue
 abbrev pub lines_of_gauges : Form → Gauges → List ℕ
-lines_of_gauges form c =
-    line_of form (codes "now") (codes "transactions") c.transactions
-    ++ line_of form (codes "now") (codes "locks") c.locks
-    ++ line_of form (codes "now") (codes "waiting") c.waiting
-    ++ line_of form (codes "now") (codes "longest_queue") c.longest_queue
+lines_of_gauges form g =
+    line_of form (codes "now") (codes "transactions") g.transactions
+    ++ line_of form (codes "now") (codes "locks") g.locks
+    ++ line_of form (codes "now") (codes "waiting") g.waiting
+    ++ line_of form (codes "now") (codes "longest_queue") g.longest_queue
 
 -- the counters
 abbrev pub lines_of_counts : Form → Counts → List ℕ
