@@ -1,19 +1,19 @@
 //! The command `stats`: the counters of a history.
 
-ghost use Rattle.std.specs.Prelude.{◌≡◌, ◌≢◌, ℕ, ◌<◌, ◌≤◌, List, Some, All, IfOk, IfErr, string_bytes};
+ghost use Rattle.std.specs.Prelude.{◌≡◌, ◌≢◌, ℕ, ◌<◌, ◌≤◌, List, [], Some, All, IfOk, IfErr, string_bytes};
 ghost use Rattle.std.specs.Io.KnownBytes.{Keeps};
 ghost use Rattle.lock_rules.specs.declared.calls.TheConstants.{MAX_SESSIONS};
 ghost use Rattle.lock_trace.specs.Entries.{IsEntry};
 ghost use Rattle.history_commands.specs.Verdicts.{IsVerdict};
 ghost use Rattle.replay_commands.specs.Replays.{IsFaultOfOneThread};
-ghost use Rattle.stats_command.specs.Stats.{Counts, HasCounted, HasCountedPart, text_counted};
+ghost use Rattle.stats_report.specs.Stats.{Counts, HasCounted, HasCountedPart, text_counted};
 
+use crate::text::stats_text;
 use command_line::Form;
-use history_commands::{Finding, Verdict, finding_on, verdict_line};
-use lock_desk::{Entry, NoMemory};
+use history_commands::{Finding, Verdict, finding_by, fresh_book, verdict_line};
+use lock_desk::{Book, Entry, NoMemory};
 use lock_trace::read_history;
 use replay_commands::{ToolFault, write_text};
-use stats_report::stats_text;
 use std::alloc::Global;
 use std::io::{Read, Write};
 
@@ -26,27 +26,38 @@ struct Told {
     text: String,
 }
 
-/// The counters of a history if it is legal, else the line of its verdict. Fails if memory is refused.
-fn told_text(alloc: Global, entries: &[Entry], sessions: u16, form: Form) -> Result<Told, NoMemory>
-    requires some { 0 < sessions }
-    requires few { sessions ≤ MAX_SESSIONS }
-    requires within { All (IsEntry sessions) entries.now }
-    ensures { IfOk result (λ told. IsVerdict entries.now told.verdict × (string_bytes told.text ≡ text_counted form sessions entries.now told.verdict)) }
+/// Serves the calls of a history on a book that has served none. Returns the counters if the history is legal, else the line of its
+/// verdict. Fails if memory is refused.
+fn told_by(alloc: Global, book: &mut Book, entries: &[Entry], form: Form) -> Result<Told, NoMemory>
+    requires within { All (IsEntry book.old.sessions) entries.now }
+    requires empty { book.old.history ≡ [] }
+    ensures { IfOk result (λ told. IsVerdict entries.now told.verdict × (string_bytes told.text ≡ text_counted form book.old.sessions entries.now told.verdict)) }
 {
-    match finding_on(alloc, entries, sessions)? {
+    match finding_by(book, entries)? {
         Finding::Wrong(wrong) => {
             let verdict = Verdict::Illegal(wrong.place);
             let text = verdict_line(alloc, verdict)?;
             Ok(Told { verdict, text })
         }
         Finding::Legal(count) => {
-            let text = stats_text(alloc, entries, sessions, form)?;
+            let text = stats_text(alloc, book, form)?;
             Ok(Told {
                 verdict: Verdict::Legal(count),
                 text,
             })
         }
     }
+}
+
+/// What is written of a history, by a fresh lock table that serves it. Fails if memory is refused.
+fn told_text(alloc: Global, entries: &[Entry], sessions: u16, form: Form) -> Result<Told, NoMemory>
+    requires some { 0 < sessions }
+    requires few { sessions ≤ MAX_SESSIONS }
+    requires within { All (IsEntry sessions) entries.now }
+    ensures { IfOk result (λ told. IsVerdict entries.now told.verdict × (string_bytes told.text ≡ text_counted form sessions entries.now told.verdict)) }
+{
+    let mut book = fresh_book(alloc, sessions)?;
+    told_by(alloc, &mut book, entries, form)
 }
 
 /// Reads the whole text of a history of sessions 1 to `sessions`, at most `MAX_SESSIONS`, checks it as
@@ -57,7 +68,7 @@ fn told_text(alloc: Global, entries: &[Entry], sessions: u16, form: Form) -> Res
 ///
 /// The whole text is made before its first byte is written. After every fault except `Device` nothing was written; after `Device`
 /// the beginning of the text may have been written, and nothing else. The fault `Trace` names the first faulty row and the first test
-/// that the row fails. It costs a check of the history, whose calls are served once more, and a listing of the lock table.
+/// that the row fails. It costs a check of the history, since the lock table counts the calls that it serves, and [`stats_text`].
 #[tactic(auto, using(crate::proofs::CountedParts::counted_part, crate::proofs::CountedParts::counted_part_known))]
 pub fn stats<R: Read + Drop, W: Write>(
     alloc: Global,

@@ -8,7 +8,7 @@ use Rattle.command_line.specs.declared.args.Form.{Form}
 use Rattle.history_commands.specs.declared.checking.Verdict.{Verdict}
 use Rattle.replay_commands.specs.declared.tool_fault.ToolFault.TheVariants as tool
 use Rattle.replay_commands.specs.Written.{AppendsPart}
-use Rattle.stats_command.specs.Stats.{Counts, HasCountedPart, IsCounted}
+use Rattle.stats_report.specs.Stats.{Counts, HasCountedPart, IsCounted}
 
 -- counters whose writer failed were written in part
 pub counted_part : (form : Form) (n : ℕ) (history : List Entry) (verdict : Verdict) (text : List ℕ) (old new : Option (List ℕ))

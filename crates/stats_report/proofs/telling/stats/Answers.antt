@@ -1,5 +1,5 @@
 use Rattle.std.proofs.Common.{rules}
-use Rattle.stats_command.proofs.telling.stats.Goals as goal
+use Rattle.stats_report.proofs.telling.stats.Goals as goal
 
 pub returns-then-is_err-clause-part : goal.returns-then-is_err-clause-part
 returns-then-is_err-clause-part g c = λ is. (
