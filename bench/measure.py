@@ -8,6 +8,8 @@ median of the rounds, with the least and the greatest in brackets. Before the ta
 and in how many rounds they were measured, and which share of all ticks of the processors was stolen by others than this system, or
 idle, by /proc/stat. Rounds in which more than 1 in 100 was stolen are robbed: their figures come in tables of their own.
 
+A section has two texts: all its figures, which are printed, and a short one of medians alone, of the clean rounds if there are any.
+
 The sections, with the minutes that they take on 4 free processors:
     replay        glm replay, run, explain, check and show, on the traces of bench/replay.py                 1
     worst         the dearest calls, with 256 and with 1,024 sessions, by bench/worst.py                     3
@@ -22,10 +24,12 @@ The sections, with the minutes that they take on 4 free processors:
     embedding     the boundary to C beside lock_bench seq and, if its library is there, Berkeley DB          1/2
     instructions  what checks/instructions.py counts; needs valgrind; once                                   1/2
 
-The sections come out one by one, and what they are at goes to standard error. --paste also puts each in the place of what
-bench/README.md has of it. --quick makes one round with few repetitions, to try this script: its figures are none. Needs a C compiler,
-`$CC` or cc; `store` and `hash_table` need RocksDB, and `$CXX` or c++ for C++17. Builds the programs and the library first, if they aren't
-built; with --over-gate, takes those that a full run of the gate and checks/embedding have left. Status 1: a section was left out.
+The sections come out one by one, and what they are at goes to standard error. --paste also writes all figures of each into
+bench/results/SECTION.md, and puts the short text in the place of what bench/README.md has of it, up to the next heading; of
+`lock_bench` and `instructions` it has links alone. --quick makes one round with few repetitions, to try this script: its figures
+are none. Needs a C compiler, `$CC` or cc; `store` and `hash_table` need RocksDB, and `$CXX` or c++ for C++17. Builds the programs
+and the library first, if they aren't built; with --over-gate, takes those that a full run of the gate and checks/embedding have
+left. Status 1: a section was left out.
 """
 import argparse
 import os
@@ -48,6 +52,7 @@ BUILDS = {
     LIBRARY: (["./embed"], TOP),
 }
 README = TOP / "bench/README.md"
+RESULTS = TOP / "bench/results"
 # a round is robbed if more than one tick in so many was stolen
 ROBBED = 100
 
@@ -92,7 +97,13 @@ class Figures:
     """What each case has told, round by round: numbers by their names."""
 
     def __init__(self):
-        self.found = {}
+        self.found, self.has_spread = {}, True
+
+    def medians(self):
+        """The same figures, which are printed without the least and the greatest."""
+        short = Figures()
+        short.found, short.has_spread = self.found, False
+        return short
 
     def add(self, key, told):
         for name, number in told.items():
@@ -114,7 +125,7 @@ class Figures:
         middle, least, greatest = (
             "/".join(f"{of(column) / per:,.{digits}f}" for column in columns) for of in (statistics.median, min, max)
         )
-        return middle if least == greatest else f"{middle} ({least} to {greatest})"
+        return f"{middle} ({least} to {greatest})" if self.has_spread and least != greatest else middle
 
 
 def make_rounds(section, count):
@@ -134,30 +145,50 @@ def make_rounds(section, count):
     return found, numbers, Ticks().since(start)
 
 
-def text_of(section, rounds):
-    """The lines of a section: how it was measured, and its tables."""
+def head_of(rounds, day, spent, more, how):
+    """The line that says where, when and how a section was measured."""
+    of = f"median of {rounds} rounds" if rounds > 1 else "1 round"
+    return f"{processor()}, {day}: {of}{more}; {spent.told()}. {how}"
+
+
+def told_of(numbers, rounds, is_robbed):
+    """The line before tables of some of the rounds; None if it were of all, and they are clean."""
+    if is_robbed:
+        return f"ROBBED: {numbers[True]} of {rounds} rounds, in which more than 1 tick in {ROBBED} was stolen."
+    return f"Clean: {numbers[False]} of {rounds} rounds." if numbers[True] else None
+
+
+def texts_of(section, rounds):
+    """All figures of a section, and its short text: how it was measured, and its tables."""
     day, start = today(), time.monotonic()
     found, numbers, spent = make_rounds(section, rounds)
-    spread = "median of {} rounds, in brackets the least and the greatest" if rounds > 1 else "{} round"
-    lines = [f"{processor()}, {day}: {spread.format(rounds)}; {spent.told()}. {section.how}"]
-    for robbed in (False, True):
-        if not numbers[robbed]:
+    spread = ", in brackets the least and the greatest" if rounds > 1 else ""
+    whole = [head_of(rounds, day, spent, spread, section.how)]
+    short = [head_of(rounds, day, spent, f" ([all figures](results/{section.name}.md))", section.short_how or section.how)]
+    shown = not numbers[False]
+    for is_robbed in (False, True):
+        if not numbers[is_robbed]:
             continue
-        if robbed:
-            lines += ["", f"ROBBED: {numbers[True]} of {rounds} rounds, in which more than 1 tick in {ROBBED} was stolen."]
-        elif numbers[True]:
-            lines += ["", f"Clean: {numbers[False]} of {rounds} rounds."]
-        lines += ["", *section.tables(found[robbed])]
+        line = told_of(numbers, rounds, is_robbed)
+        told = ["", line] if line else []
+        whole += [*told, "", *section.tables(found[is_robbed])]
+        if is_robbed == shown:
+            short += [*told, "", *section.short_tables(found[is_robbed])]
     tell(f"{section.name}: {time.monotonic() - start:.0f} seconds")
-    return "\n".join(lines)
+    return "\n".join(whole), "\n".join(short)
 
 
-def paste(name, text):
-    """Puts a section in the place of what bench/README.md has of it, from the comment that names it to the next heading."""
-    line = f"<!-- bench/measure.py --only {name} replaces what follows in this section -->\n"
-    before, behind = README.read_text().split(line)
-    next_heading = behind.find("\n## ")
-    README.write_text(f"{before}{line}\n{text}\n{behind[next_heading:] if next_heading >= 0 else ''}")
+def paste(section, whole, short):
+    """Writes all figures of a section into bench/results, and puts its short text in the place of what bench/README.md has of it, if it has
+    any: from the comment that names it to the next heading."""
+    line = f"<!-- bench/measure.py --only {section.name} replaces what follows, up to the next heading -->\n"
+    before, comment, behind = README.read_text().partition(line)
+    if comment:
+        next_heading = behind.find("\n#")
+        README.write_text(f"{before}{line}\n{short}\n{behind[next_heading:] if next_heading >= 0 else ''}")
+    RESULTS.mkdir(exist_ok=True)
+    title = section.heading.replace("`", "")
+    (RESULTS / f"{section.name}.md").write_text(f"# {title}\n\nWritten by `bench/measure.py --paste --only {section.name}`.\n\n{whole}\n")
 
 
 def build(needs, is_over_gate):
@@ -174,7 +205,7 @@ def asked_of_the_words():
     asked.add_argument("--over-gate", action="store_true", help="takes what a full run of the gate has left")
     asked.add_argument("--rounds", type=int, default=5)
     asked.add_argument("--quick", action="store_true", help="one round with few repetitions, to try this script")
-    asked.add_argument("--paste", action="store_true", help="puts the sections into bench/README.md, too")
+    asked.add_argument("--paste", action="store_true", help="puts the sections into bench/README.md and bench/results, too")
     asked.add_argument("--only", action="append", choices=[kind.name for kind in SECTIONS], metavar="SECTION")
     asked = asked.parse_args()
     if asked.rounds < 1:
@@ -195,10 +226,10 @@ def main():
                 build(kind.needs, asked.over_gate)
                 rounds = 1 if asked.quick else min(asked.rounds, kind.most_rounds or asked.rounds)
                 print(f"\n## {kind.heading}\n", flush=True)
-                text = text_of(kind(Path(name), asked.quick), rounds)
-                print(text, flush=True)
+                whole, short = texts_of(kind(Path(name), asked.quick), rounds)
+                print(whole, flush=True)
                 if asked.paste:
-                    paste(kind.name, text)
+                    paste(kind, whole, short)
             except (OSError, subprocess.SubprocessError) as error:
                 failed.append(kind.name)
                 print(f"\nLeft out: {kind.name} couldn't be measured.", flush=True)

@@ -30,17 +30,21 @@ def numbers_of(words):
 
 def table(head, rows):
     """The lines of a table in Markdown."""
-    return ["| " + " | ".join(map(str, row)) + " |" for row in (head, ["---"] * len(head), *rows)]
+    lines = ["| " + " | ".join(map(str, row)) + " |" for row in (head, *rows)]
+    return [lines[0], "|" + "---|" * len(head), *lines[1:]]
 
 
 class Section:
     """A section of bench/README.md. Its `cases` are pairs of a key and a function that measures once, and returns numbers by their
-    names; `tables` returns the lines that show the figures."""
+    names; `tables` returns the lines that show the figures, `short_tables` those of bench/README.md."""
 
-    needs, how, most_rounds = (), "", None
+    needs, how, short_how, most_rounds = (), "", "", None
 
     def __init__(self, folder, is_quick):
         self.folder, self.is_quick = folder, is_quick
+
+    def short_tables(self, found):
+        return self.tables(found.medians())
 
     def few(self, number):
         """So many repetitions or rows, or fewer of them with --quick."""
@@ -101,7 +105,7 @@ class Replay(Section):
         history, given = self.folder / "history.csv", self.trace("drawn.csv", replay.drawn(drawn))
         replay.timed(["replay"], given, history)
         for command in ("explain", "check", "show"):
-            key = f"`glm {command}` of a history of {drawn:,} rows of 64 sessions, drawn at random"
+            key = f"`glm {command}` of {drawn:,} rows drawn at random"
             cases.append((key, lambda c=command: self.least([c], history, drawn)))
         self.rows = [key for key, _ in cases]
         self.waiting = []
@@ -109,7 +113,7 @@ class Replay(Section):
             count = self.few(1_000_000) // 3
             before = self.trace(f"{held}.before.csv", replay.holders(held))
             behind = self.trace(f"{held}.csv", (row for rows in (replay.holders(held), replay.waits(3, count)) for row in rows))
-            self.waiting.append(f"{count:,} waits, each begun and aborted, beside {held:,} databases that are held")
+            self.waiting.append(f"{count:,} waits, begun and aborted, beside {held:,} databases that are held")
             cases.append((self.waiting[-1], lambda b=before, w=behind, n=count: self.waits(b, w, n)))
         return cases
 
@@ -139,6 +143,8 @@ class Worst(Section):
         worst.whole: "a whole transaction of 4096 locks, from its begin to its commit",
     }
     TIMES = 5
+    # what bench/README.md has of the cases
+    SHOWN = (worst.line, worst.victims, worst.circle, worst.queue, worst.release, worst.whole)
     # how often a trace has a case's rows, by the sessions
     REPEATED = {256: 20, 1024: 10}
 
@@ -151,8 +157,14 @@ class Worst(Section):
         return cases
 
     def tables(self, found):
+        return self.rows_of(self.CASES, found)
+
+    def short_tables(self, found):
+        return self.rows_of(self.SHOWN, found.medians())
+
+    def rows_of(self, cases, found):
         head = ["call", *(f"{sessions:,} sessions" for sessions in self.REPEATED)]
-        return table(head, [[told, *(found.text((case, n), "each", 1) for n in self.REPEATED)] for case, told in self.CASES.items()])
+        return table(head, [[self.CASES[case], *(found.text((case, n), "each", 1) for n in self.REPEATED)] for case in cases])
 
 
 class Memory(Section):
@@ -206,7 +218,9 @@ class Growth(Section):
 class Sharing(Section):
     name, heading, needs = "sharing", "How threads share a lock table: `bench/sharing.c`", (LIBRARY,)
     how = "Mutex/office. A call's time is that of the fastest of 9 turns; from a call to its answer, by 9 other turns."
+    short_how = "Mutex/office: a call in ns, in the fastest of 9 turns; the 99th of 100 answers in µs, in 9 other turns."
     TURNS = 9
+    KINDS = ("own", "shared", "conflict")
 
     def traces(self):
         return sharing.write_traces(self.folder, self.few(sharing.ROWS))
@@ -222,15 +236,30 @@ class Sharing(Section):
     def tables(self, found):
         names = [("least", 0, 1), ("median", 0, 1), ("99th", 1, 1000), ("9999th", 0, 1000)]
         rows = []
-        for case in sorted(sharing.CASES, key=lambda case: ["own", "shared", "conflict"].index(case[0])):
+        for case in sorted(sharing.CASES, key=lambda case: self.KINDS.index(case[0])):
             shown = [found.pair(case, [f"mutex {name}", f"office {name}"], digits, per) for name, digits, per in names]
             rows.append([case[0], f"{case[1]}, {case[2]}", *shown])
         return table(["trace", "threads, sessions", "a call, ns", "median answer, ns", "99th of 100, µs", "9,999th of 10,000, µs"], rows)
+
+    def short_tables(self, found):
+        short = found.medians()
+
+        def cell(case):
+            told = [("least", 0, 1), ("99th", 1, 1000)]
+            return "; ".join(filter(None, (short.pair(case, [f"mutex {name}", f"office {name}"], *more) for name, *more in told)))
+
+        return self.grid(cell)
+
+    def grid(self, cell):
+        """A row for each number of threads and sessions, a column for each kind of trace."""
+        numbers = sorted({case[1:] for case in sharing.CASES})
+        return table(["threads, sessions", *self.KINDS], [[f"{t}, {s}", *(cell((kind, t, s)) for kind in self.KINDS)] for t, s in numbers])
 
 
 class LockBench(Sharing):
     name, heading, needs = "lock_bench", "Threads: `lock_bench`", (LOCK_BENCH,)
     how = "Nanoseconds a call, mutex/office, of the fastest of 7 turns."
+    short_how, short_tables = "", Section.short_tables
     TURNS = 7
 
     def cases(self):
@@ -241,15 +270,14 @@ class LockBench(Sharing):
         return {way: sharing.by_lock_bench(LOCK_BENCH, way, trace, threads, self.few(self.TURNS)) for way in sharing.COMMANDS}
 
     def tables(self, found):
-        kinds = ("own", "shared", "conflict")
-        numbers = sorted({case[1:] for case in sharing.CASES})
-        rows = [[f"{t}, {s}", *(found.pair((kind, t, s), list(sharing.COMMANDS)) for kind in kinds)] for t, s in numbers]
-        return table(["threads, sessions", *kinds], rows)
+        return self.grid(lambda case: found.pair(case, list(sharing.COMMANDS)))
 
 
 class Waiting(Section):
     name, heading, needs = "waiting", "How threads wait for locks: `bench/waiting.c`", (LIBRARY,)
     how = "Processor time and calls are those of a transaction; the time to the grant is that of requests that wait."
+    # what bench/README.md has of the numbers
+    SHOWN = ("transactions", "processors", "99th")
     # threads, records, microseconds held; and the transactions of a thread by each way, which take half a second to two
     CASES = {
         ("64", "16", "20"): {"sleep": 1000, "poll": 500, "yield": 1000},
@@ -269,15 +297,22 @@ class Waiting(Section):
         return {name: float(numbers[at]) for name, at in self.NUMBERS.items()}
 
     def tables(self, found):
+        return self.rows_of(self.NUMBERS, found)
+
+    def short_tables(self, found):
+        return self.rows_of(self.SHOWN, found.medians())
+
+    def rows_of(self, names, found):
+        told = {"transactions": "transactions a second", "processors": "µs of processors", "median": "median µs to the grant"}
+        told["99th"] = "99th of 100, µs to the grant"
         digits = {"processors": 1, "calls": 1}
         rows = []
         for threads, records, held in self.CASES:
             for way in ("sleep", "poll", "yield"):
                 key = (threads, records, held), way
                 named = f"{threads}, {records}, " + (f"{held} µs" if held != "0" else "not held")
-                rows.append([named, way, *(found.text(key, name, digits.get(name, 0)) for name in self.NUMBERS)])
-        head = ["threads, records, held", "way", "transactions a second", "µs of processors", "calls"]
-        return table([*head, "median µs to the grant", "99th of 100"], rows)
+                rows.append([named, way, *(found.text(key, name, digits.get(name, 0)) for name in names)])
+        return table(["threads, records, held", "way", *(told.get(name, name) for name in names)], rows)
 
 
 def side_by_side(count):
@@ -291,12 +326,35 @@ def side_by_side(count):
         turn += 1
 
 
+# the numbers of threads that bench/README.md has
+SHOWN_THREADS = (1, 4, 16)
+
+
+def short_table(head, rows, ways, base, digits, found):
+    """A row for each of `rows`, the beginnings of keys by their names, and a column for each of `SHOWN_THREADS`: thousands of transactions
+    a second by the way `base`, and behind it, of each other way, the ratio to that. A line says which ways."""
+
+    def cell(begin, count):
+        if ((*begin, count, base), "second") not in found.found:
+            return ""
+        rate = found.middle((*begin, count, base), "second")
+        keys = [((*begin, count, way), "second") for way in ways if way != base]
+        ratios = [f"{found.middle(*key) / rate:.2f}" if key in found.found else "-" for key in keys]
+        return f"{rate / 1000:,.{digits}f}: {', '.join(ratios)}"
+
+    others = "; ".join(f"*{told}*" for way, told in ways.items() if way != base)
+    line = f"Thousands of transactions a second, *{ways[base]}*; behind the colon the ratios to it: {others}."
+    shown = [[name, *(cell(begin, count) for count in SHOWN_THREADS)] for name, begin in rows.items()]
+    return [line, "", *table([head, *(f"{count} threads" if count > 1 else "1 thread" for count in SHOWN_THREADS)], shown)]
+
+
 class Programs(Section):
     name, heading, needs = "programs", "Programs and single calls: `bench/programs.c`", (LIBRARY,)
     how = (
         "Thousands of transactions a second; the ratio of the medians to a book behind a mutex that is taken for each call; µs of processors"
         " for a transaction; and the 99th of 100 times of one, in µs. The program says what each workload does, and each way to share."
     )
+    short_how = "The program says what each workload does, and each way to share."
     TRANSACTIONS = 60_000
     THREADS = (1, 2, 4, 8, 16)
     WORKLOADS = ("bank", "audits", "own", "shared", "conflict", "scans", "zipf")
@@ -334,6 +392,9 @@ class Programs(Section):
             lines += ["", *table([f"{workload}, threads", *self.WAYS.values()], rows)]
         return lines[1:]
 
+    def short_tables(self, found):
+        return short_table("workload", {work: (work,) for work in self.WORKLOADS}, self.WAYS, "book", 0, found)
+
 
 class Store(Section):
     name, heading, needs = "store", "The store: `bench/store.cpp`", (LIBRARY,)
@@ -341,6 +402,7 @@ class Store(Section):
         "Thousands of transactions a second; the ratio of the medians to one office; µs of processors for a transaction; and the 99th of 100"
         " times of one, in µs. The program says what each workload does, and each way."
     )
+    short_how = "The program says what each workload does, and each way."
     TRANSACTIONS = 20_000
     THREADS = (1, 2, 4, 8, 16)
     WAREHOUSES = (2, 8)
@@ -394,6 +456,10 @@ class Store(Section):
                 rows = [[threads, *(self.cell(found, (work, n, threads, way)) for way in self.WAYS)] for threads in self.THREADS]
                 lines += ["", *table([f"{work}, {n} warehouses, threads", *self.WAYS.values()], rows)]
         return lines[1:]
+
+    def short_tables(self, found):
+        rows = {f"{work}, {n}": (work, n) for work in self.WORKLOADS for n in self.WAREHOUSES}
+        return short_table("workload, warehouses", rows, self.WAYS, self.BASE, 1, found)
 
 
 class StoreInMemory(Store):

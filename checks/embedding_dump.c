@@ -3,10 +3,7 @@
        embedding_dump trace < TRACE     serves the rows on a book and on an office; behind each row, and before the first, the two give the
                                         same dump; writes each dump as text, behind a line "at PLACE"
        embedding_dump busy CALLS        five threads make so many random calls each, while a sixth session takes dumps: each is the state
-                                        of its place, as a book shows it that serves the history up to there
-       embedding_dump bounded CALLS FOLDER  the same beside an office that keeps the newest 20,000 entries: writes a dump, the entries since,
-                                        counted from it, and a dump of the end into the folder, as dump.csv, since.csv and end.csv */
-#include "history.h"
+                                        of its place, as a book shows it that serves the history up to there */
 #include "must.h"
 #include "rows.h"
 #include "pelgaisti.h"
@@ -16,7 +13,7 @@
 #include <stdlib.h>
 #include <string.h>
 
-enum { BUSY = 5, SESSIONS = 12, ROOM = 4096, DUMPS = 400, BOUND = 20000 };
+enum { BUSY = 5, SESSIONS = 12, ROOM = 4096, DUMPS = 400 };
 
 typedef struct dump {
     uint64_t place;
@@ -50,19 +47,15 @@ static dump dump_of_office(pelgaisti_session *session, pelgaisti_claim *room) {
     return made;
 }
 
-static void write_rows(FILE *to, const dump *made) {
+static void write_dump(const dump *made) {
     pelgaisti_dumping at = pelgaisti_dump_begin();
     char line[100];
     uint32_t length;
+    printf("at %" PRIu64 "\n", made->place);
     while ((length = pelgaisti_dump_line(made->rows, made->count, &at, line, sizeof line)) > 0) {
         MUST(length < sizeof line && strlen(line) == (size_t)length);
-        fputs(line, to);
+        fputs(line, stdout);
     }
-}
-
-static void write_dump(const dump *made) {
-    printf("at %" PRIu64 "\n", made->place);
-    write_rows(stdout, made);
 }
 
 /* ---- A trace. ---- */
@@ -158,79 +151,9 @@ static void dump_busy(void) {
     MUST(pelgaisti_book_close(&replayed) == PELGAISTI_OK && pelgaisti_book_close(&book) == PELGAISTI_OK);
 }
 
-/* ---- An office with a bound. ---- */
-
-static FILE *file_in(const char *folder, const char *name) {
-    char path[4096];
-    MUST(snprintf(path, sizeof path, "%s/%s", folder, name) < (int)sizeof path);
-    FILE *file = fopen(path, "w");
-    MUST(file);
-    return file;
-}
-
-static void write_file(const char *folder, const char *name, const dump *made) {
-    FILE *file = file_in(folder, name);
-    write_rows(file, made);
-    MUST(fclose(file) == 0);
-}
-
-/* Writes the entries of the history from this place on, counted from it, and returns how many. */
-static uint64_t write_since(const char *folder, pelgaisti_book *book, uint64_t place) {
-    FILE *file = file_in(folder, "since.csv");
-    pelgaisti_entry entry;
-    uint64_t since = 0;
-    size_t count;
-    for (;; since++) {
-        MUST(pelgaisti_book_history(book, place + since, &entry, 1, &count) == PELGAISTI_OK);
-        if (count == 0) break;
-        write_entry(file, since, &entry);
-    }
-    MUST(fclose(file) == 0);
-    return since;
-}
-
-/* The dump that is written is the oldest behind which all entries are kept. */
-static void dump_bounded(const char *folder) {
-    static dump taken[DUMPS];
-    static pelgaisti_claim room[ROOM];
-    pthread_t threads[BUSY];
-    int numbers[BUSY], count = 0, chosen = 0;
-    pelgaisti_book book = PELGAISTI_EMPTY;
-    uint64_t first, calls = (uint64_t)(BUSY * calls_each), since;
-    for (int k = 0; k <= BUSY; k++) shared[k] = pelgaisti_empty_session();
-    MUST(pelgaisti_office_open_keeping(shared, BUSY + 1, BOUND) == PELGAISTI_OK);
-    for (int k = 0; k < BUSY; k++) {
-        numbers[k] = k;
-        MUST(pthread_create(&threads[k], NULL, work, &numbers[k]) == 0);
-    }
-    for (dump made = {0, 0, room}; made.place < calls;) {
-        made = dump_of_office(&shared[BUSY], room);
-        if (made.place < calls && count > 0 && made.place < taken[count - 1].place + calls / (DUMPS - 2)) continue;
-        taken[count] = made;
-        taken[count].rows = malloc(sizeof room[0] * (made.count + 1));
-        MUST(taken[count].rows);
-        memcpy(taken[count++].rows, room, sizeof room[0] * made.count);
-    }
-    for (int k = 0; k < BUSY; k++) {
-        MUST(pthread_join(threads[k], NULL) == 0);
-        MUST(pelgaisti_session_hand_in(&shared[k], &shared[BUSY]) == PELGAISTI_OK);
-    }
-    MUST(pelgaisti_office_close(&shared[BUSY], &book) == PELGAISTI_OK);
-    MUST(pelgaisti_book_first_kept(&book, &first) == PELGAISTI_OK && first > 0);
-    while (taken[chosen].place < first) chosen++;
-    write_file(folder, "dump.csv", &taken[chosen]);
-    write_file(folder, "end.csv", &taken[count - 1]);
-    since = write_since(folder, &book, taken[chosen].place);
-    MUST(taken[chosen].place + since == calls);
-    printf("a dump of %zu rows at place %" PRIu64 ", %" PRIu64 " entries since\n", taken[chosen].count, taken[chosen].place, since);
-    while (count > 0) free(taken[--count].rows);
-    MUST(pelgaisti_book_close(&book) == PELGAISTI_OK);
-}
-
 int main(int count, char **words) {
     if (count == 2 && !strcmp(words[1], "trace")) dump_trace();
     else if (count == 3 && !strcmp(words[1], "busy")) calls_each = strtol(words[2], NULL, 10), dump_busy();
-    else if (count == 4 && !strcmp(words[1], "bounded")) calls_each = strtol(words[2], NULL, 10), dump_bounded(words[3]);
     else return 64;
     return 0;
 }

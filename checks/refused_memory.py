@@ -1,7 +1,7 @@
 #!/usr/bin/env python3
-"""Refuses each allocation in turn: of replays, checks, states, dumps, histories that begin in a dump's state, explanations and runs
-by glm, and of tests of sequential objects and of what is below the lock table. (checks/scripts_of_calls does the same with scripts of
-calls of the lock table, checks/embedding with cases of offices and with each call of the library for C that may lack memory.)
+"""Refuses each allocation in turn: of replays, checks, states, dumps, explanations and runs by glm, and of tests of sequential
+objects and of what is below the lock table. (checks/scripts_of_calls does the same with scripts of calls of the lock table,
+checks/embedding with cases of offices and with each call of the library for C that may lack memory.)
 
 Usage: checks/refused_memory.py [--over-gate]
 
@@ -317,13 +317,6 @@ def trials_of_the_program(folder):
         # room for the lines and for the fields of each row is only a hint, too
         hints = HINTS_OF_A_ROW * dump.count(b"\n")
         yield Trial(f"{' '.join(words)} of a dump", [PROGRAM, *words], ends(0, whole, tables=0, more=hints), dump)
-    for case in ("show-from", "show-from-victim", "show-from-dot"):
-        words, since, whole = ((TOP / "checks/program-cases" / case / name).read_bytes() for name in ("args", "stdin", "stdout"))
-        dump = TOP / "checks/program-cases" / case / "files/dump.csv"
-        words = [dump if it == "dump.csv" else it for it in words.decode().split()]
-        hints = HINTS_OF_A_ROW * dump.read_bytes().count(b"\n")
-        # the lock table that begins in the dump's state has no keys at first, either
-        yield Trial(f"{case}: a history from a dump on", [PROGRAM, *words], ends(0, whole, tables=1, more=hints), since)
     illegal = (TOP / "examples/illegal.csv").read_bytes()
     yield Trial("check of a history that isn't legal", [PROGRAM, "check"], ends(3, b"illegal 2\n"), illegal)
     faulty = b"1,begin,,\n1,lock,01,S\n"
@@ -331,7 +324,8 @@ def trials_of_the_program(folder):
 
 
     line = b"glm: row 2: Path LeadingZero\n"
-    hint = b"  line 2: 1,lock,01,S\n                 ^~\n  numbers have no leading zeros\n"
+    expected = b"  expected 1 to 5 numbers up to 4294967295 without leading zeros, joined by '/'\n"
+    hint = b"  line 2: 1,lock,01,S\n                 ^~\n" + expected
     yield Trial("replay --hints of a faulty row", [PROGRAM, "replay", "--hints"], ends_with_hint(line, hint), faulty)
 
 

@@ -18,7 +18,6 @@ _glm() {
             "show --sessions") :; return ;;
             "show -o" | "show --output") compopt -o default 2> /dev/null; return ;;
             "show --at") :; return ;;
-            "show --from") compopt -o default 2> /dev/null; return ;;
             "explain --sessions") :; return ;;
             "explain -o" | "explain --output") compopt -o default 2> /dev/null; return ;;
             "explain --at") :; return ;;
@@ -35,7 +34,7 @@ _glm() {
             replay) words="--sessions -o --output --comments --hints --stream -h --help" ;;
             run) words="--sessions -o --output --comments --hints --turns --stream -h --help" ;;
             check) words="--sessions -o --output --comments --hints --stream -h --help" ;;
-            show) words="--sessions -o --output --comments --hints --at --csv --dot --waits --state --from -h --help" ;;
+            show) words="--sessions -o --output --comments --hints --at --csv --dot --waits --state -h --help" ;;
             explain) words="--sessions -o --output --comments --hints --at --csv --dot -h --help" ;;
             timeline) words="--sessions -o --output --comments --hints --from --to -h --help" ;;
             stats) words="--sessions -o --output --comments --hints --csv -h --help" ;;

@@ -52,7 +52,6 @@ complete -c glm -n '__fish_seen_subcommand_from show; and not __fish_seen_subcom
 complete -c glm -n '__fish_seen_subcommand_from show; and not __fish_seen_subcommand_from help' -l dot -d 'Writes the resources waited for, and each session'\''s first blocker, as a graph for Graphviz'
 complete -c glm -n '__fish_seen_subcommand_from show; and not __fish_seen_subcommand_from help' -l waits -d 'Writes who waits for whom as a graph for Graphviz'
 complete -c glm -n '__fish_seen_subcommand_from show; and not __fish_seen_subcommand_from help' -l state -d 'Shows the state that a dump is, the rows of '\''show --csv'\'', in place of a history'
-complete -c glm -n '__fish_seen_subcommand_from show; and not __fish_seen_subcommand_from help' -l from -r -F -d 'A file with a dump, in whose state the history begins'
 complete -c glm -n '__fish_seen_subcommand_from show; and not __fish_seen_subcommand_from help' -s h -l help -d 'Print help (see more with '\''--help'\'')'
 complete -c glm -n '__fish_seen_subcommand_from explain; and not __fish_seen_subcommand_from help' -F
 complete -c glm -n '__fish_seen_subcommand_from explain; and not __fish_seen_subcommand_from help' -l sessions -x -d 'How many sessions there are, 1 to 1024 [default: 256]'

@@ -53,8 +53,10 @@ fn tells(
 #[test]
 fn hints_are_for_terminals_and_for_those_who_ask(rt: HostRuntime) {
     let line = "glm: row 1: Op\n";
-    let hint =
-        "glm: row 1: Op\n  line 2: 1,LOCK,7,S\n            ^~~~\n  ops are in lower case: write 'lock'\n";
+    let hint = "glm: row 1: Op
+  line 2: 1,LOCK,7,S
+            ^~~~
+  expected begin, lock, convert, poll, release, commit, abort, try, withdraw or restart\n";
     let (plain, asked) = (["glm", "run"], ["glm", "run", "--hints"]);
     let text = "\n1,LOCK,7,S\n";
     assert!(rt;

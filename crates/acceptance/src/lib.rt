@@ -5,8 +5,6 @@
 #[cfg(test)]
 mod call_gates;
 #[cfg(test)]
-mod dumps;
-#[cfg(test)]
 mod examples;
 #[cfg(test)]
 mod harness;

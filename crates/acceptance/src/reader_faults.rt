@@ -1,10 +1,9 @@
 //! Readers that fail: the fault `Device` of the row that was being read, status 5, and no output.
 
 use crate::call_gates::Counting;
-use crate::dumps::{DUMP, SINCE, end_as_rows};
 use crate::examples::{DEADLOCK, EXAMPLES};
 use crate::harness::{fails_with, has_result, status_of};
-use glm::{DumpFault, OpenGate, ResumeFault, ShowFault, ToolFault, check, replay, run, show_from};
+use glm::{OpenGate, ToolFault, check, replay, run};
 use lock_trace::{TraceFault, TraceKind};
 use lock_tree::PathFault;
 use std::fs::Files;
@@ -236,34 +235,4 @@ fn a_run_whose_reader_fails_starts_no_thread(rt: HostRuntime) {
         kind: TraceKind::Device,
     });
     assert!(rt; has_result(rows, &output, Err(fault), "") && gate.has([0, 0, 0]));
-}
-
-/// The fault of a dump or a history that can't be read to its end, and nothing is shown.
-#[test]
-fn a_failed_reader_shows_no_history_from_a_dump(rt: HostRuntime) {
-    let mut output = Vec::new(rt.alloc());
-    let (left, piece) = (DUMP.as_bytes(), 7);
-    let since = SINCE.as_bytes();
-    let unread = show_from(
-        rt.alloc(),
-        Cut { left, piece },
-        since,
-        &mut output,
-        end_as_rows(),
-    );
-    let (left, dump) = (since, left);
-    let lost = show_from(
-        rt.alloc(),
-        dump,
-        Cut { left, piece },
-        &mut output,
-        end_as_rows(),
-    );
-    let third_row = TraceFault {
-        row: 3,
-        kind: TraceKind::Device,
-    };
-    let is_told = unread == Err(ResumeFault::Dump(DumpFault::Unread))
-        && lost == Err(ResumeFault::History(ShowFault::Trace(third_row)));
-    assert!(rt; is_told && output.is_empty());
 }

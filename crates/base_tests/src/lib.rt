@@ -5,6 +5,8 @@
 #[cfg(test)]
 mod dumps;
 #[cfg(test)]
+mod hints;
+#[cfg(test)]
 mod lanes;
 #[cfg(test)]
 mod modes;

@@ -1,12 +1,9 @@
 -- The request of a parsed command, from its options up to the words: at most one, and when there is none.
 use Rattle.std.proofs.Common.{rules, arith, ap, ap₂, get_or, inl, inr, refl, subst, sym, ◌≡◌, ◌≢◌, ◌⊎◌, ◌∙◌, ◌<◌, ◌^◌, ℕ, List, [], ◌∷◌, Option, Some, None, codes}
-use Rattle.std.specs.Prelude.{Ok, Err, IfSome, IfNone, decimal}
+use Rattle.std.specs.Prelude.{IfSome, IfNone, decimal}
 use Rattle.std.proofs.lemmas.Fmt.{decimal_injective}
 use Rattle.clap.specs.Simple.{subcommand_of}
-use Rattle.clap.specs.Walk.{Row, Text, first_of}
-use Rattle.lock_tree.specs.Numerals.{reading_of_numeral}
-use Rattle.lock_tree.specs.declared.numeral.NumeralFault.{NumeralFault}
-use Rattle.command_line.proofs.Gives.{numeral_not_given}
+use Rattle.clap.specs.Walk.{Row, Text}
 use Rattle.lock_rules.specs.declared.calls.TheConstants.{MAX_SESSIONS}
 use Rattle.command_line.specs.declared.args.TheConstants.{MAX_TURNS}
 use Rattle.command_line.specs.declared.args.TheConstants.{MAX_STREAMED_SESSIONS}
@@ -16,11 +13,11 @@ use Rattle.command_line.specs.declared.args.CommandRequest.{CommandRequest}
 use Rattle.command_line.specs.declared.args.Request.{Request}
 use Rattle.command_line.specs.declared.args.CommandRequest.TheVariants as request
 use Rattle.command_line.specs.declared.args.Form.{Form}
-use Rattle.command_line.proofs.AskShow.{form-one, no_file, place-one}
+use Rattle.command_line.proofs.AskShow.{form-one, place-one}
 use Rattle.clap.specs.Kinds.{Kinds}
 use Rattle.clap.specs.declared.error.kind.ErrorKind.{ErrorKind}
 use Rattle.clap.specs.declared.error.kind.ErrorKind.TheVariants.{DisplayHelp, DisplayVersion}
-use Rattle.command_line.specs.CommandLine.{Ask, AskNothing, Gives, GivesFile, GivesPlace, WantsForm, IsRequest, HasFlag, IsRequestIn, Wants, faults_of, glm_command, most_sessions}
+use Rattle.command_line.specs.CommandLine.{Ask, AskNothing, Gives, GivesPlace, WantsForm, IsRequest, HasFlag, IsRequestIn, Wants, faults_of, glm_command, most_sessions}
 
 -- a number of sessions that a run takes is one that a command takes
 pub as_sessions : (rows : List Row) (d : Delivery) (n : ℕ) → Gives (codes "sessions") (most_sessions d) rows n → Gives (codes "sessions") MAX_SESSIONS rows n
@@ -68,7 +65,6 @@ no_sessions name rows none (request.Run n t d) is = none n (as_sessions rows d n
 no_sessions name rows none (request.Check n d) is = none n is.1
 no_sessions name rows none (request.Show n p f) is = none n is.1
 no_sessions name rows none (request.Dump n f) is = none n is.1
-no_sessions name rows none (request.ShowFrom n p f) is = none n is.1
 no_sessions name rows none (request.Explain n p f) is = none n is.1
 no_sessions name rows none (request.Timeline n p q) is = none n is.1
 no_sessions name rows none (request.Stats n f) is = none n is.1
@@ -82,7 +78,6 @@ no_turns name rows run none (request.Run n t d) is = none t is.2
 no_turns name rows run none (request.Check n d) is = let bad : codes "run" ≡ codes "check" = sym run ∙ is.0 in cc
 no_turns name rows run none (request.Show n p f) is = let bad : codes "run" ≡ codes "show" = sym run ∙ is.0 in cc
 no_turns name rows run none (request.Dump n f) is = let bad : codes "run" ≡ codes "show" = sym run ∙ is.0 in cc
-no_turns name rows run none (request.ShowFrom n p f) is = let bad : codes "run" ≡ codes "show" = sym run ∙ is.0 in cc
 no_turns name rows run none (request.Explain n p f) is = let bad : codes "run" ≡ codes "explain" = sym run ∙ is.0 in cc
 no_turns name rows run none (request.Timeline n p q) is = let bad : codes "run" ≡ codes "timeline" = sym run ∙ is.0 in cc
 no_turns name rows run none (request.Stats n f) is = let bad : codes "run" ≡ codes "stats" = sym run ∙ is.0 in cc
@@ -99,7 +94,6 @@ no_streamed name rows n run given many flag (request.Run m t delivery.InPieces) 
 no_streamed name rows n run given many flag (request.Check m d) is = let bad : codes "run" ≡ codes "check" = sym run ∙ is.0 in cc
 no_streamed name rows n run given many flag (request.Show m p f) is = let bad : codes "run" ≡ codes "show" = sym run ∙ is.0 in cc
 no_streamed name rows n run given many flag (request.Dump m f) is = let bad : codes "run" ≡ codes "show" = sym run ∙ is.0 in cc
-no_streamed name rows n run given many flag (request.ShowFrom m p f) is = let bad : codes "run" ≡ codes "show" = sym run ∙ is.0 in cc
 no_streamed name rows n run given many flag (request.Explain m p f) is = let bad : codes "run" ≡ codes "explain" = sym run ∙ is.0 in cc
 no_streamed name rows n run given many flag (request.Timeline m p q) is = let bad : codes "run" ≡ codes "timeline" = sym run ∙ is.0 in cc
 no_streamed name rows n run given many flag (request.Stats m f) is = let bad : codes "run" ≡ codes "stats" = sym run ∙ is.0 in cc
@@ -113,7 +107,6 @@ nothing_shown name rows show none (request.Run n t d) is = let bad : codes "show
 nothing_shown name rows show none (request.Check n d) is = let bad : codes "show" ≡ codes "check" = sym show ∙ is.0 in cc
 nothing_shown name rows show none (request.Show n p f) is = none p f is.2 is.3
 nothing_shown name rows show none (request.Dump n f) is = none None f is.2 is.3
-nothing_shown name rows show none (request.ShowFrom n p f) is = none p f is.2 is.3
 nothing_shown name rows show none (request.Explain n p f) is = let bad : codes "show" ≡ codes "explain" = sym show ∙ is.0 in cc
 nothing_shown name rows show none (request.Timeline n p q) is = let bad : codes "show" ≡ codes "timeline" = sym show ∙ is.0 in cc
 nothing_shown name rows show none (request.Stats n f) is = let bad : codes "show" ≡ codes "stats" = sym show ∙ is.0 in cc
@@ -127,25 +120,10 @@ no_dump_at rows place state at (request.Run n t d) is = let bad : codes "show" �
 no_dump_at rows place state at (request.Check n d) is = let bad : codes "show" ≡ codes "check" = is.0 in cc
 no_dump_at rows place state at (request.Show n p f) is = is.4 state
 no_dump_at rows place state at (request.Dump n f) is = let bad : Some (decimal place) ≡ None = sym at.given ∙ is.2 in cc
-no_dump_at rows place state at (request.ShowFrom n p f) is = is.4 state
 no_dump_at rows place state at (request.Explain n p f) is = let bad : codes "show" ≡ codes "explain" = is.0 in cc
 no_dump_at rows place state at (request.Timeline n p q) is = let bad : codes "show" ≡ codes "timeline" = is.0 in cc
 no_dump_at rows place state at (request.Stats n f) is = let bad : codes "show" ≡ codes "stats" = is.0 in cc
 no_dump_at rows place state at (request.Shell n) is = let bad : codes "show" ≡ codes "shell" = is.0 in cc
-
--- no request is in the options of `show` if they have the flag `--state` and a file for `--from`
-pub no_dump_from : (rows : List Row) → HasFlag (codes "state") rows → GivesFile (codes "start") rows
-    → (asked : CommandRequest) → ¬ IsRequest (Some (codes "show", rows)) asked
-no_dump_from rows state file (request.Replay n d) is = let bad : codes "show" ≡ codes "replay" = is.0 in cc
-no_dump_from rows state file (request.Run n t d) is = let bad : codes "show" ≡ codes "run" = is.0 in cc
-no_dump_from rows state file (request.Check n d) is = let bad : codes "show" ≡ codes "check" = is.0 in cc
-no_dump_from rows state file (request.Show n p f) is = is.4 state
-no_dump_from rows state file (request.Dump n f) is = no_file _ rows is.5 file
-no_dump_from rows state file (request.ShowFrom n p f) is = is.4 state
-no_dump_from rows state file (request.Explain n p f) is = let bad : codes "show" ≡ codes "explain" = is.0 in cc
-no_dump_from rows state file (request.Timeline n p q) is = let bad : codes "show" ≡ codes "timeline" = is.0 in cc
-no_dump_from rows state file (request.Stats n f) is = let bad : codes "show" ≡ codes "stats" = is.0 in cc
-no_dump_from rows state file (request.Shell n) is = let bad : codes "show" ≡ codes "shell" = is.0 in cc
 
 -- no request is in the options of `explain` if they don't give both a place and a form
 pub nothing_explained : (name : Text) (rows : List Row) → name ≡ codes "explain" → ((p : Option ℕ) (f : Form) → GivesPlace (codes "at") rows p → ¬ WantsForm rows f)
@@ -155,7 +133,6 @@ nothing_explained name rows explain none (request.Run n t d) is = let bad : code
 nothing_explained name rows explain none (request.Check n d) is = let bad : codes "explain" ≡ codes "check" = sym explain ∙ is.0 in cc
 nothing_explained name rows explain none (request.Show n p f) is = let bad : codes "explain" ≡ codes "show" = sym explain ∙ is.0 in cc
 nothing_explained name rows explain none (request.Dump n f) is = let bad : codes "explain" ≡ codes "show" = sym explain ∙ is.0 in cc
-nothing_explained name rows explain none (request.ShowFrom n p f) is = let bad : codes "explain" ≡ codes "show" = sym explain ∙ is.0 in cc
 nothing_explained name rows explain none (request.Explain n p f) is = none p f is.2 is.3
 nothing_explained name rows explain none (request.Timeline n p q) is = let bad : codes "explain" ≡ codes "timeline" = sym explain ∙ is.0 in cc
 nothing_explained name rows explain none (request.Stats n f) is = let bad : codes "explain" ≡ codes "stats" = sym explain ∙ is.0 in cc
@@ -175,7 +152,6 @@ no_first_place name rows timeline none (request.Run n t d) is = let bad : codes 
 no_first_place name rows timeline none (request.Check n d) is = let bad : codes "timeline" ≡ codes "check" = sym timeline ∙ is.0 in cc
 no_first_place name rows timeline none (request.Show n p f) is = let bad : codes "timeline" ≡ codes "show" = sym timeline ∙ is.0 in cc
 no_first_place name rows timeline none (request.Dump n f) is = let bad : codes "timeline" ≡ codes "show" = sym timeline ∙ is.0 in cc
-no_first_place name rows timeline none (request.ShowFrom n p f) is = let bad : codes "timeline" ≡ codes "show" = sym timeline ∙ is.0 in cc
 no_first_place name rows timeline none (request.Explain n p f) is = let bad : codes "timeline" ≡ codes "explain" = sym timeline ∙ is.0 in cc
 no_first_place name rows timeline none (request.Timeline n p q) is = none p is.2
 no_first_place name rows timeline none (request.Stats n f) is = let bad : codes "timeline" ≡ codes "stats" = sym timeline ∙ is.0 in cc
@@ -189,7 +165,6 @@ no_last_place name rows timeline none (request.Run n t d) is = let bad : codes "
 no_last_place name rows timeline none (request.Check n d) is = let bad : codes "timeline" ≡ codes "check" = sym timeline ∙ is.0 in cc
 no_last_place name rows timeline none (request.Show n p f) is = let bad : codes "timeline" ≡ codes "show" = sym timeline ∙ is.0 in cc
 no_last_place name rows timeline none (request.Dump n f) is = let bad : codes "timeline" ≡ codes "show" = sym timeline ∙ is.0 in cc
-no_last_place name rows timeline none (request.ShowFrom n p f) is = let bad : codes "timeline" ≡ codes "show" = sym timeline ∙ is.0 in cc
 no_last_place name rows timeline none (request.Explain n p f) is = let bad : codes "timeline" ≡ codes "explain" = sym timeline ∙ is.0 in cc
 no_last_place name rows timeline none (request.Timeline n p q) is = none q is.3
 no_last_place name rows timeline none (request.Stats n f) is = let bad : codes "timeline" ≡ codes "stats" = sym timeline ∙ is.0 in cc
@@ -203,7 +178,6 @@ nothing_counted name rows stats none (request.Run n t d) is = let bad : codes "s
 nothing_counted name rows stats none (request.Check n d) is = check_or_stats (sym is.0 ∙ stats)
 nothing_counted name rows stats none (request.Show n p f) is = let bad : codes "stats" ≡ codes "show" = sym stats ∙ is.0 in cc
 nothing_counted name rows stats none (request.Dump n f) is = let bad : codes "stats" ≡ codes "show" = sym stats ∙ is.0 in cc
-nothing_counted name rows stats none (request.ShowFrom n p f) is = let bad : codes "stats" ≡ codes "show" = sym stats ∙ is.0 in cc
 nothing_counted name rows stats none (request.Explain n p f) is = let bad : codes "stats" ≡ codes "explain" = sym stats ∙ is.0 in cc
 nothing_counted name rows stats none (request.Timeline n p q) is = let bad : codes "stats" ≡ codes "timeline" = sym stats ∙ is.0 in cc
 nothing_counted name rows stats none (request.Stats n f) is = none f is.2
@@ -217,23 +191,10 @@ no_name name rows replay run check show explain timeline stats shell (request.Ru
 no_name name rows replay run check show explain timeline stats shell (request.Check n d) is = check is.0
 no_name name rows replay run check show explain timeline stats shell (request.Show n p f) is = show is.0
 no_name name rows replay run check show explain timeline stats shell (request.Dump n f) is = show is.0
-no_name name rows replay run check show explain timeline stats shell (request.ShowFrom n p f) is = show is.0
 no_name name rows replay run check show explain timeline stats shell (request.Explain n p f) is = explain is.0
 no_name name rows replay run check show explain timeline stats shell (request.Timeline n p q) is = timeline is.0
 no_name name rows replay run check show explain timeline stats shell (request.Stats n f) is = stats is.0
 no_name name rows replay run check show explain timeline stats shell (request.Shell n) is = shell is.0
-
--- the text of the option `--sessions` of the command that was found
-abbrev pub sessions_text : Option (Text × List Row) → Option Text
-sessions_text None = None
-sessions_text (Some found) = first_of (codes "sessions") found.1
-
--- no request is in a command whose `--sessions` isn't read as a number
-pub no_such_sessions : (found : Option (Text × List Row)) (text : Text) (fault : NumeralFault) → sessions_text found ≡ Some text
-    → reading_of_numeral MAX_SESSIONS text ≡ Err fault → (asked : CommandRequest) → ¬ IsRequest found asked
-no_such_sessions None text fault is wrong asked h = h
-no_such_sessions (Some found) text fault is wrong asked h =
-    no_sessions found.0 found.1 (numeral_not_given _ text MAX_SESSIONS found.1 (omega arith) is (λ m read some. let bad : Ok m ≡ Err fault = sym read ∙ wrong in cc)) asked h
 
 -- a name with its options is at most one request
 one-in : (name : Text) (rows : List Row) (r q : CommandRequest) → IsRequestIn name rows r → IsRequestIn name rows q → r ≡ q
@@ -242,7 +203,6 @@ one-in name rows (request.Replay n d) (request.Run m u e) a b = let bad : codes 
 one-in name rows (request.Replay n d) (request.Check m e) a b = let bad : codes "replay" ≡ codes "check" = sym a.0 ∙ b.0 in cc
 one-in name rows (request.Replay n d) (request.Show m q g) a b = let bad : codes "replay" ≡ codes "show" = sym a.0 ∙ b.0 in cc
 one-in name rows (request.Replay n d) (request.Dump m g) a b = let bad : codes "replay" ≡ codes "show" = sym a.0 ∙ b.0 in cc
-one-in name rows (request.Replay n d) (request.ShowFrom m q g) a b = let bad : codes "replay" ≡ codes "show" = sym a.0 ∙ b.0 in cc
 one-in name rows (request.Replay n d) (request.Explain m q g) a b = let bad : codes "replay" ≡ codes "explain" = sym a.0 ∙ b.0 in cc
 one-in name rows (request.Replay n d) (request.Timeline m r s) a b = let bad : codes "replay" ≡ codes "timeline" = sym a.0 ∙ b.0 in cc
 one-in name rows (request.Replay n d) (request.Stats m g) a b = let bad : codes "replay" ≡ codes "stats" = sym a.0 ∙ b.0 in cc
@@ -256,7 +216,6 @@ one-in name rows (request.Run n t d) (request.Run m u e) a b =
 one-in name rows (request.Run n t d) (request.Check m e) a b = let bad : codes "run" ≡ codes "check" = sym a.0 ∙ b.0 in cc
 one-in name rows (request.Run n t d) (request.Show m q g) a b = let bad : codes "run" ≡ codes "show" = sym a.0 ∙ b.0 in cc
 one-in name rows (request.Run n t d) (request.Dump m g) a b = let bad : codes "run" ≡ codes "show" = sym a.0 ∙ b.0 in cc
-one-in name rows (request.Run n t d) (request.ShowFrom m q g) a b = let bad : codes "run" ≡ codes "show" = sym a.0 ∙ b.0 in cc
 one-in name rows (request.Run n t d) (request.Explain m q g) a b = let bad : codes "run" ≡ codes "explain" = sym a.0 ∙ b.0 in cc
 one-in name rows (request.Run n t d) (request.Timeline m r s) a b = let bad : codes "run" ≡ codes "timeline" = sym a.0 ∙ b.0 in cc
 one-in name rows (request.Run n t d) (request.Stats m g) a b = let bad : codes "run" ≡ codes "stats" = sym a.0 ∙ b.0 in cc
@@ -266,7 +225,6 @@ one-in name rows (request.Check n d) (request.Run m u e) a b = let bad : codes "
 one-in name rows (request.Check n d) (request.Check m e) a b = ap₂ (λ k l. request.Check k l) (sessions-one rows n m a.1 b.1) (delivery-one rows d e a.2 b.2)
 one-in name rows (request.Check n d) (request.Show m q g) a b = let bad : codes "check" ≡ codes "show" = sym a.0 ∙ b.0 in cc
 one-in name rows (request.Check n d) (request.Dump m g) a b = let bad : codes "check" ≡ codes "show" = sym a.0 ∙ b.0 in cc
-one-in name rows (request.Check n d) (request.ShowFrom m q g) a b = let bad : codes "check" ≡ codes "show" = sym a.0 ∙ b.0 in cc
 one-in name rows (request.Check n d) (request.Explain m q g) a b = let bad : codes "check" ≡ codes "explain" = sym a.0 ∙ b.0 in cc
 one-in name rows (request.Check n d) (request.Timeline m r s) a b = let bad : codes "check" ≡ codes "timeline" = sym a.0 ∙ b.0 in cc
 one-in name rows (request.Check n d) (request.Stats m g) a b = absurd (check_or_stats (sym a.0 ∙ b.0))
@@ -281,7 +239,6 @@ one-in name rows (request.Show n p f) (request.Show m q g) a b =
     cc
 one-in name rows (request.Show n p f) (request.Explain m q g) a b = let bad : codes "show" ≡ codes "explain" = sym a.0 ∙ b.0 in cc
 one-in name rows (request.Show n p f) (request.Dump m g) a b = absurd (a.4 b.4)
-one-in name rows (request.Show n p f) (request.ShowFrom m q g) a b = absurd (no_file _ rows a.5 b.5)
 one-in name rows (request.Show n p f) (request.Timeline m r s) a b = let bad : codes "show" ≡ codes "timeline" = sym a.0 ∙ b.0 in cc
 one-in name rows (request.Show n p f) (request.Stats m g) a b = let bad : codes "show" ≡ codes "stats" = sym a.0 ∙ b.0 in cc
 one-in name rows (request.Show n p f) (request.Shell m) a b = let bad : codes "show" ≡ codes "shell" = sym a.0 ∙ b.0 in cc
@@ -294,27 +251,11 @@ one-in name rows (request.Dump n f) (request.Stats m g) a b = let bad : codes "s
 one-in name rows (request.Dump n f) (request.Shell m) a b = let bad : codes "show" ≡ codes "shell" = sym a.0 ∙ b.0 in cc
 one-in name rows (request.Dump n f) (request.Show m q g) a b = absurd (b.4 a.4)
 one-in name rows (request.Dump n f) (request.Dump m g) a b = ap₂ (λ k l. request.Dump k l) (sessions-one rows n m a.1 b.1) (form-one rows f g a.3 b.3)
-one-in name rows (request.Dump n f) (request.ShowFrom m q g) a b = absurd (b.4 a.4)
-one-in name rows (request.ShowFrom n p f) (request.Replay m e) a b = let bad : codes "show" ≡ codes "replay" = sym a.0 ∙ b.0 in cc
-one-in name rows (request.ShowFrom n p f) (request.Run m u e) a b = let bad : codes "show" ≡ codes "run" = sym a.0 ∙ b.0 in cc
-one-in name rows (request.ShowFrom n p f) (request.Check m e) a b = let bad : codes "show" ≡ codes "check" = sym a.0 ∙ b.0 in cc
-one-in name rows (request.ShowFrom n p f) (request.Show m q g) a b = absurd (no_file _ rows b.5 a.5)
-one-in name rows (request.ShowFrom n p f) (request.Dump m g) a b = absurd (a.4 b.4)
-one-in name rows (request.ShowFrom n p f) (request.ShowFrom m q g) a b =
-    let same : n ≡ m = sessions-one rows n m a.1 b.1 in
-    let there : p ≡ q = place-one _ rows p q a.2 b.2 in
-    let way : f ≡ g = form-one rows f g a.3 b.3 in
-    cc
-one-in name rows (request.ShowFrom n p f) (request.Explain m q g) a b = let bad : codes "show" ≡ codes "explain" = sym a.0 ∙ b.0 in cc
-one-in name rows (request.ShowFrom n p f) (request.Timeline m r s) a b = let bad : codes "show" ≡ codes "timeline" = sym a.0 ∙ b.0 in cc
-one-in name rows (request.ShowFrom n p f) (request.Stats m g) a b = let bad : codes "show" ≡ codes "stats" = sym a.0 ∙ b.0 in cc
-one-in name rows (request.ShowFrom n p f) (request.Shell m) a b = let bad : codes "show" ≡ codes "shell" = sym a.0 ∙ b.0 in cc
 one-in name rows (request.Explain n p f) (request.Replay m e) a b = let bad : codes "explain" ≡ codes "replay" = sym a.0 ∙ b.0 in cc
 one-in name rows (request.Explain n p f) (request.Run m u e) a b = let bad : codes "explain" ≡ codes "run" = sym a.0 ∙ b.0 in cc
 one-in name rows (request.Explain n p f) (request.Check m e) a b = let bad : codes "explain" ≡ codes "check" = sym a.0 ∙ b.0 in cc
 one-in name rows (request.Explain n p f) (request.Show m q g) a b = let bad : codes "explain" ≡ codes "show" = sym a.0 ∙ b.0 in cc
 one-in name rows (request.Explain n p f) (request.Dump m g) a b = let bad : codes "explain" ≡ codes "show" = sym a.0 ∙ b.0 in cc
-one-in name rows (request.Explain n p f) (request.ShowFrom m q g) a b = let bad : codes "explain" ≡ codes "show" = sym a.0 ∙ b.0 in cc
 one-in name rows (request.Explain n p f) (request.Explain m q g) a b =
     let same : n ≡ m = sessions-one rows n m a.1 b.1 in
     let there : p ≡ q = place-one _ rows p q a.2 b.2 in
@@ -328,7 +269,6 @@ one-in name rows (request.Timeline n p o) (request.Run m u e) a b = let bad : co
 one-in name rows (request.Timeline n p o) (request.Check m e) a b = let bad : codes "timeline" ≡ codes "check" = sym a.0 ∙ b.0 in cc
 one-in name rows (request.Timeline n p o) (request.Show m q g) a b = let bad : codes "timeline" ≡ codes "show" = sym a.0 ∙ b.0 in cc
 one-in name rows (request.Timeline n p o) (request.Dump m g) a b = let bad : codes "timeline" ≡ codes "show" = sym a.0 ∙ b.0 in cc
-one-in name rows (request.Timeline n p o) (request.ShowFrom m q g) a b = let bad : codes "timeline" ≡ codes "show" = sym a.0 ∙ b.0 in cc
 one-in name rows (request.Timeline n p o) (request.Explain m q g) a b = let bad : codes "timeline" ≡ codes "explain" = sym a.0 ∙ b.0 in cc
 one-in name rows (request.Timeline n p o) (request.Timeline m r s) a b =
     let same : n ≡ m = sessions-one rows n m a.1 b.1 in
@@ -342,7 +282,6 @@ one-in name rows (request.Stats n f) (request.Run m u e) a b = let bad : codes "
 one-in name rows (request.Stats n f) (request.Check m e) a b = absurd (check_or_stats (sym b.0 ∙ a.0))
 one-in name rows (request.Stats n f) (request.Show m q g) a b = let bad : codes "stats" ≡ codes "show" = sym a.0 ∙ b.0 in cc
 one-in name rows (request.Stats n f) (request.Dump m g) a b = let bad : codes "stats" ≡ codes "show" = sym a.0 ∙ b.0 in cc
-one-in name rows (request.Stats n f) (request.ShowFrom m q g) a b = let bad : codes "stats" ≡ codes "show" = sym a.0 ∙ b.0 in cc
 one-in name rows (request.Stats n f) (request.Explain m q g) a b = let bad : codes "stats" ≡ codes "explain" = sym a.0 ∙ b.0 in cc
 one-in name rows (request.Stats n f) (request.Timeline m r s) a b = let bad : codes "stats" ≡ codes "timeline" = sym a.0 ∙ b.0 in cc
 one-in name rows (request.Stats n f) (request.Stats m g) a b = ap₂ (λ k l. request.Stats k l) (sessions-one rows n m a.1 b.1) (form-one rows f g a.2 b.2)
@@ -352,7 +291,6 @@ one-in name rows (request.Shell n) (request.Run m u e) a b = let bad : codes "sh
 one-in name rows (request.Shell n) (request.Check m e) a b = absurd (check_or_shell (sym b.0 ∙ a.0))
 one-in name rows (request.Shell n) (request.Show m q g) a b = let bad : codes "shell" ≡ codes "show" = sym a.0 ∙ b.0 in cc
 one-in name rows (request.Shell n) (request.Dump m g) a b = let bad : codes "shell" ≡ codes "show" = sym a.0 ∙ b.0 in cc
-one-in name rows (request.Shell n) (request.ShowFrom m q g) a b = let bad : codes "shell" ≡ codes "show" = sym a.0 ∙ b.0 in cc
 one-in name rows (request.Shell n) (request.Explain m q g) a b = let bad : codes "shell" ≡ codes "explain" = sym a.0 ∙ b.0 in cc
 one-in name rows (request.Shell n) (request.Timeline m r s) a b = let bad : codes "shell" ≡ codes "timeline" = sym a.0 ∙ b.0 in cc
 one-in name rows (request.Shell n) (request.Stats m g) a b = absurd (shell_or_stats (sym a.0 ∙ b.0))

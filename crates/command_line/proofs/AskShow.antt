@@ -1,6 +1,5 @@
--- The place and the file that an option gives, and the form that `show` or `explain` is asked for: at most one of each, and when there
--- is none.
-use Rattle.std.proofs.Common.{arith, ap, refl, sym, ◌≡◌, ◌∙◌, ℕ, List, Option, Some, None, codes}
+-- The place that an option gives, and the form that `show` or `explain` is asked for: at most one of each, and when there is none.
+use Rattle.std.proofs.Common.{arith, ap, refl, sym, ◌≡◌, ◌∙◌, ℕ, List, Option, Some, None}
 use Rattle.std.specs.Prelude.{Ok, decimal}
 use Rattle.std.proofs.lemmas.Fmt.{decimal_injective}
 use Rattle.clap.specs.Walk.{Row, Text, first_of}
@@ -9,7 +8,7 @@ use Rattle.lock_tree.proofs.Numerals.{reading_iff}
 use Rattle.command_line.specs.declared.args.TheConstants.{MAX_PLACE}
 use Rattle.command_line.specs.declared.args.Form.{Form}
 use Rattle.command_line.specs.declared.args.Form.TheVariants as form
-use Rattle.command_line.specs.CommandLine.{GivesFile, GivesPlace, HasFlag, WantsForm}
+use Rattle.command_line.specs.CommandLine.{GivesPlace, WantsForm}
 
 -- an option gives at most one place
 pub place-one : (option : Text) (rows : List Row) (p q : Option ℕ) → GivesPlace option rows p → GivesPlace option rows q → p ≡ q
@@ -55,28 +54,3 @@ place_not_given option text rows is none (Some n) gives =
     let same : Some text ≡ Some (decimal n) = sym is ∙ gives.given in
     let text_is : text ≡ decimal n = cc in
     none n ((reading_iff text MAX_PLACE n (omega arith)).1 (gives.few, text_is))
-
--- an option without a text gives no file
-pub no_file : (option : Text) (rows : List Row) → first_of option rows ≡ None → ¬ GivesFile option rows
-no_file option rows none (text, is) = let bad : Some text ≡ None = sym is ∙ none in cc
-
--- options with both flags want no form
-pub two_forms : (rows : List Row) → HasFlag (codes "csv") rows → HasFlag (codes "dot") rows → (asked : Form) → ¬ WantsForm rows asked
-two_forms rows csv dot form.Lines wants = wants.0 csv
-two_forms rows csv dot form.Rows wants = wants.1 dot
-two_forms rows csv dot form.Graph wants = wants.0 csv
-two_forms rows csv dot form.Waits wants = wants.0 csv
-
--- options with the flags of both graphs want no form
-pub two_graphs : (rows : List Row) → HasFlag (codes "dot") rows → HasFlag (codes "waits") rows → (asked : Form) → ¬ WantsForm rows asked
-two_graphs rows dot waits form.Lines wants = wants.1 dot
-two_graphs rows dot waits form.Rows wants = wants.1 dot
-two_graphs rows dot waits form.Graph wants = wants.2 waits
-two_graphs rows dot waits form.Waits wants = wants.1 dot
-
--- options with the flags of rows and of waits want no form
-pub rows_and_waits : (rows : List Row) → HasFlag (codes "csv") rows → HasFlag (codes "waits") rows → (asked : Form) → ¬ WantsForm rows asked
-rows_and_waits rows csv waits form.Lines wants = wants.0 csv
-rows_and_waits rows csv waits form.Rows wants = wants.2 waits
-rows_and_waits rows csv waits form.Graph wants = wants.0 csv
-rows_and_waits rows csv waits form.Waits wants = wants.0 csv

@@ -1,8 +1,7 @@
 -- What a request has beside its command: its files, whether comments are skipped and hints asked for, and numbers within their bounds.
-use Rattle.std.proofs.Common.{rules, sym, subst, refl, ◌≡◌, List, Option, Some, None}
+use Rattle.std.proofs.Common.{rules, sym, subst, ◌≡◌, List, Option, Some, None}
 use Rattle.std.specs.Prelude.{IfSome}
 use Rattle.clap.specs.Walk.{Row, Text}
-use Rattle.command_line.specs.declared.args.Delivery.TheVariants as delivery
 use Rattle.command_line.specs.declared.args.CommandRequest.{CommandRequest}
 use Rattle.command_line.specs.declared.args.CommandRequest.TheVariants as request
 use Rattle.command_line.specs.declared.args.Request.{Request}
@@ -14,7 +13,7 @@ pub streams_moved : (found : Option (Text × List Row)) (name : Text) (rows : Li
     → IfSome r (HasStreams rows) → IfSome r (HasStreamsOf found)
 streams_moved found name rows None is h = search rules
 streams_moved found name rows (Some q) is h =
-    subst (λ (f : Option (Text × List Row)). HasStreamsOf f q) (sym is) (record { input = h.input; output = h.output; start = h.start; comments = h.comments; hints = h.hints })
+    subst (λ (f : Option (Text × List Row)). HasStreamsOf f q) (sym is) (record { input = h.input; output = h.output; comments = h.comments; hints = h.hints })
 
 -- the streams of the command that was found are those of the words
 pub streams_of_words : (found there : Option (Text × List Row)) (r : Option Request) → found ≡ there → IfSome r (HasStreamsOf found) → IfSome r (HasStreamsOf there)
@@ -28,7 +27,6 @@ numbers_in (Some found) (request.Run n t d) is = (is.1.some, is.1.few, is.2.some
 numbers_in (Some found) (request.Check n d) is = (is.1.some, is.1.few)
 numbers_in (Some found) (request.Show n p f) is = (is.1.some, is.1.few)
 numbers_in (Some found) (request.Dump n f) is = (is.1.some, is.1.few)
-numbers_in (Some found) (request.ShowFrom n p f) is = (is.1.some, is.1.few)
 numbers_in (Some found) (request.Explain n p f) is = (is.1.some, is.1.few)
 numbers_in (Some found) (request.Timeline n p q) is = (is.1.some, is.1.few)
 numbers_in (Some found) (request.Stats n f) is = (is.1.some, is.1.few)

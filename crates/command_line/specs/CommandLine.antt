@@ -66,13 +66,6 @@ output_option = record (new_rule (codes "output")) {
   value_names = 1;
 }
 
--- the option `--from FILE` of `show`, with no default; `timeline` has another option of this name, a place
-abbrev pub start_option : Rule
-start_option = record (new_rule (codes "start")) {
-  long = Some (codes "from");
-  value_names = 1;
-}
-
 -- the flag `--comments`
 abbrev pub comments_flag : Rule
 comments_flag = flag_named (codes "comments")
@@ -101,10 +94,9 @@ with_forms command = with_rule (with_rule (with_rule command (place_option (code
 abbrev pub app_with_forms : Text → App
 app_with_forms name = with_forms (command_for_sessions name)
 
--- the command `show [FILE] [--sessions N] [-o FILE] [--comments] [--hints] [--at P] [--csv] [--dot] [--waits] [--state]
--- [--from FILE]`
+-- the command `show [FILE] [--sessions N] [-o FILE] [--comments] [--hints] [--at P] [--csv] [--dot] [--waits] [--state]`
 abbrev pub show_app : App
-show_app = with_rule (with_rule (with_rule (app_with_forms (codes "show")) (flag_named (codes "waits"))) (flag_named (codes "state"))) start_option
+show_app = with_rule (with_rule (app_with_forms (codes "show")) (flag_named (codes "waits"))) (flag_named (codes "state"))
 
 -- the command `timeline [FILE] [--sessions N] [-o FILE] [--comments] [--hints] [--from P] [--to Q]`
 abbrev pub timeline_app : App
@@ -119,9 +111,9 @@ abbrev pub shell_app : App
 shell_app = with_rule (new_app (codes "shell")) sessions_option
 
 -- the program `glm`, which has a version and requires one of the commands `replay [--stream]`, `run [--turns T] [--stream]`,
--- `check [--stream]`, `show [--at P] [--csv] [--dot] [--waits] [--state] [--from FILE]`, `explain [--at P] [--csv] [--dot]`,
--- `timeline [--from P] [--to Q]` and `stats [--csv]`, each with `[FILE] [--sessions N] [-o FILE] [--comments] [--hints]`, or of
--- the command `shell [--sessions N]`
+-- `check [--stream]`, `show [--at P] [--csv] [--dot] [--waits] [--state]`, `explain [--at P] [--csv] [--dot]`, `timeline [--from P]
+-- [--to Q]` and `stats [--csv]`, each with `[FILE] [--sessions N] [-o FILE] [--comments] [--hints]`, or of the command
+-- `shell [--sessions N]`
 abbrev pub glm_command : App
 glm_command =
     with_subcommand
@@ -176,10 +168,6 @@ abbrev pub GivesPlace : Text → List Row → Option ℕ → Type 0
 GivesPlace option rows None = first_of option rows ≡ None
 GivesPlace option rows (Some place) = GivesNumberedPlace option rows place
 
--- the parsed options give `option` a file: some text
-abbrev pub GivesFile : Text → List Row → Type 0
-GivesFile option rows = (text : Text) × (first_of option rows ≡ Some text)
-
 -- more than one of the flags for a form is given
 abbrev pub wants_two_forms : Bool → Bool → Bool → Bool
 wants_two_forms csv dot waits = (csv && dot) || ((csv || dot) && waits)
@@ -200,11 +188,9 @@ IsRequestIn name rows (request.Run sessions turns asked) =
 IsRequestIn name rows (request.Check sessions asked) =
     (name ≡ codes "check") × Gives (codes "sessions") MAX_SESSIONS rows sessions × Wants rows asked
 IsRequestIn name rows (request.Show sessions place asked) =
-    (name ≡ codes "show") × Gives (codes "sessions") MAX_SESSIONS rows sessions × GivesPlace (codes "at") rows place × WantsForm rows asked × (¬ HasFlag (codes "state") rows) × (first_of (codes "start") rows ≡ None)
+    (name ≡ codes "show") × Gives (codes "sessions") MAX_SESSIONS rows sessions × GivesPlace (codes "at") rows place × WantsForm rows asked × (¬ HasFlag (codes "state") rows)
 IsRequestIn name rows (request.Dump sessions asked) =
-    (name ≡ codes "show") × Gives (codes "sessions") MAX_SESSIONS rows sessions × GivesPlace (codes "at") rows None × WantsForm rows asked × HasFlag (codes "state") rows × (first_of (codes "start") rows ≡ None)
-IsRequestIn name rows (request.ShowFrom sessions place asked) =
-    (name ≡ codes "show") × Gives (codes "sessions") MAX_SESSIONS rows sessions × GivesPlace (codes "at") rows place × WantsForm rows asked × (¬ HasFlag (codes "state") rows) × GivesFile (codes "start") rows
+    (name ≡ codes "show") × Gives (codes "sessions") MAX_SESSIONS rows sessions × GivesPlace (codes "at") rows None × WantsForm rows asked × HasFlag (codes "state") rows
 IsRequestIn name rows (request.Explain sessions place asked) =
     (name ≡ codes "explain") × Gives (codes "sessions") MAX_SESSIONS rows sessions × GivesPlace (codes "at") rows place × WantsForm rows asked
 IsRequestIn name rows (request.Timeline sessions from to) =
@@ -219,7 +205,6 @@ HasNumbers (request.Run sessions turns asked) = (0 < sessions) × (sessions ≤ 
 HasNumbers (request.Check sessions asked) = (0 < sessions) × (sessions ≤ MAX_SESSIONS)
 HasNumbers (request.Show sessions place asked) = (0 < sessions) × (sessions ≤ MAX_SESSIONS)
 HasNumbers (request.Dump sessions asked) = (0 < sessions) × (sessions ≤ MAX_SESSIONS)
-HasNumbers (request.ShowFrom sessions place asked) = (0 < sessions) × (sessions ≤ MAX_SESSIONS)
 HasNumbers (request.Explain sessions place asked) = (0 < sessions) × (sessions ≤ MAX_SESSIONS)
 HasNumbers (request.Timeline sessions from to) = (0 < sessions) × (sessions ≤ MAX_SESSIONS)
 HasNumbers (request.Stats sessions asked) = (0 < sessions) × (sessions ≤ MAX_SESSIONS)
@@ -264,11 +249,6 @@ AskShow words sessions place form = Ask words (request.Show sessions place form)
 -- the words ask to show the state that a dump is, with this number of sessions, in this form
 abbrev pub AskDump : List Text → ℕ → Form → Type 0
 AskDump words sessions form = Ask words (request.Dump sessions form)
-
--- the words ask to show the state at this place of a history that begins in the state of a dump, at its end if it is None, with
--- this number of sessions, in this form; the place is counted from the dump on
-abbrev pub AskShowFrom : List Text → ℕ → Option ℕ → Form → Type 0
-AskShowFrom words sessions place form = Ask words (request.ShowFrom sessions place form)
 
 -- the words ask to explain the call at this place of a history, every eventful call if it is None, with this number of
 -- sessions, in this form

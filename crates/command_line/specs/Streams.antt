@@ -1,5 +1,4 @@
--- The files that a command line names, in place of the standard streams and with a dump, and whether comments are skipped and
--- hints asked for.
+-- The files that a command line names in place of the standard streams, and whether comments are skipped and hints asked for.
 use Rattle.std.specs.Prelude.{◌≡◌, ◌↔◌, List, Option, Some, None, codes, option_map, bytes_eq, if◌then◌else◌, true}
 use Rattle.clap.specs.Walk.{Row, Text, first_of}
 use Rattle.clap.specs.Simple.{subcommand_of}
@@ -15,11 +14,6 @@ file_named (Some text) = if bytes_eq text (codes "-") then None else Some text
 abbrev pub file_of : Text → Option (Text × List Row) → Option Text
 file_of option None = None
 file_of option (Some found) = file_named (first_of option found.1)
-
--- the file with the dump in whose state the history begins, of the command that the parser found; `-` is a name like others
-abbrev pub start_of : Option (Text × List Row) → Option Text
-start_of None = None
-start_of (Some found) = first_of (codes "start") found.1
 
 -- the command that the parser found has the flag `--comments`
 abbrev pub HasComments : Option (Text × List Row) → Type 0
@@ -39,10 +33,6 @@ input_file words = file_of (codes "file") (subcommand_of glm_command words)
 abbrev pub output_file : List Text → Option Text
 output_file words = file_of (codes "output") (subcommand_of glm_command words)
 
--- the file that the words name with the dump in whose state the history begins, none if the option isn't given
-abbrev pub start_file : List Text → Option Text
-start_file words = start_of (subcommand_of glm_command words)
-
 -- the words want comments in the input skipped
 abbrev pub SkipComments : List Text → Type 0
 SkipComments words = HasComments (subcommand_of glm_command words)
@@ -55,7 +45,6 @@ WantHints words = HasHints (subcommand_of glm_command words)
 pub record HasStreams (rows : List Row) (request : Request) : Type 0 where
   pub input : option_map (λ text. text.now) request.input ≡ file_named (first_of (codes "file") rows)
   pub output : option_map (λ text. text.now) request.output ≡ file_named (first_of (codes "output") rows)
-  pub start : option_map (λ text. text.now) request.start ≡ first_of (codes "start") rows
   pub comments : (request.skips_comments ≡ true) ↔ HasFlag (codes "comments") rows
   pub hints : (request.wants_hints ≡ true) ↔ HasFlag (codes "hints") rows
 
@@ -63,6 +52,5 @@ pub record HasStreams (rows : List Row) (request : Request) : Type 0 where
 pub record HasStreamsOf (found : Option (Text × List Row)) (request : Request) : Type 0 where
   pub input : option_map (λ text. text.now) request.input ≡ file_of (codes "file") found
   pub output : option_map (λ text. text.now) request.output ≡ file_of (codes "output") found
-  pub start : option_map (λ text. text.now) request.start ≡ start_of found
   pub comments : (request.skips_comments ≡ true) ↔ HasComments found
   pub hints : (request.wants_hints ≡ true) ↔ HasHints found

@@ -6,8 +6,8 @@ ghost use Rattle.clap.specs.declared.builder.command.Command.TheViews.{out-Comma
 ghost use Rattle.command_line.specs.CommandLine.{app_with_forms, command_for_sessions, glm_command, shell_app, show_app, stats_app, stream_flag, timeline_app, turns_option, with_flags, with_forms, with_streams};
 
 use crate::options::{
-    comments_arg, file_arg, flag_arg, hints_arg, output_arg, place_arg, sessions_arg, start_arg,
-    stream_arg, turns_arg,
+    comments_arg, file_arg, flag_arg, hints_arg, output_arg, place_arg, sessions_arg, stream_arg,
+    turns_arg,
 };
 use crate::texts::{
     ABOUT_CHECK, ABOUT_EXPLAIN, ABOUT_REPLAY, ABOUT_RUN, ABOUT_SHELL, ABOUT_SHOW, ABOUT_STATS,
@@ -23,7 +23,7 @@ pub const MAX_TURNS: u32 = 1_000_000_000;
 /// The greatest number of sessions of a run that writes its history in pieces: one session of the office takes the history.
 pub const MAX_STREAMED_SESSIONS: u16 = MAX_SESSIONS - 1;
 
-/// The greatest value of `--at`, and of `--from` and `--to` of `timeline`: a place of a history.
+/// The greatest value of `--at`, `--from` and `--to`: a place of a history.
 pub const MAX_PLACE: u32 = u32::MAX;
 
 /// How much of a history a command keeps in memory.
@@ -67,9 +67,6 @@ pub enum CommandRequest {
     Show(u16, Option<u32>, Form),
     /// Show the state that a dump is; holds the number of sessions, and the form.
     Dump(u16, Form),
-    /// Show the state of the lock table at a place of a history that begins in the state of a dump; holds the number of sessions,
-    /// the place, counted from the dump on, `None` for the end, and the form. The file of the dump is that of the request.
-    ShowFrom(u16, Option<u32>, Form),
     /// Explain what calls of a history did; holds the number of sessions, the place of the call, `None` for every eventful
     /// one, and the form.
     Explain(u16, Option<u32>, Form),
@@ -91,8 +88,6 @@ pub struct Request<'a> {
     pub input: Option<&'a str>,
     /// The file that is written, `None` for standard output.
     pub output: Option<&'a str>,
-    /// The file with the dump in whose state the history begins, by the option `--from` of `show`; `None` if it isn't given.
-    pub start: Option<&'a str>,
     /// Whether comments in the input are skipped, by the flag `--comments`.
     pub skips_comments: bool,
     /// Whether hints are asked for, by the flag `--hints`.
@@ -225,12 +220,11 @@ fn show_command<'a>(alloc: Global) -> Result<Command<'a>, AllocError>
         "waits",
         "Writes who waits for whom as a graph for Graphviz",
     ))?;
-    let made = made.arg(flag_arg(
+    made.arg(flag_arg(
         alloc,
         "state",
         "Shows the state that a dump is, the rows of 'show --csv', in place of a history",
-    ))?;
-    made.arg(start_arg(alloc))
+    ))
 }
 
 /// Defines the command `explain`. Fails if memory is refused.

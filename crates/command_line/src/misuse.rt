@@ -21,7 +21,7 @@ fn wants_two_forms(csv: bool, dot: bool, waits: bool) -> bool
     (csv && dot) || ((csv || dot) && waits)
 }
 
-/// The message for words that make no request: that of a dump if the flag `--state` is given, with or without `--at` and `--from`.
+/// The message for words that make no request: that of a dump if the flag `--state` is given.
 fn other_text(state: bool) -> &'static str
     ensures { result.now ≡ (if state then STATE_ALONE.now else NOT_A_NUMERAL.now) }
 {

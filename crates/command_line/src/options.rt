@@ -2,7 +2,7 @@
 
 ghost use Rattle.std.specs.Prelude.{◌≡◌, false};
 ghost use Rattle.clap.specs.Walk.{rule_of};
-ghost use Rattle.command_line.specs.CommandLine.{comments_flag, file_argument, flag_named, hints_flag, output_option, place_option, sessions_option, start_option, stream_flag, turns_option};
+ghost use Rattle.command_line.specs.CommandLine.{comments_flag, file_argument, flag_named, hints_flag, output_option, place_option, sessions_option, stream_flag, turns_option};
 
 use crate::args::{MAX_PLACE, MAX_TURNS};
 use clap::{Arg, ArgAction, value_parser};
@@ -91,17 +91,6 @@ pub(crate) fn place_arg<'a>(alloc: Global, name: &'a str, value: &'a str, help: 
         .value_name(value)
         .help(help)
         .value_parser(value_parser!(u32).range(0..=i64::from(MAX_PLACE)))
-}
-
-/// Defines the option `--from FILE`, which `show` has.
-pub(crate) fn start_arg<'a>(alloc: Global) -> Arg<'a>
-    ensures rule { rule_of result ≡ start_option }
-    ensures own { result.global ≡ false }
-{
-    Arg::new(alloc, "start")
-        .long("from")
-        .value_name("FILE")
-        .help("A file with a dump, in whose state the history begins")
 }
 
 /// Defines the flag `--comments`, which every command but `shell` has.

@@ -136,9 +136,8 @@ fn place_and_form(given: &ArgMatches) -> Option<(Option<u32>, Form)>
     Some((place, form))
 }
 
-/// Returns the request of `show` with this place and form, or `None` if it is asked for a dump at a place, or for a dump and for a
-/// history that begins in one.
-#[tactic(auto, using(crate::proofs::Ask::no_dump_at, crate::proofs::Ask::no_dump_from))]
+/// Returns the request of `show` with this place and form, or `None` if it is asked for a dump at a place.
+#[tactic(auto, using(crate::proofs::Ask::no_dump_at))]
 fn shown_request(
     sessions: u16,
     place: Option<u32>,
@@ -151,21 +150,16 @@ fn shown_request(
     ensures some { IfSome result (IsRequest (Some (codes "show", rows_of (found_of given.now)))) }
     ensures none { IfNone result ((asked : RequestValue) → ¬ (IsRequest (Some (codes "show", rows_of (found_of given.now))) asked)) }
 {
-    let start = option_text(given, "start");
     if !has_flag(given, "state") {
-        return match start {
-            None => Some(CommandRequest::Show(sessions, place, form)),
-            Some(_) => Some(CommandRequest::ShowFrom(sessions, place, form)),
-        };
+        return Some(CommandRequest::Show(sessions, place, form));
     }
-    match (start, place) {
-        (None, None) => Some(CommandRequest::Dump(sessions, form)),
-        _ => None,
+    match place {
+        None => Some(CommandRequest::Dump(sessions, form)),
+        Some(_) => None,
     }
 }
 
-/// Returns the request of `show`, or `None` if its place isn't a valid number, it is asked for two forms, for a dump at a place, or
-/// for a dump and for a history that begins in one.
+/// Returns the request of `show`, or `None` if its place isn't a valid number, it is asked for two forms, or for a dump at a place.
 #[tactic(auto, using(crate::proofs::Ask::nothing_shown))]
 fn show_request(sessions: u16, given: &ArgMatches) -> Option<CommandRequest>
     requires given { Gives (codes "sessions") MAX_SESSIONS (rows_of (found_of given.now)) sessions }
@@ -286,7 +280,6 @@ fn request_with_files<'a>(name: &str, given: &ArgMatches<'a>) -> Option<Request<
         command,
         input: option_file(given, "file"),
         output: option_file(given, "output"),
-        start: option_text(given, "start"),
         skips_comments: has_flag(given, "comments"),
         wants_hints: has_flag(given, "hints"),
     })

@@ -96,12 +96,7 @@ and its queue, and an edge leads from each session that waits to the first that 
 whom is written as a graph, and nothing else. 'dot -Tsvg' draws either.
 
 With --state it reads a dump in place of a history: the rows of 'show --csv', as the library writes them of a lock table in
-use. A dump has no place, so --at isn't taken.
-
-With --from the history begins in the state of a dump, read from a file, and not in that of a table without locks. Its
-rows are counted from the dump on: the first is at place 0. --from isn't taken with --state.
-
-  glm show --from dump.csv since.csv";
+use. A dump has no place, so --at isn't taken.";
 
 /// The beginning of the help of `explain`.
 pub(crate) const ABOUT_EXPLAIN: &str =
@@ -185,10 +180,10 @@ sessions
 For more information, try '--help'.
 ";
 
-/// The message for `show --state` with a place, with `--from`, or with a number that isn't written in digits.
+/// The message for `show --state` with a place, or with a number that isn't written in digits.
 pub const STATE_ALONE: &str =
-    "error: a dump is shown alone: --state is taken without --at and without --from, and a number is written with digits
-alone, with no sign and no zero before it
+    "error: a dump has no place: --state is taken without --at, and a number is written with digits alone, with no sign and no
+zero before it
 
 For more information, try '--help'.
 ";

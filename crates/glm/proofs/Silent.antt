@@ -4,9 +4,8 @@ use Rattle.std.specs.Io.KnownBytes.{Keeps}
 use Rattle.clap.specs.Walk.{Text}
 use Rattle.command_line.specs.CommandLine.{AskReplayInPieces, AskRunInPieces, AskShell}
 use Rattle.glm.specs.Outcomes.{HasDone, status_of_outcome}
-use Rattle.glm.specs.Statuses.{status_for, status_for_dump, status_for_resume, status_for_show}
+use Rattle.glm.specs.Statuses.{status_for, status_for_dump, status_for_show}
 use Rattle.history_commands.specs.declared.checking.Verdict.TheVariants as verdict
-use Rattle.history_commands.specs.declared.finding.Finding.TheVariants as finding
 use Rattle.replay_commands.specs.declared.tool_fault.ToolFault.TheVariants as tool
 use Rattle.glm.specs.declared.outcomes.Outcome.{Outcome}
 use Rattle.glm.specs.declared.outcomes.Outcome.TheVariants as outcome
@@ -38,9 +37,6 @@ silent words input old new (outcome.Dump (Ok n)) status is did whole run shell d
 silent words input old new (outcome.Stats (Ok (verdict.Legal n))) status is did whole run shell done illegal device = absurd (done is)
 silent words input old new (outcome.Stats (Ok (verdict.Illegal p))) status is did whole run shell done illegal device = absurd (illegal is)
 silent words input old new (outcome.Dump (Err fault)) status is did whole run shell done illegal device = did.kept (λ f. device (is ∙ ap status_for_dump f))
-silent words input old new (outcome.ShowFrom (Ok (finding.Legal n))) status is did whole run shell done illegal device = absurd (done is)
-silent words input old new (outcome.ShowFrom (Ok (finding.Wrong w))) status is did whole run shell done illegal device = absurd (illegal is)
-silent words input old new (outcome.ShowFrom (Err fault)) status is did whole run shell done illegal device = did.kept (λ f. device (is ∙ ap status_for_resume f))
 silent words input old new (outcome.Stats (Err fault)) status is did whole run shell done illegal device = did.kept (λ f. device (is ∙ ap status_for f))
 silent words input old new (outcome.Shell answer) status is did whole run shell done illegal device = absurd (shell did.sessions did.asked)
 silent words input old new outcome.HelpShown status is did whole run shell done illegal device = absurd (done is)
@@ -80,9 +76,6 @@ silent_in_pieces words input old new (outcome.Dump (Ok n)) status is did run don
 silent_in_pieces words input old new (outcome.Stats (Ok (verdict.Legal n))) status is did run done illegal device memory = absurd (done is)
 silent_in_pieces words input old new (outcome.Stats (Ok (verdict.Illegal p))) status is did run done illegal device memory = absurd (illegal is)
 silent_in_pieces words input old new (outcome.Dump (Err fault)) status is did run done illegal device memory = did.kept (λ f. device (is ∙ ap status_for_dump f))
-silent_in_pieces words input old new (outcome.ShowFrom (Ok (finding.Legal n))) status is did run done illegal device memory = absurd (done is)
-silent_in_pieces words input old new (outcome.ShowFrom (Ok (finding.Wrong w))) status is did run done illegal device memory = absurd (illegal is)
-silent_in_pieces words input old new (outcome.ShowFrom (Err fault)) status is did run done illegal device memory = did.kept (λ f. device (is ∙ ap status_for_resume f))
 silent_in_pieces words input old new (outcome.Stats (Err fault)) status is did run done illegal device memory = did.kept (λ f. device (is ∙ ap status_for f))
 silent_in_pieces words input old new (outcome.Shell (Ok n)) status is did run done illegal device memory = absurd (done is)
 silent_in_pieces words input old new (outcome.Shell (Err tool.NoMemory)) status is did run done illegal device memory = absurd (memory is)
@@ -130,9 +123,6 @@ silent_always words input old new (outcome.Dump (Ok n)) status is did done illeg
 silent_always words input old new (outcome.Stats (Ok (verdict.Legal n))) status is did done illegal device memory stopped = absurd (done is)
 silent_always words input old new (outcome.Stats (Ok (verdict.Illegal p))) status is did done illegal device memory stopped = absurd (illegal is)
 silent_always words input old new (outcome.Dump (Err fault)) status is did done illegal device memory stopped = did.kept (λ f. device (is ∙ ap status_for_dump f))
-silent_always words input old new (outcome.ShowFrom (Ok (finding.Legal n))) status is did done illegal device memory stopped = absurd (done is)
-silent_always words input old new (outcome.ShowFrom (Ok (finding.Wrong w))) status is did done illegal device memory stopped = absurd (illegal is)
-silent_always words input old new (outcome.ShowFrom (Err fault)) status is did done illegal device memory stopped = did.kept (λ f. device (is ∙ ap status_for_resume f))
 silent_always words input old new (outcome.Stats (Err fault)) status is did done illegal device memory stopped = did.kept (λ f. device (is ∙ ap status_for f))
 silent_always words input old new (outcome.Shell (Ok n)) status is did done illegal device memory stopped = absurd (done is)
 silent_always words input old new (outcome.Shell (Err tool.NoMemory)) status is did done illegal device memory stopped = absurd (memory is)

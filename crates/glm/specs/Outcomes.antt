@@ -10,23 +10,17 @@ use Rattle.dump_command.specs.declared.dump_fault.DumpFault.TheVariants as dump
 use Rattle.dump_command.specs.Dumps.{HasDump, HasDumpPart, ShowsDump}
 use Rattle.history_commands.specs.declared.checking.Verdict.{Verdict}
 use Rattle.history_commands.specs.declared.checking.Verdict.TheVariants as verdict
-use Rattle.history_commands.specs.declared.finding.Finding.{Finding}
-use Rattle.history_commands.specs.declared.finding.Finding.TheVariants as finding
 use Rattle.history_commands.specs.declared.show_fault.ShowFault.{ShowFault}
 use Rattle.history_commands.specs.declared.show_fault.ShowFault.TheVariants as show
 use Rattle.replay_commands.specs.declared.tool_fault.ToolFault.{ToolFault}
 use Rattle.replay_commands.specs.declared.tool_fault.ToolFault.TheVariants as tool
-use Rattle.resume_command.specs.declared.resume_fault.ResumeFault.{ResumeFault}
-use Rattle.resume_command.specs.declared.resume_fault.ResumeFault.TheVariants as resume
-use Rattle.resume_command.specs.declared.showing.ShowRequest.{ShowRequest}
-use Rattle.resume_command.specs.Showing.{HasShownFrom, HasShownPartFrom, TellsFrom}
 use Rattle.glm.specs.declared.outcomes.Outcome.{Outcome}
 use Rattle.glm.specs.declared.outcomes.Outcome.TheVariants as outcome
 use Rattle.glm.specs.declared.outcomes.TheConstants.{DONE, USAGE, ILLEGAL, NO_MEMORY, DEVICE}
-use Rattle.command_line.specs.CommandLine.{AskReplay, AskReplayInPieces, AskRun, AskRunInPieces, AskCheck, AskShow, AskDump, AskShowFrom, AskExplain, AskTimeline, AskStats, AskShell, AskHelp, AskVersion, AskNothing}
+use Rattle.command_line.specs.CommandLine.{AskReplay, AskReplayInPieces, AskRun, AskRunInPieces, AskCheck, AskShow, AskDump, AskExplain, AskTimeline, AskStats, AskShell, AskHelp, AskVersion, AskNothing}
 use Rattle.replay_commands.specs.Replays.{HasServed, HasServedFront, HasServedPart, IsFaultOfOneThread, Replays, ReplaysInPieces}
 use Rattle.run_commands.specs.Runs.{HasPerformed, HasPerformedPart, HasWrittenFront, HasWrittenPart, Runs, RunsInPieces}
-use Rattle.glm.specs.Statuses.{status_for, status_for_dump, status_for_resume, status_for_show}
+use Rattle.glm.specs.Statuses.{status_for, status_for_dump, status_for_show}
 use Rattle.history_commands.specs.Showing.{HasShown, HasShownPart, Shows}
 use Rattle.history_commands.specs.Explaining.{HasExplained, HasExplainedPart, Explains}
 use Rattle.history_commands.specs.Drawing.{Draws, HasDrawn, HasDrawnPart}
@@ -53,9 +47,6 @@ status_of_outcome (outcome.Show (Ok (verdict.Illegal place))) = ILLEGAL
 status_of_outcome (outcome.Show (Err fault)) = status_for_show fault
 status_of_outcome (outcome.Dump (Ok done)) = DONE
 status_of_outcome (outcome.Dump (Err fault)) = status_for_dump fault
-status_of_outcome (outcome.ShowFrom (Ok (finding.Legal count))) = DONE
-status_of_outcome (outcome.ShowFrom (Ok (finding.Wrong wrong))) = ILLEGAL
-status_of_outcome (outcome.ShowFrom (Err fault)) = status_for_resume fault
 status_of_outcome (outcome.Explain (Ok (verdict.Legal count))) = DONE
 status_of_outcome (outcome.Explain (Ok (verdict.Illegal place))) = ILLEGAL
 status_of_outcome (outcome.Explain (Err fault)) = status_for_show fault
@@ -166,23 +157,6 @@ pub record HasAnsweredDump {X : Type 0} (words : List Text) (input old new : Opt
   pub shown : IfOk answer (λ _. HasDump form sessions old new)
   pub shows : (bytes : List ℕ) → input ≡ Some bytes → ShowsDump form sessions bytes old new answer
 
--- what is to be shown of a history of the sessions 1 to n: the state at this place, in this form
-abbrev pub show_request : ℕ → Option ℕ → Form → ShowRequest
-show_request n place form = record { sessions = n; place = place; form = form }
-
--- the words ask to show a state of a history that begins in the state of a dump, whose file has the bytes `dump` where they are known, and
--- `answer` is what was found in the history, or the fault; the output holds `old` before and `new` after
-pub record HasAnsweredShowFrom (words : List Text) (input old new : Option (List ℕ)) (answer : Result Finding ResumeFault) : Type 0 where
-  pub sessions : ℕ
-  pub place : Option ℕ
-  pub form : Form
-  pub asked : AskShowFrom words sessions place form
-  pub dump : Option (List ℕ)
-  pub kept : IfErr answer (λ why. why ≢ resume.History show.Device → Keeps old new)
-  pub part : IfErr answer (λ why. why ≡ resume.History show.Device → HasShownPartFrom (show_request sessions place form) dump input old new)
-  pub shown : IfOk answer (λ found. HasShownFrom (show_request sessions place form) dump input found old new)
-  pub tells : IfErr answer (TellsFrom (show_request sessions place form) dump input)
-
 -- the words ask to explain calls of a history, and `answer` is the verdict on the history, or the fault; the output holds `old`
 -- before and `new` after
 pub record HasAnsweredExplain (words : List Text) (input old new : Option (List ℕ)) (answer : Result Verdict ShowFault) : Type 0 where
@@ -241,7 +215,6 @@ HasDone words input old new (outcome.RunInPieces answer) = HasAnsweredRunInPiece
 HasDone words input old new (outcome.Check answer) = HasAnsweredCheck words input old new answer
 HasDone words input old new (outcome.Show answer) = HasAnsweredShow words input old new answer
 HasDone words input old new (outcome.Dump answer) = HasAnsweredDump words input old new answer
-HasDone words input old new (outcome.ShowFrom answer) = HasAnsweredShowFrom words input old new answer
 HasDone words input old new (outcome.Explain answer) = HasAnsweredExplain words input old new answer
 HasDone words input old new (outcome.Timeline answer) = HasAnsweredTimeline words input old new answer
 HasDone words input old new (outcome.Stats answer) = HasAnsweredStats words input old new answer

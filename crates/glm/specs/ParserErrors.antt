@@ -19,7 +19,6 @@ IsOutcomeOfError kind old new (outcome.Show answer) = ⊥
 IsOutcomeOfError kind old new (outcome.Explain answer) = ⊥
 IsOutcomeOfError kind old new (outcome.Timeline answer) = ⊥
 IsOutcomeOfError kind old new (outcome.Dump answer) = ⊥
-IsOutcomeOfError kind old new (outcome.ShowFrom answer) = ⊥
 IsOutcomeOfError kind old new (outcome.Stats answer) = ⊥
 IsOutcomeOfError kind old new (outcome.Shell answer) = ⊥
 IsOutcomeOfError kind old new outcome.HelpShown = kind ≡ error.DisplayHelp

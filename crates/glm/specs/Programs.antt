@@ -15,7 +15,7 @@ use Rattle.glm.specs.Streams.{HasOutcome}
 pub record HasRun (words : List Text) (input old new : Option (List ℕ)) (status : ℕ) : Type 0 where
   -- the status of an outcome that says what the words ask for and what was done
   pub outcome : (outcome : Outcome) × (status ≡ status_of_outcome outcome) × HasOutcome words input old new outcome
-  -- the same for words that name no file in place of a standard stream, and don't skip comments
+  -- the same for words that name no file, and don't skip comments
   pub standard : input_file words ≡ None → output_file words ≡ None → ¬ SkipComments words
       → (outcome : Outcome) × (status ≡ status_of_outcome outcome) × HasDone words input old new outcome
   pub status_is : IsStatus status

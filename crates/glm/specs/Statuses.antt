@@ -8,8 +8,6 @@ use Rattle.history_commands.specs.declared.show_fault.ShowFault.{ShowFault}
 use Rattle.history_commands.specs.declared.show_fault.ShowFault.TheVariants as show
 use Rattle.replay_commands.specs.declared.tool_fault.ToolFault.{ToolFault}
 use Rattle.replay_commands.specs.declared.tool_fault.ToolFault.TheVariants as tool
-use Rattle.resume_command.specs.declared.resume_fault.ResumeFault.{ResumeFault}
-use Rattle.resume_command.specs.declared.resume_fault.ResumeFault.TheVariants as resume
 use Rattle.glm.specs.declared.outcomes.TheConstants.{DONE, REFUSED, USAGE, NO_MEMORY, DEVICE, STOPPED, ILLEGAL}
 
 -- one of the seven exit statuses
@@ -51,10 +49,3 @@ status_for_show (show.Trace fault) = status_of_kind fault.kind
 status_for_show (show.NoPlace place entries) = USAGE
 status_for_show show.NoMemory = NO_MEMORY
 status_for_show show.Device = DEVICE
-
--- the exit status of a fault of `show --from`
-abbrev pub status_for_resume : ResumeFault → ℕ
-status_for_resume (resume.Dump why) = status_for_dump why
-status_for_resume (resume.NoState flaw) = REFUSED
-status_for_resume resume.OtherWaits = REFUSED
-status_for_resume (resume.History why) = status_for_show why

@@ -39,7 +39,6 @@ HasOutcome words input old new (outcome.RunInPieces answer) = HasDoneOnStreams w
 HasOutcome words input old new (outcome.Check answer) = HasDoneOnStreams words input old new (outcome.Check answer)
 HasOutcome words input old new (outcome.Show answer) = HasDoneOnStreams words input old new (outcome.Show answer)
 HasOutcome words input old new (outcome.Dump answer) = HasDoneOnStreams words input old new (outcome.Dump answer)
-HasOutcome words input old new (outcome.ShowFrom answer) = HasDoneOnStreams words input old new (outcome.ShowFrom answer)
 HasOutcome words input old new (outcome.Explain answer) = HasDoneOnStreams words input old new (outcome.Explain answer)
 HasOutcome words input old new (outcome.Timeline answer) = HasDoneOnStreams words input old new (outcome.Timeline answer)
 HasOutcome words input old new (outcome.Stats answer) = HasDoneOnStreams words input old new (outcome.Stats answer)

@@ -1,11 +1,10 @@
 //! The whole program except its streams: parses the command line and runs the command.
 
-ghost use Rattle.std.specs.Prelude.{◌≡◌, ◌≢◌, ◌<◌, ◌≤◌, ℕ, List, None, Some, Ok, IfErr};
+ghost use Rattle.std.specs.Prelude.{◌≡◌, ◌≢◌, ◌<◌, ◌≤◌, ℕ, List, None, Some};
 ghost use Rattle.std.specs.Io.KnownBytes.{Keeps};
 ghost use Rattle.clap.specs.Values.{kind_of};
 ghost use Rattle.clap.specs.Simple.{subcommand_of};
 ghost use Rattle.clap.specs.Walk.{Text, texts};
-ghost use Rattle.either.specs.declared.Either.TheVariants.{Left};
 ghost use Rattle.lock_rules.specs.declared.calls.TheConstants.{MAX_SESSIONS};
 ghost use Rattle.glm.specs.declared.outcomes.Outcome.{Outcome};
 ghost use Rattle.glm.specs.declared.outcomes.TheConstants.{DONE, ILLEGAL, NO_MEMORY, DEVICE, STOPPED};
@@ -13,31 +12,28 @@ ghost use Rattle.glm.specs.Programs.{HasRun};
 ghost use Rattle.command_line.specs.declared.args.CommandRequest.TheVariants as request;
 ghost use Rattle.command_line.specs.CommandLine.{Ask, AskReplayInPieces, AskRunInPieces, AskShell, HasNumbers, glm_command, most_sessions};
 ghost use Rattle.command_line.specs.Streams.{HasStreamsOf, SkipComments as AskNoComments, input_file, output_file};
-ghost use Rattle.glm.specs.Outcomes.{HasDone, show_request, status_of_outcome};
-ghost use Rattle.glm.specs.Streams.{HasDoneInFile, HasOutcome, IsFileFault};
+ghost use Rattle.glm.specs.Outcomes.{HasDone, status_of_outcome};
+ghost use Rattle.glm.specs.Streams.{HasDoneInFile, HasOutcome};
 ghost use Rattle.glm.specs.ParserErrors.{IsOutcomeOfError};
 ghost use Rattle.glm.specs.Statuses.{IsStatus};
 
 use crate::hints::{Hints, write_hints};
 use crate::outcomes::{Outcome, file_failed};
 use crate::verdicts::write_verdict;
-use crate::wrong_replies::{ReportRequest, explained, shown, shown_from};
+use crate::wrong_replies::{ReportRequest, explained, shown};
 use clap::Error;
 use clap::error::ErrorKind;
-use command_line::{CommandRequest, Delivery, Form, Request, VERSION_TEXT, request_of, usage_text};
+use command_line::{CommandRequest, Delivery, Request, VERSION_TEXT, request_of, usage_text};
 use dump_command::show_dump;
-use either::Either;
 use history_commands::{WrongReply, timeline};
 use lock_shell::shell;
 use lock_trace::SkipComments;
 use replay_commands::{NewFile, open_source, replay, replay_in_pieces, write_text};
-use resume_command::ShowRequest;
 use row_hints::{Kept, KeptRows};
 use run_commands::{Gate, run, run_in_pieces};
 use stats_command::stats;
 use std::alloc::Global;
 use std::fs::Files;
-use std::io;
 use std::io::{Read, Write};
 use std::sync::Wait;
 use std::thread::Threads;
@@ -51,15 +47,6 @@ struct Host<'a, T, G> {
     alloc: Global,
     /// The gate of a run on threads.
     gate: &'a G,
-}
-
-/// What a command reads.
-#[derive(Drop)]
-struct Sources<D, R> {
-    /// The dump in whose state the history begins; no bytes if the words name none.
-    dump: D,
-    /// The rows, or the lines of a shell.
-    input: R,
 }
 
 /// Handles an error of the parser: writes help or the version to `output`, or a usage error to `errors`. Returns the outcome.
@@ -127,30 +114,18 @@ fn run_on_threads<T: Threads + Wait, R: Read + Drop, W: Write, G: Gate>(
     }
 }
 
-/// What is to be shown of a history that begins in the state of a dump.
-fn show_request(sessions: u16, place: Option<u32>, form: Form) -> ShowRequest
-    ensures { result ≡ show_request sessions place form }
-{
-    ShowRequest {
-        sessions,
-        place,
-        form,
-    }
-}
-
-/// Runs a command: reads `sources`, and writes to `output`. `check`, `show` and `explain` put the first wrong reply into `wrong`.
-fn perform<T: Threads + Wait + Files, D: Read + Drop, R: Read + Drop, W: Write, G: Gate>(
+/// Runs a command: reads `input`, and writes to `output`. `check`, `show` and `explain` put the first wrong reply into `wrong`.
+fn perform<T: Threads + Wait + Files, R: Read + Drop, W: Write, G: Gate>(
     host: &Host<'_, T, G>,
     command: CommandRequest,
-    sources: Sources<D, R>,
+    input: R,
     output: &mut W,
     wrong: &mut Option<WrongReply>,
 ) -> Outcome
     requires numbers { HasNumbers command }
-    ensures { (words : List Text) → Ask words command → HasDone words (R.remaining sources.input) (W.contents output.old) (W.contents output.new) result }
+    ensures { (words : List Text) → Ask words command → HasDone words (R.remaining input) (W.contents output.old) (W.contents output.new) result }
 {
     let alloc = host.alloc;
-    let Sources { dump, input } = sources;
     match command {
         CommandRequest::Replay(sessions, delivery) => {
             replayed(alloc, input, output, sessions, delivery)
@@ -167,10 +142,6 @@ fn perform<T: Threads + Wait + Files, D: Read + Drop, R: Read + Drop, W: Write, 
         }
         CommandRequest::Dump(sessions, form) => {
             Outcome::Dump(show_dump(alloc, input, output, sessions, form))
-        }
-        CommandRequest::ShowFrom(sessions, place, form) => {
-            let asked = show_request(sessions, place, form);
-            Outcome::ShowFrom(shown_from(alloc, dump, input, output, asked, wrong))
         }
         CommandRequest::Explain(sessions, place, form) => {
             let asked = ReportRequest { place, form };
@@ -189,22 +160,22 @@ fn perform<T: Threads + Wait + Files, D: Read + Drop, R: Read + Drop, W: Write, 
 }
 
 /// Runs a command that writes to the file at `path`, which gets the text only if the command was done.
-fn perform_to_file<T: Threads + Wait + Files, D: Read + Drop, R: Read + Drop, E: Write, G: Gate>(
+fn perform_to_file<T: Threads + Wait + Files, R: Read + Drop, E: Write, G: Gate>(
     host: &Host<'_, T, G>,
     command: CommandRequest,
-    sources: Sources<D, R>,
+    input: R,
     path: &str,
     errors: &mut E,
     wrong: &mut Option<WrongReply>,
 ) -> Outcome
     requires numbers { HasNumbers command }
-    ensures { (words : List Text) → Ask words command → HasDoneInFile words (R.remaining sources.input) result }
+    ensures { (words : List Text) → Ask words command → HasDoneInFile words (R.remaining input) result }
 {
     let mut file = match NewFile::create(host.rt, host.alloc, path) {
         Ok(file) => file,
         Err(error) => return file_failed("write", path, &error, errors),
     };
-    let outcome = perform(host, command, sources, &mut file.output, wrong);
+    let outcome = perform(host, command, input, &mut file.output, wrong);
     if !outcome.is_done() {
         file.remove(host.rt);
         return outcome;
@@ -236,23 +207,6 @@ fn wants_hints(request: Request<'_>, hints: Hints) -> bool {
     request.wants_hints || hints == Hints::Always
 }
 
-/// Opens the file at `path` to read it, or gives `input` if there is no path. Fails with the outcome if the file can't be opened, which is
-/// then reported.
-fn opened<T: Files, R: Read + Drop, E: Write>(
-    files: &T,
-    path: Option<&str>,
-    input: R,
-    errors: &mut E,
-) -> Result<Either<R, T::File>, Outcome>
-    ensures input { path.entry ≡ None → result ≡ Ok (Left input) }
-    ensures fault { IfErr result IsFileFault }
-{
-    match open_source(files, path, input) {
-        Ok(source) => Ok(source),
-        Err(error) => Err(file_failed("read", path.unwrap_or("-"), &error, errors)),
-    }
-}
-
 /// Runs the command of a request on the files that it names, and reports its outcome. `input` and `output` are the standard streams.
 fn run_request<'a, T: Threads + Wait + Files, R: Read + Drop, W: Write, E: Write, G: Gate>(
     host: &Host<'_, T, G>,
@@ -266,26 +220,28 @@ fn run_request<'a, T: Threads + Wait + Files, R: Read + Drop, W: Write, E: Write
     ensures { (words : List Text) → Ask words request.entry.command → HasStreamsOf (subcommand_of glm_command words) request.entry
         → HasOutcome words (R.remaining input) (W.contents output.old) (W.contents output.new) result }
 {
-    let dump = match opened(host.rt, request.start, io::empty(), errors) {
-        Ok(source) => source,
-        Err(outcome) => return outcome,
-    };
-    let text = match opened(host.rt, request.input, input, errors) {
+    let text = match open_source(host.rt, request.input, input) {
         Ok(source) => SkipComments::new(source, request.skips_comments),
-        Err(outcome) => return outcome,
+        Err(error) => {
+            return file_failed("read", request.input.unwrap_or("-"), &error, errors);
+        }
     };
     let alloc = host.alloc;
     let command = request.command;
     let mut kept = Kept::new(alloc, text, wants_hints(request, hints));
-    let input = &mut kept;
-    let sources = Sources { dump, input };
     let mut wrong = None;
-    let outcome = match request.output {
-        None => perform(host, command, sources, output, &mut wrong),
-        Some(path) => perform_to_file(host, command, sources, path, errors, &mut wrong),
-    };
-    report_request(alloc, &outcome, request, hints, kept.rows(), wrong, errors);
-    outcome
+    match request.output {
+        None => {
+            let outcome = perform(host, command, &mut kept, output, &mut wrong);
+            report_request(alloc, &outcome, request, hints, kept.rows(), wrong, errors);
+            outcome
+        }
+        Some(path) => {
+            let outcome = perform_to_file(host, command, &mut kept, path, errors, &mut wrong);
+            report_request(alloc, &outcome, request, hints, kept.rows(), wrong, errors);
+            outcome
+        }
+    }
 }
 
 /// Parses the words and runs the command that they ask for. Usage errors and the outcome are reported on `errors`.
@@ -341,7 +297,7 @@ pub fn program_with_hints<
 /// is the gate that the threads of a `run` enter. Returns the exit status:
 ///
 /// - 0: done, or help or the version was asked for
-/// - 1: a row was refused, or the rows of a dump describe no state
+/// - 1: a row was refused
 /// - 2: usage error, or a place that the history doesn't have
 /// - 3: the history isn't legal
 /// - 4: no memory
@@ -352,10 +308,10 @@ pub fn program_with_hints<
 /// or written stands one that names it, and with `--hints` behind that of a row what would help, and what the lock table gives in
 /// place of a wrong reply. A failure of `errors` changes no status.
 ///
-/// Words that name a file to read or to write have it read or written in place of `input` or `output`; a dump is always read from the
-/// file that they name for it. A file is written only with status 0 or 3, whole; what follows is of `output` then. `output` is written
-/// only with status 0, with status 3 (the verdict), with status 5 if the writer failed on the way, with status 4 if memory was refused on
-/// the way of a shell, or of a replay or a run that writes its history in pieces, or with status 6 if such a run was stopped on its way.
+/// Words that name a file to read or to write have it read or written in place of `input` or `output`. A file is written only
+/// with status 0 or 3, whole; what follows is of `output` then. `output` is written only with status 0, with status 3 (the verdict), with status 5 if the writer failed on the
+/// way, with status 4 if memory was refused on the way of a shell, or of a replay or a run that writes its history in pieces, or with status
+/// 6 if such a run was stopped on its way.
 pub fn program<'a, T: Threads + Wait + Files, R: Read + Drop, W: Write, E: Write, G: Gate>(
     rt: &T,
     alloc: Global,
@@ -368,7 +324,7 @@ pub fn program<'a, T: Threads + Wait + Files, R: Read + Drop, W: Write, E: Write
     // the status of an outcome that says what the words ask for and what was done
     ensures outcome { (outcome : Outcome) × (result ≡ status_of_outcome outcome)
         × HasOutcome (texts words.entry.now) (R.remaining input) (W.contents output.old) (W.contents output.new) outcome }
-    // the same for words that name no file in place of a standard stream, and don't skip comments
+    // the same for words that name no file, and don't skip comments
     ensures standard { input_file (texts words.entry.now) ≡ None → output_file (texts words.entry.now) ≡ None → ¬ AskNoComments (texts words.entry.now)
         → (outcome : Outcome) × (result ≡ status_of_outcome outcome)
         × HasDone (texts words.entry.now) (R.remaining input) (W.contents output.old) (W.contents output.new) outcome }

@@ -2,12 +2,11 @@
 
 use crate::outcomes::Outcome;
 use command_line::CommandRequest;
-use history_commands::{Finding, ShowFault, Verdict, WrongReply};
+use history_commands::{ShowFault, Verdict, WrongReply};
 use lock_trace::TraceFault;
 use replay_commands::ToolFault;
-use resume_command::ResumeFault;
-use row_hints::{Command, KeptRows, write_expected, write_hint};
-use std::alloc::Global;
+use row_hints::{KeptRows, RowForm, expected_text, hint_text};
+use std::alloc::{AllocError as NoMemory, Global};
 use std::io::Write;
 
 /// When hints are written.
@@ -19,20 +18,18 @@ pub enum Hints {
     Always,
 }
 
-/// The command of a request as hints name it, and its number of sessions.
-fn command_for(request: CommandRequest) -> (Command, u16) {
+/// The form of the rows that the command of a request reads, and its number of sessions.
+fn rows_of(request: CommandRequest) -> (RowForm, u16) {
     match request {
-        CommandRequest::Replay(sessions, _) | CommandRequest::Shell(sessions) => {
-            (Command::Replay, sessions)
-        }
-        CommandRequest::Run(sessions, _, _) => (Command::Run, sessions),
-        CommandRequest::Check(sessions, _) => (Command::Check, sessions),
-        CommandRequest::Show(sessions, _, _)
+        CommandRequest::Replay(sessions, _)
+        | CommandRequest::Shell(sessions)
+        | CommandRequest::Run(sessions, _, _) => (RowForm::Trace, sessions),
+        CommandRequest::Check(sessions, _)
+        | CommandRequest::Show(sessions, _, _)
         | CommandRequest::Dump(sessions, _)
-        | CommandRequest::ShowFrom(sessions, _, _) => (Command::Show, sessions),
-        CommandRequest::Explain(sessions, _, _) => (Command::Explain, sessions),
-        CommandRequest::Timeline(sessions, _, _) => (Command::Timeline, sessions),
-        CommandRequest::Stats(sessions, _) => (Command::Stats, sessions),
+        | CommandRequest::Explain(sessions, _, _)
+        | CommandRequest::Timeline(sessions, _, _)
+        | CommandRequest::Stats(sessions, _) => (RowForm::History, sessions),
     }
 }
 
@@ -48,7 +45,6 @@ fn row_fault(outcome: &Outcome) -> Option<TraceFault> {
         Outcome::Show(Err(ShowFault::Trace(fault)))
         | Outcome::Explain(Err(ShowFault::Trace(fault)))
         | Outcome::Timeline(Err(ShowFault::Trace(fault))) => Some(*fault),
-        Outcome::ShowFrom(Err(ResumeFault::History(ShowFault::Trace(fault)))) => Some(*fault),
         _ => None,
     }
 }
@@ -58,12 +54,18 @@ fn is_illegal(outcome: &Outcome) -> bool {
     match outcome {
         Outcome::Check(Ok(Verdict::Illegal(_))) => true,
         Outcome::Show(Ok(Verdict::Illegal(_))) | Outcome::Explain(Ok(Verdict::Illegal(_))) => true,
-        Outcome::ShowFrom(Ok(Finding::Wrong(_))) => true,
         _ => false,
     }
 }
 
-/// Writes what helps with an outcome: for a row that was refused the row and what would help, for a history with a wrong
+/// Writes a text in one write. Nothing if memory was refused; a failure of `errors` is ignored.
+fn put<E: Write>(text: Result<Vec<u8>, NoMemory>, errors: &mut E) {
+    if let Ok(text) = text {
+        let _written = errors.write_all(&text);
+    }
+}
+
+/// Writes what helps with an outcome: for a row that was refused the row and what is expected, for a history with a wrong
 /// reply that reply beside the lock table's; else nothing. Nothing too if memory is refused; a failure of `errors` is ignored.
 pub(crate) fn write_hints<E: Write>(
     alloc: Global,
@@ -74,13 +76,14 @@ pub(crate) fn write_hints<E: Write>(
     errors: &mut E,
 ) {
     if let Some(fault) = row_fault(outcome) {
-        let (command, sessions) = command_for(request);
-        write_hint(alloc, rows, &fault, command, sessions, errors);
+        let (form, sessions) = rows_of(request);
+        put(hint_text(alloc, rows, &fault, form, sessions), errors);
     }
     if !is_illegal(outcome) {
         return;
     }
     if let Some(wrong) = wrong {
-        write_expected(alloc, wrong.place, &wrong.told, &wrong.given, errors);
+        let text = expected_text(alloc, wrong.place, &wrong.told, &wrong.given);
+        put(text, errors);
     }
 }

@@ -3,13 +3,12 @@
 ghost use Rattle.std.specs.Prelude.{◌≡◌};
 ghost use Rattle.glm.specs.Outcomes.{status_of_outcome};
 ghost use Rattle.glm.specs.Streams.{IsFileFault};
-ghost use Rattle.glm.specs.Statuses.{IsStatus, status_for, status_for_dump, status_for_resume, status_for_show, status_of_kind};
+ghost use Rattle.glm.specs.Statuses.{IsStatus, status_for, status_for_dump, status_for_show, status_of_kind};
 
 use dump_command::DumpFault;
-use history_commands::{Finding, ShowFault, Verdict};
+use history_commands::{ShowFault, Verdict};
 use lock_trace::{TraceFault, TraceKind};
 use replay_commands::ToolFault;
-use resume_command::ResumeFault;
 use std::fmt::Display;
 use std::io;
 use std::io::{ErrorKind, Write};
@@ -17,7 +16,7 @@ use std::io::{ErrorKind, Write};
 /// Exit status: the command was done, or help or the version was shown.
 pub const DONE: u8 = 0;
 
-/// Exit status: a row of the input or of a dump was refused, or the rows of a dump describe no state.
+/// Exit status: a row of the input was refused.
 pub const REFUSED: u8 = 1;
 
 /// Exit status: usage error.
@@ -53,9 +52,6 @@ pub(crate) enum Outcome {
     Show(Result<Verdict, ShowFault>),
     /// The result of showing the dump that was asked for. The state was also written to the output.
     Dump(Result<(), DumpFault>),
-    /// What was found in the history of which a state was asked for that begins in a dump's state, and written: the state if the
-    /// history is legal, else the verdict.
-    ShowFrom(Result<Finding, ResumeFault>),
     /// The verdict on the history of which an explanation was asked for, and written: the explanation if the history is legal,
     /// else the verdict.
     Explain(Result<Verdict, ShowFault>),
@@ -133,18 +129,6 @@ fn status_of_dump_fault(fault: &DumpFault) -> u8
     }
 }
 
-/// The exit status of a fault of `show --from`.
-fn status_of_resume_fault(fault: &ResumeFault) -> u8
-    ensures fault { result ≡ status_for_resume fault.now }
-    ensures status { IsStatus result }
-{
-    match fault {
-        ResumeFault::Dump(why) => status_of_dump_fault(why),
-        ResumeFault::NoState(_) | ResumeFault::OtherWaits => REFUSED,
-        ResumeFault::History(why) => status_of_show_fault(why),
-    }
-}
-
 /// Writes the line of a fault with this exit status. A failure of `errors` is ignored; the exit status still reports the fault.
 fn report_line<E: Write, F: Display>(status: u8, fault: &F, errors: &mut E) {
     let _reported = match status {
@@ -167,11 +151,6 @@ fn report_show_fault<E: Write>(fault: &ShowFault, errors: &mut E) {
 /// Writes the line of a fault of `show --state`.
 fn report_dump_fault<E: Write>(fault: &DumpFault, errors: &mut E) {
     report_line(status_of_dump_fault(fault), fault, errors);
-}
-
-/// Writes the line of a fault of `show --from`.
-fn report_resume_fault<E: Write>(fault: &ResumeFault, errors: &mut E) {
-    report_line(status_of_resume_fault(fault), fault, errors);
 }
 
 /// Writes the lines of a file that couldn't be opened to do something with it. Returns the outcome.
@@ -208,10 +187,9 @@ impl Outcome {
             Outcome::HelpShown | Outcome::VersionShown => DONE,
             Outcome::Check(Ok(Verdict::Legal(_))) => DONE,
             Outcome::Show(Ok(Verdict::Legal(_))) | Outcome::Explain(Ok(Verdict::Legal(_))) => DONE,
-            Outcome::Dump(Ok(_)) | Outcome::ShowFrom(Ok(Finding::Legal(_))) => DONE,
+            Outcome::Dump(Ok(_)) => DONE,
             Outcome::Check(Ok(Verdict::Illegal(_))) => ILLEGAL,
             Outcome::Show(Ok(Verdict::Illegal(_))) => ILLEGAL,
-            Outcome::ShowFrom(Ok(Finding::Wrong(_))) => ILLEGAL,
             Outcome::Explain(Ok(Verdict::Illegal(_))) => ILLEGAL,
             Outcome::Timeline(Ok(Verdict::Legal(_))) => DONE,
             Outcome::Timeline(Ok(Verdict::Illegal(_))) => ILLEGAL,
@@ -224,7 +202,6 @@ impl Outcome {
             Outcome::Check(Err(fault)) | Outcome::Shell(Err(fault)) => status_of_fault(fault),
             Outcome::Show(Err(fault)) | Outcome::Explain(Err(fault)) => status_of_show_fault(fault),
             Outcome::Dump(Err(fault)) => status_of_dump_fault(fault),
-            Outcome::ShowFrom(Err(fault)) => status_of_resume_fault(fault),
             Outcome::Timeline(Err(fault)) => status_of_show_fault(fault),
             Outcome::Stats(Err(fault)) => status_of_fault(fault),
             Outcome::HelpFailed | Outcome::VersionFailed | Outcome::FileFailed => DEVICE,
@@ -247,7 +224,6 @@ impl Outcome {
                 report_show_fault(fault, errors)
             }
             Outcome::Dump(Err(fault)) => report_dump_fault(fault, errors),
-            Outcome::ShowFrom(Err(fault)) => report_resume_fault(fault, errors),
             Outcome::Timeline(Err(fault)) => report_show_fault(fault, errors),
             Outcome::Stats(Err(fault)) => report_fault(fault, errors),
             Outcome::HelpFailed | Outcome::VersionFailed => report_fault(
@@ -258,8 +234,7 @@ impl Outcome {
             Outcome::Replay(Ok(_)) | Outcome::ReplayInPieces(Ok(_)) => {}
             Outcome::Run(Ok(_)) | Outcome::RunInPieces(Ok(_)) | Outcome::Shell(Ok(_)) => {}
             Outcome::Check(Ok(_)) | Outcome::Show(Ok(_)) | Outcome::Explain(Ok(_)) => {}
-            Outcome::Timeline(Ok(_)) | Outcome::Stats(Ok(_)) => {}
-            Outcome::Dump(Ok(_)) | Outcome::ShowFrom(Ok(_)) => {}
+            Outcome::Timeline(Ok(_)) | Outcome::Stats(Ok(_)) | Outcome::Dump(Ok(_)) => {}
             Outcome::HelpShown | Outcome::VersionShown => {}
             Outcome::Misused | Outcome::FileFailed => {}
         }

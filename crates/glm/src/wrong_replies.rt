@@ -1,17 +1,13 @@
-//! The commands `show`, also with `--from`, and `explain` with the wrong reply that they find, for the hints.
+//! The commands `show` and `explain` with the wrong reply that they find, for the hints.
 
 ghost use Rattle.std.specs.Prelude.{◌≡◌, ◌≢◌, ◌<◌, ◌≤◌, ℕ, List, Some, IfOk, IfErr};
 ghost use Rattle.std.specs.Io.KnownBytes.{Keeps};
 ghost use Rattle.lock_rules.specs.declared.calls.TheConstants.{MAX_SESSIONS};
 ghost use Rattle.history_commands.specs.Explaining.{Explains, HasExplained, HasExplainedPart};
 ghost use Rattle.history_commands.specs.Showing.{HasShown, HasShownPart, Shows};
-ghost use Rattle.history_commands.specs.declared.show_fault.ShowFault.TheVariants as show;
-ghost use Rattle.resume_command.specs.declared.resume_fault.ResumeFault.TheVariants as fault;
-ghost use Rattle.resume_command.specs.Showing.{HasShownFrom, HasShownPartFrom, TellsFrom};
 
 use command_line::Form;
 use history_commands::{Finding, ShowFault, Verdict, WrongReply, explain_found, show_found};
-use resume_command::{ResumeFault, ShowRequest, show_from};
 use std::alloc::Global;
 use std::io::{Read, Write};
 
@@ -51,29 +47,6 @@ pub(crate) fn shown<R: Read + Drop, W: Write>(
     let finding = show_found(alloc, input, output, sessions, asked.place, asked.form)?;
     *wrong = wrong_of(&finding);
     Ok(finding.verdict())
-}
-
-/// Shows a state of a history that begins in the state of a dump, and puts the history's first wrong reply, or that there is none, into
-/// `wrong`.
-pub(crate) fn shown_from<D: Read + Drop, R: Read + Drop, W: Write>(
-    alloc: Global,
-    dump: D,
-    input: R,
-    output: &mut W,
-    asked: ShowRequest,
-    wrong: &mut Option<WrongReply>,
-) -> Result<Finding, ResumeFault>
-    requires some { 0 < asked.sessions }
-    requires few { asked.sessions ≤ MAX_SESSIONS }
-    ensures kept { IfErr result (λ why. why ≢ fault.History show.Device → Keeps (W.contents output.old) (W.contents output.new)) }
-    ensures part { IfErr result (λ why. why ≡ fault.History show.Device
-        → HasShownPartFrom asked (D.remaining dump) (R.remaining input) (W.contents output.old) (W.contents output.new)) }
-    ensures shown { IfOk result (λ found. HasShownFrom asked (D.remaining dump) (R.remaining input) found (W.contents output.old) (W.contents output.new)) }
-    ensures tells { IfErr result (TellsFrom asked (D.remaining dump) (R.remaining input)) }
-{
-    let finding = show_from(alloc, dump, input, output, asked)?;
-    *wrong = wrong_of(&finding);
-    Ok(finding)
 }
 
 /// Explains calls of a history, and puts the history's first wrong reply, or that there is none, into `wrong`.

@@ -8,8 +8,7 @@ use Rattle.lock_report.specs.declared.snapshot.OpenTransaction.{OpenTransaction}
 use Rattle.lock_report.specs.declared.snapshot.ToldWait.{ToldWait}
 use Rattle.lock_report.specs.LocksDot.{dot_of_locks}
 use Rattle.jam_report.specs.Waits.{waits_told}
-use Rattle.state_lists.specs.Lists.{opens_of}
-use Rattle.history_commands.specs.Showing.{boxes_in}
+use Rattle.history_commands.specs.Showing.{boxes_in, opens_of}
 
 -- the parts are those of the state to which the entries have led
 pub boxes-told : (n : ℕ) (h front : List Entry) (opens : List OpenTransaction) (claims : List Claim) (waits : List ToldWait) → h ≡ front

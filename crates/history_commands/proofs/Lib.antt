@@ -6,4 +6,5 @@ pub mod IsVerdict
 pub mod LinesTold
 pub mod PartsWritten
 pub mod WithinFront
+pub mod WithoutRequest
 pub mod WrongReplies

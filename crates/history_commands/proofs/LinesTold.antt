@@ -10,8 +10,7 @@ use Rattle.lock_report.specs.declared.snapshot.ToldWait.{ToldWait}
 use Rattle.lock_report.specs.StateText.{text_of_state}
 use Rattle.jam_report.specs.Roots.{roots_of, waiting_in}
 use Rattle.jam_report.specs.Waits.{waits_told}
-use Rattle.state_lists.specs.Lists.{opens_of}
-use Rattle.history_commands.specs.Showing.{lines_in}
+use Rattle.history_commands.specs.Showing.{lines_in, opens_of}
 
 -- the parts are those of the state to which the entries have led
 pub lines-told : (n place waiting : ℕ) (h front : List Entry) (roots : List Root) (opens : List OpenTransaction) (claims : List Claim) (waits : List ToldWait) → h ≡ front

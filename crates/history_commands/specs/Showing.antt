@@ -1,16 +1,21 @@
 -- What `show` writes: the state of the lock table at a place of a history.
-use Rattle.std.specs.Prelude.{◌≡◌, ℕ, ◌<◌, ◌≤◌, List, length, take, All, Option, Some, None, Result, Ok, Err}
+use Rattle.std.specs.Prelude.{◌≡◌, ℕ, ◌<◌, ◌≤◌, List, [], ◌∷◌, if◌then◌else◌, length, take, All, Option, Some, None, Result, Ok, Err}
+use Rattle.std.specs.List.{flat_map, range_with_len}
 use Rattle.std.specs.Io.KnownBytes.{Appends}
 use Rattle.lock_rules.specs.Entries.{Entry}
+use Rattle.lock_rules.specs.declared.calls.Transaction.{Transaction}
+use Rattle.lock_rules.specs.State.{State}
+use Rattle.lock_rules.specs.Waits.{waits_for}
 use Rattle.lock_rules.specs.Legal.{state_of}
 use Rattle.lock_rules.specs.Listing.{listing_of}
 use Rattle.lock_trace.specs.Entries.{IsEntry}
 use Rattle.lock_trace.specs.ReadHistories.{history_of, TellsOfHistory}
+use Rattle.lock_report.specs.declared.snapshot.OpenTransaction.{OpenTransaction}
+use Rattle.lock_report.specs.declared.snapshot.Wait.{Wait}
 use Rattle.lock_report.specs.StateText.{text_of_state}
 use Rattle.lock_report.specs.StateRows.{rows_of_state}
 use Rattle.lock_report.specs.Dot.{dot_of_waits}
 use Rattle.lock_report.specs.LocksDot.{dot_of_locks}
-use Rattle.state_lists.specs.Lists.{opens_of, waits_of}
 use Rattle.jam_report.specs.Roots.{roots_of, waiting_in}
 use Rattle.jam_report.specs.Waits.{waits_told}
 use Rattle.command_line.specs.declared.args.Form.{Form}
@@ -21,6 +26,27 @@ use Rattle.history_commands.specs.declared.show_fault.ShowFault.{ShowFault}
 use Rattle.history_commands.specs.declared.show_fault.ShowFault.TheVariants as show
 use Rattle.history_commands.specs.Verdicts.{IsHistory, IsVerdict, text_of_verdict}
 use Rattle.replay_commands.specs.Written.{AppendsPart}
+
+-- the session's open transaction in a list, the empty list if it has none
+abbrev pub open_of : ℕ → Option Transaction → List OpenTransaction
+open_of s None = []
+open_of s (Some x) = record { session = s; transaction = x } ∷ []
+
+-- the open transactions of the sessions 1 to n, by session number
+abbrev pub opens_of : ℕ → State → List OpenTransaction
+opens_of n st = flat_map (λ s. open_of s (st.begun s)) (range_with_len 1 n)
+
+-- the edge of the waits-for graph from s to u in a list, the empty list if there is none
+abbrev pub wait_of : State → ℕ → ℕ → List Wait
+wait_of st s u = if waits_for st.table s u then record { session = s; other = u } ∷ [] else []
+
+-- for whom session s waits directly, of the sessions 1 to n, by session number
+abbrev pub waits_by : ℕ → State → ℕ → List Wait
+waits_by n st s = flat_map (wait_of st s) (range_with_len 1 n)
+
+-- who of the sessions 1 to n waits directly for whom, by session number
+abbrev pub waits_of : ℕ → State → List Wait
+waits_of n st = flat_map (waits_by n st) (range_with_len 1 n)
 
 -- the text for people of the state in front of a place, to which these entries have led: who blocks whom, the open transactions,
 -- the locks and requests, and who waits for whom, since when

@@ -24,4 +24,4 @@ pub use drawing::timeline;
 pub use explaining::{explain, explain_found};
 pub use finding::{Finding, WrongReply};
 pub use show_fault::ShowFault;
-pub use showing::{lines_text, place_asked, show, show_found};
+pub use showing::{lines_text, show, show_found};

@@ -5,46 +5,26 @@ use Rattle.std.specs.List.{All}
 use Rattle.std.proofs.lemmas.List.{flat_map_more}
 use Rattle.std.proofs.lemmas.List.Elements.{All-nil, All-cons, All-append, All-map}
 use Rattle.row_hints.specs.HintTexts.{IsPrintable, IsHintLine, IsHintText, with_line_feed}
-use Rattle.row_hints.specs.inner.PrintableBytes.{printable_byte}
+use Rattle.row_hints.specs.inner.PrintableBytes.{IsStart, printable_byte}
 
 -- A text with one line more.
-pub one_more : (text line : List ℕ) → IsHintText text → IsHintLine line → IsHintText (text ++ with_line_feed line)
+one_more : (text line : List ℕ) → IsHintText text → IsHintLine line → IsHintText (text ++ with_line_feed line)
 one_more text line h is = (
   h.0 ++ line ∷ [],
   ap (λ (t : List ℕ). t ++ with_line_feed line) h.1 ∙ flat_map_more with_line_feed [] h.0 line,
   All-append IsHintLine h.0 (line ∷ []) h.2 (All-cons IsHintLine line [] is (All-nil IsHintLine)),
 )
 
--- What is shown of a byte is printable.
-pub is_printable : (byte : ℕ) → IsPrintable (printable_byte byte)
-is_printable byte = grind arith
-
 -- What is shown of words is printable.
-pub words_are_printable : (words : List ℕ) → All IsPrintable (map printable_byte words)
-words_are_printable words = All-map IsPrintable printable_byte words (λ k d lt. is_printable (get_or words k d))
+words_are_printable : (words : List ℕ) → All IsPrintable (map printable_byte words)
+words_are_printable words = All-map IsPrintable printable_byte words (λ k d lt. let byte = get_or words k d in grind arith)
 
-printable_first : (byte : ℕ) (rest : List ℕ) → IsPrintable byte → All IsPrintable rest → All IsPrintable (byte ∷ rest)
-printable_first byte rest is all = All-cons IsPrintable byte rest is all
-
-blank : IsPrintable 32
-blank = (omega arith, omega arith)
-
-two_blanks : All IsPrintable (codes "  ")
-two_blanks = printable_first 32 (32 ∷ []) blank (printable_first 32 [] blank (All-nil IsPrintable))
-
-program_name : All IsPrintable (codes "glm: ")
-program_name =
-    printable_first 103 (108 ∷ 109 ∷ 58 ∷ 32 ∷ []) (omega arith, omega arith) (printable_first 108 (109 ∷ 58 ∷ 32 ∷ []) (omega arith, omega arith)
-    (printable_first 109 (58 ∷ 32 ∷ []) (omega arith, omega arith) (printable_first 58 (32 ∷ []) (omega arith, omega arith)
-    (printable_first 32 [] blank (All-nil IsPrintable)))))
-
--- A line of words behind two blanks.
-pub blank_line : (words : List ℕ) → IsHintLine (codes "  " ++ map printable_byte words)
-blank_line words = (inl (map printable_byte words, refl), All-append IsPrintable (codes "  ") (map printable_byte words) two_blanks (words_are_printable words))
-
--- A line of words behind the program's name.
-pub named_line : (words : List ℕ) → IsHintLine (codes "glm: " ++ map printable_byte words)
-named_line words = (inr (map printable_byte words, refl), All-append IsPrintable (codes "glm: ") (map printable_byte words) program_name (words_are_printable words))
+-- A line of words behind its start.
+pub hint_line : (start words : List ℕ) → IsStart start → IsHintLine (start ++ map printable_byte words)
+hint_line start words (inl e) = subst (λ (s : List ℕ). IsHintLine (s ++ map printable_byte words)) (sym e)
+    (inl (map printable_byte words, refl), words_are_printable (codes "  " ++ words))
+hint_line start words (inr e) = subst (λ (s : List ℕ). IsHintLine (s ++ map printable_byte words)) (sym e)
+    (inr (map printable_byte words, refl), words_are_printable (codes "glm: " ++ words))
 
 -- A text to which a line was appended, or nothing, if memory was refused.
 pub after_append : {T E : Type 0} (r : Result T E) (old new line words : List ℕ) → IsHintText old → IsHintLine words → line ≡ with_line_feed words

@@ -1,207 +1,148 @@
-//! The hint to the fault of a row.
+//! The hint to the fault of a row, and a wrong reply of a history beside the right one.
 
-ghost use Rattle.std.specs.Prelude.{IfOk};
+ghost use Rattle.std.specs.Prelude.{◌≡◌, IfOk, map};
+ghost use Rattle.lock_modes.specs.Codes.{name_of};
+ghost use Rattle.lock_trace.specs.Words.{word_of, word_of_reply};
 ghost use Rattle.row_hints.specs.HintTexts.{IsHintText};
+ghost use Rattle.row_hints.specs.inner.WordLists.{listed};
 
-use crate::field_help::{put_extra, put_mode, put_op, put_place, put_session};
 use crate::kept::KeptRows;
-use crate::lexing::{Span, count_rows, field_span, row_length, unquoted};
+use crate::lexing::{field_span, first_row};
 use crate::lines::Lines;
 use crate::marked_row::put_marked_row;
-use crate::path_help::put_path;
-use crate::reply_help::{put_reply, put_value};
-use crate::shape_help::put_shape;
-use lock_trace::{TraceFault, TraceKind};
+use lock_modes::MODES;
+use lock_rules::{Entry, OPS, REPLY_KINDS, Reply};
+use lock_trace::{TraceFault, TraceKind, piece_text};
 use std::alloc::{AllocError as NoMemory, Global};
-use std::io::Write;
 
-/// A command that reads rows.
+/// The ops.
+const OP_WORDS: &str =
+    "begin, lock, convert, poll, release, commit, abort, try, withdraw or restart";
+
+/// The modes.
+const MODE_WORDS: &str = "NL, IS, IX, S, SIX, U or X";
+
+/// The replies.
+const REPLY_WORDS: &str =
+    "began, granted, waiting, deadlock, clear, released, committed, aborted, refused, withdrawn or restarted";
+
+/// What a resource is.
+const PATH_FORM: &str = "1 to 5 numbers up to 4294967295 without leading zeros, joined by '/'";
+
+/// The words are those of rows, in their order.
+fn words_are_those_of_rows()
+    ensures ops { OP_WORDS.now ≡ listed (map word_of OPS) }
+    ensures modes { MODE_WORDS.now ≡ listed (map name_of MODES) }
+    ensures replies { REPLY_WORDS.now ≡ listed (map word_of_reply REPLY_KINDS) }
+{}
+
+/// The form of the rows that a command reads, and the index of their first field: in both forms a field has the index that it has
+/// in a history, from 0.
 #[derive(Clone, Copy, Debug, Drop, PartialEq, Eq)]
-pub enum Command {
-    /// `replay`, which reads a trace.
-    Replay,
-    /// `run`, which reads a trace.
-    Run,
-    /// `check`, which reads a history.
-    Check,
-    /// `show`, which reads a history.
-    Show,
-    /// `explain`, which reads a history.
-    Explain,
-    /// `timeline`, which reads a history.
-    Timeline,
-    /// `stats`, which reads a history.
-    Stats,
+pub enum RowForm {
+    /// Rows of a history.
+    History = 0,
+    /// Rows of a trace.
+    Trace = 1,
 }
 
-impl Command {
-    /// The command's word.
-    pub(crate) fn name(self) -> &'static str {
-        match self {
-            Command::Replay => "replay",
-            Command::Run => "run",
-            Command::Check => "check",
-            Command::Show => "show",
-            Command::Explain => "explain",
-            Command::Timeline => "timeline",
-            Command::Stats => "stats",
-        }
-    }
-
-    /// Whether the command reads a history, not a trace.
-    pub(crate) fn reads_history(self) -> bool {
-        match self {
-            Command::Replay | Command::Run => false,
-            Command::Check | Command::Show | Command::Explain => true,
-            Command::Timeline | Command::Stats => true,
-        }
+/// The field at this index of the row, without the quotes round it.
+fn field(row: &[u8], form: RowForm, index: usize) -> &[u8] {
+    let span = field_span(row, form as usize, index);
+    match row.get(span).unwrap_or(b"") {
+        [b'"', inner @ .., b'"'] => inner,
+        field => field,
     }
 }
 
-/// A row that a command refused.
-#[derive(Clone, Copy, Drop)]
-pub(crate) struct BadRow<'a> {
-    /// The row's bytes, without the line end.
-    pub(crate) row: &'a [u8],
-    /// Whether the row was kept to its end.
-    pub(crate) is_whole: bool,
-    /// The row's number, from 1.
-    pub(crate) number: u64,
-    /// The number of the line on which the row begins, from 1.
-    pub(crate) line: u64,
-    /// The command that refused it.
-    pub(crate) command: Command,
-    /// How many sessions the command has.
-    pub(crate) sessions: u16,
-}
-
-/// The fields of a row. A trace has those from the session to the mode.
-#[derive(Clone, Copy, Debug, Drop, PartialEq, Eq)]
-pub(crate) enum Field {
-    /// The place.
-    Place,
-    /// The session.
-    Session,
-    /// The op.
-    Op,
-    /// The resource.
-    Resource,
-    /// The mode.
-    Mode,
-    /// The reply.
-    Reply,
-    /// The reply's value.
-    Value,
-}
-
-impl BadRow<'_> {
-    /// Where the field is in the row, with its quotes.
-    pub(crate) fn span(&self, field: Field) -> Span {
-        let index = match field {
-            Field::Place => 0,
-            Field::Session => 1,
-            Field::Op => 2,
-            Field::Resource => 3,
-            Field::Mode => 4,
-            Field::Reply => 5,
-            Field::Value => 6,
-        };
-        if self.command.reads_history() {
-            return field_span(self.row, index);
-        }
-        field_span(self.row, index.saturating_sub(1))
-    }
-
-    /// The field, without the quotes round it.
-    pub(crate) fn field(&self, field: Field) -> &[u8] {
-        unquoted(self.span(field).of(self.row))
-    }
-
-    /// Writes the row with a mark below this part.
-    pub(crate) fn put_row(&self, lines: &mut Lines, mark: Span) -> Result<(), NoMemory> {
-        let number = self.line;
-        let head = format!(in lines.alloc(); "line {number}: ")?;
-        put_marked_row(lines, head.as_str(), self.row, mark)
-    }
-
-    /// Writes the row with a mark below this field.
-    pub(crate) fn put_field(&self, lines: &mut Lines, field: Field) -> Result<(), NoMemory> {
-        let mark = self.span(field);
-        self.put_row(lines, mark)
+/// The value that the reply of this row of a history has.
+fn value_words(row: &[u8]) -> &'static str {
+    match field(row, RowForm::History, 5) {
+        b"granted" => MODE_WORDS,
+        b"began" => "the number of the transaction",
+        b"refused" => "the name of a refusal, as NotHeld",
+        b"committed" | b"aborted" | b"restarted" => "the number of locks given back",
+        _ => "an empty field",
     }
 }
 
-/// The row with this number, from 1, if it is kept.
-fn bad_row<'a>(
-    rows: &'a KeptRows,
-    number: u64,
-    command: Command,
-    sessions: u16,
-) -> Option<BadRow<'a>> {
-    let text = rows.rows_text();
-    let index = number.checked_sub(1)?.checked_sub(rows.rows_before())?;
-    let counted = count_rows(text, text.len(), index);
-    let rest = text.get(counted.bytes..)?;
-    let (length, has_end) = row_length(rest);
-    if counted.rows != index || length == 0 {
-        return None;
-    }
-    let line = rows.lines_before().saturating_add(counted.lines);
-    Some(BadRow {
-        row: rest.get(..length)?,
-        is_whole: has_end || rows.has_all(),
-        number,
-        line: line.saturating_add(1),
-        command,
-        sessions,
-    })
-}
-
-/// Writes the lines of a fault.
-fn put_hint(lines: &mut Lines, bad: &BadRow<'_>, kind: TraceKind) -> Result<(), NoMemory> {
+/// The index of the field that is wrong, and what is expected there. With too few fields the index is behind the row.
+fn expected(row: &[u8], form: RowForm, kind: TraceKind) -> (usize, &'static str) {
     match kind {
-        TraceKind::Shape => put_shape(lines, bad),
-        TraceKind::Session => put_session(lines, bad),
-        TraceKind::Op => put_op(lines, bad),
-        TraceKind::Path(fault) => put_path(lines, bad, fault),
-        TraceKind::Mode => put_mode(lines, bad),
-        TraceKind::Extra => put_extra(lines, bad),
-        TraceKind::Place => put_place(lines, bad),
-        TraceKind::Reply => put_reply(lines, bad),
-        TraceKind::Value => put_value(lines, bad),
-        TraceKind::Device | TraceKind::NoMemory => Ok(()),
+        TraceKind::Place => (0, ""),
+        TraceKind::Session => (1, "a number without leading zeros, from 1 to "),
+        TraceKind::Op => (2, OP_WORDS),
+        TraceKind::Path(_) => (3, PATH_FORM),
+        TraceKind::Mode => (4, MODE_WORDS),
+        TraceKind::Extra if field(row, form, 4).is_empty() => (3, "an empty field"),
+        TraceKind::Extra => (4, "an empty field"),
+        TraceKind::Reply => (5, REPLY_WORDS),
+        TraceKind::Value => (6, value_words(row)),
+        TraceKind::Shape | TraceKind::Device | TraceKind::NoMemory => match form {
+            RowForm::Trace => (5, "4 fields: session,op,resource,mode"),
+            RowForm::History => (7, "7 fields: place,session,op,resource,mode,reply,value"),
+        },
     }
 }
 
-/// The hint to a fault of a row, for the lines behind `glm: row R: KIND`: the line of the file with the row, a mark below
-/// the part that is wrong, and what would help. Empty if the row isn't kept, and for `Device` and `NoMemory`. `sessions` is
+/// The hint to a fault of a row, for the lines behind `glm: row R: KIND`: the line of the file with the row, a mark below the
+/// field that is wrong, and what is expected there. Empty if the row isn't kept, and for `Device` and `NoMemory`. `sessions` is
 /// how many sessions the command has. Fails only with `NoMemory`.
 pub fn hint_text(
     alloc: Global,
     rows: &KeptRows,
     fault: &TraceFault,
-    command: Command,
+    form: RowForm,
     sessions: u16,
 ) -> Result<Vec<u8>, NoMemory>
     ensures lines { IfOk result (λ text. IsHintText text.items) }
 {
     let mut lines = Lines::new(alloc);
-    if let Some(bad) = bad_row(rows, fault.row, command, sessions) {
-        put_hint(&mut lines, &bad, fault.kind)?;
+    if matches!(fault.kind, TraceKind::Device | TraceKind::NoMemory) {
+        return Ok(lines.into_text());
+    }
+    if let Some((row, line)) = rows.row(fault.row) {
+        let (index, words) = expected(row, form, fault.kind);
+        let head = format!(in alloc; "line {line}: ")?;
+        let mark = field_span(row, form as usize, index);
+        put_marked_row(&mut lines, head.as_str(), row, mark)?;
+        let place = fault.row.saturating_sub(1);
+        let text = match fault.kind {
+            TraceKind::Place => format!(in alloc; "expected {words}{place}")?,
+            TraceKind::Session => format!(in alloc; "expected {words}{sessions}")?,
+            _ => format!(in alloc; "expected {words}")?,
+        };
+        lines.put("  ", text.as_str())?;
     }
     Ok(lines.into_text())
 }
 
-/// Writes [`hint_text`] to `errors`, in one write. Nothing if memory is refused; a failure of `errors` is ignored.
-pub fn write_hint<E: Write>(
+/// Writes the row of an entry behind `head`, with a mark below the reply and its value.
+fn put_entry(lines: &mut Lines, head: &str, place: u64, entry: Entry) -> Result<(), NoMemory> {
+    let text = piece_text(lines.alloc(), place, &[entry])?;
+    let row = first_row(&text);
+    let start = field_span(row, 0, 5).start;
+    put_marked_row(lines, head, row, start..row.len())
+}
+
+/// Lines that show the row of a history at `place` as it is told, and with the reply that the lock table gives there, each with
+/// a mark below the reply. Fails only with `NoMemory`.
+pub fn expected_text(
     alloc: Global,
-    rows: &KeptRows,
-    fault: &TraceFault,
-    command: Command,
-    sessions: u16,
-    errors: &mut E,
-) {
-    if let Ok(text) = hint_text(alloc, rows, fault, command, sessions) {
-        let _written = errors.write_all(&text);
-    }
+    place: u64,
+    told: &Entry,
+    given: &Reply,
+) -> Result<Vec<u8>, NoMemory>
+    ensures lines { IfOk result (λ text. IsHintText text.items) }
+{
+    let mut lines = Lines::new(alloc);
+    let first = format!(in alloc; "place {place}: the reply isn't the lock table's")?;
+    lines.put("glm: ", first.as_str())?;
+    put_entry(&mut lines, "in the history:   ", place, *told)?;
+    let right = Entry {
+        reply: *given,
+        ..*told
+    };
+    put_entry(&mut lines, "the lock table's: ", place, right)?;
+    Ok(lines.into_text())
 }

@@ -3,23 +3,20 @@
 ghost use Rattle.std.specs.Prelude.{◌≡◌};
 ghost use Rattle.row_hints.specs.KeptReaders.{reader_of};
 
-use crate::lexing::{count_plain_rows, count_rows};
+use crate::lexing::{first_row, row_behind};
 use std::alloc::Global;
 use std::io;
 use std::io::Read;
 
-/// How many bytes are kept at most.
+/// How many bytes are kept before rows are let go.
 pub const KEPT_BYTES: usize = 64 * 1024;
 
-/// How many bytes are taken in at once.
-const PIECE_BYTES: usize = KEPT_BYTES / 4;
-
-/// The last rows of a file that was read so far, at most [`KEPT_BYTES`] bytes, and how many rows and lines were before them.
-/// A row that is longer than half of that ends what is kept: no trace or history has such a row, so a row that is refused
-/// is that one or one before it.
+/// The last rows of a file that was read so far, less than [`KEPT_BYTES`] and what one read gives, and how many rows and lines were
+/// before them. If no row begins in the second half, nothing more is kept: no trace or history has so long a row, so a row that is
+/// refused is that one or one before it, unless these bytes are line ends.
 #[derive(Drop)]
 pub struct KeptRows {
-    /// The kept bytes. The first is the first of a row or of an empty line.
+    /// The kept bytes. The first is the first of the file or of a row.
     text: Vec<u8>,
     /// How many rows were before them.
     rows: u64,
@@ -30,87 +27,49 @@ pub struct KeptRows {
 }
 
 impl KeptRows {
-    /// Nothing of a file, of which nothing was read.
-    pub fn new(alloc: Global) -> KeptRows {
-        KeptRows {
-            text: Vec::new(alloc),
-            rows: 0,
-            lines: 0,
-            is_open: true,
+    /// The kept bytes, without a byte order mark at the front of the file, which is of no row.
+    fn rows_text(&self) -> &[u8] {
+        let text = self.text.as_slice();
+        if self.rows == 0 && self.lines == 0 {
+            return text.strip_prefix(b"\xef\xbb\xbf").unwrap_or(text);
         }
+        text
     }
 
-    /// The kept bytes.
-    pub fn text(&self) -> &[u8] {
-        &self.text
+    /// The row with this number, from 1, without its line end, and the number of the line on which it begins, from 1. `None` if
+    /// it isn't kept.
+    pub(crate) fn row(&self, number: u64) -> Option<(&[u8], u64)> {
+        let index = number.checked_sub(1)?.checked_sub(self.rows)?;
+        let text = self.rows_text();
+        let counted = row_behind(text, 0, index)?;
+        let row = first_row(text.get(counted.bytes..)?);
+        let line = self.lines.saturating_add(counted.lines);
+        Some((row, line.saturating_add(1)))
     }
 
-    /// How many rows of the file are before the kept bytes.
-    pub fn rows_before(&self) -> u64 {
-        self.rows
-    }
-
-    /// How many lines of the file are before the kept bytes.
-    pub fn lines_before(&self) -> u64 {
-        self.lines
-    }
-
-    /// Whether all that was read behind the first kept byte is kept.
-    pub fn has_all(&self) -> bool {
-        self.is_open
-    }
-
-    /// The length of a byte order mark at the front of the file, which is of no row.
-    fn mark_length(&self) -> usize {
-        if self.rows == 0 && self.lines == 0 && self.text.starts_with(b"\xef\xbb\xbf") {
-            return 3;
-        }
-        0
-    }
-
-    /// The kept bytes, without a byte order mark.
-    pub(crate) fn rows_text(&self) -> &[u8] {
-        self.text.get(self.mark_length()..).unwrap_or(b"")
-    }
-
-    /// Lets go of rows from the front, up to half of what may be kept.
+    /// Lets go of rows from the front, half of the kept bytes or more. Ends what is kept if no row begins behind these.
     fn drop_rows(&mut self) {
-        let counted = match count_plain_rows(self.rows_text(), KEPT_BYTES / 2) {
-            Some(counted) => counted,
-            None => count_rows(self.rows_text(), KEPT_BYTES / 2, u64::MAX),
+        let text = self.rows_text();
+        let Some(counted) = row_behind(text, text.len() / 2, 0) else {
+            self.is_open = false;
+            return;
         };
-        let dropped = self.mark_length().saturating_add(counted.bytes);
+        let left = text.len().saturating_sub(counted.bytes);
+        let dropped = self.text.len().saturating_sub(left);
         self.rows = self.rows.saturating_add(counted.rows);
         self.lines = self.lines.saturating_add(counted.lines);
-        if let Some(left) = self.text.len().checked_sub(dropped) {
-            self.text.copy_within(dropped.., 0);
-            self.text.truncate(left);
-        }
+        self.text.copy_within(dropped.., 0);
+        self.text.truncate(left);
     }
 
-    /// Keeps a piece that was read next. Refused memory ends what is kept, and leaves nothing.
-    fn keep_piece(&mut self, piece: &[u8]) {
-        if self.text.len().saturating_add(piece.len()) > KEPT_BYTES {
+    /// Keeps bytes that were read next. Refused memory ends what is kept, and leaves nothing.
+    fn keep(&mut self, bytes: &[u8]) {
+        if self.is_open && self.text.len() >= KEPT_BYTES {
             self.drop_rows();
         }
-        let room = KEPT_BYTES.saturating_sub(self.text.len());
-        let taken = piece.get(..room).unwrap_or(piece);
-        self.is_open = piece.len() <= room;
-        if self.text.extend_from_slice(taken).is_err() {
+        if self.is_open && self.text.extend_from_slice(bytes).is_err() {
             self.is_open = false;
             self.text.clear();
-        }
-    }
-
-    /// Keeps bytes that were read next, and lets go of rows for which there is no room.
-    pub fn keep(&mut self, bytes: &[u8]) {
-        if !self.is_open {
-            return;
-        }
-        for piece in bytes.chunks(PIECE_BYTES) {
-            if self.is_open {
-                self.keep_piece(piece);
-            }
         }
     }
 }
@@ -130,8 +89,12 @@ impl<R> Kept<R> {
     pub fn new(alloc: Global, input: R, keeps: bool) -> Kept<R>
         ensures source { reader_of result ≡ input }
     {
-        let mut rows = KeptRows::new(alloc);
-        rows.is_open = keeps;
+        let rows = KeptRows {
+            text: Vec::new(alloc),
+            rows: 0,
+            lines: 0,
+            is_open: keeps,
+        };
         Kept { input, rows }
     }
 

@@ -6,6 +6,8 @@ ghost use Rattle.csv.specs.Reading.{default_config};
 ghost use Rattle.csv.specs.declared.parser.State.{State};
 ghost use Rattle.row_hints.specs.inner.Spots.{IsSpotOf};
 
+use std::ops::Range;
+
 /// Where in a row the next byte is, by the rules of the `csv` crate.
 #[derive(Clone, Copy, Debug, Drop, PartialEq, Eq)]
 pub(crate) enum Spot {
@@ -23,7 +25,7 @@ pub(crate) enum Spot {
 
 impl Spot {
     /// The spot behind `byte`.
-    pub(crate) fn after(self, byte: u8) -> Spot
+    fn after(self, byte: u8) -> Spot
         ensures csv { (state : State) → IsSpotOf state self → IsSpotOf (step default_config state byte).0 result }
     {
         match (self, byte) {
@@ -37,157 +39,57 @@ impl Spot {
     }
 }
 
-/// A part of a row, by its first index and the index behind it.
-#[derive(Clone, Copy, Debug, Drop, PartialEq, Eq)]
-pub(crate) struct Span {
-    /// The index of the first byte.
-    pub(crate) start: usize,
-    /// The index behind the last byte.
-    pub(crate) end: usize,
-}
-
-impl Span {
-    /// The bytes of the part. Empty if the row is shorter.
-    pub(crate) fn of<'a>(&self, row: &'a [u8]) -> &'a [u8] {
-        row.get(self.start..self.end).unwrap_or(b"")
-    }
-}
-
-/// The place in a text up to which whole rows and empty lines were counted.
-#[derive(Clone, Copy, Debug, Drop, PartialEq, Eq)]
+/// What is in front of a place in a text.
+#[derive(Clone, Copy, Debug, Default, Drop, PartialEq, Eq)]
 pub(crate) struct Counted {
-    /// How many bytes they have.
+    /// How many bytes.
     pub(crate) bytes: usize,
-    /// How many rows they are.
+    /// How many rows.
     pub(crate) rows: u64,
-    /// How many line feeds are in them.
+    /// How many line feeds.
     pub(crate) lines: u64,
 }
 
-/// Counts rows from the front of the text. Stops at the last row start at or before `most` bytes, and in front of the row at
-/// index `index`.
-pub(crate) fn count_rows(text: &[u8], most: usize, index: u64) -> Counted {
-    let mut counted = Counted {
-        bytes: 0,
-        rows: 0,
-        lines: 0,
-    };
-    let mut rows = 0u64;
-    let mut lines = 0u64;
+/// Counts up to the first row behind `bytes` bytes and `rows` rows. `None` if there is none.
+pub(crate) fn row_behind(text: &[u8], bytes: usize, rows: u64) -> Option<Counted> {
+    let mut counted = Counted::default();
     let mut spot = Spot::RowStart;
-    for (at, byte) in text.iter().enumerate() {
+    for byte in text {
         let next = spot.after(*byte);
-        if spot == Spot::RowStart {
-            if at > most {
-                return counted;
+        if spot == Spot::RowStart && next != Spot::RowStart {
+            if counted.bytes >= bytes && counted.rows >= rows {
+                return Some(counted);
             }
-            counted = Counted {
-                bytes: at,
-                rows,
-                lines,
-            };
-            if next != Spot::RowStart {
-                if rows == index {
-                    return counted;
-                }
-                rows = rows.saturating_add(1);
-            }
+            counted.rows = counted.rows.saturating_add(1);
         }
         if *byte == b'\n' {
-            lines = lines.saturating_add(1);
+            counted.lines = counted.lines.saturating_add(1);
         }
+        counted.bytes = counted.bytes.saturating_add(1);
         spot = next;
     }
-    counted
+    None
 }
 
-/// Counts whole lines from the front of the text, up to `most` bytes. `None` if one of these has a quote or a carriage return,
-/// by which `count_rows` has to decide, or none ends there.
-pub(crate) fn count_plain_rows(text: &[u8], most: usize) -> Option<Counted> {
-    let front = text.get(..most)?;
-    let end = front
-        .iter()
-        .rposition(|byte| *byte == b'\n')?
-        .saturating_add(1);
-    let mut rows = 0u64;
-    let mut lines = 0u64;
-    let mut is_plain = true;
-    let mut last = b'\n';
-    for byte in text.get(..end)? {
-        let ends = *byte == b'\n';
-        lines = lines.wrapping_add(u64::from(ends));
-        rows = rows.wrapping_add(u64::from(ends & (last != b'\n')));
-        is_plain &= (*byte != b'"') & (*byte != b'\r');
-        last = *byte;
-    }
-    let counted = Counted {
-        bytes: end,
-        rows,
-        lines,
-    };
-    is_plain.then_some(counted)
-}
-
-/// The length of the row at the front of the text, without its line end, and whether the text has its end.
-pub(crate) fn row_length(text: &[u8]) -> (usize, bool) {
-    let mut spot = Spot::RowStart;
+/// Where the field at this index of the row at the front of the text is, with its quotes, if the first one has the index `first`.
+/// The last one if the row has fewer.
+pub(crate) fn field_span(text: &[u8], first: usize, index: usize) -> Range<usize> {
+    let (mut start, mut field, mut spot) = (0, first, Spot::RowStart);
     for (at, byte) in text.iter().enumerate() {
         spot = spot.after(*byte);
-        if spot == Spot::RowStart {
-            return (at, true);
+        if spot == Spot::RowStart || (spot == Spot::FieldStart && field == index) {
+            return start..at;
         }
-    }
-    (text.len(), false)
-}
-
-/// Whether a quote of the row isn't closed.
-pub(crate) fn is_unclosed(row: &[u8]) -> bool {
-    let mut spot = Spot::RowStart;
-    for byte in row {
-        spot = spot.after(*byte);
-    }
-    spot == Spot::Quoted
-}
-
-/// How many fields the row has.
-pub(crate) fn field_count(row: &[u8]) -> u64 {
-    let mut count = 1u64;
-    let mut spot = Spot::RowStart;
-    for byte in row {
-        spot = spot.after(*byte);
         if spot == Spot::FieldStart {
-            count = count.saturating_add(1);
-        }
-    }
-    count
-}
-
-/// The field at this index of the row, counted from 0, with its quotes. The empty end of the row if it has fewer.
-pub(crate) fn field_span(row: &[u8], index: u64) -> Span {
-    let mut start = 0;
-    let mut count = 0u64;
-    let mut spot = Spot::RowStart;
-    for (at, byte) in row.iter().enumerate() {
-        spot = spot.after(*byte);
-        if spot == Spot::FieldStart {
-            if count == index {
-                return Span { start, end: at };
-            }
-            count = count.saturating_add(1);
+            field = field.saturating_add(1);
             start = at.saturating_add(1);
         }
     }
-    let end = row.len();
-    if count != index {
-        start = end;
-    }
-    Span { start, end }
+    start..text.len()
 }
 
-/// The field without the quotes round it.
-pub(crate) fn unquoted(field: &[u8]) -> &[u8] {
-    match field {
-        [b'"', inner @ .., b'"'] => inner,
-        _ => field,
-    }
+/// The row at the front of the text, without its line end.
+pub(crate) fn first_row(text: &[u8]) -> &[u8] {
+    let end = field_span(text, 0, usize::MAX).end;
+    text.get(..end).unwrap_or(text)
 }

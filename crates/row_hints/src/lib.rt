@@ -1,27 +1,18 @@
 //! Hints behind the line `glm: row R: KIND`: which line of the file the row is, the row with a mark below the field that is
-//! wrong, and what would help.
+//! wrong, and what is expected there.
 //!
 //! `kept.rt` is a reader that keeps the last rows of what it reads, `lexing.rt` finds rows and fields in them. `hint.rt` makes
-//! the hint to a fault: `marked_row.rt` shows the row, and `shape_help.rt`, `field_help.rt`, `path_help.rt` and `reply_help.rt`
-//! tell what would help, with the words of `usual_names.rt`. `expected.rt` shows a wrong reply of a history beside the right
-//! one. `lines.rt` is what each text is written to.
+//! the texts of `lines.rt`'s lines, in which `marked_row.rt` shows a row.
 //!
 //! Proved: a hint has only lines that begin with two blanks or `glm: `, of printable ASCII, whatever the input has; the reader
 //! gives what the reader in it gives, also if memory is refused. Only tested: what the hints say. A hint changes nothing else.
 #![tactic(auto)]
 
-mod expected;
-mod field_help;
 mod hint;
 mod kept;
 mod lexing;
 mod lines;
 mod marked_row;
-mod path_help;
-mod reply_help;
-mod shape_help;
-mod usual_names;
 
-pub use expected::{expected_text, write_expected};
-pub use hint::{Command, hint_text, write_hint};
+pub use hint::{RowForm, expected_text, hint_text};
 pub use kept::{KEPT_BYTES, Kept, KeptRows};

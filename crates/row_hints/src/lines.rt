@@ -2,7 +2,7 @@
 
 ghost use Rattle.std.specs.Prelude.{◌≡◌, ◌++◌, [], ◌∷◌, ℕ, List, IfOk, OnOk, OnErr, map};
 ghost use Rattle.row_hints.specs.HintTexts.{IsHintText};
-ghost use Rattle.row_hints.specs.inner.PrintableBytes.{printable_byte};
+ghost use Rattle.row_hints.specs.inner.PrintableBytes.{IsStart, printable_byte};
 
 use std::alloc::{AllocError as NoMemory, Global};
 use std::marker::Model;
@@ -32,18 +32,20 @@ fn printable(byte: u8) -> u8
     ensures { result ≡ printable_byte byte }
 {
     if byte < b' ' || byte > b'~' {
-        return b'?';
+        b'?'
+    } else {
+        byte
     }
-    byte
 }
 
 /// A line that begins with `start` and has these words, with its line feed.
-fn line_of(alloc: Global, start: &[u8], words: &[u8]) -> Result<Vec<u8>, NoMemory>
+fn line_of(alloc: Global, start: &str, words: &str) -> Result<Vec<u8>, NoMemory>
     ensures { IfOk result (λ line. line.items ≡ (start.now ++ map printable_byte words.now) ++ 10 ∷ []) }
 {
     let mut line: Vec<u8> = Vec::with_capacity(alloc, words.len().saturating_add(8))?;
-    line.extend_from_slice(start)?;
-    let shown: Vec<u8> = words.iter().map(|byte| printable(*byte)).collect(alloc)?;
+    line.extend_from_slice(start.as_bytes())?;
+    let bytes = words.as_bytes();
+    let shown: Vec<u8> = bytes.iter().map(|byte| printable(*byte)).collect(alloc)?;
     line.extend_from_slice(&shown)?;
     line.push(b'\n')?;
     Ok(line)
@@ -60,10 +62,8 @@ fn append(text: &mut Vec<u8>, line: &[u8]) -> Result<(), NoMemory>
 impl Lines {
     /// No lines.
     pub(crate) fn new(alloc: Global) -> Lines {
-        Lines {
-            text: Vec::new(alloc),
-            alloc,
-        }
+        let text = Vec::new(alloc);
+        Lines { text, alloc }
     }
 
     /// What makes the texts of lines.
@@ -71,15 +71,11 @@ impl Lines {
         self.alloc
     }
 
-    /// Appends a line that begins with two blanks.
-    pub(crate) fn put(&mut self, words: &str) -> Result<(), NoMemory> {
-        let line = line_of(self.alloc, b"  ", words.as_bytes())?;
-        append(&mut self.text, &line)
-    }
-
-    /// Appends a line that begins with `glm: `.
-    pub(crate) fn put_first(&mut self, words: &str) -> Result<(), NoMemory> {
-        let line = line_of(self.alloc, b"glm: ", words.as_bytes())?;
+    /// Appends a line of these words behind `start`.
+    pub(crate) fn put(&mut self, start: &str, words: &str) -> Result<(), NoMemory>
+        requires { IsStart start.now }
+    {
+        let line = line_of(self.alloc, start, words)?;
         append(&mut self.text, &line)
     }
 

@@ -1,6 +1,9 @@
 -- Lists of words.
-use Rattle.std.specs.Prelude.{ℕ, List, map}
+use Rattle.std.specs.Prelude.{ℕ, List, [], ◌∷◌, ◌++◌, codes}
 
--- The text of each word.
-abbrev pub texts : List record { now : List ℕ } → List (List ℕ)
-texts words = map (λ (word : record { now : List ℕ }). word.now) words
+-- The words with commas between them, and `or` before the last.
+abbrev pub listed : List (List ℕ) → List ℕ
+listed [] = []
+listed (word ∷ []) = word
+listed (word ∷ (last ∷ [])) = word ++ codes " or " ++ last
+listed (word ∷ (next ∷ (other ∷ words))) = word ++ codes ", " ++ listed (next ∷ (other ∷ words))

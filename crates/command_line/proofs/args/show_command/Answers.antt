@@ -8,5 +8,4 @@ pub returns-clause-app : goal.returns-clause-app
 returns-clause-app c =
     let forms = c.in_ok-made.ensures.app ∙ ap with_forms c.in_ok-show.ensures.app in
     let waits = c.in_ok-made-2.ensures.shape c.flag_arg.ensures.own ∙ ap₂ with_rule forms c.flag_arg.ensures.rule in
-    let state = c.in_ok-made-3.ensures.shape c.flag_arg-2.ensures.own ∙ ap₂ with_rule waits c.flag_arg-2.ensures.rule in
-    IfOk-weaker c.arg-3.result _ _ (λ command h. h.shape c.start_arg.ensures.own ∙ ap₂ with_rule state c.start_arg.ensures.rule) c.arg-3.ensures
+    IfOk-weaker c.arg-2.result _ _ (λ command h. h.shape c.flag_arg-2.ensures.own ∙ ap₂ with_rule waits c.flag_arg-2.ensures.rule) c.arg-2.ensures

@@ -1,11 +1,7 @@
-use Rattle.std.proofs.Common.{rules, arith, refl, sym, codes, ◌≡◌, ◌≢◌, ◌∙◌, List, [], ◌∷◌, Option, Some}
-use Rattle.clap.specs.Kinds.{Kinds}
-use Rattle.clap.specs.Walk.{Text}
-use Rattle.clap.specs.declared.error.kind.ErrorKind.{ErrorKind}
-use Rattle.clap.specs.declared.error.kind.ErrorKind.TheVariants.{DisplayHelp, DisplayVersion, UnknownArgument, InvalidValue}
+use Rattle.std.proofs.Common.{rules, arith, refl, codes, ◌≡◌, [], Some}
+use Rattle.clap.specs.declared.error.kind.ErrorKind.TheVariants.{UnknownArgument, InvalidValue}
 use Rattle.clap.proofs.OnLiterals.{clap_on_literals}
 use Rattle.lock_rules.specs.declared.calls.TheConstants.{MAX_SESSIONS}
-use Rattle.command_line.specs.CommandLine.{AskNothing, faults_of}
 use Rattle.command_line.proofs.Ask.{faulty}
 use Rattle.command_line.proofs.Gives.{numeral_given}
 use Rattle.command_line.proofs.laws.words_name_files.Goals as goal
@@ -37,14 +33,6 @@ returns-clause-write_long c = refl
 pub returns-clause-write_dash : goal.returns-clause-write_dash
 unfolding clap_on_literals
 returns-clause-write_dash c = refl
-
-pub returns-clause-start : goal.returns-clause-start
-unfolding clap_on_literals
-returns-clause-start c = refl
-
-pub returns-clause-no_start : goal.returns-clause-no_start
-unfolding clap_on_literals
-returns-clause-no_start c = refl
 
 pub returns-clause-two : goal.returns-clause-two
 unfolding clap_on_literals

@@ -56,22 +56,6 @@ returns-in-Dump c c' =
       shows = done.shows;
     }
 
-pub returns-in-ShowFrom : goal.returns-in-ShowFrom
-returns-in-ShowFrom c c' =
-    let done = c'.shown_from.ensures in
-    let same = c'.show_request-asked.ensures in
-    λ words asked. record {
-      sessions = c'.in-ShowFrom.sessions;
-      place = c'.in-ShowFrom.place;
-      form = c'.in-ShowFrom.form;
-      asked = (let is : c'.args.command ≡ request.ShowFrom c'.in-ShowFrom.sessions c'.in-ShowFrom.place c'.in-ShowFrom.form = search rules in subst (λ (r : CommandRequest). Ask words r) is asked);
-      dump = _;
-      kept = done.kept;
-      part = rw same at done.part;
-      shown = rw same at done.shown;
-      tells = rw same at done.tells;
-    }
-
 pub returns-in-Explain : goal.returns-in-Explain
 returns-in-Explain c c' =
     let done = c'.explained.ensures in
