@@ -1,7 +1,7 @@
-pub mod Contended
 pub mod Counted
 pub mod Firsts
 pub mod Granted
 pub mod Jammed
 pub mod Parts
 pub mod Walks
+pub mod Wanted

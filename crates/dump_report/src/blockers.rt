@@ -120,7 +120,6 @@ fn add_waits_of(
 
 /// The waits of all sessions, in the order of the open transactions, each session's first blocker first; since when a session waits isn't
 /// told. Fails if memory is refused.
-#[tactic(auto, using(crate::proofs::Contended::next_told))]
 pub fn told_waits(
     alloc: Global,
     opens: &[OpenTransaction],

@@ -1,5 +1,5 @@
 use Rattle.std.proofs.Common.{◌∙◌}
-use Rattle.dump_report.proofs.Contended.{next_told}
+use Rattle.dump_report.proofs.Wanted.{next_told}
 use Rattle.dump_report.proofs.blockers.told_waits.Goals as goal
 
 pub loop-begun-preserved : goal.loop-begun-preserved
