@@ -1,7 +1,7 @@
 //! Nodes and edges of a graph of sessions, as Graphviz reads them.
 
 ghost use Rattle.std.specs.Prelude.{◌≡◌, ◌++◌, OnOk, string_bytes};
-ghost use Rattle.report_text.specs.Nodes.{start_of_node, edge_with};
+ghost use Rattle.lock_report.specs.Nodes.{start_of_node, edge_with};
 
 use std::alloc::AllocError as NoMemory;
 use std::fmt::Write;

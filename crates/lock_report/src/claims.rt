@@ -1,7 +1,7 @@
 //! The lines of a listing: their words, and tests of them.
 
 ghost use Rattle.std.specs.Prelude.{◌≡◌};
-ghost use Rattle.report_text.specs.Claims.{word_of_kind, is_lock_kind, is_request_kind, is_last};
+ghost use Rattle.lock_report.specs.Claims.{word_of_kind, is_lock_kind, is_request_kind, is_last};
 
 use lock_rules::ClaimKind;
 use lock_tree::{Resource, same_path_is_equality};
