@@ -1,9 +1,9 @@
 //! Sessions of an office of programs that are lent to threads.
 
-ghost use Rattle.std.specs.Prelude.{All, IfOk};
+ghost use Rattle.std.specs.Prelude.{◌≡◌, All, IfOk};
 ghost use Rattle.combining.specs.Sessions.{IsSessionOf, IsIdle};
 
-use combining::{Nobody, call};
+use combining::{CloseFault, Nobody, Posted, call};
 use lock_desk::Book;
 use program_office::{Office, Program, Session, Start};
 use programs::Programs;
@@ -50,29 +50,64 @@ fn work_in_threads<R: Threads + Sync>(
     thread::map_vec(rt, sessions, &|session: Session| work(office, session))
 }
 
-/// Takes the history of 24 calls.
-fn take_all(rt: &impl Abort, alloc: Global, office: &Office, sessions: &mut Vec<Session>)
+/// Takes the history of 24 calls, and publishes a program of session 1.
+fn take_and_post(rt: &impl Abort, alloc: Global, office: &Office, sessions: &mut Vec<Session>)
     requires ours { All (IsSessionOf office.now) sessions.old.items }
     ensures ours { All (IsSessionOf office.now) sessions.new.items }
 {
     assert!(rt; sessions.len() == 8);
-    let piece = office
-        .take_history(alloc, &mut sessions[0])
-        .expect(rt, "a piece");
+    let first = &mut sessions[0];
+    let piece = office.take_history(alloc, first).expect(rt, "a piece");
     assert!(rt; piece.first == 0 && piece.lines.len() == 24 && piece.written == 24);
+    assert!(rt; first.is_idle());
+    assert!(rt; office.publish(first, Program::start(Start::Commits)) == Posted::Listed);
 }
 
-/// The closed office's object has served three programs of each session.
+/// Wants the close to be refused with this fault. Returns the office and its sessions, unchanged.
+fn refused(
+    rt: &impl Abort,
+    office: Office,
+    sessions: Vec<Session>,
+    wanted: CloseFault,
+) -> (Office, Vec<Session>)
+    requires ours { All (IsSessionOf office) sessions.items }
+    ensures office { result.0 ≡ office }
+    ensures sessions { result.1.items ≡ sessions.items }
+{
+    let (fault, office, sessions) = office.close(sessions).err().expect(rt, "a fault");
+    assert!(rt; fault == wanted);
+    (office, sessions)
+}
+
+/// Serves the program of session 1, which retires and becomes the last of the sessions.
+fn settle(rt: &impl Abort, office: &Office, sessions: &mut Vec<Session>)
+    requires ours { All (IsSessionOf office.now) sessions.old.items }
+    ensures ours { All (IsSessionOf office.now) sessions.new.items }
+{
+    assert!(rt; sessions.len() == 8 && sessions[0].number() == 1);
+    let mut first = sessions.remove(0);
+    let _turn = office.serve(&mut first);
+    assert!(rt; office.collect(&mut first).is_some());
+    assert!(rt; first.is_idle());
+    office.retire(&mut first);
+    assert!(rt; sessions.push(first).is_ok());
+}
+
+/// The closed office's object has served three programs of each session and one more, and keeps its last call.
 fn want_served(rt: &impl Abort, object: &Programs<Book>) {
-    assert!(rt; object.served() == 24 && object.kept_from() == 24 && object.kept().is_empty());
+    assert!(rt; object.served() == 25 && object.kept_from() == 24 && object.kept().len() == 1);
 }
 
-/// Eight threads make three programs each, of which the history has three calls.
+/// Eight threads make three programs each, of which the history has three calls. The office isn't closed without its sessions, or while
+/// a program is pending; then it is, with the sessions in another order.
 #[test]
 fn threads_make_programs(rt: HostRuntime) -> Result<(), Fail> {
     let (office, sessions) = Office::open(rt.alloc(), 8)?;
     let mut sessions = work_in_threads(&rt, &office, sessions)?;
-    take_all(&rt, rt.alloc(), &office, &mut sessions);
+    take_and_post(&rt, rt.alloc(), &office, &mut sessions);
+    let (office, _none) = refused(&rt, office, Vec::new(rt.alloc()), CloseFault::Missing);
+    let (office, mut sessions) = refused(&rt, office, sessions, CloseFault::Unsettled);
+    settle(&rt, &office, &mut sessions);
     let object = office.close(sessions).ok().expect(&rt, "the object");
     want_served(&rt, &object);
     Ok(())
