@@ -3063,6 +3063,38 @@ static void passes_keep_to_their_bound(void) {
     CHECK(pelgaisti_office_close(&four[3], &book) == PELGAISTI_OK && pelgaisti_book_close(&book) == PELGAISTI_OK);
 }
 
+/* An office closes with an open transaction, a waiting request and a victim, and wakes nobody: the book has them all. Its calls may end them,
+   or its close frees them. A pending call is heard before. */
+static void offices_close_with_transactions(void) {
+    const pelgaisti_call begin = call_of(PELGAISTI_BEGIN, 0, 0, 0, 0), abort = call_of(PELGAISTI_ABORT, 0, 0, 0, 0);
+    const pelgaisti_call seven = call_of(PELGAISTI_LOCK, PELGAISTI_X, 1, 7, 0), eight = call_of(PELGAISTI_LOCK, PELGAISTI_X, 1, 8, 0);
+    for (int is_ended = 0; is_ended < 2; is_ended++) {
+        pelgaisti_session sessions[4] = {PELGAISTI_EMPTY, PELGAISTI_EMPTY, PELGAISTI_EMPTY, PELGAISTI_EMPTY};
+        uint32_t wakes[5] = {0, 0, 0, 0, 0}, at_close[5];
+        const pelgaisti_waker waker = {count_wake, wakes};
+        pelgaisti_book book = PELGAISTI_EMPTY;
+        pelgaisti_program_answer heard;
+        pelgaisti_gauges gauges;
+        pelgaisti_reply reply;
+        CHECK(pelgaisti_office_open_waking(sessions, 4, UINT64_MAX, &waker) == PELGAISTI_OK);
+        for (int s = 0; s < 3; s++) CHECK(kind_of(&sessions[s], begin) == PELGAISTI_BEGAN);
+        /* 1 has 7, 2 has 8 and waits for 7, 3 waits for 7, and 1 closes a cycle with 2 */
+        CHECK(kind_of(&sessions[0], seven) == PELGAISTI_GRANTED && kind_of(&sessions[1], eight) == PELGAISTI_GRANTED);
+        CHECK(kind_of(&sessions[1], seven) == PELGAISTI_WAITING && kind_of(&sessions[2], seven) == PELGAISTI_WAITING);
+        CHECK(kind_of(&sessions[0], eight) == PELGAISTI_WAITING);
+        CHECK(pelgaisti_session_publish(&sessions[3], &begin, NULL) == PELGAISTI_OK);
+        CHECK(pelgaisti_session_hand_in(&sessions[3], &sessions[0]) == PELGAISTI_PENDING && pelgaisti_office_close(&sessions[0], &book) == PELGAISTI_MISSING);
+        CHECK(pelgaisti_session_run(&sessions[3], NULL, UINT64_MAX, &heard) == PELGAISTI_OK && heard.replies[0].kind == PELGAISTI_BEGAN);
+        memcpy(at_close, wakes, sizeof wakes);
+        for (int s = 1; s < 4; s++) CHECK(pelgaisti_session_hand_in(&sessions[s], &sessions[0]) == PELGAISTI_OK);
+        CHECK(pelgaisti_office_close(&sessions[0], &book) == PELGAISTI_OK && pelgaisti_book_gauges(&book, &gauges) == PELGAISTI_OK);
+        CHECK(gauges.transactions == 4 && gauges.locks == 2 && gauges.waiting == 2 && gauges.longest_queue == 1);
+        for (uint32_t s = 1; is_ended && s <= 4; s++) CHECK(pelgaisti_book_serve(&book, s, &abort, &reply) == PELGAISTI_OK && reply.kind == PELGAISTI_ABORTED);
+        CHECK(!is_ended || (pelgaisti_book_gauges(&book, &gauges) == PELGAISTI_OK && gauges.transactions + gauges.locks + gauges.waiting == 0));
+        CHECK(memcmp(at_close, wakes, sizeof wakes) == 0 && pelgaisti_book_close(&book) == PELGAISTI_OK);
+    }
+}
+
 int main(int argc, char **argv) {
     if (argc > 1 && !strcmp(argv[1], "calls")) {
         for (size_t k = 0; k < COUNT(all_calls); k++) printf("pelgaisti_%s\n", all_calls[k].name);
@@ -3118,6 +3150,7 @@ int main(int argc, char **argv) {
     each_pass_wakes();
     many_are_woken();
     a_session_wakes_itself();
+    offices_close_with_transactions();
     printf("%d passed, %d failed\n", passed, failed);
     return failed != 0;
 }
