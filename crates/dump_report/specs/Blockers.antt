@@ -7,7 +7,7 @@ use Rattle.lock_rules.specs.declared.listing.Claim.{Claim}
 use Rattle.lock_report.specs.declared.snapshot.OpenTransaction.{OpenTransaction}
 use Rattle.lock_report.specs.declared.snapshot.ToldWait.{ToldWait}
 use Rattle.lock_report.specs.declared.snapshot.Wait.{Wait}
-use Rattle.report_text.specs.Claims.{is_request_kind}
+use Rattle.lock_report.specs.Claims.{is_request_kind}
 
 -- the line is a waiting request
 abbrev pub is_request : Claim → Bool

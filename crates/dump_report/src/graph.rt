@@ -6,8 +6,7 @@ ghost use Rattle.state_rows.specs.Rows.{IsWait};
 ghost use Rattle.dump_report.specs.Jam.{blocked_by, is_blocked};
 ghost use Rattle.dump_report.specs.inner.Graph.{AreWaitsOf};
 
-use lock_report::Wait;
-use report_text::one_if;
+use lock_report::{Wait, one_if};
 use std::alloc::{AllocError as NoMemory, Global};
 use waits_for::Rows;
 

@@ -27,7 +27,7 @@ use Rattle.history_commands.specs.Drawing.{Draws, HasDrawn, HasDrawnPart}
 use Rattle.history_commands.specs.Verdicts.{Checks, IsHistory, text_of_verdict}
 use Rattle.replay_commands.specs.Written.{AppendsPart}
 use Rattle.lock_shell.specs.Turns.{HasTalked, HasTalkedPart, IsFaultOfShell}
-use Rattle.stats_command.specs.Stats.{Counts, HasCounted, HasCountedPart}
+use Rattle.stats_report.specs.Stats.{Counts, HasCounted, HasCountedPart}
 
 -- the exit status of an outcome
 abbrev pub status_of_outcome : Outcome → ℕ

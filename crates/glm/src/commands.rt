@@ -30,7 +30,7 @@ use lock_trace::SkipComments;
 use replay_commands::{NewFile, open_source, replay, replay_in_pieces, write_text};
 use row_hints::{Kept, KeptRows};
 use run_commands::{Gate, run, run_in_pieces};
-use stats_command::stats;
+use stats_report::stats;
 use std::alloc::Global;
 use std::fs::Files;
 use std::io::{Read, Write};

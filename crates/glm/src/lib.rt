@@ -3,7 +3,7 @@
 //!
 //! `commands.rt` is the whole program except its streams, `verdicts.rt` what `check` writes, and `outcomes.rt` has statuses and messages.
 //! The command line is `command_line`'s, `replay` is of `replay_commands`, `run` of `run_commands`, `check`, `show`, `explain` and
-//! `timeline` are of `history_commands`, `stats` of `stats_command`, `shell` of `lock_shell`. Comments are skipped by `lock_trace`, files
+//! `timeline` are of `history_commands`, `stats` of `stats_report`, `shell` of `lock_shell`. Comments are skipped by `lock_trace`, files
 //! opened and written by `replay_commands`. `hints.rt` writes the hints of `row_hints`, and `wrong_replies.rt` finds the wrong reply that
 //! they tell of.
 //!
@@ -29,4 +29,4 @@ pub use history_commands::{
 pub use outcomes::{DEVICE, DONE, ILLEGAL, NO_MEMORY, REFUSED, STOPPED, USAGE};
 pub use replay_commands::{PIECE_ENTRIES, ToolFault, replay, replay_in_pieces};
 pub use run_commands::{Gate, OpenGate, run, run_in_pieces};
-pub use stats_command::stats;
+pub use stats_report::stats;

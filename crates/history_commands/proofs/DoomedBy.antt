@@ -8,7 +8,7 @@ use Rattle.lock_rules.specs.Step.{step}
 use Rattle.lock_rules.specs.Legal.{state_after, state_of}
 use Rattle.lock_rules.proofs.Histories.{state_of-push}
 use Rattle.lock_report.specs.declared.snapshot.Doom.{Doom}
-use Rattle.report_text.proofs.Pieces.{with_next}
+use Rattle.lock_report.proofs.Pieces.{with_next}
 use Rattle.history_commands.specs.Dooms.{does_doom, doom_from, doomed_by}
 
 -- the last of some entries tells, if it makes a victim

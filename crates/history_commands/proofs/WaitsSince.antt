@@ -1,7 +1,7 @@
 -- Since when a session waits, found from the last entry back.
 use Rattle.std.proofs.Common.{◌≡◌, ℕ, ◌+◌, ◌<◌, Bool, true, false, cond, List, [], ◌∷◌, ◌++◌, take, get_or, length, length-take, sym, ap, ◌∙◌, arith}
 use Rattle.lock_rules.specs.Entries.{Entry}
-use Rattle.report_text.proofs.Pieces.{with_next}
+use Rattle.lock_report.proofs.Pieces.{with_next}
 use Rattle.history_commands.specs.Waits.{begins_wait, since_from, waits_since}
 
 -- the last of some entries tells, if a wait began with it

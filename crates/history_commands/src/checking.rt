@@ -106,8 +106,8 @@ pub(crate) fn first_wrong(
     }
 }
 
-/// A fresh lock table that keeps no history in memory. Fails if memory is refused.
-pub(crate) fn fresh_book(alloc: Global, sessions: u16) -> Result<Book, NoMemory>
+/// A fresh lock table of `sessions` sessions, at most `MAX_SESSIONS`, that keeps no history in memory. Fails if memory is refused.
+pub fn fresh_book(alloc: Global, sessions: u16) -> Result<Book, NoMemory>
     requires some { 0 < sessions }
     requires few { sessions ≤ MAX_SESSIONS }
     ensures sessions { IfOk result (λ book. book.sessions ≡ sessions) }
@@ -118,19 +118,35 @@ pub(crate) fn fresh_book(alloc: Global, sessions: u16) -> Result<Book, NoMemory>
     Ok(book)
 }
 
+/// Serves the calls of the entries in order on a book that has served none, and returns what is found, as [`check_whole`] does of a
+/// history that it reads. If the entries are legal, they are the book's history then. Fails only if the book finds no memory.
+pub fn finding_by(book: &mut Book, entries: &[Entry]) -> Result<Finding, NoMemory>
+    requires within { All (IsEntry book.old.sessions) entries.now }
+    requires empty { book.old.history ≡ [] }
+    ensures sessions { IfOk result (λ _. book.new.sessions ≡ book.old.sessions) }
+    ensures finding { IfOk result (λ finding. IsFinding entries.now finding) }
+    ensures served { IfOk result (λ finding. (count : ℕ) → finding ≡ Finding.Legal count → book.new.history ≡ entries.now) }
+{
+    match first_wrong_reply(book, entries, 0, entries.len())? {
+        Some(wrong) => Ok(Finding::Wrong(wrong)),
+        None => Ok(Finding::Legal(entries.len() as u64)),
+    }
+}
+
 /// Serves the calls of the entries in order on a fresh lock table of `sessions` sessions, at most `MAX_SESSIONS`, and returns what is
-/// found, as [`check_whole`] does of a history that it reads. Fails only if the lock table finds no memory.
-pub fn finding_on(alloc: Global, entries: &[Entry], sessions: u16) -> Result<Finding, NoMemory>
+/// found, as [`finding_by`] does. Fails only if the lock table finds no memory.
+pub(crate) fn finding_on(
+    alloc: Global,
+    entries: &[Entry],
+    sessions: u16,
+) -> Result<Finding, NoMemory>
     requires some { 0 < sessions }
     requires few { sessions ≤ MAX_SESSIONS }
     requires within { All (IsEntry sessions) entries.now }
     ensures { IfOk result (λ finding. IsFinding entries.now finding) }
 {
     let mut book = fresh_book(alloc, sessions)?;
-    match first_wrong_reply(&mut book, entries, 0, entries.len())? {
-        Some(wrong) => Ok(Finding::Wrong(wrong)),
-        None => Ok(Finding::Legal(entries.len() as u64)),
-    }
+    finding_by(&mut book, entries)
 }
 
 /// The finding of a history with this verdict. If a reply is wrong, the calls are served once more on a fresh lock table, for the reply

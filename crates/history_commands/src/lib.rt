@@ -27,7 +27,7 @@ mod showing;
 mod since;
 
 pub use accounts::{ServedCall, account, answer_of, doom_of};
-pub use checking::{Verdict, check, check_whole, finding_on, verdict_line};
+pub use checking::{Verdict, check, check_whole, finding_by, fresh_book, verdict_line};
 pub use checking_by_row::check_by_row;
 pub use drawing::timeline;
 pub use dump_fault::DumpFault;

@@ -1,4 +1,6 @@
 -- What public contracts speak of.
+pub mod Claims
+pub mod Nodes
 pub mod Answers
 pub mod JamText
 pub mod StateText

@@ -8,7 +8,7 @@ use Rattle.lock_tree.specs.Text.{text_of}
 use Rattle.lock_rules.specs.declared.listing.Claim.{Claim}
 use Rattle.lock_rules.specs.declared.listing.ClaimKind.{ClaimKind}
 use Rattle.lock_rules.specs.declared.listing.ClaimKind.TheVariants.{Held, Conversion, Fresh}
-use Rattle.report_text.specs.Claims.{is_last, is_lock_kind, is_request_kind}
+use Rattle.lock_report.specs.Claims.{is_last, is_lock_kind, is_request_kind}
 use Rattle.lock_report.specs.declared.snapshot.OpenTransaction.{OpenTransaction}
 use Rattle.lock_report.specs.declared.snapshot.ToldWait.{ToldWait}
 use Rattle.lock_report.specs.declared.rows_of_boxes.TheConstants.{BOXES_IN_A_ROW}

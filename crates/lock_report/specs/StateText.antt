@@ -7,7 +7,7 @@ use Rattle.lock_tree.specs.Text.{text_of}
 use Rattle.lock_rules.specs.declared.listing.Claim.{Claim}
 use Rattle.lock_rules.specs.declared.listing.ClaimKind.{ClaimKind}
 use Rattle.lock_rules.specs.declared.listing.ClaimKind.TheVariants.{Held, Conversion, Fresh}
-use Rattle.report_text.specs.Claims.{is_last}
+use Rattle.lock_report.specs.Claims.{is_last}
 use Rattle.lock_report.specs.declared.snapshot.OpenTransaction.{OpenTransaction}
 use Rattle.lock_report.specs.declared.snapshot.Root.{Root}
 use Rattle.lock_report.specs.declared.snapshot.ToldWait.{ToldWait}

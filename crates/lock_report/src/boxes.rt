@@ -4,6 +4,7 @@ ghost use Rattle.std.specs.Prelude.{◌≡◌, ◌++◌, None, IfOk, OnOk, strin
 ghost use Rattle.std.specs.List.{flat_map};
 ghost use Rattle.lock_report.specs.LocksDot.{box_at, box_of, boxed_graph, boxes_behind, dot_of_locks, edge_if_first, line_if_lock, numbered_line, queue_lines, start_of_label, words_of_claim};
 
+use crate::claims::{is_lock_kind, is_request_kind};
 use crate::dot::{put_edge, put_nodes};
 use crate::queues::{begins_queue, claims_on, waited};
 use crate::rows_of_boxes::{put_name, put_places};
@@ -11,7 +12,6 @@ use crate::snapshot::{OpenTransaction, ToldWait};
 use crate::text::{mode_word, resource_verb};
 use lock_rules::{Claim, ClaimKind};
 use lock_tree::Resource;
-use report_text::{is_lock_kind, is_request_kind};
 use std::alloc::{AllocError as NoMemory, Global};
 use std::fmt::Write;
 

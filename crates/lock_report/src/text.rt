@@ -6,11 +6,11 @@ ghost use Rattle.lock_report.specs.StateText.{session_verb, resource_verb, mode_
 ghost use Rattle.lock_report.specs.inner.BySession.{Ascends};
 
 use crate::by_session::{claims_by_session, claims_of_session};
+use crate::claims::is_last;
 use crate::jam::{put_jam, put_lines_of_waits, put_session_heading};
 use crate::snapshot::{OpenTransaction, Root, ToldWait};
 use lock_rules::{Claim, ClaimKind};
 use lock_tree::Resource;
-use report_text::is_last;
 use std::alloc::{AllocError as NoMemory, Global};
 use std::fmt::Write;
 

@@ -1,5 +1,2 @@
-pub mod Served
-pub mod Sessions
-pub mod Ends
-pub mod Queues
-pub mod GaugeLines
+pub mod CountedParts
+pub mod Lines

@@ -1,1 +1,2 @@
 pub mod StatsText
+pub mod Stats

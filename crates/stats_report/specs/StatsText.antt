@@ -1,18 +1,14 @@
 -- The counters of a history as text: a line for each, with its group, its name and its number. The format is this project's own
 -- choice.
-use Rattle.std.specs.Prelude.{ℕ, ◌-◌, max, Bool, List, [], ◌∷◌, ◌++◌, length, replicate, codes, decimal}
-use Rattle.std.specs.List.{flat_map, range_with_len}
-use Rattle.lock_rules.specs.declared.kinds.TheConstants.{OPS, REFUSALS}
-use Rattle.lock_rules.specs.declared.listing.Claim.{Claim}
-use Rattle.lock_rules.specs.Names.{name_of_why}
+use Rattle.std.specs.Prelude.{ℕ, ◌-◌, List, [], ◌∷◌, ◌++◌, length, replicate, codes, decimal}
 use Rattle.lock_rules.specs.Entries.{Entry}
-use Rattle.lock_rules.specs.State.{Table, State, is_open}
-use Rattle.lock_rules.specs.Queue.{queue}
 use Rattle.lock_rules.specs.Legal.{state_of}
-use Rattle.lock_rules.specs.Listing.{listed_resources, listing_of}
-use Rattle.lock_trace.specs.Words.{word_of}
-use Rattle.lock_counts.specs.Counts.{count_if, calls, refusals, requests, granted_at_once, requests_refused, waits_begun, waits_granted, waits_doomed, waits_withdrawn, waits_aborted, waits_restarted, still_waiting, deadlocks}
-use Rattle.report_text.specs.Claims.{is_lock_kind}
+use Rattle.lock_desk.specs.declared.counts.Calls.{Calls}
+use Rattle.lock_desk.specs.declared.counts.Counts.{Counts}
+use Rattle.lock_desk.specs.declared.counts.Refusals.{Refusals}
+use Rattle.lock_desk.specs.declared.gauges.Gauges.{Gauges}
+use Rattle.lock_desk.specs.Counts.{counts_of}
+use Rattle.lock_desk.specs.Gauges.{gauges_of}
 use Rattle.command_line.specs.declared.args.Form.{Form}
 use Rattle.command_line.specs.declared.args.Form.TheVariants as form
 
@@ -26,65 +22,72 @@ line_of form.Rows group name number = group ++ 44 ∷ [] ++ name ++ 44 ∷ [] ++
 line_of _ group name number = padded 11 group ++ padded 15 name ++ decimal number ++ 10 ∷ []
 
 -- how many calls of each operation there were
-abbrev pub lines_of_calls : Form → List Entry → List ℕ
-lines_of_calls form h = flat_map (λ o. line_of form (codes "calls") (word_of o) (calls o h)) OPS
+abbrev pub lines_of_calls : Form → Calls → List ℕ
+lines_of_calls form c =
+    line_of form (codes "calls") (codes "begin") c.begin
+    ++ line_of form (codes "calls") (codes "lock") c.lock
+    ++ line_of form (codes "calls") (codes "convert") c.convert
+    ++ line_of form (codes "calls") (codes "poll") c.poll
+    ++ line_of form (codes "calls") (codes "release") c.release
+    ++ line_of form (codes "calls") (codes "commit") c.commit
+    ++ line_of form (codes "calls") (codes "abort") c.abort
+    ++ line_of form (codes "calls") (codes "try") c.try_lock
+    ++ line_of form (codes "calls") (codes "withdraw") c.withdraw
+    ++ line_of form (codes "calls") (codes "restart") c.restart
 
 -- the requests for locks, and how they were answered
-abbrev pub lines_of_requests : Form → List Entry → List ℕ
-lines_of_requests form h =
-    line_of form (codes "requests") (codes "all") (requests h)
-    ++ line_of form (codes "requests") (codes "granted") (granted_at_once h)
-    ++ line_of form (codes "requests") (codes "waiting") (waits_begun h)
-    ++ line_of form (codes "requests") (codes "refused") (requests_refused h)
+abbrev pub lines_of_requests : Form → Counts → List ℕ
+lines_of_requests form c =
+    line_of form (codes "requests") (codes "all") c.requests
+    ++ line_of form (codes "requests") (codes "granted") c.granted_at_once
+    ++ line_of form (codes "requests") (codes "waiting") c.waits_begun
+    ++ line_of form (codes "requests") (codes "refused") c.requests_refused
 
 -- how waits ended
-abbrev pub lines_of_waits : Form → List Entry → List ℕ
-lines_of_waits form h =
-    line_of form (codes "waits") (codes "begun") (waits_begun h)
-    ++ line_of form (codes "waits") (codes "granted") (waits_granted h)
-    ++ line_of form (codes "waits") (codes "doomed") (waits_doomed h)
-    ++ line_of form (codes "waits") (codes "withdrawn") (waits_withdrawn h)
-    ++ line_of form (codes "waits") (codes "aborted") (waits_aborted h)
-    ++ line_of form (codes "waits") (codes "restarted") (waits_restarted h)
-    ++ line_of form (codes "waits") (codes "waiting") (still_waiting h)
+abbrev pub lines_of_waits : Form → Counts → List ℕ
+lines_of_waits form c =
+    line_of form (codes "waits") (codes "begun") c.waits_begun
+    ++ line_of form (codes "waits") (codes "granted") c.waits_granted
+    ++ line_of form (codes "waits") (codes "doomed") c.victims
+    ++ line_of form (codes "waits") (codes "withdrawn") c.waits_withdrawn
+    ++ line_of form (codes "waits") (codes "aborted") c.waits_aborted
+    ++ line_of form (codes "waits") (codes "restarted") c.waits_restarted
+    ++ line_of form (codes "waits") (codes "waiting") c.waiting
 
 -- the calls that closed a cycle of waits, and the victims
-abbrev pub lines_of_deadlocks : Form → List Entry → List ℕ
-lines_of_deadlocks form h =
-    line_of form (codes "deadlocks") (codes "calls") (deadlocks h) ++ line_of form (codes "deadlocks") (codes "victims") (waits_doomed h)
+abbrev pub lines_of_deadlocks : Form → Counts → List ℕ
+lines_of_deadlocks form c =
+    line_of form (codes "deadlocks") (codes "calls") c.deadlocks
+    ++ line_of form (codes "deadlocks") (codes "victims") c.victims
 
 -- how many calls were refused, by reason
-abbrev pub lines_of_refusals : Form → List Entry → List ℕ
-lines_of_refusals form h = flat_map (λ w. line_of form (codes "refusals") (name_of_why w) (refusals w h)) REFUSALS
+abbrev pub lines_of_refusals : Form → Refusals → List ℕ
+lines_of_refusals form r =
+    line_of form (codes "refusals") (codes "AlreadyOpen") r.already_open
+    ++ line_of form (codes "refusals") (codes "NoTransaction") r.no_transaction
+    ++ line_of form (codes "refusals") (codes "IsWaiting") r.is_waiting
+    ++ line_of form (codes "refusals") (codes "IsDoomed") r.is_doomed
+    ++ line_of form (codes "refusals") (codes "NothingAsked") r.nothing_asked
+    ++ line_of form (codes "refusals") (codes "NotHeld") r.not_held
+    ++ line_of form (codes "refusals") (codes "ParentNotHeld") r.parent_not_held
+    ++ line_of form (codes "refusals") (codes "ChildHeld") r.child_held
+    ++ line_of form (codes "refusals") (codes "TooManyLocks") r.too_many_locks
+    ++ line_of form (codes "refusals") (codes "WouldWait") r.would_wait
+    ++ line_of form (codes "refusals") (codes "NotWaiting") r.not_waiting
 
--- the line of a listing is a lock
-abbrev pub is_lock : Claim → Bool
-is_lock l = is_lock_kind l.kind
+-- the open transactions, the locks, the waiting requests, and the length of the longest queue
+abbrev pub lines_of_gauges : Form → Gauges → List ℕ
+lines_of_gauges form g =
+    line_of form (codes "now") (codes "transactions") g.transactions
+    ++ line_of form (codes "now") (codes "locks") g.locks
+    ++ line_of form (codes "now") (codes "waiting") g.waiting
+    ++ line_of form (codes "now") (codes "longest_queue") g.longest_queue
 
--- the length of the longest of the queues of these resources
-abbrev pub longest_of : Table → List (List ℕ) → ℕ
-longest_of t [] = 0
-longest_of t (r ∷ rs) = max (length (queue t r)) (longest_of t rs)
-
--- the length of the longest queue: the most requests that wait for one resource
-abbrev pub longest_queue : State → ℕ
-longest_queue st = longest_of st.table (listed_resources st)
-
--- the lines of these gauges: open transactions, locks, waiting requests, and the length of the longest queue
-abbrev pub gauge_lines : Form → ℕ → ℕ → ℕ → ℕ → List ℕ
-gauge_lines form transactions locks waiting longest =
-    line_of form (codes "now") (codes "transactions") transactions
-    ++ line_of form (codes "now") (codes "locks") locks
-    ++ line_of form (codes "now") (codes "waiting") waiting
-    ++ line_of form (codes "now") (codes "longest_queue") longest
-
--- the open transactions of the sessions 1 to n, the locks and the waiting requests of all resources, and the longest queue
-abbrev pub lines_of_gauges : Form → ℕ → State → List ℕ
-lines_of_gauges form n st =
-    gauge_lines form (count_if (is_open st) (range_with_len 1 n)) (count_if is_lock (listing_of st)) (length st.table.requests) (longest_queue st)
+-- the counters
+abbrev pub lines_of_counts : Form → Counts → List ℕ
+lines_of_counts form c =
+    lines_of_calls form c.calls ++ lines_of_requests form c ++ lines_of_waits form c ++ lines_of_deadlocks form c ++ lines_of_refusals form c.refusals
 
 -- the counters of a history of the sessions 1 to n, and the gauges of the state that it leads to
 abbrev pub text_of_stats : Form → ℕ → List Entry → List ℕ
-text_of_stats form n h =
-    lines_of_calls form h ++ lines_of_requests form h ++ lines_of_waits form h ++ lines_of_deadlocks form h ++ lines_of_refusals form h
-    ++ lines_of_gauges form n (state_of h)
+text_of_stats form n h = lines_of_counts form (counts_of h) ++ lines_of_gauges form (gauges_of n (state_of h))

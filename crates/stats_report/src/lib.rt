@@ -1,15 +1,14 @@
-//! The counters of a history as text: serves it, and writes how many calls there were, how they were answered, and how waits began
-//! and ended.
+//! The command `stats`: the counters of a history.
 //!
-//! `counting.rt` serves the calls on a lock table and keeps a tally of `lock_counts` beside it; `text.rt` writes the counters of the
-//! tally and the gauges of the lock table, each in a line; `gauges.rt` has the gauges.
+//! `telling.rt` checks the history as `check` does, and writes the text of the lock table that has served it. `text.rt` makes that text:
+//! the counters and the gauges of a book, each in a line.
 //!
 //! Proved: the text is exactly that of the counters of the history, as `lock_counts` defines them, and of the gauges of the state
-//! that it leads to. The only error is that memory was refused.
+//! that it leads to; what is written, with the result, for every input, also after a fault.
 #![tactic(auto)]
 
-mod counting;
-mod gauges;
+mod telling;
 mod text;
 
+pub use telling::stats;
 pub use text::stats_text;

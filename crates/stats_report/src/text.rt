@@ -1,22 +1,10 @@
-//! The counters of a tally and the gauges of a lock table, a line for each.
+//! The counters and the gauges of a book, a line for each.
 
-ghost use Rattle.std.specs.Prelude.{◌≡◌, ◌<◌, ◌≤◌, ◌++◌, List, All, OnOk, codes, IfOk, string_bytes};
-ghost use Rattle.lock_rules.specs.Entries.{Entry as EntryValue};
-ghost use Rattle.lock_rules.specs.declared.calls.TheConstants.{MAX_SESSIONS};
-ghost use Rattle.lock_rules.specs.Legal.{state_of, IsLegal};
-ghost use Rattle.lock_trace.specs.Entries.{IsEntry};
-ghost use Rattle.lock_trace.specs.Words.{word_of};
-ghost use Rattle.lock_rules.specs.Names.{name_of_why};
-ghost use Rattle.lock_counts.specs.Counts.{calls, refusals};
-ghost use Rattle.lock_counts.specs.Tallies.{IsTallyOf};
-ghost use Rattle.stats_report.specs.StatsText.{padded, line_of, lines_of_calls, lines_of_requests, lines_of_waits, lines_of_deadlocks, lines_of_refusals, gauge_lines, lines_of_gauges, text_of_stats};
+ghost use Rattle.std.specs.Prelude.{◌≡◌, ◌++◌, OnOk, IfOk, string_bytes};
+ghost use Rattle.stats_report.specs.StatsText.{padded, line_of, lines_of_calls, lines_of_requests, lines_of_waits, lines_of_deadlocks, lines_of_refusals, lines_of_gauges, text_of_stats};
 
-use crate::counting::count_history;
-use crate::gauges::{count_locks, count_open, longest_queue};
 use command_line::Form;
-use lock_counts::Tally;
-use lock_desk::{Book, Entry, NoMemory};
-use lock_rules::{OPS, Op, REFUSALS, Why};
+use lock_desk::{Book, Calls, Counts, Gauges, NoMemory, Refusals};
 use std::alloc::Global;
 use std::fmt::Write;
 
@@ -25,24 +13,6 @@ const GROUP_WIDTH: usize = 11;
 
 /// The width of the column of names.
 const NAME_WIDTH: usize = 15;
-
-/// The word of an operation, as histories write it.
-fn op_word(op: Op) -> &'static str
-    ensures { result.now ≡ word_of op }
-{
-    match op {
-        Op::Begin => "begin",
-        Op::Lock => "lock",
-        Op::Convert => "convert",
-        Op::Poll => "poll",
-        Op::Release => "release",
-        Op::Commit => "commit",
-        Op::Abort => "abort",
-        Op::Try => "try",
-        Op::Withdraw => "withdraw",
-        Op::Restart => "restart",
-    }
-}
 
 /// Writes a word, and spaces up to this width.
 fn put_padded(out: &mut String, word: &str, width: usize) -> Result<(), NoMemory>
@@ -88,141 +58,119 @@ fn put_counter(
     }
 }
 
-/// Writes how many calls of this operation there were.
-fn put_call(out: &mut String, form: Form, tally: &Tally, op: Op) -> Result<(), NoMemory>
-    ensures { OnOk result ((history : List EntryValue) → IsTallyOf history tally.now
-        → string_bytes out.new ≡ string_bytes out.old ++ line_of form (codes "calls") (word_of op) (calls op history)) }
-{
-    put_counter(out, form, "calls", op_word(op), tally.called(op))
-}
-
 /// Writes how many calls of each operation there were.
-fn put_calls(out: &mut String, form: Form, tally: &Tally) -> Result<(), NoMemory>
-    ensures { (history : List EntryValue) → IsTallyOf history tally.now → OnOk result (string_bytes out.new ≡ string_bytes out.old ++ lines_of_calls form history) }
+fn put_calls(out: &mut String, form: Form, calls: &Calls) -> Result<(), NoMemory>
+    ensures { OnOk result (string_bytes out.new ≡ string_bytes out.old ++ lines_of_calls form calls.now) }
 {
-    for op in OPS {
-        put_call(out, form, tally, op)?;
-    }
-    Ok(())
+    put_counter(out, form, "calls", "begin", calls.begin)?;
+    put_counter(out, form, "calls", "lock", calls.lock)?;
+    put_counter(out, form, "calls", "convert", calls.convert)?;
+    put_counter(out, form, "calls", "poll", calls.poll)?;
+    put_counter(out, form, "calls", "release", calls.release)?;
+    put_counter(out, form, "calls", "commit", calls.commit)?;
+    put_counter(out, form, "calls", "abort", calls.abort)?;
+    put_counter(out, form, "calls", "try", calls.try_lock)?;
+    put_counter(out, form, "calls", "withdraw", calls.withdraw)?;
+    put_counter(out, form, "calls", "restart", calls.restart)
 }
 
 /// Writes how requests were answered.
-fn put_requests(out: &mut String, form: Form, tally: &Tally) -> Result<(), NoMemory>
-    ensures { (history : List EntryValue) → IsTallyOf history tally.now → OnOk result (string_bytes out.new ≡ string_bytes out.old ++ lines_of_requests form history) }
+fn put_requests(out: &mut String, form: Form, counts: &Counts) -> Result<(), NoMemory>
+    ensures { OnOk result (string_bytes out.new ≡ string_bytes out.old ++ lines_of_requests form counts.now) }
 {
-    put_counter(out, form, "requests", "all", tally.requests())?;
-    put_counter(out, form, "requests", "granted", tally.granted_at_once())?;
-    put_counter(out, form, "requests", "waiting", tally.waits_begun())?;
-    put_counter(out, form, "requests", "refused", tally.requests_refused())
+    put_counter(out, form, "requests", "all", counts.requests)?;
+    put_counter(out, form, "requests", "granted", counts.granted_at_once)?;
+    put_counter(out, form, "requests", "waiting", counts.waits_begun)?;
+    put_counter(out, form, "requests", "refused", counts.requests_refused)
 }
 
 /// Writes how waits ended.
-fn put_waits(out: &mut String, form: Form, tally: &Tally) -> Result<(), NoMemory>
-    ensures { (history : List EntryValue) → IsTallyOf history tally.now → OnOk result (string_bytes out.new ≡ string_bytes out.old ++ lines_of_waits form history) }
+fn put_waits(out: &mut String, form: Form, counts: &Counts) -> Result<(), NoMemory>
+    ensures { OnOk result (string_bytes out.new ≡ string_bytes out.old ++ lines_of_waits form counts.now) }
 {
-    put_counter(out, form, "waits", "begun", tally.waits_begun())?;
-    put_counter(out, form, "waits", "granted", tally.waits_granted())?;
-    put_counter(out, form, "waits", "doomed", tally.waits_doomed())?;
-    put_counter(out, form, "waits", "withdrawn", tally.waits_withdrawn())?;
-    put_counter(out, form, "waits", "aborted", tally.waits_aborted())?;
-    put_counter(out, form, "waits", "restarted", tally.waits_restarted())?;
-    put_counter(out, form, "waits", "waiting", tally.still_waiting())
+    put_counter(out, form, "waits", "begun", counts.waits_begun)?;
+    put_counter(out, form, "waits", "granted", counts.waits_granted)?;
+    put_counter(out, form, "waits", "doomed", counts.victims)?;
+    put_counter(out, form, "waits", "withdrawn", counts.waits_withdrawn)?;
+    put_counter(out, form, "waits", "aborted", counts.waits_aborted)?;
+    put_counter(out, form, "waits", "restarted", counts.waits_restarted)?;
+    put_counter(out, form, "waits", "waiting", counts.waiting)
 }
 
 /// Writes how many calls closed a cycle of waits, and how many victims there were.
-fn put_deadlocks(out: &mut String, form: Form, tally: &Tally) -> Result<(), NoMemory>
-    ensures { (history : List EntryValue) → IsTallyOf history tally.now → OnOk result (string_bytes out.new ≡ string_bytes out.old ++ lines_of_deadlocks form history) }
+fn put_deadlocks(out: &mut String, form: Form, counts: &Counts) -> Result<(), NoMemory>
+    ensures { OnOk result (string_bytes out.new ≡ string_bytes out.old ++ lines_of_deadlocks form counts.now) }
 {
-    put_counter(out, form, "deadlocks", "calls", tally.deadlocks())?;
-    put_counter(out, form, "deadlocks", "victims", tally.waits_doomed())
-}
-
-/// Writes how many calls were refused for this reason.
-fn put_refusal(out: &mut String, form: Form, tally: &Tally, why: Why) -> Result<(), NoMemory>
-    ensures { OnOk result ((history : List EntryValue) → IsTallyOf history tally.now
-        → string_bytes out.new ≡ string_bytes out.old ++ line_of form (codes "refusals") (name_of_why why) (refusals why history)) }
-{
-    put_counter(out, form, "refusals", why.name(), tally.refused(why))
+    put_counter(out, form, "deadlocks", "calls", counts.deadlocks)?;
+    put_counter(out, form, "deadlocks", "victims", counts.victims)
 }
 
 /// Writes how many calls were refused, by reason.
-fn put_refusals(out: &mut String, form: Form, tally: &Tally) -> Result<(), NoMemory>
-    ensures { (history : List EntryValue) → IsTallyOf history tally.now → OnOk result (string_bytes out.new ≡ string_bytes out.old ++ lines_of_refusals form history) }
+fn put_refusals(out: &mut String, form: Form, refusals: &Refusals) -> Result<(), NoMemory>
+    ensures { OnOk result (string_bytes out.new ≡ string_bytes out.old ++ lines_of_refusals form refusals.now) }
 {
-    for why in REFUSALS {
-        put_refusal(out, form, tally, why)?;
-    }
-    Ok(())
-}
-
-/// Writes these gauges: open transactions, locks, waiting requests, and the length of the longest queue.
-fn put_gauge_lines(
-    out: &mut String,
-    form: Form,
-    transactions: u64,
-    locks: u64,
-    waiting: u64,
-    longest: u64,
-) -> Result<(), NoMemory>
-    ensures { OnOk result (string_bytes out.new ≡ string_bytes out.old ++ gauge_lines form transactions locks waiting longest) }
-{
-    put_counter(out, form, "now", "transactions", transactions)?;
-    put_counter(out, form, "now", "locks", locks)?;
-    put_counter(out, form, "now", "waiting", waiting)?;
-    put_counter(out, form, "now", "longest_queue", longest)
+    put_counter(out, form, "refusals", "AlreadyOpen", refusals.already_open)?;
+    put_counter(
+        out,
+        form,
+        "refusals",
+        "NoTransaction",
+        refusals.no_transaction,
+    )?;
+    put_counter(out, form, "refusals", "IsWaiting", refusals.is_waiting)?;
+    put_counter(out, form, "refusals", "IsDoomed", refusals.is_doomed)?;
+    put_counter(
+        out,
+        form,
+        "refusals",
+        "NothingAsked",
+        refusals.nothing_asked,
+    )?;
+    put_counter(out, form, "refusals", "NotHeld", refusals.not_held)?;
+    put_counter(
+        out,
+        form,
+        "refusals",
+        "ParentNotHeld",
+        refusals.parent_not_held,
+    )?;
+    put_counter(out, form, "refusals", "ChildHeld", refusals.child_held)?;
+    put_counter(
+        out,
+        form,
+        "refusals",
+        "TooManyLocks",
+        refusals.too_many_locks,
+    )?;
+    put_counter(out, form, "refusals", "WouldWait", refusals.would_wait)?;
+    put_counter(out, form, "refusals", "NotWaiting", refusals.not_waiting)
 }
 
 /// Writes what the lock table has now.
-fn put_gauges(
-    alloc: Global,
-    out: &mut String,
-    form: Form,
-    book: &Book,
-    tally: &Tally,
-) -> Result<(), NoMemory>
-    requires counted { IsTallyOf book.now.history tally.now }
-    ensures { OnOk result (string_bytes out.new ≡ string_bytes out.old ++ lines_of_gauges form book.now.sessions (state_of book.now.history)) }
+fn put_gauges(out: &mut String, form: Form, gauges: &Gauges) -> Result<(), NoMemory>
+    ensures { OnOk result (string_bytes out.new ≡ string_bytes out.old ++ lines_of_gauges form gauges.now) }
 {
-    let mut claims = Vec::new(alloc);
-    book.locks(alloc, &mut claims)?;
-    let transactions = count_open(book);
-    let locks = count_locks(&claims);
-    let waiting = tally.still_waiting();
-    let longest = longest_queue(&claims);
-    put_gauge_lines(out, form, transactions, locks, waiting, longest)
+    put_counter(out, form, "now", "transactions", gauges.transactions)?;
+    put_counter(out, form, "now", "locks", gauges.locks)?;
+    put_counter(out, form, "now", "waiting", gauges.waiting)?;
+    put_counter(out, form, "now", "longest_queue", gauges.longest_queue)
 }
 
-/// The counters of the tally of the lock table's history, and its gauges. Fails if memory is refused.
-fn text_of(alloc: Global, book: &Book, tally: &Tally, form: Form) -> Result<String, NoMemory>
-    requires { IsTallyOf book.now.history tally.now }
+/// The counters of a book's history, and what its lock table has now. `form` is `Lines` for columns and `Rows` for rows of three fields;
+/// the other forms are written as `Lines`. Fails only if memory is refused.
+///
+/// Neither the history nor the locks are walked: it costs what [`Book::counts`] and [`Book::gauges`] cost.
+pub fn stats_text(alloc: Global, book: &Book, form: Form) -> Result<String, NoMemory>
     ensures { IfOk result (λ text. string_bytes text ≡ text_of_stats form book.now.sessions book.now.history) }
 {
+    let counts = book.counts();
+    let gauges = book.gauges();
     let mut out = String::new(alloc);
-    put_calls(&mut out, form, tally)?;
-    put_requests(&mut out, form, tally)?;
-    put_waits(&mut out, form, tally)?;
-    put_deadlocks(&mut out, form, tally)?;
-    put_refusals(&mut out, form, tally)?;
-    put_gauges(alloc, &mut out, form, book, tally)?;
+    put_calls(&mut out, form, &counts.calls)?;
+    put_requests(&mut out, form, &counts)?;
+    put_waits(&mut out, form, &counts)?;
+    put_deadlocks(&mut out, form, &counts)?;
+    put_refusals(&mut out, form, &counts.refusals)?;
+    put_gauges(&mut out, form, &gauges)?;
     Ok(out)
-}
-
-/// The counters of a legal history of sessions 1 to `sessions`, at most `MAX_SESSIONS`, and what the lock table has at its end. `form` is
-/// `Lines` for columns and `Rows` for rows of three fields; the other forms are written as `Lines`. Fails only if memory is refused.
-///
-/// Its cost is that of serving the calls once, and of a listing of the lock table.
-pub fn stats_text(
-    alloc: Global,
-    entries: &[Entry],
-    sessions: u16,
-    form: Form,
-) -> Result<String, NoMemory>
-    requires some { 0 < sessions }
-    requires few { sessions ≤ MAX_SESSIONS }
-    requires within { All (IsEntry sessions) entries.now }
-    requires legal { IsLegal entries.now }
-    ensures { IfOk result (λ text. string_bytes text ≡ text_of_stats form sessions entries.now) }
-{
-    let counted = count_history(alloc, entries, sessions)?;
-    text_of(alloc, &counted.book, &counted.tally, form)
 }

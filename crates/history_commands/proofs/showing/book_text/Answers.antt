@@ -19,5 +19,5 @@ form_text-requires-clause-waits c =
 pub returns : goal.returns
 returns c =
     let told = form-told c.args.book.now.sessions c.args.book.now.history c.history.ensures.within c.args.form c.args.place c.gauges.result.waiting c.args.front.now _ _ _ c.requires
-        _ c.in_ok-lists.ensures.opens c.in_ok-lists.ensures.claims c.in_ok-lists.ensures.waits in
+    _ c.in_ok-lists.ensures.opens c.in_ok-lists.ensures.claims c.in_ok-lists.ensures.waits in
     subst (λ (x : List ℕ). IfOk c.form_text.result (λ text. string_bytes text ≡ x)) told c.form_text.ensures

@@ -1,10 +1,15 @@
-use Rattle.std.proofs.Common.{codes}
-use Rattle.report_text.proofs.Pieces.{next_piece}
-use Rattle.lock_trace.specs.Words.{word_of}
-use Rattle.lock_counts.specs.Counts.{calls}
-use Rattle.stats_report.specs.StatsText.{line_of}
+use Rattle.std.proofs.lemmas.Result.{on_ok_weaker}
+use Rattle.stats_report.proofs.Lines.{followed}
 use Rattle.stats_report.proofs.text.put_calls.Goals as goal
 
-pub loop-op-preserved : goal.loop-op-preserved
-loop-op-preserved c = λ h t.
-    next_piece (λ o. line_of c.args.form (codes "calls") (word_of o) (calls o h)) _ c.loop-op.op-index _ _ _ _ c.loop-op-test.true (c.loop-op.invariant h t) (c.in_ok-put_call.ensures h t)
+pub returns : goal.returns
+returns c =
+    let to-2 = followed _ _ _ _ _ c.in_ok-put_counter.ensures c.in_ok-put_counter-2.ensures in
+    let to-3 = followed _ _ _ _ _ to-2 c.in_ok-put_counter-3.ensures in
+    let to-4 = followed _ _ _ _ _ to-3 c.in_ok-put_counter-4.ensures in
+    let to-5 = followed _ _ _ _ _ to-4 c.in_ok-put_counter-5.ensures in
+    let to-6 = followed _ _ _ _ _ to-5 c.in_ok-put_counter-6.ensures in
+    let to-7 = followed _ _ _ _ _ to-6 c.in_ok-put_counter-7.ensures in
+    let to-8 = followed _ _ _ _ _ to-7 c.in_ok-put_counter-8.ensures in
+    let to-9 = followed _ _ _ _ _ to-8 c.in_ok-put_counter-9.ensures in
+    on_ok_weaker c.put_counter-10.result (followed _ _ _ _ _ to-9) c.put_counter-10.ensures

@@ -1,10 +1,16 @@
-use Rattle.std.proofs.Common.{codes}
-use Rattle.report_text.proofs.Pieces.{next_piece}
-use Rattle.lock_rules.specs.Names.{name_of_why}
-use Rattle.lock_counts.specs.Counts.{refusals}
-use Rattle.stats_report.specs.StatsText.{line_of}
+use Rattle.std.proofs.lemmas.Result.{on_ok_weaker}
+use Rattle.stats_report.proofs.Lines.{followed}
 use Rattle.stats_report.proofs.text.put_refusals.Goals as goal
 
-pub loop-why-preserved : goal.loop-why-preserved
-loop-why-preserved c = λ h t.
-    next_piece (λ w. line_of c.args.form (codes "refusals") (name_of_why w) (refusals w h)) _ c.loop-why.why-index _ _ _ _ c.loop-why-test.true (c.loop-why.invariant h t) (c.in_ok-put_refusal.ensures h t)
+pub returns : goal.returns
+returns c =
+    let to-2 = followed _ _ _ _ _ c.in_ok-put_counter.ensures c.in_ok-put_counter-2.ensures in
+    let to-3 = followed _ _ _ _ _ to-2 c.in_ok-put_counter-3.ensures in
+    let to-4 = followed _ _ _ _ _ to-3 c.in_ok-put_counter-4.ensures in
+    let to-5 = followed _ _ _ _ _ to-4 c.in_ok-put_counter-5.ensures in
+    let to-6 = followed _ _ _ _ _ to-5 c.in_ok-put_counter-6.ensures in
+    let to-7 = followed _ _ _ _ _ to-6 c.in_ok-put_counter-7.ensures in
+    let to-8 = followed _ _ _ _ _ to-7 c.in_ok-put_counter-8.ensures in
+    let to-9 = followed _ _ _ _ _ to-8 c.in_ok-put_counter-9.ensures in
+    let to-10 = followed _ _ _ _ _ to-9 c.in_ok-put_counter-10.ensures in
+    on_ok_weaker c.put_counter-11.result (followed _ _ _ _ _ to-10) c.put_counter-11.ensures
