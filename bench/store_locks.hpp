@@ -55,10 +55,10 @@ public:
 
         void begin() {}
         void lock(const path &on, mode in) {
-            std::uint32_t from = held_.first_to_lock(on, in);
-            while (from > 0 && from <= on.level) {
+            std::uint32_t level = held_.levels_locked(on, in);
+            while (level < on.level) {
                 const std::size_t before = next_ == start::nothing ? 0 : next_ == start::commits_and_begins ? 2 : 1;
-                const auto answer = run(pelgaisti::program::locks(next_, on, in, from));
+                const auto answer = run(pelgaisti::program::locks(next_, on, in, level));
                 next_ = start::nothing;
                 if (answer.starved()) throw std::bad_alloc();
                 const auto last = answer[answer.size() - 1];
@@ -67,7 +67,7 @@ public:
                 if (ended == kind::deadlock) throw store::must_retry(store::must_retry::reason::deadlock);
                 if (ended == kind::refused) throw std::runtime_error(pelgaisti_refusal_name(last.value));
                 // the level at which it has waited is locked, too
-                for (std::size_t k = before; k < answer.size(); ++k, ++from) held_.note(on, from, in);
+                for (std::size_t k = before; k < answer.size(); ++k) held_.note(on, ++level, in);
             }
         }
         void lock_tree(const path &on, mode in) { lock(on, in); }
@@ -213,8 +213,7 @@ public:
         void begin() { must(of_->lock_id(of_, &locker_)); }
         void lock(const path &on, mode asked) {
             const mode in = asked == mode::U ? mode::X : asked;
-            const std::uint32_t from = held_.first_to_lock(on, in);
-            for (std::uint32_t level = from; level > 0 && level <= on.level; ++level) {
+            for (std::uint32_t level = held_.levels_locked(on, in) + 1; level <= on.level; ++level) {
                 std::uint32_t numbers[PELGAISTI_LEVELS];
                 std::copy(on.numbers, on.numbers + level, numbers);
                 DBT object{};

@@ -21,12 +21,22 @@
      1 calls poll: 5 clear            makes the call by pelgaisti_session_perform in one turn
      1 resumes 5 clear                goes on with the published call for one turn, and gets this answer
      1 stays                          goes on with the published call for no turn: it stays pending
+     1 runs begins lock 7/2 X: 0 began 1, granted IX, granted X      makes the program in one turn, and gets these replies, the first at
+                                      place 0. The start of a program is one of begins, commits, aborts, restarts, commits-begins and
+                                      aborts-begins, or there is none, and so it is with the last call. `.. from 2 above SIX` says from
+                                      which level on the path is locked, and in which mode above the resource; it is the whole path for a
+                                      lock or a try, and else the resource alone, in the least mode above
+     1 posts begins lock 7/2 X        publishes the program
+     1 finishes 0 began 1, granted IX, granted X      goes on with the published program for one turn, and gets these replies
+     1 bounds 10 4 2                  serves from then on in the passes of whole calls and programs at most ten calls a round, none once
+                                      those give back four locks, and in two rounds at most
      1 polls 4..62                    polls at places 4 to 61, each time in a pass of its own
      1 is pending, 1 is idle          finds no answer
      1 saw 7                          has seen 7 entries of the history
      1 hears 2                        hears session 2
      1 takes 0, 2                     takes a piece of two entries from place 0 on
      1 asks held 2 1: 6 X             asks what session 2 holds on resource 1, behind six calls
+     1 asks passes: 6 made 3, served 5, starved 0     asks what the passes have served
      1 retires, 1 leaves              retires; is used no more
 
    A line with # is a remark. After a line `when ..` all lines up to the next one are performed only then: `when starved`, if a pass
@@ -34,16 +44,18 @@
    `serves some` wasn't starved; `when not all served`; `when served 2`, if it was starved and served two calls. Each of these has to
    come true in some round in which memory was refused, and in that pass, if it is about that pass; but not one with `ever`, as `when
    ever served 2`. The last line may say how the office ends: `end: missing 1`, if it isn't closed with the one session that is left;
-   `end: book 2, 0, 2`, if its book has served two calls and keeps two from place 0 on; `end: history`, if the lines are its history. */
+   `end: book 2, 0, 2`, if its book has served two calls and keeps two from place 0 on. In every piece of the history and in the book of
+   the closed office each call that a session got an answer to has to be at the place that it was told, with its reply. */
 #include "names.h"
 #include "pelgaisti.h"
+#include "program_calls.h"
 #include "refuse_one.h"
 #include <ctype.h>
 #include <stdio.h>
 #include <stdlib.h>
 #include <string.h>
 
-enum { MOST = 8, ROOM = 64, LONGEST = 256, LINES = 80, HANDLES = 1 << 16 };
+enum { MOST = 8, ROOM = 64, PLACES = 256, LONGEST = 256, LINES = 80, HANDLES = 1 << 16 };
 
 typedef pelgaisti_session session;
 
@@ -51,6 +63,10 @@ typedef pelgaisti_session session;
 static session handles[HANDLES], *sessions = handles;
 static int has_left[MOST];
 static unsigned count;
+
+/* What each session asked last, a call or a program, and the calls of which the replies are known, by their places; session 0 for none. */
+static pelgaisti_program asked[MOST];
+static pelgaisti_entry noted[PLACES];
 
 /* How many passes were starved so far and up to the last `when`, how the pass of `serves some` ended, and how often memory was refused
    in it. */
@@ -87,11 +103,18 @@ static uint32_t find(const name *list, size_t length, const char *word, const ch
 
 static uint32_t mode_of(const char *word) { return find(modes, COUNT(modes), word, "not a mode"); }
 
-/* A database, by its number. */
-static pelgaisti_resource resource_of(const char *word) {
-    pelgaisti_resource resource = {1, {0}};
-    resource.numbers[0] = (uint32_t)number_of(word);
+static pelgaisti_resource resource_of(char *path) {
+    pelgaisti_resource resource = {0, {0}};
+    for (char *rest; *path; path = rest) {
+        rest = cut(path, "/");
+        if (resource.level == PELGAISTI_LEVELS) stop("too deep", path);
+        resource.numbers[resource.level++] = (uint32_t)number_of(path);
+    }
     return resource;
+}
+
+static int same_resource(const pelgaisti_resource *one, const pelgaisti_resource *other) {
+    return one->level == other->level && !memcmp(one->numbers, other->numbers, one->level * sizeof(uint32_t));
 }
 
 static pelgaisti_call call_of(char *text) {
@@ -101,6 +124,28 @@ static pelgaisti_call call_of(char *text) {
     if (*resource) call.resource = resource_of(resource);
     if (*mode) call.mode = mode_of(mode);
     return call;
+}
+
+/* A program, as `commits-begins lock 7/2/5 X from 2 above IX`. */
+static pelgaisti_program program_of(char *text) {
+    static const name starts[] = {{"begins", PELGAISTI_BEGINS}, {"commits", PELGAISTI_COMMITS}, {"aborts", PELGAISTI_ABORTS},
+                                  {"restarts", PELGAISTI_RESTARTS}, {"commits-begins", PELGAISTI_COMMITS_AND_BEGINS},
+                                  {"aborts-begins", PELGAISTI_ABORTS_AND_BEGINS}};
+    pelgaisti_program program = {PELGAISTI_NOTHING, 0, 0, {0, 0, {0, {0}}}};
+    char *above = cut(text, " above "), *from = cut(text, " from "), *last = text;
+    const name *start;
+    char word[LONGEST];
+    strcpy(word, text);
+    last += strlen(text) - strlen(cut(word, " "));
+    start = named(starts, COUNT(starts), word);
+    if (start) program.start = start->number;
+    else last = text;
+    if (!*last) return program;
+    program.last = call_of(last);
+    program.from = program.last.op == PELGAISTI_LOCK || program.last.op == PELGAISTI_TRY ? 1 : program.last.resource.level;
+    if (*from) program.from = (uint32_t)number_of(from);
+    program.above = *above ? mode_of(above) : pelgaisti_parent_mode(program.last.mode);
+    return program;
 }
 
 static pelgaisti_reply reply_of(char *text) {
@@ -116,11 +161,50 @@ static pelgaisti_reply reply_of(char *text) {
     return reply;
 }
 
-/* Whether the answer is that of the text, as `3 granted X`. */
-static int is_answer(pelgaisti_answer answer, char *text) {
+static int same_reply(const pelgaisti_reply *one, const pelgaisti_reply *other) {
+    return one->kind == other->kind && one->value == other->value;
+}
+
+/* The calls of what the session asked last. */
+static size_t calls_asked(const session *own, pelgaisti_call calls[PELGAISTI_CALLS]) { return calls_of(&asked[own - sessions], calls); }
+
+/* A call is a program of that call alone; one that ends or begins a transaction is a start. */
+static void ask_call(const session *own, const pelgaisti_call *call) {
+    static const uint32_t starts[][2] = {{PELGAISTI_BEGIN, PELGAISTI_BEGINS}, {PELGAISTI_COMMIT, PELGAISTI_COMMITS},
+                                         {PELGAISTI_ABORT, PELGAISTI_ABORTS}, {PELGAISTI_RESTART, PELGAISTI_RESTARTS}};
+    pelgaisti_program *program = &asked[own - sessions];
+    memset(program, 0, sizeof *program);
+    for (size_t k = 0; k < COUNT(starts); k++)
+        if (call->op == starts[k][0]) program->start = starts[k][1];
+    if (program->start == PELGAISTI_NOTHING) program->last = *call;
+    program->from = program->last.resource.level;
+}
+
+/* Notes the reply to a call of the session at this place, where no other may be noted. */
+static int note(const session *own, const pelgaisti_call *call, uint64_t place, pelgaisti_reply reply) {
+    if (place >= PLACES) stop("too many calls", "");
+    if (noted[place].session) return 0;
+    noted[place].session = (uint32_t)(own - sessions) + 1;
+    noted[place].call = *call;
+    noted[place].reply = reply;
+    return 1;
+}
+
+/* Whether an entry is the one that is noted at this place, if one is. */
+static int is_noted(const pelgaisti_entry *entry, uint64_t place) {
+    const pelgaisti_entry *one = &noted[place];
+    return place < PLACES && (!one->session || (entry->session == one->session && entry->call.op == one->call.op &&
+                                                entry->call.mode == one->call.mode && same_reply(&entry->reply, &one->reply) &&
+                                                same_resource(&entry->call.resource, &one->call.resource)));
+}
+
+/* Whether the answer to the session's call is that of the text, as `3 granted X`. */
+static int is_answer(const session *own, pelgaisti_answer answer, char *text) {
     char *reply = cut(text, " ");
     pelgaisti_reply wanted = reply_of(reply);
-    return answer.place == number_of(text) && answer.reply.kind == wanted.kind && answer.reply.value == wanted.value;
+    pelgaisti_call calls[PELGAISTI_CALLS];
+    return answer.place == number_of(text) && same_reply(&answer.reply, &wanted) && calls_asked(own, calls) == 1 &&
+           note(own, &calls[0], answer.place, answer.reply);
 }
 
 /* Whether the list has the numbers of the text, in its order or in any. */
@@ -145,6 +229,7 @@ static int is_idle(session *own) {
 static int publish(session *own, char *text) {
     pelgaisti_call call = call_of(text);
     uint32_t posted = 0;
+    ask_call(own, &call);
     return is_idle(own) && pelgaisti_session_publish(own, &call, &posted) == PELGAISTI_OK && posted == PELGAISTI_LISTED;
 }
 
@@ -168,7 +253,7 @@ static int serve_some(session *own) {
 
 static int collect(session *own, char *text) {
     pelgaisti_answer answer;
-    return pelgaisti_session_collect(own, &answer) == PELGAISTI_OK && is_answer(answer, text) && is_idle(own);
+    return pelgaisti_session_collect(own, &answer) == PELGAISTI_OK && is_answer(own, answer, text) && is_idle(own);
 }
 
 static int make(session *own, char *text) {
@@ -193,9 +278,10 @@ static int perform(session *own, char *text) {
     pelgaisti_answer answer;
     pelgaisti_status status;
     if (!is_idle(own)) return 0;
+    ask_call(own, &call);
     status = pelgaisti_session_perform_at_once(own, &call, &pass, &answer);
     if (status == PELGAISTI_NO_MEMORY) status = pelgaisti_session_perform_at_once(own, &call, &pass, &answer);
-    return status == PELGAISTI_OK && is_answer(answer, wanted) && pass.served == number_of(serving) && !pass.starved && is_idle(own);
+    return status == PELGAISTI_OK && is_answer(own, answer, wanted) && pass.served == number_of(serving) && !pass.starved && is_idle(own);
 }
 
 static int tell(session *own, char *text) {
@@ -207,9 +293,10 @@ static int tell(session *own, char *text) {
     size_t length = 99;
     pelgaisti_status status;
     if (!is_idle(own)) return 0;
+    ask_call(own, &call);
     status = pelgaisti_session_perform_telling(own, &call, &pass, &answer, told, MOST, &length);
     if (status == PELGAISTI_NO_MEMORY) status = pelgaisti_session_perform_telling(own, &call, &pass, &answer, told, MOST, &length);
-    return status == PELGAISTI_OK && is_answer(answer, wanted) && pass.served == number_of(serving) && !pass.starved &&
+    return status == PELGAISTI_OK && is_answer(own, answer, wanted) && pass.served == number_of(serving) && !pass.starved &&
            is_list(told, length, telling + (*telling == ' '), 0);
 }
 
@@ -231,7 +318,7 @@ static int resume(session *own, char *text) {
     pelgaisti_answer answer;
     pelgaisti_status status = pelgaisti_session_perform(own, NULL, 1, &answer);
     if (status == PELGAISTI_NO_MEMORY) status = pelgaisti_session_perform(own, NULL, 1, &answer);
-    return status == PELGAISTI_OK && is_answer(answer, text) && is_idle(own);
+    return status == PELGAISTI_OK && is_answer(own, answer, text) && is_idle(own);
 }
 
 static int call_whole(session *own, char *text) {
@@ -240,9 +327,62 @@ static int call_whole(session *own, char *text) {
     pelgaisti_answer answer;
     pelgaisti_status status;
     if (!is_idle(own)) return 0;
+    ask_call(own, &call);
     status = pelgaisti_session_perform(own, &call, 1, &answer);
     if (status == PELGAISTI_NO_MEMORY) return resume(own, wanted);
-    return status == PELGAISTI_OK && is_answer(answer, wanted) && is_idle(own);
+    return status == PELGAISTI_OK && is_answer(own, answer, wanted) && is_idle(own);
+}
+
+/* The program of the calls behind so many of this one. */
+static pelgaisti_program rest_of(pelgaisti_program program, uint32_t served) {
+    uint32_t starts = program.start == PELGAISTI_NOTHING ? 0 : program.start >= PELGAISTI_COMMITS_AND_BEGINS && program.start != PELGAISTI_RESTARTS ? 2 : 1;
+    if (served == 0) return program;
+    program.start = served < starts ? PELGAISTI_BEGINS : PELGAISTI_NOTHING;
+    if (served > starts) program.from += served - starts;
+    return program;
+}
+
+/* Whether the session's program gets the replies of the text, as `6 committed 1, began 2`, the first at this place; whether it is pending,
+   or is run in one turn. Where memory is refused to a call, the calls from there on are another program, which is run then. */
+static int is_run(session *own, char *text, int is_pending) {
+    char *reply = cut(text, " "), *rest;
+    uint64_t place = number_of(text);
+    pelgaisti_call calls[PELGAISTI_CALLS];
+    pelgaisti_program program = asked[own - sessions];
+    pelgaisti_program_answer answer;
+    pelgaisti_reply wanted = {0, 0};
+    size_t done = 0, all = calls_asked(own, calls);
+    do {
+        pelgaisti_status status = pelgaisti_session_run(own, is_pending ? NULL : &program, 1, &answer);
+        if (status == PELGAISTI_NO_MEMORY) status = pelgaisti_session_run(own, NULL, 1, &answer);
+        if (status != PELGAISTI_OK || answer.place != place + done) return 0;
+        for (size_t k = 0; k < answer.served; k++, done++, reply = rest) {
+            if (!*reply) return 0;
+            rest = cut(reply, ", ");
+            wanted = reply_of(reply);
+            if (done == all || !same_reply(&answer.replies[k], &wanted) || !note(own, &calls[done], place + done, wanted)) return 0;
+        }
+        program = rest_of(program, answer.served);
+        is_pending = 0;
+    } while (answer.starved);
+    return !*reply && answer.stop == (stops_at(wanted.kind) ? wanted.kind : 0) && (answer.stop || done == all) && is_idle(own);
+}
+
+static int run(session *own, char *text) {
+    char *wanted = cut(text, ": ");
+    asked[own - sessions] = program_of(text);
+    return is_idle(own) && is_run(own, wanted, 0);
+}
+
+static int post(session *own, char *text) {
+    pelgaisti_program_answer answer;
+    asked[own - sessions] = program_of(text);
+    return is_idle(own) && pelgaisti_session_run(own, &asked[own - sessions], 0, &answer) == PELGAISTI_NOT_SERVED;
+}
+
+static int bound(session *own, char *text) {
+    char *locks = cut(text, " "), *rounds = cut(locks, " ");
+    return pelgaisti_session_bound_passes(own, (uint32_t)number_of(text), (uint32_t)number_of(locks), (uint32_t)number_of(rounds)) == PELGAISTI_OK;
 }
 
 static uint64_t seen_by(session *own) {
@@ -281,7 +421,10 @@ static int take(session *own, char *text) {
     size_t length = 99;
     pelgaisti_status status = pelgaisti_session_take_history(own, &first, entries, ROOM, &length);
     if (status == PELGAISTI_NO_MEMORY) status = pelgaisti_session_take_history(own, &first, entries, ROOM, &length);
-    return status == PELGAISTI_OK && first == number_of(text) && length == number_of(many);
+    if (status != PELGAISTI_OK || first != number_of(text) || length != number_of(many)) return 0;
+    for (size_t k = 0; k < length; k++)
+        if (!is_noted(&entries[k], first + k)) return 0;
+    return 1;
 }
 
 /* Whether a lock or a fresh request is that of the text, as `held 1 1 X`: the kind, the session, the resource and the mode. The
@@ -290,9 +433,9 @@ static int is_claim(const pelgaisti_claim *claim, char *text) {
     static const name claims[] = {{"held", PELGAISTI_HELD}, {"fresh", PELGAISTI_FRESH}};
     char *whose = cut(text, " "), *resource = cut(whose, " "), *mode = cut(resource, " ");
     uint64_t number = number_of(whose);
+    pelgaisti_resource wanted = resource_of(resource);
     return claim->kind == find(claims, COUNT(claims), text, "not a claim") && claim->session == number && claim->transaction == number &&
-           claim->doomed == 0 && claim->mode == mode_of(mode) && claim->resource.level == 1 &&
-           claim->resource.numbers[0] == number_of(resource);
+           claim->doomed == 0 && claim->mode == mode_of(mode) && same_resource(&claim->resource, &wanted);
 }
 
 static int ask_list(session *own, const char *word, char *about, char *found, uint64_t *seen) {
@@ -357,6 +500,12 @@ static int ask(session *own, char *text) {
         memset(&claim, 0x55, sizeof claim);
         status = pelgaisti_session_request(own, (uint32_t)number_of(about), &claim, &seen);
         is_so = is_off || (!strcmp(found, "nothing") ? claim.kind == 0 : is_claim(&claim, found));
+    } else if (!strcmp(text, "passes")) {
+        pelgaisti_pass_counts passes = {99, 99, 99};
+        char line[LONGEST];
+        status = pelgaisti_session_passes(own, &passes, &seen);
+        sprintf(line, "made %lu, served %lu, starved %lu", (unsigned long)passes.made, (unsigned long)passes.served, (unsigned long)passes.starved);
+        is_so = !strcmp(line, found);
     } else {
         is_so = ask_list(own, text, about, found, &seen);
         status = PELGAISTI_OK;
@@ -393,6 +542,10 @@ static int perform_line(const char *text) {
     if (!strcmp(step, "calls")) return call_whole(own, rest);
     if (!strcmp(step, "resumes")) return resume(own, rest);
     if (!strcmp(step, "stays")) return stay(own);
+    if (!strcmp(step, "runs")) return run(own, rest);
+    if (!strcmp(step, "posts")) return post(own, rest);
+    if (!strcmp(step, "finishes")) return is_run(own, rest, 1);
+    if (!strcmp(step, "bounds")) return bound(own, rest);
     if (!strcmp(step, "polls")) return poll(own, rest);
     if (!strcmp(step, "is")) return finds_nothing(own, rest);
     if (!strcmp(step, "saw")) return seen_by(own) == number_of(rest);
@@ -468,29 +621,15 @@ static pelgaisti_status close_office(session *own, pelgaisti_book *book) {
     return status == PELGAISTI_NO_MEMORY ? pelgaisti_office_close(own, book) : status;
 }
 
-/* Whether an entry at this place is the line's, as `1 makes lock 1 X: 3 granted X`. */
-static int is_entry(pelgaisti_entry entry, uint64_t place, const char *of) {
-    char line[LONGEST], *step, *rest, *answer;
-    pelgaisti_call call;
-    pelgaisti_answer found;
-    strcpy(line, of);
-    step = cut(line, " ");
-    rest = cut(step, " ");
-    answer = cut(rest, ": ");
-    call = call_of(rest);
-    found.place = place;
-    found.reply = entry.reply;
-    return entry.session == number_of(line) && entry.call.op == call.op && entry.call.mode == call.mode &&
-           entry.call.resource.level == call.resource.level && entry.call.resource.numbers[0] == call.resource.numbers[0] &&
-           is_answer(found, answer);
-}
-
+/* Whether each entry that the book keeps is the one that is noted at its place, if one is. */
 static int is_history(pelgaisti_book *book) {
-    pelgaisti_entry entries[ROOM];
-    size_t length = 99;
-    if (pelgaisti_book_history(book, 0, entries, ROOM, &length) != PELGAISTI_OK || length != one.lines) return 0;
-    for (unsigned k = 0; k < one.lines; k++)
-        if (!is_entry(entries[k], k, one.line[k])) return 0;
+    static pelgaisti_entry entries[PLACES];
+    uint64_t first = 0;
+    size_t length = PLACES;
+    if (pelgaisti_book_first_kept(book, &first) != PELGAISTI_OK) return 0;
+    if (pelgaisti_book_history(book, first, entries, PLACES, &length) != PELGAISTI_OK) return 0;
+    for (size_t k = 0; k < length; k++)
+        if (!is_noted(&entries[k], first + k)) return 0;
     return 1;
 }
 
@@ -520,13 +659,8 @@ static int end_case(void) {
                close_office(last, &book) == PELGAISTI_MISSING;
     }
     if (close_office(last, &book) != PELGAISTI_OK) return !*end;
-    if (!strcmp(end, "book"))
-        is_so = is_book(&book, rest);
-    else if (!strcmp(end, "history"))
-        is_so = is_history(&book);
-    else
-        is_so = !*end;
-    return is_so && pelgaisti_book_close(&book) == PELGAISTI_OK;
+    is_so = strcmp(end, "book") ? !*end : is_book(&book, rest);
+    return is_so && is_history(&book) && pelgaisti_book_close(&book) == PELGAISTI_OK;
 }
 
 /* Performs the case once. Returns the line that went otherwise, or NULL. */
@@ -536,6 +670,7 @@ static const char *perform_case(void) {
     sessions += count;
     if (sessions + MOST > handles + HANDLES) stop("too many rounds", one.name);
     memset(has_left, 0, sizeof has_left);
+    memset(noted, 0, sizeof noted);
     count = one.sessions;
     starved = starved_then = 0;
     refused_in_some = 0;

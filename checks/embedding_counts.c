@@ -235,6 +235,26 @@ static void count_by_hand(void) {
     MUST(pelgaisti_book_close(&book) == PELGAISTI_OK && pelgaisti_book_close(&closed) == PELGAISTI_OK);
 }
 
+/* Two readers wait for a writer, and are granted by its commit: what the gauges tell then. */
+static void gauge_a_queue(void) {
+    static const pelgaisti_gauges queued = {3, 1, 2, 2}, granted = {2, 2, 0, 0};
+    pelgaisti_book book = PELGAISTI_EMPTY;
+    pelgaisti_call begin = call_of(PELGAISTI_BEGIN, 0, 0, 0), commit = call_of(PELGAISTI_COMMIT, 0, 0, 0);
+    pelgaisti_gauges now;
+    pelgaisti_reply reply;
+    MUST(pelgaisti_book_open(&book, 3) == PELGAISTI_OK);
+    for (uint32_t session = 1; session <= 3; session++) {
+        pelgaisti_call lock = call_of(PELGAISTI_LOCK, session == 1 ? PELGAISTI_X : PELGAISTI_S, 1, 0);
+        MUST(pelgaisti_book_serve(&book, session, &begin, &reply) == PELGAISTI_OK);
+        MUST(pelgaisti_book_serve(&book, session, &lock, &reply) == PELGAISTI_OK);
+    }
+    now = gauges_of_book(&book);
+    MUST(!memcmp(&now, &queued, sizeof now));
+    MUST(pelgaisti_book_serve(&book, 1, &commit, &reply) == PELGAISTI_OK);
+    now = gauges_of_book(&book);
+    MUST(!memcmp(&now, &granted, sizeof now) && pelgaisti_book_close(&book) == PELGAISTI_OK);
+}
+
 /* The calls of batches, paths and programs count by themselves, and so do those whose entries are let go. */
 static void count_several(void) {
     static const pelgaisti_resource page = {3, {10000, 1, 1}};
@@ -385,7 +405,7 @@ static void count_threads(const char *file) {
 }
 
 int main(int count, char **words) {
-    if (count == 2 && !strcmp(words[1], "calls")) count_by_hand(), count_several();
+    if (count == 2 && !strcmp(words[1], "calls")) count_by_hand(), count_several(), gauge_a_queue();
     else if (count == 2 && !strcmp(words[1], "trace")) count_trace();
     else if (count == 4 && !strcmp(words[1], "threads")) calls_each = strtol(words[3], NULL, 10), count_threads(words[2]);
     else return 64;

@@ -196,6 +196,26 @@ static void the_newest_are_kept(void) {
     }
 }
 
+/* A victim that restarts keeps its number: behind `cross`, places 6 to 10, session 1 closes the cycle, and transaction 2 is the younger one
+   again. */
+static void a_restarted_victim_is_one_again(void) {
+    pelgaisti_book book = PELGAISTI_EMPTY;
+    struct told told;
+    open_book(&book, 2, 2);
+    cross(&book);
+    serve(&book, 1, call_of(PELGAISTI_WITHDRAW, 0, none), PELGAISTI_WITHDRAWN, 0);
+    serve(&book, 2, call_of(PELGAISTI_RESTART, 0, none), PELGAISTI_RESTARTED, 1);
+    take(&book, 2, PELGAISTI_X, two);
+    ask(&book, 2, PELGAISTI_S, one, PELGAISTI_WAITING);
+    ask(&book, 1, PELGAISTI_S, two, PELGAISTI_WAITING);
+    told = told_by_book(&book, ROOM, MEMBER_ROOM);
+    CHECK(told.count == 2 && told.member_count == 4 && is_deadlock(&told, 1, 10, 1, 2));
+    want_cross(&told, 0, 0);
+    CHECK(is_member(&told, 2, 2, 2, PELGAISTI_FRESH, PELGAISTI_S, one, PELGAISTI_X));
+    CHECK(is_member(&told, 3, 1, 1, PELGAISTI_FRESH, PELGAISTI_S, two, PELGAISTI_X));
+    close_book(&book);
+}
+
 /* With less room than there is, the first ones are written, and all are counted: deadlocks and members each by their own room. */
 static void room_is_kept(void) {
     pelgaisti_book book = PELGAISTI_EMPTY;
@@ -585,6 +605,7 @@ static void offices(void) {
 
 int main(void) {
     the_newest_are_kept();
+    a_restarted_victim_is_one_again();
     room_is_kept();
     three_in_a_cycle();
     one_waits_behind_a_request();

@@ -197,7 +197,9 @@ static void serve_batch(pelgaisti_book *book) {
 
 static void books(void) {
     pelgaisti_book book = PELGAISTI_EMPTY;
+    long before = refusals;
     uint32_t status = pelgaisti_book_open(&book, SESSIONS);
+    CHECK((refusals > before) == (status == PELGAISTI_NO_MEMORY)); /* all that an opening allocates is what it makes */
     if (is_lacking(BOOK_OPEN, status)) {
         CHECK(book.is_open_ == 0 && book.at_ == NULL);
         status = pelgaisti_book_open(&book, SESSIONS);

@@ -3,6 +3,7 @@
    Prints the line of each check that fails, and last 'N passed, M failed'. */
 #define _XOPEN_SOURCE 600
 #include "pelgaisti.h"
+#include "program_calls.h"
 #include <pthread.h>
 #include <semaphore.h>
 #include <stdio.h>
@@ -376,25 +377,6 @@ static void *run_at_random(void *argument) {
     return NULL;
 }
 
-/* The calls of a program, in order, as the header's comment says, by themselves. */
-static size_t calls_of(const pelgaisti_program *program, pelgaisti_call calls[PELGAISTI_CALLS]) {
-    static const uint32_t firsts[6][2] = {{0, 0}, {PELGAISTI_BEGIN, 0}, {PELGAISTI_COMMIT, 0}, {PELGAISTI_ABORT, 0},
-                                          {PELGAISTI_COMMIT, PELGAISTI_BEGIN}, {PELGAISTI_ABORT, PELGAISTI_BEGIN}};
-    const pelgaisti_call *last = &program->last;
-    int has_resource = last->op == PELGAISTI_LOCK || last->op == PELGAISTI_CONVERT || last->op == PELGAISTI_TRY || last->op == PELGAISTI_RELEASE;
-    size_t count = 0;
-    for (size_t k = 0; k < 2; k++)
-        if (firsts[program->start][k]) calls[count++] = call_of(firsts[program->start][k], 0, 0, 0, 0);
-    for (uint32_t level = program->from; has_resource && level < last->resource.level; level++) {
-        pelgaisti_call lock = {PELGAISTI_LOCK, program->above, {0, {0}}};
-        lock.resource.level = level;
-        memcpy(lock.resource.numbers, last->resource.numbers, level * sizeof(uint32_t));
-        calls[count++] = lock;
-    }
-    if (last->op) calls[count++] = *last;
-    return count;
-}
-
 static int same_call(const pelgaisti_call *one, const pelgaisti_call *other) {
     if (one->op != other->op) return 0;
     if (one->op == PELGAISTI_LOCK || one->op == PELGAISTI_CONVERT || one->op == PELGAISTI_TRY) {
@@ -405,8 +387,6 @@ static int same_call(const pelgaisti_call *one, const pelgaisti_call *other) {
     return one->resource.level == other->resource.level &&
            !memcmp(one->resource.numbers, other->resource.numbers, one->resource.level * sizeof(uint32_t));
 }
-
-static int stops_at(uint32_t kind) { return kind == PELGAISTI_WAITING || kind == PELGAISTI_DEADLOCK || kind == PELGAISTI_REFUSED; }
 
 /* Whether the program's calls stand side by side in the history from its place on, with its replies; goes on behind each but the last,
    and stops at the last if calls are left; and comes behind `from`. */

@@ -2333,6 +2333,111 @@ static void passes_tell(void) {
     CHECK(pelgaisti_book_close(&book) == PELGAISTI_OK);
 }
 
+enum { TELLERS = 8, TELLER_CALLS = 500, TELLER_SESSIONS = 2 * TELLERS };
+
+/* A pass that served calls: how many the history had then, and whom it told, by the bits of their numbers. */
+typedef struct told_pass {
+    uint64_t upto;
+    uint32_t served, told, count;
+} told_pass;
+
+/* A thread with two sessions, what it saw of its passes, and how often a session heard the other one. */
+typedef struct teller {
+    pelgaisti_session *two;
+    uint32_t state, hears;
+    uint64_t bad;
+    size_t count;
+    told_pass passes[TELLERS * TELLER_CALLS];
+} teller;
+
+/* Tries to make a pass that tells. Returns whether the session's answer is there. */
+static int tell_and_collect(teller *t, pelgaisti_session *session, pelgaisti_answer *answer) {
+    uint32_t list[TELLER_SESSIONS];
+    pelgaisti_pass pass = {99, 99};
+    size_t count = 99;
+    pelgaisti_status status = pelgaisti_session_serve_telling(session, &pass, list, TELLER_SESSIONS, &count);
+    if (status == PELGAISTI_OK && pass.served > 0) {
+        told_pass *it = &t->passes[t->count++];
+        t->bad += pelgaisti_session_seen(session, &it->upto) != PELGAISTI_OK || pass.starved != 0;
+        it->served = pass.served;
+        it->count = (uint32_t)count;
+        for (size_t k = 0; k < count; k++) it->told |= 1u << list[k];
+    } else {
+        t->bad += status != PELGAISTI_ELSEWHERE && !(status == PELGAISTI_OK && pass.starved == 0 && count == 0);
+    }
+    return pelgaisti_session_collect(session, answer) == PELGAISTI_OK;
+}
+
+/* Makes random calls of both sessions. Ahead of a third of them the session hears the other one, and then the call comes behind all entries
+   that the other one has seen. */
+static void *tell_and_hear(void *argument) {
+    static const uint32_t ops[] = {PELGAISTI_BEGIN, PELGAISTI_BEGIN, PELGAISTI_LOCK, PELGAISTI_LOCK, PELGAISTI_LOCK, PELGAISTI_POLL,
+                                   PELGAISTI_TRY, PELGAISTI_WITHDRAW, PELGAISTI_COMMIT, PELGAISTI_ABORT};
+    teller *t = (teller *)argument;
+    for (int k = 0; k < TELLER_CALLS; k++) {
+        uint32_t who = draw(&t->state, 2), mode = draw(&t->state, 3) == 0 ? PELGAISTI_X : PELGAISTI_S;
+        pelgaisti_call call = call_of(ops[draw(&t->state, COUNT(ops))], mode, 1, 1 + draw(&t->state, 3), 0);
+        pelgaisti_session *own = &t->two[who], *other = &t->two[1 - who];
+        pelgaisti_answer answer = {0, {0, 0}};
+        uint64_t known = 0;
+        if (draw(&t->state, 3) == 0) {
+            t->bad += pelgaisti_session_seen(other, &known) != PELGAISTI_OK || pelgaisti_session_hear(own, other) != PELGAISTI_OK;
+            t->hears++;
+        }
+        t->bad += pelgaisti_session_publish(own, &call, NULL) != PELGAISTI_OK;
+        while (!tell_and_collect(t, own, &answer)) sched_yield();
+        t->bad += answer.place < known;
+    }
+    return NULL;
+}
+
+/* Serves a pass of the history on another book. Returns whether it told exactly the sessions whose wait its calls end there, each once. */
+static int is_told(pelgaisti_book *of, pelgaisti_book *twin, const told_pass *pass) {
+    uint32_t told = 0, count = 0, list[TELLER_SESSIONS];
+    for (uint64_t place = pass->upto - pass->served; place < pass->upto; place++) {
+        pelgaisti_entry entry;
+        pelgaisti_reply reply;
+        size_t got = 0;
+        if (pelgaisti_book_history(of, place, &entry, 1, &got) != PELGAISTI_OK || got != 1) return 0;
+        if (pelgaisti_book_serve(twin, entry.session, &entry.call, &reply) != PELGAISTI_OK) return 0;
+        if (reply.kind != entry.reply.kind || reply.value != entry.reply.value) return 0;
+        if (pelgaisti_book_ended(twin, list, TELLER_SESSIONS, &got) != PELGAISTI_OK) return 0;
+        for (size_t k = 0; k < got; k++) told |= 1u << list[k];
+    }
+    for (uint32_t left = told; left; left &= left - 1) count++;
+    return told == pass->told && count == pass->count;
+}
+
+/* Eight threads make random calls by passes that tell: each pass tells those whose wait the calls of its part of the history end, and no
+   others, and with these parts the history is whole. Nobody is told of where another thread has the lock table. */
+static void threads_tell(void) {
+    static pelgaisti_session sessions[TELLER_SESSIONS];
+    static teller tellers[TELLERS];
+    static const told_pass *at[TELLERS * TELLER_CALLS];
+    pelgaisti_book book = PELGAISTI_EMPTY, twin = PELGAISTI_EMPTY;
+    pthread_t threads[TELLERS];
+    uint64_t length = 0, place = 0, telling = 0;
+    CHECK(pelgaisti_office_open(sessions, TELLER_SESSIONS) == PELGAISTI_OK);
+    for (uint32_t k = 0; k < TELLERS; k++) {
+        tellers[k].two = &sessions[2 * k];
+        tellers[k].state = k;
+        CHECK(pthread_create(&threads[k], NULL, tell_and_hear, &tellers[k]) == 0);
+    }
+    for (uint32_t k = 0; k < TELLERS; k++) {
+        CHECK(pthread_join(threads[k], NULL) == 0 && tellers[k].bad == 0 && tellers[k].hears > 0);
+        for (size_t n = 0; n < tellers[k].count; n++) at[tellers[k].passes[n].upto - tellers[k].passes[n].served] = &tellers[k].passes[n];
+    }
+    for (size_t k = 1; k < TELLER_SESSIONS; k++) CHECK(pelgaisti_session_hand_in(&sessions[k], &sessions[0]) == PELGAISTI_OK);
+    CHECK(pelgaisti_office_close(&sessions[0], &book) == PELGAISTI_OK && pelgaisti_book_open(&twin, TELLER_SESSIONS) == PELGAISTI_OK);
+    CHECK(pelgaisti_book_length(&book, &length) == PELGAISTI_OK && length == TELLERS * TELLER_CALLS);
+    while (place < length && at[place] && is_told(&book, &twin, at[place])) {
+        telling += at[place]->count > 0;
+        place = at[place]->upto;
+    }
+    CHECK(place == length && telling > 0);
+    CHECK(pelgaisti_book_close(&twin) == PELGAISTI_OK && pelgaisti_book_close(&book) == PELGAISTI_OK);
+}
+
 /* A call performed at once gives its answer without a publish, tells whose wait it has ended, and refuses as a publish does. The
    statuses NO_MEMORY and ELSEWHERE are in embedding_memory.c. */
 static void calls_at_once(void) {
@@ -2958,6 +3063,38 @@ static void passes_keep_to_their_bound(void) {
     CHECK(pelgaisti_office_close(&four[3], &book) == PELGAISTI_OK && pelgaisti_book_close(&book) == PELGAISTI_OK);
 }
 
+/* An office closes with an open transaction, a waiting request and a victim, and wakes nobody: the book has them all. Its calls may end them,
+   or its close frees them. A pending call is heard before. */
+static void offices_close_with_transactions(void) {
+    const pelgaisti_call begin = call_of(PELGAISTI_BEGIN, 0, 0, 0, 0), abort = call_of(PELGAISTI_ABORT, 0, 0, 0, 0);
+    const pelgaisti_call seven = call_of(PELGAISTI_LOCK, PELGAISTI_X, 1, 7, 0), eight = call_of(PELGAISTI_LOCK, PELGAISTI_X, 1, 8, 0);
+    for (int is_ended = 0; is_ended < 2; is_ended++) {
+        pelgaisti_session sessions[4] = {PELGAISTI_EMPTY, PELGAISTI_EMPTY, PELGAISTI_EMPTY, PELGAISTI_EMPTY};
+        uint32_t wakes[5] = {0, 0, 0, 0, 0}, at_close[5];
+        const pelgaisti_waker waker = {count_wake, wakes};
+        pelgaisti_book book = PELGAISTI_EMPTY;
+        pelgaisti_program_answer heard;
+        pelgaisti_gauges gauges;
+        pelgaisti_reply reply;
+        CHECK(pelgaisti_office_open_waking(sessions, 4, UINT64_MAX, &waker) == PELGAISTI_OK);
+        for (int s = 0; s < 3; s++) CHECK(kind_of(&sessions[s], begin) == PELGAISTI_BEGAN);
+        /* 1 has 7, 2 has 8 and waits for 7, 3 waits for 7, and 1 closes a cycle with 2 */
+        CHECK(kind_of(&sessions[0], seven) == PELGAISTI_GRANTED && kind_of(&sessions[1], eight) == PELGAISTI_GRANTED);
+        CHECK(kind_of(&sessions[1], seven) == PELGAISTI_WAITING && kind_of(&sessions[2], seven) == PELGAISTI_WAITING);
+        CHECK(kind_of(&sessions[0], eight) == PELGAISTI_WAITING);
+        CHECK(pelgaisti_session_publish(&sessions[3], &begin, NULL) == PELGAISTI_OK);
+        CHECK(pelgaisti_session_hand_in(&sessions[3], &sessions[0]) == PELGAISTI_PENDING && pelgaisti_office_close(&sessions[0], &book) == PELGAISTI_MISSING);
+        CHECK(pelgaisti_session_run(&sessions[3], NULL, UINT64_MAX, &heard) == PELGAISTI_OK && heard.replies[0].kind == PELGAISTI_BEGAN);
+        memcpy(at_close, wakes, sizeof wakes);
+        for (int s = 1; s < 4; s++) CHECK(pelgaisti_session_hand_in(&sessions[s], &sessions[0]) == PELGAISTI_OK);
+        CHECK(pelgaisti_office_close(&sessions[0], &book) == PELGAISTI_OK && pelgaisti_book_gauges(&book, &gauges) == PELGAISTI_OK);
+        CHECK(gauges.transactions == 4 && gauges.locks == 2 && gauges.waiting == 2 && gauges.longest_queue == 1);
+        for (uint32_t s = 1; is_ended && s <= 4; s++) CHECK(pelgaisti_book_serve(&book, s, &abort, &reply) == PELGAISTI_OK && reply.kind == PELGAISTI_ABORTED);
+        CHECK(!is_ended || (pelgaisti_book_gauges(&book, &gauges) == PELGAISTI_OK && gauges.transactions + gauges.locks + gauges.waiting == 0));
+        CHECK(memcmp(at_close, wakes, sizeof wakes) == 0 && pelgaisti_book_close(&book) == PELGAISTI_OK);
+    }
+}
+
 int main(int argc, char **argv) {
     if (argc > 1 && !strcmp(argv[1], "calls")) {
         for (size_t k = 0; k < COUNT(all_calls); k++) printf("pelgaisti_%s\n", all_calls[k].name);
@@ -3004,6 +3141,7 @@ int main(int argc, char **argv) {
     no_history_depends_on_seeds();
     seeded_wakers();
     passes_tell();
+    threads_tell();
     calls_at_once();
     threads_sleep();
     threads_are_cancelled();
@@ -3012,6 +3150,7 @@ int main(int argc, char **argv) {
     each_pass_wakes();
     many_are_woken();
     a_session_wakes_itself();
+    offices_close_with_transactions();
     printf("%d passed, %d failed\n", passed, failed);
     return failed != 0;
 }

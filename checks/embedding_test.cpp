@@ -27,9 +27,12 @@ using pelgaisti::op;
 
 // The largest allocation of this program since it was forgotten.
 static std::size_t largest;
+// How many allocations are made before one is refused; none is if this is negative.
+static long left = -1;
 
 [[gnu::noinline]] void *operator new(std::size_t size) {
     if (size > largest) largest = size;
+    if (left >= 0 && left-- == 0) throw std::bad_alloc();
     if (void *at = std::malloc(size)) return at;
     throw std::bad_alloc();
 }
@@ -192,14 +195,14 @@ static void programs() {
     answer = book.run(2, program::locks(start::begins, {7, 2}, mode::S), ended);
     CHECK(answer.place() == 4 && answer.size() == 3 && answer.stopped() && answer[2].kind == kind::waiting);
     CHECK(ended == std::vector<std::uint32_t>{9} && book.run(1, program(start::nothing), ended).size() == 0);
-    answer = book.run(1, program::locks(start::commits_and_begins, {8, 1}, mode::X, 1), ended);
+    answer = book.run(1, program::locks(start::commits_and_begins, {8, 1}, mode::X, 0), ended);
     CHECK(answer.size() == 4 && answer[0].value == 3 && ended == (std::vector<std::uint32_t>{9, 2}));
-    CHECK(book.run(1, program::locks(start::nothing, {8, 2}, mode::X, 2), ended).size() == 1);
+    CHECK(book.run(1, program::locks(start::nothing, {8, 2}, mode::X, 1), ended).size() == 1);
     CHECK(book.run(2, program(start::nothing, {op::poll}), ended)[0].kind == kind::clear);
     answer = book.run(2, program(start::restarts, {op::lock, mode::S, {9}}), ended);
     CHECK(answer[0].kind == kind::restarted && answer[0].value == 2 && answer[1].kind == kind::granted);
     CHECK(book.run(2, program(start::aborts, {op::try_lock, mode::S, {8}}), ended).stopped());
-    CHECK(throws(PELGAISTI_NOT_ON_PATH, [&] { static_cast<void>(book.run(1, program::locks(start::begins, {8}, mode::X, 2), ended)); }));
+    CHECK(throws(PELGAISTI_NOT_ON_PATH, [&] { static_cast<void>(book.run(1, program::locks(start::begins, {8}, mode::X, 1), ended)); }));
     CHECK(throws(PELGAISTI_NO_SUCH_OP, [&] { static_cast<void>(book.run(1, program(start::commits, {op::begin}), ended)); }));
     CHECK(throws(PELGAISTI_NO_SUCH_LEVEL, [&] { static_cast<void>(book.run(1, program::locks(start::begins, {}, mode::X), ended)); }));
     CHECK(throws(PELGAISTI_NO_SUCH_SESSION, [&] { static_cast<void>(book.run(3, program(start::begins), ended)); }));
@@ -225,7 +228,7 @@ static void session_programs() {
     office[1].publish({op::poll});
     CHECK(office[1].resume_program()->size() == 1 && throws(PELGAISTI_NOTHING_PENDING, [&] { static_cast<void>(office[1].resume_program()); }));
     CHECK(throws(PELGAISTI_NO_SUCH_OP, [&] { static_cast<void>(office[1].run(program(start::nothing))); }));
-    CHECK(throws(PELGAISTI_NOT_ON_PATH, [&] { static_cast<void>(office[1].run(program::locks(start::begins, {8}, mode::X, 2))); }));
+    CHECK(throws(PELGAISTI_NOT_ON_PATH, [&] { static_cast<void>(office[1].run(program::locks(start::begins, {8}, mode::X, 1))); }));
     CHECK(office.close()->length() == 11);
 }
 
@@ -694,6 +697,52 @@ static void sizes() {
     CHECK(book->history(599, 0).empty() && book->take_history(SIZE_MAX).size() == 1 && largest < most);
 }
 
+// Makes a call with its first allocation refused, then with its second one, and so on, until none is. Behind each that throws the state has
+// to be as it was. Returns how many allocations the call makes.
+template <class Call, class State> static long each_refused(Call call, State is_as_before) {
+    for (long at = 0;; ++at) {
+        left = at;
+        try {
+            call();
+            left = -1;
+            return at;
+        } catch (const std::bad_alloc &) {
+            CHECK(is_as_before());
+        }
+    }
+}
+
+// Lists take memory before the call that writes them, and none behind it: a refusal loses no entry of the history, and no list is copied.
+static void refused_lists() {
+    pelgaisti::office office{20};
+    for (std::uint32_t s = 1; s <= 20; ++s) {
+        CHECK(office[s - 1].perform({op::begin})->reply.kind == kind::began);
+        CHECK(office[s - 1].perform({op::lock, s < 20 ? mode::S : mode::X, {7}})->reply.kind == (s < 20 ? kind::granted : kind::waiting));
+    }
+    const auto always = [] { return true; };
+    pelgaisti::session &asks = office[0];
+    CHECK(each_refused([&] { CHECK(asks.holders({7})->found.size() == 19); }, always) == 2);
+    CHECK(each_refused([&] { CHECK(asks.locks()->found.size() == 20); }, always) == 2);
+    CHECK(each_refused([&] { CHECK(asks.blockers(20)->found.size() == 19); }, always) == 2);
+    CHECK(each_refused([&] { CHECK(asks.dump()->rows.size() == 40); }, always) == 2);
+    CHECK(each_refused([&] { CHECK(asks.locks_of(1, SIZE_MAX)->found.size() == 1); }, always) == 1);
+    std::uint64_t first = 9;
+    CHECK(each_refused([&] { CHECK(asks.take_history(4, first)->size() == 4); }, [&] { return first == 9; }) == 1 && first == 0);
+    CHECK(each_refused([&] { CHECK(asks.take_history(SIZE_MAX, first)->size() == 36); }, [&] { return first == 0; }) == 1 && first == 4);
+
+    for (int call = 0; call < 30; ++call) CHECK(office[1].perform({op::poll})->reply.kind == kind::clear);
+    const auto book = office.close();
+    const auto keeps_all = [&] { return book->first_kept() == 40 && book->length() == 70; };
+    CHECK(each_refused([&] { CHECK(book->holders({7}).size() == 19); }, keeps_all) == 2);
+    CHECK(each_refused([&] { CHECK(book->locks().size() == 20); }, keeps_all) == 2);
+    CHECK(each_refused([&] { CHECK(book->dump().rows.size() == 40); }, keeps_all) == 2);
+    CHECK(each_refused([&] { CHECK(book->blockers(20).size() == 19); }, keeps_all) == 1);
+    CHECK(each_refused([&] { CHECK(book->ended().empty()); }, keeps_all) == 1);
+    CHECK(each_refused([&] { CHECK(book->locks_of(1, SIZE_MAX).size() == 1); }, keeps_all) == 1);
+    CHECK(each_refused([&] { CHECK(book->history(40, SIZE_MAX).size() == 30); }, keeps_all) == 1);
+    CHECK(each_refused([&] { CHECK(book->take_history(20).size() == 20); }, keeps_all) == 1 && book->first_kept() == 60);
+}
+
 static void names() {
     CHECK(std::string(name(mode::U)) == "U" && std::string(name(op::release)) == "release");
     CHECK(std::string(name(kind::clear)) == "clear" && std::string(name(static_cast<kind>(12))) == "unknown");
@@ -705,7 +754,7 @@ static void names() {
 
 int main() {
     for (const auto test : {books, seeds_and_memory, paths_tell, programs, session_programs, tries, offices, books_tell_deadlocks, offices_tell_deadlocks, wakers, a_task_throws,
-                            sessions_have_owners, orphans_wait, threads_share_the_orphans, marks_are_of_transactions, asked_sessions_obey, offices_are_left, sizes, names}) {
+                            sessions_have_owners, orphans_wait, threads_share_the_orphans, marks_are_of_transactions, asked_sessions_obey, offices_are_left, sizes, refused_lists, names}) {
         try {
             test();
         } catch (const pelgaisti::error &error) {

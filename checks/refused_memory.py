@@ -1,7 +1,7 @@
 #!/usr/bin/env python3
-"""Refuses each allocation in turn: of replays, checks, states, dumps, explanations and runs by glm, and of tests of the lock
-table, of the office, of sequential objects and of what is below them. (checks/scripts_of_calls does the same with scripts of
-calls of the lock table.)
+"""Refuses each allocation in turn: of replays, checks, states, dumps, explanations and runs by glm, and of tests of sequential
+objects and of what is below the lock table. (checks/scripts_of_calls does the same with scripts of calls of the lock table,
+checks/embedding with cases of offices and with each call of the library for C that may lack memory.)
 
 Usage: checks/refused_memory.py [--over-gate]
 
@@ -54,29 +54,19 @@ HINTS_OF_A_ROW = 3
 # the tests whose allocations are refused, by the crate: all whose names begin so
 TESTED = {
     "base_tests": ("reports::refused_", "traces::reports_the_row_in_which_memory_was_refused", "waits::refused_"),
-    "desk_tests": ("refusals::",),
     "object_tests": ("refusals::",),
-    "office_tests": ("boards::", "calls::", "closing::", "offices::"),
-    "program_office_tests": ("refusals::",),
 }
 # what tests print of a refusal: for each of these texts there has to be a round that prints it and nothing else
 TOLD = {
-    "offices::a_call_that_found_no_memory_is_made_by_the_next_try": {"starved pass", "starved at once", "starved whole call"},
     "refusals::a_refused_batch_goes_on_at_the_second_try": {"ended early"},
-    "refusals::a_refused_book_is_made_at_the_second_try": {"refused"},
     "refusals::a_refused_call_of_an_object_is_made_at_the_second_try": {"refused call"},
     "refusals::a_refused_key_is_added_at_the_second_try": {"refused key"},
-    "refusals::a_refused_path_goes_on_at_the_second_try": {"refused path"},
-    "refusals::refused_programs_go_on_at_the_second_try": {
-        *("refused published", "refused at once", "refused whole call", "stopped published", "stopped at once", "stopped whole call"),
-    },
     "reports::refused_texts_are_written_at_the_second_try": {"refused"},
     "traces::reports_the_row_in_which_memory_was_refused": {"refused in row 1", "refused in row 3", "refused in row 5"},
     "waits::refused_rows_are_made_at_the_second_try": {"refused"},
 }
 # and these print it in every round: all that they allocate is what they make
 ALWAYS = {
-    "refusals::a_refused_book_is_made_at_the_second_try",
     "reports::refused_texts_are_written_at_the_second_try",
     "waits::refused_rows_are_made_at_the_second_try",
 }

@@ -53,6 +53,7 @@
    -Wl,--wrap=malloc,--wrap=realloc. */
 #include "names.h"
 #include "pelgaisti.h"
+#include "program_calls.h"
 #include "refuse_one.h"
 #include <stdio.h>
 #include <stdlib.h>
@@ -678,21 +679,6 @@ static void want_same_at_random(void) {
 
 enum { EIGHT = 8 };
 
-/* The calls of a program, as the header says. Returns how many there are. */
-static size_t calls_of(const pelgaisti_program *program, pelgaisti_call calls[PELGAISTI_CALLS]) {
-    static const uint32_t starts[7][2] = {{0, 0}, {PELGAISTI_BEGIN, 0}, {PELGAISTI_COMMIT, 0}, {PELGAISTI_ABORT, 0},
-                                          {PELGAISTI_COMMIT, PELGAISTI_BEGIN}, {PELGAISTI_ABORT, PELGAISTI_BEGIN}, {PELGAISTI_RESTART, 0}};
-    const pelgaisti_resource *on = &program->last.resource;
-    uint32_t level;
-    size_t count = 0, k;
-    for (k = 0; k < 2; k++)
-        if (starts[program->start][k]) calls[count++] = entry_of(0, starts[program->start][k], 0, path(0, 0, 0), 0, 0).call;
-    for (level = program->from; level < on->level; level++)
-        calls[count++] = entry_of(0, PELGAISTI_LOCK, program->above, path(level, on->numbers[0], level < 2 ? 0 : on->numbers[1]), 0, 0).call;
-    if (program->last.op) calls[count++] = program->last;
-    return count;
-}
-
 /* A random program of locks on paths of up to three levels, most of them. */
 static pelgaisti_program random_program(void) {
     static const uint32_t drawn[6] = {PELGAISTI_X, PELGAISTI_S, PELGAISTI_IX, PELGAISTI_U, PELGAISTI_IS, PELGAISTI_S};
@@ -724,7 +710,7 @@ static pelgaisti_program_answer run_in_both(uint32_t session, const pelgaisti_pr
     for (k = 0; k < answer.served && !is_wrong; k++) {
         pelgaisti_entry entry = {session, calls[k], {0, 0}};
         pelgaisti_reply reply = serve(&twin, &entry);
-        uint32_t stops = reply.kind == PELGAISTI_WAITING || reply.kind == PELGAISTI_DEADLOCK || reply.kind == PELGAISTI_REFUSED ? reply.kind : 0;
+        uint32_t stops = stops_at(reply.kind) ? reply.kind : 0;
         want(same_reply(&answer.replies[k], &reply), "reply in a program", before + k);
         want(stops == (k + 1 == answer.served ? answer.stop : 0), "stop of a program at", before + k);
         want(pelgaisti_book_ended(&twin, ended, EIGHT, &n) == PELGAISTI_OK && n <= EIGHT, "ended", before + k);

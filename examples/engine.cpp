@@ -81,7 +81,7 @@ struct worker {
     // Begins, if `first` says so, and locks an account and its table, by one program. While a request waits, sleeps, and then goes on with
     // the rest. Whether both were granted within the limit.
     bool lock(pelgaisti::start first, account it, std::chrono::milliseconds limit) {
-        for (std::uint32_t level = 1; level <= 2; first = pelgaisti::start::nothing) {
+        for (std::uint32_t level = 0; level < 2; first = pelgaisti::start::nothing) {
             const auto answer = *session.run(pelgaisti::program::locks(first, {it.table, it.number}, pelgaisti::mode::X, level));
             const auto last = answer[answer.size() - 1];
             if (last.kind == pelgaisti::kind::waiting ? !end_wait(limit) : answer.stopped()) return false;

@@ -3,12 +3,14 @@
 the two accounts that it changes, sleeps while it waits for a lock, and starts again if it is chosen as a deadlock's victim. Whoever ends
 a wait wakes the thread that waits. Between two moves a thread runs one program: it commits, begins, and locks the next account.
 
-    ./embed && python3 examples/engine.py out
+    ./embed && python3 examples/engine.py
 
-The argument is the folder with the shared library and the header, from which the numbers of statuses, calls and replies are read. Each
-thread makes 200 moves, or as many as a second argument says.
+It takes the shared library and the header, from which the numbers of statuses, calls and replies are read, out of the folder that the
+first argument or PELGAISTI_PREFIX names: the prefix of an install, or a folder that has both. Else it takes those of the archive or of the
+checkout that it lies in. Each thread makes 200 moves, or as many as a second argument says.
 """
 import ctypes
+import os
 import random
 import re
 import sys
@@ -16,11 +18,24 @@ import threading
 from ctypes import CFUNCTYPE, POINTER, Structure, byref, c_size_t, c_uint32, c_uint64, c_void_p
 from pathlib import Path
 
-FOLDER = Path(sys.argv[1] if len(sys.argv) > 1 else "out")
+
+def found():
+    """Returns the folders of the header and of the shared library."""
+    above = list(Path(__file__).resolve().parents)
+    given = sys.argv[1] if len(sys.argv) > 1 else os.environ.get("PELGAISTI_PREFIX")
+    for prefix in [Path(given)] if given else [above[1] / "out", *above[4:5]]:
+        for include, lib in ((prefix / "include", prefix / "lib"), (prefix, prefix)):
+            if (include / "pelgaisti.h").is_file() and any(lib.glob("libpelgaisti.so.*")):
+                return include, lib.resolve()
+    sys.exit(f"engine.py: neither {given or 'the folder that it lies in'} nor its include and lib have pelgaisti.h and libpelgaisti.so: "
+             "name a folder, or set PELGAISTI_PREFIX")
+
+
+INCLUDE, LIB = found()
 MOVES = int(sys.argv[2]) if len(sys.argv) > 2 else 200
 ACCOUNTS, BALANCE, THREADS, KEPT = 6, 100, 4, 1024
 
-HEADER = (FOLDER / "pelgaisti.h").read_text(encoding="utf-8")
+HEADER = (INCLUDE / "pelgaisti.h").read_text(encoding="utf-8")
 # the numbers of the header's enums, by their names without PELGAISTI_
 N = {name: int(number) for name, number in re.findall(r"^ +PELGAISTI_(\w+) = (\d+)", HEADER, re.MULTILINE)}
 VERSION = int(re.search(r"^#define PELGAISTI_HEADER_VERSION (\d+)$", HEADER, re.MULTILINE)[1])
@@ -43,9 +58,9 @@ class Answer(Structure):
 
 
 class Program(Structure):
-    """What `start` says, then locks in the mode `above` from a level of the last call's resource on, and the last call."""
+    """What `start` says, then locks in the mode `above` from a level of the last call's resource on, counted from 1, and the last call."""
 
-    _fields_ = [("start", c_uint32), ("level", c_uint32), ("above", c_uint32), ("last", Call)]
+    _fields_ = [("start", c_uint32), ("from_", c_uint32), ("above", c_uint32), ("last", Call)]
 
 
 class ProgramAnswer(Structure):
@@ -58,7 +73,7 @@ class Handle(Structure):
     _fields_ = [("is_open", c_uint32), ("at", c_void_p)]
 
 
-LIBRARY = ctypes.CDLL(str((FOLDER / f"libpelgaisti.so.{VERSION}").resolve()))
+LIBRARY = ctypes.CDLL(str(LIB / f"libpelgaisti.so.{VERSION}"))
 LIBRARY.pelgaisti_version.restype = c_uint32
 if LIBRARY.pelgaisti_version() != VERSION:
     sys.exit("engine.py: the library is of another version than the header")
@@ -125,17 +140,17 @@ class Worker:
         """Does what `start` says, and locks an account of database 1, by one program, and another for what is left behind a wait.
         Returns whether it is held: if it isn't, the transaction is a victim."""
         last = Call(N["LOCK"], N["X"], Resource(2, (c_uint32 * 5)(1, account)))
-        program = Program(N[start], 1, N["IX"], last)
-        while program.level <= last.resource.level:
-            answer = ProgramAnswer()
+        level = 0  # how many levels of the path are locked
+        while level < last.resource.level:
+            program, answer = Program(N[start], level + 1, N["IX"], last), ProgramAnswer()
             expect(run(self.handle, byref(program), NO_LIMIT, byref(answer)), "run")
             kind = self.sleep() if answer.stop == N["WAITING"] else answer.stop
             if kind == N["DEADLOCK"]:
                 return False
             if kind not in (0, N["CLEAR"]):
                 raise RuntimeError(f"a program stopped at kind {kind}")
-            program.level += answer.served - CALLS[start]
-            start, program.start = "NOTHING", N["NOTHING"]
+            level += answer.served - CALLS[start]
+            start = "NOTHING"
         return True
 
     def move(self, source, target, amount):

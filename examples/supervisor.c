@@ -1,9 +1,10 @@
 /*
- * What an engine does about a thread that is lost in its transaction, and about an operator who wants a transaction to end. Three threads
- * have a session each. The first one holds account 1 and waits for a client that doesn't come. The second one writes to account 0, asks
- * for account 1 and ends, with its transaction open and its call pending. The third one needs both accounts. The main thread takes over
- * the session of the second and ends its transaction. With a session of its own it then looks for whom the third one waits, and asks
- * that the transaction of the first end.
+ * What an engine does about a thread that is lost in its transaction, and about an operator who wants a transaction to end. Four threads
+ * have a session each. The first one holds account 1 and waits for a client that doesn't come. The second one pays into account 0, and ends
+ * while the program that commits this and begins the next transaction is pending. The third one writes to account 0, asks for account 1
+ * and ends, with its transaction open and its call pending. The fourth one needs both accounts. The main thread takes over the sessions
+ * of the second and the third: what was committed stays, what wasn't is undone, and their transactions end. With a session of its own it
+ * then looks for whom the fourth one waits, and asks that the transaction of the first end.
  *
  *     ./embed && cc examples/supervisor.c -Iout -Lout -lpelgaisti -lpthread -o supervisor && ./supervisor
  */
@@ -15,7 +16,7 @@
 #include <stdio.h>
 #include <stdlib.h>
 
-enum { IDLE = 1, LOST, BUSY, OPERATOR, SESSIONS = OPERATOR, ACCOUNTS = 2, KEPT = 1024 };
+enum { IDLE = 1, PAYING, LOST, BUSY, OPERATOR, SESSIONS = OPERATOR, ACCOUNTS = 2, KEPT = 1024 };
 
 static long accounts[ACCOUNTS] = {100, 100};
 
@@ -108,33 +109,52 @@ static void keep_writes(client *it) {
     for (int k = 0; k < ACCOUNTS; k++) it->wrote[k] = 0;
 }
 
-/* Writes back what was there, under the locks, and aborts, which also takes a waiting request back. Whether there was a transaction. */
-static int undo_and_abort(client *it) {
+/* Writes back what was there, once, under the locks. */
+static void undo(client *it) {
     for (int k = 0; k < ACCOUNTS; k++)
         if (it->wrote[k]) accounts[k] = it->before[k];
     keep_writes(it);
-    return ask(it, PELGAISTI_ABORT).kind == PELGAISTI_ABORTED;
 }
 
-/* Takes over a session whose thread has ended: finishes its pending call and ends its transaction, so that its number can be used again.
-   Returns whether there was a transaction to end. */
-static int take_over(client *it) {
+/* Takes over a session whose thread has ended: hears what became of its pending call or program, undoes what wasn't committed, and ends its
+   transaction, so that its number can be used again. `had_open` gets whether there was a transaction to end. NO_MEMORY: what is left to do
+   is done by the same call later. RETIRED: its transaction ends with the office. */
+static pelgaisti_status take_over(client *it, int *had_open) {
+    const pelgaisti_call abort = {PELGAISTI_ABORT, 0, {0, {0}}};
+    pelgaisti_program_answer made;
     pelgaisti_answer answer;
-    pelgaisti_status status = pelgaisti_session_perform(&sessions[it->number - 1], NULL, UINT64_MAX, &answer);
-    must(status == PELGAISTI_OK || status == PELGAISTI_NOTHING_PENDING, "resume", pelgaisti_status_name(status));
-    if (status == PELGAISTI_OK && answer.reply.kind == PELGAISTI_COMMITTED) keep_writes(it); /* then the transaction is over */
-    int is_ended = undo_and_abort(it);
-    while (sem_trywait(&it->woken) == 0) continue; /* wake-ups that its thread didn't take */
-    return is_ended;
+    /* a call is heard like a program, as a program of one; pelgaisti_session_perform hears no program of several */
+    pelgaisti_status status = pelgaisti_session_run(&sessions[it->number - 1], NULL, UINT64_MAX, &made);
+    if (status != PELGAISTI_OK && status != PELGAISTI_NOTHING_PENDING) return status;
+    for (uint32_t k = 0; status == PELGAISTI_OK && k < made.served; k++)
+        if (made.replies[k].kind == PELGAISTI_COMMITTED) keep_writes(it); /* a transaction behind it has written nothing yet */
+    undo(it);
+    status = pelgaisti_session_perform(&sessions[it->number - 1], &abort, UINT64_MAX, &answer);
+    if (status != PELGAISTI_OK) return status;
+    *had_open = answer.reply.kind == PELGAISTI_ABORTED; /* also if its request waited, or it was a victim; REFUSED: none was open */
+    while (sem_trywait(&it->woken) == 0) continue;      /* wake-ups that its thread didn't take */
+    return PELGAISTI_OK;
 }
 
-/* Waits until a thread has ended, and gives its session. */
-static client *next_orphan(void) {
+/* Waits until a thread has ended. Returns its session's number. */
+static uint32_t next_orphan(void) {
     pthread_mutex_lock(&guard);
     while (orphan_count == 0) pthread_cond_wait(&came_back, &guard);
-    client *it = &clients[orphans[--orphan_count]];
+    uint32_t session = orphans[--orphan_count];
     pthread_mutex_unlock(&guard);
-    return it;
+    return session;
+}
+
+/* Waits until a thread has ended, which has this session if `whose` isn't 0, and takes the session over. Whether there was a transaction
+   to end. */
+static int take_over_next(uint32_t whose) {
+    int had_open = 0;
+    uint32_t session = next_orphan();
+    must(whose == 0 || session == whose, "take over", "another thread has ended");
+    pelgaisti_status status;
+    while ((status = take_over(&clients[session], &had_open)) == PELGAISTI_NO_MEMORY) sched_yield();
+    must(status == PELGAISTI_OK, "take over", pelgaisti_status_name(status));
+    return had_open;
 }
 
 /* Whatever ends a thread, its session comes back. */
@@ -143,6 +163,17 @@ static void come_back(void *argument) {
     orphans[orphan_count++] = ((client *)argument)->number;
     pthread_cond_signal(&came_back);
     pthread_mutex_unlock(&guard);
+}
+
+/* Is lost with what it has written, and the program that commits it, begins the next transaction and locks the account again: it has
+   published it, and heard of none of its calls. */
+static void get_lost_paying(client *it) {
+    const pelgaisti_program next = {PELGAISTI_COMMITS_AND_BEGINS, 1, PELGAISTI_IX, {PELGAISTI_LOCK, PELGAISTI_X, {2, {1, 0}}}};
+    pelgaisti_program_answer answer;
+    must(lock_account(it, 0), "lock", "nobody has it yet");
+    add(it, 0, 20);
+    must(pelgaisti_session_run(&sessions[it->number - 1], &next, 0, &answer) == PELGAISTI_NOT_SERVED, "run", "a program");
+    pthread_exit(NULL);
 }
 
 /* Is lost with what it has written, its locks, and a call that it has published. */
@@ -161,7 +192,8 @@ static void stay_idle(client *it) {
     add(it, 1, 5);
     sem_post(&is_ready);
     while (!is_asked(it)) sleep_on(&it->woken);
-    must(undo_and_abort(it), "abort", "there was no transaction");
+    undo(it); /* under the locks, before the abort gives them back */
+    must(ask(it, PELGAISTI_ABORT).kind == PELGAISTI_ABORTED, "abort", "there was no transaction");
 }
 
 static void move(client *it) {
@@ -177,6 +209,7 @@ static void *run(void *argument) {
     client *it = (client *)argument;
     pthread_cleanup_push(come_back, it);
     begin(it);
+    if (it->number == PAYING) get_lost_paying(it);
     if (it->number == LOST) get_lost(it);
     if (it->number == IDLE) stay_idle(it);
     if (it->number == BUSY) move(it);
@@ -202,7 +235,7 @@ static void end_blocker(uint32_t waiting, uint32_t blocker) {
 int main(void) {
     pthread_t threads[SESSIONS];
     pelgaisti_book book = PELGAISTI_EMPTY;
-    int ended = 0, is_ended;
+    int lost_ended = 0, others_ended = 0;
 
     pelgaisti_status status = pelgaisti_office_open_waking(sessions, SESSIONS, KEPT, &waker);
     must(status == PELGAISTI_OK, "open", pelgaisti_status_name(status));
@@ -213,20 +246,20 @@ int main(void) {
     }
     for (uint32_t s = IDLE; s <= BUSY; s++) {
         must(pthread_create(&threads[s - 1], NULL, run, &clients[s]) == 0, "start", "there is no thread");
-        if (s != BUSY) sleep_on(&is_ready);
+        if (s == IDLE || s == LOST) sleep_on(&is_ready);
+        if (s == PAYING) lost_ended += take_over_next(PAYING);
     }
-    client *lost = next_orphan();
-    is_ended = take_over(lost);
+    lost_ended += take_over_next(LOST);
     end_blocker(BUSY, IDLE);
-    for (int k = 0; k < 2; k++) ended += take_over(next_orphan()); /* these have ended their transactions themselves */
+    for (int k = 0; k < 2; k++) others_ended += take_over_next(0); /* these have ended their transactions themselves */
     for (uint32_t s = IDLE; s <= BUSY; s++) pthread_join(threads[s - 1], NULL);
-    begin(lost); /* its number is used again */
-    must(ask(lost, PELGAISTI_COMMIT).kind == PELGAISTI_COMMITTED, "commit", "it was refused");
+    begin(&clients[LOST]); /* its number is used again */
+    must(ask(&clients[LOST], PELGAISTI_COMMIT).kind == PELGAISTI_COMMITTED, "commit", "it was refused");
 
     for (int s = 1; s < SESSIONS && status == PELGAISTI_OK; s++) status = pelgaisti_session_hand_in(&sessions[s], &sessions[0]);
     if (status == PELGAISTI_OK) status = pelgaisti_office_close(&sessions[0], &book);
     must(status == PELGAISTI_OK && pelgaisti_book_close(&book) == PELGAISTI_OK, "close", pelgaisti_status_name(status));
-    printf("the transaction of session %u was ended for its thread, that of session %d by its own; the accounts have %ld and %ld\n",
-           (unsigned)lost->number, IDLE, accounts[0], accounts[1]);
-    return !(lost->number == LOST && is_ended && ended == 0 && accounts[0] == 90 && accounts[1] == 110);
+    printf("%d transactions were ended for their threads, that of session %d by its own; the accounts have %ld and %ld\n", lost_ended, IDLE,
+           accounts[0], accounts[1]);
+    return !(lost_ended == 2 && others_ended == 0 && accounts[0] == 110 && accounts[1] == 110);
 }

@@ -15,6 +15,9 @@
  */
 #ifndef PELGAISTI_HPP
 #define PELGAISTI_HPP
+#if !defined(__cplusplus) || (__cplusplus < 201703L && (!defined(_MSVC_LANG) || _MSVC_LANG < 201703L))
+#error "pelgaisti.hpp needs C++17 (-std=c++17); pelgaisti.h works in C and in C++11"
+#else
 #include "pelgaisti.h"
 #include <algorithm>
 #include <atomic>
@@ -75,10 +78,24 @@ template <class T, class Call> T made_by(Call call) {
     T made{};
     return check(call(&made)), made;
 }
+// Behind the call it asks for no memory: what was taken out of the library is in the list.
 template <class T, class Call> std::vector<T> list_by(size_t room, Call call) {
     std::vector<T> list(room);
-    return list.resize(made_by<size_t>([&](auto *count) { return call(list.data(), count); })), list;
+    list.resize(made_by<size_t>([&](auto *count) { return call(list.data(), count); }));
+    return list;
 }
+// The whole list of a call that writes as much of it as there is room for, with how many items it has: made again until all fit. `call`
+// returns whether it wrote.
+template <class T, class Call> bool fill_list(std::vector<T> &list, Call call) {
+    list.resize(8);
+    for (size_t count = 0;; list.resize(count)) {
+        if (!call(list.data(), list.size(), &count)) return false;
+        if (count > list.size()) continue;
+        list.resize(count);
+        return true;
+    }
+}
+inline size_t most_of_a_page(size_t most) { return most < PELGAISTI_MAX_LOCKS ? most : PELGAISTI_MAX_LOCKS; }
 // A path of 1 to PELGAISTI_LEVELS numbers: written out, from where they lie one behind another, or what has them so, as an array, a
 // vector or a span. With another count of numbers the calls fail with NO_SUCH_LEVEL.
 struct resource : pelgaisti_resource {
@@ -128,10 +145,11 @@ struct program : pelgaisti_program {
     explicit program(pelgaisti::start first) : pelgaisti_program{static_cast<uint32_t>(first), 0, 0, {}} {}
     // One call behind it, which doesn't begin, end or restart a transaction, as `first` does: else run fails with NO_SUCH_OP.
     program(pelgaisti::start first, const call &one) : pelgaisti_program{static_cast<uint32_t>(first), one.resource.level, 0, one} {}
-    // A path: the ancestors of the resource, from the level `from` on, in the mode that `in` needs of a parent, and the resource in `in`.
-    static program locks(pelgaisti::start first, const resource &on, mode in, uint32_t from = 1) {
+    // A path of which `level` levels are locked already: the other ancestors of the resource in the mode that `in` needs of a parent, and
+    // the resource in `in`. If all are, run fails with NOT_ON_PATH.
+    static program locks(pelgaisti::start first, const resource &on, mode in, uint32_t level = 0) {
         program made(first, {op::lock, in, on});
-        made.from = from;
+        made.from = level < on.level ? level + 1 : on.level + 1;
         made.above = pelgaisti_parent_mode(static_cast<uint32_t>(in));
         return made;
     }
@@ -193,9 +211,10 @@ public:
     [[nodiscard]] size_t serve_batch(std::vector<entry> &calls) {
         return made_by<size_t>([&](auto *n) { return pelgaisti_book_serve_batch(&handle_, calls.data(), calls.size(), n); });
     }
-    // Locks the ancestors of the resource in the mode that it needs there, and then the resource, from the level `level` on, which
-    // it raises by 1 for each that is granted. It stops at the first reply other than granted. Adds the sessions whose wait one of
-    // these calls has ended to `ended`, each once, also if a later one of them throws.
+    // Locks a path of which `level` levels are locked already: the other ancestors of the resource in the mode that it needs there, and the
+    // resource. `level` is raised by 1 for each that is granted, and it stops at the first reply other than granted. NO_SUCH_LEVEL: all
+    // levels are locked already. Adds the sessions whose wait one of these calls has ended to `ended`, each once, also if a later one of
+    // them throws.
     pelgaisti::reply lock_path(uint32_t session, const pelgaisti::resource &on, mode in, uint32_t &level,
                                std::vector<uint32_t> &ended) {
         uint32_t list[all];
@@ -231,11 +250,10 @@ public:
         return mode(made_by<uint32_t>([&](auto *code) { return pelgaisti_book_held(&handle_, session, &resource, code); }));
     }
     std::vector<pelgaisti_holder> holders(const pelgaisti::resource &resource) {
-        std::vector<pelgaisti_holder> list(8);
-        for (size_t count = 0;; list.resize(count)) {
-            check(pelgaisti_book_holders(&handle_, &resource, list.data(), list.size(), &count));
-            if (count <= list.size()) return list.resize(count), list;
-        }
+        std::vector<pelgaisti_holder> list;
+        fill_list(list, [&](auto *at, size_t room, auto *count) {
+            return check(pelgaisti_book_holders(&handle_, &resource, at, room, count)), true; });
+        return list;
     }
     // The session's open transaction, with number 0 if it has none; and its waiting request, with kind 0 if it doesn't wait.
     pelgaisti_transaction transaction(uint32_t session) {
@@ -246,11 +264,10 @@ public:
     }
     // All locks and waiting requests, resource by resource.
     std::vector<pelgaisti_claim> locks() {
-        std::vector<pelgaisti_claim> list(8);
-        for (size_t count = 0;; list.resize(count)) {
-            check(pelgaisti_book_locks(&handle_, 0, list.data(), list.size(), &count));
-            if (count <= list.size()) return list.resize(count), list;
-        }
+        std::vector<pelgaisti_claim> list;
+        fill_list(list, [&](auto *at, size_t room, auto *count) {
+            return check(pelgaisti_book_locks(&handle_, 0, at, room, count)), true; });
+        return list;
     }
     // Keeps the newest `most` deadlocks from now on, and takes the memory for them; else a book keeps none. SERVED: it has served calls.
     void keep_deadlocks(size_t most) { check(pelgaisti_book_keep_deadlocks(&handle_, most)); }
@@ -273,11 +290,10 @@ public:
     std::vector<pelgaisti_claim> locks_behind(const pelgaisti_claim &last, size_t most) { return page_of(last.session, last.resource, most); }
     // The whole state at one moment, with its place in the history: a row for each open transaction, lock and waiting request.
     pelgaisti::dump dump() {
-        pelgaisti::dump made{0, std::vector<pelgaisti_claim>(8)};
-        for (size_t count = 0;; made.rows.resize(count)) {
-            check(pelgaisti_book_dump(&handle_, made.rows.data(), made.rows.size(), &count, &made.place));
-            if (count <= made.rows.size()) return made.rows.resize(count), made;
-        }
+        pelgaisti::dump made{0, {}};
+        fill_list(made.rows, [&](auto *at, size_t room, auto *count) {
+            return check(pelgaisti_book_dump(&handle_, at, room, count, &made.place)), true; });
+        return made;
     }
     // The counters of the history: how many calls there were, how they were answered, and how waits ended.
     pelgaisti::counts counts() { return made_by<pelgaisti::counts>([&](auto *made) { return pelgaisti_book_counts(&handle_, made); }); }
@@ -310,9 +326,9 @@ private:
         return first >= end ? 0 : end - first < room ? end - first : room;
     }
     std::vector<pelgaisti_claim> page_of(uint32_t session, const pelgaisti_resource &after, size_t most) {
-        std::vector<pelgaisti_claim> list(most);
-        check(pelgaisti_book_locks_of(&handle_, session, &after, list.data(), most, &most));
-        return list.resize(most), list;
+        most = most_of_a_page(most);
+        return list_by<pelgaisti_claim>(most, [&](auto *at, auto *n) {
+            return pelgaisti_book_locks_of(&handle_, session, &after, at, most, n); });
     }
     enum : size_t { all = PELGAISTI_MAX_SESSIONS };
     pelgaisti_book handle_ = PELGAISTI_EMPTY;
@@ -357,7 +373,8 @@ public:
         }
         std::vector<entry> list(room);
         if (elsewhere(pelgaisti_session_take_history(&handle_, &first, list.data(), room, &room))) return std::nullopt;
-        return list.resize(room), list;
+        list.resize(room);
+        return std::optional(std::move(list));
     }
     // Questions about the lock table of the open office. Each tries once for it, and serves no call; nothing if another session has
     // the table. They answer as those of a book.
@@ -452,16 +469,17 @@ private:
         return elsewhere(call(&made.found, &made.length)) ? std::nullopt : std::optional(made);
     }
     template <class T, class Call> static std::optional<seen<std::vector<T>>> listed(Call call) {
-        seen<std::vector<T>> made{std::vector<T>(8), 0};
-        for (size_t count = 0;; made.found.resize(count)) {
-            if (elsewhere(call(made.found.data(), made.found.size(), &count, &made.length))) return std::nullopt;
-            if (count <= made.found.size()) return made.found.resize(count), made;
-        }
+        seen<std::vector<T>> made{{}, 0};
+        const bool is_told = fill_list(made.found, [&](auto *at, size_t room, auto *count) {
+            return !elsewhere(call(at, room, count, &made.length)); });
+        return is_told ? std::optional(std::move(made)) : std::nullopt;
     }
     std::optional<seen<std::vector<pelgaisti_claim>>> page_of(uint32_t whose, const pelgaisti_resource &after, size_t most) {
+        most = most_of_a_page(most);
         seen<std::vector<pelgaisti_claim>> made{std::vector<pelgaisti_claim>(most), 0};
         if (elsewhere(pelgaisti_session_locks_of(&handle_, whose, &after, made.found.data(), most, &most, &made.length))) return std::nullopt;
-        return made.found.resize(most), made;
+        made.found.resize(most);
+        return std::optional(std::move(made));
     }
     template <class Call> static std::optional<answer> told(Call call) {
         pelgaisti_answer found{};
@@ -615,4 +633,5 @@ inline void goes_back::operator()(session *one) const noexcept {
     to_->places_[to_->number(*one) - 1] = office::place::back;
 }
 }  // namespace pelgaisti
+#endif
 #endif

@@ -16,12 +16,13 @@ stage() {
     number="$(sed -nE 's/^#define PELGAISTI_HEADER_VERSION ([0-9]+)$/\1/p' "$top/include/pelgaisti.h")"
     shared="$top/out/libpelgaisti.so.$number"
     escaped="$(sed -E 's/[^A-Za-z0-9/._+-]/\\&/g' <<< "$prefix")" # what pkg-config prints, a shell reads again
-    mkdir -p "$to"/{include,lib/pkgconfig,lib/cmake/pelgaisti,share/pelgaisti/rust/src} &&
+    mkdir -p "$to"/{include,lib/pkgconfig,lib/cmake/pelgaisti,share/pelgaisti/rust/{src,examples}} &&
         cp "$top"/include/pelgaisti.{h,hpp} "$to/include/" &&
         cp "$top/out/libpelgaisti.a" "$to/lib/" &&
         cp "$from/pelgaisti-config.cmake" "$to/lib/cmake/pelgaisti/" &&
         cp "$top"/bindings/rust/{Cargo.toml,build.rs} "$to/share/pelgaisti/rust/" &&
         cp "$top"/bindings/rust/src/*.rs "$to/share/pelgaisti/rust/src/" &&
+        cp "$top"/bindings/rust/examples/*.rs "$to/share/pelgaisti/rust/examples/" &&
         VERSION="$version" PREFIX="$escaped" fill "$from/pelgaisti.pc.in" "$to/lib/pkgconfig/pelgaisti.pc" &&
         VERSION="$version" fill "$from/pelgaisti-config-version.cmake.in" "$to/lib/cmake/pelgaisti/pelgaisti-config-version.cmake" &&
         cp "$shared" "$to/lib/" &&

@@ -72,16 +72,16 @@ class held_locks {
 public:
     std::vector<path> rows;  // what is held in another mode than IS and IX, in the order in which it was locked
 
-    // The first level of a path that isn't locked as it has to be for a lock in this mode, or 0 if what is held suffices.
-    std::uint32_t first_to_lock(const path &row, mode in) const {
-        std::uint32_t from = row.level;
-        if (covers(on(row), in)) return 0;
+    // How many levels of a path are locked as they have to be for a lock in this mode: all if what is held suffices.
+    std::uint32_t levels_locked(const path &row, mode in) const {
+        std::uint32_t locked = row.level - 1;
+        if (covers(on(row), in)) return row.level;
         for (std::uint32_t level = row.level - 1; level > 0; --level) {
             const mode has = on(first_levels(row, level));
-            if (reaches_down(has, in)) return 0;
-            if (!covers(has, parent_mode(in))) from = level;
+            if (reaches_down(has, in)) return row.level;
+            if (!covers(has, parent_mode(in))) locked = level - 1;
         }
-        return from;
+        return locked;
     }
     // This level of the path to a row, which was to be locked in this mode, is locked.
     void note(const path &row, std::uint32_t level, mode in) {
@@ -223,15 +223,15 @@ public:
     // Locks a row in S, U or X, unless a lock on it or above it suffices.
     void lock(const path &on, mode in) {
         seat &at = seats_[on.numbers[0] % seats_.size()];
-        std::uint32_t from = at.held.first_to_lock(on, in);
-        if (from == 0) return;
+        std::uint32_t level = at.held.levels_locked(on, in);
+        if (level == on.level) return;
         for (seat &other : seats_)
             if (&other != &at) settle(other);
         const auto until = deadline();
-        while (from <= on.level) {
+        while (level < on.level) {
             const start first = at.next;
             const std::size_t before = calls_of(first);
-            const auto answer = *at.session->run(pelgaisti::program::locks(first, on, in, from));
+            const auto answer = *at.session->run(pelgaisti::program::locks(first, on, in, level));
             if (answer.size() >= before) at.next = start::nothing;
             else at.next = start::begins;  // memory was refused between the commit and the begin
             if (answer.starved()) throw pelgaisti::error(PELGAISTI_NO_MEMORY);
@@ -245,7 +245,7 @@ public:
             }
             if (ended == kind::refused) throw std::runtime_error(pelgaisti_refusal_name(last.value));
             // the level at which it has waited is locked, too
-            for (std::size_t k = before; k < answer.size(); ++k, ++from) at.held.note(on, from, in);
+            for (std::size_t k = before; k < answer.size(); ++k) at.held.note(on, ++level, in);
         }
     }
 

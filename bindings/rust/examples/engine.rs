@@ -18,7 +18,7 @@ const BALANCE: i64 = 100;
 type Tables = [[AtomicI64; ACCOUNTS as usize]; 2];
 
 /// How many threads there are, each with a session.
-const THREADS: usize = 4;
+const THREADS: u32 = 4;
 
 /// Where a session's thread sleeps while it waits for a lock: how often it was woken and hasn't slept since.
 #[derive(Default)]
@@ -28,28 +28,30 @@ struct Bed {
 }
 
 /// The beds of the sessions, by number.
-type Beds = [Bed; THREADS + 1];
+type Beds = [Bed; THREADS as usize + 1];
 
 /// Wakes the thread of a session.
-fn wake(beds: &Beds, session: usize) {
-    *beds[session].woken.lock().expect("no thread panics") += 1;
-    beds[session].changed.notify_one();
+fn wake(beds: &Beds, session: u32) {
+    let bed = &beds[session as usize];
+    *bed.woken.lock().expect("no thread panics") += 1;
+    bed.changed.notify_one();
 }
 
 /// Sleeps until the thread of this session is woken.
-fn sleep(beds: &Beds, session: usize) {
-    let mut woken = beds[session].woken.lock().expect("no thread panics");
+fn sleep(beds: &Beds, session: u32) {
+    let bed = &beds[session as usize];
+    let mut woken = bed.woken.lock().expect("no thread panics");
     while *woken == 0 {
-        woken = beds[session].changed.wait(woken).expect("no thread panics");
+        woken = bed.changed.wait(woken).expect("no thread panics");
     }
     *woken -= 1;
 }
 
 /// Sleeps as `sleep` does, at most for the limit. Whether the thread was woken.
-fn sleep_within(beds: &Beds, session: usize, limit: Duration) -> bool {
-    let woken = beds[session].woken.lock().expect("no thread panics");
-    let (mut woken, slept) =
-        beds[session].changed.wait_timeout_while(woken, limit, |woken| *woken == 0).expect("no thread panics");
+fn sleep_within(beds: &Beds, session: u32, limit: Duration) -> bool {
+    let bed = &beds[session as usize];
+    let woken = bed.woken.lock().expect("no thread panics");
+    let (mut woken, slept) = bed.changed.wait_timeout_while(woken, limit, |woken| *woken == 0).expect("no thread panics");
     if !slept.timed_out() {
         *woken -= 1;
     }
@@ -83,8 +85,8 @@ fn end_wait(session: &mut Session, beds: &Beds, limit: Duration) -> Reply {
 /// with the rest. Whether it was granted, each request within the limit.
 fn lock(session: &mut Session, beds: &Beds, mut first: Start, mode: Mode, numbers: &[u32], limit: Duration) -> bool {
     let resource = Resource::new(numbers).expect("1 to 5 numbers");
-    let mut locked = 0;
-    while let Some(program) = Program::locks(first, resource, mode, locked) {
+    let mut level = 0; // how many levels of the path are locked
+    while let Some(program) = Program::locks(first, resource, mode, level) {
         let answer = session.run(&program, u64::MAX).expect("memory for a program");
         let mut last = answer.replies().last().expect("a call was made");
         while last == Reply::Waiting {
@@ -95,7 +97,7 @@ fn lock(session: &mut Session, beds: &Beds, mut first: Start, mode: Mode, number
             Reply::Refused(why) => panic!("a lock was refused: {why}"),
             _ => (),
         }
-        locked += answer.replies().len() - usize::from(first == Start::Begins);
+        level += answer.replies().len() - usize::from(first == Start::Begins);
         first = Start::Nothing;
     }
     true
@@ -105,9 +107,8 @@ fn lock(session: &mut Session, beds: &Beds, mut first: Start, mode: Mode, number
 /// without the table.
 fn do_without(sessions: &mut [Session], beds: &Beds) {
     let table = Call::Try(Resource::new(&[0]).expect("one number"), Mode::X);
-    let [holder, other, ..] = sessions else {
-        panic!("two sessions")
-    };
+    let (holder, others) = sessions.split_first_mut().expect("two sessions");
+    let other = &mut others[0];
     make(holder, &Call::Begin);
     make(other, &Call::Begin);
     assert_eq!(ask(holder, &table), Reply::Granted(Mode::X));
@@ -148,7 +149,7 @@ fn main() {
             thread::spawn(move || {
                 let mut victims = 0;
                 for number in 0..MOVES {
-                    let step = number + session.number() as u32 * 3;
+                    let step = number + session.number() * 3;
                     let (from, to) = ((step % 2, step % ACCOUNTS), ((step + 1) % 2, (step * 5 + 1) % ACCOUNTS));
                     while !transfer(&mut session, &beds, &accounts, from, to) {
                         victims += 1;
@@ -159,14 +160,12 @@ fn main() {
         })
         .collect();
     let (sessions, victims): (Vec<_>, Vec<u32>) = threads.into_iter().map(|it| it.join().expect("a thread")).unzip();
-    let Ok(book) = Office::close(sessions) else {
-        panic!("the office has all its sessions");
-    };
+    let book = Office::close(sessions).unwrap_or_else(|_| panic!("the office has all its sessions"));
     let sum: i64 = accounts.iter().flatten().map(|it| it.load(Ordering::Relaxed)).sum();
     assert_eq!(sum, 2 * i64::from(ACCOUNTS) * BALANCE);
     println!(
         "{} transfers, {} of them tried again after a deadlock; {} calls in the history",
-        THREADS as u32 * MOVES,
+        THREADS * MOVES,
         victims.iter().sum::<u32>(),
         book.length()
     );

@@ -1,17 +1,18 @@
 //! What an engine does about a thread that panics in its transaction, and about an operator who wants a transaction to end. The first
-//! thread holds account 1 and waits for a client that doesn't come. The second one writes to account 0, asks for account 1 and panics,
-//! with its transaction open and its call pending. The third one needs both accounts. The main thread takes over the session of the
-//! second and ends its transaction. With a session of its own it then looks for whom the third one waits, and asks that the transaction
-//! of the first end.
+//! thread holds account 1 and waits for a client that doesn't come. The second one pays into account 0, and panics while the program that
+//! commits this and begins the next transaction is pending. The third one writes to account 0, asks for account 1 and panics, with its
+//! transaction open and its call pending. The fourth one needs both accounts. The main thread takes over the sessions of the second and the
+//! third: what was committed stays, what wasn't is undone, and their transactions end. With a session of its own it then looks for whom
+//! the fourth one waits, and asks that the transaction of the first end.
 //!
 //!     cargo run --release --example supervisor
 
-use pelgaisti::{Answer, Call, Error, Mode, Office, Reply, Resource, Session};
+use pelgaisti::{Call, Error, Mode, Office, Program, Reply, Resource, Session, Start};
 use std::sync::atomic::{AtomicI64, Ordering};
-use std::sync::{mpsc, Arc, Condvar, Mutex};
+use std::sync::{mpsc, Arc, Condvar, Mutex, MutexGuard};
 use std::{panic, thread};
 
-const SESSIONS: usize = 4;
+const SESSIONS: u32 = 5;
 
 /// The accounts, and what the engine keeps for each session, by number: it is no thread's own, so that it is there when the thread is
 /// gone.
@@ -19,56 +20,71 @@ const SESSIONS: usize = 4;
 struct Engine {
     accounts: [AtomicI64; 2],
     /// What a transaction has to write back if it aborts.
-    undo: [Mutex<Vec<(usize, i64)>>; SESSIONS + 1],
+    undo: [Mutex<Vec<(usize, i64)>>; SESSIONS as usize + 1],
     /// How often each session was woken and hasn't slept since.
-    woken: Mutex<[u32; SESSIONS + 1]>,
+    woken: Mutex<[u32; SESSIONS as usize + 1]>,
     changed: Condvar,
 }
 
 impl Engine {
-    fn wake(&self, session: usize) {
-        self.woken.lock().expect("no thread panics here")[session] += 1;
+    fn wake(&self, session: u32) {
+        self.woken.lock().expect("no thread panics here")[session as usize] += 1;
         self.changed.notify_all();
     }
 
-    fn sleep(&self, session: usize) {
+    fn sleep(&self, session: u32) {
         let woken = self.woken.lock().expect("no thread panics here");
-        let mut woken = self.changed.wait_while(woken, |it| it[session] == 0).expect("no thread panics here");
-        woken[session] -= 1;
+        let mut woken = self.changed.wait_while(woken, |it| it[session as usize] == 0).expect("no thread panics here");
+        woken[session as usize] -= 1;
     }
 
     /// Adds to an account that the session has locked.
     fn add(&self, session: &Session, account: usize, sum: i64) {
         let before = self.accounts[account].load(Ordering::Relaxed);
-        self.undo[session.number()].lock().expect("no thread panics here").push((account, before));
+        self.undo_of(session).push((account, before));
         self.accounts[account].store(before + sum, Ordering::Relaxed);
     }
 
-    fn keep_writes(&self, session: &Session) {
-        self.undo[session.number()].lock().expect("no thread panics here").clear();
+    fn undo_of(&self, session: &Session) -> MutexGuard<'_, Vec<(usize, i64)>> {
+        self.undo[session.number() as usize].lock().expect("no thread panics here")
     }
 
-    /// Writes back what was there, under the locks, and aborts, which also takes a waiting request back.
-    fn undo_and_abort(&self, session: &mut Session) -> Reply {
-        for (account, before) in self.undo[session.number()].lock().expect("no thread panics here").drain(..).rev() {
+    fn keep_writes(&self, session: &Session) {
+        self.undo_of(session).clear();
+    }
+
+    /// Writes back what was there, once, under the locks.
+    fn undo_writes(&self, session: &Session) {
+        for (account, before) in self.undo_of(session).drain(..).rev() {
             self.accounts[account].store(before, Ordering::Relaxed);
         }
-        ask(session, &Call::Abort)
+    }
+
+    /// Takes over a session whose thread is gone: hears what became of its pending call or program, undoes what wasn't committed, and ends
+    /// its transaction. Returns the reply to the abort, a refusal if no transaction was open. After an error the session is dropped again,
+    /// and what is left to do is done when it is taken over next.
+    fn take_over(&self, lost: &mut Session) -> Result<Reply, Error> {
+        // a call is heard like a program, as a program of one; `resume` hears no program of several
+        match lost.resume_program(u64::MAX) {
+            // a transaction behind the commit has written nothing yet
+            Ok(made) if made.replies().any(|it| matches!(it, Reply::Committed(_))) => self.keep_writes(lost),
+            Ok(_) | Err(Error::NothingPending) => (),
+            Err(error) => return Err(error),
+        }
+        self.undo_writes(lost);
+        Ok(lost.perform(&Call::Abort, u64::MAX)?.reply)
     }
 
     /// Ends the transactions of the sessions that were dropped, and gives the sessions, whose numbers can be used again.
-    fn take_over(&self, own: &Session) -> Vec<Session> {
+    fn take_over_all(&self, own: &Session) -> Result<Vec<Session>, Error> {
         let mut taken = Vec::new();
-        for mut lost in Office::orphans(own) {
-            match lost.resume(u64::MAX) {
-                Err(Error::NoMemory) => continue, // dropped again: an orphan still
-                Ok(Answer { reply: Reply::Committed(_), .. }) => self.keep_writes(&lost),
-                _ => (),
+        for mut lost in Office::orphans(own)? {
+            if let Ok(reply) = self.take_over(&mut lost) {
+                println!("session {} was lost: {reply:?}", lost.number());
+                taken.push(lost);
             }
-            println!("session {} was lost: {:?}", lost.number(), self.undo_and_abort(&mut lost));
-            taken.push(lost);
         }
-        taken
+        Ok(taken)
     }
 }
 
@@ -91,12 +107,12 @@ fn account(number: u32) -> Resource {
 /// Locks an account. Returns false if the transaction has to end: it became a victim, or somebody has asked for it. Then its request may
 /// wait still.
 fn lock(engine: &Engine, session: &mut Session, transaction: u64, number: u32) -> bool {
-    let mut level = 0;
-    while !session.is_asked_to_end(transaction) {
-        let Some(answer) = session.lock_path(account(number), Mode::X, &mut level, u64::MAX).expect("memory for a call") else {
-            return true;
-        };
-        let mut reply = answer.reply;
+    let (account, mut level) = (account(number), 0);
+    while level < account.level() {
+        if session.is_asked_to_end(transaction) {
+            return false;
+        }
+        let mut reply = session.lock_path(account, Mode::X, &mut level, u64::MAX).expect("memory for a call").reply;
         while reply == Reply::Waiting {
             engine.sleep(session.number());
             if session.is_asked_to_end(transaction) {
@@ -107,10 +123,21 @@ fn lock(engine: &Engine, session: &mut Session, transaction: u64, number: u32) -
         match reply {
             Reply::Deadlock => return false,
             Reply::Refused(why) => panic!("a lock was refused: {why}"),
-            _ => (),
+            _ => (), // Granted, and the path is locked; or Clear, and the same call goes on
         }
     }
-    false
+    true
+}
+
+/// Is lost with what it has written, and the program that commits it, begins the next transaction and locks the account again: it has
+/// published it, and heard of none of its calls.
+fn get_lost_paying(engine: &Engine, mut session: Session) {
+    let transaction = begin(&mut session);
+    assert!(lock(engine, &mut session, transaction, 0));
+    engine.add(&session, 0, 20);
+    let next = Program::locks(Start::CommitsAndBegins, account(0), Mode::X, 0).expect("a path that isn't locked");
+    assert_eq!(session.run(&next, 0).err(), Some(Error::NotServed));
+    panic::resume_unwind(Box::new("lost")); // a panic without a message
 }
 
 /// Is lost with what it has written, its locks, and a call that it has published.
@@ -131,7 +158,8 @@ fn stay_idle(engine: &Engine, mut session: Session, is_ready: mpsc::Sender<()>) 
     while !session.is_asked_to_end(transaction) {
         engine.sleep(session.number());
     }
-    assert_eq!(engine.undo_and_abort(&mut session), Reply::Aborted(2));
+    engine.undo_writes(&session); // under the locks, before the abort gives them back
+    assert_eq!(ask(&mut session, &Call::Abort), Reply::Aborted(2));
     session
 }
 
@@ -153,7 +181,7 @@ fn end_blocker(own: &mut Session, waiting: u32, blocker: u32) -> Result<(), Erro
     loop {
         match own.transaction(blocker) {
             Err(Error::Elsewhere) => thread::yield_now(),
-            other => break own.operator().ask_to_end(blocker as usize, other?.found.map_or(0, |it| it.number)),
+            other => break own.operator().ask_to_end(blocker, other?.found.map_or(0, |it| it.number)),
         }
     }
 }
@@ -165,19 +193,23 @@ fn main() -> Result<(), Error> {
     }
     let wakes = engine.clone();
     let mut sessions = Office::open_waking(SESSIONS, 1024, move |session| wakes.wake(session))?;
-    let [idle, lost, busy, mut own] = <[Session; SESSIONS]>::try_from(sessions.split_off(0)).unwrap_or_else(|_| panic!("four sessions"));
+    let all = <[Session; SESSIONS as usize]>::try_from(sessions.split_off(0));
+    let [idle, paying, lost, busy, mut own] = all.unwrap_or_else(|_| panic!("five sessions"));
 
     let (ready, is_ready) = mpsc::channel();
     let it = engine.clone();
     let idle = thread::spawn(move || stay_idle(&it, idle, ready));
     is_ready.recv().expect("the thread has its lock");
     let it = engine.clone();
+    assert!(thread::spawn(move || get_lost_paying(&it, paying)).join().is_err());
+    sessions.append(&mut engine.take_over_all(&own)?);
+    let it = engine.clone();
     assert!(thread::spawn(move || get_lost(&it, lost)).join().is_err());
     let it = engine.clone();
     let busy = thread::spawn(move || move_money(&it, busy));
 
-    sessions.append(&mut engine.take_over(&own));
-    end_blocker(&mut own, 3, 1)?;
+    sessions.append(&mut engine.take_over_all(&own)?);
+    end_blocker(&mut own, 4, 1)?;
     sessions.extend([idle, busy].map(|it| it.join().expect("it isn't lost")));
     let transaction = begin(&mut sessions[0]); // its number is used again
     assert_eq!((sessions[0].number(), ask(&mut sessions[0], &Call::Commit)), (2, Reply::Committed(0)));
@@ -185,6 +217,6 @@ fn main() -> Result<(), Error> {
     assert!(Office::close(sessions).is_ok());
     let sums = [0, 1].map(|k| engine.accounts[k].load(Ordering::Relaxed));
     println!("session 1 ended its transaction; the accounts have {sums:?}; the last transaction was number {transaction}");
-    assert_eq!((sums, transaction), ([90, 110], 4));
+    assert_eq!((sums, transaction), ([110, 110], 6));
     Ok(())
 }

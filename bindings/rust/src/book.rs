@@ -1,6 +1,6 @@
 //! The lock table for one thread.
 
-use crate::calls::{Call, Mode, Reply, Resource};
+use crate::calls::{level_code, Call, Mode, Reply, Resource};
 use crate::claims::{Claim, Holder, Transaction};
 use crate::error::{done, same_version, Error};
 use crate::ffi::{self, RawClaim, RawEntry, RawHandle, RawHolder, RawProgramAnswer, RawReply, RawTransaction, MAX_SESSIONS};
@@ -107,8 +107,9 @@ impl Book {
 
     /// Locks a path: the ancestors of the resource, from the database down, each in the mode that `mode` needs of a parent, and
     /// then the resource in `mode`. `level` says how many levels are locked already, 0 at first, and is raised by 1 for each that
-    /// is granted. Stops at the first reply other than `Granted`, and returns the last reply, `None` if all levels were locked.
-    /// After a wait that ended with `Clear` the same call goes on.
+    /// is granted. Stops at the first reply other than `Granted`, and returns the last reply. After a wait that ended with `Clear` the
+    /// same call goes on: it begins with the level at which it has waited. The path is locked once `level` is that of the resource.
+    /// [`Error::NoSuchLevel`]: it was before.
     ///
     /// Adds the sessions whose wait one of these calls has ended to `ended`, each once: those that [`Book::ended`] would tell of
     /// after each call. Where threads sleep, the caller wakes these, also after an error. After an error `level` and `ended` tell of
@@ -119,7 +120,7 @@ impl Book {
     ///     let _ = book.serve(1, &Call::Begin)?;
     ///     let (mut level, mut ended) = (0, Vec::new());
     ///     let page = Resource::new(&[7, 2, 40]).unwrap();
-    ///     assert_eq!(book.lock_path(1, page, Mode::X, &mut level, &mut ended)?, Some(Reply::Granted(Mode::X)));
+    ///     assert_eq!(book.lock_path(1, page, Mode::X, &mut level, &mut ended)?, Reply::Granted(Mode::X));
     ///     assert_eq!((level, book.held(1, Resource::new(&[7]).unwrap())?, ended), (3, Mode::IX, vec![]));
     ///     # Ok::<(), pelgaisti::Error>(())
     pub fn lock_path(
@@ -129,13 +130,11 @@ impl Book {
         mode: Mode,
         level: &mut usize,
         ended: &mut Vec<u32>,
-    ) -> Result<Option<Reply>, Error> {
+    ) -> Result<Reply, Error> {
         // before any call, so that none of them is lost for want of memory
         ended.try_reserve(MAX_SESSIONS).map_err(|_| Error::NoMemory)?;
-        if *level >= resource.level() {
-            return Ok(None);
-        }
-        let (mut reached, mut reply) = (*level as u32, RawReply::default());
+        let begun = level_code(*level);
+        let (mut reached, mut reply) = (begun, RawReply::default());
         let (mut list, mut count) = ([0; MAX_SESSIONS], 0);
         // SAFETY: the handle is this book's; the list has room for the sessions of any book, the others are locals of their types
         let status = unsafe {
@@ -151,10 +150,10 @@ impl Book {
                 &mut count,
             )
         };
-        *level = reached as usize;
+        *level += (reached - begun) as usize;
         ended.extend_from_slice(&list[..count]);
         done(status)?;
-        Ok(Some(Reply::of(&reply)))
+        Ok(Reply::of(&reply))
     }
 
     /// Runs a program of the session: makes its calls one after another, each with an entry of its own in the history, up to the first
@@ -209,7 +208,7 @@ impl Book {
 
     /// The sessions whose wait the last call, batch, path or program has ended, each once, in no particular order: a request of theirs that
     /// waited was granted, or their transaction became a deadlock's victim. A poll of each tells which. The session of the call
-    /// itself isn't among them.
+    /// itself isn't among them. [`Error::NoMemory`]: ask again.
     ///
     ///     # use pelgaisti::{Book, Call, Mode, Reply, Resource};
     ///     let mut book = Book::open(2)?;
@@ -218,16 +217,15 @@ impl Book {
     ///         let _ = book.serve(session, &Call::Begin)?;
     ///         let _ = book.serve(session, &Call::Lock(database, Mode::X))?;
     ///     }
-    ///     assert_eq!(book.ended(), []);
+    ///     assert_eq!(book.ended()?, []);
     ///     let _ = book.serve(1, &Call::Commit)?;
-    ///     assert_eq!(book.ended(), [2]);
+    ///     assert_eq!(book.ended()?, [2]);
     ///     # Ok::<(), pelgaisti::Error>(())
-    pub fn ended(&self) -> Vec<u32> {
+    pub fn ended(&self) -> Result<Vec<u32>, Error> {
         let (mut list, mut count) = ([0; MAX_SESSIONS], 0);
         // SAFETY: the handle is this book's; the list has so much room, and the count is a local
-        let status = unsafe { ffi::pelgaisti_book_ended(self.raw(), list.as_mut_ptr(), list.len(), &mut count) };
-        done(status).expect("an open book tells whose wait has ended");
-        list[..count].to_vec()
+        done(unsafe { ffi::pelgaisti_book_ended(self.raw(), list.as_mut_ptr(), list.len(), &mut count) })?;
+        each(&list[..count], |it| Some(*it))
     }
 
     /// The mode that the session holds on the resource itself, `NL` if none. The mode of a waiting request doesn't count.

@@ -142,6 +142,11 @@ impl fmt::Display for Resource {
     }
 }
 
+/// A number of levels as the library takes it: no path has as many as the greatest one.
+pub(crate) fn level_code(level: usize) -> u32 {
+    u32::try_from(level).unwrap_or(u32::MAX)
+}
+
 /// A call of a session.
 #[derive(Clone, Copy, Debug, PartialEq, Eq, Hash)]
 pub enum Call {

@@ -12,6 +12,8 @@ pub enum Error {
     NoMemory,
     /// The book, or the office, has no session with this number.
     NoSuchSession,
+    /// All levels of the path are locked already.
+    NoSuchLevel,
     /// The program makes no call, so that a session has nothing to publish.
     NoCalls,
     /// The number of sessions isn't from 1 to 1024, or a bound has a number that is 0 or too large.
@@ -43,6 +45,7 @@ impl fmt::Display for Error {
         f.write_str(match self {
             Error::NoMemory => "memory was refused",
             Error::NoSuchSession => "no session has this number",
+            Error::NoSuchLevel => "all levels of the path are locked already",
             Error::NoCalls => "the program makes no call",
             Error::NoSuchCount => "the number of sessions isn't from 1 to 1024, or a bound has a number that is 0 or too large",
             Error::Pending => "the session has a pending call",
@@ -67,6 +70,7 @@ pub(crate) fn done(status: u32) -> Result<(), Error> {
         ffi::OK => return Ok(()),
         ffi::NO_MEMORY => Error::NoMemory,
         ffi::NO_SUCH_SESSION => Error::NoSuchSession,
+        ffi::NO_SUCH_LEVEL => Error::NoSuchLevel,
         ffi::NO_SUCH_OP => Error::NoCalls,
         ffi::NO_SUCH_COUNT => Error::NoSuchCount,
         ffi::PENDING => Error::Pending,

@@ -5,7 +5,7 @@
 //! - a pointer is to a value of its type, that of a list to `room` elements, and no two arguments overlap;
 //! - all of the process's handles are of one copy of the library, as Cargo links no second one (`links`).
 
-use std::ffi::{c_char, c_void};
+use std::os::raw::{c_char, c_void};
 use std::mem::size_of;
 
 /// How many numbers a resource has room for.
@@ -19,6 +19,9 @@ pub(crate) const OP_NUMBERS: usize = 11;
 
 /// How many counters of refused calls there are: one for each number of a refusal, from 0.
 pub(crate) const WHY_NUMBERS: usize = 13;
+
+/// How many locks a transaction holds at most.
+pub(crate) const MAX_LOCKS: usize = 4096;
 
 /// The greatest number of sessions.
 pub(crate) const MAX_SESSIONS: usize = 1024;
@@ -217,6 +220,7 @@ pub(crate) const OK: u32 = 0;
 pub(crate) const NO_MEMORY: u32 = 1;
 pub(crate) const CLOSED: u32 = 2;
 pub(crate) const NO_SUCH_SESSION: u32 = 3;
+pub(crate) const NO_SUCH_LEVEL: u32 = 5;
 pub(crate) const NO_SUCH_OP: u32 = 4;
 pub(crate) const NO_SUCH_COUNT: u32 = 8;
 pub(crate) const PENDING: u32 = 9;

@@ -3,12 +3,13 @@
 use crate::error::{done, Error};
 use crate::ffi::{self, RawHandle, RawPass, RawProgramAnswer, MAX_SESSIONS};
 use crate::lists::list_for;
-use crate::waker::AnyWaker;
+use crate::shared::Shared;
+use crate::waker::PlacedWaker;
 use std::cell::UnsafeCell;
 use std::mem;
 use std::ptr;
 use std::sync::atomic::{AtomicU64, Ordering};
-use std::sync::{Arc, Mutex, MutexGuard, PoisonError};
+use std::sync::{Mutex, MutexGuard, PoisonError};
 
 /// So many handles that aren't open yet.
 pub(crate) fn closed(count: usize) -> Result<Box<[UnsafeCell<RawHandle>]>, Error> {
@@ -36,7 +37,7 @@ pub(crate) struct Handles {
     // of each session the newest transaction that somebody has asked to end, 0 if there is none
     asked: Vec<AtomicU64>,
     // behind the handles: what the library has of it is read by calls on them
-    waker: Option<Arc<AnyWaker>>,
+    waker: Option<PlacedWaker>,
 }
 
 // SAFETY: the library proves that what a session's handle holds may go to another thread. Each handle is used by its own session, and
@@ -50,23 +51,23 @@ impl Handles {
     pub(crate) fn open(
         sessions: usize,
         bound: u64,
-        waker: Option<Arc<AnyWaker>>,
+        waker: Option<PlacedWaker>,
         opening: Opening,
-    ) -> Result<Arc<Handles>, Error> {
+    ) -> Result<Shared<Handles>, Error> {
         if sessions == 0 || sessions > MAX_SESSIONS {
             return Err(Error::NoSuchCount);
         }
         let mut asked = list_for(sessions)?;
         asked.resize_with(sessions, AtomicU64::default);
-        let handles = Arc::new(Handles {
+        let handles = Shared::new(Handles {
             all: closed(sessions)?,
             dropped: Mutex::new(list_for(sessions)?),
             asked,
             waker,
-        });
+        })?;
         // of the whole slice, not of its first handle
         let first = UnsafeCell::raw_get(handles.all.as_ptr());
-        let waker = handles.waker.as_deref().map(AnyWaker::raw);
+        let waker = handles.waker.as_ref().map(|it| it.raw());
         done(match (waker, opening) {
             // SAFETY: there are so many handles, empty, at places that they keep while these `Handles` live
             (None, Opening::Plain) => unsafe { ffi::pelgaisti_office_open_keeping(first, sessions, bound) },
@@ -98,7 +99,7 @@ impl Handles {
         // a session's transactions have rising numbers: who asks late, of an earlier one, doesn't take the mark of a later one away
         let before = self.asked.get(index).map(|it| it.fetch_max(transaction, Ordering::SeqCst));
         if let (Some(_), Some(waker)) = (before, &self.waker) {
-            waker.wake(index + 1);
+            waker.wake(index as u32 + 1);
         }
         before.is_some()
     }

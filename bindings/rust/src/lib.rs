@@ -4,7 +4,7 @@
 //! are two: it makes no call in a signal handler or in the forked child of a process with threads, and ends no thread inside a call.
 //!
 //! A [`Book`] is a lock table for one thread at a time. An [`Office`] is one that threads share, each by a [`Session`] of its
-//! own. No call blocks: a thread that was told [`Reply::Waiting`] sleeps until the office's waker is called for its session
+//! own. No call waits for a lock: a thread that was told [`Reply::Waiting`] sleeps until the office's waker is called for its session
 //! ([`Office::open_waking`]), or polls.
 //!
 //!     use pelgaisti::{Book, Call, Mode, Reply, Resource};
@@ -20,7 +20,7 @@
 //!     # Ok::<(), pelgaisti::Error>(())
 //!
 //! **Statuses that can't come.** A handle is open as long as its value lives, a call is one of [`Call`], and each value has
-//! handles of its own that never move: so the library's statuses CLOSED, OPEN, NO_SUCH_LEVEL, NO_SUCH_MODE, NULL, SAME, COPIED,
+//! handles of its own that never move: so the library's statuses CLOSED, OPEN, NO_SUCH_MODE, NULL, SAME, COPIED,
 //! NO_ROOM, NO_SUCH_START, NOT_ON_PATH and NO_SUCH_ABOVE have no counterpart in [`Error`], and NO_SUCH_OP comes of a program of no calls
 //! alone. If the library gives another one all the same, the call panics.
 #![deny(missing_docs, unsafe_op_in_unsafe_fn, clippy::undocumented_unsafe_blocks)]
@@ -42,6 +42,7 @@ mod operator;
 mod orphans;
 mod pages;
 mod programs;
+mod shared;
 mod waker;
 
 pub use book::{Book, Entry};
@@ -87,7 +88,7 @@ pub use programs::{Program, ProgramAnswer, Start};
 /// let _ = book.serve(1, &Call::Begin).unwrap();
 /// let _ = book.run(1, &Program::start(Start::Commits), &mut vec![]).unwrap();
 /// let _ = sessions[0].perform(&Call::Begin, 1).unwrap();
-/// let _ = Office::orphans(&sessions[0]);
+/// let _ = Office::orphans(&sessions[0]).unwrap();
 /// ```
 #[cfg(doctest)]
 struct IgnoredReplies;

@@ -1,12 +1,19 @@
 //! Lists whose memory may be refused.
 
 use crate::error::Error;
+use std::ptr::NonNull;
 
 /// An empty list with room for so many items.
 pub(crate) fn list_for<T>(room: usize) -> Result<Vec<T>, Error> {
     let mut list = Vec::new();
     list.try_reserve_exact(room).map_err(|_| Error::NoMemory)?;
     Ok(list)
+}
+
+/// The item of a list that has one, and room for one, at its place, which `Box::from_raw` takes.
+pub(crate) fn placed<T>(one: Vec<T>) -> NonNull<T> {
+    // a list of one item has the layout of the item
+    NonNull::from(Box::leak(one.into_boxed_slice())).cast()
 }
 
 /// A list of so many items, to be written.

@@ -1,16 +1,16 @@
 //! The lock table that threads share.
 
 use crate::book::{entries_by, Book, Entry};
-use crate::calls::{Call, Mode, Reply, Resource};
+use crate::calls::{level_code, Call, Mode, Reply, Resource};
 use crate::error::{done, same_version, Error};
 use crate::ffi::{self, RawAnswer, RawHandle, RawPass, RawProgramAnswer};
 use crate::handles::{Handles, Opening};
 use crate::lists::{blank, list_for};
 use crate::programs::{Program, ProgramAnswer};
-use crate::waker::{AnyWaker, Waker};
+use crate::shared::Shared;
+use crate::waker::PlacedWaker;
 use std::marker::PhantomData;
 use std::ptr;
-use std::sync::Arc;
 
 /// A lock table that threads share, each by a session of its own. This type has no values: an office is its sessions.
 pub enum Office {}
@@ -21,7 +21,7 @@ pub enum Office {}
 /// are, also by a panic. [`Office::orphans`] hands it out again. If all sessions of an office are dropped, its lock table is dropped
 /// with the last.
 pub struct Session {
-    handles: Arc<Handles>,
+    handles: Shared<Handles>,
     index: usize,
     // handed in, or closed with its office, so that it doesn't go back when it is dropped
     is_handed_in: bool,
@@ -74,7 +74,7 @@ impl Office {
     ///     sessions[0].serve()?;
     ///     assert_eq!(sessions[0].collect()?.reply, Reply::Began(1));
     ///     # Ok::<(), pelgaisti::Error>(())
-    pub fn open(sessions: usize) -> Result<Vec<Session>, Error> {
+    pub fn open(sessions: u32) -> Result<Vec<Session>, Error> {
         Office::open_keeping(sessions, u64::MAX)
     }
 
@@ -88,7 +88,7 @@ impl Office {
     ///     let book = Office::close(sessions).ok().unwrap();
     ///     assert_eq!((book.length(), book.first_kept()), (3, 1));
     ///     # Ok::<(), pelgaisti::Error>(())
-    pub fn open_keeping(sessions: usize, bound: u64) -> Result<Vec<Session>, Error> {
+    pub fn open_keeping(sessions: u32, bound: u64) -> Result<Vec<Session>, Error> {
         Office::open_by(sessions, bound, None, Opening::Plain)
     }
 
@@ -96,7 +96,7 @@ impl Office {
     ///
     ///     assert_eq!(pelgaisti::Office::open_seeded(2, u64::MAX, 7)?.len(), 2);
     ///     # Ok::<(), pelgaisti::Error>(())
-    pub fn open_seeded(sessions: usize, bound: u64, seed: u64) -> Result<Vec<Session>, Error> {
+    pub fn open_seeded(sessions: u32, bound: u64, seed: u64) -> Result<Vec<Session>, Error> {
         Office::open_by(sessions, bound, None, Opening::Seeded(seed))
     }
 
@@ -106,7 +106,7 @@ impl Office {
     ///
     ///     assert_eq!(pelgaisti::Office::open_telling(2, u64::MAX, 16)?.len(), 2);
     ///     # Ok::<(), pelgaisti::Error>(())
-    pub fn open_telling(sessions: usize, bound: u64, deadlocks: usize) -> Result<Vec<Session>, Error> {
+    pub fn open_telling(sessions: u32, bound: u64, deadlocks: usize) -> Result<Vec<Session>, Error> {
         Office::open_by(sessions, bound, None, Opening::Telling(deadlocks))
     }
 
@@ -131,7 +131,7 @@ impl Office {
     ///
     ///     # use pelgaisti::{Call, Mode, Office, Resource};
     ///     # use std::sync::mpsc;
-    ///     let (woken, told) = mpsc::channel();
+    ///     let (woken, told) = mpsc::sync_channel(2);
     ///     let mut sessions = Office::open_waking(2, u64::MAX, move |session| woken.send(session).unwrap())?;
     ///     for session in &mut sessions {
     ///         let _ = session.perform(&Call::Begin, u64::MAX)?;
@@ -141,11 +141,11 @@ impl Office {
     ///     assert_eq!(told.try_recv(), Ok(2));
     ///     # Ok::<(), pelgaisti::Error>(())
     pub fn open_waking(
-        sessions: usize,
+        sessions: u32,
         bound: u64,
-        wake: impl Fn(usize) + Send + Sync + 'static,
+        wake: impl Fn(u32) + Send + Sync + 'static,
     ) -> Result<Vec<Session>, Error> {
-        Office::open_by(sessions, bound, Some(Waker::new(wake)), Opening::Plain)
+        Office::open_by(sessions, bound, Some(PlacedWaker::new(wake)?), Opening::Plain)
     }
 
     /// Opens an office as [`Office::open_waking`] does, whose lock table has this seed, as [`Book::open_seeded`] says.
@@ -153,12 +153,12 @@ impl Office {
     ///     assert_eq!(pelgaisti::Office::open_waking_seeded(2, u64::MAX, 7, |_| ())?.len(), 2);
     ///     # Ok::<(), pelgaisti::Error>(())
     pub fn open_waking_seeded(
-        sessions: usize,
+        sessions: u32,
         bound: u64,
         seed: u64,
-        wake: impl Fn(usize) + Send + Sync + 'static,
+        wake: impl Fn(u32) + Send + Sync + 'static,
     ) -> Result<Vec<Session>, Error> {
-        Office::open_by(sessions, bound, Some(Waker::new(wake)), Opening::Seeded(seed))
+        Office::open_by(sessions, bound, Some(PlacedWaker::new(wake)?), Opening::Seeded(seed))
     }
 
     /// Opens an office as [`Office::open_waking`] does, whose lock table keeps the newest `deadlocks` deadlocks, as
@@ -167,21 +167,22 @@ impl Office {
     ///     assert_eq!(pelgaisti::Office::open_waking_telling(2, u64::MAX, 16, |_| ())?.len(), 2);
     ///     # Ok::<(), pelgaisti::Error>(())
     pub fn open_waking_telling(
-        sessions: usize,
+        sessions: u32,
         bound: u64,
         deadlocks: usize,
-        wake: impl Fn(usize) + Send + Sync + 'static,
+        wake: impl Fn(u32) + Send + Sync + 'static,
     ) -> Result<Vec<Session>, Error> {
-        Office::open_by(sessions, bound, Some(Waker::new(wake)), Opening::Telling(deadlocks))
+        Office::open_by(sessions, bound, Some(PlacedWaker::new(wake)?), Opening::Telling(deadlocks))
     }
 
     fn open_by(
-        sessions: usize,
+        sessions: u32,
         bound: u64,
-        waker: Option<Arc<AnyWaker>>,
+        waker: Option<PlacedWaker>,
         opening: Opening,
     ) -> Result<Vec<Session>, Error> {
         same_version()?;
+        let sessions = sessions as usize;
         let handles = Handles::open(sessions, bound, waker, opening)?;
         let mut opened = list_for(sessions)?;
         opened.extend((0..sessions).map(|index| Session::of(&handles, index)));
@@ -194,7 +195,7 @@ impl Office {
     ///     # use pelgaisti::{Error, Office};
     ///     let mut sessions = Office::open(3)?;
     ///     let last = sessions.pop().unwrap();
-    ///     let Err(refused) = Office::close(sessions) else { panic!("closed without a session") };
+    ///     let refused = Office::close(sessions).err().unwrap();
     ///     assert_eq!(refused.error, Error::Missing);
     ///     let mut sessions = refused.sessions;
     ///     sessions.push(last);
@@ -242,7 +243,7 @@ impl Drop for Session {
 }
 
 impl Session {
-    pub(crate) fn of(handles: &Arc<Handles>, index: usize) -> Session {
+    pub(crate) fn of(handles: &Shared<Handles>, index: usize) -> Session {
         Session {
             handles: handles.clone(),
             index,
@@ -251,7 +252,7 @@ impl Session {
         }
     }
 
-    pub(crate) fn handles(&self) -> &Arc<Handles> {
+    pub(crate) fn handles(&self) -> &Shared<Handles> {
         &self.handles
     }
 
@@ -264,8 +265,12 @@ impl Session {
     ///
     ///     assert_eq!(pelgaisti::Office::open(2)?[1].number(), 2);
     ///     # Ok::<(), pelgaisti::Error>(())
-    pub fn number(&self) -> usize {
-        self.index + 1
+    pub fn number(&self) -> u32 {
+        self.index as u32 + 1
+    }
+
+    pub(crate) fn index(&self) -> usize {
+        self.index
     }
 
     /// Publishes a call, which is pending until its answer is collected.
@@ -389,7 +394,7 @@ impl Session {
     }
 
     /// Like [`Book::lock_path`], for a session of an office: performs the calls one after another, each in at most `turns` turns,
-    /// and returns the last answer, `None` if all levels were locked.
+    /// and returns the last answer.
     ///
     /// [`Error::Pending`]: the session has a pending call, be it one that an earlier call of this function has left. Nothing has
     /// changed. [`Error::NotServed`], [`Error::NoMemory`]: the path's next call, which locks level `level` + 1, is pending, and
@@ -402,20 +407,18 @@ impl Session {
     ///     let _ = sessions[0].perform(&Call::Begin, u64::MAX)?;
     ///     let mut level = 0;
     ///     let page = Resource::new(&[7, 2, 40]).unwrap();
-    ///     let answer = sessions[0].lock_path(page, Mode::S, &mut level, u64::MAX)?.unwrap();
+    ///     let answer = sessions[0].lock_path(page, Mode::S, &mut level, u64::MAX)?;
     ///     assert_eq!((answer.reply, answer.place, level), (Reply::Granted(Mode::S), 3, 3));
     ///     # Ok::<(), pelgaisti::Error>(())
-    pub fn lock_path(&mut self, resource: Resource, mode: Mode, level: &mut usize, turns: u64) -> Result<Option<Answer>, Error> {
-        if *level >= resource.level() {
-            return Ok(None);
-        }
-        let (mut reached, mut answer) = (*level as u32, RawAnswer::default());
+    pub fn lock_path(&mut self, resource: Resource, mode: Mode, level: &mut usize, turns: u64) -> Result<Answer, Error> {
+        let begun = level_code(*level);
+        let (mut reached, mut answer) = (begun, RawAnswer::default());
         let (path, mode) = (resource.raw(), mode.code());
         // SAFETY: the handle is this session's, used by `&mut`; the others are locals of their types
         let status = unsafe { ffi::pelgaisti_session_lock_path(self.raw(), &path, mode, &mut reached, turns, &mut answer) };
-        *level = reached as usize;
+        *level += (reached - begun) as usize;
         done(status)?;
-        Ok(Some(Answer::of(&answer)))
+        Ok(Answer::of(&answer))
     }
 
     /// Takes up to `room` of the oldest entries of the history that are kept, which leave the lock table's memory. Returns the place

@@ -3,7 +3,7 @@
 use crate::error::Error;
 use crate::handles::Handles;
 use crate::office::Session;
-use std::sync::{Arc, Weak};
+use crate::shared::Observed;
 
 /// Asks that transactions of an office end, from any thread: for an operator's KILL, or for a client that has gone.
 ///
@@ -13,7 +13,7 @@ use std::sync::{Arc, Weak};
 #[derive(Clone)]
 pub struct Operator {
     // an office ends with its sessions, whoever may still ask
-    handles: Weak<Handles>,
+    handles: Observed<Handles>,
 }
 
 impl Operator {
@@ -27,16 +27,16 @@ impl Operator {
     ///     # use pelgaisti::{Call, Error, Office, Reply};
     ///     let mut sessions = Office::open(2)?;
     ///     let operator = sessions[0].operator();
-    ///     let Reply::Began(transaction) = sessions[1].perform(&Call::Begin, u64::MAX)?.reply else { panic!() };
-    ///     operator.ask_to_end(2, transaction)?;
-    ///     assert!(sessions[1].is_asked_to_end(transaction));
+    ///     assert_eq!(sessions[1].perform(&Call::Begin, u64::MAX)?.reply, Reply::Began(1));
+    ///     operator.ask_to_end(2, 1)?;
+    ///     assert!(sessions[1].is_asked_to_end(1));
     ///     assert_eq!(sessions[1].perform(&Call::Abort, u64::MAX)?.reply, Reply::Aborted(0));
-    ///     assert_eq!(operator.ask_to_end(3, transaction), Err(Error::NoSuchSession));
+    ///     assert_eq!(operator.ask_to_end(3, 1), Err(Error::NoSuchSession));
     ///     # Ok::<(), Error>(())
-    pub fn ask_to_end(&self, session: usize, transaction: u64) -> Result<(), Error> {
-        let handles = self.handles.upgrade().ok_or(Error::NoSuchSession)?;
+    pub fn ask_to_end(&self, session: u32, transaction: u64) -> Result<(), Error> {
+        let handles = self.handles.owner().ok_or(Error::NoSuchSession)?;
         let index = session.checked_sub(1).ok_or(Error::NoSuchSession)?;
-        if handles.ask_to_end(index, transaction) {
+        if handles.ask_to_end(index as usize, transaction) {
             Ok(())
         } else {
             Err(Error::NoSuchSession)
@@ -55,7 +55,7 @@ impl Session {
     ///     # Ok::<(), Error>(())
     pub fn operator(&self) -> Operator {
         Operator {
-            handles: Arc::downgrade(self.handles()),
+            handles: self.handles().observe(),
         }
     }
 
@@ -68,6 +68,6 @@ impl Session {
     ///     assert_eq!((sessions[0].is_asked_to_end(7), sessions[0].is_asked_to_end(8)), (true, false));
     ///     # Ok::<(), pelgaisti::Error>(())
     pub fn is_asked_to_end(&self, transaction: u64) -> bool {
-        transaction != 0 && self.handles().asked(self.number() - 1) == transaction
+        transaction != 0 && self.handles().asked(self.index()) == transaction
     }
 }

@@ -1,10 +1,12 @@
 //! Sessions that were dropped.
 
+use crate::error::Error;
+use crate::lists::list_for;
 use crate::office::{Office, Session};
 
 impl Office {
     /// The sessions of this session's office that were dropped and not handed out since, by number: each is handed out once, also if
-    /// several threads ask. An orphan is as it was dropped.
+    /// several threads ask. An orphan is as it was dropped. [`Error::NoMemory`]: none is handed out; ask again.
     ///
     /// - It may have a pending call or program, which other sessions' passes serve meanwhile, whatever it asks:
     ///   [`Session::resume_program`] tells the answer to either. Until then it publishes nothing else ([`crate::Error::Pending`]).
@@ -23,16 +25,18 @@ impl Office {
     ///     let _ = lost.perform(&Call::Begin, u64::MAX)?;
     ///     let _ = lost.perform(&Call::Lock(Resource::new(&[7]).unwrap(), Mode::X), u64::MAX)?;
     ///     drop(lost);
-    ///     let mut orphans = Office::orphans(&sessions[0]);
+    ///     let mut orphans = Office::orphans(&sessions[0])?;
     ///     assert_eq!(orphans[0].number(), 2);
     ///     assert_eq!(orphans[0].perform(&Call::Abort, u64::MAX)?.reply, Reply::Aborted(1));
     ///     sessions.append(&mut orphans);
     ///     assert!(Office::close(sessions).is_ok());
     ///     # Ok::<(), pelgaisti::Error>(())
     #[must_use = "what is ignored is dropped, and goes back to the office"]
-    pub fn orphans(session: &Session) -> Vec<Session> {
+    pub fn orphans(session: &Session) -> Result<Vec<Session>, Error> {
         let mut dropped = session.handles().dropped();
+        let mut orphans = list_for(dropped.len())?;
         dropped.sort_unstable();
-        dropped.drain(..).map(|index| Session::of(session.handles(), index)).collect()
+        orphans.extend(dropped.drain(..).map(|index| Session::of(session.handles(), index)));
+        Ok(orphans)
     }
 }

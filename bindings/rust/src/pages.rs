@@ -4,7 +4,7 @@ use crate::book::Book;
 use crate::calls::Resource;
 use crate::claims::Claim;
 use crate::error::{done, Error};
-use crate::ffi::{self, RawClaim, RawResource};
+use crate::ffi::{self, RawClaim, RawResource, MAX_LOCKS};
 use crate::lists::{blank, each};
 use crate::looks::Seen;
 use crate::office::Session;
@@ -45,7 +45,7 @@ impl Book {
     ///     assert_eq!(book.locks_held(1)?, page.len() + rest.len());
     ///     # Ok::<(), pelgaisti::Error>(())
     pub fn locks_of(&self, session: u32, after: Option<Resource>, most: usize) -> Result<Vec<Claim>, Error> {
-        let (mut list, mut count) = (blank::<RawClaim>(most)?, 0);
+        let (mut list, mut count) = (blank::<RawClaim>(most.min(MAX_LOCKS))?, 0);
         let (to, room) = (list.as_mut_ptr(), list.len());
         // SAFETY: the handle is this book's; the list has so much room, the others are locals of their types
         done(unsafe { ffi::pelgaisti_book_locks_of(self.raw(), session, &begin(after), to, room, &mut count) })?;
@@ -76,7 +76,7 @@ impl Session {
     ///     assert_eq!(sessions[1].locks_of(1, None, 8)?.found[0].mode, Mode::X);
     ///     # Ok::<(), pelgaisti::Error>(())
     pub fn locks_of(&mut self, whose: u32, after: Option<Resource>, most: usize) -> Result<Seen<Vec<Claim>>, Error> {
-        let (mut list, mut count, mut length) = (blank::<RawClaim>(most)?, 0, 0);
+        let (mut list, mut count, mut length) = (blank::<RawClaim>(most.min(MAX_LOCKS))?, 0, 0);
         let (to, room) = (list.as_mut_ptr(), list.len());
         // SAFETY: the handle is this session's, used by `&mut`; the list has so much room, the others are locals of their types
         done(unsafe { ffi::pelgaisti_session_locks_of(self.raw(), whose, &begin(after), to, room, &mut count, &mut length) })?;

@@ -1,6 +1,6 @@
 //! Programs: several calls of a session that are made as one, and the answers to them.
 
-use crate::calls::{Call, Mode, Reply, Resource};
+use crate::calls::{level_code, Call, Mode, Reply, Resource};
 use crate::ffi::{RawCall, RawProgram, RawProgramAnswer};
 
 /// What a program does with the session's transaction first.
@@ -88,29 +88,29 @@ impl Program {
     }
 
     /// What `first` says, then locks on the ancestors of the resource in the mode that `mode` needs of a parent, and on the resource in
-    /// `mode`: the rest of a path of which `locked` levels are locked. `None` if all are.
+    /// `mode`: the rest of a path of which `level` levels are locked already, 0 at first. `None` if all are.
     ///
     ///     # use pelgaisti::{Mode, Program, Resource, Start};
     ///     let page = Resource::new(&[7, 2, 40]).unwrap();
     ///     assert!(Program::locks(Start::Begins, page, Mode::X, 0).is_some());
     ///     assert!(Program::locks(Start::Begins, page, Mode::X, 3).is_none());
-    pub fn locks(first: Start, resource: Resource, mode: Mode, locked: usize) -> Option<Program> {
-        Program::path(first, locked + 1, mode.of_parent(), &Call::Lock(resource, mode))
+    pub fn locks(first: Start, resource: Resource, mode: Mode, level: usize) -> Option<Program> {
+        Program::path(first, level, mode.of_parent(), &Call::Lock(resource, mode))
     }
 
-    /// What `first` says, then locks on the ancestors of the call's resource in the mode `above`, from the level `from` on, and then the
-    /// call. `None` if the call has no resource, or `from` isn't from 1 to its level.
+    /// What `first` says, then locks on the ancestors of the call's resource in the mode `above`, but for the first `level` levels, which are
+    /// locked already, and then the call. `None` if the call has no resource, or none of its levels is left.
     ///
     ///     # use pelgaisti::{Call, Mode, Program, Resource, Start};
     ///     let record = Resource::new(&[7, 2, 40, 1]).unwrap();
-    ///     let of = |from, call| Program::path(Start::Commits, from, Mode::IX, &call).is_some();
-    ///     assert!(of(1, Call::Try(record, Mode::X)) && !of(5, Call::Try(record, Mode::X)) && !of(1, Call::Poll));
-    pub fn path(first: Start, from: usize, above: Mode, last: &Call) -> Option<Program> {
+    ///     let of = |level, call| Program::path(Start::Commits, level, Mode::IX, &call).is_some();
+    ///     assert!(of(0, Call::Try(record, Mode::X)) && !of(4, Call::Try(record, Mode::X)) && !of(0, Call::Poll));
+    pub fn path(first: Start, level: usize, above: Mode, last: &Call) -> Option<Program> {
         let mut program = Program::behind(first, last.raw());
-        if from < 1 || from > program.raw.from as usize {
+        if level >= program.raw.from as usize {
             return None;
         }
-        program.raw.from = from as u32;
+        program.raw.from = level_code(level) + 1;
         program.raw.above = above.code();
         Some(program)
     }

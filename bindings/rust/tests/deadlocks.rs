@@ -177,7 +177,7 @@ fn reply(session: &mut Session, call: Call) -> Reply {
 /// Offices that were told to keep deadlocks when they were opened, with a closure that wakes and without, and one that wasn't.
 #[test]
 fn offices_tell() {
-    let (woken, told) = mpsc::channel();
+    let (woken, told) = mpsc::sync_channel(8);
     let wake = move |session| woken.send(session).unwrap();
     let telling = Office::open_telling(2, u64::MAX, 4).unwrap();
     let waking = Office::open_waking_telling(2, 3, 4, wake).unwrap();
@@ -203,7 +203,7 @@ fn offices_tell() {
         assert_eq!(told.len(), kept);
         told.iter().for_each(|it| want_cross(it, 5, [1, 2]));
     }
-    assert_eq!(told.try_iter().collect::<Vec<usize>>(), [1]);
+    assert_eq!(told.try_iter().collect::<Vec<u32>>(), [1]);
     assert_eq!(Office::open_telling(0, u64::MAX, 4).err(), Some(Error::NoSuchCount));
     assert_eq!(Office::open_telling(2, u64::MAX, usize::MAX).err(), Some(Error::NoMemory));
     assert_eq!(Office::open_waking_telling(2, u64::MAX, usize::MAX, |_| ()).err(), Some(Error::NoMemory));

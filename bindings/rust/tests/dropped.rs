@@ -10,7 +10,7 @@ fn reply(session: &mut Session, call: Call) -> Reply {
     session.perform(&call, u64::MAX).unwrap().reply
 }
 
-fn numbers(sessions: &[Session]) -> Vec<usize> {
+fn numbers(sessions: &[Session]) -> Vec<u32> {
     sessions.iter().map(Session::number).collect()
 }
 
@@ -18,7 +18,7 @@ fn numbers(sessions: &[Session]) -> Vec<usize> {
 fn bytes_in_use() -> usize {
     #[repr(C)]
     struct Mallinfo2([usize; 10]);
-    unsafe extern "C" {
+    extern "C" {
         fn mallinfo2() -> Mallinfo2;
     }
     // its eighth field is uordblks, and its fifth hblkhd: in blocks, and mapped
@@ -52,9 +52,9 @@ fn dropped_sessions() {
     assert_eq!(reply(&mut sessions[1], Call::Lock(page, Mode::S)), Reply::Waiting);
 
     // each comes back once, with what it had
-    let mut orphans = Office::orphans(&sessions[0]);
+    let mut orphans = Office::orphans(&sessions[0]).unwrap();
     assert_eq!(numbers(&orphans), [3, 4]);
-    assert!(Office::orphans(&sessions[0]).is_empty());
+    assert!(Office::orphans(&sessions[0]).unwrap().is_empty());
     assert_eq!(orphans[0].resume(1), Err(Error::NothingPending));
     assert_eq!(reply(&mut orphans[0], Call::Abort), Reply::Aborted(1));
     assert_eq!(orphans[1].resume(1).unwrap().reply, Reply::Committed(0));
@@ -63,7 +63,7 @@ fn dropped_sessions() {
     // dropped again, it comes back again, and its number is used again
     drop(orphans.pop());
     drop(orphans.pop());
-    let mut orphans = Office::orphans(&sessions[1]);
+    let mut orphans = Office::orphans(&sessions[1]).unwrap();
     assert_eq!(numbers(&orphans), [3, 4]);
     assert_eq!(reply(&mut orphans[1], Call::Begin), Reply::Began(4));
     assert_eq!(reply(&mut orphans[1], Call::Commit), Reply::Committed(0));
@@ -73,7 +73,7 @@ fn dropped_sessions() {
     let refused = Office::close(sessions).err().unwrap();
     assert_eq!((refused.error, numbers(&refused.sessions)), (Error::Missing, vec![1]));
     let mut sessions = refused.sessions;
-    let mut orphans = Office::orphans(&sessions[0]);
+    let mut orphans = Office::orphans(&sessions[0]).unwrap();
     assert_eq!(numbers(&orphans), [3, 4]);
     sessions.append(&mut orphans);
     assert_eq!(Office::close(sessions).ok().unwrap().length(), 10);
@@ -122,7 +122,7 @@ fn orphans_that_wait() {
     // the third waits behind the second, and is the youngest on a cycle through the first
     let mut one = sessions.pop().unwrap();
     assert_eq!(reply(&mut one, Call::Lock(other, Mode::S)), Reply::Waiting);
-    let mut orphans = Office::orphans(&one);
+    let mut orphans = Office::orphans(&one).unwrap();
     assert_eq!(numbers(&orphans), [2, 3]);
     assert_eq!(orphans[1].perform(&Call::Abort, 1), Err(Error::Pending));
     assert_eq!(orphans[1].resume(1).unwrap().reply, Reply::Waiting);
@@ -135,7 +135,7 @@ fn orphans_that_wait() {
     drop(orphans);
     assert_eq!(reply(&mut one, Call::Commit), Reply::Committed(2));
     assert_eq!(one.held(2, page).unwrap().found, Mode::X);
-    let mut orphans = Office::orphans(&one);
+    let mut orphans = Office::orphans(&one).unwrap();
     assert_eq!(reply(&mut orphans[0], Call::Abort), Reply::Aborted(1));
     assert_eq!(reply(&mut orphans[0], Call::Abort), Reply::Refused(Refusal::NoTransaction));
 
@@ -145,7 +145,7 @@ fn orphans_that_wait() {
     assert_eq!(reply(&mut orphans[0], Call::Begin), Reply::Began(5));
     assert_eq!(reply(&mut orphans[0], Call::Lock(page, Mode::X)), Reply::Waiting);
     drop(orphans);
-    let mut orphans = Office::orphans(&one);
+    let mut orphans = Office::orphans(&one).unwrap();
     assert_eq!(reply(&mut orphans[0], Call::Abort), Reply::Aborted(0));
     assert_eq!(one.request(2).unwrap().found, None);
 }
@@ -158,7 +158,7 @@ fn orphans_that_have_retired() {
     assert_eq!(reply(&mut sessions[1], Call::Lock(page, Mode::X)), Reply::Granted(Mode::X));
     sessions[1].retire().unwrap();
     drop(sessions.pop());
-    let mut orphans = Office::orphans(&sessions[0]);
+    let mut orphans = Office::orphans(&sessions[0]).unwrap();
     assert_eq!(orphans[0].perform(&Call::Abort, 1), Err(Error::Retired));
     assert_eq!(orphans[0].serve().unwrap().served, 0);
     assert_eq!(sessions[0].held(2, page).unwrap().found, Mode::X);
@@ -168,11 +168,11 @@ fn orphans_that_have_retired() {
 
 /// Threads that ask for orphans at the same time get each of them once between them.
 fn threads_share_the_orphans() {
-    const THREADS: usize = 4;
+    const THREADS: u32 = 4;
     for _ in 0..200 {
         let mut sessions = Office::open(64 + THREADS).unwrap();
-        let rest = sessions.split_off(THREADS);
-        let start = Arc::new(Barrier::new(THREADS + 1));
+        let rest = sessions.split_off(THREADS as usize);
+        let start = Arc::new(Barrier::new(THREADS as usize + 1));
         let threads: Vec<_> = sessions
             .into_iter()
             .map(|session| {
@@ -181,7 +181,7 @@ fn threads_share_the_orphans() {
                     start.wait();
                     let mut found = Vec::new();
                     for _ in 0..8 {
-                        found.append(&mut Office::orphans(&session));
+                        found.append(&mut Office::orphans(&session).unwrap());
                     }
                     (session, found)
                 })
@@ -190,7 +190,7 @@ fn threads_share_the_orphans() {
         start.wait();
         drop(rest);
         let (sessions, found): (Vec<_>, Vec<_>) = threads.into_iter().map(|it| it.join().unwrap()).unzip();
-        let left = Office::orphans(&sessions[0]);
+        let left = Office::orphans(&sessions[0]).unwrap();
         let all: Vec<_> = sessions.into_iter().chain(found.into_iter().flatten()).chain(left).collect();
         let mut told = numbers(&all);
         told.sort_unstable();

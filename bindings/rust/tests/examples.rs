@@ -140,7 +140,7 @@ fn tries_and_withdrawals() {
     let mut book = Book::open(3).unwrap();
     for (session, call, reply) in expected {
         assert_eq!(book.serve(session, &call).unwrap(), reply);
-        assert_eq!(book.ended().contains(&3), reply == Reply::Withdrawn || (session, call) == (1, write));
+        assert_eq!(book.ended().unwrap().contains(&3), reply == Reply::Withdrawn || (session, call) == (1, write));
     }
     let calls: Vec<_> = book.history(0, 99).unwrap().iter().map(|it| (it.session, it.call, it.reply)).collect();
     assert_eq!(calls, expected);

@@ -1,6 +1,8 @@
 //! Rooms that a caller gives take no more memory than there is to write. Where Rust's memory is refused, the calls that tell of it may
 //! be made again.
 
+#![deny(unsafe_op_in_unsafe_fn)]
+
 use pelgaisti::{Book, Call, Error, Mode, Office, Reply, Resource, Session};
 use std::alloc::{GlobalAlloc, Layout, System};
 use std::cell::Cell;
@@ -103,7 +105,7 @@ fn a_book_goes_on_where_memory_is_refused() {
     assert_eq!(book.first_kept(), 0);
 
     assert_eq!(book.serve_batch(&calls).unwrap().len(), 100);
-    assert_eq!(book.lock_path(1, database(), Mode::S, &mut level, &mut ended), Ok(Some(Reply::Granted(Mode::S))));
+    assert_eq!(book.lock_path(1, database(), Mode::S, &mut level, &mut ended), Ok(Reply::Granted(Mode::S)));
     assert_eq!((level, book.holders(database()).unwrap().len(), book.locks().unwrap().len()), (1, 299, 300));
     assert_eq!(book.blockers(300).unwrap(), (1..300).collect::<Vec<_>>());
     let dump = book.dump().unwrap();

@@ -13,17 +13,20 @@ fn reply(session: &mut Session, call: Call) -> Reply {
 }
 
 fn begin(session: &mut Session) -> u64 {
-    let Reply::Began(transaction) = reply(session, Call::Begin) else { panic!() };
-    transaction
+    match reply(session, Call::Begin) {
+        Reply::Began(transaction) => transaction,
+        other => panic!("{other:?}"),
+    }
 }
 
 /// The mark is that of one transaction of one session, and the waker is called for that session.
 #[test]
 fn marks_are_of_transactions() {
-    let (woken, told) = mpsc::channel();
+    let (woken, told) = mpsc::sync_channel(8);
     let mut sessions = Office::open_waking(3, u64::MAX, move |session| woken.send(session).unwrap()).unwrap();
     let operator = sessions[2].operator();
-    let [one, two, _] = &mut sessions[..] else { panic!() };
+    let (one, rest) = sessions.split_first_mut().unwrap();
+    let two = &mut rest[0];
     let (first, second) = (begin(one), begin(two));
     assert!(!one.is_asked_to_end(first) && !one.is_asked_to_end(0));
     operator.ask_to_end(1, first).unwrap();
@@ -45,11 +48,11 @@ fn marks_are_of_transactions() {
     assert_eq!(one.transaction(2).unwrap().found.unwrap().number, second);
     let two = sessions.remove(1);
     drop(two);
-    let mut orphans = Office::orphans(&sessions[0]);
+    let mut orphans = Office::orphans(&sessions[0]).unwrap();
     assert!(orphans[0].is_asked_to_end(second));
     assert_eq!(reply(&mut orphans[0], Call::Abort), Reply::Aborted(0));
 
-    for number in [0, 4, usize::MAX] {
+    for number in [0, 4, u32::MAX] {
         assert_eq!(operator.ask_to_end(number, third), Err(Error::NoSuchSession));
     }
     sessions.append(&mut orphans);
@@ -80,7 +83,8 @@ fn who_asks_needs_no_waker() {
 /// How often each session was woken and hasn't slept since.
 type Beds = Arc<(Mutex<[usize; 4]>, Condvar)>;
 
-fn sleep(beds: &Beds, session: usize) {
+fn sleep(beds: &Beds, session: u32) {
+    let session = session as usize;
     let mut woken = beds.0.lock().unwrap();
     while woken[session] == 0 {
         woken = beds.1.wait(woken).unwrap();
@@ -113,7 +117,7 @@ fn asked_sessions_obey() {
     let beds = Beds::default();
     let sleepers = beds.clone();
     let mut sessions = Office::open_waking(3, 1024, move |session| {
-        sleepers.0.lock().unwrap()[session] += 1;
+        sleepers.0.lock().unwrap()[session as usize] += 1;
         sleepers.1.notify_all();
     })
     .unwrap();
@@ -135,7 +139,7 @@ fn asked_sessions_obey() {
             .collect();
         let order = if round % 2 == 0 { [0, 1] } else { [1, 0] };
         for index in order {
-            operator.ask_to_end(index + 1, transactions[index]).unwrap();
+            operator.ask_to_end(index as u32 + 1, transactions[index]).unwrap();
         }
         for it in threads {
             let (session, committed) = it.join().unwrap();

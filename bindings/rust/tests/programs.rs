@@ -62,7 +62,7 @@ fn a_path_stops_where_it_waits() {
     assert_eq!(replies, [Reply::Began(2), Reply::Granted(Mode::IS), Reply::Waiting]);
     assert_eq!((answer.place(), answer.stopped()), (5, true));
     let mut ended = vec![9];
-    let program = Program::path(Start::CommitsAndBegins, 1, Mode::IX, &Call::Try(resource(&[8, 1]), Mode::X)).unwrap();
+    let program = Program::path(Start::CommitsAndBegins, 0, Mode::IX, &Call::Try(resource(&[8, 1]), Mode::X)).unwrap();
     let answer = book.run(1, &program, &mut ended).unwrap();
     assert_eq!((answer.replies().len(), ended), (4, vec![9, 2]));
     assert_eq!(run(&mut book, 2, Program::one(&Call::Poll)).0, [Reply::Clear]);
@@ -73,7 +73,10 @@ fn a_path_stops_where_it_waits() {
 #[test]
 fn sessions_run_programs() {
     let mut sessions = Office::open(3).unwrap();
-    let [one, two, three] = &mut sessions[..] else { panic!() };
+    let (one, two, three) = match &mut sessions[..] {
+        [one, two, three] => (one, two, three),
+        _ => panic!(),
+    };
     let answer = one.run(&Program::locks(Start::Begins, resource(&[7, 2]), Mode::X, 0).unwrap(), 9).unwrap();
     assert!(answer.replies().eq([Reply::Began(1), Reply::Granted(Mode::IX), Reply::Granted(Mode::X)]));
     let answer = two.run(&Program::locks(Start::Begins, resource(&[7, 2, 1]), Mode::X, 0).unwrap(), 9).unwrap();
@@ -100,7 +103,7 @@ fn a_pending_program_is_dropped() {
     assert_eq!(sessions[0].run(&Program::one(&Call::Begin), 9).unwrap().replies().count(), 1);
     assert_eq!(sessions[0].run(&Program::start(Start::CommitsAndBegins), 0).err(), Some(Error::NotServed));
     drop(sessions.pop());
-    let mut orphans = Office::orphans(&sessions[0]);
+    let mut orphans = Office::orphans(&sessions[0]).unwrap();
     assert_eq!(orphans[0].resume_program(1).err(), Some(Error::NothingPending));
     drop((sessions, orphans));
 }

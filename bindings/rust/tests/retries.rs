@@ -11,7 +11,7 @@ fn round_won(retry: Call) -> Option<u32> {
     let lock = |number| Call::Lock(Resource::new(&[number]).unwrap(), Mode::X);
     for round in 1..=20 {
         assert!(matches!(serve(1, Call::Begin), Reply::Began(_)));
-        serve(2, Call::Begin); // refused if its transaction is open
+        let _ = serve(2, Call::Begin); // refused if its transaction is open
         assert_eq!(serve(1, lock(1)), Reply::Granted(Mode::X));
         assert_eq!(serve(2, lock(2)), Reply::Granted(Mode::X));
         assert_eq!(serve(1, lock(2)), Reply::Waiting);
@@ -20,7 +20,7 @@ fn round_won(retry: Call) -> Option<u32> {
             assert_eq!((serve(2, Call::Poll), serve(2, Call::Commit)), (Reply::Clear, Reply::Committed(2)));
             return Some(round);
         }
-        serve(2, retry);
+        let _ = serve(2, retry);
         assert_eq!((serve(1, Call::Poll), serve(1, Call::Commit)), (Reply::Clear, Reply::Committed(2)));
     }
     None

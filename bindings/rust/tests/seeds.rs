@@ -62,25 +62,25 @@ fn no_history_depends_on_the_seed() {
     assert!(history.iter().filter(|it| matches!(it.reply, Reply::Granted(_))).count() > 100);
     for seed in [0, 1, u64::MAX] {
         assert_eq!(in_a_book(Book::open_seeded(SESSIONS, seed).unwrap()), history);
-        assert_eq!(in_an_office(Office::open_seeded(SESSIONS as usize, u64::MAX, seed).unwrap()), history);
-        assert_eq!(in_an_office(Office::open_waking_seeded(SESSIONS as usize, u64::MAX, seed, |_| ()).unwrap()), history);
+        assert_eq!(in_an_office(Office::open_seeded(SESSIONS, u64::MAX, seed).unwrap()), history);
+        assert_eq!(in_an_office(Office::open_waking_seeded(SESSIONS, u64::MAX, seed, |_| ()).unwrap()), history);
     }
     assert_eq!(in_a_book(Book::open(SESSIONS).unwrap()), history);
-    assert_eq!(in_an_office(Office::open(SESSIONS as usize).unwrap()), history);
+    assert_eq!(in_an_office(Office::open(SESSIONS).unwrap()), history);
 }
 
 #[test]
 fn openings_with_a_seed_refuse_what_others_do() {
     for sessions in [0, 1025] {
         assert_eq!(Book::open_seeded(sessions, 7).err(), Some(Error::NoSuchCount));
-        assert_eq!(Office::open_seeded(sessions as usize, 9, 7).err(), Some(Error::NoSuchCount));
-        assert_eq!(Office::open_waking_seeded(sessions as usize, 9, 7, |_| ()).err(), Some(Error::NoSuchCount));
+        assert_eq!(Office::open_seeded(sessions, 9, 7).err(), Some(Error::NoSuchCount));
+        assert_eq!(Office::open_waking_seeded(sessions, 9, 7, |_| ()).err(), Some(Error::NoSuchCount));
     }
 }
 
 #[test]
 fn a_seeded_office_wakes_and_has_its_bound() {
-    let (woken, told) = mpsc::channel();
+    let (woken, told) = mpsc::sync_channel(8);
     let mut sessions = Office::open_waking_seeded(2, 3, 7, move |session| woken.send(session).unwrap()).unwrap();
     let database = Resource::new(&[7]).unwrap();
     for session in &mut sessions {

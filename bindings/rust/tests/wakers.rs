@@ -15,7 +15,7 @@ fn reply(session: &mut Session, call: Call) -> Reply {
 }
 
 /// An office of so many sessions, and whom its waker has woken since this was asked last.
-fn office(sessions: usize) -> (Vec<Session>, impl Fn() -> Vec<usize>) {
+fn office(sessions: u32) -> (Vec<Session>, impl Fn() -> Vec<u32>) {
     let woken = Arc::new(Mutex::new(Vec::new()));
     let noted = woken.clone();
     let sessions = Office::open_waking(sessions, u64::MAX, move |session| noted.lock().unwrap().push(session)).unwrap();
@@ -26,7 +26,10 @@ fn office(sessions: usize) -> (Vec<Session>, impl Fn() -> Vec<usize>) {
 fn each_pass_wakes() {
     for way in 0..5 {
         let (mut sessions, woken) = office(3);
-        let [one, two, three] = &mut sessions[..] else { panic!() };
+        let (one, two, three) = match &mut sessions[..] {
+            [one, two, three] => (one, two, three),
+            _ => panic!(),
+        };
         for (session, number) in [(&mut *one, 1), (&mut *two, 2)] {
             assert_eq!(reply(session, Call::Begin), Reply::Began(number.into()));
             assert_eq!(reply(session, lock(number, Mode::X)), Reply::Granted(Mode::X));
@@ -49,7 +52,7 @@ fn each_pass_wakes() {
             }
             // 2 becomes a victim
             3 => {
-                let answer = one.lock_path(Resource::new(&[2]).unwrap(), Mode::S, &mut 0, 9).unwrap().unwrap();
+                let answer = one.lock_path(Resource::new(&[2]).unwrap(), Mode::S, &mut 0, 9).unwrap();
                 assert_eq!(answer.reply, Reply::Waiting);
             }
             // its own pass ends its wait
@@ -169,7 +172,7 @@ fn threads_sleep() {
     let beds: Arc<(Mutex<[usize; 9]>, Condvar)> = Arc::default();
     let woken = beds.clone();
     let sessions = Office::open_waking(8, 64, move |session| {
-        woken.0.lock().unwrap()[session] += 1;
+        woken.0.lock().unwrap()[session as usize] += 1;
         woken.1.notify_all();
     });
     let threads: Vec<_> = sessions
@@ -183,10 +186,11 @@ fn threads_sleep() {
                     let mut answer = reply(&mut session, lock(1, Mode::X));
                     if answer == Reply::Waiting {
                         let mut woken = beds.0.lock().unwrap();
-                        while woken[session.number()] == 0 {
+                        let number = session.number() as usize;
+                        while woken[number] == 0 {
                             woken = beds.1.wait(woken).unwrap();
                         }
-                        woken[session.number()] -= 1;
+                        woken[number] -= 1;
                         drop(woken);
                         answer = reply(&mut session, Call::Poll);
                         assert_eq!(answer, Reply::Clear);

@@ -4,8 +4,8 @@
 ghost use Rattle.std.specs.Prelude.{IfSome};
 ghost use Rattle.state_rows.specs.States.{AreLists};
 
-use dump_report::{graph_of_dump, lines_of_dump, waits_of_dump};
-use lock_report::NoMemory;
+use dump_report::{Moment, lists_text, told_waits};
+use lock_report::{NoMemory, locks_dot, waits_dot};
 use state_rows::{StateFault, StateLists, read_state};
 use std::alloc::Global;
 use std::test::Fail;
@@ -129,6 +129,25 @@ fn ends_with(written: Result<String, NoMemory>, wanted: &str) -> bool {
     }
 }
 
+/// The dump as text for people.
+fn text_of(alloc: Global, lists: &StateLists) -> Result<String, NoMemory>
+    requires { AreLists 8 lists.now }
+{
+    let told = told_waits(alloc, &lists.opens, &lists.claims, &lists.waits)?;
+    let moment = Moment {
+        sessions: 8,
+        place: None,
+        waiting: 4,
+    };
+    lists_text(alloc, moment, lists, &told)
+}
+
+/// The dump as a graph of what is waited for.
+fn boxes_of(alloc: Global, lists: &StateLists) -> Result<String, NoMemory> {
+    let told = told_waits(alloc, &lists.opens, &lists.claims, &lists.waits)?;
+    locks_dot(alloc, &lists.opens, &lists.claims, &told)
+}
+
 /// A dump in three forms.
 #[test]
 fn a_dump_in_three_forms(rt: HostRuntime) -> Result<(), Fail> {
@@ -136,9 +155,9 @@ fn a_dump_in_three_forms(rt: HostRuntime) -> Result<(), Fail> {
         assert!(rt; false);
         return Ok(());
     };
-    let mut right = is_written(lines_of_dump(rt.alloc(), 8, &lists), TEXT);
-    right &= ends_with(graph_of_dump(rt.alloc(), &lists), EDGES);
-    right &= ends_with(waits_of_dump(rt.alloc(), &lists), WAITS);
+    let mut right = is_written(text_of(rt.alloc(), &lists), TEXT);
+    right &= ends_with(boxes_of(rt.alloc(), &lists), EDGES);
+    right &= ends_with(waits_dot(rt.alloc(), &lists.opens, &lists.waits), WAITS);
     assert!(rt; right);
     Ok(())
 }

@@ -35,6 +35,7 @@ const ROOT: Root = Root {
 /// The wait for its first blocker.
 const FIRST: ToldWait = ToldWait {
     wait: WAIT,
+    first: true,
     since: Some(7),
 };
 
@@ -44,6 +45,7 @@ const OTHER: ToldWait = ToldWait {
         session: 12,
         other: 3,
     },
+    first: false,
     since: None,
 };
 
@@ -138,7 +140,7 @@ fn a_lock_table_in_three_forms(rt: HostRuntime) -> Result<(), Fail> {
     let claims = [lock(Resource::parse("1")?)];
     let opens = [OPEN, VICTIM];
     let told = [FIRST, OTHER];
-    let text = state_text(rt.alloc(), 2, 4, &[ROOT], &opens, &claims, &told);
+    let text = state_text(rt.alloc(), Some(2), 4, &[ROOT], &opens, &claims, &told);
     let mut right = is_written(text, TEXT);
     right &= is_written(state_rows(rt.alloc(), &[OPEN], &claims, &[WAIT]), ROWS);
     right &= is_written(waits_dot(rt.alloc(), &[OPEN], &[WAIT]), GRAPH);
@@ -195,10 +197,10 @@ fn boxes_are_in_rows(rt: HostRuntime) -> Result<(), Fail> {
 
 /// Writes the text of a state, and once more if memory was refused. Returns it with whether it was.
 fn written_text(alloc: Global, claims: &[Claim]) -> Result<(String, bool), NoMemory> {
-    match state_text(alloc, 21, 1, &[ROOT], &[OPEN], claims, &[FIRST]) {
+    match state_text(alloc, Some(21), 1, &[ROOT], &[OPEN], claims, &[FIRST]) {
         Ok(text) => Ok((text, false)),
         Err(_) => Ok((
-            state_text(alloc, 21, 1, &[ROOT], &[OPEN], claims, &[FIRST])?,
+            state_text(alloc, Some(21), 1, &[ROOT], &[OPEN], claims, &[FIRST])?,
             true,
         )),
     }

@@ -1,6 +1,7 @@
 pub mod Counted
 pub mod Firsts
 pub mod Granted
-pub mod NextRoot
+pub mod Jammed
 pub mod Parts
 pub mod Walks
+pub mod Wanted

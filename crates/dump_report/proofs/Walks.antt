@@ -60,7 +60,7 @@ waiter-listed (w ∷ ws) s u h = elim (or_cases (eqb w.session s && eqb w.other 
 ]
 
 -- who waits on a walk behind its first session is among those who wait
-all-listed : (waits : List Wait) (ws : List ℕ) (s u : ℕ) → IsWalk (does_wait waits) s ws u → AllIn ws (waiters waits)
+pub all-listed : (waits : List Wait) (ws : List ℕ) (s u : ℕ) → IsWalk (does_wait waits) s ws u → AllIn ws (waiters waits)
 all-listed waits [] s u walk = tt
 all-listed waits (w ∷ []) s u walk = (waiter-listed waits w u walk.1, tt)
 all-listed waits (w ∷ v ∷ ws) s u walk = (waiter-listed waits w v walk.1.0, all-listed waits (v ∷ ws) w u walk.1)

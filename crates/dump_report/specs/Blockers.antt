@@ -1,14 +1,15 @@
--- For whom the requests of a dump wait, each session's first blocker first. What waits for whom is what the dump's own rows say.
+-- For whom the requests of a state wait, each session's first blocker first, found in its lists: who waits for whom is what the list of
+-- waits says.
 use Rattle.std.specs.Prelude.{ℕ, Bool, true, false, ◌&&◌, if◌then◌else◌, ◌==◌, List, [], ◌∷◌, filter, Option, Some, None}
 use Rattle.std.specs.List.{flat_map, list_any}
 use Rattle.lock_tree.specs.Paths.{same_path}
 use Rattle.lock_rules.specs.declared.listing.Claim.{Claim}
 use Rattle.lock_report.specs.declared.snapshot.OpenTransaction.{OpenTransaction}
-use Rattle.lock_report.specs.declared.snapshot.RankedWait.{RankedWait}
+use Rattle.lock_report.specs.declared.snapshot.ToldWait.{ToldWait}
 use Rattle.lock_report.specs.declared.snapshot.Wait.{Wait}
-use Rattle.report_text.specs.Claims.{is_request_kind}
+use Rattle.lock_report.specs.Claims.{is_request_kind}
 
--- the row is a waiting request
+-- the line is a waiting request
 abbrev pub is_request : Claim → Bool
 is_request c = is_request_kind c.kind
 
@@ -35,19 +36,19 @@ first_blocker waits r [] = None
 first_blocker waits r (c ∷ cs) = if same_path c.resource r && is_waited_for c.session waits then Some c.session else first_blocker waits r cs
 
 -- the wait in a list, the empty list if it is for the first blocker
-abbrev pub other_wait : ℕ → Wait → List RankedWait
-other_wait first w = if w.other == first then [] else record { wait = w; first = false } ∷ []
+abbrev pub other_wait : ℕ → Wait → List ToldWait
+other_wait first w = if w.other == first then [] else record { wait = w; first = false; since = None } ∷ []
 
 -- the waits of session s, that for its first blocker first; none if there is no first blocker
-abbrev pub ranked_behind : ℕ → List Wait → Option ℕ → List RankedWait
-ranked_behind s waits None = []
-ranked_behind s waits (Some first) = record { wait = record { session = s; other = first }; first = true } ∷ flat_map (other_wait first) waits
+abbrev pub told_behind : ℕ → List Wait → Option ℕ → List ToldWait
+told_behind s waits None = []
+told_behind s waits (Some first) = record { wait = record { session = s; other = first }; first = true; since = None } ∷ flat_map (other_wait first) waits
 
 -- the same of a request; none without a request
-abbrev pub ranked_of : List Claim → List Wait → Option Claim → List RankedWait
-ranked_of claims waits None = []
-ranked_of claims waits (Some q) = ranked_behind q.session (waits_by q.session waits) (first_blocker (waits_by q.session waits) q.resource claims)
+abbrev pub told_of : List Claim → List Wait → Option Claim → List ToldWait
+told_of claims waits None = []
+told_of claims waits (Some q) = told_behind q.session (waits_by q.session waits) (first_blocker (waits_by q.session waits) q.resource claims)
 
 -- the waits of all sessions, in the order of the open transactions
-abbrev pub ranked_waits : List OpenTransaction → List Claim → List Wait → List RankedWait
-ranked_waits opens claims waits = flat_map (λ o. ranked_of claims waits (request_of o.session (requests_among claims))) opens
+abbrev pub told_waits : List OpenTransaction → List Claim → List Wait → List ToldWait
+told_waits opens claims waits = flat_map (λ o. told_of claims waits (request_of o.session (requests_among claims))) opens

@@ -1,4 +1,4 @@
--- The roots of the jam that a dump shows: whom each blocks, and which requests its abort would grant.
+-- The roots of a jam, found in the lists of a state: whom each blocks, and which requests its abort would grant.
 use Rattle.std.specs.Prelude.{ℕ, suc, Bool, not, ◌&&◌, ◌||◌, if◌then◌else◌, ◌==◌, List, [], ◌∷◌, ◌++◌, length, filter, map, Option, Some, None, is_some}
 use Rattle.std.specs.List.{flat_map, list_all, list_any, range_with_len}
 use Rattle.lock_modes.specs.Compatibility.{are_compatible}
@@ -36,16 +36,22 @@ is_holder s locks = list_any (λ h. h.session == s) locks
 abbrev pub granted_on : ℕ → List Claim → List ℕ
 granted_on s claims = if is_holder s (locks_among claims) then granted_of (claims_but s (locks_among claims)) (requests_among claims) else []
 
--- the same if the claims, the first of which is on resource r, begin with all those on r, and somebody waits for r
-abbrev pub granted_at : ℕ → Option (List ℕ) → List ℕ → List Claim → List ℕ
-granted_at s last r claims = if begins_queue last r claims then granted_on s (claims_on r claims) else []
+-- the claims on resource r in a list, if the claims, the first of which is on r, begin with all those on r, and somebody waits for r
+abbrev pub jammed_at : Option (List ℕ) → List ℕ → List Claim → List (List Claim)
+jammed_at last r claims = if begins_queue last r claims then claims_on r claims ∷ [] else []
 
--- the same of claims in the order of a listing, resource by resource; `last` is the resource ahead of them
-abbrev pub granted_behind : ℕ → Option (List ℕ) → List Claim → List ℕ
-granted_behind s last [] = []
-granted_behind s last (c ∷ cs) = granted_at s last c.resource (c ∷ cs) ++ granted_behind s (Some c.resource) cs
+-- of claims in the order of a listing those on each resource that somebody waits for, resource by resource; `last` is the resource ahead
+-- of them
+abbrev pub jammed_behind : Option (List ℕ) → List Claim → List (List Claim)
+jammed_behind last [] = []
+jammed_behind last (c ∷ cs) = jammed_at last c.resource (c ∷ cs) ++ jammed_behind (Some c.resource) cs
 
--- a row says that session s waits for session u
+-- the sessions of the requests that an abort of session s would grant, of the claims on each resource that somebody waits for: on each resource that s holds and others wait for, the front of the
+-- queue that fits once the lock of s is gone
+abbrev pub granted_by_abort : ℕ → List (List Claim) → List ℕ
+granted_by_abort s jammed = flat_map (granted_on s) jammed
+
+-- one of the waits says that session s waits for session u
 abbrev pub does_wait : List Wait → ℕ → ℕ → Bool
 does_wait waits s u = list_any (λ w. (w.session == s) && (w.other == u)) waits
 
@@ -63,19 +69,19 @@ blocked_by n waits s = filter (λ u. is_blocked waits u s) (range_with_len 1 n)
 
 -- session s doesn't wait, and others wait for it
 abbrev pub is_root : List Claim → List Wait → ℕ → Bool
-is_root claims waits s = not (is_some (request_of s (requests_among claims))) && is_waited_for s waits
+is_root requests waits s = not (is_some (request_of s requests)) && is_waited_for s waits
 
 -- the root in a list, the empty list if the session is none
-abbrev pub root_of : ℕ → List Claim → List Wait → OpenTransaction → List Root
-root_of n claims waits o =
-    if is_root claims waits o.session
+abbrev pub root_of : ℕ → List Claim → List (List Claim) → List Wait → OpenTransaction → List Root
+root_of n requests jammed waits o =
+    if is_root requests waits o.session
     then record {
       begun = o;
       blocks = length (blocked_by n waits o.session);
-      grants = length (granted_behind o.session None claims);
+      grants = length (granted_by_abort o.session jammed);
     } ∷ []
     else []
 
 -- the roots, in the order of the open transactions
 abbrev pub roots_of : ℕ → List OpenTransaction → List Claim → List Wait → List Root
-roots_of n opens claims waits = flat_map (root_of n claims waits) opens
+roots_of n opens claims waits = flat_map (root_of n (requests_among claims) (jammed_behind None claims) waits) opens

@@ -1,21 +1,12 @@
--- What is shown of a dump: the text for people, and the graph of the resources that are waited for.
-use Rattle.std.specs.Prelude.{ℕ, List, length}
-use Rattle.lock_report.specs.DumpText.{dot_of_dump, text_of_dump}
-use Rattle.lock_report.specs.Dot.{dot_of_waits}
-use Rattle.state_rows.specs.declared.reading.StateLists.{StateLists}
-use Rattle.dump_report.specs.Blockers.{ranked_waits, requests_among}
+-- The state of a lock table as text for people, made of its lists.
+use Rattle.std.specs.Prelude.{ℕ, List, Option}
+use Rattle.lock_rules.specs.declared.listing.Claim.{Claim}
+use Rattle.lock_report.specs.declared.snapshot.OpenTransaction.{OpenTransaction}
+use Rattle.lock_report.specs.declared.snapshot.ToldWait.{ToldWait}
+use Rattle.lock_report.specs.declared.snapshot.Wait.{Wait}
+use Rattle.lock_report.specs.StateText.{text_of_state}
 use Rattle.dump_report.specs.Jam.{roots_of}
 
--- the text for people of a dump of the sessions 1 to n
-abbrev pub lines_of_dump : ℕ → StateLists → List ℕ
-lines_of_dump n l =
-    text_of_dump (length (requests_among l.claims.items)) (roots_of n l.opens.items l.claims.items l.waits.items) l.opens.items l.claims.items
-    (ranked_waits l.opens.items l.claims.items l.waits.items)
-
--- the graph of its resources that are waited for, and of each session's first blocker
-abbrev pub graph_of_dump : StateLists → List ℕ
-graph_of_dump l = dot_of_dump l.opens.items l.claims.items (ranked_waits l.opens.items l.claims.items l.waits.items)
-
--- the graph of its waits
-abbrev pub waits_of_dump : StateLists → List ℕ
-waits_of_dump l = dot_of_waits l.opens.items l.waits.items
+-- the text of a state of the sessions 1 to n in front of a place, in which so many requests wait; with what is told of its waits
+abbrev pub text_of_lists : ℕ → Option ℕ → ℕ → List OpenTransaction → List Claim → List Wait → List ToldWait → List ℕ
+text_of_lists n place waiting opens claims waits told = text_of_state place waiting (roots_of n opens claims waits) opens claims told

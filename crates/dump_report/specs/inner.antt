@@ -1,1 +1,2 @@
+pub mod Contended
 pub mod Graph

@@ -1,12 +1,13 @@
-//! For whom the requests of a dump wait, each session's first blocker first.
+//! For whom the requests of a state wait, each session's first blocker first.
 
 ghost use Rattle.std.specs.Prelude.{◌≡◌, ◌++◌, ◌&&◌, IfOk, OnOk};
 ghost use Rattle.std.specs.List.{flat_map};
 ghost use Rattle.lock_tree.specs.Paths.{same_path};
-ghost use Rattle.dump_report.specs.Blockers.{first_blocker, is_waited_for, other_wait, ranked_behind, ranked_of, ranked_waits, request_of, requests_among, waits_by};
+ghost use Rattle.dump_report.specs.Blockers.{first_blocker, is_waited_for, other_wait, request_of, requests_among, told_behind, told_of, told_waits, waits_by};
 
+use crate::contended::contended;
 use crate::requests::{request_of, requests_among};
-use lock_report::{OpenTransaction, RankedWait, Wait};
+use lock_report::{OpenTransaction, ToldWait, Wait};
 use lock_rules::Claim;
 use lock_tree::{Resource, same_path_is_equality};
 use std::alloc::{AllocError as NoMemory, Global};
@@ -52,36 +53,37 @@ fn first_blocker(waits: &[Wait], resource: Resource, claims: &[Claim]) -> Option
 }
 
 /// Adds the wait to the list, unless it is for the first blocker. Fails if memory is refused.
-fn add_other(wait: &Wait, first: u16, ranked: &mut Vec<RankedWait>) -> Result<(), NoMemory>
-    ensures { OnOk result (ranked.new.items ≡ ranked.old.items ++ other_wait first wait.now) }
+fn add_other(wait: &Wait, first: u16, told: &mut Vec<ToldWait>) -> Result<(), NoMemory>
+    ensures { OnOk result (told.new.items ≡ told.old.items ++ other_wait first wait.now) }
 {
     if wait.other != first {
-        ranked.push(RankedWait {
+        told.push(ToldWait {
             wait: *wait,
             first: false,
+            since: None,
         })?;
     }
     Ok(())
 }
 
 /// Adds the waits to the list but that for the first blocker. Fails if memory is refused.
-fn add_others(waits: &[Wait], first: u16, ranked: &mut Vec<RankedWait>) -> Result<(), NoMemory>
-    ensures { OnOk result (ranked.new.items ≡ ranked.old.items ++ flat_map (other_wait first) waits.now) }
+fn add_others(waits: &[Wait], first: u16, told: &mut Vec<ToldWait>) -> Result<(), NoMemory>
+    ensures { OnOk result (told.new.items ≡ told.old.items ++ flat_map (other_wait first) waits.now) }
 {
     for wait in waits {
-        add_other(wait, first, ranked)?;
+        add_other(wait, first, told)?;
     }
     Ok(())
 }
 
 /// Adds the waits of the session to the list, that for the first blocker first. Fails if memory is refused.
-fn add_ranked(
+fn add_told(
     session: u16,
     waits: &[Wait],
     first: Option<u16>,
-    ranked: &mut Vec<RankedWait>,
+    told: &mut Vec<ToldWait>,
 ) -> Result<(), NoMemory>
-    ensures { OnOk result (ranked.new.items ≡ ranked.old.items ++ ranked_behind session waits.now first) }
+    ensures { OnOk result (told.new.items ≡ told.old.items ++ told_behind session waits.now first) }
 {
     let Some(first) = first else {
         return Ok(());
@@ -90,8 +92,12 @@ fn add_ranked(
         session,
         other: first,
     };
-    ranked.push(RankedWait { wait, first: true })?;
-    add_others(waits, first, ranked)
+    told.push(ToldWait {
+        wait,
+        first: true,
+        since: None,
+    })?;
+    add_others(waits, first, told)
 }
 
 /// Adds the waits of the request to the list. Fails if memory is refused.
@@ -100,32 +106,34 @@ fn add_waits_of(
     claims: &[Claim],
     waits: &[Wait],
     request: Option<Claim>,
-    ranked: &mut Vec<RankedWait>,
+    told: &mut Vec<ToldWait>,
 ) -> Result<(), NoMemory>
-    ensures { OnOk result (ranked.new.items ≡ ranked.old.items ++ ranked_of claims.now waits.now request) }
+    ensures { OnOk result (told.new.items ≡ told.old.items ++ told_of claims.now waits.now request) }
 {
     let Some(request) = request else {
         return Ok(());
     };
     let own = waits_by(alloc, waits, request.session)?;
     let first = first_blocker(&own, request.resource, claims);
-    add_ranked(request.session, &own, first, ranked)
+    add_told(request.session, &own, first, told)
 }
 
-/// The waits of all sessions, in the order of the open transactions, each session's first blocker first. Fails if memory is refused.
-pub(crate) fn ranked_waits(
+/// The waits of all sessions, in the order of the open transactions, each session's first blocker first; since when a session waits isn't
+/// told. Fails if memory is refused.
+pub fn told_waits(
     alloc: Global,
     opens: &[OpenTransaction],
     claims: &[Claim],
     waits: &[Wait],
-) -> Result<Vec<RankedWait>, NoMemory>
-    ensures { IfOk result (λ ranked. ranked.items ≡ ranked_waits opens.now claims.now waits.now) }
+) -> Result<Vec<ToldWait>, NoMemory>
+    ensures { IfOk result (λ told. told.items ≡ told_waits opens.now claims.now waits.now) }
 {
     let requests = requests_among(alloc, claims)?;
-    let mut ranked = Vec::new(alloc);
+    let jammed = contended(alloc, claims, &requests)?;
+    let mut told = Vec::new(alloc);
     for begun in opens {
         let request = request_of(&requests, begun.session);
-        add_waits_of(alloc, claims, waits, request, &mut ranked)?;
+        add_waits_of(alloc, &jammed, waits, request, &mut told)?;
     }
-    Ok(ranked)
+    Ok(told)
 }

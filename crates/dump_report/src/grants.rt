@@ -1,14 +1,12 @@
 //! Which waiting requests the abort of a session would grant: on each resource that it holds and others wait for, the front of the queue
 //! that fits once its lock is gone.
 
-ghost use Rattle.std.specs.Prelude.{◌≡◌, ◌++◌, ◌∷◌, [], None, IfOk, OnOk};
-ghost use Rattle.dump_report.specs.Jam.{claims_but, fits_beside, granted_at, granted_behind, granted_of, granted_on, is_holder};
+ghost use Rattle.std.specs.Prelude.{◌≡◌, ◌++◌, ◌∷◌, [], IfOk, OnOk, map};
+ghost use Rattle.dump_report.specs.Jam.{claims_but, fits_beside, granted_by_abort, granted_of, granted_on, is_holder};
 
 use crate::requests::{locks_among, requests_among};
 use lock_modes::Mode;
-use lock_report::{begins_queue, claims_on};
 use lock_rules::Claim;
-use lock_tree::Resource;
 use std::alloc::{AllocError as NoMemory, Global};
 
 /// Whether the request is compatible with the locks of all other sessions among these.
@@ -88,46 +86,18 @@ fn add_granted_on(
     add_granted_of(alloc, others, &queue, granted)
 }
 
-/// The same if the claims, the first of which is on the resource, begin with all those on it, and somebody waits for it; `last` is the
-/// resource of the claim ahead of them. Fails if memory is refused.
-fn add_granted_at(
-    alloc: Global,
-    session: u16,
-    last: Option<Resource>,
-    resource: Resource,
-    claims: &[Claim],
-    granted: &mut Vec<u16>,
-) -> Result<(), NoMemory>
-    ensures { OnOk result (granted.new.items ≡ granted.old.items ++ granted_at session last resource claims.now) }
-{
-    if begins_queue(last, resource, claims) {
-        add_granted_on(alloc, session, claims_on(claims, resource), granted)?;
-    }
-    Ok(())
-}
-
-/// The sessions of the requests that an abort of `session` would grant. `claims` has the order of a listing: resource by resource. Fails
-/// if memory is refused.
+/// The sessions of the requests that an abort of `session` would grant. `jammed` has the claims on each resource that somebody waits for.
+/// Fails if memory is refused.
 pub(crate) fn granted_by_abort(
     alloc: Global,
     session: u16,
-    claims: &[Claim],
+    jammed: &[Vec<Claim>],
 ) -> Result<Vec<u16>, NoMemory>
-    ensures { IfOk result (λ granted. granted.items ≡ granted_behind session None claims.now) }
+    ensures { IfOk result (λ granted. granted.items ≡ granted_by_abort session (map (λ q. q.items) jammed.now)) }
 {
     let mut granted = Vec::new(alloc);
-    let mut last = None;
-    for index in 0..claims.len() {
-        let resource = claims[index].resource;
-        add_granted_at(
-            alloc,
-            session,
-            last,
-            resource,
-            &claims[index..],
-            &mut granted,
-        )?;
-        last = Some(resource);
+    for queue in jammed {
+        add_granted_on(alloc, session, queue, &mut granted)?;
     }
     Ok(granted)
 }

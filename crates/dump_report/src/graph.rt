@@ -1,12 +1,12 @@
 //! The waits-for graph of a dump, in which the sessions are found that a root blocks.
 
-ghost use Rattle.std.specs.Prelude.{◌≡◌, ◌≤◌, All, IfOk, if◌then◌else◌, length};
+ghost use Rattle.std.specs.Prelude.{◌≡◌, ◌≤◌, All, IfOk, length};
 ghost use Rattle.lock_rules.specs.declared.calls.TheConstants.{MAX_SESSIONS};
 ghost use Rattle.state_rows.specs.Rows.{IsWait};
 ghost use Rattle.dump_report.specs.Jam.{blocked_by, is_blocked};
 ghost use Rattle.dump_report.specs.inner.Graph.{AreWaitsOf};
 
-use lock_report::Wait;
+use lock_report::{Wait, one_if};
 use std::alloc::{AllocError as NoMemory, Global};
 use waits_for::Rows;
 
@@ -36,14 +36,6 @@ fn leads_to(rows: &mut Rows, waits: &[Wait], session: u16, other: u16) -> bool
     ensures same { rows.new ≡ rows.old }
 {
     rows.reaches((session - 1) as usize, (other - 1) as usize)
-}
-
-/// What a session adds to a count.
-fn one_if(counts: bool) -> u64
-    ensures value { result ≡ (if counts then 1 else 0) }
-    ensures few { result ≤ 1 }
-{
-    if counts { 1 } else { 0 }
 }
 
 /// How many sessions wait for `session`, directly or through others.

@@ -4,8 +4,8 @@ ghost use Rattle.std.specs.Prelude.{◌≡◌, filter, not, IfOk};
 ghost use Rattle.dump_report.specs.Blockers.{is_request, request_of, requests_among};
 ghost use Rattle.dump_report.specs.Jam.{locks_among};
 
+use lock_report::is_request_kind;
 use lock_rules::Claim;
-use report_text::is_request_kind;
 use std::alloc::{AllocError as NoMemory, Global};
 
 /// Whether the claim is a waiting request.
@@ -16,7 +16,7 @@ pub(crate) fn is_request(claim: &Claim) -> bool
 }
 
 /// The waiting requests among the claims. Fails if memory is refused.
-pub(crate) fn requests_among(alloc: Global, claims: &[Claim]) -> Result<Vec<Claim>, NoMemory>
+pub fn requests_among(alloc: Global, claims: &[Claim]) -> Result<Vec<Claim>, NoMemory>
     ensures { IfOk result (λ requests. requests.items ≡ requests_among claims.now) }
 {
     let mut requests = Vec::new(alloc);

@@ -3,7 +3,7 @@
 use Rattle.std.specs.Prelude.{ℕ, List, [], ◌++◌, Option, Some, None, codes, decimal}
 use Rattle.std.specs.List.{flat_map}
 use Rattle.lock_rules.specs.declared.listing.Claim.{Claim}
-use Rattle.report_text.specs.Nodes.{start_of_node, edge_with}
+use Rattle.lock_report.specs.Nodes.{start_of_node, edge_with}
 use Rattle.lock_explain.specs.declared.explanation.Blocker.{Blocker}
 use Rattle.lock_explain.specs.declared.explanation.Edge.{Edge}
 use Rattle.lock_explain.specs.declared.explanation.Explanation.{Explanation}

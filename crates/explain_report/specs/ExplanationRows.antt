@@ -10,7 +10,7 @@ use Rattle.lock_rules.specs.declared.calls.Why.{Why}
 use Rattle.lock_rules.specs.declared.listing.Claim.{Claim}
 use Rattle.lock_rules.specs.declared.listing.ClaimKind.{ClaimKind}
 use Rattle.lock_rules.specs.declared.listing.ClaimKind.TheVariants.{Held, Conversion, Fresh}
-use Rattle.report_text.specs.Claims.{word_of_kind}
+use Rattle.lock_report.specs.Claims.{word_of_kind}
 use Rattle.lock_explain.specs.declared.explanation.Blocker.{Blocker}
 use Rattle.lock_explain.specs.declared.explanation.Edge.{Edge}
 use Rattle.lock_explain.specs.declared.explanation.Explanation.{Explanation}

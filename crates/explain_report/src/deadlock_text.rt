@@ -7,7 +7,7 @@ ghost use Rattle.explain_report.specs.DeadlockText.{line_of_deadlock, line_of_wa
 use crate::request_text::{put_request, put_words_and_mode};
 use lock_desk::{Deadlock, Member};
 use lock_modes::Mode;
-use report_text::put_words;
+use lock_report::put_words;
 use std::alloc::AllocError as NoMemory;
 use std::fmt::Write;
 

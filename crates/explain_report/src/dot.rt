@@ -5,8 +5,8 @@ ghost use Rattle.std.specs.List.{flat_map};
 ghost use Rattle.explain_report.specs.ExplanationDot.{node_of_request, node_of_blocker, node_of_member, node_of_victim, edge_of_blocker, edge_of_cycle, nodes_of_wait, edges_of_wait, graph_of_wait, graph_part, nodes_of_asked, graph_of_asked, graph_if_asked, graph_of_refusal, dot_of_explanation};
 
 use lock_explain::{Blocker, Edge, Explanation, Party, Refusal, Wait};
+use lock_report::{put_edge_with, put_start_of_node, put_words};
 use lock_rules::Claim;
-use report_text::{put_edge_with, put_start_of_node, put_words};
 use std::alloc::{AllocError as NoMemory, Global};
 use std::fmt::Write;
 

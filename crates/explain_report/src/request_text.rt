@@ -7,8 +7,8 @@ ghost use Rattle.explain_report.specs.ExplanationText.{words_of_party, request_w
 
 use lock_explain::{Blocker, Party};
 use lock_modes::Mode;
+use lock_report::put_words;
 use lock_rules::{Claim, ClaimKind};
-use report_text::put_words;
 use std::alloc::AllocError as NoMemory;
 use std::fmt::Write;
 

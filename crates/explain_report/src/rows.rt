@@ -7,9 +7,9 @@ ghost use Rattle.explain_report.specs.ExplanationRows.{row_of_why, row_of_need, 
 use crate::text::has_nothing_to_tell;
 use lock_explain::{Blocker, Edge, Explanation, MissedParent, Party, Refusal, Wait};
 use lock_modes::Mode;
+use lock_report::kind_word;
 use lock_rules::{Claim, Why};
 use lock_tree::Resource;
-use report_text::kind_word;
 use std::alloc::{AllocError as NoMemory, Global};
 use std::fmt::Write;
 

@@ -10,8 +10,8 @@ use crate::request_text::{
 };
 use lock_explain::{Blocker, Edge, Explanation, MissedParent, Party, Refusal, Wait};
 use lock_modes::Mode;
+use lock_report::put_words;
 use lock_rules::{Claim, Why};
-use report_text::put_words;
 use std::alloc::{AllocError as NoMemory, Global};
 use std::fmt::Write;
 

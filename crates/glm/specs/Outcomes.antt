@@ -5,9 +5,9 @@ use Rattle.clap.specs.Walk.{Text}
 use Rattle.lock_trace.specs.declared.faults.TraceFault.{TraceFault}
 use Rattle.command_line.specs.declared.args.Delivery.{Delivery}
 use Rattle.command_line.specs.declared.args.Form.{Form}
-use Rattle.dump_command.specs.declared.dump_fault.DumpFault.{DumpFault}
-use Rattle.dump_command.specs.declared.dump_fault.DumpFault.TheVariants as dump
-use Rattle.dump_command.specs.Dumps.{HasDump, HasDumpPart, ShowsDump}
+use Rattle.history_commands.specs.declared.dump_fault.DumpFault.{DumpFault}
+use Rattle.history_commands.specs.declared.dump_fault.DumpFault.TheVariants as dump
+use Rattle.history_commands.specs.Dumps.{HasDump, HasDumpPart, ShowsDump}
 use Rattle.history_commands.specs.declared.checking.Verdict.{Verdict}
 use Rattle.history_commands.specs.declared.checking.Verdict.TheVariants as verdict
 use Rattle.history_commands.specs.declared.show_fault.ShowFault.{ShowFault}

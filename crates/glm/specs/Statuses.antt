@@ -2,8 +2,8 @@
 use Rattle.std.specs.Prelude.{◌≡◌, ◌⊎◌, ℕ}
 use Rattle.lock_trace.specs.declared.faults.TraceKind.{TraceKind}
 use Rattle.lock_trace.specs.declared.faults.TraceKind.TheVariants as kind
-use Rattle.dump_command.specs.declared.dump_fault.DumpFault.{DumpFault}
-use Rattle.dump_command.specs.declared.dump_fault.DumpFault.TheVariants as dump
+use Rattle.history_commands.specs.declared.dump_fault.DumpFault.{DumpFault}
+use Rattle.history_commands.specs.declared.dump_fault.DumpFault.TheVariants as dump
 use Rattle.history_commands.specs.declared.show_fault.ShowFault.{ShowFault}
 use Rattle.history_commands.specs.declared.show_fault.ShowFault.TheVariants as show
 use Rattle.replay_commands.specs.declared.tool_fault.ToolFault.{ToolFault}

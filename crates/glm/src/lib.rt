@@ -3,9 +3,9 @@
 //!
 //! `commands.rt` is the whole program except its streams, `verdicts.rt` what `check` writes, and `outcomes.rt` has statuses and messages.
 //! The command line is `command_line`'s, `replay` is of `replay_commands`, `run` of `run_commands`, `check`, `show`, `explain` and
-//! `timeline` are of `history_commands`, `show --state` is of `dump_command`, `stats` of `stats_report`, `shell` of `lock_shell`.
-//! Comments are skipped by `lock_trace`, files opened and written by `replay_commands`. `hints.rt` writes the hints of `row_hints`, and
-//! `wrong_replies.rt` finds the wrong reply that they tell of.
+//! `timeline` are of `history_commands`, `stats` of `stats_report`, `shell` of `lock_shell`. Comments are skipped by `lock_trace`, files
+//! opened and written by `replay_commands`. `hints.rt` writes the hints of `row_hints`, and `wrong_replies.rt` finds the wrong reply that
+//! they tell of.
 //!
 //! Proved: what each command wrote, with its result and exit status, for every input, also after a fault; and that the
 //! standard streams are read and written, or kept, as the words that name files say. Only tested: what files have, that
@@ -21,11 +21,10 @@ mod wrong_replies;
 
 pub use command_line::{Form, MAX_PLACE, MAX_STREAMED_SESSIONS, MAX_TURNS, VERSION, VERSION_TEXT};
 pub use commands::{program, program_with_hints};
-pub use dump_command::{DumpFault, show_dump};
 pub use hints::Hints;
 pub use history_commands::{
-    Finding, ShowFault, Verdict, WrongReply, check, check_by_row, check_whole, explain,
-    explain_found, show, show_found, timeline,
+    DumpFault, Finding, ShowFault, Verdict, WrongReply, check, check_by_row, check_whole, explain,
+    explain_found, show, show_dump, show_found, timeline,
 };
 pub use outcomes::{DEVICE, DONE, ILLEGAL, NO_MEMORY, REFUSED, STOPPED, USAGE};
 pub use replay_commands::{PIECE_ENTRIES, ToolFault, replay, replay_in_pieces};

@@ -5,8 +5,7 @@ ghost use Rattle.glm.specs.Outcomes.{status_of_outcome};
 ghost use Rattle.glm.specs.Streams.{IsFileFault};
 ghost use Rattle.glm.specs.Statuses.{IsStatus, status_for, status_for_dump, status_for_show, status_of_kind};
 
-use dump_command::DumpFault;
-use history_commands::{ShowFault, Verdict};
+use history_commands::{DumpFault, ShowFault, Verdict};
 use lock_trace::{TraceFault, TraceKind};
 use replay_commands::ToolFault;
 use std::fmt::Display;

@@ -1,10 +1,15 @@
-pub mod BoxesTold
+pub mod DoomedBy
 pub mod DrawnParts
 pub mod ExplainedParts
 pub mod FindingBehind
+pub mod Flats
 pub mod IsVerdict
-pub mod LinesTold
 pub mod PartsWritten
+pub mod Requests
+pub mod RequestsSince
+pub mod StateLists
+pub mod StateTold
+pub mod WaitsSince
 pub mod WithinFront
 pub mod WithoutRequest
 pub mod WrongReplies

@@ -18,8 +18,8 @@ use Rattle.explain_report.specs.ExplanationRows.{rows_of_explanation}
 use Rattle.explain_report.specs.ExplanationDot.{dot_of_explanation}
 use Rattle.lock_report.specs.declared.snapshot.Doom.{Doom}
 use Rattle.lock_report.specs.Answers.{rows_of_answer, text_of_answer}
-use Rattle.jam_report.specs.Dooms.{doomed_by}
-use Rattle.jam_report.specs.Waits.{waits_of}
+use Rattle.history_commands.specs.Dooms.{doomed_by}
+use Rattle.history_commands.specs.Waits.{waits_of}
 use Rattle.command_line.specs.declared.args.Form.{Form}
 use Rattle.command_line.specs.declared.args.Form.TheVariants as form
 use Rattle.history_commands.specs.declared.checking.Verdict.{Verdict}

@@ -1,5 +1,11 @@
+pub mod Dooms
 pub mod Drawing
+pub mod Dumps
 pub mod Explaining
+pub mod Forms
+pub mod Roots
 pub mod RowsJudged
 pub mod Showing
+pub mod Since
 pub mod Verdicts
+pub mod Waits

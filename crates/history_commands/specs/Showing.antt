@@ -16,15 +16,15 @@ use Rattle.lock_report.specs.StateText.{text_of_state}
 use Rattle.lock_report.specs.StateRows.{rows_of_state}
 use Rattle.lock_report.specs.Dot.{dot_of_waits}
 use Rattle.lock_report.specs.LocksDot.{dot_of_locks}
-use Rattle.jam_report.specs.Roots.{roots_of, waiting_in}
-use Rattle.jam_report.specs.Waits.{waits_told}
 use Rattle.command_line.specs.declared.args.Form.{Form}
 use Rattle.command_line.specs.declared.args.Form.TheVariants as form
 use Rattle.history_commands.specs.declared.checking.Verdict.{Verdict}
 use Rattle.history_commands.specs.declared.checking.Verdict.TheVariants as verdict
 use Rattle.history_commands.specs.declared.show_fault.ShowFault.{ShowFault}
 use Rattle.history_commands.specs.declared.show_fault.ShowFault.TheVariants as show
+use Rattle.history_commands.specs.Roots.{roots_of}
 use Rattle.history_commands.specs.Verdicts.{IsHistory, IsVerdict, text_of_verdict}
+use Rattle.history_commands.specs.Waits.{waits_told}
 use Rattle.replay_commands.specs.Written.{AppendsPart}
 
 -- the session's open transaction in a list, the empty list if it has none
@@ -48,12 +48,12 @@ waits_by n st s = flat_map (wait_of st s) (range_with_len 1 n)
 abbrev pub waits_of : ℕ → State → List Wait
 waits_of n st = flat_map (waits_by n st) (range_with_len 1 n)
 
--- the text for people of the state in front of a place, to which these entries have led: who blocks whom, the open transactions,
+-- the text for people of the state in front of a place, to which these entries have led: how many requests wait, who blocks whom, the open transactions,
 -- the locks and requests, and who waits for whom, since when
 abbrev pub lines_in : ℕ → ℕ → List Entry → List ℕ
 lines_in n place front =
     let st = state_of front in
-    text_of_state place (length (waiting_in n st)) (roots_of n st) (opens_of n st) (listing_of st) (waits_told n st front)
+    text_of_state (Some place) (length st.table.requests) (roots_of n st) (opens_of n st) (listing_of st) (waits_told n st front)
 
 -- the contended resources as boxes in that state, and for whom each session waits first, as a graph
 abbrev pub boxes_in : ℕ → List Entry → List ℕ

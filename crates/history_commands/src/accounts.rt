@@ -5,14 +5,18 @@ ghost use Rattle.lock_rules.specs.Ended.{ended_waits};
 ghost use Rattle.lock_rules.specs.Legal.{state_of};
 ghost use Rattle.lock_rules.specs.Step.{step};
 ghost use Rattle.sequential.specs.Histories.{IsEntryWithin};
+ghost use Rattle.history_commands.specs.Waits.{waits_of};
 ghost use Rattle.history_commands.specs.Explaining.{IsAccount, IsAccountIfEventful, account_in, answer_in, answer_told, doom_answered, is_entry_eventful, is_poll};
 
+use crate::dooming::doomed_by;
+use crate::listing::{add_open, waits_by};
+use crate::since::with_places;
 use command_line::Form;
+use dump_report::told_waits;
 use explain_report::{explanation_dot, explanation_rows, explanation_text};
-use jam_report::{doomed_by, waits_of};
 use lock_desk::{Book, Call, Entry, NoMemory};
 use lock_explain::{Explanation, is_eventful};
-use lock_report::{Doom, answer_rows, answer_text};
+use lock_report::{Doom, ToldWait, answer_rows, answer_text};
 use lock_trace::piece_text;
 use std::alloc::Global;
 
@@ -74,6 +78,27 @@ pub fn doom_of(
         return Ok(None);
     }
     doomed_by(alloc, before.sessions(), front, session)
+}
+
+/// The waits of `session` in the state of the book, to which these entries have led: that for its first blocker first, with the place since
+/// when it waits. Fails if memory is refused.
+fn waits_of(
+    alloc: Global,
+    book: &Book,
+    front: &[Entry],
+    session: u16,
+) -> Result<Vec<ToldWait>, NoMemory>
+    requires within { All (IsEntryWithin book.now.sessions) front.now }
+    requires front { book.now.history ≡ front.now }
+    ensures { IfOk result (λ waits. waits.items ≡ waits_of book.now.sessions (state_of book.now.history).table book.now.history session) }
+{
+    let mut opens = Vec::new(alloc);
+    add_open(book, session, &mut opens)?;
+    let own = waits_by(alloc, book, session)?;
+    let mut claims = Vec::new(alloc);
+    book.locks(alloc, &mut claims)?;
+    let told = told_waits(alloc, &opens, &claims, &own)?;
+    with_places(alloc, front, &told)
 }
 
 /// What the answer to a poll of the session tells. The entries are those that `before` has served. Fails if memory is refused.

@@ -1,21 +1,22 @@
 //! The command `show`: the state of the lock table at a place of a history, as text.
 
-ghost use Rattle.std.specs.Prelude.{◌≡◌, ◌≢◌, ℕ, ◌<◌, ◌≤◌, ◌++◌, List, [], Some, length, All, Ok, IfOk, IfErr, OnOk, string_bytes};
+ghost use Rattle.std.specs.Prelude.{◌≡◌, ◌≢◌, ℕ, ◌<◌, ◌≤◌, List, [], Some, length, All, Ok, IfOk, IfErr, string_bytes};
 ghost use Rattle.std.specs.Io.KnownBytes.{Keeps};
 ghost use Rattle.lock_rules.specs.declared.calls.TheConstants.{MAX_SESSIONS};
 ghost use Rattle.lock_rules.specs.Legal.{state_of};
 ghost use Rattle.sequential.specs.Histories.{IsEntryWithin};
 ghost use Rattle.lock_trace.specs.Entries.{IsEntry};
-ghost use Rattle.history_commands.specs.Showing.{HasShown, HasShownPart, Shows, open_of, opens_of, place_shown, lines_in, boxes_in, text_in, text_shown, wait_of, waits_by, waits_of};
+ghost use Rattle.history_commands.specs.Showing.{HasShown, HasShownPart, Shows, place_shown, lines_in, text_in, text_shown};
 ghost use Rattle.history_commands.specs.Verdicts.{Finds, IsVerdict, text_of_verdict, verdict_in, verdict_of};
 
 use crate::checking::{Verdict, finding_behind, first_wrong, fresh_book, verdict_line};
 use crate::finding::Finding;
+use crate::forms::form_text;
+use crate::listing::lists_of;
 use crate::show_fault::ShowFault;
 use command_line::Form;
-use jam_report::{count_waiting, roots_of, waits_told};
+use dump_report::Moment;
 use lock_desk::{Book, Entry, NoMemory};
-use lock_report::{OpenTransaction, Wait, locks_dot, state_rows, state_text, waits_dot};
 use lock_trace::read_history;
 use replay_commands::write_text;
 use std::alloc::Global;
@@ -30,67 +31,26 @@ pub(crate) struct Shown {
     pub(crate) text: String,
 }
 
-/// Adds the open transaction of `session` to the list, if it has one. Fails if memory is refused.
-fn add_open(book: &Book, session: u16, opens: &mut Vec<OpenTransaction>) -> Result<(), NoMemory>
-    ensures { OnOk result (opens.new.items ≡ opens.old.items ++ open_of session ((state_of book.now.history).begun session)) }
+/// The text of the book's state in this form, in front of the place, to which the entries have led. Fails if memory is refused.
+fn book_text(
+    alloc: Global,
+    book: &Book,
+    front: &[Entry],
+    place: u64,
+    form: Form,
+) -> Result<String, NoMemory>
+    requires served { book.now.history ≡ front.now }
+    ensures { IfOk result (λ text. string_bytes text ≡ text_in form book.now.sessions place front.now) }
 {
-    if let Some(transaction) = book.transaction(session) {
-        opens.push(OpenTransaction {
-            session,
-            transaction,
-        })?;
-    }
-    Ok(())
-}
-
-/// The open transactions of the book's sessions, by session number. Fails if memory is refused.
-fn open_transactions(alloc: Global, book: &Book) -> Result<Vec<OpenTransaction>, NoMemory>
-    ensures { IfOk result (λ opens. opens.items ≡ opens_of book.now.sessions (state_of book.now.history)) }
-{
-    let mut opens = Vec::new(alloc);
-    let sessions = book.sessions();
-    for before in 0..sessions {
-        add_open(book, before + 1, &mut opens)?;
-    }
-    Ok(opens)
-}
-
-/// Adds the edge from `session` to `other` to the list, if the first waits for the second. Fails if memory is refused.
-fn add_wait(book: &Book, session: u16, other: u16, waits: &mut Vec<Wait>) -> Result<(), NoMemory>
-    ensures { OnOk result (waits.new.items ≡ waits.old.items ++ wait_of (state_of book.now.history) session other) }
-{
-    if book.waits_for(session, other) {
-        waits.push(Wait { session, other })?;
-    }
-    Ok(())
-}
-
-/// For whom `session` waits directly, by session number. Fails if memory is refused.
-fn waits_by(alloc: Global, book: &Book, session: u16) -> Result<Vec<Wait>, NoMemory>
-    ensures { IfOk result (λ waits. waits.items ≡ waits_by book.now.sessions (state_of book.now.history) session) }
-{
-    let mut waits = Vec::new(alloc);
-    let Some(_request) = book.request(session) else {
-        return Ok(waits);
+    // Called for its contract: only the book's sessions have transactions or wait.
+    let _ = book.history();
+    let lists = lists_of(alloc, book)?;
+    let moment = Moment {
+        sessions: book.sessions(),
+        place: Some(place),
+        waiting: book.gauges().waiting,
     };
-    let sessions = book.sessions();
-    for before in 0..sessions {
-        add_wait(book, session, before + 1, &mut waits)?;
-    }
-    Ok(waits)
-}
-
-/// Who of the book's sessions waits directly for whom, by session number. Fails if memory is refused.
-fn all_waits(alloc: Global, book: &Book) -> Result<Vec<Wait>, NoMemory>
-    ensures { IfOk result (λ waits. waits.items ≡ waits_of book.now.sessions (state_of book.now.history)) }
-{
-    let mut waits = Vec::new(alloc);
-    let sessions = book.sessions();
-    for before in 0..sessions {
-        let own = waits_by(alloc, book, before + 1)?;
-        waits.extend_from_slice(&own)?;
-    }
-    Ok(waits)
+    form_text(alloc, moment, front, &lists, form)
 }
 
 /// The text for people of the book's state, in front of the place, to which the entries have led. Fails if memory is refused.
@@ -103,53 +63,7 @@ pub fn lines_text(
     requires served { book.now.history ≡ front.now }
     ensures { IfOk result (λ text. string_bytes text ≡ lines_in book.now.sessions place front.now) }
 {
-    let opens = open_transactions(alloc, book)?;
-    let mut claims = Vec::new(alloc);
-    book.locks(alloc, &mut claims)?;
-    let roots = roots_of(alloc, book)?;
-    let waits = waits_told(alloc, book, front)?;
-    let waiting = count_waiting(book);
-    state_text(alloc, place, waiting, &roots, &opens, &claims, &waits)
-}
-
-/// The contended resources of the book's state as boxes, and for whom each session waits first. Fails if memory is refused.
-fn boxes_text(alloc: Global, book: &Book, front: &[Entry]) -> Result<String, NoMemory>
-    requires served { book.now.history ≡ front.now }
-    ensures { IfOk result (λ text. string_bytes text ≡ boxes_in book.now.sessions front.now) }
-{
-    let opens = open_transactions(alloc, book)?;
-    let mut claims = Vec::new(alloc);
-    book.locks(alloc, &mut claims)?;
-    let waits = waits_told(alloc, book, front)?;
-    locks_dot(alloc, &opens, &claims, &waits)
-}
-
-/// The text of the book's state, in front of the place, to which the entries have led. Fails if memory is refused.
-fn book_text(
-    alloc: Global,
-    book: &Book,
-    front: &[Entry],
-    place: u64,
-    form: Form,
-) -> Result<String, NoMemory>
-    requires within { All (IsEntryWithin book.now.sessions) front.now }
-    requires served { book.now.history ≡ front.now }
-    ensures { IfOk result (λ text. string_bytes text ≡ text_in form book.now.sessions place front.now) }
-{
-    if form == Form::Lines {
-        return lines_text(alloc, book, front, place);
-    }
-    if form == Form::Graph {
-        return boxes_text(alloc, book, front);
-    }
-    let opens = open_transactions(alloc, book)?;
-    let waits = all_waits(alloc, book)?;
-    if form == Form::Waits {
-        return waits_dot(alloc, &opens, &waits);
-    }
-    let mut claims = Vec::new(alloc);
-    book.locks(alloc, &mut claims)?;
-    state_rows(alloc, &opens, &claims, &waits)
+    book_text(alloc, book, front, place, Form::Lines)
 }
 
 /// The text of a history that isn't legal: the line of its verdict. Fails if memory is refused.

@@ -2,9 +2,9 @@
 use Rattle.std.proofs.Common.{◌≡◌, ℕ, ◌+◌, ◌<◌, ◌≤◌, Bool, true, false, cond, List, [], ◌∷◌, ◌++◌, take, get_or, length, refl, ap, sym, ◌∙◌, append_assoc, arith}
 use Rattle.std.proofs.lemmas.List.{append-nil}
 use Rattle.lock_rules.specs.declared.listing.Claim.{Claim}
-use Rattle.report_text.specs.Claims.{is_request_kind}
+use Rattle.lock_report.specs.Claims.{is_request_kind}
 use Rattle.lock_report.specs.LocksDot.{numbered_line, queue_lines}
-use Rattle.report_text.proofs.Pieces.{with_next}
+use Rattle.lock_report.proofs.Pieces.{with_next}
 
 -- The number behind that of the last request among these claims, which begin with `number`.
 abbrev pub number_after : ℕ → List Claim → ℕ

@@ -3,7 +3,7 @@ use Rattle.std.proofs.Common.{◌≡◌, ℕ, ◌+◌, ◌<◌, List, [], ◌∷
 use Rattle.std.proofs.lemmas.List.{append-nil}
 use Rattle.lock_rules.specs.declared.listing.Claim.{Claim}
 use Rattle.lock_report.specs.StateText.{resource_heading, line_of_resource, resource_lines}
-use Rattle.report_text.proofs.Pieces.{with_next}
+use Rattle.lock_report.proofs.Pieces.{with_next}
 
 -- The resource that was shown last, after these claims.
 abbrev pub last_shown : Option (List ℕ) → List Claim → Option (List ℕ)

@@ -2,7 +2,7 @@
 use Rattle.std.specs.Prelude.{ℕ, if◌then◌else◌, List, ◌++◌, codes, decimal}
 use Rattle.std.specs.List.{flat_map}
 use Rattle.lock_rules.specs.declared.calls.Transaction.{Transaction}
-use Rattle.report_text.specs.Nodes.{start_of_node, edge_with}
+use Rattle.lock_report.specs.Nodes.{start_of_node, edge_with}
 use Rattle.lock_report.specs.declared.snapshot.OpenTransaction.{OpenTransaction}
 use Rattle.lock_report.specs.declared.snapshot.Wait.{Wait}
 

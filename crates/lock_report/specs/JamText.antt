@@ -1,5 +1,5 @@
 -- The parts of the text for people that tell a jam. The format is this project's own choice.
-use Rattle.std.specs.Prelude.{ℕ, if◌then◌else◌, List, [], ◌++◌, Option, Some, None, codes, decimal}
+use Rattle.std.specs.Prelude.{ℕ, Bool, if◌then◌else◌, List, [], ◌++◌, Option, Some, None, codes, decimal}
 use Rattle.std.specs.List.{flat_map}
 use Rattle.lock_rules.specs.declared.calls.Transaction.{Transaction}
 use Rattle.lock_report.specs.declared.snapshot.OpenTransaction.{OpenTransaction}
@@ -45,18 +45,17 @@ abbrev pub lines_of_jam : ℕ → List Root → List OpenTransaction → List �
 lines_of_jam waiting roots opens =
     codes "waiting: " ++ decimal waiting ++ codes "\n" ++ flat_map line_of_root roots ++ flat_map line_if_victim opens
 
--- the end of a wait's line: of the first blocker, since when the session waits
+-- the end of a wait's line: since when the session waits, where that is told
 abbrev pub since_mark : Option ℕ → List ℕ
 since_mark None = codes "\n"
 since_mark (Some place) = codes ", since place " ++ decimal place ++ codes "\n"
 
 -- what is between the session and the one that it waits for: blockers other than the first have `also`
-abbrev pub wait_verb : Option ℕ → List ℕ
-wait_verb None = codes "waits also for"
-wait_verb (Some place) = codes "waits for"
+abbrev pub wait_verb : Bool → List ℕ
+wait_verb first = if first then codes "waits for" else codes "waits also for"
 
 -- the line of a wait
 abbrev pub line_of_wait : ToldWait → List ℕ
 line_of_wait w =
-    codes "session " ++ decimal w.wait.session ++ codes " " ++ wait_verb w.since ++ codes " session " ++ decimal w.wait.other
+    codes "session " ++ decimal w.wait.session ++ codes " " ++ wait_verb w.first ++ codes " session " ++ decimal w.wait.other
     ++ since_mark w.since

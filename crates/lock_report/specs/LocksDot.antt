@@ -8,7 +8,7 @@ use Rattle.lock_tree.specs.Text.{text_of}
 use Rattle.lock_rules.specs.declared.listing.Claim.{Claim}
 use Rattle.lock_rules.specs.declared.listing.ClaimKind.{ClaimKind}
 use Rattle.lock_rules.specs.declared.listing.ClaimKind.TheVariants.{Held, Conversion, Fresh}
-use Rattle.report_text.specs.Claims.{is_last, is_lock_kind, is_request_kind}
+use Rattle.lock_report.specs.Claims.{is_last, is_lock_kind, is_request_kind}
 use Rattle.lock_report.specs.declared.snapshot.OpenTransaction.{OpenTransaction}
 use Rattle.lock_report.specs.declared.snapshot.ToldWait.{ToldWait}
 use Rattle.lock_report.specs.declared.rows_of_boxes.TheConstants.{BOXES_IN_A_ROW}
@@ -110,13 +110,8 @@ places_of boxed zero = []
 places_of boxed (suc count) = places_of boxed count ++ placed_behind boxed count
 
 -- the edge of a wait for a first blocker, nothing for another wait
-abbrev pub edge_from : ToldWait → Option ℕ → List ℕ
-edge_from w None = []
-edge_from w (Some since) = edge_of w.wait
-
--- the same of a wait
 abbrev pub edge_if_first : ToldWait → List ℕ
-edge_if_first w = edge_from w w.since
+edge_if_first w = if w.first then edge_of w.wait else []
 
 -- the first lines of the graph: edges lead to the right, what isn't joined is laid out apart and then put together, and little room is
 -- left between nodes and round their labels

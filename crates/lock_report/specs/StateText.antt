@@ -7,7 +7,7 @@ use Rattle.lock_tree.specs.Text.{text_of}
 use Rattle.lock_rules.specs.declared.listing.Claim.{Claim}
 use Rattle.lock_rules.specs.declared.listing.ClaimKind.{ClaimKind}
 use Rattle.lock_rules.specs.declared.listing.ClaimKind.TheVariants.{Held, Conversion, Fresh}
-use Rattle.report_text.specs.Claims.{is_last}
+use Rattle.lock_report.specs.Claims.{is_last}
 use Rattle.lock_report.specs.declared.snapshot.OpenTransaction.{OpenTransaction}
 use Rattle.lock_report.specs.declared.snapshot.Root.{Root}
 use Rattle.lock_report.specs.declared.snapshot.ToldWait.{ToldWait}
@@ -85,8 +85,12 @@ sections_of waiting roots opens claims =
     ++ codes "\nresources\n" ++ resources_section claims
     ++ codes "\nwaits\n"
 
--- the state in front of a place of the history: the jam, the open transactions, the claims in the order of a listing, and the
--- waits
-abbrev pub text_of_state : ℕ → ℕ → List Root → List OpenTransaction → List Claim → List ToldWait → List ℕ
+-- the first line: the place of the history that the state is in front of, None for a dump, of which no place is known
+abbrev pub state_heading : Option ℕ → List ℕ
+state_heading None = codes "state of a dump\n"
+state_heading (Some place) = codes "state in front of place " ++ decimal place ++ codes "\n"
+
+-- the state in front of a place, or of a dump: the jam, the open transactions, the claims in the order of a listing, and the waits
+abbrev pub text_of_state : Option ℕ → ℕ → List Root → List OpenTransaction → List Claim → List ToldWait → List ℕ
 text_of_state place waiting roots opens claims waits =
-    codes "state in front of place " ++ decimal place ++ codes "\n" ++ sections_of waiting roots opens claims ++ waits_section waits
+    state_heading place ++ sections_of waiting roots opens claims ++ waits_section waits

@@ -2,8 +2,9 @@
 
 ghost use Rattle.std.specs.Prelude.{◌≡◌, ◌++◌, None, IfOk, OnOk, string_bytes};
 ghost use Rattle.std.specs.List.{flat_map};
-ghost use Rattle.lock_report.specs.LocksDot.{box_at, box_of, boxed_graph, boxes_behind, dot_of_locks, edge_from, edge_if_first, line_if_lock, numbered_line, queue_lines, start_of_label, words_of_claim};
+ghost use Rattle.lock_report.specs.LocksDot.{box_at, box_of, boxed_graph, boxes_behind, dot_of_locks, edge_if_first, line_if_lock, numbered_line, queue_lines, start_of_label, words_of_claim};
 
+use crate::claims::{is_lock_kind, is_request_kind};
 use crate::dot::{put_edge, put_nodes};
 use crate::queues::{begins_queue, claims_on, waited};
 use crate::rows_of_boxes::{put_name, put_places};
@@ -11,7 +12,6 @@ use crate::snapshot::{OpenTransaction, ToldWait};
 use crate::text::{mode_word, resource_verb};
 use lock_rules::{Claim, ClaimKind};
 use lock_tree::Resource;
-use report_text::{is_lock_kind, is_request_kind};
 use std::alloc::{AllocError as NoMemory, Global};
 use std::fmt::Write;
 
@@ -123,7 +123,7 @@ fn put_boxes(out: &mut String, claims: &[Claim]) -> Result<(), NoMemory>
 fn put_edge_if_first(out: &mut String, told: &ToldWait) -> Result<(), NoMemory>
     ensures { OnOk result (string_bytes out.new ≡ string_bytes out.old ++ edge_if_first told.now) }
 {
-    if let Some(_since) = told.since {
+    if told.first {
         put_edge(out, &told.wait)?;
     }
     Ok(())
@@ -140,7 +140,7 @@ fn put_first_edges(out: &mut String, waits: &[ToldWait]) -> Result<(), NoMemory>
 }
 
 /// Writes the graph up to its edges.
-pub(crate) fn put_boxed(
+fn put_boxed(
     alloc: Global,
     out: &mut String,
     opens: &[OpenTransaction],
@@ -158,7 +158,7 @@ pub(crate) fn put_boxed(
 
 /// The contended resources and the waits for first blockers as a directed graph of Graphviz: a node for each open transaction,
 /// filled if it is a victim; a box for each resource with a waiting request, with its holders and its queue, in rows; and an edge for
-/// each wait that has `since`. `claims` has the order of a listing: resource by resource. Its cost grows with the number of claims.
+/// each wait for a first blocker. `claims` has the order of a listing: resource by resource. Its cost grows with the number of claims.
 /// Fails only with `NoMemory`.
 pub fn locks_dot(
     alloc: Global,

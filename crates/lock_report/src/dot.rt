@@ -4,9 +4,9 @@ ghost use Rattle.std.specs.Prelude.{◌≡◌, ◌++◌, IfOk, OnOk, string_byte
 ghost use Rattle.std.specs.List.{flat_map};
 ghost use Rattle.lock_report.specs.Dot.{end_of_node, node_of, edge_of, dot_of_waits};
 
+use crate::nodes::{put_edge_with, put_start_of_node};
 use crate::snapshot::{OpenTransaction, Wait};
 use lock_rules::Transaction;
-use report_text::{put_edge_with, put_start_of_node};
 use std::alloc::{AllocError as NoMemory, Global};
 
 /// Writes the end of a node: of a victim, the mark in its label and its color.

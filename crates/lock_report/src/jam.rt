@@ -115,13 +115,10 @@ pub(crate) fn put_jam(
 }
 
 /// What is between the session that waits and the one that it waits for.
-fn wait_verb(since: Option<u64>) -> &'static str
-    ensures { result.now ≡ wait_verb since }
+fn wait_verb(first: bool) -> &'static str
+    ensures { result.now ≡ wait_verb first }
 {
-    match since {
-        Some(_place) => "waits for",
-        None => "waits also for",
-    }
+    if first { "waits for" } else { "waits also for" }
 }
 
 /// Writes the end of a wait's line.
@@ -139,7 +136,7 @@ pub(crate) fn put_line_of_wait(out: &mut String, told: &ToldWait) -> Result<(), 
     ensures { OnOk result (string_bytes out.new ≡ string_bytes out.old ++ line_of_wait told.now) }
 {
     let session = told.wait.session;
-    let verb = wait_verb(told.since);
+    let verb = wait_verb(told.first);
     let other = told.wait.other;
     write!(out, "session {session} {verb} session {other}")?;
     put_since(out, told.since)

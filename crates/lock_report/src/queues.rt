@@ -4,11 +4,11 @@ ghost use Rattle.std.specs.Prelude.{◌≡◌, ◌++◌, ◌≤◌, length, IfOk
 ghost use Rattle.std.specs.List.{prefix_len};
 ghost use Rattle.lock_tree.specs.Paths.{same_path};
 ghost use Rattle.lock_report.specs.LocksDot.{begins_queue, boxed_at, boxed_behind, claims_on, has_request};
-ghost use Rattle.report_text.specs.Claims.{is_request_kind};
+ghost use Rattle.lock_report.specs.Claims.{is_request_kind};
 
+use crate::claims::{is_last, is_request_kind};
 use lock_rules::{Claim, ClaimKind};
 use lock_tree::{Resource, same_path_is_equality};
-use report_text::{is_last, is_request_kind};
 use std::alloc::{AllocError as NoMemory, Global};
 
 /// Whether the claim is on the resource.

@@ -4,9 +4,9 @@ ghost use Rattle.std.specs.Prelude.{◌≡◌, ◌++◌, IfOk, OnOk, string_byte
 ghost use Rattle.std.specs.List.{flat_map};
 ghost use Rattle.lock_report.specs.StateRows.{victim_field, row_of_transaction, row_of_claim, row_of_wait, rows_of_state};
 
+use crate::claims::kind_word;
 use crate::snapshot::{OpenTransaction, Wait};
 use lock_rules::{Claim, Transaction};
-use report_text::kind_word;
 use std::alloc::{AllocError as NoMemory, Global};
 use std::fmt::Write;
 

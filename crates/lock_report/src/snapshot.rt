@@ -36,17 +36,10 @@ pub struct Root {
 pub struct ToldWait {
     /// The wait.
     pub wait: Wait,
-    /// If the other session is the first blocker of the one that waits, the place of the call since which it waits.
-    pub since: Option<u64>,
-}
-
-/// An edge of the waits-for graph, of which no place is known.
-#[derive(Clone, Copy, Debug, PartialEq, Eq, Hash)]
-pub struct RankedWait {
-    /// The wait.
-    pub wait: Wait,
     /// Whether the other session is the first blocker of the one that waits.
     pub first: bool,
+    /// The place of the call since which the session waits, if it is told; of a dump no place is known.
+    pub since: Option<u64>,
 }
 
 /// The call that made the transaction of a session a deadlock victim.

@@ -2,20 +2,20 @@
 
 ghost use Rattle.std.specs.Prelude.{◌≡◌, ◌++◌, IfOk, OnOk, None, string_bytes};
 ghost use Rattle.std.specs.List.{flat_map};
-ghost use Rattle.lock_report.specs.StateText.{session_verb, resource_verb, mode_word, line_of_session, session_lines, line_of_resource, resource_heading, resource_lines, transactions_section, resources_section, sections_of, waits_section, text_of_state};
+ghost use Rattle.lock_report.specs.StateText.{session_verb, resource_verb, mode_word, line_of_session, session_lines, line_of_resource, resource_heading, resource_lines, transactions_section, resources_section, sections_of, state_heading, waits_section, text_of_state};
 ghost use Rattle.lock_report.specs.inner.BySession.{Ascends};
 
 use crate::by_session::{claims_by_session, claims_of_session};
+use crate::claims::is_last;
 use crate::jam::{put_jam, put_lines_of_waits, put_session_heading};
 use crate::snapshot::{OpenTransaction, Root, ToldWait};
 use lock_rules::{Claim, ClaimKind};
 use lock_tree::Resource;
-use report_text::is_last;
 use std::alloc::{AllocError as NoMemory, Global};
 use std::fmt::Write;
 
 /// The line of a section that has nothing to show.
-pub(crate) const NOTHING: &str = "none\n";
+const NOTHING: &str = "none\n";
 
 /// What a session does with a resource, below the session.
 fn session_verb(kind: ClaimKind) -> &'static str
@@ -169,7 +169,7 @@ fn put_transactions(
 }
 
 /// Writes the sections of the jam, of the transactions and of the resources, and the heading of the last section.
-pub(crate) fn put_sections(
+fn put_sections(
     alloc: Global,
     out: &mut String,
     waiting: u64,
@@ -188,12 +188,22 @@ pub(crate) fn put_sections(
     out.push_str("\nwaits\n")
 }
 
-/// The state of a lock table as text for people, in front of the entry at index `place` of its history: how many sessions
-/// wait, the roots and the victims, then each open transaction with its claims, then each resource with its claims, and then
-/// the waits. `claims` has the order of a listing: resource by resource. Fails only with `NoMemory`.
+/// Writes the first line.
+fn put_heading(out: &mut String, place: Option<u64>) -> Result<(), NoMemory>
+    ensures { OnOk result (string_bytes out.new ≡ string_bytes out.old ++ state_heading place) }
+{
+    match place {
+        Some(place) => writeln!(out, "state in front of place {place}"),
+        None => out.push_str("state of a dump\n"),
+    }
+}
+
+/// The state of a lock table as text for people, in front of the entry at index `place` of its history, or of a dump, which has no place:
+/// how many sessions wait, the roots and the victims, then each open transaction with its claims, then each resource with its claims, and
+/// then the waits. `claims` has the order of a listing: resource by resource. Fails only with `NoMemory`.
 pub fn state_text(
     alloc: Global,
-    place: u64,
+    place: Option<u64>,
     waiting: u64,
     roots: &[Root],
     opens: &[OpenTransaction],
@@ -203,7 +213,7 @@ pub fn state_text(
     ensures { IfOk result (λ text. string_bytes text ≡ text_of_state place waiting roots.now opens.now claims.now waits.now) }
 {
     let mut out = String::new(alloc);
-    writeln!(out, "state in front of place {place}")?;
+    put_heading(&mut out, place)?;
     put_sections(alloc, &mut out, waiting, roots, opens, claims)?;
     put_waits(&mut out, waits)?;
     Ok(out)

@@ -8,7 +8,7 @@ use Rattle.lock_rules.specs.State.{State, empty, is_doomed}
 use Rattle.lock_rules.specs.Legal.{state_of}
 use Rattle.lock_rules.specs.Step.{step}
 use Rattle.lock_report.specs.declared.snapshot.Doom.{Doom}
-use Rattle.jam_report.specs.Dooms.{does_doom, doom_from, doomed_by}
+use Rattle.history_commands.specs.Dooms.{does_doom, doom_from, doomed_by}
 use Rattle.command_line.specs.declared.args.Form.TheVariants as form
 use Rattle.history_commands.specs.Explaining.{IsAccount, doom_answered}
 use Rattle.lock_shell.specs.Turns.{IsAccountAt, IsLastCall, IsPlaceTold, is_call_of}

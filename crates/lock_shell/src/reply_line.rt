@@ -10,8 +10,8 @@ ghost use Rattle.lock_shell.specs.Replies.{line_of_doomed, line_of_granted, line
 use explain_report::{put_ahead, put_request, words_of_why};
 use lock_explain::{Blocker, Explanation, MissedParent, Party, Refusal, Wait};
 use lock_modes::Mode;
+use lock_report::put_words;
 use lock_rules::{Call, Claim, Entry, Reply, Why};
-use report_text::put_words;
 use std::alloc::AllocError as NoMemory;
 use std::fmt::Write;
 

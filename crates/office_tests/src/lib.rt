@@ -1,29 +1,11 @@
-//! Tests of boards and offices, for what no contract says: each call once with success and with refused memory, and threads.
-//! What calls on one thread reply, in many cases, is tried over the library for C: `checks/office_cases`.
+//! Tests of offices, for what no caller in C can ask: an office of programs whose sessions are lent to threads, single calls by their
+//! functions in Rattle, and offices of a book. What the calls of an office reply and tell is tested over the library for C, by
+//! `checks/office_cases` and `checks/embedding`.
 #![tactic(auto)]
 
 #[cfg(test)]
-mod boards;
+mod openings;
 #[cfg(test)]
-mod calls;
-#[cfg(test)]
-mod closing;
-#[cfg(test)]
-mod deadlocks;
-#[cfg(test)]
-mod hearing;
-#[cfg(test)]
-mod offices;
-pub mod own_office;
-#[cfg(test)]
-mod passes;
-#[cfg(test)]
-mod pieces;
-#[cfg(test)]
-mod questions;
-#[cfg(test)]
-mod telling;
+mod sessions;
 #[cfg(test)]
 mod threads;
-#[cfg(test)]
-mod workers;

@@ -19,7 +19,7 @@ use Rattle.lock_rules.specs.declared.listing.ClaimKind.TheVariants.{Held, Conver
 use Rattle.lock_rules.specs.declared.listing.Claim.{Claim}
 use Rattle.lock_report.specs.declared.snapshot.OpenTransaction.{OpenTransaction}
 use Rattle.lock_report.specs.declared.snapshot.Wait.{Wait}
-use Rattle.report_text.specs.Claims.{word_of_kind}
+use Rattle.lock_report.specs.Claims.{word_of_kind}
 use Rattle.lock_report.specs.StateRows.{row_of_claim, row_of_transaction, row_of_wait, rows_of_state}
 use Rattle.state_rows.specs.declared.row.StateRow.{StateRow}
 use Rattle.state_rows.specs.declared.row.StateRow.TheVariants as row

@@ -11,7 +11,7 @@ use Rattle.lock_rules.specs.declared.listing.ClaimKind.{ClaimKind}
 use Rattle.lock_report.specs.declared.snapshot.OpenTransaction.{OpenTransaction}
 use Rattle.lock_report.specs.declared.snapshot.Wait.{Wait}
 use Rattle.lock_rules.specs.declared.listing.ClaimKind.TheVariants.{Held, Conversion, Fresh}
-use Rattle.report_text.specs.Claims.{word_of_kind}
+use Rattle.lock_report.specs.Claims.{word_of_kind}
 use Rattle.lock_report.specs.StateRows.{fields_of_transaction, fields_of_wait, victim_field}
 use Rattle.state_rows.specs.declared.row.StateRow.{StateRow}
 use Rattle.state_rows.specs.declared.row.StateRow.TheVariants as row

@@ -7,7 +7,7 @@ ghost use Rattle.lock_modes.specs.Codes.{name_of};
 ghost use Rattle.lock_tree.specs.Paths.{IsResource};
 ghost use Rattle.lock_tree.specs.Text.{text_of};
 ghost use Rattle.lock_rules.specs.declared.listing.ClaimKind.{ClaimKind as KindValue};
-ghost use Rattle.report_text.specs.Claims.{word_of_kind};
+ghost use Rattle.lock_report.specs.Claims.{word_of_kind};
 ghost use Rattle.state_rows.specs.Rows.{IsSession, victim_text};
 
 use lock_modes::Mode;

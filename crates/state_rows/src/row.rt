@@ -8,7 +8,7 @@ ghost use Rattle.lock_rules.specs.declared.calls.Transaction.{Transaction as Tra
 ghost use Rattle.lock_rules.specs.declared.listing.Claim.{Claim as ClaimValue};
 ghost use Rattle.lock_report.specs.declared.snapshot.OpenTransaction.{OpenTransaction as OpenValue};
 ghost use Rattle.lock_report.specs.declared.snapshot.Wait.{Wait as WaitValue};
-ghost use Rattle.report_text.specs.Claims.{word_of_kind};
+ghost use Rattle.lock_report.specs.Claims.{word_of_kind};
 ghost use Rattle.lock_report.specs.StateRows.{fields_of_claim, fields_of_transaction, fields_of_wait, victim_field};
 ghost use Rattle.state_rows.specs.declared.row.StateRow.{StateRow as RowValue};
 ghost use Rattle.state_rows.specs.inner.Fields.{texts_of};

@@ -1,260 +1,281 @@
-//! Which sessions and resources have lanes, and where.
+//! The lanes: of sessions with their transactions, waits and calls, and of resources with their holders.
 
-use crate::model::{Hold, Timeline};
-use indexmap::IndexMap;
-use lock_tree::Resource;
-use std::alloc::{AllocError as NoMemory, Global};
+use crate::drawing::{
+    BAR, Cross, Diamond, Dot, Line, Rect, Ring, Written, put, put_text, width_of,
+};
+use crate::layout::{LANE, Lane, Layout, ROW, TOP};
+use crate::timeline::{Bar, Deed, Hold, Mark, Waited};
+use lock_explain::Edge;
+use lock_rules::{Call, ClaimKind, Reply};
+use std::alloc::AllocError as NoMemory;
+use std::fmt::Write;
 
-/// The most sessions that a picture draws.
-const MOST_SESSIONS: usize = 60;
+/// Of how many sessions or waits a title tells.
+const MOST_TOLD: usize = 24;
 
-/// The most resources that a picture draws.
-const MOST_RESOURCES: usize = 40;
-
-/// The most rows of holders in the lane of a resource.
-const MOST_ROWS: usize = 16;
-
-/// The height of the lane of a session.
-pub(crate) const LANE: u64 = 38;
-
-/// The height of a row of holders.
-pub(crate) const ROW: u64 = 13;
-
-/// The height of what is above the rows of holders.
-pub(crate) const ABOVE: u64 = 14;
-
-/// The lanes of sessions: of those that have a call or an open transaction in the picture, by session number.
-#[derive(Drop)]
-pub(crate) struct SessionLanes {
-    /// The sessions that are drawn.
-    pub(crate) shown: Vec<u16>,
-    /// For each session how far below the first lane its lane begins.
-    depths: Vec<Option<u64>>,
-    /// How many more sessions there would be.
-    pub(crate) left_out: u64,
-}
-
-/// Marks the session.
-fn mark(there: &mut Vec<bool>, session: u16) {
-    if let Some(is) = there.get_mut(session as usize) {
-        *is = true;
-    }
-}
-
-/// Which sessions have a call or an open transaction in the picture.
-fn sessions_there(alloc: Global, timeline: &Timeline) -> Result<Vec<bool>, NoMemory> {
-    let mut there = Vec::new(alloc);
-    for _session in 0..=timeline.sessions {
-        there.push(false)?;
-    }
-    for bar in &timeline.bars {
-        mark(&mut there, bar.session);
-    }
-    for call in &timeline.marks {
-        mark(&mut there, call.entry.session);
-    }
-    Ok(there)
-}
-
-impl SessionLanes {
-    /// The lanes of the sessions of the picture.
-    pub(crate) fn new(alloc: Global, timeline: &Timeline) -> Result<SessionLanes, NoMemory> {
-        let there = sessions_there(alloc, timeline)?;
-        let mut lanes = SessionLanes {
-            shown: Vec::new(alloc),
-            depths: Vec::new(alloc),
-            left_out: 0,
-        };
-        for session in 0..=timeline.sessions {
-            let is_there = there.get(session as usize) == Some(&true);
-            lanes.add(session, is_there)?;
+/// Writes a short name at the beginning of a bar or lane, and a long one, again and again, where the labels of the lanes are far away,
+/// each if there is room in front of `end`.
+fn put_name(out: &mut String, class: &str, x: u64, end: u64, y: u64, names: [&str; 2]) -> Written {
+    let [short, long] = names;
+    for turn in 0..12u64 {
+        let at = x.saturating_add(turn.saturating_mul(960));
+        let room = end.saturating_sub(at);
+        if at >= 960 && room >= width_of(long) {
+            put_text(out, class, at, y, long)?;
+        } else if turn == 0 && room >= width_of(short) {
+            put_text(out, class, at, y, short)?;
         }
-        Ok(lanes)
     }
+    Ok(())
+}
 
-    /// Adds the next session.
-    fn add(&mut self, session: u16, is_there: bool) -> Result<(), NoMemory> {
-        let mut depth = None;
-        if is_there && self.shown.len() < MOST_SESSIONS {
-            depth = Some(self.height());
-            self.shown.push(session)?;
-        } else if is_there {
-            self.left_out = self.left_out.saturating_add(1);
+fn put_call(out: &mut String, call: Call) -> Written {
+    match call {
+        Call::Begin => out.push_str("begin"),
+        Call::Lock(resource, mode) => write!(out, "lock {resource} in {}", mode.name()),
+        Call::Convert(resource, mode) => write!(out, "convert {resource} to {}", mode.name()),
+        Call::Poll => out.push_str("poll"),
+        Call::Release(resource) => write!(out, "release {resource}"),
+        Call::Commit => out.push_str("commit"),
+        Call::Abort => out.push_str("abort"),
+        Call::Try(resource, mode) => write!(out, "try {resource} in {}", mode.name()),
+        Call::Withdraw => out.push_str("withdraw"),
+        Call::Restart => out.push_str("restart"),
+    }
+}
+
+fn put_reply(out: &mut String, reply: Reply) -> Written {
+    match reply {
+        Reply::Began(transaction) => write!(out, "began transaction {transaction}"),
+        Reply::Granted(mode) => write!(out, "granted {}", mode.name()),
+        Reply::Waiting => out.push_str("waiting"),
+        Reply::Deadlock => out.push_str("deadlock"),
+        Reply::Clear => out.push_str("clear"),
+        Reply::Released => out.push_str("released"),
+        Reply::Committed(locks) => write!(out, "committed, gave back {locks} locks"),
+        Reply::Aborted(locks) => write!(out, "aborted, gave back {locks} locks"),
+        Reply::Refused(why) => write!(out, "refused, {}", why.name()),
+        Reply::Withdrawn => out.push_str("withdrawn"),
+        Reply::Restarted(locks) => write!(out, "restarted, gave back {locks} locks"),
+    }
+}
+
+/// Writes how many more there are than are told, if there are any.
+fn put_more(out: &mut String, all: usize) -> Written {
+    match all.saturating_sub(MOST_TOLD) {
+        0 => Ok(()),
+        more => write!(out, "; and {more} more"),
+    }
+}
+
+impl Layout<'_> {
+    /// Writes the lanes, first the labels of those of sessions with a line along each.
+    pub(crate) fn put_lanes(&self, out: &mut String) -> Written {
+        let (mut y, right) = (TOP + 17, self.column(self.upto()));
+        for session in &self.sessions {
+            let label = format!(in self.alloc; "session {session}")?;
+            put_text(out, "lane", 10, y.saturating_add(4), &label)?;
+            put(out, "base", Line(self.left, y, right, y), &label)?;
+            y = y.saturating_add(LANE);
         }
-        self.depths.push(depth)?;
+        for bar in &self.timeline.bars {
+            self.put_bar(out, bar)?;
+        }
+        for wait in &self.timeline.waits {
+            self.put_wait(out, wait)?;
+        }
+        for lane in self.lanes.values() {
+            self.put_lane(out, lane)?;
+        }
+        for mark in &self.timeline.marks {
+            self.put_mark(out, mark)?;
+            self.put_cycle(out, mark)?;
+            for deed in &mark.deeds {
+                self.put_deed(out, mark, *deed)?;
+            }
+        }
         Ok(())
     }
 
-    /// How high all lanes are.
-    pub(crate) fn height(&self) -> u64 {
-        (self.shown.len() as u64).saturating_mul(LANE)
-    }
-
-    /// How far below the first lane that of the session begins, `None` if the session isn't drawn.
-    pub(crate) fn depth(&self, session: u16) -> Option<u64> {
-        match self.depths.get(session as usize) {
-            Some(depth) => *depth,
-            None => None,
+    /// Up to where something lasts.
+    fn until(&self, upto: u64) -> Result<String, NoMemory> {
+        if upto < self.upto() {
+            format!(in self.alloc; "to place {upto}")
+        } else {
+            format!(in self.alloc; "to the end of the picture")
         }
     }
-}
 
-/// Until when a row of a lane is taken, and by whom.
-#[derive(Clone, Copy, Debug)]
-struct Row {
-    /// The session.
-    session: u16,
-    /// The place at which its lock ended.
-    upto: u64,
-}
-
-/// The lane of a resource.
-#[derive(Drop)]
-pub(crate) struct ResourceLane {
-    /// The resource.
-    pub(crate) resource: Resource,
-    /// Its rows.
-    rows: Vec<Row>,
-    /// How many locks more there would be.
-    pub(crate) left_out: u64,
-}
-
-/// A lock in the lane of its resource.
-#[derive(Clone, Copy, Debug)]
-pub(crate) struct PlacedHold {
-    /// The index of the lane.
-    pub(crate) lane: usize,
-    /// The index of the row.
-    pub(crate) row: usize,
-    /// The lock.
-    pub(crate) hold: Hold,
-}
-
-/// The lanes of resources: of those for which a request of the picture waited, in the order of the first such waits.
-#[derive(Drop)]
-pub(crate) struct ResourceLanes {
-    /// The lanes.
-    pub(crate) lanes: Vec<ResourceLane>,
-    /// The locks in them, in the order in which they began.
-    pub(crate) placed: Vec<PlacedHold>,
-    /// How many more resources there would be.
-    pub(crate) left_out: u64,
-}
-
-impl ResourceLane {
-    /// The row for a lock: the session's own if it is free again, or else the first free one, or else a new one. `None` if there are
-    /// too many.
-    fn row_for(&mut self, hold: &Hold) -> Result<Option<usize>, NoMemory> {
-        let mut free = self.rows.len();
-        for index in 0..self.rows.len() {
-            let Some(row) = self.rows.get(index) else {
-                break;
-            };
-            let is_free = row.upto <= hold.from;
-            if is_free && row.session == hold.session {
-                free = index;
-                break;
+    /// The title of a wait.
+    fn title_of_wait(&self, wait: &Waited) -> Result<String, NoMemory> {
+        let (request, from, until) = (&wait.request, wait.from, self.until(wait.upto)?);
+        let (session, number) = (request.session, request.transaction.number);
+        let (resource, mode) = (request.resource, request.mode.name());
+        let mut title = format!(in self.alloc; "session {session}, transaction {number}: ")?;
+        write!(&mut title, "waits from place {from} {until} ")?;
+        match request.kind {
+            ClaimKind::Conversion => write!(&mut title, "to convert {resource} to {mode}")?,
+            _ => write!(&mut title, "for {resource} in {mode}")?,
+        }
+        for blocker in wait.blockers.iter().take(MOST_TOLD) {
+            write!(&mut title, "; behind session {}", blocker.party.session)?;
+            if let Some(mode) = blocker.held {
+                write!(&mut title, ", which holds it in {}", mode.name())?;
             }
-            if is_free && index < free {
-                free = index;
+            if let Some(mode) = blocker.ahead {
+                write!(&mut title, ", which waits ahead for {}", mode.name())?;
             }
         }
-        self.take_row(free, hold)
+        put_more(&mut title, wait.blockers.len())?;
+        Ok(title)
     }
 
-    /// Takes the row for the lock.
-    fn take_row(&mut self, index: usize, hold: &Hold) -> Result<Option<usize>, NoMemory> {
-        let taken = Row {
-            session: hold.session,
-            upto: hold.upto,
-        };
-        if let Some(row) = self.rows.get_mut(index) {
-            *row = taken;
-            return Ok(Some(index));
-        }
-        if self.rows.len() >= MOST_ROWS {
-            self.left_out = self.left_out.saturating_add(1);
-            return Ok(None);
-        }
-        self.rows.push(taken)?;
-        Ok(Some(index))
-    }
-
-    /// How high the lane is.
-    pub(crate) fn height(&self) -> u64 {
-        (self.rows.len().max(1) as u64)
-            .saturating_mul(ROW)
-            .saturating_add(ABOVE)
-            .saturating_add(6)
-    }
-}
-
-impl ResourceLanes {
-    /// The lanes of the contended resources of the picture, with the locks on them.
-    pub(crate) fn new(alloc: Global, timeline: &Timeline) -> Result<ResourceLanes, NoMemory> {
-        let mut lanes = ResourceLanes {
-            lanes: Vec::new(alloc),
-            placed: Vec::new(alloc),
-            left_out: 0,
-        };
-        let mut indexes = IndexMap::new(alloc);
-        for wait in &timeline.waits {
-            lanes.add(alloc, &mut indexes, wait.request.resource)?;
-        }
-        for hold in &timeline.holds {
-            if let Some(index) = indexes.get(&hold.resource) {
-                lanes.place(*index, hold)?;
-            }
-        }
-        Ok(lanes)
-    }
-
-    /// Adds a lane for the resource, if it has none. `indexes` has the index of each resource's lane.
-    fn add(
-        &mut self,
-        alloc: Global,
-        indexes: &mut IndexMap<Resource, usize>,
-        resource: Resource,
-    ) -> Result<(), NoMemory> {
-        if indexes.get(&resource).is_some() {
+    /// Writes the bar of a transaction: red from where it is a victim, with its name above it, and how it ended.
+    fn put_bar(&self, out: &mut String, bar: &Bar) -> Written {
+        let (session, number, upto) = (bar.session, bar.transaction, bar.upto);
+        let Some(y) = self.bars_at(session) else {
             return Ok(());
+        };
+        let (x, right) = (self.middle(bar.from), self.middle(upto));
+        let end = match bar.end {
+            None => format!(in self.alloc; "open at the end of the picture")?,
+            Some(Reply::Committed(_)) => format!(in self.alloc; "committed at place {upto}")?,
+            Some(Reply::Aborted(_)) => format!(in self.alloc; "aborted at place {upto}")?,
+            Some(_) => format!(in self.alloc; "restarted at place {upto}")?,
+        };
+        let whose = format!(in self.alloc; "session {session}, transaction {number}")?;
+        let title = format!(in self.alloc; "{whose}: {} at place {}, {end}", bar.origin, bar.from)?;
+        put(out, "bar", Rect(x, y, right, BAR), &title)?;
+        if let Some(place) = bar.doomed {
+            let red = self.middle(place);
+            let since = format!(in self.alloc; "made a deadlock victim at place {place}")?;
+            let title = format!(in self.alloc; "{whose}: {since}, {end}")?;
+            put(out, "victim", Rect(red, y, right, BAR), &title)?;
         }
-        let index = indexes.len();
-        indexes.insert(resource, index)?;
-        if index >= MOST_RESOURCES {
-            self.left_out = self.left_out.saturating_add(1);
+        let short = format!(in self.alloc; "T{number}")?;
+        let long = format!(in self.alloc; "session {session}, {short}")?;
+        put_name(out, "name", x, right, y.saturating_sub(2), [&short, &long])?;
+        let middle = y.saturating_add(7);
+        match bar.end {
+            Some(Reply::Committed(_)) => put(out, "commit", Dot(right, middle), &title),
+            Some(_) => put(out, "abort", Cross(right, middle), &title),
+            None => Ok(()),
+        }
+    }
+
+    /// Writes a wait, and below it for whom the session waits, in the longest form for which there is room.
+    fn put_wait(&self, out: &mut String, wait: &Waited) -> Written {
+        let Some(y) = self.bars_at(wait.request.session) else {
             return Ok(());
+        };
+        let (x, right) = (self.middle(wait.from), self.middle(wait.upto));
+        let title = self.title_of_wait(wait)?;
+        put(out, "wait", Rect(x, y, right, BAR), &title)?;
+        let mut names = String::new(self.alloc);
+        for blocker in wait.blockers.iter().take(MOST_TOLD) {
+            let sign = if names.is_empty() { "" } else { ", " };
+            write!(&mut names, "{sign}{}", blocker.party.session)?;
         }
-        self.lanes.push(ResourceLane {
-            resource,
-            rows: Vec::new(alloc),
-            left_out: 0,
-        })?;
+        for form in ["waits for", "for"] {
+            let words = format!(in self.alloc; "{form} {names}")?;
+            if width_of(&words) <= right.saturating_sub(x) {
+                return put_text(out, "name", x, y.saturating_add(24), &words);
+            }
+        }
         Ok(())
     }
 
-    /// Gives the lock a row in the lane, if the lane is drawn.
-    fn place(&mut self, lane: usize, hold: &Hold) -> Result<(), NoMemory> {
-        let Some(there) = self.lanes.get_mut(lane) else {
-            return Ok(());
-        };
-        let Some(row) = there.row_for(hold)? else {
-            return Ok(());
-        };
-        self.placed.push(PlacedHold {
-            lane,
-            row,
-            hold: *hold,
-        })?;
+    /// Writes the lane of a resource: its label, again along the lane, how many locks are left out, and its locks.
+    fn put_lane(&self, out: &mut String, lane: &Lane) -> Written {
+        let (y, right) = (lane.top, self.column(self.upto()));
+        put(out, "border", Line(10, y, right, y), "")?;
+        let names = [lane.label.as_str(), lane.label.as_str()];
+        put_name(out, "lane", 10, right, y.saturating_add(11), names)?;
+        if lane.left_out > 0 {
+            let more = format!(in self.alloc; "and {} locks", lane.left_out)?;
+            put_text(out, "note", 10, y.saturating_add(24), &more)?;
+        }
+        for (hold, row) in &lane.holds {
+            let depth = (*row as u64).saturating_mul(ROW).saturating_add(14);
+            self.put_hold(out, hold, y.saturating_add(depth))?;
+        }
         Ok(())
     }
 
-    /// How high all lanes are.
-    pub(crate) fn height(&self) -> u64 {
-        let mut height = 0u64;
-        for lane in &self.lanes {
-            height = height.saturating_add(lane.height());
+    /// Writes a lock: the session and the mode, if there is room.
+    fn put_hold(&self, out: &mut String, hold: &Hold, y: u64) -> Written {
+        let (session, resource, mode) = (hold.session, hold.resource, hold.mode.name());
+        let (from, until) = (hold.from, self.until(hold.upto)?);
+        let mut title = format!(in self.alloc; "session {session} holds {resource} in {mode} ")?;
+        write!(&mut title, "from place {from} {until}")?;
+        let (x, right) = (self.middle(from), self.middle(hold.upto));
+        put(out, mode, Rect(x, y, right, 12), &title)?;
+        let name = format!(in self.alloc; "{session} {mode}")?;
+        let (x, y) = (x.saturating_add(3), y.saturating_add(10));
+        if width_of(&name) < right.saturating_sub(x) {
+            put_text(out, "held", x, y, &name)?;
         }
-        height
+        Ok(())
+    }
+
+    /// Writes a call: a tick, and a diamond if it was refused. Its whole column shows its title.
+    fn put_mark(&self, out: &mut String, mark: &Mark) -> Written {
+        let (place, session) = (mark.place, mark.entry.session);
+        let Some(y) = self.bars_at(session) else {
+            return Ok(());
+        };
+        let mut title = format!(in self.alloc; "place {place}, session {session}: ")?;
+        put_call(&mut title, mark.entry.call)?;
+        title.push_str(": ")?;
+        put_reply(&mut title, mark.entry.reply)?;
+        let (x, left) = (self.middle(place), self.column(place));
+        put(out, "call", Line(x, y, x, y.saturating_add(BAR)), &title)?;
+        if let Reply::Refused(_) = mark.entry.reply {
+            put(out, "refused", Diamond(x, y.saturating_add(7)), &title)?;
+        }
+        let right = left.saturating_add(self.step);
+        put(out, "column", Rect(left, y, right, BAR), &title)
+    }
+
+    /// Writes a ring round each session on the cycles that a call closed, and a line that joins them.
+    fn put_cycle(&self, out: &mut String, mark: &Mark) -> Written {
+        let (place, caller, x) = (mark.place, mark.entry.session, self.middle(mark.place));
+        let call = format!(in self.alloc; "place {place}: the call of session {caller}")?;
+        let mut title = format!(in self.alloc; "{call} closes a cycle of waits, or several")?;
+        for Edge { session, other } in mark.edges.iter().take(MOST_TOLD) {
+            write!(&mut title, "; session {session} waits for session {other}")?;
+        }
+        put_more(&mut title, mark.edges.len())?;
+        let mut above = None;
+        for edge in &mark.edges {
+            let at = self.bars_at(edge.session).map(|y| y.saturating_add(7));
+            if let (Some(middle), true) = (at, at != above) {
+                if let Some(before) = above {
+                    put(out, "joins", Line(x, before, x, middle), &title)?;
+                }
+                put(out, "cycle", Ring(x, middle), &title)?;
+                above = at;
+            }
+        }
+        Ok(())
+    }
+
+    /// Writes an arrow to the session whose wait a call ended, if that is another and both are drawn; one to a victim beside the
+    /// middle of its column, so that it doesn't lie on one that grants.
+    fn put_deed(&self, out: &mut String, mark: &Mark, deed: Deed) -> Written {
+        let (other, class, does, aside) = match deed {
+            Deed::Grants(other) => (other, "grants", "grants the request", 0u64),
+            Deed::Dooms(other) => (other, "dooms", "makes a deadlock victim", 3u64),
+        };
+        let (place, session) = (mark.place, mark.entry.session);
+        let to = self.bars_at(other).filter(|_| other != session);
+        let (Some(y), Some(to)) = (self.bars_at(session), to) else {
+            return Ok(());
+        };
+        let call = format!(in self.alloc; "place {place}: the call of session {session}")?;
+        let title = format!(in self.alloc; "{call} {does} of session {other}")?;
+        let x = self.middle(place).saturating_add(aside);
+        let edge = if y < to { to } else { to.saturating_add(BAR) };
+        put(out, class, Line(x, y.saturating_add(7), x, edge), &title)
     }
 }

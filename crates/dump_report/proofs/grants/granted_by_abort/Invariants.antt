@@ -1,7 +1,7 @@
-use Rattle.std.proofs.Common.{◌≡◌, ◌++◌, None, drop}
-use Rattle.dump_report.specs.Jam.{granted_behind}
+use Rattle.std.proofs.Common.{◌≡◌, map, take}
+use Rattle.dump_report.specs.Jam.{granted_by_abort}
 use Rattle.dump_report.proofs.grants.granted_by_abort.Given as goal
 
--- with what is granted on the resources from this claim on, the list will have all that is granted
-abbrev pub invariant-loop-index : goal.invariant-loop-index
-invariant-loop-index l = l.granted.items ++ granted_behind l.session l.last (drop l.index l.claims) ≡ granted_behind l.session None l.claims
+-- what is granted on the resources so far is listed
+abbrev pub invariant-loop-queue : goal.invariant-loop-queue
+invariant-loop-queue l = l.granted.items ≡ granted_by_abort l.session (map (λ q. q.items) (take l.queue-index l.jammed))

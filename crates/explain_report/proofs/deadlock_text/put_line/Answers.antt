@@ -1,6 +1,6 @@
 use Rattle.std.proofs.lemmas.Result.{on_ok_weaker}
 use Rattle.explain_report.specs.DeadlockText.{words_of_call, words_of_victim}
-use Rattle.report_text.proofs.Pieces.{next_part}
+use Rattle.lock_report.proofs.Pieces.{next_part}
 use Rattle.explain_report.proofs.deadlock_text.put_line.Goals as goal
 
 pub returns : goal.returns

@@ -1,5 +1,5 @@
 use Rattle.explain_report.specs.ExplanationText.{line_of_blocker}
-use Rattle.report_text.proofs.Pieces.{next_piece}
+use Rattle.lock_report.proofs.Pieces.{next_piece}
 use Rattle.explain_report.proofs.request_text.put_blockers.Goals as goal
 
 pub loop-blocker-preserved : goal.loop-blocker-preserved

@@ -1,5 +1,5 @@
 use Rattle.explain_report.specs.ExplanationText.{line_of_granted}
-use Rattle.report_text.proofs.Pieces.{next_item}
+use Rattle.lock_report.proofs.Pieces.{next_item}
 use Rattle.explain_report.proofs.text.put_all_granted.Goals as goal
 
 pub loop-request-preserved : goal.loop-request-preserved

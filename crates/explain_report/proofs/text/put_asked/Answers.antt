@@ -2,7 +2,7 @@ use Rattle.std.proofs.Common.{codes}
 use Rattle.std.specs.List.{flat_map}
 use Rattle.std.proofs.lemmas.Result.{on_ok_weaker}
 use Rattle.explain_report.specs.ExplanationText.{line_of_request, line_of_blocker}
-use Rattle.report_text.proofs.Pieces.{next_part}
+use Rattle.lock_report.proofs.Pieces.{next_part}
 use Rattle.explain_report.proofs.text.put_asked.Goals as goal
 
 pub returns : goal.returns

@@ -1,7 +1,7 @@
 use Rattle.std.proofs.Common.{◌++◌, codes}
 use Rattle.std.proofs.lemmas.Result.{on_ok_weaker}
 use Rattle.explain_report.specs.ExplanationText.{words_of_owned}
-use Rattle.report_text.proofs.Pieces.{next_part}
+use Rattle.lock_report.proofs.Pieces.{next_part}
 use Rattle.explain_report.proofs.text.put_granted.Goals as goal
 
 pub returns : goal.returns

@@ -1,6 +1,6 @@
 use Rattle.std.proofs.Common.{◌++◌, ◌∙◌, None, List, ℕ, ap, length, string_bytes}
 use Rattle.std.specs.List.{flat_map}
-use Rattle.report_text.proofs.Pieces.{next_part}
+use Rattle.lock_report.proofs.Pieces.{next_part}
 use Rattle.lock_report.specs.Dot.{node_of}
 use Rattle.lock_report.specs.LocksDot.{boxes_behind, places_of, start_of_graph}
 use Rattle.lock_report.proofs.boxes.put_boxed.Goals as goal

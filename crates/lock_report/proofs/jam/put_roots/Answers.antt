@@ -1,5 +1,5 @@
 use Rattle.lock_report.specs.JamText.{line_of_root}
-use Rattle.report_text.proofs.Pieces.{next_piece}
+use Rattle.lock_report.proofs.Pieces.{next_piece}
 use Rattle.lock_report.proofs.jam.put_roots.Goals as goal
 
 pub loop-root-preserved : goal.loop-root-preserved

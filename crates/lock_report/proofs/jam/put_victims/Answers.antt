@@ -1,5 +1,5 @@
 use Rattle.lock_report.specs.JamText.{line_if_victim}
-use Rattle.report_text.proofs.Pieces.{next_piece}
+use Rattle.lock_report.proofs.Pieces.{next_piece}
 use Rattle.lock_report.proofs.jam.put_victims.Goals as goal
 
 pub loop-begun-preserved : goal.loop-begun-preserved

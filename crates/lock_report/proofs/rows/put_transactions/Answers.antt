@@ -1,5 +1,5 @@
 use Rattle.lock_report.specs.StateRows.{row_of_transaction}
-use Rattle.report_text.proofs.Pieces.{next_piece}
+use Rattle.lock_report.proofs.Pieces.{next_piece}
 use Rattle.lock_report.proofs.rows.put_transactions.Goals as goal
 
 pub loop-begun-preserved : goal.loop-begun-preserved

@@ -1,6 +1,6 @@
 use Rattle.std.proofs.Common.{◌++◌, codes}
 use Rattle.lock_report.specs.LocksDot.{hidden_edge}
-use Rattle.report_text.proofs.Pieces.{next_part}
+use Rattle.lock_report.proofs.Pieces.{next_part}
 use Rattle.lock_report.proofs.rows_of_boxes.put_below.Goals as goal
 
 pub returns : goal.returns

@@ -1,6 +1,6 @@
 use Rattle.std.proofs.Common.{ℕ, ◌++◌, add-one, string_bytes, ap, sym, ◌∙◌}
 use Rattle.lock_report.specs.LocksDot.{placed_behind, places_of}
-use Rattle.report_text.proofs.Pieces.{next_part}
+use Rattle.lock_report.proofs.Pieces.{next_part}
 use Rattle.lock_report.proofs.rows_of_boxes.put_places.Goals as goal
 
 pub loop-index-preserved : goal.loop-index-preserved

@@ -1,5 +1,5 @@
 use Rattle.lock_shell.specs.Replies.{line_of_granted}
-use Rattle.report_text.proofs.Pieces.{next_item}
+use Rattle.lock_report.proofs.Pieces.{next_item}
 use Rattle.lock_shell.proofs.reply_line.put_all_granted.Goals as goal
 
 pub loop-request-preserved : goal.loop-request-preserved

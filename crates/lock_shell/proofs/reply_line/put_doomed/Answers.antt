@@ -1,6 +1,6 @@
 use Rattle.std.proofs.Common.{◌≡◌, ◌++◌, List, ℕ, codes, decimal, string_bytes}
 use Rattle.std.proofs.lemmas.Result.{on_ok_weaker}
-use Rattle.report_text.proofs.Pieces.{next_part}
+use Rattle.lock_report.proofs.Pieces.{next_part}
 use Rattle.lock_shell.specs.Replies.{line_of_doomed, words_of_fate}
 use Rattle.lock_shell.proofs.reply_line.put_doomed.Goals as goal
 

@@ -1,5 +1,5 @@
 use Rattle.lock_shell.specs.Replies.{words_of_blocker}
-use Rattle.report_text.proofs.Pieces.{next_piece}
+use Rattle.lock_report.proofs.Pieces.{next_piece}
 use Rattle.lock_shell.proofs.reply_line.put_each.Goals as goal
 
 pub loop-blocker-preserved : goal.loop-blocker-preserved

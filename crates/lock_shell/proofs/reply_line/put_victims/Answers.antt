@@ -1,5 +1,5 @@
 use Rattle.lock_shell.specs.Replies.{line_of_victim}
-use Rattle.report_text.proofs.Pieces.{next_piece}
+use Rattle.lock_report.proofs.Pieces.{next_piece}
 use Rattle.lock_shell.proofs.reply_line.put_victims.Goals as goal
 
 pub loop-victim-preserved : goal.loop-victim-preserved

@@ -1,7 +1,7 @@
 use Rattle.std.proofs.Common.{◌∙◌, [], ap, take_all}
 use Rattle.std.specs.List.{flat_map}
 use Rattle.lock_shell.specs.inner.Traces.{row_of_call}
-use Rattle.report_text.proofs.Pieces.{next_item}
+use Rattle.lock_report.proofs.Pieces.{next_item}
 use Rattle.lock_shell.proofs.trace_text.trace_text.Goals as goal
 
 pub loop-entry-preserved : goal.loop-entry-preserved

@@ -1,0 +1,112 @@
+//! The command `show --state`: a dump of a lock table in a form of `show`.
+
+ghost use Rattle.std.specs.Prelude.{◌≡◌, ◌≢◌, ◌⊎◌, ℕ, ◌<◌, ◌≤◌, List, Some, IfOk, IfErr, string_bytes};
+ghost use Rattle.std.specs.Io.KnownBytes.{Keeps};
+ghost use Rattle.lock_rules.specs.declared.calls.TheConstants.{MAX_SESSIONS};
+ghost use Rattle.state_rows.specs.States.{AreLists};
+ghost use Rattle.history_commands.specs.declared.dump_fault.DumpFault.TheVariants as fault;
+ghost use Rattle.history_commands.specs.Dumps.{HasDump, HasDumpPart, ReadsDump, ShowsDump, text_of_dump};
+
+use crate::dump_fault::DumpFault;
+use crate::forms::form_text;
+use command_line::Form;
+use dump_report::{Moment, requests_among};
+use lock_desk::NoMemory;
+use replay_commands::write_text;
+use state_rows::{StateFault, StateLists, read_state};
+use std::alloc::Global;
+use std::io::{ErrorKind, Read, Write};
+
+/// All that the reader gives. Fails with `NoMemory` or `Unread`.
+fn whole_text<R: Read + Drop>(alloc: Global, input: R) -> Result<Vec<u8>, DumpFault>
+    ensures bytes { (bytes : List ℕ) → R.remaining input ≡ Some bytes → IfOk result (λ text. text.items ≡ bytes) }
+    ensures faults { IfErr result (λ why. (why ≡ fault.NoMemory) ⊎ (why ≡ fault.Unread)) }
+{
+    let mut input = input;
+    let mut text = Vec::new(alloc);
+    match input.read_to_end(&mut text) {
+        Ok(_) => Ok(text),
+        Err(error) if error.kind() == ErrorKind::OutOfMemory => Err(DumpFault::NoMemory),
+        Err(_) => Err(DumpFault::Unread),
+    }
+}
+
+/// The dump that a text is. Fails with `Row` or `NoMemory`.
+fn dump_in(alloc: Global, text: &[u8], sessions: u16) -> Result<StateLists, DumpFault>
+    ensures { ReadsDump sessions text.now result }
+{
+    match read_state(alloc, text, sessions) {
+        Ok(lists) => Ok(lists),
+        Err(StateFault::Line(line)) => Err(DumpFault::Row(line)),
+        Err(StateFault::NoMemory) => Err(DumpFault::NoMemory),
+    }
+}
+
+/// Reads a dump of the sessions 1 to `sessions`. Fails with `Row`, `NoMemory` or `Unread`.
+fn read_dump<R: Read + Drop>(
+    alloc: Global,
+    input: R,
+    sessions: u16,
+) -> Result<StateLists, DumpFault>
+    ensures rows { IfOk result (λ lists. AreLists sessions lists) }
+    ensures not_device { IfErr result (λ why. why ≢ fault.Device) }
+    ensures reads { (bytes : List ℕ) → R.remaining input ≡ Some bytes → ReadsDump sessions bytes result }
+{
+    let text = whole_text(alloc, input)?;
+    dump_in(alloc, &text, sessions)
+}
+
+/// The text of a dump of the sessions 1 to `sessions`, at most `MAX_SESSIONS`, in this form. Fails if memory is refused.
+fn dump_text(
+    alloc: Global,
+    lists: &StateLists,
+    sessions: u16,
+    form: Form,
+) -> Result<String, NoMemory>
+    requires some { 0 < sessions }
+    requires few { sessions ≤ MAX_SESSIONS }
+    requires lists { AreLists sessions lists.now }
+    ensures { IfOk result (λ text. string_bytes text ≡ text_of_dump form sessions lists.now) }
+{
+    let requests = requests_among(alloc, &lists.claims)?;
+    let moment = Moment {
+        sessions,
+        place: None,
+        waiting: requests.len() as u64,
+    };
+    form_text(alloc, moment, &[], lists, form)
+}
+
+/// Reads a dump of the sessions 1 to `sessions`, at most `MAX_SESSIONS`: the rows that `glm show --csv` writes of a state and
+/// `pelgaisti_dump_line` of a lock table in use, and no other text. Writes it in this form: what `glm show` writes of a state of a history,
+/// but for the places, which a dump hasn't got.
+///
+/// The whole text is made before its first byte is written. After every fault except `Device` nothing was written; after `Device` the
+/// beginning of the text may have been written, and nothing else. The fault `Row` names the first row with which the rows aren't the
+/// beginning of those of any state. Whether some history leads to the state isn't tested.
+pub fn show_dump<R: Read + Drop, W: Write>(
+    alloc: Global,
+    input: R,
+    output: &mut W,
+    sessions: u16,
+    form: Form,
+) -> Result<(), DumpFault>
+    requires some { 0 < sessions }
+    requires few { sessions ≤ MAX_SESSIONS }
+    // hold for every reader
+    ensures kept { IfErr result (λ why. why ≢ fault.Device → Keeps (W.contents output.old) (W.contents output.new)) }
+    ensures part { IfErr result (λ why. why ≡ fault.Device → HasDumpPart form sessions (W.contents output.old) (W.contents output.new)) }
+    ensures shown { IfOk result (λ _. HasDump form sessions (W.contents output.old) (W.contents output.new)) }
+
+    // holds for a reader whose bytes are known
+    ensures shows { (bytes : List ℕ) → R.remaining input ≡ Some bytes → ShowsDump form sessions bytes (W.contents output.old) (W.contents output.new) result }
+{
+    let lists = read_dump(alloc, input, sessions)?;
+    let Ok(shown) = dump_text(alloc, &lists, sessions, form) else {
+        return Err(DumpFault::NoMemory);
+    };
+    if write_text(output, shown.as_bytes()).is_err() {
+        return Err(DumpFault::Device);
+    }
+    Ok(())
+}

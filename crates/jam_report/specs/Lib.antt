@@ -1,7 +1,0 @@
--- What public contracts speak of.
-pub mod Dooms
-pub mod Roots
-pub mod Since
-pub mod Waits
--- What only private contracts speak of.
-pub mod inner

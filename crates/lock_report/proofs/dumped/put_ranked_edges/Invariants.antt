@@ -1,8 +1,0 @@
-use Rattle.std.proofs.Common.{◌≡◌, ◌++◌, take, string_bytes}
-use Rattle.std.specs.List.{flat_map}
-use Rattle.lock_report.specs.DumpText.{edge_if_ranked}
-use Rattle.lock_report.proofs.dumped.put_ranked_edges.Given as goal
-
--- What is written of the waits before this one is written.
-abbrev pub invariant-loop-ranked : goal.invariant-loop-ranked
-invariant-loop-ranked l = string_bytes l.out ≡ string_bytes l.fn.out ++ flat_map edge_if_ranked (take l.ranked-index l.waits)

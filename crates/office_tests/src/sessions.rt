@@ -1,0 +1,134 @@
+//! Sessions that make single calls, by functions that no export of the library for C calls.
+
+ghost use Rattle.std.specs.Prelude.{◌≡◌};
+ghost use Rattle.program_office.specs.Sessions.{IsSessionOf};
+
+use combining::{Answer, Called, Performed};
+use lock_desk::{Call, Mode, Reply, Resource, Why};
+use program_office::{
+    BoundedTurn, CallSession, Counted, Nobody, Office, PassBound, Posted, Program, Session,
+    reply_of_one,
+};
+use std::process::Abort;
+use std::test::Fail;
+
+/// Makes single calls by a session that knows no call yet.
+fn single(rt: &impl Abort, session: Session) -> CallSession
+    ensures { result ≡ session }
+{
+    assert!(rt; session.is_idle() && session.seen() == 0);
+    CallSession::new(session, 0)
+}
+
+/// Begins by a whole call, and locks the database in X by a call that is published and resumed. Its place is one behind that of the begin.
+fn hold(
+    rt: &impl Abort,
+    office: &Office,
+    session: &mut CallSession,
+    place: u64,
+    number: u64,
+    database: Resource,
+)
+    requires ours { IsSessionOf office.now session.old }
+    ensures ours { IsSessionOf office.now session.new }
+{
+    let told = &mut Counted::new(Nobody);
+    assert!(rt; session.is_idle());
+    let begun = session.call(office, Call::Begin, 0, told);
+    let reply = Reply::Began(number);
+    assert!(rt; begun == Called::Answered(Answer { place, reply }));
+    assert!(rt; session.is_idle());
+    assert!(rt; session.publish(office, Call::Lock(database, Mode::X)) == Posted::Listed);
+    assert!(rt; !session.is_idle() && !session.is_retired());
+    let locked = session.resume(office, 1, told);
+    let place = place.wrapping_add(1);
+    let reply = Reply::Granted(Mode::X);
+    assert!(rt; locked == Called::Answered(Answer { place, reply }));
+}
+
+/// The other session learns what this one knows: so many calls.
+fn want_heeded(
+    rt: &impl Abort,
+    office: &Office,
+    session: &mut CallSession,
+    other: &mut CallSession,
+    seen: u64,
+)
+    requires ours { IsSessionOf office.now session.old }
+    requires other { IsSessionOf office.now other.old }
+    ensures ours { IsSessionOf office.now session.new }
+    ensures other { IsSessionOf office.now other.new }
+{
+    let knowledge = session.knowledge(office);
+    assert!(rt; knowledge.seen() == seen && other.seen() < seen);
+    other.heed(office, knowledge);
+    assert!(rt; other.seen() == seen);
+}
+
+/// A round of the session, which takes no call once those that it has taken give back so many locks, serves one call.
+fn want_round(rt: &impl Abort, office: &Office, session: &mut CallSession, weight: u32, left: bool)
+    requires ours { IsSessionOf office.now session.old }
+    ensures ours { IsSessionOf office.now session.new }
+{
+    assert!(rt; weight > 0);
+    let bound = PassBound {
+        calls: 10,
+        weight,
+        rounds: 1,
+    };
+    let want = BoundedTurn::Pass {
+        served: 1,
+        starved: false,
+        left,
+    };
+    let told = &mut Counted::new(Nobody);
+    assert!(rt; session.serve_bounded(office, bound, told) == want);
+}
+
+/// Publishes a commit.
+fn post_commit(rt: &impl Abort, office: &Office, session: &mut CallSession)
+    requires ours { IsSessionOf office.now session.old }
+    ensures ours { IsSessionOf office.now session.new }
+{
+    assert!(rt; session.is_idle());
+    assert!(rt; session.publish(office, Call::Commit) == Posted::Listed);
+}
+
+/// The session polls by a program of one call, at this place, and is refused.
+fn want_refused(rt: &impl Abort, office: &Office, session: &mut CallSession, place: u64)
+    requires ours { IsSessionOf office.now session.old }
+{
+    assert!(rt; session.is_idle());
+    let told = &mut Counted::new(Nobody);
+    let Performed::Answered { answer, .. } = session.perform_program(
+        office,
+        Program::one(Call::Poll),
+        told,
+    ) else {
+        panic!(rt; "an answer");
+    };
+    let reply = Reply::Refused(Why::NoTransaction);
+    assert!(rt; reply_of_one(Call::Poll, &answer.reply) == Some(Answer { place, reply }));
+}
+
+/// Sessions 1 and 2 make whole calls and resumed ones. Session 3 learns of them, and serves their commits in bounded passes, that of
+/// session 2, which was published last, in the first one.
+#[test]
+fn single_calls_are_whole_resumed_and_served_within_a_bound(rt: HostRuntime) -> Result<(), Fail> {
+    let one = Resource::from_numbers(&[1]).ok_or("no resource")?;
+    let two = Resource::from_numbers(&[2]).ok_or("no resource")?;
+    let (office, mut sessions) = Office::open(rt.alloc(), 3)?;
+    let mut third = single(&rt, sessions.pop().expect(&rt, "session 3"));
+    let mut second = single(&rt, sessions.pop().expect(&rt, "session 2"));
+    let mut first = single(&rt, sessions.pop().expect(&rt, "session 1"));
+    hold(&rt, &office, &mut first, 0, 1, one);
+    hold(&rt, &office, &mut second, 2, 2, two);
+    want_heeded(&rt, &office, &mut second, &mut third, 4);
+    post_commit(&rt, &office, &mut first);
+    post_commit(&rt, &office, &mut second);
+    want_round(&rt, &office, &mut third, 1, true);
+    assert!(rt; first.collect(&office) == None);
+    want_round(&rt, &office, &mut third, u32::MAX, false);
+    want_refused(&rt, &office, &mut third, 6);
+    Ok(())
+}

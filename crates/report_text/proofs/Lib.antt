@@ -1,2 +1,0 @@
--- a text that is written piece by piece
-pub mod Pieces

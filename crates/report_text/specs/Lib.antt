@@ -1,3 +1,0 @@
--- What public contracts speak of.
-pub mod Claims
-pub mod Nodes
