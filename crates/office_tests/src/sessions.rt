@@ -4,10 +4,10 @@ ghost use Rattle.std.specs.Prelude.{◌≡◌};
 ghost use Rattle.program_office.specs.Sessions.{IsSessionOf};
 
 use combining::{Answer, Called, Performed};
-use lock_desk::{Call, Mode, Reply, Resource, Why};
+use lock_desk::{Call, Mode, NO_BOUND, Reply, Resource, Why};
 use program_office::{
-    BoundedTurn, CallSession, Counted, Nobody, Office, PassBound, Posted, Program, Session,
-    reply_of_one,
+    BoundedTurn, CallSession, Counted, Nobody, Office, PassBound, Posted, Program, Session, Stop,
+    open_keeping, reply_of_one,
 };
 use std::process::Abort;
 use std::test::Fail;
@@ -107,7 +107,9 @@ fn want_refused(rt: &impl Abort, office: &Office, session: &mut CallSession, pla
     ) else {
         panic!(rt; "an answer");
     };
-    let reply = Reply::Refused(Why::NoTransaction);
+    let why = Why::NoTransaction;
+    assert!(rt; answer.reply.stop() == Stop::IsRefused(why));
+    let reply = Reply::Refused(why);
     assert!(rt; reply_of_one(Call::Poll, &answer.reply) == Some(Answer { place, reply }));
 }
 
@@ -117,7 +119,7 @@ fn want_refused(rt: &impl Abort, office: &Office, session: &mut CallSession, pla
 fn single_calls_are_whole_resumed_and_served_within_a_bound(rt: HostRuntime) -> Result<(), Fail> {
     let one = Resource::from_numbers(&[1]).ok_or("no resource")?;
     let two = Resource::from_numbers(&[2]).ok_or("no resource")?;
-    let (office, mut sessions) = Office::open(rt.alloc(), 3)?;
+    let (office, mut sessions) = open_keeping(rt.alloc(), 3, NO_BOUND, 7)?;
     let mut third = single(&rt, sessions.pop().expect(&rt, "session 3"));
     let mut second = single(&rt, sessions.pop().expect(&rt, "session 2"));
     let mut first = single(&rt, sessions.pop().expect(&rt, "session 1"));
