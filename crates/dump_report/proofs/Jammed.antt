@@ -3,7 +3,7 @@ use Rattle.std.proofs.Common.{◌≡◌, ℕ, ◌+◌, ◌<◌, List, [], ◌∷
 use Rattle.std.specs.List.{flat_map}
 use Rattle.std.proofs.lemmas.List.{flat_map_more, take_more}
 use Rattle.std.proofs.lemmas.List.Folds.{flat_map-map}
-use Rattle.report_text.proofs.Pieces.{with_next}
+use Rattle.lock_report.proofs.Pieces.{with_next}
 
 -- with what is told of the next one, what is told of one more is listed
 pub next_mapped : {Q X Y : Type 0} (f : List X → List Y) (items : Q → List X) (qs : List Q) (i : ℕ) (q : Q) (out out2 : List Y) → i < length qs → q ≡ get_or qs i q

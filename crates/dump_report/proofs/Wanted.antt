@@ -7,7 +7,7 @@ use Rattle.std.proofs.lemmas.Bool.{or_left, or_right}
 use Rattle.std.proofs.lemmas.List.{flat_map_more, take_more}
 use Rattle.std.proofs.lemmas.List.Elements.{filter-append}
 use Rattle.lock_tree.specs.Paths.{same_path}
-use Rattle.report_text.proofs.Pieces.{with_next}
+use Rattle.lock_report.proofs.Pieces.{with_next}
 use Rattle.lock_rules.specs.declared.listing.Claim.{Claim}
 use Rattle.lock_rules.proofs.Lists.{same_path-refl, same_path-true}
 use Rattle.lock_report.specs.declared.snapshot.OpenTransaction.{OpenTransaction}
