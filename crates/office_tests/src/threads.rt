@@ -17,24 +17,25 @@ use std::thread::Threads;
 /// The greatest number of turns for one answer.
 const TURNS: u64 = 1_000_000_000;
 
+/// Makes a program of no path, if the session is idle.
+fn make(office: &Office, session: &mut Session, start: Start)
+    requires ours { IsSessionOf office.now session.old }
+    ensures ours { IsSessionOf office.now session.new }
+{
+    if session.is_idle() {
+        let _called = call(office, session, Program::start(start), TURNS, &mut Nobody);
+    }
+}
+
 /// Begins, commits and begins anew, and makes a program of no calls, which has no entry.
 fn work(office: &Office, session: Session) -> Session
     requires ours { IsSessionOf office.now session × IsIdle session }
     ensures ours { IsSessionOf office.now result }
 {
     let mut session = session;
-    for start in [Start::Begins, Start::CommitsAndBegins, Start::Nothing] {
-        if !session.is_idle() {
-            break;
-        }
-        let _called = call(
-            office,
-            &mut session,
-            Program::start(start),
-            TURNS,
-            &mut Nobody,
-        );
-    }
+    make(office, &mut session, Start::Begins);
+    make(office, &mut session, Start::CommitsAndBegins);
+    make(office, &mut session, Start::Nothing);
     session
 }
 
