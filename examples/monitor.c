@@ -1,10 +1,10 @@
 /*
  * What an engine tells of its lock table while others use it. Four threads lock two records in either order, so that they meet deadlocks.
  * Who becomes a victim writes its cycle to the log. A fifth session is the monitor's: it writes dumps, counters, and the entries of the
- * history since the last dump, from which `glm show --from` goes on.
+ * history since the last dump.
  *
  *     ./embed && cc examples/monitor.c -Iout -Lout -lpelgaisti -lpthread -o monitor && ./monitor dump.csv since.csv
- *     glm show --from dump.csv since.csv
+ *     glm show --state dump.csv
  *
  * Each thread commits 500 transactions, or as many as the third argument says. The log goes to standard output.
  */
