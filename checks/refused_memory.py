@@ -258,8 +258,8 @@ def ends_in_shell(given):
 
 def ends_in_file(target, history):
     """Like `ends` with status 0, but the history is in a file, of which nothing else is ever seen."""
-    # rounds run side by side, and one more was seen where they write to one file
-    is_ended = ends(0, b"", more=1)
+    # rounds run side by side, and two more were seen where they write to one file
+    is_ended = ends(0, b"", more=2)
 
     def is_right(ended):
         return is_ended(ended) and (ended[0] != 0 or target.read_bytes() == history)
@@ -280,7 +280,8 @@ def trials_of_the_program(folder):
         drawn = [] if rows is CROWD else [["timeline"]]
         for words in [*forms, ["show", "--waits"], ["stats"], ["stats", "--csv"], *drawn]:
             whole = subprocess.run([PROGRAM, *words], input=history, capture_output=True, check=True, timeout=60).stdout
-            tables = {"show": 1, "explain": 2, "stats": 2, "timeline": 3}[words[0]]
+            # those of books, and the maps that a timeline keeps
+            tables = {"show": 1, "explain": 2, "stats": 1, "timeline": 4}[words[0]]
             yield Trial(f"{' '.join(words)} of {name}", [PROGRAM, *words], ends(0, whole, tables=tables), history)
         # a session that is alone is served at the first try
         one_try = ["--turns", "1"] if len(by_session(rows)) == 1 else []
