@@ -3,10 +3,9 @@ use Rattle.std.proofs.Common.{◌≡◌, ◌≢◌, ℕ, zero, suc, ◌+◌, ◌
 use Rattle.std.specs.Prelude.{All}
 use Rattle.std.specs.List.{flat_map, list_any, range_with_len}
 use Rattle.std.proofs.Math.Bool.{and-false}
-use Rattle.std.proofs.lemmas.Bool.{and_parts, cases_Bool}
-use Rattle.std.proofs.lemmas.Bool.Decides.{nat_tests}
+use Rattle.std.proofs.lemmas.Bool.{and_parts}
+use Rattle.std.proofs.lemmas.Bool.Decides.{nat_tests, Decides-eqb}
 use Rattle.std.proofs.lemmas.List.Folds.{list_any-append}
-use Rattle.lock_modes.specs.declared.Mode.{Mode}
 use Rattle.lock_tree.specs.Paths.{same_path}
 use Rattle.lock_rules.specs.declared.calls.Call.TheVariants.{Abort}
 use Rattle.lock_rules.specs.declared.calls.Why.TheVariants.{NoTransaction}
@@ -33,8 +32,9 @@ use Rattle.lock_desk.specs.inner.Changes.{view_after_unlock}
 use Rattle.lock_desk.specs.inner.Shows.{short, claims_on, view}
 use Rattle.lock_desk.proofs.AfterStep.{ended-seen}
 use Rattle.lock_desk.proofs.LockCounts.{queue-has, waits_on-once}
-use Rattle.lock_explain.proofs.SessionsOfAHistory.{all-inside, inside}
+use Rattle.lock_explain.proofs.SessionsOfAHistory.{all-inside}
 use Rattle.dump_report.specs.Jam.{granted_by_abort, granted_on, jammed_behind}
+use Rattle.lock_laws.specs.Listing.{AreSameSessions}
 use Rattle.lock_laws.proofs.JamLines.{granted-by-lines, lines-on}
 use Rattle.lock_laws.proofs.LinesGranted.{count, grants, grants-count, lines-granted}
 
@@ -107,6 +107,55 @@ as-long n p xs told within =
         go true e = refl
         go false e = absurd (omega (arith, k, e))
 
+-- another number isn't counted
+not-counted : (u x k : ℕ) (d : Bool) → eqb x u ≡ false → cond d (cond (eqb x u) 1 0 + k) 0 ≡ cond d k 0
+not-counted u x k true f = ap (λ (c : Bool). cond c 1 0 + k) f ∙ omega arith
+not-counted u x k false f = refl
+
+-- how often a number is among those that pass a test
+count-kept : (u : ℕ) (p : ℕ → Bool) (us : List ℕ) → count u (filter p us) ≡ cond (p u) (count u us) 0
+count-kept u p [] = go (p u)
+  where
+    go : (b : Bool) → 0 ≡ cond {A = ℕ} b 0 0
+    go true = refl
+    go false = refl
+count-kept u p (x ∷ us) = go (p x) (eqb x u) refl refl (count-kept u p us)
+  where
+    go : (b c : Bool) → p x ≡ b → eqb x u ≡ c → count u (filter p us) ≡ cond (p u) (count u us) 0 → count u (cond b (x ∷ filter p us) (filter p us)) ≡ cond (p u) (cond (eqb x u) 1 0 + count u us) 0
+    go b true e f next =
+        let same : x ≡ u = (Decides-eqb x u).0 f in
+        let passes : p u ≡ b = ap p (sym same) ∙ e in
+        both b (next ∙ ap (λ (d : Bool). cond d (count u us) 0) passes) ∙ sym (ap (λ (d : Bool). cond d (cond (eqb x u) 1 0 + count u us) 0) passes)
+      where
+        both : (d : Bool) → count u (filter p us) ≡ cond d (count u us) 0 → count u (cond d (x ∷ filter p us) (filter p us)) ≡ cond d (cond (eqb x u) 1 0 + count u us) 0
+        both true n = ap (λ (k : ℕ). cond (eqb x u) 1 0 + k) n
+        both false n = n
+    go true false e f next = ap (λ (d : Bool). cond d 1 0 + count u (filter p us)) f ∙ omega (arith, next) ∙ sym (not-counted u x (count u us) (p u) f)
+    go false false e f next = next ∙ sym (not-counted u x (count u us) (p u) f)
+
+count-total : (u : ℕ) (us : List ℕ) → count u us ≡ total (λ v. cond (eqb u v) 1 0) us
+count-total u [] = refl
+count-total u (x ∷ us) =
+    let flip : eqb x u ≡ eqb u x = grind (arith, nat_tests) in
+    λ i. cond (flip i) 1 0 + count-total u us i
+
+count-filter : (u : ℕ) (xs : List ℕ) → length (filter (λ v. eqb v u) xs) ≡ count u xs
+count-filter u [] = refl
+count-filter u (x ∷ xs) = go (eqb x u) (count-filter u xs)
+  where
+    go : (b : Bool) → length (filter (λ v. eqb v u) xs) ≡ count u xs → length (cond b (x ∷ filter (λ v. eqb v u) xs) (filter (λ v. eqb v u) xs)) ≡ cond b 1 0 + count u xs
+    go true e = omega (arith, e)
+    go false e = omega (arith, e)
+
+-- a list with each number that passes the test once, and no other, has each as often as the numbers that pass
+as-often : (n : ℕ) (p : ℕ → Bool) (xs : List ℕ) → ((u : ℕ) → count u xs ≡ cond (p u) 1 0) → ((u : ℕ) → p u ≡ true → (1 ≤ u) × (u ≤ n)) → AreSameSessions xs (filter p (range_with_len 1 n))
+as-often n p xs told within u =
+    count-filter u xs ∙ (told u ∙ (go (p u) refl ∙ (sym (count-kept u p (range_with_len 1 n)) ∙ sym (count-filter u (filter p (range_with_len 1 n))))))
+  where
+    go : (b : Bool) → p u ≡ b → cond {A = ℕ} b 1 0 ≡ cond b (count u (range_with_len 1 n)) 0
+    go true e = let w = within u e in sym (count-total u (range_with_len 1 n) ∙ range-once u 1 n w.0 (omega (arith, w.1)))
+    go false e = refl
+
 -- resources
 
 path-flip : (r x : List ℕ) → same_path r x ≡ false → same_path x r ≡ false
@@ -119,16 +168,16 @@ path-flip r x h = elim (same_path_tells x r) [
 total-one : (g : List ℕ → ℕ) (x : List ℕ) (rs : List (List ℕ)) → rise rs ≡ true → ((r : List ℕ) → same_path x r ≡ false → g r ≡ 0) → total g rs ≡ cond (is_among x rs) (g x) 0
 total-one g x [] h zero_else = refl
 total-one g x (r ∷ rs) h zero_else =
-  let parts : (precedes r rs ≡ true) × (rise rs ≡ true) = and_parts (precedes r rs) (rise rs) h in
-  let next : total g rs ≡ cond (is_among x rs) (g x) 0 = total-one g x rs parts.1 zero_else in
-  elim (same_path_tells r x) [
-  | inl e ↦
-    let gone : is_among x rs ≡ false = ap (λ (y : List ℕ). is_among y rs) (sym e.1) ∙ not-behind r rs parts.0 parts.1 in
-    let none_else : total g rs ≡ 0 = next ∙ ap (λ (b : Bool). cond b (g x) 0) gone in
-    let here : g r ≡ g x = ap g e.1 in
-    omega (arith, none_else, here) ∙ sym (ap (λ (b : Bool). cond (b || is_among x rs) (g x) 0) e.0)
-  | inr n ↦ let here : g r ≡ 0 = zero_else r (path-flip r x n) in omega (arith, here, next) ∙ sym (ap (λ (b : Bool). cond (b || is_among x rs) (g x) 0) n)
-]
+    let parts : (precedes r rs ≡ true) × (rise rs ≡ true) = and_parts (precedes r rs) (rise rs) h in
+    let next : total g rs ≡ cond (is_among x rs) (g x) 0 = total-one g x rs parts.1 zero_else in
+    elim (same_path_tells r x) [
+      | inl e ↦
+          let gone : is_among x rs ≡ false = ap (λ (y : List ℕ). is_among y rs) (sym e.1) ∙ not-behind r rs parts.0 parts.1 in
+          let none_else : total g rs ≡ 0 = next ∙ ap (λ (b : Bool). cond b (g x) 0) gone in
+          let here : g r ≡ g x = ap g e.1 in
+          omega (arith, none_else, here) ∙ sym (ap (λ (b : Bool). cond (b || is_among x rs) (g x) 0) e.0)
+      | inr n ↦ let here : g r ≡ 0 = zero_else r (path-flip r x n) in omega (arith, here, next) ∙ sym (ap (λ (b : Bool). cond (b || is_among x rs) (g x) 0) n)
+    ]
 
 rise-resources : (cs : List Claim) → rise (resources_of cs) ≡ true
 rise-resources [] = refl
@@ -274,7 +323,7 @@ module _ (es : List Entry) (s : ℕ) (begun : is_open (state_of es) s ≡ true) 
       go (Some q) e =
           let st = state_of es in
           total-one part q.resource (listed_resources st) (rise-resources (st.table.held ++ st.table.requests))
-              (λ r n. unqueued-none r u (ap (λ (o : Option Claim). has_path r (resource_of_request o)) e ∙ ap (λ (b : Bool). b || false) n))
+          (λ r n. unqueued-none r u (ap (λ (o : Option Claim). has_path r (resource_of_request o)) e ∙ ap (λ (b : Bool). b || false) n))
           ∙ (ap (λ (b : Bool). cond b (part q.resource) 0) (asked-listed st u q e)
           ∙ ap (λ (b : Bool). cond b 1 0) (sym (ended-tells u q e)))
 
@@ -289,3 +338,7 @@ module _ (es : List Entry) (s : ℕ) (begun : is_open (state_of es) s ≡ true) 
   -- the abort ends as many waits as the listing says
   pub as-many : (n : ℕ) → All (IsEntryWithin n) es → length (granted_by_abort s (jammed_behind None (listing_of (state_of es)))) ≡ length (ended_waits n s (state_of es) (step (state_of es) s Abort).state)
   as-many n inner = as-long n (has_ended s (state_of es) (step (state_of es) s Abort).state) (granted_by_abort s (jammed_behind None (listing_of (state_of es)))) told-once (ended-within n inner)
+
+  -- and it ends the waits of the same sessions
+  pub same-sessions : (n : ℕ) → All (IsEntryWithin n) es → AreSameSessions (granted_by_abort s (jammed_behind None (listing_of (state_of es)))) (ended_waits n s (state_of es) (step (state_of es) s Abort).state)
+  same-sessions n inner = as-often n (has_ended s (state_of es) (step (state_of es) s Abort).state) (granted_by_abort s (jammed_behind None (listing_of (state_of es)))) told-once (ended-within n inner)

@@ -1,8 +1,8 @@
 -- The resources of a jam in a listing that is made resource by resource: of each the lines on it.
-use Rattle.std.proofs.Common.{◌≡◌, ℕ, Bool, true, false, cond, not, ◌&&◌, ◌||◌, inl, inr, List, [], ◌∷◌, ◌++◌, map, filter, Option, Some, None, is_some, refl, sym, ◌∙◌, ap}
+use Rattle.std.proofs.Common.{◌≡◌, ℕ, Bool, true, false, cond, not, ◌&&◌, ◌||◌, inl, inr, List, [], ◌∷◌, ◌++◌, map, filter, Option, Some, is_some, refl, sym, ◌∙◌, ap}
 use Rattle.std.specs.Prelude.{find}
 use Rattle.std.specs.List.{flat_map, list_all}
-use Rattle.std.proofs.lemmas.Bool.{and_parts, and_from, cases_Bool}
+use Rattle.std.proofs.lemmas.Bool.{and_parts, and_from}
 use Rattle.std.proofs.lemmas.Grind.{flat_map-append}
 use Rattle.std.proofs.lemmas.List.Folds.{list_all-append}
 use Rattle.std.proofs.lemmas.List.Sums.{take_while-cons}
@@ -17,8 +17,8 @@ use Rattle.lock_rules.specs.Listing.{listed_as, listed_on}
 use Rattle.lock_rules.proofs.Lists.{same_path-refl, same_path-true, same_path_tells}
 use Rattle.lock_rules.proofs.ResourceOrder.{contrary, is_among, not-behind, precedes, rise}
 use Rattle.lock_report.specs.Claims.{is_last}
-use Rattle.lock_report.specs.LocksDot.{begins_queue, claims_on, has_request}
-use Rattle.dump_report.specs.Blockers.{is_request, requests_among}
+use Rattle.lock_report.specs.LocksDot.{claims_on, has_request}
+use Rattle.dump_report.specs.Blockers.{is_request}
 use Rattle.dump_report.specs.Jam.{claims_but, granted_by_abort, granted_of, granted_on, is_holder, jammed_at, jammed_behind, locks_among}
 
 -- the claims are all on the resource

@@ -1,8 +1,7 @@
 -- What an abort grants on the lines of one resource is what a promotion grants on its holders and its queue.
-use Rattle.std.proofs.Common.{◌≡◌, ℕ, ◌+◌, ◌≤◌, ◌<◌, Bool, true, false, cond, not, eqb, ltb, ◌&&◌, ◌||◌, inl, inr, List, [], ◌∷◌, ◌++◌, map, filter, Option, Some, None, is_some, refl, sym, ◌∙◌, ap, subst, arith}
-use Rattle.std.specs.List.{flat_map, list_all, list_any}
-use Rattle.std.proofs.Math.Bool.{or-false as or-nothing}
-use Rattle.std.proofs.lemmas.Bool.{and_parts, and_from, cases_Bool}
+use Rattle.std.proofs.Common.{◌≡◌, ℕ, ◌+◌, ◌≤◌, ◌<◌, Bool, true, false, cond, not, eqb, ltb, ◌&&◌, ◌||◌, inl, inr, List, [], ◌∷◌, ◌++◌, map, filter, refl, sym, ◌∙◌, ap, arith}
+use Rattle.std.specs.List.{list_all}
+use Rattle.std.proofs.lemmas.Bool.{and_parts}
 use Rattle.std.proofs.lemmas.Bool.Decides.{nat_tests}
 use Rattle.std.proofs.lemmas.List.{map-append}
 use Rattle.std.proofs.lemmas.List.Elements.{filter-append}
@@ -12,7 +11,7 @@ use Rattle.lock_modes.specs.Compatibility.{are_compatible}
 use Rattle.lock_rules.specs.declared.listing.Claim.{Claim as ListedClaim}
 use Rattle.lock_rules.specs.declared.listing.ClaimKind.{ClaimKind}
 use Rattle.lock_rules.specs.declared.listing.ClaimKind.TheVariants.{Held, Conversion, Fresh}
-use Rattle.lock_rules.specs.State.{Claim, State, held_mode, holders}
+use Rattle.lock_rules.specs.State.{Claim, State, holders}
 use Rattle.lock_rules.specs.Queue.{conversions, fresh_requests, queue}
 use Rattle.lock_rules.specs.Listing.{listed_as, listed_on}
 use Rattle.lock_rules.specs.Sound.{after, IsSound}
@@ -24,7 +23,7 @@ use Rattle.lock_holders.proofs.Rising.{ascends-with, ascends-without}
 use Rattle.lock_desk.specs.inner.Cells.{view_after_grants}
 use Rattle.lock_desk.specs.inner.Shows.{claims_on, short}
 use Rattle.lock_desk.proofs.AfterStep.{ascends-seen}
-use Rattle.lock_desk.proofs.TableViews.{held-seen, pairs-seen}
+use Rattle.lock_desk.proofs.TableViews.{pairs-seen}
 use Rattle.dump_report.specs.Blockers.{is_request, requests_among}
 use Rattle.dump_report.specs.Jam.{claims_but, fits_beside, granted_of, granted_on, is_holder, locks_among}
 
@@ -244,5 +243,5 @@ lines-granted st s r sound =
     let lines : locks_among (listed_on st r) ≡ map (lock_line st r) (map pair_of hs) = locks-on st r ∙ ap (map (lock_line st r)) (sym (pairs-seen r st.table.held)) in
     (λ i. cond (is_holder s (lines i)) (granted_of (claims_but s (lines i)) (requests_among (listed_on st r))) [])
     ∙ ((λ i. cond (holder-seen st r s hs i)
-        (granted-alike (requests_among (listed_on st r)) (claims_but s (map (lock_line st r) (map pair_of hs))) (without s hs) (others-alike st r s hs) (ascends-without s hs (ascends-seen st.table sound r)) i) [])
+    (granted-alike (requests_among (listed_on st r)) (claims_but s (map (lock_line st r) (map pair_of hs))) (without s hs) (others-alike st r s hs) (ascends-without s hs (ascends-seen st.table sound r)) i) [])
     ∙ ap (λ (qs : List SessionMode). cond (has_session s hs) (grants (without s hs) qs) []) (brief-queue st r))

@@ -1,13 +1,14 @@
 //! Laws on what a listing of the lock table tells.
 
-ghost use Rattle.std.specs.Prelude.{ℕ, List, All};
+ghost use Rattle.std.specs.Prelude.{ℕ, List};
 ghost use Rattle.lock_rules.specs.Entries.{Entry as EntryValue};
-ghost use Rattle.sequential.specs.Histories.{IsEntryWithin};
-ghost use Rattle.lock_laws.specs.Listing.{DoesAbortGrantAsListed};
+ghost use Rattle.lock_laws.specs.Listing.{CanGrant, AreAsManyListed, AreTheSameListed};
 
-/// The listing of a state tells how many requests the abort of a session would grant. In every state that calls of sessions 1 to n lead
-/// to, and for every session that has a transaction and doesn't wait, as the root of a jam does not, that many waits end when
-/// the session aborts.
+/// From the listing of a state, the requests are found that the abort of a session would grant: on each resource that it holds, the
+/// front of the queue that fits once its lock is gone. In every state that calls of sessions 1 to n lead to, and for every session
+/// that has a transaction and doesn't wait, as the root of a jam does not, they are as many as the waits that end when the
+/// session aborts (`many`). They are of the sessions whose waits end, each of them once (`same`).
 pub fn aborts_grant_what_the_listing_says()
-    ensures { (n : ℕ) (history : List EntryValue) → All (IsEntryWithin n) history → DoesAbortGrantAsListed n history }
+    ensures many { (n : ℕ) (history : List EntryValue) (s : ℕ) → CanGrant n history s → AreAsManyListed n history s }
+    ensures same { (n : ℕ) (history : List EntryValue) (s : ℕ) → CanGrant n history s → AreTheSameListed n history s }
 {}
