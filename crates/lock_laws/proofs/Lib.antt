@@ -12,3 +12,6 @@ pub mod TryTests
 pub mod InOrder
 pub mod GrantOrder
 pub mod Worked
+pub mod JamLines
+pub mod LinesGranted
+pub mod AbortGrants

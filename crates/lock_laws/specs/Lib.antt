@@ -5,4 +5,5 @@ pub mod Cycles
 pub mod Tries
 pub mod Retries
 pub mod Grants
+pub mod Listing
 pub mod Examples

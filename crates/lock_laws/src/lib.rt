@@ -13,11 +13,14 @@
 //!
 //! `retries.rt`: a transaction that is retried by restarts alone grows old, and the oldest is nobody's victim (`Retries.antt`).
 //!
+//! `listing_laws.rt`: an abort grants as many requests as the listing of the state says (`Listing.antt`).
+//!
 //! `Examples.antt` has histories worked by hand. There is no code.
 #![tactic(auto)]
 
 pub mod cycles;
 pub mod ends;
 pub mod grants;
+pub mod listing_laws;
 pub mod retries;
 pub mod tries;
