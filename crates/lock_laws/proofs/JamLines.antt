@@ -1,5 +1,5 @@
 -- The resources of a jam in a listing that is made resource by resource: of each the lines on it.
-use Rattle.std.proofs.Common.{◌≡◌, ℕ, Bool, true, false, cond, not, ◌&&◌, ◌||◌, inl, inr, List, [], ◌∷◌, ◌++◌, map, filter, Option, Some, is_some, refl, sym, ◌∙◌, ap}
+use Rattle.std.proofs.Common.{◌≡◌, ℕ, Bool, true, false, cond, not, ◌&&◌, ◌||◌, inl, inr, List, [], ◌∷◌, ◌++◌, map, filter, Option, Some, is_some, refl, sym, ◌∙◌, ap, append-nil}
 use Rattle.std.specs.Prelude.{find}
 use Rattle.std.specs.List.{flat_map, list_all}
 use Rattle.std.proofs.lemmas.Bool.{and_parts, and_from}
@@ -109,16 +109,12 @@ unasked-none s cs h =
     both true = refl
     both false = refl
 
-append-none : {X : Type 0} (xs : List X) → xs ++ [] ≡ xs
-append-none [] = refl
-append-none (x ∷ xs) = ap (λ (l : List _). x ∷ l) (append-none xs)
-
 -- so resources that nobody waits for may be left in
 asked-only : (s : ℕ) (cs : List ListedClaim) → flat_map (granted_on s) (cond (has_request cs) (cs ∷ []) []) ≡ granted_on s cs
 asked-only s cs = go (has_request cs) refl
   where
     go : (b : Bool) → has_request cs ≡ b → flat_map (granted_on s) (cond b (cs ∷ []) []) ≡ granted_on s cs
-    go true e = append-none (granted_on s cs)
+    go true e = append-nil (granted_on s cs)
     go false e = sym (unasked-none s cs e)
 
 module _ (lines : List ℕ → List ListedClaim) (on : (r : List ℕ) → are_on r (lines r) ≡ true) where

@@ -1,5 +1,5 @@
 -- What an abort grants on the lines of one resource is what a promotion grants on its holders and its queue.
-use Rattle.std.proofs.Common.{◌≡◌, ℕ, ◌+◌, ◌≤◌, ◌<◌, Bool, true, false, cond, not, eqb, ltb, ◌&&◌, ◌||◌, inl, inr, List, [], ◌∷◌, ◌++◌, map, filter, refl, sym, ◌∙◌, ap, arith}
+use Rattle.std.proofs.Common.{◌≡◌, ℕ, ◌+◌, ◌≤◌, ◌<◌, Bool, true, false, cond, not, eqb, ltb, ◌&&◌, ◌||◌, inl, inr, List, [], ◌∷◌, ◌++◌, map, filter, refl, sym, ◌∙◌, ap, arith, append-nil}
 use Rattle.std.specs.List.{list_all}
 use Rattle.std.proofs.lemmas.Bool.{and_parts}
 use Rattle.std.proofs.lemmas.Bool.Decides.{nat_tests}
@@ -186,10 +186,6 @@ fresh-no-lock : (st : State) (qs : List Claim) → filter (λ (c : ListedClaim).
 fresh-no-lock st [] = refl
 fresh-no-lock st (q ∷ qs) = fresh-no-lock st qs
 
-append-none : {X : Type 0} (xs : List X) → xs ++ [] ≡ xs
-append-none [] = refl
-append-none (x ∷ xs) = ap (λ (l : List _). x ∷ l) (append-none xs)
-
 locks-on : (st : State) (r : List ℕ) → locks_among (listed_on st r) ≡ map (lock_line st r) (holders r st.table.held)
 locks-on st r =
     let p = λ (c : ListedClaim). not (is_request c) in
@@ -198,7 +194,7 @@ locks-on st r =
     let fresh = map (listed_as st Fresh) (fresh_requests st.table r) in
     filter-append p (held ++ converting) fresh
     ∙ ((λ i. (filter-append p held converting ∙ (λ j. locks-all st r (holders r st.table.held) j ++ conversions-no-lock st (conversions st.table r) j)) i ++ fresh-no-lock st (fresh_requests st.table r) i)
-    ∙ (append-none (held ++ []) ∙ append-none held))
+    ∙ (append-nil (held ++ []) ∙ append-nil held))
 
 requests-on : (st : State) (r : List ℕ) → requests_among (listed_on st r) ≡ map (listed_as st Conversion) (conversions st.table r) ++ map (listed_as st Fresh) (fresh_requests st.table r)
 requests-on st r =
