@@ -22,8 +22,9 @@ pub fn words_ask_for_one_thing()
     ensures replay_or_help { (words : List Text) (n : ℕ) → AskReplay words n → ¬ AskHelp words }
 {}
 
-/// A command line of each kind with what it asks for. If the number of sessions is left out, it is 256; if the number of tries is, it
-/// is the greatest. Refused command lines are tested on the program (`checks/program-tables`).
+/// Eight command lines, of `replay`, `run`, `check`, `show`, `explain` and `timeline`, with what each asks for. If the number of sessions
+/// is left out, it is 256; if the number of tries is, it is the greatest. Others, also refused ones, are tested on the program
+/// (`checks/program-tables`).
 pub fn words_ask_as_documented()
     ensures left_out { AskReplay (codes "glm" ∷ codes "replay" ∷ []) 256 }
     ensures apart { AskReplay (codes "glm" ∷ codes "replay" ∷ codes "--sessions" ∷ codes "7" ∷ []) 7 }

@@ -36,8 +36,8 @@ pub record HasEndedWait (s : BoardState) (since u k index : ℕ) : Type 0 where
   pub stands : get_elem? (history_of s) (slice_index places index) ≡ opt.some entry
   pub ended : ends_wait (take (slice_index places index) (history_of s)) entry u
 
--- Nobody who waits is forgotten. The calls of session k have told of the waits that ended at the first `told k` places that k has
--- entered. Session u was told at place `since` to wait, and has made no call from then on.
+-- Nobody who waits is forgotten: who waits has a waiting request, or some session entered what ended its wait; `told` only splits cases.
+-- Session u was told at place `since` to wait, and has made no call from then on.
 pub data IsNotForgotten (s : BoardState) (told : ℕ → ℕ) (since u : ℕ) : Type 0 where
   -- it has a waiting request
   waits : HasRequest (state_of (history_of s)) u → IsNotForgotten s told since u

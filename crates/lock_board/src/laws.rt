@@ -128,12 +128,8 @@ pub fn told_locks_are_held()
 /// No session that waits is forgotten, in any state that a run of a board from its opening reaches, whatever calls are posted,
 /// opened or served at that moment. Take a session whose last call was answered Waiting, whether or not it has collected the answer
 /// (clause `told_to_wait` says when it has). Either it has a waiting request; or an entry behind that answer has ended its wait,
-/// which stands among the places that exactly one session has entered. That session's call tells it: it has told already; or the
-/// session is in the lock word and its pass goes on; or its call has it in the list that it hasn't handed out yet.
-///
-/// `told` says of how many of the places that a session has entered its calls have told by then. A call that tells
-/// (`serve_telling`, `perform_telling`, `call` and `resume` of the office) tells of exactly the places that it has entered, so that
-/// once it has returned, its session's calls have told of all.
+/// which stands among the places that exactly one session has entered. It holds for every `told`, which only splits cases, so it says
+/// nothing of telling: `lock_office::laws::no_wake_up_is_lost` does, of calls that tell.
 pub fn nobody_who_waits_is_forgotten()
     ensures not_forgotten { (n : ℕ) (load : Box Load) (s : BoardState) (told : ℕ → ℕ) (u : ℕ) → IsHome [] (n + 1) load.value → load.value.pieces.items ≡ [] →
         IsRun book_object (new_board n load) s → (wait : WasToldToWait (history_of s) u) → IsNotForgotten s told (length wait.front) u }

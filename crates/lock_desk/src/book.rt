@@ -156,9 +156,10 @@ impl Book {
     /// The whole history is legal. The state between any two calls is lawful: no two sessions ever have incompatible
     /// access to a resource, neither by a lock on the resource nor by a lock on an ancestor, and no request waits
     /// that is first in its queue and fits. A session keeps at least the mode that it was granted until it releases
-    /// the lock or its transaction ends. A victim stays doomed until it aborts. A request waits until it is granted,
-    /// its session becomes a victim, or it aborts. Which modes are compatible, and what a lock gives below its
-    /// resource, is from Gray, Lorie, Putzolu and Traiger (1976), except for U, which is this project's own.
+    /// the lock or restarts, or its transaction ends. A victim stays doomed until it aborts or restarts. A request
+    /// waits until it is granted, its session becomes a victim, or it withdraws, restarts or aborts. Which modes are
+    /// compatible, and what a lock gives below its resource, is from Gray, Lorie, Putzolu and Traiger (1976), except
+    /// for U, which is this project's own.
     pub fn history(&self) -> &[Entry]
         ensures history { result.now ≡ kept_by self.now }
         ensures all { self.now.cut ≡ 0 → self.now.bound ≡ NO_BOUND → result.now ≡ self.now.history }

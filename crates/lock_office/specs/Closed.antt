@@ -30,8 +30,8 @@ pub record IsOneHistoryOf {T : Type 0} (number : T → ℕ) (collected : T → L
   pub circles : (front rest : List Entry) → history ≡ front ++ rest → HasNoCircle (state_of front)
   -- every state on the way obeys all other laws of states
   pub lawful : (front rest : List Entry) → history ≡ front ++ rest → IsLawfulState (state_of front)
-  -- a grant lasts until it is given back, a doom until its session aborts, and a request until it is granted, its
-  -- session becomes a victim, or its session aborts
+  -- a grant lasts until it is given back, a doom until its session aborts or restarts, and a request until it is granted, its session
+  -- becomes a victim, aborts or restarts, or takes it back
   pub grants : (front later rest : List Entry) → history ≡ front ++ later ++ rest → DoesGrantStand front later
   pub dooms : (front later rest : List Entry) → history ≡ front ++ later ++ rest → DoesDoomStand front later
   pub requests : (front later rest : List Entry) → history ≡ front ++ later ++ rest → DoesRequestStand front later

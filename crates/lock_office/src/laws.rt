@@ -49,7 +49,7 @@ pub fn told_locks_go_together()
 /// `call`, `resume`) tells each session whose wait ended at a place that the call's passes have entered: also one whose request came to
 /// wait in the same pass, and also if memory was refused. A told session that has made no call since its wait ended learns by its next
 /// poll how it has ended: `Clear` or `Deadlock`, whatever others call in between. `lock_board::laws::nobody_who_waits_is_forgotten` says
-/// of every state of the board whose call tells a session.
+/// of every state that a wait which has ended was ended at a place that a session has entered.
 pub fn no_wake_up_is_lost()
     ensures { (sessions : ℕ) (history : List Entry) (places list : List ℕ) → AreToldBy sessions history places list → AreWakesTold sessions history places list }
 {

@@ -19,9 +19,9 @@ pub record IsToldBy (history : List ProgramEntry) (program : ProgramEntry) : Typ
   pub placed : IsPlaced program_form history program
   -- the program goes on behind each reply but the last
   pub goes_on : GoesOnBehind program_form program
-  -- if calls are left, it stopped at its last reply, or memory was refused to the next call
+  -- if calls are left, it stopped at its last reply, or the answer says that memory was refused to the next call
   pub stops : StopsAtCause program_form program
-  -- if memory was refused, calls are left
+  -- if the answer says that memory was refused, calls are left
   pub cut : IsCut program_form program
 
 -- One sequential history of these sessions, in which each session finds its programs, and each call of these.

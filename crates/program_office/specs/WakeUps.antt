@@ -24,8 +24,8 @@ pub record HasEndedWait (s : BoardState) (since u k index : ℕ) : Type 0 where
   pub stands : get_elem? (flat_history (history_of s)) place ≡ opt.some entry
   pub ended : ends_wait (take place (flat_history (history_of s))) entry u
 
--- Nobody who waits is forgotten. The calls of session k have told of the waits that ended in the programs at the first `told k` places that
--- k has entered. Session u was told at place `since` of the history of calls to wait, and has made no call from then on.
+-- Nobody who waits is forgotten: who waits has a waiting request, or some session entered the program that ended its wait; `told` only
+-- splits cases. Session u was told at place `since` of the history of calls to wait, and has made no call from then on.
 pub data IsNotForgotten (s : BoardState) (told : ℕ → ℕ) (since u : ℕ) : Type 0 where
   -- it has a waiting request
   waits : HasRequest (state_of (flat_history (history_of s))) u → IsNotForgotten s told since u

@@ -119,9 +119,8 @@ pub fn no_wake_up_is_lost()
 /// No session that waits is forgotten, in any state that a run of a board from its opening reaches, whatever programs are published,
 /// opened or served at that moment. Take a session whose last call was answered Waiting, whether or not it has collected the answer
 /// (clause `told_to_wait` says when it has). Either it has a waiting request; or a call behind that answer has ended its wait, of a
-/// program that stands among the places that exactly one session has entered. That session's call tells it, as
-/// `lock_board::laws::nobody_who_waits_is_forgotten` says: it has told already; or the session is in the lock word and its pass goes on;
-/// or its call has it in the list that it hasn't handed out yet.
+/// program that stands among the places that exactly one session has entered. It holds for every `told`, which only splits cases, so it
+/// says nothing of telling: `no_wake_up_is_lost` does, of calls that tell.
 pub fn nobody_who_waits_is_forgotten()
     ensures not_forgotten { (n : ℕ) (load : Box Load) (s : BoardState) (told : ℕ → ℕ) (u : ℕ) → IsHome [] (n + 1) load.value → load.value.pieces.items ≡ [] →
         IsRun (new_board n load) s → (wait : WasToldToWait (flat_history (history_of s)) u) → IsNotForgotten s told (length wait.front) u }
@@ -156,7 +155,8 @@ pub fn single_calls_stand_where_told()
 
 /// A path of locks is one program. `path_program` has the calls of the rest of a path, one for each level (`rest_of_path`). As many
 /// levels of the rest are locked as locks were granted (`levels_granted`): those, from the uppermost on, have a reply that grants them,
-/// and behind them the path is locked, or the next reply grants nothing and is the last, or memory was refused.
+/// and behind them the path is locked, or the next reply grants nothing and is the last, or the answer
+/// says that memory was refused.
 pub fn paths_are_programs()
     ensures { (history : List ProgramEntry) (place : ℕ) (program : ProgramEntry) (resource : List ℕ) (mode : Mode) (locked : ℕ) → IsLegal history →
         slice_get history place ≡ Some program → calls_of program.call ≡ rest_of_path resource mode locked →

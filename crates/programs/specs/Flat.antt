@@ -36,7 +36,7 @@ module _ {P A C R : Type 0} (form : Form P A C R) where
   flat_calls (a ∷ rest) = answers_from (form.first a.reply) (form.calls a.call) (form.replies a.call a.reply) ++ flat_calls rest
 
   -- These replies are those to a program of these calls: it goes on behind each but the last, and ends behind the last call,
-  -- behind a reply at which it stops, or where memory was refused.
+  -- behind a reply at which it stops, or if the answer says that memory was refused.
   abbrev pub IsRun : List C → List R → Bool → Type 0
   IsRun [] [] refused = refused ≡ false
   IsRun [] (r ∷ rs) refused = ⊥

@@ -24,8 +24,8 @@ pub fn programs_stand_side_by_side<O: Programmed>()
     ensures placed { (h : List (EntryValue O.Program O.Answer)) (i : ℕ) (e : EntryValue O.Program O.Answer) → IsLegal O.form O.is_legal h → slice_get h i ≡ Some e → IsPlaced O.form h e }
 {}
 
-/// A program never goes on behind a reply at which the object stops. It stops before its end only at such a reply, or where
-/// memory was refused, which the answer tells.
+/// A program never goes on behind a reply at which the object stops. It stops before its end only at such a reply, or if the answer
+/// says that memory was refused.
 pub fn programs_stop_at_a_cause<O: Programmed>()
     ensures goes_on { (h : List (EntryValue O.Program O.Answer)) (i : ℕ) (e : EntryValue O.Program O.Answer) → IsLegal O.form O.is_legal h → slice_get h i ≡ Some e → GoesOnBehind O.form e }
     ensures stops { (h : List (EntryValue O.Program O.Answer)) (i : ℕ) (e : EntryValue O.Program O.Answer) → IsLegal O.form O.is_legal h → slice_get h i ≡ Some e → StopsAtCause O.form e }
@@ -38,8 +38,8 @@ pub fn sessions_make_the_calls_of_their_programs<O: Programmed>()
 {}
 
 /// Of two legal answers to a program at one place, the first calls have one place, and the replies agree pair by pair: up to the
-/// first pair that differs, and up to where memory was refused to one of the two. If only equal replies of the object agree, the
-/// replies are the same up to where memory was refused.
+/// first pair that differs, and up to where one of the two says that memory was refused. If only equal replies of the object agree,
+/// the replies are the same up to there.
 pub fn programs_are_determined<O: Programmed>()
     ensures first { (h : List (EntryValue O.Program O.Answer)) (s : ℕ) (p : O.Program) (a b : O.Answer) → IsLegal O.form O.is_legal (h ++ entry s p a ∷ []) → IsLegal O.form O.is_legal (h ++ entry s p b ∷ [])
         → (O.form).first a ≡ (O.form).first b }

@@ -15,9 +15,9 @@ ghost use Rattle.publication.specs.declared.view.View.{View};
 
 use sequential::Sequential;
 
-/// No session sleeps for ever because a wake-up was lost. At every instant, a session that has begun a sleep and has seen the lock word
-/// held since is heeded (`IsHeeded`). If then nobody has the object, and no seat has a look or a wake-up to make, the wake-up for this very
-/// sleep was made. That it reaches the thread is the system's, and that who has the object releases it is the caller's.
+/// What the rule notes of sleeps. At every instant, a session that has begun a sleep and has seen the lock word held since is heeded
+/// (`IsHeeded`). If then nobody has the object, and no seat has a look or a wake-up to make, a wake-up for this very sleep is noted as
+/// made. That it was made, or is left to the caller (`rouse_sleepers`), and that it reaches the thread, is said by no contract.
 pub fn no_wake_up_is_lost<O: Sequential>()
     ensures heeded { (bound : Bounds) (s : BoardState O O.Call O.Reply) (j : ℕ) (v : View O.Call O.Reply) →
         IsBounded O.Sequential bound s → get_elem? s.views j ≡ opt.some v → v.sleep.down ≡ true → v.sleep.saw ≡ true → IsHeeded s j v.sleep }

@@ -3,8 +3,8 @@
 //! A session makes the turns of its call as `combining::turn` makes them. It tries for the object and looks at its own record so often;
 //! then its thread sleeps until its call is served, or the object is free. Whoever had the object wakes it (`Office::wake_sleepers`).
 //!
-//! Proved: what `combining::call` says of a call and its answer. That no wake-up is lost is `publication::sleep_laws`. Not claimed: that a
-//! wake-up reaches a thread, or that a session that has the object gives it back; so no call is proved to be short.
+//! Proved: what `combining::call` says of a call and its answer. What the rule notes of sleeps is in `publication::sleep_laws`; that a
+//! thread is woken is tested. Not claimed: that a session that has the object gives it back; so no call is proved to be short.
 #![tactic(auto)]
 
 ghost use Rattle.std.specs.Prelude.{◌≡◌, ◌≢◌, ◌+◌, ◌<◌, ◌≤◌, true, false, [], None};

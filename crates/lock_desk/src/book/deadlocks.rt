@@ -41,8 +41,8 @@ impl Book {
         self.notes.log.told()
     }
 
-    /// Replaces the contents of `list` by copies of the deadlocks that `deadlocks` tells. Fails with `NoMemory` if memory is refused; the
-    /// contents of `list` are unchanged then.
+    /// Replaces the contents of `list` by copies of the deadlocks that `deadlocks` tells. (Its clause is met by another cycle through the
+    /// same victim, too.) Fails with `NoMemory` if memory is refused; the contents of `list` are unchanged then.
     pub fn copy_deadlocks(&self, alloc: Global, list: &mut Vec<Deadlock>) -> Result<(), NoMemory>
         ensures ok { OnOk result (AreDeadlocksTold (newest self.now.deadlocks (deadlocks_in self.now.history)) list.new.items) }
         ensures err { OnErr result (list.new.items ≡ list.old.items) }

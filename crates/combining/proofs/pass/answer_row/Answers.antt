@@ -1,10 +1,11 @@
-use Rattle.std.proofs.Common.{◌≤◌, ◌∙◌, Option, None, List, [], ◌∷◌, ◌++◌, length, take, refl, sym, ap, subst, arith, length-append, length-set}
+use Rattle.std.proofs.Common.{◌≡◌, ◌≤◌, ◌∙◌, Option, None, List, [], ◌∷◌, ◌++◌, length, take, drop, refl, sym, ap, subst, arith, length-append, length-set}
 use Rattle.std.proofs.Math.ListN.{drop_of_length-le}
+use Rattle.std.proofs.lemmas.List.{length-take-le}
 use Rattle.sequential.specs.declared.entry.Item.{Item}
 use Rattle.publication.specs.Views.{TicketView, entry}
 use Rattle.publication.specs.Boards.{asked_at}
 use Rattle.publication.proofs.Lists.{prefix_trans}
-use Rattle.combining.specs.inner.Passes.{IsObjectInHand}
+use Rattle.combining.specs.inner.Passes.{AreOpened, HasAnswered, IsObjectInHand}
 use Rattle.combining.proofs.CallsToServe.{answered, keeps-trans}
 use Rattle.combining.proofs.PerformedCalls.{answerable-at, answered-at, all-entered}
 use Rattle.combining.proofs.SameSession.{one-answered}
@@ -51,3 +52,24 @@ returns-clause-whose g c =
     let all : length row ≤ c.loop-item.item-index = omega arith in
     let done = subst (λ (l : List (Item _ _)). IsObjectInHand g.O.Sequential n c.args.object.now c.loop-item.session l) (drop_of_length-le row all) c.loop-item.invariant.object in
     all-entered n c.args.object.now c.args.session.now c.loop-item.session row c.requires.object done
+
+pub returns-clause-session : goal.returns-clause-session
+returns-clause-session g c =
+    let all : c.loop-item.item-index ≡ c.args.served = omega (arith, length-take-le c.args.served c.args.row.now c.requires.served, c.loop-item.auto.item-index-end, c.loop-item-test.false) in
+    subst (λ k. HasAnswered c.args.session.now c.loop-item.session k) all c.loop-item.invariant.same
+
+pub returns-clause-object : goal.returns-clause-object
+returns-clause-object g c =
+    subst (λ (l : List (Item _ _)). IsObjectInHand g.O.Sequential c.args.board.now.sessions c.args.object.now c.loop-item.session l)
+        (drop_of_length-le (take c.args.served c.args.row.now) c.loop-item-test.false) c.loop-item.invariant.object
+
+pub returns-clause-row : goal.returns-clause-row
+returns-clause-row g c =
+    let all : c.loop-item.item-index ≡ c.args.served = omega (arith, length-take-le c.args.served c.args.row.now c.requires.served, c.loop-item.auto.item-index-end, c.loop-item-test.false) in
+    subst (λ k. AreOpened c.args.board.now.sessions c.loop-item.session.opened (drop k c.args.row.now)) all c.loop-item.invariant.row
+
+pub returns-clause-longer : goal.returns-clause-longer
+returns-clause-longer g c = c.loop-item.invariant.longer
+
+pub returns-clause-calls : goal.returns-clause-calls
+returns-clause-calls g c = c.loop-item.invariant.calls
