@@ -59,9 +59,7 @@ returns-clause-session g c =
     subst (λ k. HasAnswered c.args.session.now c.loop-item.session k) all c.loop-item.invariant.same
 
 pub returns-clause-object : goal.returns-clause-object
-returns-clause-object g c =
-    subst (λ (l : List (Item _ _)). IsObjectInHand g.O.Sequential c.args.board.now.sessions c.args.object.now c.loop-item.session l)
-        (drop_of_length-le (take c.args.served c.args.row.now) c.loop-item-test.false) c.loop-item.invariant.object
+returns-clause-object g c = subst (λ (l : List (Item _ _)). IsObjectInHand g.O.Sequential c.args.board.now.sessions c.args.object.now c.loop-item.session l) (drop_of_length-le (take c.args.served c.args.row.now) c.loop-item-test.false) c.loop-item.invariant.object
 
 pub returns-clause-row : goal.returns-clause-row
 returns-clause-row g c =
@@ -70,6 +68,5 @@ returns-clause-row g c =
 
 pub returns-clause-longer : goal.returns-clause-longer
 returns-clause-longer g c = c.loop-item.invariant.longer
-
 pub returns-clause-calls : goal.returns-clause-calls
 returns-clause-calls g c = c.loop-item.invariant.calls
