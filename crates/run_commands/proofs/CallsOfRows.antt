@@ -6,7 +6,6 @@ use Rattle.std.proofs.lemmas.List.Sums.{sum_by_push}
 use Rattle.std.proofs.lemmas.List.Elements.{All-head, All-tail}
 use Rattle.lock_rules.specs.declared.calls.Call.{Call}
 use Rattle.lock_trace.specs.declared.trace_row.TraceRow.{TraceRow}
-use Rattle.lock_trace.specs.Rows.{IsRow}
 use Rattle.run_commands.specs.Calls.{calls_of_rows}
 
 -- a row in front adds its call to the calls of its own session
@@ -76,11 +75,22 @@ calls_to-within row rows (suc n) some few = go (calls_to-within row rows n some)
         let one = calls_to-suc (row ∷ rows) n in let other = calls_to-suc rows n in
         omega (arith, before, here, one, other)
 
+-- rows of which each session has the same calls have the same total
+pub calls_to-same : (xs ys : List TraceRow) → ((i : ℕ) → calls_of_rows i xs ≡ calls_of_rows i ys) → (n : ℕ) → calls_to xs n ≡ calls_to ys n
+calls_to-same xs ys same zero = refl
+calls_to-same xs ys same (suc n) =
+    calls_to-suc xs n ∙ ap (λ k. k + length (calls_of_rows (suc n) xs)) (calls_to-same xs ys same n)
+    ∙ ap (λ (cs : List Call). calls_to ys n + length cs) (same (suc n)) ∙ sym (calls_to-suc ys n)
+
+-- the row is of a session from 1 to n
+abbrev pub IsNumbered : ℕ → TraceRow → Type 0
+IsNumbered n row = (0 < row.session) × (row.session ≤ n)
+
 -- rows of sessions 1 to n have as many calls as rows
-pub calls_to-all : (rows : List TraceRow) (n : ℕ) → All (IsRow n) rows → calls_to rows n ≡ length rows
+pub calls_to-all : (rows : List TraceRow) (n : ℕ) → All (IsNumbered n) rows → calls_to rows n ≡ length rows
 calls_to-all [] n within = calls_to-nil n
 calls_to-all (row ∷ rows) n within =
-    let is : IsRow n row = All-head (λ (r : TraceRow). IsRow n r) row rows within in
-    let rest : calls_to rows n ≡ length rows = calls_to-all rows n (All-tail (λ (r : TraceRow). IsRow n r) row rows within) in
-    let this : calls_to (row ∷ rows) n ≡ calls_to rows n + 1 = calls_to-within row rows n is.first is.last in
+    let is = All-head (IsNumbered n) row rows within in
+    let rest : calls_to rows n ≡ length rows = calls_to-all rows n (All-tail (IsNumbered n) row rows within) in
+    let this : calls_to (row ∷ rows) n ≡ calls_to rows n + 1 = calls_to-within row rows n is.0 is.1 in
     omega (arith, rest, this)

@@ -1,14 +1,16 @@
 -- From the calls of a session to the sessions that performed their rows.
 use Rattle.std.proofs.Common.{ap, sym, refl, ◌≡◌, ◌∙◌, ℕ, List, [], None, Some, Option, option_map, false}
 use Rattle.publication.specs.Views.{BoardView}
-use Rattle.lock_board.specs.LockBoards.{TicketView, Pending}
-use Rattle.lock_office.specs.Sessions.{IsSessionOf}
+use Rattle.lock_rules.specs.declared.calls.Call.{Call}
+use Rattle.lock_programs.specs.Calls.{calls_of}
+use Rattle.program_office.specs.ProgramBoards.{TicketView, Pending}
+use Rattle.program_office.specs.Sessions.{IsSessionOf}
 use Rattle.lock_trace.specs.declared.trace_row.TraceRow.{TraceRow}
-use Rattle.run_commands.specs.Calls.{calls_answered, calls_of_rows}
-use Rattle.run_commands.specs.Workers.{Calls, calls_known, IsNewSession, IsPerformed}
+use Rattle.run_commands.specs.Calls.{calls_collected, calls_of_rows}
+use Rattle.run_commands.specs.Workers.{Calls, calls_known, first_call, IsNewSession, IsPerformed}
 
 -- an option whose image is none is none
-none-of_map : (p : Option Pending) → option_map (λ (q : Pending). q.call) p ≡ None → p ≡ None
+none-of_map : (p : Option Pending) → option_map (λ (q : Pending). first_call (calls_of q.call)) p ≡ None → p ≡ None
 none-of_map None is = refl
 none-of_map (Some q) is = cc
 
@@ -33,5 +35,5 @@ pub performed_none : (office : BoardView) (session : TicketView) (rows : List Tr
 performed_none office session rows new none = record {
   ours = new.ours;
   idle = new.idle;
-  calls = ap calls_answered new.none ∙ sym none;
+  calls = ap calls_collected new.none ∙ sym none;
 }

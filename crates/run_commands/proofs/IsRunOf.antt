@@ -1,26 +1,28 @@
 -- The history of an office that is closed after its sessions performed their rows.
-use Rattle.std.proofs.Common.{arith, ap, sym, refl, subst, inl, inr, ◌≡◌, ◌∙◌, ◌≢◌, ◌<◌, ◌≤◌, ◌+◌, ◌-◌, ◌⊎◌, ℕ, zero, suc, Bool, cond, List, [], ◌∷◌, ◌++◌, length, get_or}
+use Rattle.std.proofs.Common.{arith, ap, sym, refl, subst, inl, inr, ◌≡◌, ◌∙◌, ◌≢◌, ◌<◌, ◌≤◌, ◌+◌, ◌-◌, ◌⊎◌, ℕ, zero, suc, Bool, cond, List, [], ◌∷◌, ◌++◌, length, map, get_or}
 use Rattle.std.proofs.lemmas.List.{length-append, length-map, map-append, get_or_append_left, get_or_at}
-use Rattle.std.specs.List.{All, Any, sum_by}
-use Rattle.std.proofs.lemmas.Bool.{ne_eqb, cases_lt}
-use Rattle.std.proofs.lemmas.List.Sums.{sum_by-cons}
-use Rattle.std.proofs.lemmas.List.Elements.{All-head, All-tail, All-nil, All-push, All-weaker}
-use Rattle.lock_rules.specs.Entries.{Entry, Answered}
+use Rattle.std.specs.List.{All, Any}
+use Rattle.std.proofs.lemmas.Bool.{eq-eqb, ne_eqb, cases_lt, cases_eq}
+use Rattle.std.proofs.lemmas.List.Elements.{All-cons, All-head, All-tail, All-nil, All-push, All-weaker}
+use Rattle.lock_rules.specs.declared.calls.Call.{Call}
+use Rattle.lock_rules.specs.Entries.{Entry}
 use Rattle.sequential.specs.Histories.{calls_from, calls_of, IsEntryWithin}
-use Rattle.lock_desk.specs.BookView.{BookView}
 use Rattle.publication.specs.Views.{BoardView}
-use Rattle.lock_board.specs.LockBoards.{TicketView, new_ticket, new_tickets}
+use Rattle.programs.proofs.Sessions.{calls_of-flat}
+use Rattle.lock_programs.specs.Answers.{program_form}
+use Rattle.program_office.specs.ProgramBoards.{TicketView, ProgramEntry, ProgramsView, IsLegal, flat_history, calls_answered as answers_of_calls, new_tickets}
+use Rattle.program_office.proofs.Flats.{flat-within}
 use Rattle.publication.specs.declared.closing.CloseFault.{CloseFault}
 use Rattle.publication.specs.declared.closing.CloseFault.TheVariants as close
-use Rattle.publication.specs.Boards.{IsEachOnce, AccountsFor}
-use Rattle.lock_office.specs.Sessions.{IsSessionOf, IsIdle, HasNothingPending}
-use Rattle.lock_office.specs.Closed.{IsClosed, answers_of}
+use Rattle.publication.specs.Boards.{IsEachOnce, AccountsFor, new_ticket}
+use Rattle.program_office.specs.Sessions.{IsSessionOf, IsIdle, HasNothingPending}
+use Rattle.program_office.specs.Closed.{IsClosed}
 use Rattle.lock_trace.specs.declared.trace_row.TraceRow.{TraceRow}
 use Rattle.lock_trace.specs.Rows.{IsRow}
 use Rattle.run_commands.specs.Calls.{calls_answered, calls_of_rows}
 use Rattle.run_commands.specs.Runs.{IsRunOf}
 use Rattle.run_commands.specs.Workers.{IsNewSession, IsPerformed, numbers_of}
-use Rattle.run_commands.proofs.CallsOfRows.{calls-none, calls_to-all, numbers_to}
+use Rattle.run_commands.proofs.CallsOfRows.{IsNumbered, calls-none, calls-own, calls-other, calls_to-all, calls_to-same, numbers_to}
 
 -- the first k new sessions have the numbers 1 to k
 numbers-new : (office : BoardView) (n k : ℕ) → numbers_of (new_tickets office.id n k) ≡ numbers_to k
@@ -28,21 +30,21 @@ numbers-new office n zero = refl
 numbers-new office n (suc k) =
     map-append (λ (s : TicketView). s.number) (new_tickets office.id n k) (new_ticket office.id n (suc k) ∷ []) ∙ ap (λ ns. ns ++ suc k ∷ []) (numbers-new office n k)
 
--- new sessions have collected no answer
-nothing-collected : (office : BoardView) (n k : ℕ) → All (λ (s : TicketView). s.collected ≡ []) (new_tickets office.id n k)
-nothing-collected office n zero = All-nil (λ (s : TicketView). s.collected ≡ [])
-nothing-collected office n (suc k) = All-push (λ (s : TicketView). s.collected ≡ []) (new_tickets office.id n k) (new_ticket office.id n (suc k)) (nothing-collected office n k) refl
+-- new sessions have collected no answer and know nothing of the history
+abbrev IsUnused : TicketView → Type 0
+IsUnused s = (s.collected ≡ []) × (s.front ≡ [])
+
+all-unused : (office : BoardView) (n k : ℕ) → All IsUnused (new_tickets office.id n k)
+all-unused office n zero = All-nil IsUnused
+all-unused office n (suc k) = All-push IsUnused (new_tickets office.id n k) (new_ticket office.id n (suc k)) (all-unused office n k) (refl, refl)
 
 -- the sessions of an office that was just opened are new sessions
 pub sessions_new : (office : BoardView) (n : ℕ) (all : List TicketView) → all ≡ new_tickets office.id n n
     → All (λ (s : TicketView). IsSessionOf office s × IsIdle s) all → All (IsNewSession office) all
 sessions_new office n all are ready k d below =
     let is = ready k d below in
-    record {
-      ours = is.0;
-      idle = is.1;
-      none = subst (λ (xs : List TicketView). All (λ (s : TicketView). s.collected ≡ []) xs) (sym are) (nothing-collected office n n) k d below;
-    }
+    let unused = subst (λ (xs : List TicketView). All IsUnused xs) (sym are) (all-unused office n n) k d below in
+    record { ours = is.0; idle = is.1; none = unused.0; unaware = unused.1 }
 
 -- the numbers 1 to n are n
 length-numbers : (n : ℕ) → length (numbers_to n) ≡ n
@@ -88,18 +90,6 @@ nothing_pending office rows all performed = All-weaker (IsPerformed office rows)
 pub all_ours : (office : BoardView) (rows : List TraceRow) (all : List TicketView) → All (IsPerformed office rows) all → All (IsSessionOf office) all
 all_ours office rows all performed = All-weaker (IsPerformed office rows) (IsSessionOf office) (λ s p. p.ours) all performed
 
--- the answers that the sessions collected are as many as their calls in the rows
-answers-numbers : (office : BoardView) (rows : List TraceRow) (all : List TicketView) → All (IsPerformed office rows) all
-    → answers_of all ≡ sum_by (λ i. length (calls_of_rows i rows)) (numbers_of all)
-answers-numbers office rows [] performed = refl
-answers-numbers office rows (s ∷ all) performed =
-    let first : IsPerformed office rows s = All-head (IsPerformed office rows) s all performed in
-    let rest = answers-numbers office rows all (All-tail (IsPerformed office rows) s all performed) in
-    let long : length s.collected ≡ length (calls_of_rows s.number rows) = sym (length-map s.collected (λ (a : Answered). a.call)) ∙ ap length first.calls in
-    sum_by-cons (λ (t : TicketView). length t.collected) s all
-    ∙ ap (λ k. k + answers_of all) long ∙ ap (λ k. length (calls_of_rows s.number rows) + k) rest
-    ∙ sym (sum_by-cons (λ i. length (calls_of_rows i rows)) s.number (numbers_of all))
-
 -- a history without entries of a session has no calls of it
 calls_from-none : (i place : ℕ) (es : List Entry) → All (λ (e : Entry). e.session ≢ i) es → calls_from i place es ≡ []
 calls_from-none i place [] isnt = refl
@@ -109,13 +99,39 @@ calls_from-none i place (e ∷ es) isnt =
     ∙ calls_from-none i (place + 1) es (All-tail (λ (f : Entry). f.session ≢ i) e es isnt)
 
 -- for a session of the office, its calls in the history are its calls in the rows
-calls-of-session : (office : BoardView) (rows : List TraceRow) (all : List TicketView) (history : List Entry) (i : ℕ)
-    → All (IsPerformed office rows) all → All (AccountsFor history) all → Any (λ (s : TicketView). s.number ≡ i) all
-    → calls_answered (calls_of i history) ≡ calls_of_rows i rows
-calls-of-session office rows all history i performed accounts (k, s, below, is, number) =
+calls-of-session : (office : BoardView) (rows : List TraceRow) (all : List TicketView) (h : List ProgramEntry) (i : ℕ) → IsLegal h
+    → All (IsPerformed office rows) all → All (AccountsFor h) all → Any (λ (s : TicketView). s.number ≡ i) all
+    → calls_answered (calls_of i (flat_history h)) ≡ calls_of_rows i rows
+calls-of-session office rows all h i legal performed accounts (k, s, below, is, number) =
     let performs : IsPerformed office rows s = subst (IsPerformed office rows) is (performed k s below) in
-    let accounted : AccountsFor history s = subst (AccountsFor history) is (accounts k s below) in
-    ap (λ n. calls_answered (calls_of n history)) (sym number) ∙ ap calls_answered accounted.calls ∙ performs.calls ∙ ap (λ n. calls_of_rows n rows) number
+    let accounted : AccountsFor h s = subst (AccountsFor h) is (accounts k s below) in
+    ap (λ n. calls_answered (calls_of n (flat_history h))) (sym number) ∙ ap calls_answered (calls_of-flat program_form s.number h legal.1 ∙ ap answers_of_calls accounted.calls)
+    ∙ performs.calls ∙ ap (λ n. calls_of_rows n rows) number
+
+-- the calls of a history as rows, which are as many
+rows-of : List Entry → List TraceRow
+rows-of es = map (λ (e : Entry). record { session = e.session; call = e.call }) es
+
+calls-of-rows : (i place : ℕ) (es : List Entry) → calls_answered (calls_from i place es) ≡ calls_of_rows i (rows-of es)
+calls-of-rows i place [] = refl
+calls-of-rows i place (e ∷ es) = go (cases_eq e.session i)
+  where
+    row : TraceRow
+    row = record { session = e.session; call = e.call }
+
+    go : (e.session ≡ i) ⊎ (e.session ≢ i) → calls_answered (calls_from i place (e ∷ es)) ≡ calls_of_rows i (rows-of (e ∷ es))
+    go (inl own) =
+        ap (λ (b : Bool). calls_answered (cond b (record { place = place; call = e.call; reply = e.reply } ∷ calls_from i (place + 1) es) (calls_from i (place + 1) es))) (eq-eqb e.session i own)
+        ∙ ap (λ (cs : List Call). e.call ∷ cs) (calls-of-rows i (place + 1) es) ∙ sym (calls-own i row (rows-of es) own)
+    go (inr other) =
+        ap (λ (b : Bool). calls_answered (cond b (record { place = place; call = e.call; reply = e.reply } ∷ calls_from i (place + 1) es) (calls_from i (place + 1) es))) (ne_eqb e.session i other)
+        ∙ calls-of-rows i (place + 1) es ∙ sym (calls-other i row (rows-of es) other)
+
+rows-within : (n : ℕ) (es : List Entry) → All (IsEntryWithin n) es → All (IsNumbered n) (rows-of es)
+rows-within n [] within = All-nil (IsNumbered n)
+rows-within n (e ∷ es) within =
+    let here : IsEntryWithin n e = All-head (IsEntryWithin n) e es within in
+    All-cons (IsNumbered n) (record { session = e.session; call = e.call }) (rows-of es) (here.some, here.within) (rows-within n es (All-tail (IsEntryWithin n) e es within))
 
 -- for a number of no session, both the history and the rows have no calls
 calls-of-nobody : (n : ℕ) (rows : List TraceRow) (history : List Entry) (i : ℕ) → All (IsRow n) rows → All (IsEntryWithin n) history
@@ -138,26 +154,33 @@ numbers-all : (office : BoardView) (n : ℕ) (first all : List TicketView) → o
 numbers-all office n first all are new numbers =
     numbers ∙ ap numbers_of new ∙ ap (λ k. numbers_of (new_tickets office.id k k)) (sym are)
 
--- the history of a closed office whose sessions performed their rows is a history of these rows
-pub run_of_closed : (office : BoardView) (n : ℕ) (rows : List TraceRow) (first all : List TicketView) (book : BookView)
+-- the history of calls of a closed office whose sessions performed their rows is a history of these rows
+pub run_of_closed : (office : BoardView) (n : ℕ) (rows : List TraceRow) (first all : List TicketView) (programs : ProgramsView)
     → office.sessions ≡ n → first ≡ new_tickets office.id n n → numbers_of all ≡ numbers_of first
-    → All (IsPerformed office rows) all → All (IsRow n) rows → IsClosed office all book → IsRunOf rows book.history
-run_of_closed office n rows first all book sessions-are new numbers performed rows-within closed = record {
-  legal = closed.legal;
-  calls = λ i. go i (cases_lt 0 i) (cases_lt office.sessions i);
-  count = closed.count ∙ answers-numbers office rows all performed
-      ∙ ap (λ ns. sum_by (λ i. length (calls_of_rows i rows)) ns)
-      (numbers-all office n first all sessions-are new numbers ∙ numbers-new office office.sessions office.sessions)
-      ∙ calls_to-all rows office.sessions within;
+    → All (IsPerformed office rows) all → All (IsRow n) rows → IsClosed office all programs → IsRunOf rows (flat_history programs.history)
+run_of_closed office n rows first all programs sessions-are new numbers performed rows-are closed = record {
+  legal = closed.legal.0;
+  calls = calls;
+  count = sym (length-map h (λ (e : Entry). record { session = e.session; call = e.call })) ∙ sym (calls_to-all (rows-of h) office.sessions (rows-within office.sessions h entries-within))
+      ∙ calls_to-same (rows-of h) rows (λ i. sym (calls-of-rows i 0 h) ∙ calls i) office.sessions ∙ calls_to-all rows office.sessions (All-weaker (IsRow office.sessions) (IsNumbered office.sessions) (λ r w. (w.first, w.last)) rows within);
 }
   where
-    within : All (IsRow office.sessions) rows
-    within = subst (λ k. All (IsRow k) rows) (sym sessions-are) rows-within
+    h : List Entry
+    h = flat_history programs.history
 
-    go : (i : ℕ) → (0 < i) ⊎ (i ≤ 0) → (office.sessions < i) ⊎ (i ≤ office.sessions) → calls_answered (calls_of i book.history) ≡ calls_of_rows i rows
-    go i (inl some) (inr few) = calls-of-session office rows all book.history i performed closed.accounts (closed.all.each i some few)
-    go i (inr none) h = calls-of-nobody office.sessions rows book.history i within closed.within (inl (omega (arith, none)))
-    go i (inl some) (inl above) = calls-of-nobody office.sessions rows book.history i within closed.within (inr above)
+    within : All (IsRow office.sessions) rows
+    within = subst (λ k. All (IsRow k) rows) (sym sessions-are) rows-are
+
+    entries-within : All (IsEntryWithin office.sessions) h
+    entries-within = flat-within program_form office.sessions programs.history closed.within
+
+    go : (i : ℕ) → (0 < i) ⊎ (i ≤ 0) → (office.sessions < i) ⊎ (i ≤ office.sessions) → calls_answered (calls_of i h) ≡ calls_of_rows i rows
+    go i (inl some) (inr few) = calls-of-session office rows all programs.history i closed.legal performed closed.accounts (closed.all.each i some few)
+    go i (inr none) h = calls-of-nobody office.sessions rows (flat_history programs.history) i within entries-within (inl (omega (arith, none)))
+    go i (inl some) (inl above) = calls-of-nobody office.sessions rows h i within entries-within (inr above)
+
+    calls : (i : ℕ) → calls_answered (calls_of i h) ≡ calls_of_rows i rows
+    calls i = go i (cases_lt 0 i) (cases_lt office.sessions i)
 
 -- an office whose sessions performed their rows isn't refused a close
 pub closes : (office : BoardView) (n : ℕ) (rows : List TraceRow) (first all : List TicketView) (fault : CloseFault)

@@ -1,30 +1,33 @@
 -- The sessions of a run in pieces: those that perform rows, and the last one, which takes the history.
-use Rattle.std.proofs.Common.{ap, ap₂, sym, refl, subst, ◌≡◌, ◌∙◌, ◌≢◌, ◌+◌, ℕ, zero, suc, add-one, List, [], ◌∷◌, ◌++◌, length, take, drop, get_or, Some, Option, inl, inr, arith}
+use Rattle.std.proofs.Common.{ap, ap₂, sym, refl, subst, ◌≡◌, ◌∙◌, ◌≢◌, ◌+◌, ◌≤◌, ℕ, zero, suc, add-one, List, [], ◌∷◌, ◌++◌, length, take, drop, get_or, Some, Option, inl, inr, arith}
 use Rattle.std.specs.List.{All}
 use Rattle.std.specs.Prelude.{option_to_list}
 use mathlib.Core.List.{IsPrefix}
 use Rattle.std.proofs.Math.Seq.{take-append_seam, drop-append_seam}
 use Rattle.std.proofs.lemmas.List.{length_push, map-append}
 use Rattle.std.proofs.lemmas.List.Elements.{All-pop, All-push, All-weaker}
-use Rattle.lock_desk.specs.BookView.{BookView}
 use Rattle.publication.specs.Views.{BoardView}
-use Rattle.lock_board.specs.LockBoards.{TicketView, new_ticket, new_tickets}
+use Rattle.lock_programs.specs.Answers.{program_form}
+use Rattle.program_office.specs.ProgramBoards.{TicketView, ProgramsView, flat_history, new_tickets}
 use Rattle.publication.specs.declared.closing.CloseFault.{CloseFault}
 use Rattle.publication.specs.declared.closing.CloseFault.TheVariants as close
-use Rattle.publication.specs.Boards.{AccountsFor, IsEachOnce}
-use Rattle.lock_office.specs.Sessions.{HasNothingPending, IsSessionOf, IsIdle}
-use Rattle.lock_office.specs.Closed.{IsClosed}
+use Rattle.publication.specs.Boards.{AccountsFor, IsEachOnce, new_ticket}
+use Rattle.program_office.specs.Sessions.{HasNothingPending, IsSessionOf, IsIdle}
+use Rattle.program_office.specs.Closed.{IsClosed}
 use Rattle.lock_trace.specs.declared.trace_row.TraceRow.{TraceRow}
 use Rattle.lock_trace.specs.Rows.{IsRow}
-use Rattle.run_commands.specs.Calls.{calls_answered}
-use Rattle.lock_trace.specs.Histories.{text_of_history}
+use Rattle.run_commands.specs.Calls.{calls_collected}
+use Rattle.lock_rules.specs.Entries.{Entry}
+use Rattle.lock_trace.specs.Histories.{text_of_history, text_of_piece}
+use Rattle.replay_commands.specs.Pieces.{IsFaultOfPiece}
 use Rattle.replay_commands.specs.declared.tool_fault.ToolFault.{ToolFault}
 use Rattle.run_commands.specs.Runs.{HasRun, IsRunOf}
 use Rattle.run_commands.specs.Streams.{HasWrittenRest, IsFaultOfRest, IsFaultOfStream, IsNeverRefused, IsOpenedFor, IsWrittenUpTo, bare}
 use Rattle.run_commands.specs.Workers.{IsNewSession, IsPerformed, numbers_of}
 use Rattle.run_commands.proofs.CallsOfRows.{calls-none}
+use Rattle.std.specs.Io.KnownBytes.{Appends}
 use Rattle.std.proofs.KnownBytes.{Appends-kept}
-use Rattle.run_commands.proofs.WrittenUpTo.{front_of, rest_failed, rest_written}
+use Rattle.run_commands.proofs.WrittenUpTo.{flat-prefix, front_of, rest_failed, rest_written}
 use Rattle.run_commands.proofs.IsRunOf.{closes, run_of_closed, sessions_new}
 
 -- there are as many new sessions as are asked for
@@ -92,7 +95,7 @@ taker_performed office rows k taker after is new within ours same =
     record {
       ours = ours;
       idle = (ap (λ (t : TicketView). t.pending) same ∙ new.idle.0, ap (λ (t : TicketView). t.retired) same ∙ new.idle.1);
-      calls = ap calls_answered (ap (λ (t : TicketView). t.collected) same ∙ new.none)
+      calls = ap calls_collected (ap (λ (t : TicketView). t.collected) same ∙ new.none)
           ∙ sym (calls-none after.number rows (All-weaker (IsRow k) (λ (r : TraceRow). r.session ≢ after.number)
           (λ r w. let few = w.last in λ here. omega (arith, few, here, number)) rows within));
     }
@@ -121,13 +124,13 @@ numbers-all office k workers done all taker after are is numbers same pushed =
 one-more : (rows : List TraceRow) (k : ℕ) → All (IsRow k) rows → All (IsRow (k + 1)) rows
 one-more rows k within = All-weaker (IsRow k) (IsRow (k + 1)) (λ r w. let few = w.last in record { first = w.first; last = omega (arith, few); resources = w.resources }) rows within
 
--- the history of the closed office is a history of the rows
-pub run_of_streamed : (office : BoardView) (rows : List TraceRow) (k : ℕ) (workers done all : List TicketView) (taker after : TicketView) (book : BookView)
+-- the history of calls of the closed office is a history of the rows
+pub run_of_streamed : (office : BoardView) (rows : List TraceRow) (k : ℕ) (workers done all : List TicketView) (taker after : TicketView) (programs : ProgramsView)
     → office.sessions ≡ k + 1 → workers ≡ new_tickets office.id (k + 1) k → taker ≡ new_ticket office.id (k + 1) (k + 1) → numbers_of done ≡ numbers_of workers
-    → bare after ≡ bare taker → all ≡ done ++ after ∷ [] → All (IsPerformed office rows) all → All (IsRow k) rows → IsClosed office all book
-    → IsRunOf rows book.history
-run_of_streamed office rows k workers done all taker after book sessions are is numbers same pushed performed within closed =
-    run_of_closed office (k + 1) rows (new_tickets office.id (k + 1) (k + 1)) all book sessions refl
+    → bare after ≡ bare taker → all ≡ done ++ after ∷ [] → All (IsPerformed office rows) all → All (IsRow k) rows → IsClosed office all programs
+    → IsRunOf rows (flat_history programs.history)
+run_of_streamed office rows k workers done all taker after programs sessions are is numbers same pushed performed within closed =
+    run_of_closed office (k + 1) rows (new_tickets office.id (k + 1) (k + 1)) all programs sessions refl
     (numbers-all office k workers done all taker after are is numbers same pushed) performed (one-more rows k within) closed
 
 -- such an office isn't refused a close
@@ -140,11 +143,11 @@ closes_streamed office rows k workers done all taker after fault sessions are is
     closes office (k + 1) rows (new_tickets office.id (k + 1) (k + 1)) all fault sessions refl
     (numbers-all office k workers done all taker after are is numbers same pushed) performed missing unsettled
 
--- what the taker knows begins the history
-pub taker_begins : (office : BoardView) (done all : List TicketView) (after : TicketView) (book : BookView) → all ≡ done ++ after ∷ []
-    → IsClosed office all book → IsPrefix after.front book.history
-taker_begins office done all after book pushed closed =
-    (All-pop (AccountsFor book.history) all done (Some after) pushed closed.accounts).1.front
+-- the calls that the taker knows begin the history of calls
+pub taker_begins : (office : BoardView) (done all : List TicketView) (after : TicketView) (programs : ProgramsView) → all ≡ done ++ after ∷ []
+    → IsClosed office all programs → IsPrefix (flat_history after.front) (flat_history programs.history)
+taker_begins office done all after programs pushed closed =
+    flat-prefix after.front programs.history (All-pop (AccountsFor programs.history) all done (Some after) pushed closed.accounts).1.front
 
 -- all sessions of an opened office performed their rows
 pub all_ready : (k : ℕ) (office : BoardView) (workers : List TicketView) (taker : TicketView) (rows : List TraceRow) (done : List TicketView) (after : TicketView)
@@ -165,25 +168,27 @@ never_refused k office workers taker rows done after opened numbers same perform
 pub run_written : (k : ℕ) (office : BoardView) (workers : List TicketView) (taker : TicketView) (rows : List TraceRow) (done : List TicketView) (after : TicketView)
     (next : ℕ) (old mid new : Option (List ℕ))
     → IsOpenedFor k office workers taker → All (IsRow k) rows → numbers_of done ≡ numbers_of workers → bare after ≡ bare taker
-    → All (IsPerformed office rows) (done ++ after ∷ []) → IsWrittenUpTo next after.front old mid
+    → All (IsPerformed office rows) (done ++ after ∷ []) → IsWrittenUpTo next (flat_history after.front) old mid
     → HasWrittenRest office (done ++ after ∷ []) next mid new → HasRun rows old new
 run_written k office workers taker rows done after next old mid new opened within numbers same performed way rest =
     let all = done ++ after ∷ [] in
-    let book = rest.0 in
-    let closed = rest.1.0 in
-    let run : IsRunOf rows book.history =
-    run_of_streamed office rows k workers done all taker after book opened.sessions opened.workers_are opened.taker_is numbers same refl performed within closed in
+    let (programs, (closed, same_history)) = rest.1.0 in
+    let h = flat_history programs.history in
+    let behind = subst (λ (l : List Entry). (next ≤ length l) × Appends mid new (text_of_piece next (drop next l))) same_history rest.1.1 in
+    let run : IsRunOf rows h =
+    run_of_streamed office rows k workers done all taker after programs opened.sessions opened.workers_are opened.taker_is numbers same refl performed within closed in
     record {
-      text = text_of_history book.history;
-      is_history = (book.history, (run, refl));
-      written = rest_written next after.front book.history old mid new way (taker_begins office done all after book refl closed) rest.1.1 rest.1.2;
+      text = text_of_history h;
+      is_history = (h, (run, refl));
+      written = rest_written next (flat_history after.front) h old mid new way (taker_begins office done all after programs refl closed) behind.0 behind.1;
     }
 
 -- if the rest isn't written, the text of a legal history is, or the beginning of one
 pub rest_fault : (office : BoardView) (done : List TicketView) (after : TicketView) (next : ℕ) (old mid new : Option (List ℕ)) (fault : ToolFault)
-    → IsWrittenUpTo next after.front old mid → IsFaultOfRest office (done ++ after ∷ []) next mid new fault → IsFaultOfStream old new fault
+    → IsWrittenUpTo next (flat_history after.front) old mid → IsFaultOfRest office (done ++ after ∷ []) next mid new fault → IsFaultOfStream old new fault
 rest_fault office done after next old mid new fault way (inl (is, kept)) =
-    let (history, (legal, written)) = front_of next after.front old mid way in
+    let (history, (legal, written)) = front_of next (flat_history after.front) old mid way in
     subst (IsFaultOfStream old new) (sym is) (history, (legal, Appends-kept old mid new _ written kept))
-rest_fault office done after next old mid new fault way (inr (book, (closed, is))) =
-    rest_failed next after.front book.history old mid new fault way (taker_begins office done _ after book refl closed) closed.legal is
+rest_fault office done after next old mid new fault way (inr (book, ((programs, (closed, same)), is))) =
+    rest_failed next (flat_history after.front) (flat_history programs.history) old mid new fault way (taker_begins office done _ after programs refl closed) closed.legal.0
+    (subst (λ (l : List Entry). IsFaultOfPiece (text_of_piece next (drop next l)) mid new fault) same is)

@@ -8,9 +8,11 @@ use Rattle.std.proofs.KnownBytes.{Appends-kept, Appends-nil, Appends-trans}
 use Rattle.lock_rules.specs.Entries.{Entry}
 use Rattle.lock_rules.specs.Legal.{IsLegal}
 use Rattle.lock_rules.proofs.Histories.{legal-front}
-use Rattle.lock_board.specs.LockBoards.{TicketView}
+use Rattle.programs.specs.Fronts.{flat-append}
+use Rattle.lock_programs.specs.Answers.{program_form}
+use Rattle.program_office.specs.ProgramBoards.{TicketView, ProgramEntry, flat_history}
 use Rattle.publication.proofs.Histories.{length-begins}
-use Rattle.lock_office.specs.Sessions.{HasTakenPiece}
+use Rattle.program_office.specs.Sessions.{HasTakenPiece}
 use Rattle.lock_trace.specs.Histories.{text_of_history, text_of_piece}
 use Rattle.replay_commands.specs.Pieces.{IsFaultOfPiece}
 use Rattle.run_commands.specs.Runs.{HasWrittenFront, HasWrittenPart}
@@ -20,9 +22,13 @@ use Rattle.replay_commands.specs.declared.tool_fault.ToolFault.TheVariants as to
 use Rattle.replay_commands.proofs.ServedRows.{text_goes_on}
 use Rattle.replay_commands.proofs.Written.{part_behind}
 
+-- the calls of a longer history of programs begin with those of its front
+pub flat-prefix : (f g : List ProgramEntry) → IsPrefix f g → IsPrefix (flat_history f) (flat_history g)
+flat-prefix f g begins = (flat_history begins.0, sym (flat-append program_form f begins.0) ∙ ap flat_history begins.1)
+
 -- nothing is written of an empty front
-pub begun : (front : List Entry) (old : Option (List ℕ)) → front ≡ [] → IsWrittenUpTo 0 front old old
-begun front old none = subst (λ (f : List Entry). IsWrittenUpTo 0 f old old) (sym none) (record { legal = tt; within = omega arith; written = Appends-nil old })
+pub begun : (front : List ProgramEntry) (old : Option (List ℕ)) → front ≡ [] → IsWrittenUpTo 0 (flat_history front) old old
+begun front old none = subst (λ (f : List ProgramEntry). IsWrittenUpTo 0 (flat_history f) old old) (sym none) (record { legal = tt; within = omega arith; written = Appends-nil old })
 
 -- the first entries of a longer history are those of its front
 pub same_first : (next : ℕ) (f g : List Entry) → IsPrefix f g → next ≤ length f → take next g ≡ take next f
@@ -95,20 +101,22 @@ bare_taken before after first entries taken = ap bare taken.session
 -- the session took a piece, and it is written
 pub piece_written : (before after : TicketView) (first next end : ℕ) (entries : List Entry) (old mid new : Option (List ℕ))
     → HasTakenPiece before after first entries → first ≡ next → end ≡ next + length entries → Appends mid new (text_of_piece next entries)
-    → IsWrittenUpTo next before.front old mid → IsWrittenUpTo end after.front old new
+    → IsWrittenUpTo next (flat_history before.front) old mid → IsWrittenUpTo end (flat_history after.front) old new
 piece_written before after first next end entries old mid new taken here there piece way =
-    subst (λ (k : ℕ). IsWrittenUpTo k after.front old new) (sym there)
-    (more_written next entries after.front old mid new (goes_on next before.front after.front old mid way taken.longer taken.legal)
-    (subst (λ (k : ℕ). entries ≡ take (length entries) (drop k after.front)) here taken.lines_are)
-    (subst (λ (k : ℕ). k + length entries ≤ length after.front) here taken.within) piece)
+    let known = flat_history after.front in
+    subst (λ (k : ℕ). IsWrittenUpTo k known old new) (sym there)
+    (more_written next entries known old mid new (goes_on next (flat_history before.front) known old mid way (flat-prefix before.front after.front taken.longer) taken.legal.0)
+    (subst (λ (k : ℕ). entries ≡ take (length entries) (drop k known)) here taken.lines_are)
+    (subst (λ (k : ℕ). k + length entries ≤ length known) here taken.within) piece)
 
 -- the session took a piece, and it isn't written
 pub piece_failed : (before after : TicketView) (first next : ℕ) (entries : List Entry) (old mid new : Option (List ℕ)) (fault : ToolFault)
     → HasTakenPiece before after first entries → first ≡ next → IsFaultOfPiece (text_of_piece next entries) mid new fault
-    → IsWrittenUpTo next before.front old mid → IsFaultOfStream old new fault
+    → IsWrittenUpTo next (flat_history before.front) old mid → IsFaultOfStream old new fault
 piece_failed before after first next entries old mid new fault taken here is way =
-    more_failed next entries after.front old mid new fault (goes_on next before.front after.front old mid way taken.longer taken.legal)
-    (subst (λ (k : ℕ). entries ≡ take (length entries) (drop k after.front)) here taken.lines_are) is
+    let known = flat_history after.front in
+    more_failed next entries known old mid new fault (goes_on next (flat_history before.front) known old mid way (flat-prefix before.front after.front taken.longer) taken.legal.0)
+    (subst (λ (k : ℕ). entries ≡ take (length entries) (drop k known)) here taken.lines_are) is
 
 -- the rest of the history is written, which begins with what the taker knows
 pub rest_written : (next : ℕ) (front history : List Entry) (old mid new : Option (List ℕ)) → IsWrittenUpTo next front old mid → IsPrefix front history

@@ -5,12 +5,12 @@ use Rattle.lock_rules.specs.Entries.{Entry}
 use Rattle.lock_rules.specs.Legal.{IsLegal}
 use Rattle.lock_desk.specs.BookView.{BookView}
 use Rattle.publication.specs.Views.{BoardView}
-use Rattle.lock_board.specs.LockBoards.{TicketView, new_ticket, new_tickets}
-use Rattle.publication.specs.Boards.{IsEachOnce}
+use Rattle.program_office.specs.ProgramBoards.{TicketView, ProgramsView, flat_history, new_tickets}
+use Rattle.publication.specs.Boards.{IsEachOnce, new_ticket}
 use Rattle.publication.specs.declared.closing.CloseFault.{CloseFault}
 use Rattle.publication.specs.declared.closing.CloseFault.TheVariants as close
-use Rattle.lock_office.specs.Sessions.{HasNothingPending}
-use Rattle.lock_office.specs.Closed.{IsClosed}
+use Rattle.program_office.specs.Sessions.{HasNothingPending}
+use Rattle.program_office.specs.Closed.{IsClosed}
 use Rattle.lock_trace.specs.Histories.{text_of_history, text_of_piece}
 use Rattle.replay_commands.specs.declared.tool_fault.ToolFault.{ToolFault}
 use Rattle.replay_commands.specs.declared.tool_fault.ToolFault.TheVariants as tool
@@ -50,13 +50,17 @@ abbrev pub IsNeverRefused : BoardView → List TicketView → Type 0
 IsNeverRefused office all = (fault : CloseFault) → (fault ≡ close.Missing → ¬ IsEachOnce office.sessions all)
     → (fault ≡ close.Unsettled → IsEachOnce office.sessions all × ¬ All HasNothingPending all) → ⊥
 
+-- the book of an office that was closed with these sessions
+abbrev pub IsBookOf : BoardView → List TicketView → BookView → Type 0
+IsBookOf office all book = (programs : ProgramsView) × (IsClosed office all programs × (book.history ≡ flat_history programs.history))
+
 -- the office was closed with these sessions, and the output grew by the text of its history behind the first `next` entries
 abbrev pub HasWrittenRest : BoardView → List TicketView → ℕ → Option (List ℕ) → Option (List ℕ) → Type 0
-HasWrittenRest office all next old new = (book : BookView) × (IsClosed office all book × (next ≤ length book.history)
+HasWrittenRest office all next old new = (book : BookView) × (IsBookOf office all book × (next ≤ length book.history)
     × Appends old new (text_of_piece next (drop next book.history)))
 
 -- the fault of a close and of writing the rest: memory was refused and nothing was written, or the office was closed with these
 -- sessions and the text of the rest wasn't written, or a part of it
 abbrev pub IsFaultOfRest : BoardView → List TicketView → ℕ → Option (List ℕ) → Option (List ℕ) → ToolFault → Type 0
 IsFaultOfRest office all next old new fault = ((fault ≡ tool.NoMemory) × Keeps old new)
-    ⊎ ((book : BookView) × (IsClosed office all book × IsFaultOfPiece (text_of_piece next (drop next book.history)) old new fault))
+    ⊎ ((book : BookView) × (IsBookOf office all book × IsFaultOfPiece (text_of_piece next (drop next book.history)) old new fault))

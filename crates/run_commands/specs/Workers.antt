@@ -1,12 +1,14 @@
 -- The work of the threads of a run.
-use Rattle.std.specs.Prelude.{◌≡◌, ℕ, ◌+◌, ◌≤◌, nat_le, if◌then◌else◌, List, [], map, option_map, Option, Some, None}
+use Rattle.std.specs.Prelude.{◌≡◌, ℕ, ◌+◌, ◌≤◌, nat_le, if◌then◌else◌, List, [], ◌∷◌, map, option_map, Option, Some, None}
 use Rattle.lock_rules.specs.declared.calls.Call.{Call}
 use Rattle.publication.specs.Views.{BoardView}
-use Rattle.lock_board.specs.LockBoards.{TicketView}
-use Rattle.lock_office.specs.Sessions.{IsSessionOf, IsIdle}
+use Rattle.lock_rules.specs.declared.calls.Call.TheVariants.{Poll}
+use Rattle.lock_programs.specs.Calls.{calls_of}
+use Rattle.program_office.specs.ProgramBoards.{TicketView}
+use Rattle.program_office.specs.Sessions.{IsSessionOf, IsIdle}
 use Rattle.lock_trace.specs.declared.trace_row.TraceRow.{TraceRow}
 use Rattle.replay_commands.specs.Faults.{number_of_fault}
-use Rattle.run_commands.specs.Calls.{calls_answered, calls_of_rows}
+use Rattle.run_commands.specs.Calls.{calls_collected, calls_of_rows}
 use Rattle.replay_commands.specs.declared.tool_fault.ToolFault.{ToolFault}
 use Rattle.replay_commands.specs.declared.tool_fault.ToolFault.TheVariants as tool
 use Rattle.run_commands.specs.declared.workers.Stop.{Stop}
@@ -21,29 +23,35 @@ pub record Calls : Type 0 where
   pub pending : Option Call
   pub collected : List Call
 
--- the calls of a session of an office
+-- the first of these calls, of which there is one
+abbrev pub first_call : List Call → Call
+first_call [] = Poll
+first_call (c ∷ cs) = c
+
+-- the calls of a session of an office, of which each program makes one
 abbrev pub calls_known : TicketView → Calls
 calls_known session = record {
   number = session.number;
-  pending = option_map (λ p. p.call) session.pending;
-  collected = calls_answered session.collected;
+  pending = option_map (λ p. first_call (calls_of p.call)) session.pending;
+  collected = calls_collected session.collected;
 }
 
 -- at most `turns` more turns than `before`
 abbrev pub TriedAtMost : (ℕ → Type 0) → ℕ → ℕ → Type 0
 TriedAtMost has_tried before turns = (tries : ℕ) × (tries ≤ before + turns) × has_tried tries
 
--- the session belongs to this office, is idle, and has collected no answer
+-- the session belongs to this office, is idle, and has neither collected an answer nor learnt of the history
 pub record IsNewSession (office : BoardView) (session : TicketView) : Type 0 where
   pub ours : IsSessionOf office session
   pub idle : IsIdle session
   pub none : session.collected ≡ []
+  pub unaware : session.front ≡ []
 
 -- the session performed its rows: it collected one answer to each of their calls, in order, and is idle
 pub record IsPerformed (office : BoardView) (rows : List TraceRow) (session : TicketView) : Type 0 where
   pub ours : IsSessionOf office session
   pub idle : IsIdle session
-  pub calls : calls_answered session.collected ≡ calls_of_rows session.number rows
+  pub calls : calls_collected session.collected ≡ calls_of_rows session.number rows
 
 -- if the thread didn't stop early, its session has this number and performed its rows
 abbrev pub IsWorkOf : BoardView → ℕ → List TraceRow → ThreadResult → Type 0

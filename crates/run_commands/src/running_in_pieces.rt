@@ -2,24 +2,23 @@
 
 ghost use Rattle.std.specs.Io.KnownBytes.{Appends, Keeps};
 ghost use Rattle.std.specs.Prelude.{◌≡◌, ◌≢◌, ℕ, ◌<◌, ◌≤◌, ◌++◌, ◌∷◌, [], List, Some, All, drop, length, OnOk, IfOk, IfErr, IfSome};
-ghost use Rattle.lock_office.specs.Closed.{IsClosed};
-ghost use Rattle.lock_office.specs.Sessions.{IsSessionOf};
+ghost use Rattle.program_office.specs.Sessions.{IsSessionOf};
 ghost use Rattle.lock_rules.specs.declared.calls.TheConstants.{MAX_SESSIONS};
 ghost use Rattle.lock_trace.specs.declared.faults.TraceFault.{TraceFault as FaultValue};
 ghost use Rattle.lock_trace.specs.Histories.{text_of_piece};
 ghost use Rattle.replay_commands.specs.Pieces.{IsFaultOfPiece};
 ghost use Rattle.replay_commands.specs.Replays.{AreRows};
 ghost use Rattle.run_commands.specs.Runs.{HasPerformed, HasRun, HasWrittenFront, HasWrittenPart, RunsInPieces};
-ghost use Rattle.run_commands.specs.Streams.{HasWrittenRest, IsFaultOfRest, IsFaultOfStream, IsNeverRefused, IsOpenedFor};
+ghost use Rattle.run_commands.specs.Streams.{HasWrittenRest, IsBookOf, IsFaultOfRest, IsFaultOfStream, IsNeverRefused, IsOpenedFor};
 
 use crate::call_gate::Gate;
 use crate::running::greatest_session;
 use crate::streaming::{Streamed, stream_in_threads};
 use crate::threads::Run;
 use lock_desk::Book;
-use lock_office::{Office, Session};
 use lock_rules::MAX_SESSIONS;
 use lock_trace::{TraceRow, read_trace};
+use program_office::{Office, Session};
 use replay_commands::{ToolFault, write_piece};
 use std::alloc::Global;
 use std::io::{Read, Write};
@@ -89,16 +88,16 @@ fn write_rest<W: Write>(
 fn close_streamed(office: Office, done: Vec<Session>, taker: Session) -> Option<Book>
     requires ours { All (IsSessionOf office) (done.items ++ taker ∷ []) }
     requires closes { IsNeverRefused office (done.items ++ taker ∷ []) }
-    ensures { IfSome result (IsClosed office (done.items ++ taker ∷ [])) }
+    ensures { IfSome result (IsBookOf office (done.items ++ taker ∷ [])) }
 {
     let mut all = done;
     let Ok(()) = all.push(taker) else {
         return None;
     };
-    let Ok(book) = office.close(all) else {
+    let Ok(programs) = office.close(all) else {
         unreachable!()
     };
-    Some(book)
+    Some(programs.into_object())
 }
 
 /// Closes an office with the sessions that performed rows and the one that took the history, of which the first `next` entries

@@ -1,7 +1,8 @@
 //! Takes the history of a run while its threads are at work, and writes it.
 
 ghost use Rattle.std.specs.Prelude.{◌≡◌, ℕ, [], List, Option, Ok, IfOk, IfErr, All};
-ghost use Rattle.lock_office.specs.Sessions.{IsSessionOf};
+ghost use Rattle.program_office.specs.ProgramBoards.{flat_history};
+ghost use Rattle.program_office.specs.Sessions.{IsSessionOf};
 ghost use Rattle.run_commands.specs.Streams.{IsFaultOfStream, IsWrittenUpTo, bare};
 ghost use Rattle.run_commands.specs.Workers.{IsNewSession, IsPerformed, fault_of_stop, numbers_of};
 
@@ -9,7 +10,7 @@ use crate::call_gate::Gate;
 use crate::pacing::{Pace, Progress};
 use crate::threads::{Run, join_all, start_all};
 use crate::workers::Stop;
-use lock_office::{Office, Session};
+use program_office::{Office, Session};
 use replay_commands::{ToolFault, write_piece};
 use std::alloc::Global;
 use std::io::Write;
@@ -60,9 +61,9 @@ fn write_taken<W: Write>(
     requires { IsSessionOf office.now taker.old }
     ensures ours { IsSessionOf office.now taker.new }
     ensures same { bare taker.new ≡ bare taker.old }
-    ensures written { IfOk result (λ end. (start : Option (List ℕ)) → IsWrittenUpTo next taker.old.front start (W.contents output.old)
-        → IsWrittenUpTo end taker.new.front start (W.contents output.new)) }
-    ensures fault { IfErr result (λ fault. (start : Option (List ℕ)) → IsWrittenUpTo next taker.old.front start (W.contents output.old)
+    ensures written { IfOk result (λ end. (start : Option (List ℕ)) → IsWrittenUpTo next (flat_history taker.old.front) start (W.contents output.old)
+        → IsWrittenUpTo end (flat_history taker.new.front) start (W.contents output.new)) }
+    ensures fault { IfErr result (λ fault. (start : Option (List ℕ)) → IsWrittenUpTo next (flat_history taker.old.front) start (W.contents output.old)
         → IsFaultOfStream start (W.contents output.new) fault) }
 {
     let Some(piece) = office.take_history(alloc, taker) else {
@@ -93,9 +94,9 @@ fn write_due<W: Write>(
     requires { IsSessionOf run.office.now taker.old }
     ensures ours { IsSessionOf run.entry.office.now taker.new }
     ensures same { bare taker.new ≡ bare taker.old }
-    ensures written { IfOk result (λ end. (start : Option (List ℕ)) → IsWrittenUpTo next taker.old.front start (W.contents output.old)
-        → IsWrittenUpTo end taker.new.front start (W.contents output.new)) }
-    ensures fault { IfErr result (λ fault. (start : Option (List ℕ)) → IsWrittenUpTo next taker.old.front start (W.contents output.old)
+    ensures written { IfOk result (λ end. (start : Option (List ℕ)) → IsWrittenUpTo next (flat_history taker.old.front) start (W.contents output.old)
+        → IsWrittenUpTo end (flat_history taker.new.front) start (W.contents output.new)) }
+    ensures fault { IfErr result (λ fault. (start : Option (List ℕ)) → IsWrittenUpTo next (flat_history taker.old.front) start (W.contents output.old)
         → IsFaultOfStream start (W.contents output.new) fault) }
 {
     if !is_last && !run.progress.is_due(next) {
@@ -125,7 +126,7 @@ fn write_while_at_work<R: Wait, W: Write>(
     requires new { taker.old.front ≡ [] }
     ensures ours { IsSessionOf run.entry.office.now taker.new }
     ensures same { bare taker.new ≡ bare taker.old }
-    ensures written { IfOk result (λ end. IsWrittenUpTo end taker.new.front (W.contents output.old) (W.contents output.new)) }
+    ensures written { IfOk result (λ end. IsWrittenUpTo end (flat_history taker.new.front) (W.contents output.old) (W.contents output.new)) }
     ensures fault { IfErr result (λ fault. IsFaultOfStream (W.contents output.old) (W.contents output.new) fault) }
 {
     let mut next = 0;
@@ -179,7 +180,7 @@ fn start_and_stream<'s, 'o, E, R: Threads + Wait, W: Write, G: Gate>(
     ensures same { bare result.taker ≡ bare crew.taker }
     ensures numbers { IfOk result.done (λ done. numbers_of done.0.items ≡ numbers_of crew.workers.items) }
     ensures performed { IfOk result.done (λ done. All (IsPerformed run.now.office.now run.now.rows.now) done.0.items) }
-    ensures written { IfOk result.done (λ done. IsWrittenUpTo done.1 result.taker.front (W.contents output.entry.now) (W.contents result.output.now)) }
+    ensures written { IfOk result.done (λ done. IsWrittenUpTo done.1 (flat_history result.taker.front) (W.contents output.entry.now) (W.contents result.output.now)) }
     ensures fault { IfErr result.done (λ fault. IsFaultOfStream (W.contents output.entry.now) (W.contents result.output.now) fault) }
 {
     let Crew { workers, taker } = crew;
@@ -219,7 +220,7 @@ pub(crate) fn stream_in_threads<'o, R: Threads + Wait, W: Write, G: Gate>(
     ensures same { bare result.taker ≡ bare taker }
     ensures numbers { IfOk result.done (λ done. numbers_of done.0.items ≡ numbers_of sessions.items) }
     ensures performed { IfOk result.done (λ done. All (IsPerformed run.now.office.now run.now.rows.now) done.0.items) }
-    ensures written { IfOk result.done (λ done. IsWrittenUpTo done.1 result.taker.front (W.contents output.entry.now) (W.contents result.output.now)) }
+    ensures written { IfOk result.done (λ done. IsWrittenUpTo done.1 (flat_history result.taker.front) (W.contents output.entry.now) (W.contents result.output.now)) }
     ensures fault { IfErr result.done (λ fault. IsFaultOfStream (W.contents output.entry.now) (W.contents result.output.now) fault) }
 {
     let progress = Progress::new();
@@ -246,7 +247,7 @@ pub(crate) fn stream_in_threads<'o, R: Threads + Wait, W: Write, G: Gate>(
             ensures same { bare result.taker ≡ bare taker }
             ensures numbers { IfOk result.done (λ done. numbers_of done.0.items ≡ numbers_of sessions.items) }
             ensures performed { IfOk result.done (λ done. All (IsPerformed paced.entry.now.office.now paced.entry.now.rows.now) done.0.items) }
-            ensures written { IfOk result.done (λ done. IsWrittenUpTo done.1 result.taker.front (W.contents output.entry.now) (W.contents result.output.now)) }
+            ensures written { IfOk result.done (λ done. IsWrittenUpTo done.1 (flat_history result.taker.front) (W.contents output.entry.now) (W.contents result.output.now)) }
             ensures fault { IfErr result.done (λ fault. IsFaultOfStream (W.contents output.entry.now) (W.contents result.output.now) fault) }
         {
             let crew = Crew {

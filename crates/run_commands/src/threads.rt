@@ -2,14 +2,14 @@
 
 ghost use Rattle.std.specs.Prelude.{◌≡◌, ◌⊎◌, ◌≤◌, ◌++◌, ◌∷◌, [], ℕ, false, Some, None, List, IfOk, IfErr, IfSome, OnOk, length, map, vec_len, All};
 ghost use Rattle.std.specs.Bool.{OnFalse};
-ghost use Rattle.lock_office.specs.Sessions.{IsSessionOf, IsIdle};
+ghost use Rattle.program_office.specs.Sessions.{IsSessionOf, IsIdle};
 ghost use Rattle.run_commands.specs.Calls.{calls_of_rows};
 ghost use Rattle.run_commands.specs.Workers.{IsNewSession, IsPerformed, IsWorkOf, IsStart, number_of_start, numbers_of, numbers_of_starts, first_of_stops};
 
 use crate::call_gate::Gate;
 use crate::workers::{Stop, work_through};
-use lock_office::{Office, Session};
 use lock_trace::TraceRow;
+use program_office::{CallSession, Office, Session};
 use std::alloc::Global;
 use std::sync::Wait;
 use std::sync::atomic::{AtomicUsize, Ordering};
@@ -77,9 +77,10 @@ fn work<G: Gate>(
     requires { IsNewSession office.now session }
     ensures { IsWorkOf office.now session.number rows.now result }
 {
-    let mut session = session;
     let number = session.number();
+    let mut session = CallSession::new(session, 0);
     let performed = work_through(office, &mut session, number, rows, turns, gate);
+    let session = session.into_session();
     at_work.fetch_sub(1, Ordering::SeqCst);
     match performed {
         Ok(()) => ThreadResult {

@@ -5,10 +5,14 @@ ghost use Rattle.run_commands.specs.Calls.{calls_of_rows};
 ghost use Rattle.run_commands.specs.Workers.{TriedAtMost, fault_of_stop, rank_of_stop};
 
 use crate::call_gate::Gate;
-use lock_desk::Call;
-use lock_office::{Next, Nobody, Office, Session, back_off};
+use combining::{Next as NextOf, Nobody, back_off};
+use lock_desk::{Call, Reply};
 use lock_trace::TraceRow;
+use program_office::{CallSession, Counted, Office};
 use replay_commands::ToolFault;
+
+/// The outcome of one turn of a call.
+type Next = NextOf<Reply>;
 
 /// Why a thread stopped before its last row, or why a run failed. If there are several reasons, the first in this order is
 /// reported.
@@ -87,13 +91,14 @@ pub(crate) trait Service: Sync {
 
 impl Service for Office {
     ghost use Rattle.std.specs.Prelude.{◌≡◌, false};
-    ghost use Rattle.lock_office.specs.Sessions.{IsSessionOf};
+    ghost use Rattle.program_office.specs.ProgramTurns.{IsPendingSingle};
+    ghost use Rattle.program_office.specs.Sessions.{IsSessionOf};
     ghost use Rattle.run_commands.specs.Workers.{calls_known};
 
-    /// A session of the office.
-    type Session = Session;
+    /// A session of the office, which makes single calls.
+    type Session = CallSession;
 
-    ghost is_of = { λ office session. IsSessionOf office session × (session.retired ≡ false) };
+    ghost is_of = { λ office session. IsSessionOf office session × (session.retired ≡ false) × IsPendingSingle session };
 
     ghost calls = { calls_known };
 
@@ -104,8 +109,8 @@ impl Service for Office {
     ghost was_starved = { λ session. Unit {0} };
 
     /// Makes the turn, and tells nobody whose waits its passes have ended.
-    fn turn(&self, session: &mut Session, call: &Call, made: u64) -> Next {
-        lock_office::turn(self, session, call, made, &mut Nobody)
+    fn turn(&self, session: &mut CallSession, call: &Call, made: u64) -> Next {
+        session.turn(self, call, made, &mut Counted::new(Nobody))
     }
 }
 

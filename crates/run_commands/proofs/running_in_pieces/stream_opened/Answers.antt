@@ -2,6 +2,7 @@ use Rattle.std.proofs.Common.{rules, ◌≡◌, IfErr}
 use Rattle.std.specs.Prelude.{OnOk}
 use Rattle.std.specs.List.{All}
 use Rattle.std.proofs.lemmas.Result.{IfErr-weaker, IfOk-at_ok, on_ok_weaker}
+use Rattle.program_office.specs.ProgramBoards.{flat_history}
 use Rattle.run_commands.specs.Runs.{HasRun}
 use Rattle.run_commands.specs.Streams.{IsFaultOfStream, IsWrittenUpTo}
 use Rattle.run_commands.specs.Workers.{IsPerformed, numbers_of}
@@ -35,7 +36,7 @@ returns-in-Ok-clause-run g c =
     let made = c.stream_in_threads-output in
     let performed = IfOk-at_ok (λ d. All (IsPerformed opened.office c.args.rows.now) d.0.items) c.in-Ok.is made.ensures.performed in
     let numbers = IfOk-at_ok (λ d. numbers_of d.0.items ≡ numbers_of opened.workers.items) c.in-Ok.is made.ensures.numbers in
-    let way = IfOk-at_ok (λ d. IsWrittenUpTo d.1 made.result.taker.front (g.W.Write.contents c.args.output.now) (g.W.Write.contents made.result.output.now)) c.in-Ok.is made.ensures.written in
+    let way = IfOk-at_ok (λ d. IsWrittenUpTo d.1 (flat_history made.result.taker.front) (g.W.Write.contents c.args.output.now) (g.W.Write.contents made.result.output.now)) c.in-Ok.is made.ensures.written in
     let run : OnOk c.close_and_write.result (HasRun c.args.rows.now (g.W.Write.contents c.args.output.now) (g.W.Write.contents c.close_and_write.new.output)) =
     on_ok_weaker c.close_and_write.result
     (λ rest. run_written c.requires.0 opened.office opened.workers.items opened.taker c.args.rows.now c.in-Ok.done.items made.result.taker c.in-Ok.next _ _ _
@@ -48,7 +49,7 @@ returns-in-Ok-clause-run g c =
 pub returns-in-Ok-clause-fault : goal.returns-in-Ok-clause-fault
 returns-in-Ok-clause-fault g c =
     let made = c.stream_in_threads-output in
-    let way = IfOk-at_ok (λ d. IsWrittenUpTo d.1 made.result.taker.front (g.W.Write.contents c.args.output.now) (g.W.Write.contents made.result.output.now)) c.in-Ok.is made.ensures.written in
+    let way = IfOk-at_ok (λ d. IsWrittenUpTo d.1 (flat_history made.result.taker.front) (g.W.Write.contents c.args.output.now) (g.W.Write.contents made.result.output.now)) c.in-Ok.is made.ensures.written in
     let old = g.W.Write.contents c.args.output.now in
     let new = g.W.Write.contents c.close_and_write.new.output in
     let fault : IfErr c.close_and_write.result (λ fault. IsFaultOfStream old new fault) =

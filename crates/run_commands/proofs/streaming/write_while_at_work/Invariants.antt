@@ -1,5 +1,6 @@
 use Rattle.std.proofs.Common.{◌≡◌}
-use Rattle.lock_office.specs.Sessions.{IsSessionOf}
+use Rattle.program_office.specs.ProgramBoards.{flat_history}
+use Rattle.program_office.specs.Sessions.{IsSessionOf}
 use Rattle.run_commands.specs.Streams.{IsWrittenUpTo, bare}
 use Rattle.run_commands.proofs.streaming.write_while_at_work.Given as goal
 
@@ -8,5 +9,5 @@ abbrev pub invariant-loop : goal.invariant-loop
 invariant-loop g l = record {
   ours : IsSessionOf l.run.office.now l.taker;
   same : bare l.taker ≡ bare l.initial.taker;
-  way : IsWrittenUpTo l.next l.taker.front (g.W.Write.contents l.initial.output) (g.W.Write.contents l.output);
+  way : IsWrittenUpTo l.next (flat_history l.taker.front) (g.W.Write.contents l.initial.output) (g.W.Write.contents l.output);
 }

@@ -1,12 +1,18 @@
-use Rattle.run_commands.proofs.Turns.{turn-answered, turn-starved, turn-waits}
+use Rattle.combining.proofs.Turns.{by-next}
+use Rattle.run_commands.proofs.Turns.{single-idle, single-starved, single-waits, turn-answered, turn-starved, turn-waits}
 use Rattle.run_commands.proofs.workers.OfficeService.turn.Goals as goal
 
 pub returns-clause-ours : goal.returns-clause-ours
-returns-clause-ours c = (c.turn.ensures.ours, c.turn.ensures.live)
+returns-clause-ours c =
+    let e = c.turn.ensures in
+    let single = c.requires.2 in
+    (e.ours, (e.live, by-next c.turn.result (λ a is. single-idle _ (e.idle a is).0)
+    (λ is. single-starved _ _ _ single (e.starved is) (λ pending. (e.starved_on is pending).0))
+    (λ w is. single-waits _ _ _ _ _ _ single (e.tried w is) (e.published w is) (e.waits w is))))
 
 pub returns-clause-answered : goal.returns-clause-answered
 returns-clause-answered c answer is =
-    turn-answered _ _ _ answer.place answer.reply (c.turn.ensures.called answer is) (c.turn.ensures.answered answer is)
+    turn-answered _ _ _ answer.place answer.reply c.requires.2 (c.turn.ensures.called answer is) (c.turn.ensures.answered answer is)
 
 pub returns-clause-pending : goal.returns-clause-pending
 returns-clause-pending c is = turn-starved _ _ _ (c.turn.ensures.starved is) (λ pending. (c.turn.ensures.starved_on is pending).0)
