@@ -1,3 +1,12 @@
-pub mod OneHistory
-pub mod WakesTold
+pub mod by_calls
 pub mod Dumped
+pub mod Flats
+pub mod Held
+pub mod InTime
+pub mod PathPrograms
+pub mod Places
+pub mod Together
+pub mod OneReplies
+pub mod CallSessions
+pub mod Seen
+pub mod WakeUps

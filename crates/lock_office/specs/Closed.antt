@@ -1,47 +1,35 @@
--- What an office of the lock table leaves when it is closed, and what holds of its history.
-use Rattle.std.specs.Prelude.{◌≡◌, ℕ, ◌↔◌, List, ◌++◌, All, Any, Contains}
-use Rattle.lock_rules.specs.Entries.{Entry, Answered}
-use Rattle.lock_rules.specs.Legal.{state_of}
-use Rattle.lock_rules.specs.Laws.{AreRepliesOfSteps, AreHoldersCompatible, IsAccessCompatible, HasNoCircle, DoesGrantStand, DoesDoomStand, DoesRequestStand}
-use Rattle.sequential.specs.Histories.{IsEntryOf, ArePlacesRising}
-use Rattle.lock_rules.specs.Lawful.{IsLawfulState}
-use Rattle.lock_desk.specs.BookView.{BookView}
+-- What an office of programs leaves when it is closed, and what holds of its history.
+use Rattle.std.specs.Prelude.{◌≡◌, ℕ, List, Some, slice_get, All}
+use Rattle.sequential.specs.Histories.{calls_of}
 use Rattle.publication.specs.Views.{BoardView}
-use Rattle.lock_board.specs.LockBoards.{TicketView, book_object}
-use Rattle.combining.specs.Closed.{IsClosed as IsClosedOf, answers_of as answers_of_any}
+use Rattle.combining.specs.Closed.{IsClosed as IsClosedOf, IsOneHistory as IsOneHistoryOfAny}
+use Rattle.programs.specs.Laws.{IsPlaced, GoesOnBehind, StopsAtCause, IsCut}
+use Rattle.lock_programs.specs.Answers.{program_form}
+use Rattle.lock_office.specs.by_calls.OneHistory.{IsOneHistoryOf}
+use Rattle.lock_office.specs.ProgramBoards.{ProgramsView, ProgramEntry, TicketView, program_object, flat_history, calls_answered}
 
--- How many answers these sessions collected, all together.
-abbrev pub answers_of : List TicketView → ℕ
-answers_of = answers_of_any
+-- The programs of a book of an office that was closed with these sessions.
+abbrev pub IsClosed : BoardView → List TicketView → ProgramsView → Type 0
+IsClosed = IsClosedOf program_object
 
--- The book of an office that was closed with these sessions.
-abbrev pub IsClosed : BoardView → List TicketView → BookView → Type 0
-IsClosed = IsClosedOf book_object
+-- The answer tells what became of the calls of the program, which is one of this history.
+pub record IsToldBy (history : List ProgramEntry) (program : ProgramEntry) : Type 0 where
+  -- the calls that were served stand side by side in the history of calls, from the place that the answer tells, with the replies
+  -- that it tells
+  pub placed : IsPlaced program_form history program
+  -- the program goes on behind each reply but the last
+  pub goes_on : GoesOnBehind program_form program
+  -- if calls are left, it stopped at its last reply, or the answer says that memory was refused to the next call
+  pub stops : StopsAtCause program_form program
+  -- if the answer says that memory was refused, calls are left
+  pub cut : IsCut program_form program
 
--- One sequential history of these sessions, in which each session, by its number, finds the calls that it collected.
-pub record IsOneHistoryOf {T : Type 0} (number : T → ℕ) (collected : T → List Answered) (sessions : List T) (history : List Entry) : Type 0 where
-  -- every reply is the one that the sequential lock manager gives at its place
-  pub replies : AreRepliesOfSteps history
-  -- no two transactions ever hold one resource in modes that conflict in both orders
-  pub modes : (front rest : List Entry) → history ≡ front ++ rest → AreHoldersCompatible (state_of front)
-  -- no two transactions ever have incompatible access to a resource, directly or through an ancestor
-  pub access : (front rest : List Entry) → history ≡ front ++ rest → IsAccessCompatible (state_of front)
-  -- no waits ever form a circle
-  pub circles : (front rest : List Entry) → history ≡ front ++ rest → HasNoCircle (state_of front)
-  -- every state on the way obeys all other laws of states
-  pub lawful : (front rest : List Entry) → history ≡ front ++ rest → IsLawfulState (state_of front)
-  -- a grant lasts until it is given back, a doom until its session aborts or restarts, and a request until it is granted, its session
-  -- becomes a victim, aborts or restarts, or takes it back
-  pub grants : (front later rest : List Entry) → history ≡ front ++ later ++ rest → DoesGrantStand front later
-  pub dooms : (front later rest : List Entry) → history ≡ front ++ later ++ rest → DoesDoomStand front later
-  pub requests : (front later rest : List Entry) → history ≡ front ++ later ++ rest → DoesRequestStand front later
-  -- what a session collected are exactly its entries of the history
-  pub entries : All (λ session. (a : Answered) → Contains (collected session) a ↔ IsEntryOf (number session) history a) sessions
-  -- each session's answers have rising places: each call is in the history once, in the session's order
-  pub in_order : All (λ session. ArePlacesRising (collected session)) sessions
-  -- every entry is a call of one of these sessions
-  pub whose : All (λ entry. Any (λ session. number session ≡ entry.session) sessions) history
-
--- One sequential history of these sessions, in which each session finds its calls.
-abbrev pub IsOneHistory : List TicketView → List Entry → Type 0
-IsOneHistory = IsOneHistoryOf (λ session. session.number) (λ session. session.collected)
+-- One sequential history of these sessions, in which each session finds its programs, and each call of these.
+pub record IsOneHistory (sessions : List TicketView) (history : List ProgramEntry) : Type 0 where
+  -- each session's programs are in the history, each once, in its order, and each answer is determined by the programs before it
+  pub programs : IsOneHistoryOfAny program_object sessions history
+  -- the calls of the programs, laid end to end, are one history of the lock manager, in which each session finds its calls
+  pub calls : IsOneHistoryOf (λ session. session.number) (λ session. calls_answered session.collected) sessions (flat_history history)
+  -- a session's calls there are those of the programs that it collected answers to, in order, up to where each stopped
+  pub made : All (λ session. calls_of session.number (flat_history history) ≡ calls_answered session.collected) sessions
+  pub told : (place : ℕ) (program : ProgramEntry) → slice_get history place ≡ Some program → IsToldBy history program

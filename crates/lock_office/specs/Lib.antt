@@ -1,5 +1,20 @@
+-- what is told by the calls of a history, whatever programs make them
+pub mod by_calls
+pub mod ProgramBoards
 pub mod Sessions
+pub mod Single
 pub mod Closed
+pub mod HoldsAsTold
+pub mod Exclusion
 pub mod Ended
-pub mod Queries
+pub mod WakeUps
+pub mod InTime
+pub mod Paths
 pub mod Dump
+pub mod Seen
+pub mod Weights
+pub mod SingleCalls
+pub mod ProgramTurns
+pub mod PathTurns
+-- what only private items speak of
+pub mod inner

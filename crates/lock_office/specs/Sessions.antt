@@ -1,49 +1,40 @@
--- What contracts see of an office of the lock table and its sessions: that of any office, with a book as the object.
+-- What contracts see of an office of programs and its sessions: that of any office, with programs of a book as the object.
 use Rattle.std.specs.Prelude.{ℕ, List}
-use Rattle.lock_rules.specs.declared.calls.Call.{Call}
-use Rattle.lock_rules.specs.declared.calls.Reply.{Reply}
 use Rattle.lock_rules.specs.Entries.{Entry}
+use Rattle.lock_programs.specs.declared.program.Program.{Program}
+use Rattle.lock_programs.specs.declared.answer.Answer.{Answer as ProgramAnswer}
+use Rattle.lock_programs.specs.Calls.{calls_of}
 use Rattle.lock_desk.specs.Batches.{makes_room}
-use Rattle.publication.specs.Views.{BoardView}
-use Rattle.lock_board.specs.LockBoards.{TicketView, book_object}
+use Rattle.programs.specs.Form.{first_goes_first}
 use Rattle.combining.specs.Sessions as any
+pub use Rattle.combining.specs.Sessions.{IsSessionOf, IsIdle, HasNothingPending, IsPendingServed}
+use Rattle.combining.specs.Looks.{HasLooked as HasLookedAt}
 use Rattle.combining.specs.declared.office.Answer.{Answer as AnswerOf}
 use Rattle.combining.specs.declared.office.perform.Performed.{Performed as PerformedOf}
+use Rattle.lock_office.specs.ProgramBoards.{TicketView, program_object, flat_history}
 
 abbrev pub Answer : Type 0
-Answer = AnswerOf Reply
+Answer = AnswerOf ProgramAnswer
 
 abbrev pub Performed : Type 0
-Performed = PerformedOf Reply
-
-abbrev pub IsSessionOf : BoardView → TicketView → Type 0
-IsSessionOf = any.IsSessionOf
-
-abbrev pub IsIdle : TicketView → Type 0
-IsIdle = any.IsIdle
-
-abbrev pub HasNothingPending : TicketView → Type 0
-HasNothingPending = any.HasNothingPending
-
-abbrev pub IsPendingServed : TicketView → Type 0
-IsPendingServed = any.IsPendingServed
-
-abbrev pub HasTriedToList : TicketView → TicketView → Type 0
-HasTriedToList = any.HasTriedToList
+Performed = PerformedOf ProgramAnswer
 
 abbrev pub IsPassed : TicketView → TicketView → ℕ → Type 0
-IsPassed = any.IsPassed book_object
+IsPassed = any.IsPassed program_object
 
-abbrev pub IsCollected : TicketView → TicketView → ℕ → Reply → Type 0
-IsCollected = any.IsCollected book_object
+abbrev pub IsCollected : TicketView → TicketView → ℕ → ProgramAnswer → Type 0
+IsCollected = any.IsCollected program_object
 
--- A call that makes room goes first.
-abbrev pub IsPerformed : TicketView → TicketView → Call → ℕ → Reply → ℕ → Type 0
-IsPerformed before after call = any.IsPerformed book_object (makes_room call) before after call
+-- A program goes first whose first call makes room.
+abbrev pub IsPerformed : TicketView → TicketView → Program → ℕ → ProgramAnswer → ℕ → Type 0
+IsPerformed before after program = any.IsPerformed program_object (first_goes_first makes_room (calls_of program)) before after program
 
 abbrev pub IsRefused : TicketView → TicketView → Type 0
-IsRefused = any.IsRefused book_object
+IsRefused = any.IsRefused program_object
 
--- What a book writes down of its history are its entries.
+-- What is written down of a history are the entries of its calls.
 abbrev pub HasTakenPiece : TicketView → TicketView → ℕ → List Entry → Type 0
-HasTakenPiece = any.HasTakenPiece book_object (λ history. history)
+HasTakenPiece = any.HasTakenPiece program_object flat_history
+
+abbrev pub HasLooked : TicketView → TicketView → Type 0
+HasLooked = HasLookedAt program_object

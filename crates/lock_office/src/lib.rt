@@ -1,16 +1,20 @@
-//! The lock office: threads share a lock table by flat combining. It is the office of `combining`, with a book of `lock_desk` as
-//! its object.
+//! The lock office: threads share a lock table by flat combining, and each call that a session publishes is a program, which is one call of
+//! the lock table or several. It is the office of `combining`, with programs of a book of `lock_desk` as its object.
 //!
-//! Sessions publish, serve and collect by the calls of `combining`. `opening.rt` opens an office that lets go of its history,
-//! `queries.rt` has questions that a session asks of the lock table meanwhile, of any object with a book (`has_book.rt`), `pages.rt` tells
-//! the locks of one session by pages, `counts.rt` the counters, the gauges and the passes, `dump.rt` copies its locks, requests and
-//! transactions of one moment, `memory.rt` makes room in the table and gives memory back, and `laws.rt` says what holds of locks.
+//! A session makes single calls and programs (`call_session.rt`). A program is a commit or abort or neither, a begin or not, and the calls
+//! of a path; its calls are served one after another, up to the first that isn't granted or done. Its answer has the place of the first
+//! call in the history of calls, and all replies follow from it.
 //!
-//! Proved, beside what `combining` proves of any object: each reply is the one that the sequential lock manager gives at its
-//! place, no two transactions ever have incompatible access to a resource, no waits form a circle, and no wake-up is lost
-//! ([`laws`]).
+//! `opening.rt` opens an office that lets go of its history, `single.rt` reads the answer to a program of one call, `paths.rt` counts the
+//! levels of a path that a program locked. `queries.rt`, `pages.rt`, `counts.rt`, `dump.rt` and `memory.rt` look at the lock table of an open
+//! office, of any object with a book (`has_book.rt`). `laws.rt` says what holds of locks, `told_laws.rt` what answers to calls tell.
+//!
+//! Proved, beside what `combining` proves of any object and `programs` of programs: in the history of calls, in which the calls of each
+//! program stand side by side, each reply is the one that the sequential lock manager gives at its place, no two transactions ever have
+//! incompatible access to a resource, no waits form a circle, and no wake-up is lost ([`laws`]).
 #![tactic(auto)]
 
+mod call_session;
 pub mod counts;
 pub mod dump;
 mod has_book;
@@ -18,33 +22,48 @@ pub mod laws;
 pub mod memory;
 mod opening;
 pub mod pages;
+mod paths;
 pub mod queries;
+mod single;
+pub mod told_laws;
 
+pub use call_session::{CallKnowledge, CallSession, Counted, NextOfPath};
 pub use combining::{
     BoundedTurn, CloseFault, Ended, Nobody, OpenFault, PassBound, Posted, Told, Turn, Wait,
-    back_off, call, resume, turn,
+    back_off, call, look, resume, turn,
 };
+pub use dump::dump_book;
 pub use has_book::HasBook;
-pub use lock_board::{Knowledge, Ticket as Session};
 use lock_desk::{Book, Entry, Reply};
-pub use opening::{
-    book_keeping, book_seeded, book_telling, open_keeping, open_seeded, open_telling,
-};
+pub use lock_programs::{Answer as ProgramAnswer, CALLS, Last, Program, Start, Stop};
+pub use opening::{open_keeping, open_telling};
+pub use paths::{levels_granted, path_program};
+use programs::Programs;
+pub use single::reply_of_one;
 
-/// A lock table that threads share by reference, each with sessions of its own.
-pub type Office = combining::Office<Book>;
+/// A lock table that threads share by reference, each with sessions of its own, which make programs.
+pub type Office = combining::Office<Programs<Book>>;
 
-/// The answer to a call.
-pub type Answer = combining::Answer<Reply>;
+/// A session of an office, as an office is opened and closed with it.
+pub type Session = publication::Ticket<Programs<Book>>;
+
+/// What a session knows of the history, and of the programs that were published, as a value.
+pub type Knowledge = publication::Knowledge<Programs<Book>>;
+
+/// The answer to a program, with its place among the programs.
+pub type Answer = combining::Answer<ProgramAnswer>;
+
+/// The answer to a single call, with its place in the history of calls.
+pub type CallAnswer = combining::Answer<Reply>;
 
 /// The outcome of one call of `Office::perform`.
-pub type Performed = combining::Performed<Reply>;
+pub type Performed = combining::Performed<ProgramAnswer>;
 
-/// The outcome of one turn of a call.
-pub type Next = combining::Next<Reply>;
+/// The outcome of one turn of a program.
+pub type Next = combining::Next<ProgramAnswer>;
 
 /// The outcome of `call` and `resume`.
-pub type Called = combining::Called<Reply>;
+pub type Called = combining::Called<ProgramAnswer>;
 
-/// A piece of the history that a session took: its lines are the calls with their replies.
+/// A piece of the history that a session took: its lines are the calls of the programs with their replies.
 pub type HistoryPiece = combining::HistoryPiece<Entry>;

@@ -1,11 +1,11 @@
 //! Sessions that make single calls, by functions that no export of the library for C calls.
 
 ghost use Rattle.std.specs.Prelude.{◌≡◌};
-ghost use Rattle.program_office.specs.Sessions.{IsSessionOf};
+ghost use Rattle.lock_office.specs.Sessions.{IsSessionOf};
 
 use combining::{Answer, Called, Performed};
 use lock_desk::{Call, Mode, NO_BOUND, Reply, Resource, Why};
-use program_office::{
+use lock_office::{
     BoundedTurn, CallSession, Counted, Nobody, Office, PassBound, Posted, Program, Session, Stop,
     open_keeping, reply_of_one,
 };

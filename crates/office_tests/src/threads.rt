@@ -5,7 +5,7 @@ ghost use Rattle.combining.specs.Sessions.{IsSessionOf, IsIdle};
 
 use combining::{CloseFault, Nobody, Posted, call};
 use lock_desk::Book;
-use program_office::{Office, Program, Session, Start};
+use lock_office::{Office, Program, Session, Start};
 use programs::Programs;
 use sequential::{Sequential, Trimming};
 use std::alloc::{AllocError, Global};

@@ -5,7 +5,7 @@ use Rattle.std.proofs.lemmas.List.Elements.{All-append, All-cons}
 use Rattle.std.specs.Prelude.{Bool, true, false, ◌||◌, ◌==◌, All}
 use Rattle.atomic_table.specs.Seated.{TableId}
 use Rattle.publication.specs.Boards.{new_ticket}
-use Rattle.program_office.specs.ProgramBoards.{new_tickets, TicketView}
+use Rattle.lock_office.specs.ProgramBoards.{new_tickets, TicketView}
 use Rattle.publication.proofs.Gathering.{has_number}
 
 -- the list of k new sessions has length k

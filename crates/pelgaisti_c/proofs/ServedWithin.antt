@@ -4,7 +4,7 @@ use Rattle.combining.specs.Ended.{entered_since}
 use Rattle.combining.specs.Rounds.{most_of}
 use Rattle.combining.specs.declared.bounds.PassBound.{PassBound}
 use Rattle.combining.proofs.Places.{entered-none}
-use Rattle.program_office.specs.ProgramBoards.{TicketView}
+use Rattle.lock_office.specs.ProgramBoards.{TicketView}
 use Rattle.pelgaisti_c.specs.Bounds.{HasServedWithin}
 use Rattle.pelgaisti_c.specs.declared.session_share.SessionShare.{SessionShare}
 

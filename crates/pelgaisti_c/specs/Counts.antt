@@ -8,7 +8,7 @@ use Rattle.lock_desk.specs.declared.gauges.Gauges.{Gauges}
 use Rattle.lock_office.specs.declared.counts.PassCounts.{PassCounts}
 use Rattle.lock_desk.specs.Counts.{counts_of}
 use Rattle.lock_desk.specs.Gauges.{gauges_of}
-use Rattle.program_office.specs.ProgramBoards.{flat_history}
+use Rattle.lock_office.specs.ProgramBoards.{flat_history}
 use Rattle.pelgaisti_c.specs.declared.count_numbers.CountNumbers.{CountNumbers}
 use Rattle.pelgaisti_c.specs.declared.count_numbers.GaugeNumbers.{GaugeNumbers}
 use Rattle.pelgaisti_c.specs.declared.count_numbers.PassCountNumbers.{PassCountNumbers}

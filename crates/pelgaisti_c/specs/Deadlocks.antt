@@ -5,7 +5,7 @@ use Rattle.lock_rules.specs.State.{mode_or_nothing}
 use Rattle.lock_desk.specs.Deadlocks.{Moment, AreDeadlocksTold, deadlocks_in, newest}
 use Rattle.lock_desk.specs.declared.deadlock_log.Deadlock.{Deadlock}
 use Rattle.lock_desk.specs.declared.deadlock_log.Member.{Member}
-use Rattle.program_office.specs.ProgramBoards.{flat_history}
+use Rattle.lock_office.specs.ProgramBoards.{flat_history}
 use Rattle.pelgaisti_c.specs.declared.deadlock_numbers.DeadlockNumbers.{DeadlockNumbers}
 use Rattle.pelgaisti_c.specs.declared.deadlock_numbers.MemberNumbers.{MemberNumbers}
 use Rattle.pelgaisti_c.specs.declared.session_share.SessionShare.{SessionShare}

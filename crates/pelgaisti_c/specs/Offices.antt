@@ -3,8 +3,8 @@ use Rattle.std.specs.Prelude.{◌≡◌, ℕ, [], ◌∷◌, ◌++◌, List, Som
 use Rattle.std.specs.Global.{Box}
 use Rattle.publication.specs.Views.{BoardView}
 use Rattle.lock_desk.specs.BookView.{BookView}
-use Rattle.program_office.specs.ProgramBoards.{ProgramsView, TicketView, flat_history, new_tickets}
-use Rattle.program_office.specs.Closed as any
+use Rattle.lock_office.specs.ProgramBoards.{ProgramsView, TicketView, flat_history, new_tickets}
+use Rattle.lock_office.specs.Closed as any
 use Rattle.pelgaisti_c.specs.declared.session_share.SessionShare.{SessionShare}
 use Rattle.pelgaisti_c.specs.declared.session_handle.SessionHandle.{SessionHandle}
 

@@ -3,11 +3,11 @@ use Rattle.std.specs.Prelude.{◌≡◌, ◌≢◌, ℕ, ◌+◌, ◌<◌, ◌�
 use Rattle.lock_modes.specs.declared.Mode.{Mode}
 use Rattle.lock_modes.specs.Codes.{code_of}
 use Rattle.lock_rules.specs.declared.calls.Reply.{Reply}
-use Rattle.program_office.specs.ProgramBoards.{TicketView}
+use Rattle.lock_office.specs.ProgramBoards.{TicketView}
 use Rattle.lock_desk.specs.Paths.{lock_of_level, grants}
-use Rattle.program_office.specs.Sessions.{IsIdle}
-use Rattle.program_office.specs.SingleCalls.{IsCalled, IsAnswered}
-use Rattle.program_office.specs.PathTurns.{IsPathPerformed}
+use Rattle.lock_office.specs.Sessions.{IsIdle}
+use Rattle.lock_office.specs.SingleCalls.{IsCalled, IsAnswered}
+use Rattle.lock_office.specs.PathTurns.{IsPathPerformed}
 use Rattle.pelgaisti_c.specs.declared.numbers.ResourceNumbers.{ResourceNumbers}
 use Rattle.pelgaisti_c.specs.declared.numbers.AnswerNumbers.{AnswerNumbers}
 use Rattle.pelgaisti_c.specs.declared.session_share.SessionShare.{SessionShare}

@@ -4,9 +4,9 @@ use Rattle.publication.specs.Views.{asks}
 use Rattle.lock_programs.specs.declared.program.Program.{Program}
 use Rattle.lock_programs.specs.declared.answer.Answer.{Answer}
 use Rattle.lock_programs.specs.Calls.{calls_of}
-use Rattle.program_office.specs.ProgramBoards.{TicketView, program_object}
-use Rattle.program_office.specs.Sessions.{IsIdle}
-use Rattle.program_office.specs.ProgramTurns.{IsCalled}
+use Rattle.lock_office.specs.ProgramBoards.{TicketView, program_object}
+use Rattle.lock_office.specs.Sessions.{IsIdle}
+use Rattle.lock_office.specs.ProgramTurns.{IsCalled}
 use Rattle.combining.specs.Calls.{IsAnsweredAt, IsCalling, IsWaitingOn}
 use Rattle.combining.specs.Waits.{IsWaitAfterTry, IsWaitAfterLook}
 use Rattle.combining.specs.declared.backoff.TheConstants.{TRIES_AT_ONCE}

@@ -7,8 +7,8 @@ use Rattle.lock_rules.specs.Waits.{waits_for}
 use Rattle.lock_rules.specs.Listing.{listing_of, waiting_line}
 use Rattle.publication.specs.Boards.{HasCallsOf}
 use Rattle.lock_desk.specs.Queries.{blockers_among}
-use Rattle.program_office.specs.ProgramBoards.{flat_history}
-use Rattle.program_office.specs.Sessions.{HasLooked}
+use Rattle.lock_office.specs.ProgramBoards.{flat_history}
+use Rattle.lock_office.specs.Sessions.{HasLooked}
 use Rattle.pelgaisti_c.specs.declared.claims.ClaimNumbers.{ClaimNumbers}
 use Rattle.pelgaisti_c.specs.declared.claims.TransactionNumbers.{TransactionNumbers}
 use Rattle.pelgaisti_c.specs.declared.numbers.HolderNumbers.{HolderNumbers}

@@ -10,11 +10,11 @@ use Rattle.publication.specs.Kinds.{longer, maxes}
 use Rattle.combining.specs.Sessions.{HasTriedToList}
 use Rattle.combining.specs.Ended.{entered_since}
 use Rattle.lock_programs.specs.declared.program.Program.{Program}
-use Rattle.program_office.specs.ProgramBoards.{IsLegal, flat_history}
-use Rattle.program_office.specs.Sessions.{HasNothingPending, IsIdle, IsPassed, IsRefused, IsPendingServed, HasTakenPiece}
-use Rattle.program_office.specs.SingleCalls.{MakesOneCall, IsPerformed, IsCollected}
-use Rattle.program_office.specs.ProgramTurns.{IsPendingSingle}
-use Rattle.program_office.specs.Ended.{AreToldBy}
+use Rattle.lock_office.specs.ProgramBoards.{IsLegal, flat_history}
+use Rattle.lock_office.specs.Sessions.{HasNothingPending, IsIdle, IsPassed, IsRefused, IsPendingServed, HasTakenPiece}
+use Rattle.lock_office.specs.SingleCalls.{MakesOneCall, IsPerformed, IsCollected}
+use Rattle.lock_office.specs.ProgramTurns.{IsPendingSingle}
+use Rattle.lock_office.specs.Ended.{AreToldBy}
 use Rattle.pelgaisti_c.specs.declared.numbers.CallNumbers.{CallNumbers}
 use Rattle.pelgaisti_c.specs.declared.numbers.AnswerNumbers.{AnswerNumbers}
 use Rattle.pelgaisti_c.specs.declared.session_share.SessionShare.{SessionShare}

@@ -2,9 +2,9 @@
 use Rattle.std.specs.Prelude.{◌≡◌, ◌≢◌, ℕ, ◌%◌, ◌<◌, ◌≤◌, None}
 use Rattle.lock_rules.specs.declared.calls.Call.{Call}
 use Rattle.lock_rules.specs.declared.calls.Reply.{Reply}
-use Rattle.program_office.specs.Sessions.{IsIdle}
-use Rattle.program_office.specs.SingleCalls.{IsCalled, IsCalling, IsAnswered}
-use Rattle.program_office.specs.ProgramTurns.{IsPendingSingle}
+use Rattle.lock_office.specs.Sessions.{IsIdle}
+use Rattle.lock_office.specs.SingleCalls.{IsCalled, IsCalling, IsAnswered}
+use Rattle.lock_office.specs.ProgramTurns.{IsPendingSingle}
 use Rattle.combining.specs.Calls.{IsWaitingOn}
 use Rattle.combining.specs.Waits.{IsWaitAfterTry, IsWaitAfterLook}
 use Rattle.combining.specs.declared.backoff.TheConstants.{TRIES_AT_ONCE, LOOKS_PER_TRY}

@@ -9,7 +9,7 @@ ghost use Rattle.pelgaisti_c.specs.declared.session_share.SessionShare.{SessionS
 
 use crate::pointers::SessionPointer;
 use crate::status::{CLOSED, NO_SUCH_COUNT, NULL_POINTER, OK};
-use program_office::PassBound;
+use lock_office::PassBound;
 use std::alloc::Global;
 
 /// How much a pass in a whole call of a session serves, unless it was told otherwise: bench/README.md has what other bounds give.

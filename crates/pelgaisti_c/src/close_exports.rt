@@ -4,7 +4,7 @@ ghost use Rattle.std.specs.Prelude.{◌≡◌, ◌≢◌, ◌≤◌, ◌⊎◌, 
 ghost use denote.RawPtr.{null_ptr};
 ghost use Rattle.lock_desk.specs.BookView.{BookView};
 ghost use Rattle.publication.specs.Boards.{IsEachOnce};
-ghost use Rattle.program_office.specs.Sessions.{HasNothingPending};
+ghost use Rattle.lock_office.specs.Sessions.{HasNothingPending};
 ghost use Rattle.pelgaisti_c.specs.Offices.{all_of, IsClosed};
 ghost use Rattle.pelgaisti_c.specs.Sessions.{IsKept, IsHandedIn};
 ghost use Rattle.pelgaisti_c.specs.declared.session_share.SessionShare.{SessionShare as ShareValue};

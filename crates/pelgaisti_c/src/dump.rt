@@ -12,7 +12,7 @@ use crate::numbers::NOWHERE;
 use crate::session_share::SessionShare;
 use crate::status::{ELSEWHERE, NO_MEMORY, OK};
 use lock_desk::{Book, Claim, Transaction};
-use program_office::dump_book;
+use lock_office::dump_book;
 use std::alloc::{AllocError as NoMemory, Global};
 
 /// The row of a session with its open transaction.

@@ -2,7 +2,7 @@
 
 ghost use Rattle.std.specs.Prelude.{◌≡◌, IfSome};
 
-use program_office::{Counted, Ended};
+use lock_office::{Counted, Ended};
 use std::alloc::Global;
 use std::marker::Model;
 use std::mem;

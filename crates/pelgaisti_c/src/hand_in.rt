@@ -3,7 +3,7 @@
 ghost use Rattle.std.specs.Prelude.{◌≡◌, ◌≢◌, ◌<◌, ◌≤◌, ◌∷◌, ◌++◌, [], ◌↔◌, ◌⊎◌, true, false, None, IsTrue, IsSome, IfOk, IfErr, IfSome, vec_len, vec_capacity};
 ghost use Rattle.lock_rules.specs.declared.calls.TheConstants.{MAX_SESSIONS};
 ghost use Rattle.publication.specs.Boards.{IsEachOnce};
-ghost use Rattle.program_office.specs.Sessions.{HasNothingPending};
+ghost use Rattle.lock_office.specs.Sessions.{HasNothingPending};
 ghost use Rattle.pelgaisti_c.specs.Offices.{all_of, IsClosed};
 ghost use Rattle.pelgaisti_c.specs.Sessions.{IsSameShare, IsHandedIn};
 
@@ -11,7 +11,7 @@ use crate::session_share::SessionShare;
 use crate::status::{COPIED, MISSING, NO_MEMORY, OTHER_OFFICE, PENDING};
 use lock_desk::Book;
 use lock_rules::MAX_SESSIONS;
-use program_office::{CallSession, CloseFault, Session};
+use lock_office::{CallSession, CloseFault, Session};
 use publication::Roll;
 use std::alloc::Global;
 use std::sync::Arc;

@@ -2,7 +2,7 @@
 
 ghost use Rattle.std.specs.Prelude.{◌≡◌, ◌≢◌, ◌↔◌, ◌⊎◌, Some, length, drop};
 ghost use denote.RawPtr.{null_ptr};
-ghost use Rattle.program_office.specs.Seen.{number_of_calls};
+ghost use Rattle.lock_office.specs.Seen.{number_of_calls};
 ghost use Rattle.pelgaisti_c.specs.Calls.{are_written};
 ghost use Rattle.pelgaisti_c.specs.Sessions.{IsHeard};
 ghost use Rattle.pelgaisti_c.specs.declared.session_share.SessionShare.{SessionShare};

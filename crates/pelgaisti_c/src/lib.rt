@@ -10,7 +10,7 @@
 //! `deadlock_numbers.rt`, `status.rt`. Handles: `book_handle.rt`, `session_handle.rt`, and what is in them.
 //!
 //! An export tests the caller's pointers for null, which C gives by their addresses (`pointers/`), takes the value out of the handle, makes
-//! one call of `lock_desk`, `combining` or `program_office`, writes the reply in numbers, puts the value back, and returns a status. Of what it
+//! one call of `lock_desk`, `combining` or `lock_office`, writes the reply in numbers, puts the value back, and returns a status. Of what it
 //! is given by reference C says that it isn't null: numbers that C keeps for itself, and all of `path_step_exports.rt`. `bindings/c` makes
 //! a whole call of turns.
 //!

@@ -2,7 +2,7 @@
 
 ghost use Rattle.std.specs.Prelude.{◌≡◌, ◌≢◌, ◌≤◌, ◌⊎◌, ◌↔◌, [], true, false, Some, None, All, Any, IfOk, length, map};
 ghost use denote.RawPtr.{null_ptr};
-ghost use Rattle.program_office.specs.Sessions.{IsSessionOf, IsIdle};
+ghost use Rattle.lock_office.specs.Sessions.{IsSessionOf, IsIdle};
 ghost use Rattle.lock_rules.specs.declared.calls.TheConstants.{MAX_SESSIONS};
 ghost use Rattle.publication.specs.Views.{BoardView};
 ghost use Rattle.pelgaisti_c.specs.Offices.{IsOfOffice, AreSessionsOf};
@@ -14,7 +14,7 @@ use crate::session_handle::SessionHandle;
 use crate::session_share::SessionShare;
 use crate::status::{NO_MEMORY, NO_SUCH_COUNT, NULL_POINTER, OK, OPEN};
 use lock_rules::MAX_SESSIONS;
-use program_office::{CallSession, Counted, Ended, Office, Session, open_telling};
+use lock_office::{CallSession, Counted, Ended, Office, Session, open_telling};
 use std::alloc::{AllocError, Global};
 use std::sync::Arc;
 

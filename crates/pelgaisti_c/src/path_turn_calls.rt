@@ -4,11 +4,11 @@ ghost use Rattle.std.specs.Prelude.{◌≡◌, ◌≢◌, ◌+◌, ◌<◌, ◌�
 ghost use Rattle.combining.specs.Calls.{IsWaitingOn};
 ghost use Rattle.combining.specs.Ended.{entered_since};
 ghost use Rattle.combining.specs.Waits.{IsWaitAfterTry, IsWaitAfterLook};
-ghost use Rattle.program_office.specs.Sessions.{IsIdle};
-ghost use Rattle.program_office.specs.SingleCalls.{IsCalled, IsCalling, IsAnswered};
-ghost use Rattle.program_office.specs.Ended.{AreToldBy};
+ghost use Rattle.lock_office.specs.Sessions.{IsIdle};
+ghost use Rattle.lock_office.specs.SingleCalls.{IsCalled, IsCalling, IsAnswered};
+ghost use Rattle.lock_office.specs.Ended.{AreToldBy};
 ghost use Rattle.lock_desk.specs.Paths.{lock_of_level, grants};
-ghost use Rattle.program_office.specs.PathTurns.{IsPathPerformed};
+ghost use Rattle.lock_office.specs.PathTurns.{IsPathPerformed};
 ghost use Rattle.pelgaisti_c.specs.Bounds.{HasServedWithin};
 ghost use Rattle.pelgaisti_c.specs.Numbers.{IsModeCode, numbers_of_reply};
 ghost use Rattle.pelgaisti_c.specs.Sessions.{IsSameOffice, AreToWake};
@@ -21,7 +21,7 @@ use crate::turn_calls::{NO_TURN, forget_told, publish_last, wait_number};
 use combining::{Answer, Nobody, TRIES_AT_ONCE};
 use lock_desk::{Mode, Resource, grants, lock_of_level};
 use lock_rules::Reply;
-use program_office::{Counted, NextOfPath};
+use lock_office::{Counted, NextOfPath};
 
 /// A level was locked, and the next turn is to be made at once.
 pub const AT_ONCE: u32 = 1;

@@ -3,9 +3,9 @@
 ghost use Rattle.std.specs.Prelude.{◌≡◌, ◌≢◌, ◌<◌, ◌≤◌, ◌⊎◌, ◌↔◌, ◌==◌, true, false, None, IsTrue, IfOk, IfErr, length};
 ghost use Rattle.combining.specs.Ended.{entered_since};
 ghost use Rattle.combining.specs.declared.office.Answer.{Answer};
-ghost use Rattle.program_office.specs.Sessions.{IsIdle, IsRefused};
-ghost use Rattle.program_office.specs.SingleCalls.{IsPerformed};
-ghost use Rattle.program_office.specs.Ended.{AreToldBy};
+ghost use Rattle.lock_office.specs.Sessions.{IsIdle, IsRefused};
+ghost use Rattle.lock_office.specs.SingleCalls.{IsPerformed};
+ghost use Rattle.lock_office.specs.Ended.{AreToldBy};
 ghost use Rattle.sequential.specs.Histories.{calls_of};
 ghost use Rattle.publication.specs.Boards.{HasCallsOf, heard_from};
 ghost use Rattle.lock_rules.specs.declared.calls.Call.{Call as CallValue};
@@ -21,7 +21,7 @@ use crate::status::{
 };
 use combining::Performed;
 use lock_rules::{Call, Reply};
-use program_office::CallSession;
+use lock_office::CallSession;
 use std::alloc::Global;
 
 /// The call that the numbers encode, if the session may make it. Else the status of the first test that fails.

@@ -5,9 +5,9 @@ ghost use Rattle.lock_programs.specs.declared.program.Program.{Program as Progra
 ghost use Rattle.lock_programs.specs.declared.answer.Answer.{Answer as AnswerValue};
 ghost use Rattle.lock_programs.specs.Calls.{calls_of};
 ghost use Rattle.combining.specs.declared.office.Answer.{Answer as AnswerOf};
-ghost use Rattle.program_office.specs.Sessions.{IsIdle};
-ghost use Rattle.program_office.specs.ProgramTurns.{IsCalled, IsAnswered};
-ghost use Rattle.program_office.specs.Ended.{AreToldBy};
+ghost use Rattle.lock_office.specs.Sessions.{IsIdle};
+ghost use Rattle.lock_office.specs.ProgramTurns.{IsCalled, IsAnswered};
+ghost use Rattle.lock_office.specs.Ended.{AreToldBy};
 ghost use Rattle.combining.specs.Calls.{IsCalling, IsWaitingOn};
 ghost use Rattle.combining.specs.Ended.{entered_since};
 ghost use Rattle.combining.specs.Waits.{IsWaitAfterTry, IsWaitAfterLook};
@@ -26,7 +26,7 @@ use crate::status::{
 use crate::turn_calls::{NO_TURN, forget_told, wait_number};
 use combining::{LOOKS_PER_TRY, Next, Nobody, TRIES_AT_ONCE};
 use lock_programs::{Answer, Program};
-use program_office::Counted;
+use lock_office::Counted;
 
 /// The program that the numbers encode, if it makes a call. Else the status of the first test that fails: a program of no calls fails that of
 /// its last call.

@@ -2,8 +2,8 @@
 
 ghost use Rattle.std.specs.Prelude.{◌≡◌, ◌≢◌, ◌<◌, ◌≤◌, ◌↔◌, ◌⊎◌, true, Some, None, length};
 ghost use denote.RawPtr.{null_ptr};
-ghost use Rattle.program_office.specs.Sessions.{IsPendingServed};
-ghost use Rattle.program_office.specs.ProgramTurns.{HasSeveralPending};
+ghost use Rattle.lock_office.specs.Sessions.{IsPendingServed};
+ghost use Rattle.lock_office.specs.ProgramTurns.{HasSeveralPending};
 ghost use Rattle.lock_rules.specs.declared.calls.Call.{Call};
 ghost use Rattle.pelgaisti_c.specs.Behind.{IsNullList};
 ghost use Rattle.pelgaisti_c.specs.Numbers.{IsCall, IsCallFault};

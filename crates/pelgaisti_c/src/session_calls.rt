@@ -2,9 +2,9 @@
 
 ghost use Rattle.std.specs.Prelude.{◌≡◌, ◌≢◌, ◌<◌, ◌≤◌, ◌⊎◌, ◌↔◌, ◌==◌, true, false, [], None, IsTrue, length, drop};
 ghost use Rattle.combining.specs.Ended.{entered_since};
-ghost use Rattle.program_office.specs.Sessions.{IsPassed, IsPendingServed};
-ghost use Rattle.program_office.specs.ProgramTurns.{HasSeveralPending};
-ghost use Rattle.program_office.specs.Ended.{AreToldBy};
+ghost use Rattle.lock_office.specs.Sessions.{IsPassed, IsPendingServed};
+ghost use Rattle.lock_office.specs.ProgramTurns.{HasSeveralPending};
+ghost use Rattle.lock_office.specs.Ended.{AreToldBy};
 ghost use Rattle.sequential.specs.Histories.{calls_of};
 ghost use Rattle.publication.specs.Boards.{HasCallsOf, heard_from};
 ghost use Rattle.lock_rules.specs.declared.calls.Call.{Call as CallValue};
@@ -21,7 +21,7 @@ use crate::status::{
     ELSEWHERE, NO_MEMORY, NO_ROOM, NO_SUCH_MODE, NO_SUCH_OP, NOT_SERVED, NOTHING_PENDING, OK,
     OTHER_OFFICE, PENDING, RETIRED,
 };
-use program_office::{Counted, Ended, Posted, Turn};
+use lock_office::{Counted, Ended, Posted, Turn};
 use std::alloc::Global;
 
 /// The session's record is on the publication list.

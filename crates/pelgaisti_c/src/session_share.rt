@@ -2,10 +2,10 @@
 
 ghost use Rattle.std.specs.Prelude.{◌≡◌, ◌≢◌, ◌≤◌, [], All};
 ghost use Rattle.lock_rules.specs.declared.calls.TheConstants.{MAX_SESSIONS};
-ghost use Rattle.program_office.specs.Sessions.{IsSessionOf, HasNothingPending};
+ghost use Rattle.lock_office.specs.Sessions.{IsSessionOf, HasNothingPending};
 
 use crate::ended_list::EndedList;
-use program_office::{CallSession, Counted, Ended, Office, Session};
+use lock_office::{CallSession, Counted, Ended, Office, Session};
 use std::sync::Arc;
 
 /// A session and its share of the office.

@@ -4,10 +4,10 @@ ghost use Rattle.std.specs.Prelude.{◌≡◌, ◌≢◌, ◌<◌, ◌≤◌, �
 ghost use Rattle.lock_rules.specs.declared.calls.Call.{Call as CallValue};
 ghost use Rattle.lock_rules.specs.declared.calls.Reply.{Reply as ReplyValue};
 ghost use Rattle.combining.specs.declared.office.Answer.{Answer};
-ghost use Rattle.program_office.specs.Sessions.{IsIdle};
-ghost use Rattle.program_office.specs.SingleCalls.{IsCalled, IsCalling, IsAnswered};
-ghost use Rattle.program_office.specs.ProgramTurns.{HasSeveralPending};
-ghost use Rattle.program_office.specs.Ended.{AreToldBy};
+ghost use Rattle.lock_office.specs.Sessions.{IsIdle};
+ghost use Rattle.lock_office.specs.SingleCalls.{IsCalled, IsCalling, IsAnswered};
+ghost use Rattle.lock_office.specs.ProgramTurns.{HasSeveralPending};
+ghost use Rattle.lock_office.specs.Ended.{AreToldBy};
 ghost use Rattle.combining.specs.Calls.{IsWaitingOn};
 ghost use Rattle.combining.specs.Ended.{entered_since};
 ghost use Rattle.combining.specs.Waits.{IsWaitAfterTry, IsWaitAfterLook};
@@ -24,7 +24,7 @@ use crate::status::{
 use combining::{LOOKS_PER_TRY, Next, Nobody, TRIES_AT_ONCE, Told, Wait};
 use lock_desk::Book;
 use lock_rules::{Call, Reply};
-use program_office::Counted;
+use lock_office::Counted;
 use programs::Programs;
 
 /// No turn is left.

@@ -3,7 +3,7 @@
 ghost use Rattle.std.specs.Prelude.{◌≡◌, ◌≢◌, ◌≤◌, ◌⊎◌, ◌↔◌, true, Some, None};
 ghost use denote.RawPtr.{null_ptr};
 ghost use Rattle.lock_rules.specs.declared.calls.Call.{Call};
-ghost use Rattle.program_office.specs.ProgramTurns.{HasSeveralPending};
+ghost use Rattle.lock_office.specs.ProgramTurns.{HasSeveralPending};
 ghost use Rattle.pelgaisti_c.specs.Bounds.{HasServedWithin};
 ghost use Rattle.pelgaisti_c.specs.Numbers.{IsCall, IsCallFault};
 ghost use Rattle.pelgaisti_c.specs.Sessions.{AreToWake};

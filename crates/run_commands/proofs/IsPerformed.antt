@@ -3,8 +3,8 @@ use Rattle.std.proofs.Common.{ap, sym, refl, ◌≡◌, ◌∙◌, ℕ, List, []
 use Rattle.publication.specs.Views.{BoardView}
 use Rattle.lock_rules.specs.declared.calls.Call.{Call}
 use Rattle.lock_programs.specs.Calls.{calls_of}
-use Rattle.program_office.specs.ProgramBoards.{TicketView, Pending}
-use Rattle.program_office.specs.Sessions.{IsSessionOf}
+use Rattle.lock_office.specs.ProgramBoards.{TicketView, Pending}
+use Rattle.lock_office.specs.Sessions.{IsSessionOf}
 use Rattle.lock_trace.specs.declared.trace_row.TraceRow.{TraceRow}
 use Rattle.run_commands.specs.Calls.{calls_collected, calls_of_rows}
 use Rattle.run_commands.specs.Workers.{Calls, calls_known, first_call, IsNewSession, IsPerformed}

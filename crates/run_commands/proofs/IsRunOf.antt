@@ -10,13 +10,13 @@ use Rattle.sequential.specs.Histories.{calls_from, calls_of, IsEntryWithin}
 use Rattle.publication.specs.Views.{BoardView}
 use Rattle.programs.proofs.Sessions.{calls_of-flat}
 use Rattle.lock_programs.specs.Answers.{program_form}
-use Rattle.program_office.specs.ProgramBoards.{TicketView, ProgramEntry, ProgramsView, IsLegal, flat_history, calls_answered as answers_of_calls, new_tickets}
-use Rattle.program_office.proofs.Flats.{flat-within}
+use Rattle.lock_office.specs.ProgramBoards.{TicketView, ProgramEntry, ProgramsView, IsLegal, flat_history, calls_answered as answers_of_calls, new_tickets}
+use Rattle.lock_office.proofs.Flats.{flat-within}
 use Rattle.publication.specs.declared.closing.CloseFault.{CloseFault}
 use Rattle.publication.specs.declared.closing.CloseFault.TheVariants as close
 use Rattle.publication.specs.Boards.{IsEachOnce, AccountsFor, new_ticket}
-use Rattle.program_office.specs.Sessions.{IsSessionOf, IsIdle, HasNothingPending}
-use Rattle.program_office.specs.Closed.{IsClosed}
+use Rattle.lock_office.specs.Sessions.{IsSessionOf, IsIdle, HasNothingPending}
+use Rattle.lock_office.specs.Closed.{IsClosed}
 use Rattle.lock_trace.specs.declared.trace_row.TraceRow.{TraceRow}
 use Rattle.lock_trace.specs.Rows.{IsRow}
 use Rattle.run_commands.specs.Calls.{calls_answered, calls_of_rows}

@@ -8,12 +8,12 @@ use Rattle.std.proofs.lemmas.List.{length_push, map-append}
 use Rattle.std.proofs.lemmas.List.Elements.{All-pop, All-push, All-weaker}
 use Rattle.publication.specs.Views.{BoardView}
 use Rattle.lock_programs.specs.Answers.{program_form}
-use Rattle.program_office.specs.ProgramBoards.{TicketView, ProgramsView, flat_history, new_tickets}
+use Rattle.lock_office.specs.ProgramBoards.{TicketView, ProgramsView, flat_history, new_tickets}
 use Rattle.publication.specs.declared.closing.CloseFault.{CloseFault}
 use Rattle.publication.specs.declared.closing.CloseFault.TheVariants as close
 use Rattle.publication.specs.Boards.{AccountsFor, IsEachOnce, new_ticket}
-use Rattle.program_office.specs.Sessions.{HasNothingPending, IsSessionOf, IsIdle}
-use Rattle.program_office.specs.Closed.{IsClosed}
+use Rattle.lock_office.specs.Sessions.{HasNothingPending, IsSessionOf, IsIdle}
+use Rattle.lock_office.specs.Closed.{IsClosed}
 use Rattle.lock_trace.specs.declared.trace_row.TraceRow.{TraceRow}
 use Rattle.lock_trace.specs.Rows.{IsRow}
 use Rattle.run_commands.specs.Calls.{calls_collected}

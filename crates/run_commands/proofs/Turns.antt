@@ -13,10 +13,10 @@ use Rattle.lock_programs.specs.Calls.{calls_of}
 use Rattle.lock_programs.specs.Answers.{program_form, replies_of}
 use Rattle.publication.specs.Views.{answer, asks}
 use Rattle.combining.specs.Calls.{IsWaitingOn, IsAnsweredAt}
-use Rattle.program_office.specs.ProgramBoards.{TicketView, Pending, AnsweredProgram, program_object, calls_answered as answers_of_calls}
-use Rattle.program_office.specs.ProgramTurns.{IsPendingSingle}
-use Rattle.program_office.specs.SingleCalls.{IsAnswered, IsCalled, IsCalling, IsOneCall, MakesOneCall}
-use Rattle.program_office.proofs.Flats.{flat_calls-append}
+use Rattle.lock_office.specs.ProgramBoards.{TicketView, Pending, AnsweredProgram, program_object, calls_answered as answers_of_calls}
+use Rattle.lock_office.specs.ProgramTurns.{IsPendingSingle}
+use Rattle.lock_office.specs.SingleCalls.{IsAnswered, IsCalled, IsCalling, IsOneCall, MakesOneCall}
+use Rattle.lock_office.proofs.Flats.{flat_calls-append}
 use Rattle.run_commands.specs.Calls.{calls_answered, calls_collected}
 use Rattle.run_commands.specs.Workers.{Calls, calls_known, first_call}
 

@@ -10,9 +10,9 @@ use Rattle.lock_rules.specs.Legal.{IsLegal}
 use Rattle.lock_rules.proofs.Histories.{legal-front}
 use Rattle.programs.specs.Fronts.{flat-append}
 use Rattle.lock_programs.specs.Answers.{program_form}
-use Rattle.program_office.specs.ProgramBoards.{TicketView, ProgramEntry, flat_history}
+use Rattle.lock_office.specs.ProgramBoards.{TicketView, ProgramEntry, flat_history}
 use Rattle.publication.proofs.Histories.{length-begins}
-use Rattle.program_office.specs.Sessions.{HasTakenPiece}
+use Rattle.lock_office.specs.Sessions.{HasTakenPiece}
 use Rattle.lock_trace.specs.Histories.{text_of_history, text_of_piece}
 use Rattle.replay_commands.specs.Pieces.{IsFaultOfPiece}
 use Rattle.run_commands.specs.Runs.{HasWrittenFront, HasWrittenPart}

@@ -3,7 +3,7 @@ use Rattle.std.specs.Prelude.{◌==◌, ℕ, List, map}
 use Rattle.std.specs.List.{filter}
 use Rattle.lock_rules.specs.declared.calls.Call.{Call}
 use Rattle.lock_rules.specs.Entries.{Answered}
-use Rattle.program_office.specs.ProgramBoards.{AnsweredProgram, calls_answered as answers_of_calls}
+use Rattle.lock_office.specs.ProgramBoards.{AnsweredProgram, calls_answered as answers_of_calls}
 use Rattle.lock_trace.specs.declared.trace_row.TraceRow.{TraceRow}
 
 -- the calls of session `i` in the rows of a trace, in order

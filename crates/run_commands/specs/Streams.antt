@@ -5,12 +5,12 @@ use Rattle.lock_rules.specs.Entries.{Entry}
 use Rattle.lock_rules.specs.Legal.{IsLegal}
 use Rattle.lock_desk.specs.BookView.{BookView}
 use Rattle.publication.specs.Views.{BoardView}
-use Rattle.program_office.specs.ProgramBoards.{TicketView, ProgramsView, flat_history, new_tickets}
+use Rattle.lock_office.specs.ProgramBoards.{TicketView, ProgramsView, flat_history, new_tickets}
 use Rattle.publication.specs.Boards.{IsEachOnce, new_ticket}
 use Rattle.publication.specs.declared.closing.CloseFault.{CloseFault}
 use Rattle.publication.specs.declared.closing.CloseFault.TheVariants as close
-use Rattle.program_office.specs.Sessions.{HasNothingPending}
-use Rattle.program_office.specs.Closed.{IsClosed}
+use Rattle.lock_office.specs.Sessions.{HasNothingPending}
+use Rattle.lock_office.specs.Closed.{IsClosed}
 use Rattle.lock_trace.specs.Histories.{text_of_history, text_of_piece}
 use Rattle.replay_commands.specs.declared.tool_fault.ToolFault.{ToolFault}
 use Rattle.replay_commands.specs.declared.tool_fault.ToolFault.TheVariants as tool

@@ -4,8 +4,8 @@ use Rattle.lock_rules.specs.declared.calls.Call.{Call}
 use Rattle.publication.specs.Views.{BoardView}
 use Rattle.lock_rules.specs.declared.calls.Call.TheVariants.{Poll}
 use Rattle.lock_programs.specs.Calls.{calls_of}
-use Rattle.program_office.specs.ProgramBoards.{TicketView}
-use Rattle.program_office.specs.Sessions.{IsSessionOf, IsIdle}
+use Rattle.lock_office.specs.ProgramBoards.{TicketView}
+use Rattle.lock_office.specs.Sessions.{IsSessionOf, IsIdle}
 use Rattle.lock_trace.specs.declared.trace_row.TraceRow.{TraceRow}
 use Rattle.replay_commands.specs.Faults.{number_of_fault}
 use Rattle.run_commands.specs.Calls.{calls_collected, calls_of_rows}

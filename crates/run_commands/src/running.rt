@@ -13,7 +13,7 @@ use crate::threads::{Run, work_in_threads};
 use crate::workers::Stop;
 use lock_desk::Book;
 use lock_trace::{TraceRow, history_text, read_trace};
-use program_office::Office;
+use lock_office::Office;
 use replay_commands::{ToolFault, write_text};
 use std::alloc::Global;
 use std::io::{Read, Write};

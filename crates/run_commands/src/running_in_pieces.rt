@@ -2,7 +2,7 @@
 
 ghost use Rattle.std.specs.Io.KnownBytes.{Appends, Keeps};
 ghost use Rattle.std.specs.Prelude.{◌≡◌, ◌≢◌, ℕ, ◌<◌, ◌≤◌, ◌++◌, ◌∷◌, [], List, Some, All, drop, length, OnOk, IfOk, IfErr, IfSome};
-ghost use Rattle.program_office.specs.Sessions.{IsSessionOf};
+ghost use Rattle.lock_office.specs.Sessions.{IsSessionOf};
 ghost use Rattle.lock_rules.specs.declared.calls.TheConstants.{MAX_SESSIONS};
 ghost use Rattle.lock_trace.specs.declared.faults.TraceFault.{TraceFault as FaultValue};
 ghost use Rattle.lock_trace.specs.Histories.{text_of_piece};
@@ -18,7 +18,7 @@ use crate::threads::Run;
 use lock_desk::Book;
 use lock_rules::MAX_SESSIONS;
 use lock_trace::{TraceRow, read_trace};
-use program_office::{Office, Session};
+use lock_office::{Office, Session};
 use replay_commands::{ToolFault, write_piece};
 use std::alloc::Global;
 use std::io::{Read, Write};

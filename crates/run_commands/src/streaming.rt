@@ -1,8 +1,8 @@
 //! Takes the history of a run while its threads are at work, and writes it.
 
 ghost use Rattle.std.specs.Prelude.{◌≡◌, ℕ, [], List, Option, Ok, IfOk, IfErr, All};
-ghost use Rattle.program_office.specs.ProgramBoards.{flat_history};
-ghost use Rattle.program_office.specs.Sessions.{IsSessionOf};
+ghost use Rattle.lock_office.specs.ProgramBoards.{flat_history};
+ghost use Rattle.lock_office.specs.Sessions.{IsSessionOf};
 ghost use Rattle.run_commands.specs.Streams.{IsFaultOfStream, IsWrittenUpTo, bare};
 ghost use Rattle.run_commands.specs.Workers.{IsNewSession, IsPerformed, fault_of_stop, numbers_of};
 
@@ -10,7 +10,7 @@ use crate::call_gate::Gate;
 use crate::pacing::{Pace, Progress};
 use crate::threads::{Run, join_all, start_all};
 use crate::workers::Stop;
-use program_office::{Office, Session};
+use lock_office::{Office, Session};
 use replay_commands::{ToolFault, write_piece};
 use std::alloc::Global;
 use std::io::Write;

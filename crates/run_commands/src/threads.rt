@@ -2,14 +2,14 @@
 
 ghost use Rattle.std.specs.Prelude.{◌≡◌, ◌⊎◌, ◌≤◌, ◌++◌, ◌∷◌, [], ℕ, false, Some, None, List, IfOk, IfErr, IfSome, OnOk, length, map, vec_len, All};
 ghost use Rattle.std.specs.Bool.{OnFalse};
-ghost use Rattle.program_office.specs.Sessions.{IsSessionOf, IsIdle};
+ghost use Rattle.lock_office.specs.Sessions.{IsSessionOf, IsIdle};
 ghost use Rattle.run_commands.specs.Calls.{calls_of_rows};
 ghost use Rattle.run_commands.specs.Workers.{IsNewSession, IsPerformed, IsWorkOf, IsStart, number_of_start, numbers_of, numbers_of_starts, first_of_stops};
 
 use crate::call_gate::Gate;
 use crate::workers::{Stop, work_through};
 use lock_trace::TraceRow;
-use program_office::{CallSession, Office, Session};
+use lock_office::{CallSession, Office, Session};
 use std::alloc::Global;
 use std::sync::Wait;
 use std::sync::atomic::{AtomicUsize, Ordering};

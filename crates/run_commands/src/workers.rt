@@ -8,7 +8,7 @@ use crate::call_gate::Gate;
 use combining::{Next as NextOf, Nobody, back_off};
 use lock_desk::{Call, Reply};
 use lock_trace::TraceRow;
-use program_office::{CallSession, Counted, Office};
+use lock_office::{CallSession, Counted, Office};
 use replay_commands::ToolFault;
 
 /// The outcome of one turn of a call.
@@ -91,8 +91,8 @@ pub(crate) trait Service: Sync {
 
 impl Service for Office {
     ghost use Rattle.std.specs.Prelude.{◌≡◌, false};
-    ghost use Rattle.program_office.specs.ProgramTurns.{IsPendingSingle};
-    ghost use Rattle.program_office.specs.Sessions.{IsSessionOf};
+    ghost use Rattle.lock_office.specs.ProgramTurns.{IsPendingSingle};
+    ghost use Rattle.lock_office.specs.Sessions.{IsSessionOf};
     ghost use Rattle.run_commands.specs.Workers.{calls_known};
 
     /// A session of the office, which makes single calls.

@@ -1,6 +1,6 @@
 use Rattle.std.proofs.Common.{◌≡◌, ℕ, subst, rules}
 use Rattle.lock_desk.specs.Deadlocks.{AreDeadlocksTold, deadlocks_in, newest}
-use Rattle.program_office.specs.ProgramBoards.{flat_history}
+use Rattle.lock_office.specs.ProgramBoards.{flat_history}
 use Rattle.pelgaisti_c.proofs.deadlocks.told_in_office.Goals as goal
 
 pub returns-clause-ok : goal.returns-clause-ok

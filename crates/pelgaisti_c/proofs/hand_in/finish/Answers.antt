@@ -2,9 +2,9 @@ use Rattle.std.proofs.Common.{rules, ◌≡◌, ◌∙◌, ◌∷◌, [], ◌++�
 use Rattle.std.specs.Prelude.{All}
 use Rattle.std.proofs.lemmas.List.Elements.{All-append, All-cons}
 use Rattle.publication.specs.Views.{BoardView}
-use Rattle.program_office.specs.ProgramBoards.{TicketView}
-use Rattle.program_office.specs.Sessions.{IsSessionOf, HasNothingPending}
-use Rattle.program_office.specs.Closed as any
+use Rattle.lock_office.specs.ProgramBoards.{TicketView}
+use Rattle.lock_office.specs.Sessions.{IsSessionOf, HasNothingPending}
+use Rattle.lock_office.specs.Closed as any
 use Rattle.pelgaisti_c.proofs.hand_in.finish.Goals as goal
 
 pub unreachable-requires-in-Err-Unsettled-default-default : goal.unreachable-requires-in-Err-Unsettled-default-default

@@ -1,7 +1,7 @@
 use Rattle.std.proofs.Common.{rules, ◌≡◌, ◌∷◌, [], ◌++◌, ◌||◌, ◌==◌, length, take, sym, ap, ◌∙◌, List}
 use Rattle.std.proofs.lemmas.List.{take_all, length-append}
 use Rattle.lock_rules.specs.declared.calls.TheConstants.{MAX_SESSIONS}
-use Rattle.program_office.specs.ProgramBoards.{TicketView}
+use Rattle.lock_office.specs.ProgramBoards.{TicketView}
 use Rattle.publication.specs.Rolls.{is_called}
 use Rattle.publication.proofs.Gathering.{has_number, each_once_tells}
 use Rattle.pelgaisti_c.proofs.Handles.{has_number_last}

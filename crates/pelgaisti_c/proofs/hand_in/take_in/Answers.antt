@@ -2,8 +2,8 @@ use Rattle.std.proofs.Common.{rules, ◌≡◌, ◌∙◌, ◌∷◌, [], ◌++�
 use Rattle.std.specs.Prelude.{All, slice_index_or}
 use Rattle.std.proofs.lemmas.List.Elements.{All-append, All-push}
 use Rattle.publication.specs.Views.{BoardView}
-use Rattle.program_office.specs.ProgramBoards.{TicketView}
-use Rattle.program_office.specs.Sessions.{IsSessionOf, HasNothingPending}
+use Rattle.lock_office.specs.ProgramBoards.{TicketView}
+use Rattle.lock_office.specs.Sessions.{IsSessionOf, HasNothingPending}
 use Rattle.pelgaisti_c.proofs.hand_in.take_in.Goals as goal
 
 pub invariant_of-to-2 : goal.invariant_of-to-2

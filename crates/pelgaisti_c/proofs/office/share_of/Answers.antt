@@ -1,8 +1,8 @@
 use Rattle.std.proofs.Common.{rules, ◌≡◌, [], List, sym, ap, ◌∙◌, subst, arith}
 use Rattle.std.specs.Prelude.{All}
 use Rattle.publication.specs.Views.{BoardView}
-use Rattle.program_office.specs.ProgramBoards.{TicketView}
-use Rattle.program_office.specs.Sessions.{IsSessionOf, HasNothingPending}
+use Rattle.lock_office.specs.ProgramBoards.{TicketView}
+use Rattle.lock_office.specs.Sessions.{IsSessionOf, HasNothingPending}
 use Rattle.pelgaisti_c.proofs.office.share_of.Goals as goal
 
 pub invariant_of-share-clause-ours : goal.invariant_of-share-clause-ours

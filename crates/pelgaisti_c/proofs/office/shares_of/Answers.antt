@@ -4,7 +4,7 @@ use Rattle.std.specs.Global.{Box}
 use Rattle.std.proofs.lemmas.List.Elements.{All-append, All-cons}
 use Rattle.publication.proofs.Gathering.{map_push}
 use Rattle.publication.specs.Views.{BoardView}
-use Rattle.program_office.specs.ProgramBoards.{TicketView}
+use Rattle.lock_office.specs.ProgramBoards.{TicketView}
 use Rattle.pelgaisti_c.specs.declared.session_share.SessionShare.{SessionShare}
 use Rattle.pelgaisti_c.specs.Offices.{IsOfOffice}
 use Rattle.pelgaisti_c.proofs.office.shares_of.Goals as goal

@@ -1,6 +1,6 @@
 use Rattle.std.proofs.Common.{rules, ◌≡◌, ℕ, arith, subst}
 use Rattle.combining.specs.Ended.{entered_since}
-use Rattle.program_office.specs.Ended.{AreToldBy}
+use Rattle.lock_office.specs.Ended.{AreToldBy}
 use Rattle.pelgaisti_c.proofs.path_turn_calls.make_path_turn.Goals as goal
 
 pub returns-clause-told : goal.returns-clause-told

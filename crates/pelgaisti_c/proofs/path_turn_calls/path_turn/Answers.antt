@@ -1,8 +1,8 @@
 use Rattle.std.proofs.Common.{◌∙◌, ◌+◌, inl, inr, ⊎_elim, ap, sym, refl, subst, arith}
 use Rattle.combining.specs.Calls.{IsWaitingOn}
 use Rattle.lock_desk.specs.Paths.{lock_of_level}
-use Rattle.program_office.specs.ProgramBoards.{TicketView}
-use Rattle.program_office.specs.SingleCalls.{IsCalling}
+use Rattle.lock_office.specs.ProgramBoards.{TicketView}
+use Rattle.lock_office.specs.SingleCalls.{IsCalling}
 use Rattle.pelgaisti_c.specs.declared.numbers.AnswerNumbers.{AnswerNumbers}
 use Rattle.pelgaisti_c.proofs.SameOffice.{same-trans}
 use Rattle.pelgaisti_c.proofs.PathTurns.{gone-performed, gone-answered}

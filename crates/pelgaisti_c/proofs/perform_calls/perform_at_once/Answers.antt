@@ -1,5 +1,5 @@
 use Rattle.std.proofs.Common.{rules, ◌≡◌, ℕ, refl, sym, subst, arith}
-use Rattle.program_office.specs.SingleCalls.{IsPerformed}
+use Rattle.lock_office.specs.SingleCalls.{IsPerformed}
 use Rattle.combining.specs.declared.office.perform.Performed.TheVariants.{Answered}
 use Rattle.pelgaisti_c.proofs.Starved.{is_one, falls}
 use Rattle.pelgaisti_c.proofs.perform_calls.perform_at_once.Goals as goal

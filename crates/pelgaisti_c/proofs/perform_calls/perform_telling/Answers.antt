@@ -1,7 +1,7 @@
 use Rattle.std.proofs.Common.{rules, ◌≡◌, ℕ, refl, sym, subst, arith, ◌∙◌}
-use Rattle.program_office.specs.SingleCalls.{IsPerformed}
+use Rattle.lock_office.specs.SingleCalls.{IsPerformed}
 use Rattle.combining.specs.Ended.{entered_since}
-use Rattle.program_office.specs.Ended.{AreToldBy}
+use Rattle.lock_office.specs.Ended.{AreToldBy}
 use Rattle.combining.specs.declared.office.perform.Performed.TheVariants.{Answered}
 use Rattle.pelgaisti_c.proofs.Starved.{is_one, falls}
 use Rattle.pelgaisti_c.proofs.perform_calls.perform_telling.Goals.{then-status-ne-ELSEWHERE, else-status-ne-ELSEWHERE}

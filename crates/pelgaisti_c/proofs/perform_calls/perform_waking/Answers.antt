@@ -1,5 +1,5 @@
 use Rattle.std.proofs.Common.{◌∙◌, ℕ, length, ap, sym, subst}
-use Rattle.program_office.specs.SingleCalls.{IsPerformed}
+use Rattle.lock_office.specs.SingleCalls.{IsPerformed}
 use Rattle.combining.specs.declared.office.perform.Performed.TheVariants.{Answered}
 use Rattle.pelgaisti_c.proofs.Starved.{is_one, falls}
 use Rattle.pelgaisti_c.proofs.perform_calls.perform_waking.Goals as goal

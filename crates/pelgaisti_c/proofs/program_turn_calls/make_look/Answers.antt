@@ -1,7 +1,7 @@
 use Rattle.std.proofs.Common.{rules, ◌≡◌, ℕ, subst}
 use Rattle.combining.specs.Ended.{entered_since}
 use Rattle.combining.proofs.EndedWaits.{told-all}
-use Rattle.program_office.specs.Ended.{AreToldBy}
+use Rattle.lock_office.specs.Ended.{AreToldBy}
 use Rattle.pelgaisti_c.proofs.program_turn_calls.make_look.Goals as goal
 
 pub returns-clause-told : goal.returns-clause-told

@@ -1,6 +1,6 @@
 use Rattle.std.proofs.Common.{◌∙◌, ap, sym, arith, subst}
 use Rattle.lock_programs.specs.declared.program.Program.{Program}
-use Rattle.program_office.specs.ProgramBoards.{TicketView}
+use Rattle.lock_office.specs.ProgramBoards.{TicketView}
 use Rattle.combining.specs.Calls.{IsWaitingOn}
 use Rattle.pelgaisti_c.specs.Programs.{numbers_of_answer}
 use Rattle.pelgaisti_c.specs.ProgramTurns.{IsPendingAnswered}

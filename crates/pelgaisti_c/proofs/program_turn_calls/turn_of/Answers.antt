@@ -1,6 +1,6 @@
 use Rattle.std.proofs.Common.{◌∙◌, ◌<◌, refl, ap, sym, subst, arith}
-use Rattle.program_office.specs.ProgramBoards.{TicketView}
-use Rattle.program_office.specs.ProgramTurns.{IsCalled}
+use Rattle.lock_office.specs.ProgramBoards.{TicketView}
+use Rattle.lock_office.specs.ProgramTurns.{IsCalled}
 use Rattle.combining.specs.Calls.{IsCalling, IsWaitingOn}
 use Rattle.lock_programs.specs.declared.program.Program.{Program}
 use Rattle.pelgaisti_c.specs.Programs.{numbers_of_answer}

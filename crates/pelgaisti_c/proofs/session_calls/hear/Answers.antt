@@ -1,6 +1,6 @@
 use Rattle.std.proofs.Common.{rules, ◌≡◌, refl, subst}
 use Rattle.publication.specs.Boards.{HasCallsOf}
-use Rattle.program_office.specs.ProgramBoards.{TicketView}
+use Rattle.lock_office.specs.ProgramBoards.{TicketView}
 use Rattle.pelgaisti_c.proofs.session_calls.hear.Goals as goal
 
 pub returns-clause-ok : goal.returns-clause-ok

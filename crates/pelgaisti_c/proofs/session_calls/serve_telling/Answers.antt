@@ -1,6 +1,6 @@
 use Rattle.std.proofs.Common.{rules, ◌≡◌, ℕ, arith, refl, ◌∙◌, subst}
 use Rattle.combining.specs.Ended.{entered_since}
-use Rattle.program_office.specs.Ended.{AreToldBy}
+use Rattle.lock_office.specs.Ended.{AreToldBy}
 use Rattle.combining.specs.declared.office.Turn.TheVariants.{Pass}
 use Rattle.pelgaisti_c.proofs.Starved.{is_one, falls}
 use Rattle.pelgaisti_c.proofs.session_calls.serve_telling.Goals.{then-status-eq-OK, else-status-eq-OK}

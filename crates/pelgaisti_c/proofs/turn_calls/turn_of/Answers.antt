@@ -1,6 +1,6 @@
 use Rattle.std.proofs.Common.{◌∙◌, ℕ, ◌<◌, refl, ap, sym, subst, arith}
-use Rattle.program_office.specs.ProgramBoards.{TicketView}
-use Rattle.program_office.specs.SingleCalls.{IsCalled, IsCalling, IsAnswered}
+use Rattle.lock_office.specs.ProgramBoards.{TicketView}
+use Rattle.lock_office.specs.SingleCalls.{IsCalled, IsCalling, IsAnswered}
 use Rattle.combining.specs.Calls.{IsWaitingOn}
 use Rattle.pelgaisti_c.proofs.SameOffice.{same-trans}
 use Rattle.pelgaisti_c.proofs.ServedWithin.{within-since, within-none}

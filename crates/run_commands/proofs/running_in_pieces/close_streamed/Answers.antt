@@ -1,7 +1,7 @@
 use Rattle.std.proofs.Common.{List, subst, sym}
 use Rattle.std.specs.List.{All}
-use Rattle.program_office.specs.ProgramBoards.{TicketView}
-use Rattle.program_office.specs.Sessions.{IsSessionOf}
+use Rattle.lock_office.specs.ProgramBoards.{TicketView}
+use Rattle.lock_office.specs.Sessions.{IsSessionOf}
 use Rattle.run_commands.specs.Streams.{IsNeverRefused}
 use Rattle.run_commands.proofs.running_in_pieces.close_streamed.Goals as goal
 

@@ -2,7 +2,7 @@ use Rattle.std.proofs.Common.{rules, ◌≡◌, IfErr}
 use Rattle.std.specs.Prelude.{OnOk}
 use Rattle.std.specs.List.{All}
 use Rattle.std.proofs.lemmas.Result.{IfErr-weaker, IfOk-at_ok, on_ok_weaker}
-use Rattle.program_office.specs.ProgramBoards.{flat_history}
+use Rattle.lock_office.specs.ProgramBoards.{flat_history}
 use Rattle.run_commands.specs.Runs.{HasRun}
 use Rattle.run_commands.specs.Streams.{IsFaultOfStream, IsWrittenUpTo}
 use Rattle.run_commands.specs.Workers.{IsPerformed, numbers_of}

@@ -1,6 +1,6 @@
 use Rattle.std.proofs.Common.{◌≡◌}
-use Rattle.program_office.specs.ProgramBoards.{flat_history}
-use Rattle.program_office.specs.Sessions.{IsSessionOf}
+use Rattle.lock_office.specs.ProgramBoards.{flat_history}
+use Rattle.lock_office.specs.Sessions.{IsSessionOf}
 use Rattle.run_commands.specs.Streams.{IsWrittenUpTo, bare}
 use Rattle.run_commands.proofs.streaming.write_while_at_work.Given as goal
 

@@ -3,7 +3,7 @@ use Rattle.std.specs.List.{All}
 use Rattle.std.specs.Vec.Iter.{into_iter_items}
 use Rattle.std.proofs.lemmas.List.{map-append, nil_from_length}
 use Rattle.std.proofs.lemmas.List.Elements.{All-head, All-push, All-rest, All-same}
-use Rattle.program_office.specs.ProgramBoards.{TicketView}
+use Rattle.lock_office.specs.ProgramBoards.{TicketView}
 use Rattle.run_commands.specs.Workers.{IsPerformed, IsStart, number_of_start, numbers_of, numbers_of_starts}
 use Rattle.run_commands.proofs.threads.join_all.Goals as goal
 

@@ -1,5 +1,0 @@
-pub mod HoldsAsTold
-pub mod Telling
-pub mod ToldIsHeld
-pub mod ToldTogether
-pub mod WakeUps

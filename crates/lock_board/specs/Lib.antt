@@ -1,4 +1,0 @@
-pub mod LockBoards
-pub mod HoldsAsTold
-pub mod Exclusion
-pub mod WakeUps

@@ -1,0 +1,4 @@
+pub mod HoldsAsTold
+pub mod WakeUps
+pub mod Ended
+pub mod OneHistory

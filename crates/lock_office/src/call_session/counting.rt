@@ -1,0 +1,138 @@
+//! What the passes of a session that makes single calls go by: whom they tell, how much they serve, and how many calls of the history the
+//! session knows.
+
+ghost use Rattle.std.specs.Prelude.{◌≡◌, ◌+◌, ◌-◌, ◌^◌, max, min, length};
+ghost use Rattle.combining.specs.declared.bounds.TheConstants.{UNBOUNDED};
+ghost use Rattle.lock_programs.specs.Answers.{replies_of};
+ghost use Rattle.lock_programs.specs.Calls.{calls_of};
+ghost use Rattle.lock_office.specs.Weights.{begins_with_an_end};
+
+use combining::{Called, Next, PassBound, Told, UNBOUNDED};
+use lock_desk::{Book, Call};
+use lock_programs::{Answer as ProgramAnswer, Program};
+use programs::Programs;
+
+/// What a session's passes go by: who is told whose waits they have ended, and how much a pass in a whole call serves at most. It has
+/// besides what a pass notes for a session that makes single calls.
+#[derive(Drop)]
+pub struct Counted<T> {
+    /// Who is told.
+    pub told: T,
+    /// How much a pass in a whole call serves at most. The bound counts programs, each of which is one call or several, and weighs the
+    /// locks that they give back. A 0 counts as 1.
+    pub bound: PassBound,
+    /// How many calls the history had when it was told last.
+    pub(crate) seen: u64,
+}
+
+impl<T> Counted<T> {
+    /// Tells this one. Passes serve all that is published.
+    pub fn new(told: T) -> Counted<T>
+        ensures told { result.told ≡ told }
+        ensures bound { result.bound ≡ UNBOUNDED }
+    {
+        Counted::within(told, UNBOUNDED)
+    }
+
+    /// Tells this one. A pass in a whole call serves within the bound.
+    #[inline(always)]
+    pub fn within(told: T, bound: PassBound) -> Counted<T>
+        ensures told { result.told ≡ told }
+        ensures bound { result.bound ≡ bound }
+    {
+        Counted {
+            told,
+            bound,
+            seen: 0,
+        }
+    }
+}
+
+/// Whether the first call of the program gives back all locks of its session.
+fn begins_with_an_end(program: &Program) -> bool
+    ensures { result ≡ begins_with_an_end (calls_of program.now) }
+{
+    if program.length() == 0 {
+        return false;
+    }
+    matches!(program.call(0), Call::Commit | Call::Abort | Call::Restart)
+}
+
+impl<T: Told<Programs<Book>>> Told<Programs<Book>> for Counted<T> {
+    ghost use Rattle.std.specs.Prelude.{◌≡◌};
+    ghost use Rattle.lock_office.specs.Seen.{number_of_calls};
+    ghost use Rattle.lock_office.specs.Weights.{locks_given_back};
+
+    ghost list = { λ c. T.list c.told };
+
+    ghost room = { λ c. T.room c.told };
+
+    ghost ends = { T.ends };
+
+    ghost notes = { λ c history. c.seen ≡ number_of_calls history };
+
+    ghost most = { λ c. c.bound };
+
+    ghost weight = { locks_given_back };
+
+    #[inline(always)]
+    fn bound(&self) -> PassBound {
+        self.bound
+    }
+
+    #[inline(always)]
+    fn weigh(object: &Programs<Book>, session: u16, program: &Program) -> u32 {
+        if !begins_with_an_end(program) {
+            return 0;
+        }
+        object.object().locks_held(session) as u32
+    }
+
+    #[inline(always)]
+    fn clear(&mut self) {
+        self.told.clear();
+    }
+
+    #[inline(always)]
+    fn add(&mut self, object: &Programs<Book>, served: u32) {
+        self.told.add(object, served);
+        self.seen = object.object().served();
+    }
+}
+
+/// How many calls of the history are known to one that knew `seen` of them, once it has the answer to its program.
+#[inline(always)]
+pub(crate) fn seen_behind(seen: u64, program: &Program, answer: &ProgramAnswer) -> u64
+    ensures { result ≡ max seen (min (answer.now.first + length (replies_of program.now answer.now)) (2 ^ 64 - 1)) }
+{
+    let served = answer.served(program);
+    u64::max(seen, answer.first().saturating_add(served as u64))
+}
+
+/// The same once it has the answer, if a turn has brought it.
+#[inline(always)]
+pub(crate) fn seen_next(seen: u64, program: &Program, next: &Next<ProgramAnswer>) -> u64
+    ensures answered { (answer : _) → next.now ≡ Next.Answered answer
+        → result ≡ max seen (min (answer.reply.first + length (replies_of program.now answer.reply)) (2 ^ 64 - 1)) }
+    ensures starved { next.now ≡ Next.Starved → result ≡ seen }
+    ensures waits { (w : _) → next.now ≡ Next.Wait w → result ≡ seen }
+{
+    match next {
+        Next::Answered(found) => seen_behind(seen, program, &found.reply),
+        Next::Starved | Next::Wait(_) => seen,
+    }
+}
+
+/// The same once it has the answer, if a call has brought it.
+#[inline(always)]
+pub(crate) fn seen_called(seen: u64, program: &Program, called: &Called<ProgramAnswer>) -> u64
+    ensures answered { (answer : _) → called.now ≡ Called.Answered answer
+        → result ≡ max seen (min (answer.reply.first + length (replies_of program.now answer.reply)) (2 ^ 64 - 1)) }
+    ensures starved { called.now ≡ Called.Starved → result ≡ seen }
+    ensures not_yet { called.now ≡ Called.NotYet → result ≡ seen }
+{
+    match called {
+        Called::Answered(found) => seen_behind(seen, program, &found.reply),
+        Called::Starved | Called::NotYet => seen,
+    }
+}
