@@ -586,8 +586,10 @@ pelgaisti_dumping pelgaisti_dump_begin(void);
 
 /* Writes the next line of a whole dump to `text`, as snprintf does: at most `room` bytes with the 0 at the end; 100 are enough. Returns
    the length of the line without the 0, and 0 behind the last one. The lines are those of `glm show --csv` of the state: of the `count`
-   rows of the dump, and then of who waits for whom, which follows from these rows. A line of a wait costs a look at the rows of its
-   resource, and each session that waits a look at all rows. No handle is needed. `rows` may be NULL if `count` is 0. Requires `count`
+   rows of the dump, one each, and then of who waits for whom, which follows from these rows. A line of a wait costs a look at the rows of
+   its resource, and each session that waits a look at all rows: so 1,023 requests for one resource are 523,776 lines, and seconds. Who
+   doesn't want them stops behind `count` lines, and asks pelgaisti_session_blockers for whom one session waits; but `glm show --state`
+   reads all of them or none. No handle is needed. `rows` may be NULL if `count` is 0. Requires `count`
    elements at `rows`, all of one dump, and at `at` what pelgaisti_dump_begin or an earlier call with these rows left there. */
 uint32_t pelgaisti_dump_line(const pelgaisti_claim *rows, size_t count, pelgaisti_dumping *at, char *text, size_t room);
 
@@ -961,8 +963,11 @@ pelgaisti_status pelgaisti_session_retire(pelgaisti_session *session);
 pelgaisti_status pelgaisti_session_hand_in(pelgaisti_session *session, pelgaisti_session *to);
 
 /* Closes the office of `session`, to which all other sessions of the office were handed in. Closes the handle of `session`, and
-   opens `book` with the lock table and the history, of which it keeps all entries or those that the office's bound has left.
-   COPIED means that a handle was copied or moved, or is of another copy of the library. It is the only status other than OK that closes `session`.
+   opens `book` with the lock table and the history, of which it keeps all entries or those that the office's bound has left. Open
+   transactions and waiting requests may be left: the book has them with their locks, and pelgaisti_book_close frees them with it. No
+   waker is called.
+   COPIED means that a handle was copied or moved, or is of another copy of the library; most such handles are told by no status. It is
+   the only status other than OK that closes `session`.
    NULL, OPEN (the book), CLOSED (the session), MISSING, PENDING, NO_MEMORY, COPIED. */
 pelgaisti_status pelgaisti_office_close(pelgaisti_session *session, pelgaisti_book *book);
 
@@ -987,9 +992,9 @@ pelgaisti_status pelgaisti_session_perform(pelgaisti_session *session, const pel
 /* Runs a whole program of the session, as pelgaisti_book_run does of a book: no other session's call comes between its calls in the
    history. It makes at most `turns` turns, as pelgaisti_session_perform makes them of a call, with the same pauses: it tries to run the
    program at once, then publishes it, as one, and from then on serves and looks for the answer. So the passes of other sessions run it
-   too. In a pass a program goes ahead of others if its first call is a release, a commit, an abort or a withdrawal. Behind the last turn
-   the program is published, if it isn't yet. With 0 turns it is published and nothing else. With NULL for `program` all turns look
-   for the answer to what is pending, be it a call, which is told as a program of this one call; with 0 turns none does.
+   too. In a pass a program goes ahead of others if its first call is a release, a commit, an abort, a withdrawal or a restart. Behind the
+   last turn the program is published, if it isn't yet. With 0 turns it is published and nothing else. With NULL for `program` all turns
+   look for the answer to what is pending, be it a call, which is told as a program of this one call; with 0 turns none does.
    A program of several calls that is pending is finished by this function alone: pelgaisti_session_collect, and .._perform with NULL,
    return PENDING. One that makes one call is finished by any of them.
    A program that makes no call, with NOTHING for `start` and 0 for the last call's op, is refused with NO_SUCH_OP.

@@ -123,7 +123,7 @@ enum class start : uint32_t { nothing = 0, begins, commits, aborts, commits_and_
 struct dump {
     uint64_t place;
     std::vector<pelgaisti_claim> rows;
-    // The rows of `glm show --csv`.
+    // The rows of `glm show --csv`. Of a long queue it takes seconds, as pelgaisti_dump_line says.
     std::string text() const {
         std::string all;
         char line[128];
@@ -595,8 +595,9 @@ public:
     [[nodiscard]] bool is_asked_to_end(uint32_t whose, uint64_t transaction) const {
         return transaction != 0 && asked_of(whose).load() == transaction;
     }
-    // Closes the office, and gives the lock table with the one history. MISSING: an owner has one of its sessions. PENDING: one of them
-    // has a call pending. With both nothing has changed. NO_MEMORY: some sessions may be closed already, and another close goes on.
+    // Closes the office, and gives the lock table with the one history, and with what is open or waits. MISSING: an owner has one of its
+    // sessions. PENDING: one of them has a call pending. With both nothing has changed. NO_MEMORY: some sessions may be closed already,
+    // and another close goes on.
     std::unique_ptr<book> close() {
         std::unique_ptr<book> made(new book);
         pelgaisti_answer unread;

@@ -190,7 +190,7 @@ impl Office {
     }
 
     /// Closes the office of these sessions, each once, in any order, with no call pending, and returns the lock table with the
-    /// one history. Otherwise the sessions come back.
+    /// one history, and with the transactions that are open and the requests that wait. Otherwise the sessions come back.
     ///
     ///     # use pelgaisti::{Error, Office};
     ///     let mut sessions = Office::open(3)?;

@@ -68,5 +68,6 @@ returns-clause-row g c =
 
 pub returns-clause-longer : goal.returns-clause-longer
 returns-clause-longer g c = c.loop-item.invariant.longer
+
 pub returns-clause-calls : goal.returns-clause-calls
 returns-clause-calls g c = c.loop-item.invariant.calls
