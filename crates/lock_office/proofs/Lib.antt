@@ -7,6 +7,6 @@ pub mod PathPrograms
 pub mod Places
 pub mod Together
 pub mod OneReplies
-pub mod CallSessions
+pub mod Sessions
 pub mod Seen
 pub mod WakeUps

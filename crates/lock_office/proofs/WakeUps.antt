@@ -15,7 +15,7 @@ use Rattle.lock_office.proofs.by_calls.WakeUps.{told_so, waits-or-ended, ended-b
 use Rattle.lock_office.specs.ProgramBoards.{ProgramEntry, BoardState, IsLegal, flat_history, history_of, program_object}
 use Rattle.lock_office.specs.Ended.{places_within}
 use Rattle.lock_office.specs.WakeUps.{HasEndedWait, IsNotForgotten, waits, was_told, combiner_tells, is_listed}
-use Rattle.lock_office.proofs.CallSessions.{compared}
+use Rattle.lock_office.proofs.Sessions.{compared}
 use Rattle.lock_office.proofs.Places.{take-past}
 
 no-front : (h : List ProgramEntry) → length (flat_history (take 0 h)) ≡ 0

@@ -1,1 +1,1 @@
-pub mod CallSessions
+pub mod Sessions

@@ -14,7 +14,7 @@ use crate::has_book::HasBook;
 use crate::queries::{Snapshot, end_look};
 use combining::Office;
 use lock_desk::{Counts, Gauges};
-use publication::Ticket as Session;
+use publication::Ticket;
 
 /// What the passes of an office have served so far. A round of a bounded pass counts as a pass. Each number stops at the greatest u64.
 #[derive(Clone, Copy, Debug, PartialEq, Eq)]
@@ -31,7 +31,7 @@ pub struct PassCounts {
 ///
 /// `None` in place of an answer, with nothing changed, means that another session had the lock table, as `Turn::Elsewhere` of `serve` does.
 /// Its cost grows with the sessions of the office.
-pub fn counts<O: HasBook>(office: &Office<O>, session: &mut Session<O>) -> Option<Snapshot<Counts>>
+pub fn counts<O: HasBook>(office: &Office<O>, session: &mut Ticket<O>) -> Option<Snapshot<Counts>>
     requires ours { IsSessionOf office.now session.old }
     ensures ours { IsSessionOf office.now session.new }
     ensures looked { IfSome result (λ _. HasLooked O.Sequential session.old session.new) }
@@ -50,7 +50,7 @@ pub fn counts<O: HasBook>(office: &Office<O>, session: &mut Session<O>) -> Optio
 /// requests that wait for one resource, all of one moment.
 ///
 /// `None` in place of an answer is as `counts` has it. Its cost is that of `Book::gauges`.
-pub fn gauges<O: HasBook>(office: &Office<O>, session: &mut Session<O>) -> Option<Snapshot<Gauges>>
+pub fn gauges<O: HasBook>(office: &Office<O>, session: &mut Ticket<O>) -> Option<Snapshot<Gauges>>
     requires ours { IsSessionOf office.now session.old }
     ensures ours { IsSessionOf office.now session.new }
     ensures looked { IfSome result (λ _. HasLooked O.Sequential session.old session.new) }
@@ -72,7 +72,7 @@ pub fn gauges<O: HasBook>(office: &Office<O>, session: &mut Session<O>) -> Optio
 /// `None` in place of an answer is as `counts` has it. No clause says what the numbers are.
 pub fn passes<O: HasBook>(
     office: &Office<O>,
-    session: &mut Session<O>,
+    session: &mut Ticket<O>,
 ) -> Option<Snapshot<PassCounts>>
     requires ours { IsSessionOf office.now session.old }
     ensures ours { IsSessionOf office.now session.new }

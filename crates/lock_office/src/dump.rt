@@ -12,7 +12,7 @@ use crate::has_book::HasBook;
 use crate::queries::{Snapshot, end_look};
 use combining::Office;
 use lock_desk::{Book, Claim, NoMemory, Transaction};
-use publication::Ticket as Session;
+use publication::Ticket;
 use std::alloc::Global;
 
 /// Adds the session with its open transaction to the list, if it has one. Fails if memory is refused.
@@ -72,7 +72,7 @@ pub fn dump_book(
 pub fn dump<O: HasBook>(
     office: &Office<O>,
     alloc: Global,
-    session: &mut Session<O>,
+    session: &mut Ticket<O>,
     claims: &mut Vec<Claim>,
     opens: &mut Vec<(u16, Transaction)>,
 ) -> Option<Snapshot<Result<(), NoMemory>>>

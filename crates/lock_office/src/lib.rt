@@ -1,7 +1,7 @@
 //! The lock office: threads share a lock table by flat combining, and each call that a session publishes is a program, which is one call of
 //! the lock table or several. It is the office of `combining`, with programs of a book of `lock_desk` as its object.
 //!
-//! A session makes single calls and programs (`call_session.rt`). A program is a commit or abort or neither, a begin or not, and the calls
+//! A session makes single calls and programs (`session.rt`). A program is a commit or abort or neither, a begin or not, and the calls
 //! of a path; its calls are served one after another, up to the first that isn't granted or done. Its answer has the place of the first
 //! call in the history of calls, and all replies follow from it.
 //!
@@ -14,7 +14,6 @@
 //! incompatible access to a resource, no waits form a circle, and no wake-up is lost ([`laws`]).
 #![tactic(auto)]
 
-mod call_session;
 pub mod counts;
 pub mod dump;
 mod has_book;
@@ -24,10 +23,10 @@ mod opening;
 pub mod pages;
 mod paths;
 pub mod queries;
+mod session;
 mod single;
 pub mod told_laws;
 
-pub use call_session::{CallKnowledge, CallSession, Counted, NextOfPath};
 pub use combining::{
     BoundedTurn, CloseFault, Ended, Nobody, OpenFault, PassBound, Posted, Told, Turn, Wait,
     back_off, call, look, resume, turn,
@@ -39,16 +38,14 @@ pub use lock_programs::{Answer as ProgramAnswer, CALLS, Last, Program, Start, St
 pub use opening::{open_keeping, open_telling};
 pub use paths::{levels_granted, path_program};
 use programs::Programs;
+pub use session::{Counted, Knowledge, NextOfPath, Session};
 pub use single::reply_of_one;
 
 /// A lock table that threads share by reference, each with sessions of its own, which make programs.
 pub type Office = combining::Office<Programs<Book>>;
 
-/// A session of an office, as an office is opened and closed with it.
-pub type Session = publication::Ticket<Programs<Book>>;
-
-/// What a session knows of the history, and of the programs that were published, as a value.
-pub type Knowledge = publication::Knowledge<Programs<Book>>;
+/// A session as an office is opened and closed with it.
+pub type Ticket = publication::Ticket<Programs<Book>>;
 
 /// The answer to a program, with its place among the programs.
 pub type Answer = combining::Answer<ProgramAnswer>;

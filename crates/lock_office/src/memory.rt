@@ -9,7 +9,7 @@ use crate::has_book::HasBook;
 use crate::queries::{Snapshot, end_look};
 use combining::Office;
 use lock_desk::{Book, NoMemory};
-use publication::Ticket as Session;
+use publication::Ticket;
 use sequential::Tends;
 
 /// Does `how` with the lock table: [`lock_desk::Reserve`] makes room, [`lock_desk::Shrink`] gives memory back, [`lock_desk::CountIdle`]
@@ -20,7 +20,7 @@ use sequential::Tends;
 /// `Turn::Elsewhere` of `serve` does.
 pub fn tend<O: HasBook, T: Tends<Book>>(
     office: &Office<O>,
-    session: &mut Session<O>,
+    session: &mut Ticket<O>,
     how: &mut T,
 ) -> Option<Snapshot<Result<(), NoMemory>>>
     requires ours { IsSessionOf office.now session.old }

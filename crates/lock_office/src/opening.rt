@@ -6,7 +6,7 @@ ghost use Rattle.lock_rules.specs.declared.calls.TheConstants.{MAX_SESSIONS};
 ghost use Rattle.lock_office.specs.ProgramBoards.{new_tickets};
 ghost use Rattle.lock_office.specs.Sessions.{IsSessionOf, IsIdle};
 
-use crate::{Office, Session};
+use crate::{Office, Ticket};
 use combining::OpenFault;
 use lock_desk::Book;
 use lock_rules::MAX_SESSIONS;
@@ -69,7 +69,7 @@ pub fn open_keeping(
     sessions: u16,
     bound: u64,
     seed: u64,
-) -> Result<(Office, Vec<Session>), OpenFault>
+) -> Result<(Office, Vec<Ticket>), OpenFault>
     ensures none { (result ≡ Err OpenFault.NoSessions) ↔ (sessions ≡ 0) }
     ensures many { (result ≡ Err OpenFault.TooManySessions) ↔ (MAX_SESSIONS < sessions) }
     ensures office { IfOk result (λ made. made.0.sessions ≡ sessions) }
@@ -91,7 +91,7 @@ pub fn open_telling(
     bound: u64,
     seed: u64,
     deadlocks: usize,
-) -> Result<(Office, Vec<Session>), OpenFault>
+) -> Result<(Office, Vec<Ticket>), OpenFault>
     ensures none { (result ≡ Err OpenFault.NoSessions) ↔ (sessions ≡ 0) }
     ensures many { (result ≡ Err OpenFault.TooManySessions) ↔ (MAX_SESSIONS < sessions) }
     ensures office { IfOk result (λ made. made.0.sessions ≡ sessions) }

@@ -15,7 +15,7 @@ use crate::has_book::HasBook;
 use crate::queries::{Snapshot, end_look};
 use combining::Office;
 use lock_desk::{Claim, MAX_LOCKS, NoMemory, Resource};
-use publication::Ticket as Session;
+use publication::Ticket;
 use std::alloc::Global;
 
 /// How many locks session `whose` holds, as `Book::locks_held` tells it, at most `MAX_LOCKS`.
@@ -24,7 +24,7 @@ use std::alloc::Global;
 /// Its cost is constant.
 pub fn locks_held<O: HasBook>(
     office: &Office<O>,
-    session: &mut Session<O>,
+    session: &mut Ticket<O>,
     whose: u16,
 ) -> Option<Snapshot<usize>>
     requires ours { IsSessionOf office.now session.old }
@@ -51,7 +51,7 @@ pub fn locks_held<O: HasBook>(
 pub fn locks_of<O: HasBook>(
     office: &Office<O>,
     alloc: Global,
-    session: &mut Session<O>,
+    session: &mut Ticket<O>,
     whose: u16,
     after: Option<Resource>,
     most: usize,

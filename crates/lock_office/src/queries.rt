@@ -20,7 +20,7 @@ ghost use Rattle.combining.specs.Looks.{IsLooking, HasBegunToLook, HasLooked};
 use crate::has_book::HasBook;
 use combining::Office;
 use lock_desk::{Book, Claim, Deadlock, Mode, NoMemory, Resource, Transaction};
-use publication::{Load, Ticket as Session};
+use publication::{Load, Ticket};
 use std::alloc::Global;
 
 /// The answer to a question about the lock table of an open office.
@@ -50,7 +50,7 @@ fn list_blockers(book: &Book, sessions: u16, whose: u16, list: &mut Vec<u16>)
 /// Gives the lock table back, and returns how many calls its history has.
 pub(crate) fn end_look<O: HasBook>(
     office: &Office<O>,
-    session: &mut Session<O>,
+    session: &mut Ticket<O>,
     load: Box<Load<O>>,
 ) -> u64
     requires looks { IsLooking O.Sequential office.now session.old load.value }
@@ -71,7 +71,7 @@ pub(crate) fn end_look<O: HasBook>(
 /// `Turn::Elsewhere` of `serve` does.
 pub fn held<O: HasBook>(
     office: &Office<O>,
-    session: &mut Session<O>,
+    session: &mut Ticket<O>,
     whose: u16,
     resource: Resource,
 ) -> Option<Snapshot<Option<Mode>>>
@@ -92,7 +92,7 @@ pub fn held<O: HasBook>(
 /// Whether session `whose` waits for `other` directly, as `Book::waits_for` tells it. `None` is as with `held`.
 pub fn waits_for<O: HasBook>(
     office: &Office<O>,
-    session: &mut Session<O>,
+    session: &mut Ticket<O>,
     whose: u16,
     other: u16,
 ) -> Option<Snapshot<bool>>
@@ -114,7 +114,7 @@ pub fn waits_for<O: HasBook>(
 /// `held`.
 pub fn transaction<O: HasBook>(
     office: &Office<O>,
-    session: &mut Session<O>,
+    session: &mut Ticket<O>,
     whose: u16,
 ) -> Option<Snapshot<Option<Transaction>>>
     requires ours { IsSessionOf office.now session.old }
@@ -134,7 +134,7 @@ pub fn transaction<O: HasBook>(
 /// The waiting request of session `whose`, as `Book::request` tells it. `None` in place of an answer is as with `held`.
 pub fn request<O: HasBook>(
     office: &Office<O>,
-    session: &mut Session<O>,
+    session: &mut Ticket<O>,
     whose: u16,
 ) -> Option<Snapshot<Option<Claim>>>
     requires ours { IsSessionOf office.now session.old }
@@ -155,7 +155,7 @@ pub fn request<O: HasBook>(
 /// where memory is refused: the contents of `list` are unchanged then. `None` is as with `held`.
 pub fn list_holders<O: HasBook>(
     office: &Office<O>,
-    session: &mut Session<O>,
+    session: &mut Ticket<O>,
     resource: Resource,
     list: &mut Vec<(u16, Mode)>,
 ) -> Option<Snapshot<Result<(), NoMemory>>>
@@ -182,7 +182,7 @@ pub fn list_holders<O: HasBook>(
 /// there all the same.
 pub fn holders<O: HasBook>(
     office: &Office<O>,
-    session: &mut Session<O>,
+    session: &mut Ticket<O>,
     resource: Resource,
     list: &mut Vec<(u16, Mode)>,
 ) -> Result<Option<u64>, NoMemory>
@@ -212,7 +212,7 @@ pub fn holders<O: HasBook>(
 /// refused.
 pub fn blockers<O: HasBook>(
     office: &Office<O>,
-    session: &mut Session<O>,
+    session: &mut Ticket<O>,
     whose: u16,
     list: &mut Vec<u16>,
 ) -> Result<Option<u64>, NoMemory>
@@ -241,7 +241,7 @@ pub fn blockers<O: HasBook>(
 pub fn list_locks<O: HasBook>(
     office: &Office<O>,
     alloc: Global,
-    session: &mut Session<O>,
+    session: &mut Ticket<O>,
     list: &mut Vec<Claim>,
 ) -> Option<Snapshot<Result<(), NoMemory>>>
     requires ours { IsSessionOf office.now session.old }
@@ -267,7 +267,7 @@ pub fn list_locks<O: HasBook>(
 pub fn locks<O: HasBook>(
     office: &Office<O>,
     alloc: Global,
-    session: &mut Session<O>,
+    session: &mut Ticket<O>,
     list: &mut Vec<Claim>,
 ) -> Result<Option<u64>, NoMemory>
     requires ours { IsSessionOf office.now session.old }
@@ -308,7 +308,7 @@ fn copy_deadlocks(book: &Book, alloc: Global, list: &mut Vec<Deadlock>) -> Resul
 pub fn deadlocks<O: HasBook>(
     office: &Office<O>,
     alloc: Global,
-    session: &mut Session<O>,
+    session: &mut Ticket<O>,
     list: &mut Vec<Deadlock>,
 ) -> Option<Snapshot<Result<usize, NoMemory>>>
     requires ours { IsSessionOf office.now session.old }

@@ -6,25 +6,25 @@ ghost use Rattle.lock_office.specs.Sessions.{IsSessionOf};
 use combining::{Answer, Called, Performed};
 use lock_desk::{Call, Mode, NO_BOUND, Reply, Resource, Why};
 use lock_office::{
-    BoundedTurn, CallSession, Counted, Nobody, Office, PassBound, Posted, Program, Session, Stop,
+    BoundedTurn, Counted, Nobody, Office, PassBound, Posted, Program, Session, Stop, Ticket,
     open_keeping, reply_of_one,
 };
 use std::process::Abort;
 use std::test::Fail;
 
 /// Makes single calls by a session that knows no call yet.
-fn single(rt: &impl Abort, session: Session) -> CallSession
+fn single(rt: &impl Abort, session: Ticket) -> Session
     ensures { result ≡ session }
 {
     assert!(rt; session.is_idle() && session.seen() == 0);
-    CallSession::new(session, 0)
+    Session::new(session, 0)
 }
 
 /// Begins by a whole call, and locks the database in X by a call that is published and resumed. Its place is one behind that of the begin.
 fn hold(
     rt: &impl Abort,
     office: &Office,
-    session: &mut CallSession,
+    session: &mut Session,
     place: u64,
     number: u64,
     database: Resource,
@@ -50,8 +50,8 @@ fn hold(
 fn want_heeded(
     rt: &impl Abort,
     office: &Office,
-    session: &mut CallSession,
-    other: &mut CallSession,
+    session: &mut Session,
+    other: &mut Session,
     seen: u64,
 )
     requires ours { IsSessionOf office.now session.old }
@@ -66,7 +66,7 @@ fn want_heeded(
 }
 
 /// A round of the session, which takes no call once those that it has taken give back so many locks, serves one call.
-fn want_round(rt: &impl Abort, office: &Office, session: &mut CallSession, weight: u32, left: bool)
+fn want_round(rt: &impl Abort, office: &Office, session: &mut Session, weight: u32, left: bool)
     requires ours { IsSessionOf office.now session.old }
     ensures ours { IsSessionOf office.now session.new }
 {
@@ -86,7 +86,7 @@ fn want_round(rt: &impl Abort, office: &Office, session: &mut CallSession, weigh
 }
 
 /// Publishes a commit.
-fn post_commit(rt: &impl Abort, office: &Office, session: &mut CallSession)
+fn post_commit(rt: &impl Abort, office: &Office, session: &mut Session)
     requires ours { IsSessionOf office.now session.old }
     ensures ours { IsSessionOf office.now session.new }
 {
@@ -95,7 +95,7 @@ fn post_commit(rt: &impl Abort, office: &Office, session: &mut CallSession)
 }
 
 /// The session polls by a program of one call, at this place, and is refused.
-fn want_refused(rt: &impl Abort, office: &Office, session: &mut CallSession, place: u64)
+fn want_refused(rt: &impl Abort, office: &Office, session: &mut Session, place: u64)
     requires ours { IsSessionOf office.now session.old }
 {
     assert!(rt; session.is_idle());

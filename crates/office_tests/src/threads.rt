@@ -5,7 +5,7 @@ ghost use Rattle.combining.specs.Sessions.{IsSessionOf, IsIdle};
 
 use combining::{CloseFault, Nobody, Posted, call};
 use lock_desk::Book;
-use lock_office::{Office, Program, Session, Start};
+use lock_office::{Office, Program, Start, Ticket};
 use programs::Programs;
 use sequential::{Sequential, Trimming};
 use std::alloc::{AllocError, Global};
@@ -18,7 +18,7 @@ use std::thread::Threads;
 const TURNS: u64 = 1_000_000_000;
 
 /// Makes a program of no path, if the session is idle.
-fn make(office: &Office, session: &mut Session, start: Start)
+fn make(office: &Office, session: &mut Ticket, start: Start)
     requires ours { IsSessionOf office.now session.old }
     ensures ours { IsSessionOf office.now session.new }
 {
@@ -28,7 +28,7 @@ fn make(office: &Office, session: &mut Session, start: Start)
 }
 
 /// Begins, commits and begins anew, and makes a program of no calls, which has no entry.
-fn work(office: &Office, session: Session) -> Session
+fn work(office: &Office, session: Ticket) -> Ticket
     requires ours { IsSessionOf office.now session × IsIdle session }
     ensures ours { IsSessionOf office.now result }
 {
@@ -43,16 +43,16 @@ fn work(office: &Office, session: Session) -> Session
 fn work_in_threads<R: Threads + Sync>(
     rt: &R,
     office: &Office,
-    sessions: Vec<Session>,
-) -> Result<Vec<Session>, AllocError>
+    sessions: Vec<Ticket>,
+) -> Result<Vec<Ticket>, AllocError>
     requires ours { All (λ session. IsSessionOf office.now session × IsIdle session) sessions.items }
     ensures ours { IfOk result (λ sessions. All (IsSessionOf office.now) sessions.items) }
 {
-    thread::map_vec(rt, sessions, &|session: Session| work(office, session))
+    thread::map_vec(rt, sessions, &|session: Ticket| work(office, session))
 }
 
 /// Takes the history of 24 calls, and publishes a program of session 1.
-fn take_and_post(rt: &impl Abort, alloc: Global, office: &Office, sessions: &mut Vec<Session>)
+fn take_and_post(rt: &impl Abort, alloc: Global, office: &Office, sessions: &mut Vec<Ticket>)
     requires ours { All (IsSessionOf office.now) sessions.old.items }
     ensures ours { All (IsSessionOf office.now) sessions.new.items }
 {
@@ -68,9 +68,9 @@ fn take_and_post(rt: &impl Abort, alloc: Global, office: &Office, sessions: &mut
 fn refused(
     rt: &impl Abort,
     office: Office,
-    sessions: Vec<Session>,
+    sessions: Vec<Ticket>,
     wanted: CloseFault,
-) -> (Office, Vec<Session>)
+) -> (Office, Vec<Ticket>)
     requires ours { All (IsSessionOf office) sessions.items }
     ensures office { result.0 ≡ office }
     ensures sessions { result.1.items ≡ sessions.items }
@@ -81,7 +81,7 @@ fn refused(
 }
 
 /// Serves the program of session 1, which retires and becomes the last of the sessions.
-fn settle(rt: &impl Abort, office: &Office, sessions: &mut Vec<Session>)
+fn settle(rt: &impl Abort, office: &Office, sessions: &mut Vec<Ticket>)
     requires ours { All (IsSessionOf office.now) sessions.old.items }
     ensures ours { All (IsSessionOf office.now) sessions.new.items }
 {

@@ -12,8 +12,8 @@ use crate::call_gate::Gate;
 use crate::threads::{Run, work_in_threads};
 use crate::workers::Stop;
 use lock_desk::Book;
-use lock_trace::{TraceRow, history_text, read_trace};
 use lock_office::Office;
+use lock_trace::{TraceRow, history_text, read_trace};
 use replay_commands::{ToolFault, write_text};
 use std::alloc::Global;
 use std::io::{Read, Write};
@@ -93,7 +93,7 @@ fn run_to_text<R: Threads + Wait, G: Gate>(
 
 /// Performs the rows of a trace by threads through one office, one thread for each session that has a row, and writes the
 /// text of the history. `sessions` is 1 to `MAX_SESSIONS`. Each thread performs its session's rows in order: it enters the
-/// gate, makes the call, and leaves the gate. It makes the call as `CallSession::turn` does, in at most `turns` turns, with the
+/// gate, makes the call, and leaves the gate. It makes the call as `Session::turn` does, in at most `turns` turns, with the
 /// waits between them. Returns the number of rows.
 ///
 /// The whole trace is read before a thread is started, and the whole text is made before its first byte is written. After

@@ -16,9 +16,9 @@ use crate::running::greatest_session;
 use crate::streaming::{Streamed, stream_in_threads};
 use crate::threads::Run;
 use lock_desk::Book;
+use lock_office::{Office, Ticket};
 use lock_rules::MAX_SESSIONS;
 use lock_trace::{TraceRow, read_trace};
-use lock_office::{Office, Session};
 use replay_commands::{ToolFault, write_piece};
 use std::alloc::Global;
 use std::io::{Read, Write};
@@ -39,9 +39,9 @@ struct Opened {
     /// The office.
     office: Office,
     /// The sessions that perform rows.
-    workers: Vec<Session>,
+    workers: Vec<Ticket>,
     /// The last session, which takes the history.
-    taker: Session,
+    taker: Ticket,
 }
 
 /// Opens an office for `sessions` sessions and one that takes the history. Returns `None` if memory is refused.
@@ -85,7 +85,7 @@ fn write_rest<W: Write>(
 
 /// Closes an office with the sessions that performed rows and the one that took the history. Returns its lock table, or `None`
 /// if memory is refused.
-fn close_streamed(office: Office, done: Vec<Session>, taker: Session) -> Option<Book>
+fn close_streamed(office: Office, done: Vec<Ticket>, taker: Ticket) -> Option<Book>
     requires ours { All (IsSessionOf office) (done.items ++ taker ∷ []) }
     requires closes { IsNeverRefused office (done.items ++ taker ∷ []) }
     ensures { IfSome result (IsBookOf office (done.items ++ taker ∷ [])) }
@@ -105,8 +105,8 @@ fn close_streamed(office: Office, done: Vec<Session>, taker: Session) -> Option<
 fn close_and_write<W: Write>(
     alloc: Global,
     office: Office,
-    done: Vec<Session>,
-    taker: Session,
+    done: Vec<Ticket>,
+    taker: Ticket,
     next: u64,
     output: &mut W,
 ) -> Result<(), ToolFault>

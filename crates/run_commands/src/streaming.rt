@@ -10,7 +10,7 @@ use crate::call_gate::Gate;
 use crate::pacing::{Pace, Progress};
 use crate::threads::{Run, join_all, start_all};
 use crate::workers::Stop;
-use lock_office::{Office, Session};
+use lock_office::{Office, Ticket};
 use replay_commands::{ToolFault, write_piece};
 use std::alloc::Global;
 use std::io::Write;
@@ -24,9 +24,9 @@ pub(crate) struct Streamed<'o, W> {
     /// The output.
     pub output: &'o mut W,
     /// The session that took the history.
-    pub taker: Session,
+    pub taker: Ticket,
     /// The sessions that performed the rows, and how many entries of the history are written.
-    pub done: Result<(Vec<Session>, u64), ToolFault>,
+    pub done: Result<(Vec<Ticket>, u64), ToolFault>,
 }
 
 /// A run whose threads may be at work.
@@ -42,9 +42,9 @@ struct RunUnderWay<'a> {
 #[derive(Drop)]
 struct Crew {
     /// The sessions that perform rows.
-    workers: Vec<Session>,
+    workers: Vec<Ticket>,
     /// The session that takes the history.
-    taker: Session,
+    taker: Ticket,
 }
 
 /// Takes the entries that the lock table keeps, by one try, and writes their text behind that of the first `next` entries.
@@ -54,7 +54,7 @@ struct Crew {
 fn write_taken<W: Write>(
     alloc: Global,
     office: &Office,
-    taker: &mut Session,
+    taker: &mut Ticket,
     next: u64,
     output: &mut W,
 ) -> Result<u64, ToolFault>
@@ -86,7 +86,7 @@ fn write_taken<W: Write>(
 fn write_due<W: Write>(
     alloc: Global,
     run: RunUnderWay<'_>,
-    taker: &mut Session,
+    taker: &mut Ticket,
     is_last: bool,
     next: u64,
     output: &mut W,
@@ -119,7 +119,7 @@ fn write_while_at_work<R: Wait, W: Write>(
     rt: &R,
     alloc: Global,
     run: RunUnderWay<'_>,
-    taker: &mut Session,
+    taker: &mut Ticket,
     output: &mut W,
 ) -> Result<u64, ToolFault>
     requires ours { IsSessionOf run.office.now taker.old }
@@ -146,8 +146,8 @@ fn write_while_at_work<R: Wait, W: Write>(
 /// written, or the fault of the writing, or else that of the threads.
 fn combine_results(
     written: Result<u64, ToolFault>,
-    joined: Result<Vec<Session>, Stop>,
-) -> Result<(Vec<Session>, u64), ToolFault>
+    joined: Result<Vec<Ticket>, Stop>,
+) -> Result<(Vec<Ticket>, u64), ToolFault>
     ensures done { IfOk result (λ done. (joined ≡ Ok done.0) × (written ≡ Ok done.1)) }
     ensures writing { IfErr result (λ fault. IfErr written (λ own. own ≡ fault)) }
     ensures thread { IfErr result (λ fault. IfOk written (λ _. IfErr joined (λ stop. fault ≡ fault_of_stop stop) × IfOk joined (λ _. ⊥))) }
@@ -207,8 +207,8 @@ fn start_and_stream<'s, 'o, E, R: Threads + Wait, W: Write, G: Gate>(
 pub(crate) fn stream_in_threads<'o, R: Threads + Wait, W: Write, G: Gate>(
     rt: &R,
     alloc: Global,
-    sessions: Vec<Session>,
-    taker: Session,
+    sessions: Vec<Ticket>,
+    taker: Ticket,
     run: &Run<'_, G>,
     output: &'o mut W,
 ) -> Streamed<'o, W>

@@ -8,8 +8,8 @@ ghost use Rattle.run_commands.specs.Workers.{IsNewSession, IsPerformed, IsWorkOf
 
 use crate::call_gate::Gate;
 use crate::workers::{Stop, work_through};
+use lock_office::{Office, Session, Ticket};
 use lock_trace::TraceRow;
-use lock_office::{CallSession, Office, Session};
 use std::alloc::Global;
 use std::sync::Wait;
 use std::sync::atomic::{AtomicUsize, Ordering};
@@ -33,7 +33,7 @@ pub(crate) struct Run<'s, G> {
 #[derive(Drop)]
 pub(crate) struct ThreadResult {
     /// The session, which the thread gives back.
-    pub session: Session,
+    pub session: Ticket,
     /// Why the thread stopped before its last row, or `None` if it performed all rows.
     pub stop: Option<Stop>,
 }
@@ -61,14 +61,14 @@ pub(crate) enum Start<'a> {
     /// The thread that performs the session's rows.
     Thread(PromisedHandle<ThreadResult, Performs<'a>>),
     /// A session without a row, which needs no thread.
-    Idle(Session),
+    Idle(Ticket),
 }
 
 /// The body of a session's thread: performs the session's rows, and counts the thread off at its end.
 #[tactic(auto, using(crate::proofs::IsPerformed::performed_known))]
 fn work<G: Gate>(
     office: &Office,
-    session: Session,
+    session: Ticket,
     rows: &[TraceRow],
     turns: u64,
     gate: &G,
@@ -78,7 +78,7 @@ fn work<G: Gate>(
     ensures { IsWorkOf office.now session.number rows.now result }
 {
     let number = session.number();
-    let mut session = CallSession::new(session, 0);
+    let mut session = Session::new(session, 0);
     let performed = work_through(office, &mut session, number, rows, turns, gate);
     let session = session.into_session();
     at_work.fetch_sub(1, Ordering::SeqCst);
@@ -111,7 +111,7 @@ fn has_row(rows: &[TraceRow], number: u16) -> bool
 #[tactic(auto, using(crate::proofs::IsPerformed::performed_none))]
 fn start_session<'s, E, G: Gate>(
     scope: &Scope<'s, E>,
-    session: Session,
+    session: Ticket,
     run: &Run<'s, G>,
     at_work: &'s AtomicUsize,
 ) -> Option<Start<'s>>
@@ -149,7 +149,7 @@ fn start_session<'s, E, G: Gate>(
 /// ones after it.
 pub(crate) fn start_all<'s, E, G: Gate>(
     scope: &Scope<'s, E>,
-    sessions: Vec<Session>,
+    sessions: Vec<Ticket>,
     run: &Run<'s, G>,
     at_work: &'s AtomicUsize,
     started: &mut Vec<Start<'s>>,
@@ -201,7 +201,7 @@ fn first_reason(one: Option<Stop>, other: Option<Stop>) -> Option<Stop>
 /// Appends the session of a finished thread to `done`. Returns the reason to report so far: `NoMemory` if `done` can't grow,
 /// else the first of `reason` and the thread's own.
 fn append_finished(
-    done: &mut Vec<Session>,
+    done: &mut Vec<Ticket>,
     reason: Option<Stop>,
     worked: ThreadResult,
 ) -> Option<Stop>
@@ -222,7 +222,7 @@ pub(crate) fn join_all<R: Threads>(
     alloc: Global,
     started: Vec<Start<'_>>,
     reason: Option<Stop>,
-) -> Result<Vec<Session>, Stop>
+) -> Result<Vec<Ticket>, Stop>
     ensures all { IfOk result (λ _. reason ≡ None) }
     ensures numbers { (office : _) (rows : _) → All (IsStart office rows) started.entry.items
         → IfOk result (λ done. numbers_of done.items ≡ numbers_of_starts started.entry.items) }
@@ -246,10 +246,10 @@ fn start_and_join<'s, E, R: Threads, G: Gate>(
     scope: &Scope<'s, E>,
     rt: &R,
     alloc: Global,
-    sessions: Vec<Session>,
+    sessions: Vec<Ticket>,
     run: &Run<'s, G>,
     at_work: &'s AtomicUsize,
-) -> Result<Vec<Session>, Stop>
+) -> Result<Vec<Ticket>, Stop>
     requires { All (IsNewSession run.now.office.now) sessions.items }
     ensures numbers { IfOk result (λ done. numbers_of done.items ≡ numbers_of sessions.items) }
     ensures performed { IfOk result (λ done. All (IsPerformed run.now.office.now run.now.rows.now) done.items) }
@@ -264,9 +264,9 @@ fn start_and_join<'s, E, R: Threads, G: Gate>(
 pub(crate) fn work_in_threads<R: Threads + Wait, G: Gate>(
     rt: &R,
     alloc: Global,
-    sessions: Vec<Session>,
+    sessions: Vec<Ticket>,
     run: &Run<'_, G>,
-) -> Result<Vec<Session>, Stop>
+) -> Result<Vec<Ticket>, Stop>
     requires { All (IsNewSession run.now.office.now) sessions.items }
     ensures numbers { IfOk result (λ done. numbers_of done.items ≡ numbers_of sessions.items) }
     ensures performed { IfOk result (λ done. All (IsPerformed run.now.office.now run.now.rows.now) done.items) }
@@ -280,7 +280,7 @@ pub(crate) fn work_in_threads<R: Threads + Wait, G: Gate>(
     thread::scope(
         thread::scope_env(),
         rt,
-        |scope| -> Result<Vec<Session>, Stop>
+        |scope| -> Result<Vec<Ticket>, Stop>
             requires { All (IsNewSession office.now) sessions.items }
             ensures numbers { IfOk result (λ done. numbers_of done.items ≡ numbers_of sessions.items) }
             ensures performed { IfOk result (λ done. All (IsPerformed office.entry.now rows.entry.now) done.items) }

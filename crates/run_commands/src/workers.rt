@@ -7,8 +7,8 @@ ghost use Rattle.run_commands.specs.Workers.{TriedAtMost, fault_of_stop, rank_of
 use crate::call_gate::Gate;
 use combining::{Next as NextOf, Nobody, back_off};
 use lock_desk::{Call, Reply};
+use lock_office::{Counted, Office, Session};
 use lock_trace::TraceRow;
-use lock_office::{CallSession, Counted, Office};
 use replay_commands::ToolFault;
 
 /// The outcome of one turn of a call.
@@ -96,7 +96,7 @@ impl Service for Office {
     ghost use Rattle.run_commands.specs.Workers.{calls_known};
 
     /// A session of the office, which makes single calls.
-    type Session = CallSession;
+    type Session = Session;
 
     ghost is_of = { λ office session. IsSessionOf office session × (session.retired ≡ false) × IsPendingSingle session };
 
@@ -109,7 +109,7 @@ impl Service for Office {
     ghost was_starved = { λ session. Unit {0} };
 
     /// Makes the turn, and tells nobody whose waits its passes have ended.
-    fn turn(&self, session: &mut CallSession, call: &Call, made: u64) -> Next {
+    fn turn(&self, session: &mut Session, call: &Call, made: u64) -> Next {
         session.turn(self, call, made, &mut Counted::new(Nobody))
     }
 }

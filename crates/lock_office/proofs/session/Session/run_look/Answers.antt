@@ -1,0 +1,35 @@
+use Rattle.std.proofs.Common.{◌∙◌, ap, subst}
+use Rattle.combining.proofs.Turns.{by-next}
+use Rattle.lock_office.specs.ProgramBoards.{TicketView}
+use Rattle.lock_office.specs.ProgramTurns.{IsAnswered}
+use Rattle.lock_office.proofs.Seen.{counted-behind}
+use Rattle.lock_office.proofs.Sessions.{kept-some, pending-stands, readable-on, readable-idle}
+use Rattle.lock_office.proofs.session.Session.run_look.Goals as goal
+
+pub invariant_of-self : goal.invariant_of-self
+invariant_of-self g c =
+    let s = c.self.inside.session in
+    let t = c.look-next.new.session in
+    let asked = c.self.inside.asked in
+    let n = c.seen_next-self-inside.result in
+    let e = c.look-next.ensures in
+    let seen = c.seen_next-self-inside.ensures in
+    by-next c.look-next.result
+    (λ found is.
+    let d = e.answered found is in
+    let k = kept-some d.0 asked (c.self.invariant.readable d.0 d.1 d.2) in record {
+      readable = readable-idle n asked t (e.idle found is).0;
+      counted = counted-behind t.front found.place s.number asked found.reply _ _ d.3.legal (pending-stands s t found.place found.reply asked d k) (e.noted found is c.self.invariant.counted) (seen.answered found is);
+    })
+    (λ is. record {
+      readable = readable-on n c.self.inside t c.self.invariant.readable (ap (λ (x : TicketView). x.pending) (e.starved is).0.session);
+      counted = seen.starved is ∙ e.notes_starved is c.self.invariant.counted;
+    })
+    (λ w is. record {
+      readable = readable-on n c.self.inside t c.self.invariant.readable (ap (λ (x : TicketView). x.pending) (e.waits w is).session);
+      counted = seen.waits w is ∙ e.notes_waits w is c.self.invariant.counted;
+    })
+
+pub returns-clause-answered : goal.returns-clause-answered
+returns-clause-answered g c = λ answer is.
+    subst (λ (t : TicketView). IsAnswered t c.look-next.new.session answer.place answer.reply) c.self.view_is (c.look-next.ensures.answered answer is)
