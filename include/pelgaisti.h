@@ -398,7 +398,8 @@ typedef struct pelgaisti_session {
      returns. So it may post a semaphore, or lock a mutex of the engine's that no thread has locked while it makes a pass, as that
      thread would wait for itself. While it takes long, nobody waits for the lock table, but the sessions behind this one sleep on.
    - Several threads may be in `wake` at a time, each after its own pass: what they share is guarded.
-   - `wake` uses no handle of the session whose call made the pass: that call isn't over, and one call at a time uses a handle.
+   - `wake` doesn't use the handle of the session whose call made the pass: that call isn't over, and one call at a time uses a handle.
+     While `wake` runs this handle is closed: a call that uses it returns CLOSED, and changes nothing [tested].
    - `wake` may be called for a session that is awake, also for that whose call made the pass, and more than once before its thread
      sleeps: the session may have polled unasked, or aborted, and waited again. So what a thread sleeps on keeps a wake-up that comes
      early, as a semaphore does; and a thread that is woken polls, and sleeps on if the reply is WAITING.
