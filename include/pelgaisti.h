@@ -34,7 +34,8 @@
  * - Every pointer is aligned and points to memory of its type. No two arguments of a call overlap. A call returns PELGAISTI_NULL
  *   for a NULL pointer, unless its comment allows it, or it is an array's whose `room` is 0. pelgaisti_path_call and
  *   pelgaisti_deadlock_text test none.
- * - A process that has two copies of the library uses each handle with the copy that opened it.
+ * - A process that has two copies of the library uses each handle with the copy that opened it. If both are
+ *   of one version, a call with sessions of both returns OTHER_OFFICE.
  * - At most one call at a time uses a handle. To pass a handle to another thread, synchronize: by a mutex, by the start or the
  *   join of a thread, or by a sequentially consistent atomic. Different sessions of one office may be used at the same time.
  *   Built with -fsanitize=thread a program is told of two threads that use one handle without that.
@@ -120,9 +121,8 @@ typedef enum pelgaisti_status {
                                       table is tested] */
     PELGAISTI_OTHER_OFFICE = 14,   /* the two sessions belong to different offices [other_office: their marks differ] */
     PELGAISTI_MISSING = 15,        /* a session of the office was not handed in [missing] */
-    PELGAISTI_COPIED = 16,         /* a handle was copied or moved, against the rules above, or is of another copy of the
-                                      library; see pelgaisti_office_close [whole, done: all tests before it passed, and the session
-                                      is closed; that such a handle was handed in is tested] */
+    PELGAISTI_COPIED = 16,         /* a handle was copied or moved, against the rules above; see pelgaisti_office_close [whole, done: all
+                                      tests before it passed, and the session is closed; when it comes isn't tested] */
     PELGAISTI_NULL = 17,           /* a pointer is NULL and must not be [null, exactly then; of a waker tested] */
     PELGAISTI_SAME = 18,           /* both arguments are the same handle [tested] */
     PELGAISTI_LET_GO = 19,         /* the entry at this place of the history was let go [let_go, exactly then] */
@@ -948,7 +948,8 @@ pelgaisti_status pelgaisti_session_mark(pelgaisti_session *session, uint64_t *ma
 
 /* Makes all that `other` knows of the history known to `session`: what `session` publishes from then on is entered into the
    history after every entry that `other` has seen. `other` learns nothing. The call uses both handles.
-   Requires that sessions with the same mark belong to the same office, as they do if one copy of the library opened them.
+   Requires that sessions with the same mark belong to the same office, as they do: the offices of two copies of the library have
+   different marks, too, at least the first 2^31 of each copy [tested].
    NULL, SAME, CLOSED (one of the handles), OTHER_OFFICE. */
 pelgaisti_status pelgaisti_session_hear(pelgaisti_session *session, pelgaisti_session *other);
 
@@ -963,7 +964,7 @@ pelgaisti_status pelgaisti_session_hand_in(pelgaisti_session *session, pelgaisti
 
 /* Closes the office of `session`, to which all other sessions of the office were handed in. Closes the handle of `session`, and
    opens `book` with the lock table and the history, of which it keeps all entries or those that the office's bound has left.
-   COPIED means that a handle was copied or moved, or is of another copy of the library. It is the only status other than OK that closes `session`.
+   COPIED means that a handle was copied or moved. It is the only status other than OK that closes `session`.
    NULL, OPEN (the book), CLOSED (the session), MISSING, PENDING, NO_MEMORY, COPIED. */
 pelgaisti_status pelgaisti_office_close(pelgaisti_session *session, pelgaisti_book *book);
 
