@@ -16,17 +16,16 @@ The sections, with the minutes that they take on 4 free processors:
     memory        the peak memory of a whole process, by bench/memory.c                                      1/2
     growth        a new book and a new office of 256 and of 1,024 sessions, by bench/memory.c                0
     sharing       a book behind a mutex and an office, by bench/sharing.c on the traces of bench/sharing.py  1 1/2
-    lock_bench    the same traces by lock_bench mutex and lock_bench threads                                 1/2
     programs      a mutex, an office and Berkeley DB, by single calls and by programs, by bench/programs.c   4
     store         examples/store over offices, RocksDB's own transactions and Berkeley DB, by bench/store.cpp  15
     hash_table    its orders over a hash table, by these, a mutex and reader-writer locks, by bench/store.cpp  15
     waiting       three ways to wait for locks, by bench/waiting.c                                           1
-    embedding     the boundary to C beside lock_bench seq and, if its library is there, Berkeley DB          1/2
+    embedding     calls by one thread beside, if its library is there, Berkeley DB, by bench/embedding.c     1/2
     instructions  what checks/instructions.py counts; needs valgrind; once                                   1/2
 
 The sections come out one by one, and what they are at goes to standard error. --paste also writes all figures of each into
 bench/results/SECTION.md, and puts the short text in the place of what bench/README.md has of it, up to the next heading; of
-`lock_bench` and `instructions` it has links alone. --quick makes one round with few repetitions, to try this script: its figures
+`instructions` it has a link alone. --quick makes one round with few repetitions, to try this script: its figures
 are none. Needs a C compiler, `$CC` or cc; `store` and `hash_table` need RocksDB, and `$CXX` or c++ for C++17. Builds the programs
 and the library first, if they aren't built; with --over-gate, takes those that a full run of the gate and checks/embedding have
 left. Status 1: a section was left out.
@@ -43,12 +42,11 @@ import time
 from pathlib import Path
 
 sys.dont_write_bytecode = True
-from sections import GLM, LIBRARY, LOCK_BENCH, SECTIONS, TOP  # noqa: E402
+from sections import GLM, LIBRARY, SECTIONS, TOP  # noqa: E402
 
 # what builds each of these, and where
 BUILDS = {
     GLM: (["./glm", "--help"], TOP),
-    LOCK_BENCH: (["rt", "run", "--", "--help"], TOP / "crates/lock_bench"),
     LIBRARY: (["./embed"], TOP),
 }
 README = TOP / "bench/README.md"

@@ -12,7 +12,6 @@ import worst
 
 TOP = Path(__file__).resolve().parent.parent
 GLM = TOP / "crates/glm_main/out/glm_main"
-LOCK_BENCH = TOP / "crates/lock_bench/out/lock_bench"
 LIBRARY = TOP / "out/libpelgaisti.a"
 # --quick makes so many times fewer repetitions and rows
 LESS = 100
@@ -222,11 +221,8 @@ class Sharing(Section):
     TURNS = 9
     KINDS = ("own", "shared", "conflict")
 
-    def traces(self):
-        return sharing.write_traces(self.folder, self.few(sharing.ROWS))
-
     def cases(self):
-        program, traces = self.built("sharing"), self.traces()
+        program, traces = self.built("sharing"), sharing.write_traces(self.folder, self.few(sharing.ROWS))
         return [(case, lambda c=case: self.told(program, traces[c[0], c[2]], c[1])) for case in sharing.CASES]
 
     def told(self, program, trace, threads):
@@ -248,29 +244,9 @@ class Sharing(Section):
             told = [("least", 0, 1), ("99th", 1, 1000)]
             return "; ".join(filter(None, (short.pair(case, [f"mutex {name}", f"office {name}"], *more) for name, *more in told)))
 
-        return self.grid(cell)
-
-    def grid(self, cell):
-        """A row for each number of threads and sessions, a column for each kind of trace."""
+        # a row for each number of threads and sessions, a column for each kind of trace
         numbers = sorted({case[1:] for case in sharing.CASES})
         return table(["threads, sessions", *self.KINDS], [[f"{t}, {s}", *(cell((kind, t, s)) for kind in self.KINDS)] for t, s in numbers])
-
-
-class LockBench(Sharing):
-    name, heading, needs = "lock_bench", "Threads: `lock_bench`", (LOCK_BENCH,)
-    how = "Nanoseconds a call, mutex/office, of the fastest of 7 turns."
-    short_how, short_tables = "", Section.short_tables
-    TURNS = 7
-
-    def cases(self):
-        traces = self.traces()
-        return [(case, lambda c=case: self.both(traces[c[0], c[2]], c[1])) for case in sharing.CASES]
-
-    def both(self, trace, threads):
-        return {way: sharing.by_lock_bench(LOCK_BENCH, way, trace, threads, self.few(self.TURNS)) for way in sharing.COMMANDS}
-
-    def tables(self, found):
-        return self.grid(lambda case: found.pair(case, list(sharing.COMMANDS)))
 
 
 class Waiting(Section):
@@ -484,7 +460,7 @@ class StoreInMemory(Store):
 
 
 class Embedding(Section):
-    name, heading, needs = "embedding", "The boundary to C: `bench/embedding.c`", (LIBRARY, LOCK_BENCH)
+    name, heading, needs = "embedding", "One thread: `bench/embedding.c`", (LIBRARY,)
     how = "Nanoseconds a call, one thread, 8 sessions, 100,000 rows in which nothing waits; in a round the least of 50 times."
     TIMES = 50
     ROWS = 100_000
@@ -493,7 +469,7 @@ class Embedding(Section):
         "own": "a database, a file and a page of one's own by IX, and 10 records by X",
         "shared": "the same with 4 records, the rest shared by all, whose transactions are open side by side",
     }
-    COLUMNS = {"seq": "`Book::serve`", "book": "through C", "mutex": "with a mutex round each call", "berkeley": "Berkeley DB"}
+    COLUMNS = {"book": "`pelgaisti_book_serve`", "mutex": "with a mutex round each call", "berkeley": "Berkeley DB"}
 
     def build(self):
         """The program with Berkeley DB, if that is there, or without."""
@@ -514,10 +490,8 @@ class Embedding(Section):
         return [(case, lambda t=trace: self.told(program, t)) for case, trace in traces.items()]
 
     def told(self, program, trace):
-        times = str(self.few(self.TIMES))
-        numbers = [output_of([LOCK_BENCH, "seq", trace, times]).split("=")[1]]
-        numbers += [line.split()[0] for line in output_of([program, trace, times]).splitlines()]
-        return dict(zip(self.COLUMNS, map(float, numbers)))
+        lines = output_of([program, trace, str(self.few(self.TIMES))]).splitlines()
+        return dict(zip(self.COLUMNS, (float(line.split()[0]) for line in lines)))
 
     def tables(self, found):
         shown = [name for name in self.COLUMNS if name != "berkeley" or self.has_berkeley]
@@ -527,7 +501,7 @@ class Embedding(Section):
 
 
 class Instructions(Section):
-    name, heading, needs = "instructions", "Instructions: `checks/instructions.py`", (GLM, LOCK_BENCH, LIBRARY)
+    name, heading, needs = "instructions", "Instructions: `checks/instructions.py`", (GLM, LIBRARY)
     how = "Counted once by callgrind, which sees no clock."
     most_rounds = 1
 
@@ -548,7 +522,5 @@ class Instructions(Section):
         return table(["calls", "instructions", "at most"], [[told, f"{int(a):,}", f"{int(b):,}"] for told, a, b in self.lines])
 
 
-SECTIONS = [
-    Replay, Worst, Memory, Growth, Sharing, LockBench, Programs, Store, StoreInMemory, Waiting, Embedding, Instructions,
-]
+SECTIONS = [Replay, Worst, Memory, Growth, Sharing, Programs, Store, StoreInMemory, Waiting, Embedding, Instructions]
 

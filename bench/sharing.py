@@ -1,12 +1,11 @@
 #!/usr/bin/env python3
 """Times how threads share a lock table: a book behind a mutex, and an office. Prints a table for each, and the ratio of both.
 
-Usage: bench/sharing.py PROGRAM [ROUNDS] [--lock-bench LOCK_BENCH]
+Usage: bench/sharing.py PROGRAM [ROUNDS]
 
 PROGRAM is bench/sharing.c, which says how it is built. Rows, threads and ways are interleaved within a round, and every second
 round goes backwards. A figure is the middle one of the rounds (5 by default) of the fastest turn of a process, and behind it the
-least. Times of answers are means over the rounds. With --lock-bench the same traces are timed by `lock_bench mutex` and
-`lock_bench threads`, which go by `combining::call`.
+least. Times of answers are means over the rounds.
 
     own       each session locks a database of its own, a file, a page and 10 records, and commits
     shared    all sessions lock one database, file and page in IX, and 4 records of their own, and commit
@@ -23,8 +22,6 @@ CASES = [(kind, threads, threads) for kind in ("own", "shared", "conflict") for 
 CASES += [("own", 4, 64), ("shared", 4, 64), ("own", 8, 250), ("shared", 8, 250)]
 ROWS = 100_000
 TURNS = 9
-# how lock_bench calls the ways that are a mutex round a book, and the office by `combining::call`
-COMMANDS = {"book": "mutex", "call": "threads"}
 
 
 def own(session, turn):
@@ -86,11 +83,6 @@ def by_c(program, trace, threads, turns):
     return told
 
 
-def by_lock_bench(program, way, trace, threads, turns):
-    """The nanoseconds of a call by lock_bench, of the fastest turn."""
-    return float(run([program, COMMANDS[way], trace, str(threads), str(turns)]).split("=")[1])
-
-
 def measure(asked, traces):
     """Makes the rounds. Returns for each case and way the times of the fastest turns, and those of answers."""
     times, answers = {}, {}
@@ -100,9 +92,6 @@ def measure(asked, traces):
             for way, told in by_c(asked.program, traces[kind, sessions], threads, TURNS).items():
                 times.setdefault((case, way), []).append(told["least"])
                 answers.setdefault((case, way), []).append([told[name] for name in ("median", "99th", "9999th", "greatest")])
-            for way in COMMANDS if asked.lock_bench else ():
-                took = by_lock_bench(asked.lock_bench, way, traces[kind, sessions], threads, TURNS)
-                times.setdefault((case, way), []).append(took)
     return times, answers
 
 
@@ -110,23 +99,18 @@ def main():
     asked = argparse.ArgumentParser(description=__doc__, formatter_class=argparse.RawDescriptionHelpFormatter)
     asked.add_argument("program")
     asked.add_argument("rounds", type=int, nargs="?", default=5)
-    asked.add_argument("--lock-bench")
     asked = asked.parse_args()
     with tempfile.TemporaryDirectory() as folder:
         times, answers = measure(asked, write_traces(Path(folder)))
     for case in CASES:
         kind, threads, sessions = case
-        for mutex, office in (("mutex", "office"), ("book", "call")):
-            if (case, office) not in times:
-                continue
-            a, b = times[case, mutex], times[case, office]
-            print(f"{kind:8} {threads} threads {sessions:3} sessions, {mutex} {statistics.median(a):6.1f} ({min(a):6.1f})"
-                  f" {office} {statistics.median(b):6.1f} ({min(b):6.1f})"
-                  f" ratio {statistics.median(b) / statistics.median(a):.2f} ({min(b) / min(a):.2f})")
-            for way in (mutex, office):
-                if (case, way) in answers:
-                    means = [statistics.mean(column) for column in zip(*answers[case, way])]
-                    print(f"    answers by {way:6}: " + " ".join(f"{mean:9.0f}" for mean in means))
+        a, b = times[case, "mutex"], times[case, "office"]
+        print(f"{kind:8} {threads} threads {sessions:3} sessions, mutex {statistics.median(a):6.1f} ({min(a):6.1f})"
+              f" office {statistics.median(b):6.1f} ({min(b):6.1f})"
+              f" ratio {statistics.median(b) / statistics.median(a):.2f} ({min(b) / min(a):.2f})")
+        for way in ("mutex", "office"):
+            means = [statistics.mean(column) for column in zip(*answers[case, way])]
+            print(f"    answers by {way:6}: " + " ".join(f"{mean:9.0f}" for mean in means))
 
 
 if __name__ == "__main__":

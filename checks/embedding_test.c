@@ -2858,7 +2858,16 @@ static void an_operator_ends_transactions(void) {
 /* How often each session was woken, of offices whose waker is `tallies`. */
 enum { MANY = 40 };
 static uint32_t tally[MANY + 1];
-static void count_wake(void *engine, uint32_t session) { ((uint32_t *)engine)[session]++; }
+/* The session whose call makes the pass, if the waker uses its handle, against the rules. */
+static pelgaisti_session *calling;
+static void count_wake(void *engine, uint32_t session) {
+    const pelgaisti_call poll = {PELGAISTI_POLL, 0, {0, {0}}};
+    pelgaisti_answer answer = {99, {77, 88}};
+    ((uint32_t *)engine)[session]++;
+    if (!calling) return;
+    CHECK(pelgaisti_session_serve(calling, NULL) == PELGAISTI_CLOSED);
+    CHECK(pelgaisti_session_perform(calling, &poll, 9, &answer) == PELGAISTI_CLOSED && answer.place == 99);
+}
 static const pelgaisti_waker tallies = {count_wake, tally};
 
 /* Whether of sessions 1 to `count` exactly `session` was woken, once; 0: nobody was. Forgets the wake-ups. */
@@ -2940,7 +2949,8 @@ static void end_wait_by(int way, pelgaisti_session *sessions) {
     if (way != PATH) CHECK(answer.reply.kind == PELGAISTI_COMMITTED);
 }
 
-/* Each call that makes a pass wakes the session whose wait it has ended, once, in an office with a waker; and nobody in one without. */
+/* Each call that makes a pass wakes the session whose wait it has ended, once, in an office with a waker; and nobody in one without. A
+   waker that uses the handle of that call changes nothing of it. */
 static void each_pass_wakes(void) {
     pelgaisti_call begin = call_of(PELGAISTI_BEGIN, 0, 0, 0, 0), poll = call_of(PELGAISTI_POLL, 0, 0, 0, 0);
     pelgaisti_call first = call_of(PELGAISTI_LOCK, PELGAISTI_X, 1, 1, 0), second = call_of(PELGAISTI_LOCK, PELGAISTI_X, 1, 2, 0);
@@ -2953,7 +2963,9 @@ static void each_pass_wakes(void) {
             CHECK(kind_of(&sessions[0], begin) == PELGAISTI_BEGAN && kind_of(&sessions[1], begin) == PELGAISTI_BEGAN);
             CHECK(kind_of(&sessions[0], first) == PELGAISTI_GRANTED && kind_of(&sessions[1], second) == PELGAISTI_GRANTED);
             CHECK(kind_of(&sessions[1], first) == PELGAISTI_WAITING && was_woken(3, 0));
+            calling = &sessions[way == SERVE || way == SERVE_TELLING ? 2 : 0];
             end_wait_by(way, sessions);
+            calling = NULL;
             CHECK(was_woken(3, has_waker ? 2 : 0));
             CHECK(kind_of(&sessions[1], poll) == (uint32_t)(way == PATH ? PELGAISTI_DEADLOCK : PELGAISTI_CLEAR) && was_woken(3, 0));
             close_all(sessions, 3, &book);
@@ -2961,7 +2973,7 @@ static void each_pass_wakes(void) {
         }
 }
 
-/* A pass that ends many waits wakes each session once, whether its call tells of them too or not. */
+/* A pass that ends many waits wakes each session once, whether its call tells of them too or not, also if the waker uses its handle. */
 static void many_are_woken(void) {
     static pelgaisti_session sessions[MANY];
     pelgaisti_book book = PELGAISTI_EMPTY;
@@ -2980,12 +2992,14 @@ static void many_are_woken(void) {
             CHECK(kind_of(&sessions[s], s == 0 ? write : read) == (uint32_t)(s == 0 ? PELGAISTI_GRANTED : PELGAISTI_WAITING));
         }
         CHECK(was_woken(MANY, 0));
+        calling = waiters % 2 == 0 ? &sessions[0] : NULL;
         if (is_telling) {
             CHECK(pelgaisti_session_perform_telling(&sessions[0], &commit, NULL, &answer, list, MANY, &count) == PELGAISTI_OK);
             CHECK(answer.reply.kind == PELGAISTI_COMMITTED && count == waiters);
         } else {
             CHECK(kind_of(&sessions[0], commit) == PELGAISTI_COMMITTED);
         }
+        calling = NULL;
         for (uint32_t s = 1; s <= MANY; s++) {
             once &= tally[s] == (2 <= s && s <= waiters + 1);
             tally[s] = 0;

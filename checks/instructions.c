@@ -8,10 +8,10 @@
        programs   the same by two programs: make_transfer
        served     the same seven calls of a book: make_transfer
        ran        the same two programs of a book: make_transfer
+   `instructions rows FILE` has a new book for 256 sessions serve the rows of a trace: serve_rows.
    All lock tables have one seed, so that the counts are the same each time. */
 #include "pelgaisti.h"
-#include <stdlib.h>
-#include <string.h>
+#include "rows.h"
 
 enum { LOCKERS = 32, SEED = 7 };
 
@@ -98,6 +98,34 @@ static void batches(long times) {
         fill(batch, PELGAISTI_COMMIT, 0);
         if (pelgaisti_book_serve_batch(&book, batch, LOCKERS, &count) != PELGAISTI_OK || count != LOCKERS) exit(28);
     }
+}
+
+typedef struct row {
+    uint32_t session;
+    pelgaisti_call call;
+} row;
+
+__attribute__((noinline)) void serve_rows(const row *all, size_t count);
+
+/* A function of its own, by whose name its instructions are counted. */
+__attribute__((noinline)) void serve_rows(const row *all, size_t count) {
+    pelgaisti_reply reply;
+    for (size_t k = 0; k < count; k++)
+        if (pelgaisti_book_serve(&book, all[k].session, &all[k].call, &reply) != PELGAISTI_OK) exit(29);
+}
+
+static void rows(const char *name) {
+    static row all[1 << 15];
+    char line[256];
+    size_t count = 0;
+    FILE *file = fopen(name, "r");
+    MUST(file);
+    for (; fgets(line, sizeof line, file); count++) {
+        MUST(count < COUNT(all));
+        all[count].session = read_row(line, &all[count].call);
+    }
+    MUST(pelgaisti_book_open_seeded(&book, 256, SEED) == PELGAISTI_OK);
+    serve_rows(all, count);
 }
 
 __attribute__((noinline)) void perform_transaction(const pelgaisti_call *calls);
@@ -193,7 +221,8 @@ int main(int argc, char **argv) {
     long times = argc == 3 ? atol(argv[2]) : 0;
     int is_waking = argc == 3 && !strcmp(argv[1], "wakes");
     if (pelgaisti_office_open_seeded(sessions, LOCKERS + 1, 64, is_waking ? &waker : NULL, SEED) != PELGAISTI_OK) return 1;
-    if (argc == 3 && !strcmp(argv[1], "locks")) locks(times);
+    if (argc == 3 && !strcmp(argv[1], "rows")) rows(argv[2]);
+    else if (argc == 3 && !strcmp(argv[1], "locks")) locks(times);
     else if (argc == 3 && (!strcmp(argv[1], "performs") || is_waking)) performs(times);
     else if (argc == 3 && !strcmp(argv[1], "batches")) batches(times);
     else if (argc == 3) transfers(argv[1], times);

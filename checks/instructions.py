@@ -3,10 +3,10 @@
 
 Usage: checks/instructions.py [--over-gate]
 
-Each case has calls that go a fast way, and a bound on the instructions of one of them. Under callgrind lock_bench serves the calls
-behind what leads up to them, and what leads up alone, each once and twice: the count is the difference of the differences. Through
-the library for C (checks/instructions.c) a book serves locks of a batch, a pass of an office serves locks, and calls of one thread
-are performed at once, with no waker and with one that has nobody to wake. A transfer is made by single calls and by programs, of an
+Each case has calls that go a fast way, and a bound on the instructions of one of them, counted by callgrind through the library for
+C (checks/instructions.c). A new book serves the calls behind what leads up to them, and what leads up alone: the count is the
+difference. A book serves locks of a batch, a pass of an office serves locks, and calls of one thread are performed at once, with no
+waker and with one that has nobody to wake. A transfer is made by single calls and by programs, of an
 office and of a book: what the office takes beyond the book is its hand-over. A bound is some 20 per cent above
 what was counted when it was set (more for the smallest count), and below what the calls cost without the fast way, as tried in
 builds in which it was broken; for locks of a batch, with locks of two databases in turn, which make no run; for a second holder,
@@ -39,7 +39,6 @@ sys.dont_write_bytecode = True
 sys.path.insert(0, str(TOP / "bench"))
 import worst  # noqa: E402
 
-LOCK_BENCH = TOP / "crates/lock_bench/out/lock_bench"
 GLM = TOP / "crates/glm_main/out/glm_main"
 # the greatest peak over ever new resources, as a multiple of the peak over few
 MOST_MEMORY = 1.05
@@ -158,20 +157,19 @@ def counted(words, *flags, given=subprocess.DEVNULL):
     return int(found[1])
 
 
-def instructions_of_a_turn(rows, folder):
-    """The instructions by which lock_bench serves the rows once more."""
+def instructions_of_rows(rows, program, folder):
+    """The instructions by which a new book serves the rows."""
     with tempfile.NamedTemporaryFile("w", dir=folder, suffix=".csv") as trace:
         trace.writelines(row + "\n" for row in rows)
         trace.flush()
-        once, twice = (counted([LOCK_BENCH, "count", trace.name, times]) for times in ("1", "2"))
-    return twice - once
+        return counted([program, "rows", trace.name], "--toggle-collect=serve_rows")
 
 
-def instructions_of_a_call(case, folder):
+def instructions_of_a_call(case, program, folder):
     _, make, number, _ = case
     lead, calls, others = make()
-    turns = [instructions_of_a_turn(lead + rows, folder) for rows in (calls, others)]
-    return (turns[0] - turns[1]) / (number or len(calls))
+    of_calls, of_others = (instructions_of_rows(lead + rows, program, folder) for rows in (calls, others))
+    return (of_calls - of_others) / (number or len(calls))
 
 
 def instructions_of_a_replay(rows, sessions, folder):
@@ -240,9 +238,8 @@ def build(is_over_gate):
     """Builds the programs and the library for C, if they aren't built."""
     if is_over_gate:
         return
-    commands = [(TOP, ["./glm", "--help"]), (TOP / "crates/lock_bench", ["rt", "run", "--", "--help"]), (TOP, ["./embed"])]
-    for folder, words in commands:
-        subprocess.run(words, cwd=folder, stdout=subprocess.DEVNULL, check=True)
+    for words in ["./glm", "--help"], ["./embed"]:
+        subprocess.run(words, cwd=TOP, stdout=subprocess.DEVNULL, check=True)
 
 
 def main():
@@ -264,7 +261,7 @@ def main():
             program = program_through_c("instructions", folder)
             dear_calls = program_through_c("dear_calls", folder)
             through_c = pool.map(lambda case: instructions_through_c(case, program), THROUGH_C)
-            found = pool.map(lambda case: instructions_of_a_call(case, folder), CASES)
+            found = pool.map(lambda case: instructions_of_a_call(case, program, folder), CASES)
             dear = pool.map(lambda case: instructions_of_a_dear_call(case, folder), DEAREST)
             for (name, *_, most), instructions in zip(CASES + DEAREST + THROUGH_C, [*found, *dear, *through_c]):
                 judge(name, instructions, most, "instructions")

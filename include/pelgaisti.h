@@ -34,7 +34,8 @@
  * - Every pointer is aligned and points to memory of its type. No two arguments of a call overlap. A call returns PELGAISTI_NULL
  *   for a NULL pointer, unless its comment allows it, or it is an array's whose `room` is 0. pelgaisti_path_call and
  *   pelgaisti_deadlock_text test none.
- * - A process that has two copies of the library uses each handle with the copy that opened it.
+ * - A process that has two copies of the library uses each handle with the copy that opened it. If both are
+ *   of one version, a call with sessions of both returns OTHER_OFFICE.
  * - At most one call at a time uses a handle. To pass a handle to another thread, synchronize: by a mutex, by the start or the
  *   join of a thread, or by a sequentially consistent atomic. Different sessions of one office may be used at the same time.
  *   Built with -fsanitize=thread a program is told of two threads that use one handle without that.
@@ -120,9 +121,8 @@ typedef enum pelgaisti_status {
                                       table is tested] */
     PELGAISTI_OTHER_OFFICE = 14,   /* the two sessions belong to different offices [other_office: their marks differ] */
     PELGAISTI_MISSING = 15,        /* a session of the office was not handed in [missing] */
-    PELGAISTI_COPIED = 16,         /* a handle was copied or moved, against the rules above, or is of another copy of the
-                                      library; see pelgaisti_office_close [whole, done: all tests before it passed, and the session
-                                      is closed; that such a handle was handed in is tested] */
+    PELGAISTI_COPIED = 16,         /* a handle was copied or moved, against the rules above; see pelgaisti_office_close [whole, done: all
+                                      tests before it passed, and the session is closed; when it comes isn't tested] */
     PELGAISTI_NULL = 17,           /* a pointer is NULL and must not be [null, exactly then; of a waker tested] */
     PELGAISTI_SAME = 18,           /* both arguments are the same handle [tested] */
     PELGAISTI_LET_GO = 19,         /* the entry at this place of the history was let go [let_go, exactly then] */
@@ -398,7 +398,8 @@ typedef struct pelgaisti_session {
      returns. So it may post a semaphore, or lock a mutex of the engine's that no thread has locked while it makes a pass, as that
      thread would wait for itself. While it takes long, nobody waits for the lock table, but the sessions behind this one sleep on.
    - Several threads may be in `wake` at a time, each after its own pass: what they share is guarded.
-   - `wake` uses no handle of the session whose call made the pass: that call isn't over, and one call at a time uses a handle.
+   - `wake` doesn't use the handle of the session whose call made the pass: that call isn't over, and one call at a time uses a handle.
+     While `wake` runs this handle is closed: a call that uses it returns CLOSED, and changes nothing [tested].
    - `wake` may be called for a session that is awake, also for that whose call made the pass, and more than once before its thread
      sleeps: the session may have polled unasked, or aborted, and waited again. So what a thread sleeps on keeps a wake-up that comes
      early, as a semaphore does; and a thread that is woken polls, and sleeps on if the reply is WAITING.
@@ -949,7 +950,8 @@ pelgaisti_status pelgaisti_session_mark(pelgaisti_session *session, uint64_t *ma
 
 /* Makes all that `other` knows of the history known to `session`: what `session` publishes from then on is entered into the
    history after every entry that `other` has seen. `other` learns nothing. The call uses both handles.
-   Requires that sessions with the same mark belong to the same office, as they do if one copy of the library opened them.
+   Requires that sessions with the same mark belong to the same office, as they do: the offices of two copies of the library have
+   different marks, too, at least the first 2^31 of each copy [tested].
    NULL, SAME, CLOSED (one of the handles), OTHER_OFFICE. */
 pelgaisti_status pelgaisti_session_hear(pelgaisti_session *session, pelgaisti_session *other);
 
@@ -966,8 +968,8 @@ pelgaisti_status pelgaisti_session_hand_in(pelgaisti_session *session, pelgaisti
    opens `book` with the lock table and the history, of which it keeps all entries or those that the office's bound has left. Open
    transactions and waiting requests may be left: the book has them with their locks, and pelgaisti_book_close frees them with it. No
    waker is called.
-   COPIED means that a handle was copied or moved, or is of another copy of the library; most such handles are told by no status. It is
-   the only status other than OK that closes `session`.
+   COPIED means that a handle was copied or moved; most such handles are told by no status. It is the only status other than OK that
+   closes `session`.
    NULL, OPEN (the book), CLOSED (the session), MISSING, PENDING, NO_MEMORY, COPIED. */
 pelgaisti_status pelgaisti_office_close(pelgaisti_session *session, pelgaisti_book *book);
 

@@ -277,6 +277,15 @@ static const pelgaisti_waker *waker_of(pelgaisti_session *session) {
     return (const pelgaisti_waker *)(uintptr_t)at;
 }
 
+/* Calls the waker for each session of a list. Meanwhile the handle of the session whose call made the pass is closed, so that a waker which
+   uses it, against the rules, gets CLOSED, and changes nothing of the call that goes on behind it. */
+static void wake_all(pelgaisti_session *session, const pelgaisti_waker *waker, const uint32_t *list, size_t count) {
+    const pelgaisti_session open = *session;
+    *session = pelgaisti_empty_session();
+    wake_each(waker, list, count);
+    *session = open;
+}
+
 /* Wakes the sessions that the session's last pass has told of, so many. */
 static COLD void wake_told(pelgaisti_session *session, size_t told) {
     const pelgaisti_waker *waker = waker_of(session);
@@ -284,14 +293,14 @@ static COLD void wake_told(pelgaisti_session *session, size_t told) {
     size_t first, count = 0;
     for (first = 0; waker && first < told; first += 16) {
         CALL(session, pelgaisti_raw_session_told(&session, first, list, 16, &count));
-        wake_each(waker, list, told - first < 16 ? told - first : 16);
+        wake_all(session, waker, list, told - first < 16 ? told - first : 16);
     }
 }
 
 /* Wakes the sessions of a list, if the session's office has a waker. */
 static COLD void wake_listed(pelgaisti_session *session, const uint32_t *list, size_t count) {
     const pelgaisti_waker *waker = waker_of(session);
-    if (waker) wake_each(waker, list, count);
+    if (waker) wake_all(session, waker, list, count);
 }
 
 /* ---- Sleep: a session that has waited for long in a whole call sleeps, and whoever had the lock table wakes it. The archive says who may

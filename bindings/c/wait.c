@@ -9,10 +9,16 @@
 #include <sys/syscall.h>
 #include <unistd.h>
 
-/* A number that no other office of the process has: 1, 2, and so on. */
+/* For each session how many wake-ups were made. They outlive the sessions, since a wake-up may come when the thread has left its call, and
+   its session is closed. The sessions of an office have different ones, and share them with those of other offices. */
+static uint32_t wake_ups[4 * PELGAISTI_MAX_SESSIONS];
+
+/* A number that no other office of the process has, also none of another copy of the library: an address of this copy, and how many it has
+   drawn before. An address has 47 bits, and the array above 2^14 bytes. So the first 2^31 numbers lie between those of the array's begin and
+   its end, where no other copy has its array. */
 uint64_t draw_mark(void) {
     static uint64_t drawn;
-    return __atomic_add_fetch(&drawn, 1, __ATOMIC_RELAXED);
+    return ((uint64_t)(uintptr_t)wake_ups << 17) + __atomic_fetch_add(&drawn, 1, __ATOMIC_RELAXED);
 }
 
 /* Waits as pelgaisti_raw_session_turn says: yields the processor for UINT32_MAX, else makes so many pause instructions. */
@@ -26,10 +32,8 @@ void wait_before_turn(uint32_t wait) {
 
 uint32_t sleepers;
 
-/* For each session how many wake-ups were made. They outlive the sessions, since a wake-up may come when the thread has left its call, and
-   its session is closed. The sessions of an office have different ones, and share them with those of other offices. */
+/* Where those of a session are counted, of the office with this mark. */
 static uint32_t *wake_ups_of(uint64_t mark, uint32_t session) {
-    static uint32_t wake_ups[4 * PELGAISTI_MAX_SESSIONS];
     return &wake_ups[(mark * (PELGAISTI_MAX_SESSIONS + 1) + session) % (4 * PELGAISTI_MAX_SESSIONS)];
 }
 
