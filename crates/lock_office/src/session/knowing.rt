@@ -10,6 +10,8 @@ ghost use Rattle.lock_office.specs.Sessions.{IsSessionOf};
 
 use crate::Office;
 use crate::session::Session;
+use lock_desk::Book;
+use programs::Programs;
 use publication::Knowledge as TicketKnowledge;
 use std::marker::Model;
 
