@@ -317,10 +317,9 @@ pub fn program_with_hints<
 /// A fault is reported in one line on `errors`, and a usage error in several; behind that of a file that can't be opened or written
 /// one names it, and with `--hints` what would help behind that of a row or a wrong reply. A failure of `errors` changes no status.
 ///
-/// Words that name a file to read or to write have it read or written in place of `input` or `output`. A file is written only
-/// with status 0 or 3, whole; what follows is of `output` then. `output` is written only with status 0, 3 (the verdict), 5 if the writer
-/// failed on the way, with status 4 if memory was refused on the way of a shell, or of a replay or a run that writes its history in pieces, or with status
-/// 6 if such a run was stopped on its way.
+/// Words that name a file to read or to write have it read or written in place of `input` or `output`. A file is written only with status
+/// 0 or 3, whole; what follows is of `output` then. `output` is written only with status 0, 3 (the verdict), 5 if the writer failed on the
+/// way, 4 if memory was refused to a shell or to a history in pieces, or 6 if a run in pieces was stopped.
 pub fn program<'a, T: Threads + Wait + Files, R: Read + Drop, W: Write, E: Write, G: Gate>(
     rt: &T,
     alloc: Global,

@@ -138,8 +138,7 @@ fn report_fault<E: Write>(fault: &ToolFault, errors: &mut E) {
     report_line(status_of_fault(fault), fault, errors);
 }
 
-/// Writes the line of a fault of `show`, `explain` or `timeline`. A place that the history has is at fault only as the last of a
-/// timeline, if it is before the first.
+/// Writes the line of a fault of `show`, `explain` or `timeline`. A place that the history has is `--to`, which is before `--from`.
 fn report_show_fault<E: Write>(fault: &ShowFault, errors: &mut E) {
     match fault {
         ShowFault::NoPlace { place, entries } if place < entries => {
