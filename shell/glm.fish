@@ -22,14 +22,14 @@ complete -c glm -n '__fish_seen_subcommand_from help' -a shell -d 'Answers calls
 complete -c glm -n '__fish_seen_subcommand_from help' -a help -d 'Print this message or the help of the given subcommand(s)'
 complete -c glm -n '__fish_seen_subcommand_from replay; and not __fish_seen_subcommand_from help' -F
 complete -c glm -n '__fish_seen_subcommand_from replay; and not __fish_seen_subcommand_from help' -l sessions -x -d 'How many sessions there are, 1 to 1024 [default: 256]'
-complete -c glm -n '__fish_seen_subcommand_from replay; and not __fish_seen_subcommand_from help' -s o -l output -r -F -d 'The file to write, whole or not at all, by default or for '\''-'\'' standard output'
+complete -c glm -n '__fish_seen_subcommand_from replay; and not __fish_seen_subcommand_from help' -s o -l output -r -F -d 'The file to write, whole or not at all, by default or for '\''-'\'' standard output; an interrupt may leave FILE.0.new'
 complete -c glm -n '__fish_seen_subcommand_from replay; and not __fish_seen_subcommand_from help' -l comments -d 'Skips lines that begin with '\''#'\'''
 complete -c glm -n '__fish_seen_subcommand_from replay; and not __fish_seen_subcommand_from help' -l hints -d 'Shows a row that is refused, or a wrong reply, and what would help, as on a terminal'
 complete -c glm -n '__fish_seen_subcommand_from replay; and not __fish_seen_subcommand_from help' -l stream -d 'Writes the history in pieces while calls are served, and keeps no more than a piece in memory'
 complete -c glm -n '__fish_seen_subcommand_from replay; and not __fish_seen_subcommand_from help' -s h -l help -d 'Print help (see more with '\''--help'\'')'
 complete -c glm -n '__fish_seen_subcommand_from run; and not __fish_seen_subcommand_from help' -F
 complete -c glm -n '__fish_seen_subcommand_from run; and not __fish_seen_subcommand_from help' -l sessions -x -d 'How many sessions there are, 1 to 1024 [default: 256]'
-complete -c glm -n '__fish_seen_subcommand_from run; and not __fish_seen_subcommand_from help' -s o -l output -r -F -d 'The file to write, whole or not at all, by default or for '\''-'\'' standard output'
+complete -c glm -n '__fish_seen_subcommand_from run; and not __fish_seen_subcommand_from help' -s o -l output -r -F -d 'The file to write, whole or not at all, by default or for '\''-'\'' standard output; an interrupt may leave FILE.0.new'
 complete -c glm -n '__fish_seen_subcommand_from run; and not __fish_seen_subcommand_from help' -l comments -d 'Skips lines that begin with '\''#'\'''
 complete -c glm -n '__fish_seen_subcommand_from run; and not __fish_seen_subcommand_from help' -l hints -d 'Shows a row that is refused, or a wrong reply, and what would help, as on a terminal'
 complete -c glm -n '__fish_seen_subcommand_from run; and not __fish_seen_subcommand_from help' -l turns -x -d 'How often a session tries for one answer at most, 1 to 1000000000 [default: 1000000000]'
@@ -37,14 +37,14 @@ complete -c glm -n '__fish_seen_subcommand_from run; and not __fish_seen_subcomm
 complete -c glm -n '__fish_seen_subcommand_from run; and not __fish_seen_subcommand_from help' -s h -l help -d 'Print help (see more with '\''--help'\'')'
 complete -c glm -n '__fish_seen_subcommand_from check; and not __fish_seen_subcommand_from help' -F
 complete -c glm -n '__fish_seen_subcommand_from check; and not __fish_seen_subcommand_from help' -l sessions -x -d 'How many sessions there are, 1 to 1024 [default: 256]'
-complete -c glm -n '__fish_seen_subcommand_from check; and not __fish_seen_subcommand_from help' -s o -l output -r -F -d 'The file to write, whole or not at all, by default or for '\''-'\'' standard output'
+complete -c glm -n '__fish_seen_subcommand_from check; and not __fish_seen_subcommand_from help' -s o -l output -r -F -d 'The file to write, whole or not at all, by default or for '\''-'\'' standard output; an interrupt may leave FILE.0.new'
 complete -c glm -n '__fish_seen_subcommand_from check; and not __fish_seen_subcommand_from help' -l comments -d 'Skips lines that begin with '\''#'\'''
 complete -c glm -n '__fish_seen_subcommand_from check; and not __fish_seen_subcommand_from help' -l hints -d 'Shows a row that is refused, or a wrong reply, and what would help, as on a terminal'
 complete -c glm -n '__fish_seen_subcommand_from check; and not __fish_seen_subcommand_from help' -l stream -d 'Compares each reply as its row is read, and keeps no rows in memory'
 complete -c glm -n '__fish_seen_subcommand_from check; and not __fish_seen_subcommand_from help' -s h -l help -d 'Print help (see more with '\''--help'\'')'
 complete -c glm -n '__fish_seen_subcommand_from show; and not __fish_seen_subcommand_from help' -F
 complete -c glm -n '__fish_seen_subcommand_from show; and not __fish_seen_subcommand_from help' -l sessions -x -d 'How many sessions there are, 1 to 1024 [default: 256]'
-complete -c glm -n '__fish_seen_subcommand_from show; and not __fish_seen_subcommand_from help' -s o -l output -r -F -d 'The file to write, whole or not at all, by default or for '\''-'\'' standard output'
+complete -c glm -n '__fish_seen_subcommand_from show; and not __fish_seen_subcommand_from help' -s o -l output -r -F -d 'The file to write, whole or not at all, by default or for '\''-'\'' standard output; an interrupt may leave FILE.0.new'
 complete -c glm -n '__fish_seen_subcommand_from show; and not __fish_seen_subcommand_from help' -l comments -d 'Skips lines that begin with '\''#'\'''
 complete -c glm -n '__fish_seen_subcommand_from show; and not __fish_seen_subcommand_from help' -l hints -d 'Shows a row that is refused, or a wrong reply, and what would help, as on a terminal'
 complete -c glm -n '__fish_seen_subcommand_from show; and not __fish_seen_subcommand_from help' -l at -x -d 'The place of the history in front of which the state is shown, by default its end'
@@ -55,7 +55,7 @@ complete -c glm -n '__fish_seen_subcommand_from show; and not __fish_seen_subcom
 complete -c glm -n '__fish_seen_subcommand_from show; and not __fish_seen_subcommand_from help' -s h -l help -d 'Print help (see more with '\''--help'\'')'
 complete -c glm -n '__fish_seen_subcommand_from explain; and not __fish_seen_subcommand_from help' -F
 complete -c glm -n '__fish_seen_subcommand_from explain; and not __fish_seen_subcommand_from help' -l sessions -x -d 'How many sessions there are, 1 to 1024 [default: 256]'
-complete -c glm -n '__fish_seen_subcommand_from explain; and not __fish_seen_subcommand_from help' -s o -l output -r -F -d 'The file to write, whole or not at all, by default or for '\''-'\'' standard output'
+complete -c glm -n '__fish_seen_subcommand_from explain; and not __fish_seen_subcommand_from help' -s o -l output -r -F -d 'The file to write, whole or not at all, by default or for '\''-'\'' standard output; an interrupt may leave FILE.0.new'
 complete -c glm -n '__fish_seen_subcommand_from explain; and not __fish_seen_subcommand_from help' -l comments -d 'Skips lines that begin with '\''#'\'''
 complete -c glm -n '__fish_seen_subcommand_from explain; and not __fish_seen_subcommand_from help' -l hints -d 'Shows a row that is refused, or a wrong reply, and what would help, as on a terminal'
 complete -c glm -n '__fish_seen_subcommand_from explain; and not __fish_seen_subcommand_from help' -l at -x -d 'The place of the call to explain, by default all that waited, were refused or ended a wait'
@@ -64,7 +64,7 @@ complete -c glm -n '__fish_seen_subcommand_from explain; and not __fish_seen_sub
 complete -c glm -n '__fish_seen_subcommand_from explain; and not __fish_seen_subcommand_from help' -s h -l help -d 'Print help (see more with '\''--help'\'')'
 complete -c glm -n '__fish_seen_subcommand_from timeline; and not __fish_seen_subcommand_from help' -F
 complete -c glm -n '__fish_seen_subcommand_from timeline; and not __fish_seen_subcommand_from help' -l sessions -x -d 'How many sessions there are, 1 to 1024 [default: 256]'
-complete -c glm -n '__fish_seen_subcommand_from timeline; and not __fish_seen_subcommand_from help' -s o -l output -r -F -d 'The file to write, whole or not at all, by default or for '\''-'\'' standard output'
+complete -c glm -n '__fish_seen_subcommand_from timeline; and not __fish_seen_subcommand_from help' -s o -l output -r -F -d 'The file to write, whole or not at all, by default or for '\''-'\'' standard output; an interrupt may leave FILE.0.new'
 complete -c glm -n '__fish_seen_subcommand_from timeline; and not __fish_seen_subcommand_from help' -l comments -d 'Skips lines that begin with '\''#'\'''
 complete -c glm -n '__fish_seen_subcommand_from timeline; and not __fish_seen_subcommand_from help' -l hints -d 'Shows a row that is refused, or a wrong reply, and what would help, as on a terminal'
 complete -c glm -n '__fish_seen_subcommand_from timeline; and not __fish_seen_subcommand_from help' -l from -x -d 'The first place of the history that is drawn, by default its beginning'
@@ -72,7 +72,7 @@ complete -c glm -n '__fish_seen_subcommand_from timeline; and not __fish_seen_su
 complete -c glm -n '__fish_seen_subcommand_from timeline; and not __fish_seen_subcommand_from help' -s h -l help -d 'Print help (see more with '\''--help'\'')'
 complete -c glm -n '__fish_seen_subcommand_from stats; and not __fish_seen_subcommand_from help' -F
 complete -c glm -n '__fish_seen_subcommand_from stats; and not __fish_seen_subcommand_from help' -l sessions -x -d 'How many sessions there are, 1 to 1024 [default: 256]'
-complete -c glm -n '__fish_seen_subcommand_from stats; and not __fish_seen_subcommand_from help' -s o -l output -r -F -d 'The file to write, whole or not at all, by default or for '\''-'\'' standard output'
+complete -c glm -n '__fish_seen_subcommand_from stats; and not __fish_seen_subcommand_from help' -s o -l output -r -F -d 'The file to write, whole or not at all, by default or for '\''-'\'' standard output; an interrupt may leave FILE.0.new'
 complete -c glm -n '__fish_seen_subcommand_from stats; and not __fish_seen_subcommand_from help' -l comments -d 'Skips lines that begin with '\''#'\'''
 complete -c glm -n '__fish_seen_subcommand_from stats; and not __fish_seen_subcommand_from help' -l hints -d 'Shows a row that is refused, or a wrong reply, and what would help, as on a terminal'
 complete -c glm -n '__fish_seen_subcommand_from stats; and not __fish_seen_subcommand_from help' -l csv -d 'Writes the same as rows'

@@ -28,7 +28,9 @@ pub(crate) fn output_arg<'a>(alloc: Global) -> Arg<'a>
         .short('o')
         .long("output")
         .value_name("FILE")
-        .help("The file to write, whole or not at all, by default or for '-' standard output")
+        .help(
+            "The file to write, whole or not at all, by default or for '-' standard output; an interrupt may leave FILE.0.new",
+        )
 }
 
 /// Defines the option `--sessions N`, which every command has.

@@ -27,7 +27,7 @@ unmapped P f (y ∷ ys) all = All-cons (λ y. P (f y)) y ys (All-head P (f y) (m
 pub opens_within : (n : ℕ) (l : StateLists) → AreLists n l → All (λ o. IsSession n o.session) l.opens.items
 opens_within n l all =
     let is : All (IsOpen n) l.opens.items =
-    unmapped (IsRow n) row.Transaction l.opens.items (front (IsRow n) (map row.Transaction l.opens.items) (map row.Claim l.claims.items ++ map row.Wait l.waits.items) all) in
+    unmapped (IsRow n) row.Transaction l.opens.items (front (IsRow n) (map row.Transaction l.opens.items) (map row.Claim l.claims.items ++ map row.Wait l.waits.items) all.rows) in
     λ i d lt. (is i d lt).0
 
 -- the waits of a dump are of its sessions
@@ -35,4 +35,4 @@ pub waits_within : (n : ℕ) (l : StateLists) → AreLists n l → All (IsWait n
 waits_within n l all =
     unmapped (IsRow n) row.Wait l.waits.items
     (rest (IsRow n) (map row.Claim l.claims.items) (map row.Wait l.waits.items)
-    (rest (IsRow n) (map row.Transaction l.opens.items) (map row.Claim l.claims.items ++ map row.Wait l.waits.items) all))
+    (rest (IsRow n) (map row.Transaction l.opens.items) (map row.Claim l.claims.items ++ map row.Wait l.waits.items) all.rows))

@@ -1,5 +1,4 @@
--- For whom the requests of a state wait, each session's first blocker first, found in its lists: who waits for whom is what the list of
--- waits says.
+-- For whom the requests of a state wait, each session's first blocker first: who waits for whom is what the list of waits says.
 use Rattle.std.specs.Prelude.{ℕ, Bool, true, false, ◌&&◌, if◌then◌else◌, ◌==◌, List, [], ◌∷◌, filter, Option, Some, None}
 use Rattle.std.specs.List.{flat_map, list_any}
 use Rattle.lock_tree.specs.Paths.{same_path}

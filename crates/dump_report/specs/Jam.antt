@@ -22,8 +22,7 @@ claims_but s claims = filter (λ c. not (c.session == s)) claims
 abbrev pub locks_among : List Claim → List Claim
 locks_among claims = filter (λ c. not (is_request c)) claims
 
--- the sessions of the requests that are granted beside these locks: from the front of the queue on, up to the first that doesn't fit
--- once those before it are granted
+-- the sessions of the requests that are granted beside these locks: those at the front of the queue that fit, one after another
 abbrev pub granted_of : List Claim → List Claim → List ℕ
 granted_of locks [] = []
 granted_of locks (q ∷ qs) = if fits_beside q locks then q.session ∷ granted_of (claims_but q.session locks ++ q ∷ []) qs else []
@@ -40,14 +39,12 @@ granted_on s claims = if is_holder s (locks_among claims) then granted_of (claim
 abbrev pub jammed_at : Option (List ℕ) → List ℕ → List Claim → List (List Claim)
 jammed_at last r claims = if begins_queue last r claims then claims_on r claims ∷ [] else []
 
--- of claims in the order of a listing those on each resource that somebody waits for, resource by resource; `last` is the resource ahead
--- of them
+-- of claims in the order of a listing those on each resource that somebody waits for; `last` is the resource ahead of them
 abbrev pub jammed_behind : Option (List ℕ) → List Claim → List (List Claim)
 jammed_behind last [] = []
 jammed_behind last (c ∷ cs) = jammed_at last c.resource (c ∷ cs) ++ jammed_behind (Some c.resource) cs
 
--- the sessions of the requests that an abort of session s would grant, of the claims on each resource that somebody waits for: on each resource that s holds and others wait for, the front of the
--- queue that fits once the lock of s is gone
+-- the sessions of the requests that an abort of session s would grant, of the claims on each resource that somebody waits for
 abbrev pub granted_by_abort : ℕ → List (List Claim) → List ℕ
 granted_by_abort s jammed = flat_map (granted_on s) jammed
 

@@ -1,6 +1,6 @@
 //! The waiting requests and the locks among the claims of a dump.
 
-ghost use Rattle.std.specs.Prelude.{◌≡◌, filter, not, IfOk};
+ghost use Rattle.std.specs.Prelude.{◌≡◌, IfOk};
 ghost use Rattle.dump_report.specs.Blockers.{is_request, request_of, requests_among};
 ghost use Rattle.dump_report.specs.Jam.{locks_among};
 

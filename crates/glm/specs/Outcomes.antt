@@ -135,8 +135,7 @@ pub record HasAnsweredCheck (words : List Text) (input old new : Option (List �
   pub faults : IfErr answer (λ fault. IsFaultOfOneThread fault)
   pub checks : (bytes : List ℕ) → input ≡ Some bytes → PrintsVerdict sessions bytes answer
 
--- the words ask to show a state, and `answer` is the verdict on the history, or the fault; the output holds `old` before and
--- `new` after
+-- the words ask to show a state, and `answer` is the verdict on the history, or the fault
 pub record HasAnsweredShow (words : List Text) (input old new : Option (List ℕ)) (answer : Result Verdict ShowFault) : Type 0 where
   pub sessions : ℕ
   pub place : Option ℕ
@@ -157,8 +156,7 @@ pub record HasAnsweredDump {X : Type 0} (words : List Text) (input old new : Opt
   pub shown : IfOk answer (λ _. HasDump form sessions old new)
   pub shows : (bytes : List ℕ) → input ≡ Some bytes → ShowsDump form sessions bytes old new answer
 
--- the words ask to explain calls of a history, and `answer` is the verdict on the history, or the fault; the output holds `old`
--- before and `new` after
+-- the words ask to explain calls of a history, and `answer` is the verdict on the history, or the fault
 pub record HasAnsweredExplain (words : List Text) (input old new : Option (List ℕ)) (answer : Result Verdict ShowFault) : Type 0 where
   pub sessions : ℕ
   pub place : Option ℕ
@@ -169,8 +167,7 @@ pub record HasAnsweredExplain (words : List Text) (input old new : Option (List 
   pub explained : IfOk answer (λ verdict. HasExplained form sessions place verdict old new)
   pub explains : (bytes : List ℕ) → input ≡ Some bytes → Explains form sessions place bytes old new answer
 
--- the words ask to draw a history, and `answer` is the verdict on the history, or the fault; the output holds `old` before and `new`
--- after
+-- the words ask to draw a history, and `answer` is the verdict on the history, or the fault
 pub record HasAnsweredTimeline (words : List Text) (input old new : Option (List ℕ)) (answer : Result Verdict ShowFault) : Type 0 where
   pub sessions : ℕ
   pub from : Option ℕ
@@ -181,8 +178,7 @@ pub record HasAnsweredTimeline (words : List Text) (input old new : Option (List
   pub drawn : IfOk answer (λ verdict. HasDrawn sessions from to verdict old new)
   pub draws : (bytes : List ℕ) → input ≡ Some bytes → Draws sessions from to bytes old new answer
 
--- the words ask to count a history, and `answer` is the verdict on the history, or the fault; the output holds `old` before and `new`
--- after
+-- the words ask to count a history, and `answer` is the verdict on the history, or the fault
 pub record HasAnsweredStats (words : List Text) (input old new : Option (List ℕ)) (answer : Result Verdict ToolFault) : Type 0 where
   pub sessions : ℕ
   pub form : Form
@@ -193,8 +189,7 @@ pub record HasAnsweredStats (words : List Text) (input old new : Option (List �
   pub faults : IfErr answer (λ fault. IsFaultOfOneThread fault)
   pub counts : (bytes : List ℕ) → input ≡ Some bytes → Counts form sessions bytes old new answer
 
--- the words ask for the shell, and `answer` is the number of lines that were answered, or the fault; the output holds `old` before and
--- `new` after
+-- the words ask for the shell, and `answer` is the number of lines that were answered, or the fault
 pub record HasAnsweredShell (words : List Text) (old new : Option (List ℕ)) (answer : Result ℕ ToolFault) : Type 0 where
   pub sessions : ℕ
   pub asked : AskShell words sessions

@@ -1,6 +1,6 @@
 //! The whole program except its streams: parses the command line and runs the command.
 
-ghost use Rattle.std.specs.Prelude.{◌≡◌, ◌≢◌, ◌<◌, ◌≤◌, ℕ, List, None, Some};
+ghost use Rattle.std.specs.Prelude.{◌≡◌, ◌≢◌, ◌⊎◌, ◌<◌, ◌≤◌, ℕ, List, None, Some};
 ghost use Rattle.std.specs.Io.KnownBytes.{Keeps};
 ghost use Rattle.clap.specs.Values.{kind_of};
 ghost use Rattle.clap.specs.Simple.{subcommand_of};
@@ -13,12 +13,12 @@ ghost use Rattle.command_line.specs.declared.args.CommandRequest.TheVariants as 
 ghost use Rattle.command_line.specs.CommandLine.{Ask, AskReplayInPieces, AskRunInPieces, AskShell, HasNumbers, glm_command, most_sessions};
 ghost use Rattle.command_line.specs.Streams.{HasStreamsOf, SkipComments as AskNoComments, input_file, output_file};
 ghost use Rattle.glm.specs.Outcomes.{HasDone, status_of_outcome};
-ghost use Rattle.glm.specs.Streams.{HasDoneInFile, HasOutcome};
+ghost use Rattle.glm.specs.Streams.{HasDoneInFile, HasOutcome, IsFileFault};
 ghost use Rattle.glm.specs.ParserErrors.{IsOutcomeOfError};
 ghost use Rattle.glm.specs.Statuses.{IsStatus};
 
 use crate::hints::{Hints, write_hints};
-use crate::outcomes::{Outcome, file_failed};
+use crate::outcomes::{DEVICE, Outcome, file_failed};
 use crate::verdicts::write_verdict;
 use crate::wrong_replies::{ReportRequest, explained, shown};
 use clap::Error;
@@ -33,7 +33,7 @@ use run_commands::{Gate, run, run_in_pieces};
 use stats_report::stats;
 use std::alloc::Global;
 use std::fs::Files;
-use std::io::{Read, Write};
+use std::io::{Error as IoError, ErrorKind as IoErrorKind, Read, Write};
 use std::sync::Wait;
 use std::thread::Threads;
 
@@ -158,6 +158,23 @@ fn perform<T: Threads + Wait + Files, R: Read + Drop, W: Write, G: Gate>(
     }
 }
 
+/// The outcome of a command that wasn't done. If the device refused what was written to the file at `path`, the file is named.
+fn unwritten<E: Write>(
+    outcome: Outcome,
+    refused: Option<IoErrorKind>,
+    path: &str,
+    errors: &mut E,
+) -> Outcome
+    ensures { (result ≡ outcome) ⊎ IsFileFault result }
+{
+    match refused {
+        Some(kind) if outcome.status() == DEVICE => {
+            file_failed("write", path, &IoError::from(kind), errors)
+        }
+        _ => outcome,
+    }
+}
+
 /// Runs a command that writes to the file at `path`, which gets the text only if the command was done.
 fn perform_to_file<T: Threads + Wait + Files, R: Read + Drop, E: Write, G: Gate>(
     host: &Host<'_, T, G>,
@@ -174,10 +191,11 @@ fn perform_to_file<T: Threads + Wait + Files, R: Read + Drop, E: Write, G: Gate>
         Ok(file) => file,
         Err(error) => return file_failed("write", path, &error, errors),
     };
-    let outcome = perform(host, command, input, &mut file.output, wrong);
+    let outcome = perform(host, command, input, &mut file, wrong);
     if !outcome.is_done() {
+        let refused = file.refused();
         file.remove(host.rt);
-        return outcome;
+        return unwritten(outcome, refused, path, errors);
     }
     match file.replace(host.rt) {
         Ok(()) => outcome,
@@ -293,24 +311,15 @@ pub fn program_with_hints<
 }
 
 /// Runs the whole program except its streams. `words` are the command line with the program's own name first, and `gate`
-/// is the gate that the threads of a `run` enter. Returns the exit status:
+/// is the gate that the threads of a `run` enter. Returns the exit status, from `DONE` to `STOPPED`; `USAGE` is also that of a place that
+/// the history doesn't have.
 ///
-/// - 0: done, or help or the version was asked for
-/// - 1: a row was refused
-/// - 2: usage error, or a place that the history doesn't have
-/// - 3: the history isn't legal
-/// - 4: no memory
-/// - 5: a reader or writer failed, or a thread couldn't be started
-/// - 6: a gate stayed shut, or a call ran out of tries
+/// A fault is reported in one line on `errors`, and a usage error in several; behind that of a file that can't be opened or written
+/// one names it, and with `--hints` what would help behind that of a row or a wrong reply. A failure of `errors` changes no status.
 ///
-/// A fault is reported in one line on `errors`, and a usage error in several lines; behind the line of a file that can't be opened
-/// or written stands one that names it, and with `--hints` behind that of a row what would help, and what the lock table gives in
-/// place of a wrong reply. A failure of `errors` changes no status.
-///
-/// Words that name a file to read or to write have it read or written in place of `input` or `output`. A file is written only
-/// with status 0 or 3, whole; what follows is of `output` then. `output` is written only with status 0, with status 3 (the verdict), with status 5 if the writer failed on the
-/// way, with status 4 if memory was refused on the way of a shell, or of a replay or a run that writes its history in pieces, or with status
-/// 6 if such a run was stopped on its way.
+/// Words that name a file to read or to write have it read or written in place of `input` or `output`. A file is written only with status
+/// 0 or 3, whole; what follows is of `output` then. `output` is written only with status 0, 3 (the verdict), 5 if the writer failed on the
+/// way, 4 if memory was refused to a shell or to a history in pieces, or 6 if a run in pieces was stopped.
 pub fn program<'a, T: Threads + Wait + Files, R: Read + Drop, W: Write, E: Write, G: Gate>(
     rt: &T,
     alloc: Global,

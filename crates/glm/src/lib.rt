@@ -1,11 +1,9 @@
-//! The tool `glm`: replays, runs and checks traces of lock calls, shows states, explains and counts calls, with its command
-//! line.
+//! The tool `glm`: replays, runs and checks traces of lock calls, shows states, explains and counts calls.
 //!
 //! `commands.rt` is the whole program except its streams, `verdicts.rt` what `check` writes, and `outcomes.rt` has statuses and messages.
 //! The command line is `command_line`'s, `replay` is of `replay_commands`, `run` of `run_commands`, `check`, `show`, `explain` and
 //! `timeline` are of `history_commands`, `stats` of `stats_report`, `shell` of `lock_shell`. Comments are skipped by `lock_trace`, files
-//! opened and written by `replay_commands`. `hints.rt` writes the hints of `row_hints`, and `wrong_replies.rt` finds the wrong reply that
-//! they tell of.
+//! opened and written by `replay_commands`. `hints.rt` writes the hints of `row_hints`, and `wrong_replies.rt` finds the wrong reply.
 //!
 //! Proved: what each command wrote, with its result and exit status, for every input, also after a fault; and that the
 //! standard streams are read and written, or kept, as the words that name files say. Only tested: what files have, that

@@ -46,19 +46,15 @@ pub(crate) enum Outcome {
     RunInPieces(Result<u64, ToolFault>),
     /// The result of the check that was asked for. A verdict was also written to the output.
     Check(Result<Verdict, ToolFault>),
-    /// The verdict on the history of which a state was asked for, and written: the state if the history is legal, else the
-    /// verdict.
+    /// The verdict on the history of which a state was asked for. The state was written, or the verdict if it isn't legal.
     Show(Result<Verdict, ShowFault>),
     /// The result of showing the dump that was asked for. The state was also written to the output.
     Dump(Result<(), DumpFault>),
-    /// The verdict on the history of which an explanation was asked for, and written: the explanation if the history is legal,
-    /// else the verdict.
+    /// The verdict on the history of which an explanation was asked for, written in the same way.
     Explain(Result<Verdict, ShowFault>),
-    /// The verdict on the history of which a picture was asked for, and written: the picture if the history is legal, else the
-    /// verdict.
+    /// The verdict on the history of which a picture was asked for, written in the same way.
     Timeline(Result<Verdict, ShowFault>),
-    /// The verdict on the history whose counters were asked for, and written: the counters if the history is legal, else the
-    /// verdict.
+    /// The verdict on the history whose counters were asked for, written in the same way.
     Stats(Result<Verdict, ToolFault>),
     /// The result of the shell that was asked for. Its answers were also written to the output.
     Shell(Result<u64, ToolFault>),
@@ -142,17 +138,17 @@ fn report_fault<E: Write>(fault: &ToolFault, errors: &mut E) {
     report_line(status_of_fault(fault), fault, errors);
 }
 
-/// Writes the line of a fault of `show`, `explain` or `timeline`.
+/// Writes the line of a fault of `show`, `explain` or `timeline`. A place that the history has is `--to`, which is before `--from`.
 fn report_show_fault<E: Write>(fault: &ShowFault, errors: &mut E) {
-    report_line(status_of_show_fault(fault), fault, errors);
+    match fault {
+        ShowFault::NoPlace { place, entries } if place < entries => {
+            let _reported = writeln!(errors, "glm: --to {place} is before --from");
+        }
+        _ => report_line(status_of_show_fault(fault), fault, errors),
+    }
 }
 
-/// Writes the line of a fault of `show --state`.
-fn report_dump_fault<E: Write>(fault: &DumpFault, errors: &mut E) {
-    report_line(status_of_dump_fault(fault), fault, errors);
-}
-
-/// Writes the lines of a file that couldn't be opened to do something with it. Returns the outcome.
+/// Writes the lines of a file that couldn't be opened, read or written. Returns the outcome.
 pub(crate) fn file_failed<E: Write>(
     act: &str,
     path: &str,
@@ -222,20 +218,16 @@ impl Outcome {
             Outcome::Show(Err(fault)) | Outcome::Explain(Err(fault)) => {
                 report_show_fault(fault, errors)
             }
-            Outcome::Dump(Err(fault)) => report_dump_fault(fault, errors),
+            Outcome::Dump(Err(fault)) => {
+                report_line(status_of_dump_fault(fault), fault, errors);
+            }
             Outcome::Timeline(Err(fault)) => report_show_fault(fault, errors),
             Outcome::Stats(Err(fault)) => report_fault(fault, errors),
-            Outcome::HelpFailed | Outcome::VersionFailed => report_fault(
-                &ToolFault::Device,
-                errors,
-            ),
+            Outcome::HelpFailed | Outcome::VersionFailed => {
+                report_fault(&ToolFault::Device, errors);
+            }
             Outcome::OutOfMemory => report_fault(&ToolFault::NoMemory, errors),
-            Outcome::Replay(Ok(_)) | Outcome::ReplayInPieces(Ok(_)) => {}
-            Outcome::Run(Ok(_)) | Outcome::RunInPieces(Ok(_)) | Outcome::Shell(Ok(_)) => {}
-            Outcome::Check(Ok(_)) | Outcome::Show(Ok(_)) | Outcome::Explain(Ok(_)) => {}
-            Outcome::Timeline(Ok(_)) | Outcome::Stats(Ok(_)) | Outcome::Dump(Ok(_)) => {}
-            Outcome::HelpShown | Outcome::VersionShown => {}
-            Outcome::Misused | Outcome::FileFailed => {}
+            _ => {}
         }
     }
 }

@@ -48,8 +48,4 @@ pub first_wrong : (es : List Entry) (i : ℕ) (e : Entry) (given : Reply) (befor
     → given ≡ (step (state_of before) e.session e.call).reply → ¬ (given ≡ e.reply) → IsFirstWrong es i
 first_wrong es i e given before lt is so_far legal by_step other =
     let there : given ≡ (step (state_of (take i es)) e.session e.call).reply = by_step ∙ ap (λ (xs : List Entry). (step (state_of xs) e.session e.call).reply) so_far in
-    record {
-      within = lt;
-      wrong = λ too. other (there ∙ sym (legal-steps (take (i + 1) es) too (take i es) [] e (grown es i e lt is)));
-      least = λ q below. fewer es (q + 1) i (omega (arith, below)) legal;
-    }
+    record { within = lt; wrong = λ too. other (there ∙ sym (legal-steps (take (i + 1) es) too (take i es) [] e (grown es i e lt is))); least = λ q below. fewer es (q + 1) i (omega (arith, below)) legal }

@@ -198,13 +198,7 @@ module _ (s : ℕ) (h : List Entry) (e : Entry) (reply : e.reply ≡ (step (stat
       long = length-append h (e ∷ [])
 
       go : (b : Bool) → begins_wait s e ≡ b → IsWaitingSince s q (h ++ e ∷ []) (cond b (length h) (waits_since s h))
-      go true b = record {
-        call = e;
-        there = push-last h;
-        begins = b;
-        free = ap (request_after s) (take-append_seam h (e ∷ [])) ∙ begun-free b;
-        waits = λ k l m. ap (request_after s) (whole k l m) ∙ after;
-      }
+      go true b = record { call = e; there = push-last h; begins = b; free = ap (request_after s) (take-append_seam h (e ∷ [])) ∙ begun-free b; waits = λ k l m. ap (request_after s) (whole k l m) ∙ after }
       go false b =
           let w = so_far q (kept-before q b after) in
           let t = push-there h (waits_since s h) w.call w.there in

@@ -129,11 +129,7 @@ module _ (n : ℕ) (es : List Entry)
       → flat_map (root_listed n (requests_among (listing_of (state_of es))) (jammed_behind None (listing_of (state_of es))) (waits_of n (state_of es))) (open_of s o) ≡ root_of n (state_of es) s o
   root-told s None = refl
   root-told s (Some x) = append-nil (root_listed n (requests_among (listing_of (state_of es))) (jammed_behind None (listing_of (state_of es))) (waits_of n (state_of es)) (record { session = s; transaction = x }))
-      ∙ (λ i. cond (is-root-told s i) (record {
-        begun = record { session = s; transaction = x };
-        blocks = length (filter (λ u. blocked-told u s i) (range_with_len 1 n));
-        grants = (root_listed-grants s);
-      } ∷ []) [])
+      ∙ (λ i. cond (is-root-told s i) (record { begun = record { session = s; transaction = x }; blocks = length (filter (λ u. blocked-told u s i) (range_with_len 1 n)); grants = (root_listed-grants s) } ∷ []) [])
     where
       root_listed-grants : ℕ → ℕ
       root_listed-grants v = length (Rattle.dump_report.specs.Jam.granted_by_abort v (jammed_behind None (listing_of (state_of es))))

@@ -45,8 +45,7 @@ is_poll _ = false
 abbrev pub doom_answered : List Entry → ℕ → Option Doom
 doom_answered front s = if is_doomed (state_of front) s then doomed_by s front else None
 
--- with sessions 1 to n, behind these entries, what the answer to a poll of session s tells, in this form: for whom the session waits,
--- since when, and which call made its transaction a victim; a graph doesn't tell it
+-- with sessions 1 to n, behind these entries, what the answer to a poll of session s tells, in this form; a graph doesn't tell it
 abbrev pub answer_in : Form → ℕ → List Entry → ℕ → List ℕ
 answer_in form.Lines n front s = text_of_answer (waits_of n (state_of front).table front s) (doom_answered front s)
 answer_in form.Rows n front s = rows_of_answer (length front) (waits_of n (state_of front).table front s) (doom_answered front s)

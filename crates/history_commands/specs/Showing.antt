@@ -48,8 +48,7 @@ waits_by n st s = flat_map (wait_of st s) (range_with_len 1 n)
 abbrev pub waits_of : ℕ → State → List Wait
 waits_of n st = flat_map (waits_by n st) (range_with_len 1 n)
 
--- the text for people of the state in front of a place, to which these entries have led: how many requests wait, who blocks whom, the open transactions,
--- the locks and requests, and who waits for whom, since when
+-- the text for people of the state in front of a place, to which these entries have led
 abbrev pub lines_in : ℕ → ℕ → List Entry → List ℕ
 lines_in n place front =
     let st = state_of front in

@@ -60,8 +60,7 @@ other_wait t s first u =
     if not (u == first) && waits_for t s u
     then record { wait = record { session = s; other = u }; first = false; since = None } ∷ [] else []
 
--- the waits of a session that waits since this place: first that for its first blocker, then those for others, of the sessions
--- 1 to n, by session number
+-- the waits of a session that waits since this place: that for its first blocker, then those for others, by session number
 abbrev pub waits_behind : ℕ → Table → ℕ → ℕ → Option ℕ → List ToldWait
 waits_behind n t s since None = []
 waits_behind n t s since (Some first) =

@@ -82,8 +82,8 @@ fn dump_text(
 /// but for the places, which a dump hasn't got.
 ///
 /// The whole text is made before its first byte is written. After every fault except `Device` nothing was written; after `Device` the
-/// beginning of the text may have been written, and nothing else. The fault `Row` names the first row with which the rows aren't the
-/// beginning of those of any state. Whether some history leads to the state isn't tested.
+/// beginning of the text may have been written, and nothing else. The fault `Row` names the first row with which the rows don't begin those
+/// of any state that [`read_state`] reads.
 pub fn show_dump<R: Read + Drop, W: Write>(
     alloc: Global,
     input: R,

@@ -307,16 +307,12 @@ pub fn explain_found<R: Read + Drop, W: Write>(
 }
 
 /// Reads the whole text of a history of sessions 1 to `sessions`, at most `MAX_SESSIONS`, checks it as [`check`] does, and writes
-/// what the call at index `place` did and why: why it was refused, for whom its request waits and through what, the cycles that
-/// it closed, who became a victim, and whose requests it granted; of a poll also for whom the session waits, since when, and which
-/// call made its transaction a victim. With `None` it writes this of each call that was refused,
-/// whose request waited, or that ended the wait of another session, one after another. If the history isn't legal, the line of
-/// its verdict is written instead. Returns the verdict.
+/// what the call at index `place` did and why; of a poll also why its session waits or is a victim. With `None` it writes this of each
+/// eventful call. If the history isn't legal, the line of its verdict is written instead. Returns the verdict.
 ///
 /// The whole text is made before its first byte is written. After every fault except `Device` nothing was written; after
 /// `Device` the beginning of the text may have been written, and nothing else. The fault `Trace` names the first faulty row and
-/// the first test that the row fails; `NoPlace` means that the history has no entry at `place`. The formats are this project's
-/// own; see docs/FORMATS.md.
+/// the first test that the row fails; `NoPlace` means that the history has no entry at `place`.
 pub fn explain<R: Read + Drop, W: Write>(
     alloc: Global,
     input: R,

@@ -3,8 +3,6 @@
 ghost use Rattle.std.specs.Prelude.{◌≡◌, ◌≢◌, ℕ, ◌<◌, ◌≤◌, List, [], Some, length, All, Ok, IfOk, IfErr, string_bytes};
 ghost use Rattle.std.specs.Io.KnownBytes.{Keeps};
 ghost use Rattle.lock_rules.specs.declared.calls.TheConstants.{MAX_SESSIONS};
-ghost use Rattle.lock_rules.specs.Legal.{state_of};
-ghost use Rattle.sequential.specs.Histories.{IsEntryWithin};
 ghost use Rattle.lock_trace.specs.Entries.{IsEntry};
 ghost use Rattle.history_commands.specs.Showing.{HasShown, HasShownPart, Shows, place_shown, lines_in, text_in, text_shown};
 ghost use Rattle.history_commands.specs.Verdicts.{Finds, IsVerdict, text_of_verdict, verdict_in, verdict_of};
@@ -178,14 +176,12 @@ pub fn show_found<R: Read + Drop, W: Write>(
 }
 
 /// Reads the whole text of a history of sessions 1 to `sessions`, at most `MAX_SESSIONS`, checks it as [`check`] does, and writes
-/// the state of the lock table in front of the entry at index `place`, `None` for the end of the history: who blocks others, which
-/// transactions are open, who holds what, who waits for what, and who waits for whom, since when. If the history isn't legal, the line of its verdict is
-/// written instead. Returns the verdict.
+/// the state of the lock table in front of the entry at index `place`, `None` for the end of the history. If the history isn't legal, the
+/// line of its verdict is written instead. Returns the verdict.
 ///
 /// The whole text is made before its first byte is written. After every fault except `Device` nothing was written; after
 /// `Device` the beginning of the text may have been written, and nothing else. The fault `Trace` names the first faulty row and
-/// the first test that the row fails; `NoPlace` means that the history has fewer than `place` entries. The formats are this
-/// project's own; see docs/FORMATS.md.
+/// the first test that the row fails; `NoPlace` means that the history has fewer than `place` entries.
 pub fn show<R: Read + Drop, W: Write>(
     alloc: Global,
     input: R,

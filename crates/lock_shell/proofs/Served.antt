@@ -98,13 +98,7 @@ no_rows n front old = record { served = []; calls = refl; told = none_served n f
 
 -- no level was served yet
 pub no_levels : (n s : ℕ) (r : List ℕ) (m : Mode) (front : List Entry) (old : List ℕ) → HasServedLevels n s r m 0 front front old old
-no_levels n s r m front old = record {
-  served = [];
-  count = refl;
-  calls = refl;
-  granted = λ k x lt. absurd (omega (arith, lt));
-  told = none_served n front old;
-}
+no_levels n s r m front old = record { served = []; count = refl; calls = refl; granted = λ k x lt. absurd (omega (arith, lt)); told = none_served n front old }
 
 -- the rows of the calls of one level more
 rows_of_levels : (s : ℕ) (r : List ℕ) (m : Mode) (level : ℕ) (es : List Entry) (e : Entry) → map row_of_entry es ≡ map (path_row s r m) (range_with_len 1 level)
@@ -211,11 +205,7 @@ take_next {X} xs i x lt is = ap (λ (k : ℕ). take k xs) (add-one i) ∙ take-s
 -- the call of one row was served, with a text of its own
 pub row_served : (n : ℕ) (row : TraceRow) (r : Reply) (front back : List Entry) (old new : List ℕ) → old ≡ []
     → HasServed n front back (entry_of row.session row.call r ∷ []) old new → HasServedRows n (row ∷ []) front back [] new
-row_served n row r front back old new none h = record {
-  served = entry_of row.session row.call r ∷ [];
-  calls = refl;
-  told = subst (λ (text : List ℕ). HasServed n front back (entry_of row.session row.call r ∷ []) text new) none h;
-}
+row_served n row r front back old new none h = record { served = entry_of row.session row.call r ∷ []; calls = refl; told = subst (λ (text : List ℕ). HasServed n front back (entry_of row.session row.call r ∷ []) text new) none h }
 
 -- the entry of a call that locks a level is of the row of the level
 pub row_of_level : (s : ℕ) (r : List ℕ) (m : Mode) (k : ℕ) (call : Call) (given : Reply) → call ≡ lock_of_level r m k → row_of_entry (entry_of s call given) ≡ path_row s r m k

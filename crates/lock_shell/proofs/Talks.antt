@@ -55,21 +55,12 @@ answered_part n count front back old mid new h (more, text, ((asks, is), part)) 
 
 -- what was written up to here is a part of itself
 pub answered_whole : (n count : ℕ) (front back : Kept) (old new : Option (List ℕ)) → HasAnswered n count front back old new → HasAnsweredPart n front old new
-answered_whole n count front back old new h = record {
-  turns = h.turns;
-  answered = h.answered;
-  written = part_of old new (answers_of h.turns) (answers_of h.turns) [] (sym (append-nil (answers_of h.turns))) h.written;
-}
+answered_whole n count front back old new h = record { turns = h.turns; answered = h.answered; written = part_of old new (answers_of h.turns) (answers_of h.turns) [] (sym (append-nil (answers_of h.turns))) h.written }
 
 -- the answers behind the first line are what a shell writes
 pub talked : (n count : ℕ) (back : Kept) (old mid new : Option (List ℕ)) → Appends old mid GREETING.now → HasAnswered n count nothing_kept back mid new
     → HasTalked n count old new
-talked n count back old mid new greeted h = record {
-  turns = h.turns;
-  counted = h.counted;
-  answered = h.answered;
-  written = Appends-trans old mid new GREETING.now (answers_of h.turns) greeted h.written;
-}
+talked n count back old mid new greeted h = record { turns = h.turns; counted = h.counted; answered = h.answered; written = Appends-trans old mid new GREETING.now (answers_of h.turns) greeted h.written }
 
 -- a part of the answers behind the first line is a part of what a shell writes
 pub talked_part : (n : ℕ) (old mid new : Option (List ℕ)) → Appends old mid GREETING.now → HasAnsweredPart n nothing_kept mid new → HasTalkedPart n old new
@@ -82,16 +73,8 @@ talked_part n old mid new greeted h = record {
 
 -- a part of the first line is one
 pub greeted_part : (n : ℕ) (old new : Option (List ℕ)) → AppendsPart old new GREETING.now → HasTalkedPart n old new
-greeted_part n old new part = record {
-  turns = [];
-  answered = tt;
-  written = subst (AppendsPart old new) (sym (append-nil GREETING.now)) part;
-}
+greeted_part n old new part = record { turns = []; answered = tt; written = subst (AppendsPart old new) (sym (append-nil GREETING.now)) part }
 
 -- nothing is a part, too
 pub silent_part : (n : ℕ) (out : Option (List ℕ)) → HasTalkedPart n out out
-silent_part n out = record {
-  turns = [];
-  answered = tt;
-  written = (0, Appends-nil out);
-}
+silent_part n out = record { turns = []; answered = tt; written = (0, Appends-nil out) }

@@ -92,7 +92,7 @@ words_of_reply (reply.Restarted n) x = codes "restarted, locks given back: " ++ 
 
 -- what becomes of a victim, and how to see why
 abbrev pub words_of_fate : ℕ → List ℕ
-words_of_fate s = codes " is the victim, and can only abort; 'why " ++ decimal s ++ codes "' says more\n"
+words_of_fate s = codes " is the victim, and can only abort or restart; 'why " ++ decimal s ++ codes "' says more\n"
 
 -- the line of a session whose transaction a call makes a deadlock victim
 abbrev pub line_of_doomed : ℕ → List ℕ

@@ -10,9 +10,7 @@ ghost use Rattle.lock_shell.specs.Turns.{HasServed, HasServedPath, HasServedRows
 ghost use Rattle.lock_shell.specs.inner.Desks.{AreAlike};
 
 use crate::reply_line::put_reply_text;
-use lock_desk::{
-    Book, Call, Entry, Mode, NO_BOUND, NoMemory, Reply, Resource, grants, lock_of_level,
-};
+use lock_desk::{Book, Entry, Mode, NO_BOUND, NoMemory, Reply, Resource, grants, lock_of_level};
 use lock_trace::TraceRow;
 use std::alloc::Global;
 

@@ -17,7 +17,7 @@ use std::io::{ErrorKind, Read, Write};
 /// Writes the text into the file at `path`, whole or not at all.
 fn write_file<T: Files>(files: &T, alloc: Global, path: &str, text: &str) -> io::Result<()> {
     let mut file = NewFile::create(files, alloc, path)?;
-    match file.output.write_all(text.as_bytes()) {
+    match file.write_all(text.as_bytes()) {
         Ok(()) => file.replace(files),
         Err(error) => {
             file.remove(files);

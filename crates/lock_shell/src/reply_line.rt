@@ -178,7 +178,7 @@ fn put_fate(out: &mut String, session: u16) -> Result<(), NoMemory>
 {
     write!(
         out,
-        " is the victim, and can only abort; 'why {session}' says more\n"
+        " is the victim, and can only abort or restart; 'why {session}' says more\n"
     )
 }
 

@@ -2,9 +2,9 @@
 
 use std::alloc::{AllocError as NoMemory, Global};
 
-/// Whether a byte stands between words: a blank or another control character, or a comma.
+/// Whether a byte stands between words: a blank, a tab, the end of a line, or a comma. Another control character is part of a word.
 fn is_between(byte: u8) -> bool {
-    byte <= b' ' || byte == b','
+    matches!(byte, b' ' | b'\t' | b'\r' | b'\n' | b',')
 }
 
 /// The words of a line, in their order. Fails if memory is refused.

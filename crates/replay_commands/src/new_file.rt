@@ -12,7 +12,9 @@ const MAX_NAMES: u32 = 1000;
 #[derive(Drop)]
 pub struct NewFile<F> {
     /// What is written.
-    pub output: F,
+    output: F,
+    /// Why it couldn't be written, if a write failed, but for interrupts.
+    refused: Option<ErrorKind>,
     /// The path of the file that is written.
     written: String,
     /// The path of the file that it is to replace.
@@ -59,6 +61,7 @@ fn beside<T: Files>(files: &T, alloc: Global, target: String) -> io::Result<NewF
                 }
                 return Ok(NewFile {
                     output,
+                    refused: None,
                     written,
                     target,
                 });
@@ -75,6 +78,7 @@ fn as_it_is<T: Files>(files: &T, alloc: Global, path: &str) -> io::Result<NewFil
     let output = OpenOptions::new().write(true).open(files, path)?;
     Ok(NewFile {
         output,
+        refused: None,
         written: String::from_str(alloc, path)?,
         target: String::from_str(alloc, path)?,
     })
@@ -92,6 +96,11 @@ impl<F: Write + OpenFile + Drop> NewFile<F> {
         }
         let target = behind_links(files, alloc, path)?;
         beside(files, alloc, target)
+    }
+
+    /// Why the last write that failed did, `None` if none did.
+    pub fn refused(&self) -> Option<ErrorKind> {
+        self.refused
     }
 
     /// Whether there is a file beside.
@@ -119,5 +128,23 @@ impl<F: Write + OpenFile + Drop> NewFile<F> {
         if self.is_beside() {
             let _removed = files.remove_file(self.written.as_str());
         }
+    }
+}
+
+impl<F: Write> Write for NewFile<F> {
+    /// Writes to the file, and remembers why that failed.
+    fn write(&mut self, bytes: &[u8]) -> io::Result<usize> {
+        let written = self.output.write(bytes);
+        if let Err(error) = &written {
+            if error.kind() != ErrorKind::Interrupted {
+                self.refused = Some(error.kind());
+            }
+        }
+        written
+    }
+
+    /// Flushes the file.
+    fn flush(&mut self) -> io::Result<()> {
+        self.output.flush()
     }
 }

@@ -55,6 +55,14 @@ fn field(row: &[u8], form: RowForm, index: usize) -> &[u8] {
     }
 }
 
+/// Whether this row, read as one of a history, is one of a dump, by its first field.
+fn is_of_dump(row: &[u8]) -> bool {
+    match field(row, RowForm::History, 0) {
+        b"transaction" | b"held" | b"fresh" | b"conversion" | b"waits" => true,
+        _ => false,
+    }
+}
+
 /// The value that the reply of this row of a history has.
 fn value_words(row: &[u8]) -> &'static str {
     match field(row, RowForm::History, 5) {
@@ -69,6 +77,7 @@ fn value_words(row: &[u8]) -> &'static str {
 /// The index of the field that is wrong, and what is expected there. With too few fields the index is behind the row.
 fn expected(row: &[u8], form: RowForm, kind: TraceKind) -> (usize, &'static str) {
     match kind {
+        TraceKind::Place if is_of_dump(row) => (0, "; rows of a dump are read by show --state"),
         TraceKind::Place => (0, ""),
         TraceKind::Session => (1, "a number without leading zeros, from 1 to "),
         TraceKind::Op => (2, OP_WORDS),
@@ -108,7 +117,7 @@ pub fn hint_text(
         put_marked_row(&mut lines, head.as_str(), row, mark)?;
         let place = fault.row.saturating_sub(1);
         let text = match fault.kind {
-            TraceKind::Place => format!(in alloc; "expected {words}{place}")?,
+            TraceKind::Place => format!(in alloc; "expected {place}{words}")?,
             TraceKind::Session => format!(in alloc; "expected {words}{sessions}")?,
             _ => format!(in alloc; "expected {words}")?,
         };

@@ -1,12 +1,14 @@
 -- The rows of a state come in their order: transactions, then locks and requests, then waits.
-use Rattle.std.proofs.Common.{◌≡◌, ℕ, ◌≤◌, List, [], ◌∷◌, ◌++◌, map, refl, sym, ap, ◌∙◌, arith, subst, append_assoc, append-nil}
+use Rattle.std.proofs.Common.{◌≡◌, ℕ, ◌≤◌, true, false, List, [], ◌∷◌, ◌++◌, map, refl, sym, ap, ◌∙◌, arith, subst, append_assoc, append-nil}
+use Rattle.std.specs.List.{All, AllByRecursion}
 use Rattle.std.proofs.lemmas.List.{map-append}
+use Rattle.std.proofs.lemmas.List.Elements.{recursion_from_All}
 use Rattle.lock_rules.specs.declared.listing.Claim.{Claim}
 use Rattle.lock_report.specs.declared.snapshot.OpenTransaction.{OpenTransaction}
 use Rattle.lock_report.specs.declared.snapshot.Wait.{Wait}
 use Rattle.state_rows.specs.declared.row.StateRow.{StateRow}
 use Rattle.state_rows.specs.declared.row.StateRow.TheVariants as row
-use Rattle.state_rows.specs.States.{rows_in, IsLate}
+use Rattle.state_rows.specs.States.{has_request, rows_in, IsLate}
 
 -- The number of a kind of rows, by their order.
 abbrev rank : StateRow → ℕ
@@ -46,7 +48,7 @@ below q (z ∷ xs) ys x y rest h = below (rank z) xs ys x y rest h.1
 
 -- So a row that has a row of a higher rank before it is late.
 late-behind : (rows xs ys : List StateRow) (x y : StateRow) → rows ≡ xs ++ x ∷ ys → (rank x ≤ rank y → ⊥) → IsLate y rows
-late-behind rows xs ys x y is higher = λ os cs ws rest same.
+late-behind rows xs ys x y is higher = λ os cs ws rest requested same.
     let rises : Rise 0 ((xs ++ x ∷ ys) ++ y ∷ rest) = subst (Rise 0) (sym same ∙ ap (λ (l : List StateRow). l ++ y ∷ rest) is) (rows-rise os cs ws) in
     higher (below 0 xs ys x y rest rises)
 
@@ -63,6 +65,52 @@ late-claim os cs [] c some = absurd (some refl)
 late-claim os cs (w ∷ ws) c some =
     late-behind (rows_in os cs (w ∷ ws)) (map row.Transaction os ++ map row.Claim cs) (map row.Wait ws) (row.Wait w) (row.Claim c)
     (sym (append_assoc (map row.Transaction os) (map row.Claim cs) (row.Wait w ∷ map row.Wait ws))) (λ le. omega (arith, le))
+
+-- What holds of all waits holds of one among their rows.
+of-one : (P : Wait → Type 0) (vs ws : List Wait) (w : Wait) (rest : List StateRow) → map row.Wait vs ++ row.Wait w ∷ rest ≡ map row.Wait ws → AllByRecursion P ws → P w
+of-one P [] [] w rest e all = absurd cc
+of-one P [] (x ∷ ws) w rest e all = let same : x ≡ w = cc in subst P same all.0
+of-one P (v ∷ vs) [] w rest e all = absurd cc
+of-one P (v ∷ vs) (x ∷ ws) w rest e all = let more : map row.Wait vs ++ row.Wait w ∷ rest ≡ map row.Wait ws = cc in of-one P vs ws w rest more all.1
+
+-- The claims in front of a wait are those of the whole state.
+same-claims : (bs cs : List Claim) (vs ws : List Wait) (w : Wait) (rest : List StateRow) → map row.Claim bs ++ (map row.Wait vs ++ row.Wait w ∷ rest) ≡ map row.Claim cs ++ map row.Wait ws
+    → (bs ≡ cs) × (map row.Wait vs ++ row.Wait w ∷ rest ≡ map row.Wait ws)
+same-claims [] [] vs ws w rest e = (refl, e)
+same-claims [] (c ∷ cs) [] ws w rest e = absurd cc
+same-claims [] (c ∷ cs) (v ∷ vs) ws w rest e = absurd cc
+same-claims (b ∷ bs) [] vs [] w rest e = absurd cc
+same-claims (b ∷ bs) [] vs (x ∷ ws) w rest e = absurd cc
+same-claims (b ∷ bs) (c ∷ cs) vs ws w rest e =
+    let head : b ≡ c = cc in
+    let more : map row.Claim bs ++ (map row.Wait vs ++ row.Wait w ∷ rest) ≡ map row.Claim cs ++ map row.Wait ws = cc in
+    let same = same-claims bs cs vs ws w rest more in
+    (λ i. head i ∷ same.0 i, same.1)
+
+-- So a wait in a state is of a session that has a request among the claims in front of it.
+asked-before : (ns os : List OpenTransaction) (bs cs : List Claim) (vs ws : List Wait) (w : Wait) (rest : List StateRow)
+    → map row.Transaction ns ++ (map row.Claim bs ++ (map row.Wait vs ++ row.Wait w ∷ rest)) ≡ rows_in os cs ws → All (λ (x : Wait). has_request cs x.session ≡ true) ws → has_request bs w.session ≡ true
+asked-before [] [] bs cs vs ws w rest e all =
+    let same = same-claims bs cs vs ws w rest e in
+    let P = λ (x : Wait). has_request cs x.session ≡ true in
+    ap (λ (ds : List Claim). has_request ds w.session) same.0 ∙ of-one P vs ws w rest same.1 (recursion_from_All P ws all)
+asked-before [] (o ∷ os) [] cs [] ws w rest e all = absurd cc
+asked-before [] (o ∷ os) [] cs (v ∷ vs) ws w rest e all = absurd cc
+asked-before [] (o ∷ os) (b ∷ bs) cs vs ws w rest e all = absurd cc
+asked-before (n ∷ ns) [] bs [] vs [] w rest e all = absurd cc
+asked-before (n ∷ ns) [] bs [] vs (x ∷ ws) w rest e all = absurd cc
+asked-before (n ∷ ns) [] bs (c ∷ cs) vs ws w rest e all = absurd cc
+asked-before (n ∷ ns) (o ∷ os) bs cs vs ws w rest e all =
+    let more : map row.Transaction ns ++ (map row.Claim bs ++ (map row.Wait vs ++ row.Wait w ∷ rest)) ≡ rows_in os cs ws = cc in
+    asked-before ns os bs cs vs ws w rest more all
+
+-- A wait of a session that has no request is late.
+pub late-wait : (os : List OpenTransaction) (cs : List Claim) (ws : List Wait) (w : Wait) → has_request cs w.session ≡ false → IsLate (row.Wait w) (rows_in os cs ws)
+late-wait os cs ws w none = λ ns bs vs rest requested same.
+    let parts = sym (append_assoc (map row.Transaction os) (map row.Claim cs ++ map row.Wait ws) (row.Wait w ∷ rest)
+    ∙ ap (λ (l : List StateRow). map row.Transaction os ++ l) (append_assoc (map row.Claim cs) (map row.Wait ws) (row.Wait w ∷ rest))) in
+    let asked : has_request cs w.session ≡ true = asked-before os ns cs bs ws vs w rest (parts ∙ same) requested in
+    cc
 
 -- One row more.
 pub open-more : (os : List OpenTransaction) (o : OpenTransaction) → rows_in (os ++ o ∷ []) [] [] ≡ rows_in os [] [] ++ row.Transaction o ∷ []

@@ -1,6 +1,7 @@
 -- The rows of the first lines.
-use Rattle.std.proofs.Common.{◌≡◌, ◌↔◌, ℕ, ◌+◌, ◌-◌, ◌<◌, ◌≤◌, List, [], ◌∷◌, ◌++◌, length, map, take, get_or, Some, None, refl, sym, ap, ◌∙◌, arith, subst, append_assoc, Bor}
-use Rattle.std.specs.List.{AllByRecursion}
+use Rattle.std.proofs.Common.{◌≡◌, ◌↔◌, ℕ, ◌+◌, ◌-◌, ◌<◌, ◌≤◌, List, [], ◌∷◌, ◌++◌, length, map, take, get_or, true, Some, None, refl, sym, ap, ◌∙◌, arith, subst, append_assoc, Bor}
+use Rattle.std.specs.Prelude.{◌==◌}
+use Rattle.std.specs.List.{AllByRecursion, list_any}
 use Rattle.std.proofs.lemmas.List.{map-append, get_or-map, length-map, take_all}
 use Rattle.std.proofs.lemmas.List.Elements.{All-from_recursion, recursion_from_All}
 use Rattle.lock_rules.specs.declared.listing.Claim.{Claim}
@@ -9,9 +10,9 @@ use Rattle.lock_report.specs.declared.snapshot.OpenTransaction.{OpenTransaction}
 use Rattle.lock_report.specs.declared.snapshot.Wait.{Wait}
 use Rattle.state_rows.specs.declared.row.StateRow.{StateRow}
 use Rattle.state_rows.specs.Rows.{IsRow, line_of_row}
-use Rattle.state_rows.specs.inner.Prefixes.{AreOnlyRows}
-use Rattle.state_rows.specs.declared.reading.StateLists.{StateLists}
-use Rattle.state_rows.specs.States.{rows_in, rows_of, AreLists, AreLinesOfState, BeginNoState, IsFirstBad, IsLate}
+use Rattle.state_rows.specs.inner.Prefixes.{AreOnlyRows, IsKept}
+use Rattle.state_rows.specs.declared.reading.Reading.{Reading}
+use Rattle.state_rows.specs.States.{rows_in, rows_of, has_request, AreLists, AreLinesOfState, BeginNoState, IsFirstBad, IsLate}
 
 -- No rows have no lines.
 no-others : (others : List StateRow) → map line_of_row others ≡ [] → others ≡ []
@@ -22,6 +23,13 @@ pub none-at-first : (n : ℕ) (os : List OpenTransaction) (cs : List Claim) (ws 
 none-at-first n os cs ws o c w =
     let none : rows_in os cs ws ≡ [] = λ i. rows_in (o i) (c i) (w i) in
     subst (AreOnlyRows n []) (sym none) (record { valid = tt; lines_are = refl; only = λ others valid is. no-others others is })
+
+-- Nothing is kept of no rows.
+pub kept-at-first : (r : Reading) → r.asking.keys ≡ [] → r.lists.claims.items ≡ [] → r.lists.waits.items ≡ [] → IsKept r
+kept-at-first r keys claims waits = record {
+  asking = λ s. ap (list_any (λ k. s == k)) keys ∙ sym (ap (λ (cs : List Claim). has_request cs s) claims);
+  requested = subst (AllByRecursion (λ (w : Wait). has_request r.lists.claims.items w.session ≡ true)) (sym waits) tt;
+}
 
 -- Rows whose lines are some lines, one more and others: they are rows of each part.
 record AreParted (n : ℕ) (xs : List (List ℕ)) (y : List ℕ) (zs : List (List ℕ)) (rows : List StateRow) : Type 0 where
@@ -37,17 +45,7 @@ record AreParted (n : ℕ) (xs : List (List ℕ)) (y : List ℕ) (zs : List (Lis
 
 parted : (n : ℕ) (xs : List (List ℕ)) (y : List ℕ) (zs : List (List ℕ)) (rows : List StateRow) → AllByRecursion (IsRow n) rows → map line_of_row rows ≡ xs ++ y ∷ zs → AreParted n xs y zs rows
 parted n [] y zs [] valid e = absurd cc
-parted n [] y zs (r ∷ rs) valid e = record {
-  front = [];
-  one = r;
-  back = rs;
-  rows_are = refl;
-  front_valid = tt;
-  one_valid = valid.0;
-  front_lines = refl;
-  one_line = cc;
-  back_lines = cc;
-}
+parted n [] y zs (r ∷ rs) valid e = record { front = []; one = r; back = rs; rows_are = refl; front_valid = tt; one_valid = valid.0; front_lines = refl; one_line = cc; back_lines = cc }
 parted n (x ∷ xs) y zs [] valid e = absurd cc
 parted n (x ∷ xs) y zs (r ∷ rs) valid e =
     let more : map line_of_row rs ≡ xs ++ y ∷ zs = cc in
@@ -86,14 +84,21 @@ one-more n lines line rows new r read h is =
           p.rows_are ∙ ((λ i. front i ++ sym last i ∷ p.back) ∙ (ap (λ (l : List StateRow). rows ++ r ∷ l) (no-others p.back p.back_lines) ∙ sym is));
     }
 
--- The lines so far are those of a state.
-pub lines-so-far : (n : ℕ) (lines : List (List ℕ)) (os : List OpenTransaction) (cs : List Claim) (ws : List Wait) → AreOnlyRows n lines (rows_in os cs ws) → AreLinesOfState n lines
-lines-so-far n lines os cs ws h = (os, cs, ws, (All-from_recursion (IsRow n) (rows_in os cs ws) h.valid, h.lines_are))
+-- The lists so far are those of a state.
+lists-so-far : (n : ℕ) (lines : List (List ℕ)) (r : Reading) → AreOnlyRows n lines (rows_of r.lists) → IsKept r → AreLists n r.lists
+lists-so-far n lines r h kept = record {
+  rows = All-from_recursion (IsRow n) (rows_of r.lists) h.valid;
+  requested = All-from_recursion (λ (w : Wait). has_request r.lists.claims.items w.session ≡ true) r.lists.waits.items kept.requested;
+}
+
+-- So the lines so far are.
+pub lines-so-far : (n : ℕ) (lines : List (List ℕ)) (r : Reading) → AreOnlyRows n lines (rows_of r.lists) → IsKept r → AreLinesOfState n lines
+lines-so-far n lines r h kept = (r.lists.opens.items, r.lists.claims.items, r.lists.waits.items, (lists-so-far n lines r h kept, h.lines_are))
 
 -- A line that is no row doesn't go on with the rows of any state.
 pub no-row : (n : ℕ) (lines : List (List ℕ)) (line : List ℕ) → ((x : StateRow) → (None ≡ Some x) ↔ (IsRow n x × (line ≡ line_of_row x))) → BeginNoState n (lines ++ line ∷ [])
 no-row n lines line read = λ os cs ws rest valid same.
-    let p = parted n lines line rest (rows_in os cs ws) (recursion_from_All (IsRow n) (rows_in os cs ws) valid) (same ∙ append_assoc lines (line ∷ []) rest) in
+    let p = parted n lines line rest (rows_in os cs ws) (recursion_from_All (IsRow n) (rows_in os cs ws) valid.rows) (same ∙ append_assoc lines (line ∷ []) rest) in
     let bad : None ≡ Some p.one = (read p.one).1 (p.one_valid, sym p.one_line) in
     cc
 
@@ -101,11 +106,11 @@ no-row n lines line read = λ os cs ws rest valid same.
 pub late-row : (n : ℕ) (lines : List (List ℕ)) (line : List ℕ) (rows : List StateRow) (r : StateRow) → ((x : StateRow) → (Some r ≡ Some x) ↔ (IsRow n x × (line ≡ line_of_row x)))
     → AreOnlyRows n lines rows → IsLate r rows → BeginNoState n (lines ++ line ∷ [])
 late-row n lines line rows r read h late = λ os cs ws rest valid same.
-    let p = parted n lines line rest (rows_in os cs ws) (recursion_from_All (IsRow n) (rows_in os cs ws) valid) (same ∙ append_assoc lines (line ∷ []) rest) in
+    let p = parted n lines line rest (rows_in os cs ws) (recursion_from_All (IsRow n) (rows_in os cs ws) valid.rows) (same ∙ append_assoc lines (line ∷ []) rest) in
     let front = h.only p.front p.front_valid p.front_lines in
     let one : Some r ≡ Some p.one = (read p.one).1 (p.one_valid, sym p.one_line) in
     let last : r ≡ p.one = cc in
-    late os cs ws p.back (sym (p.rows_are ∙ λ i. front i ++ sym last i ∷ p.back))
+    late os cs ws p.back valid.requested (sym (p.rows_are ∙ λ i. front i ++ sym last i ∷ p.back))
 
 -- The line behind the first i of all lines.
 line-at : (xs : List (Bor (List ℕ))) (i : ℕ) (d : Bor (List ℕ)) → i < length xs
@@ -124,12 +129,7 @@ first-bad n xs i d lt front bad =
     let f = λ (line : Bor (List ℕ)). line.now in
     let less : i ≡ i + 1 - 1 = omega arith in
     let long : length (map f xs) ≡ length xs = length-map xs f in
-    record {
-      some = omega arith;
-      within = omega (arith, lt, long);
-      front = subst (λ (j : ℕ). AreLinesOfState n (take j (map f xs))) less front;
-      bad = subst (BeginNoState n) (sym (line-at xs i d lt)) bad;
-    }
+    record { some = omega arith; within = omega (arith, lt, long); front = subst (λ (j : ℕ). AreLinesOfState n (take j (map f xs))) less front; bad = subst (BeginNoState n) (sym (line-at xs i d lt)) bad }
 
 -- With the row of the next line they are the rows of one line more.
 pub one-line-more : (n : ℕ) (xs : List (Bor (List ℕ))) (i : ℕ) (d : Bor (List ℕ)) (rows : List StateRow) → i < length xs
@@ -138,10 +138,10 @@ pub one-line-more : (n : ℕ) (xs : List (Bor (List ℕ))) (i : ℕ) (d : Bor (L
 one-line-more n xs i d rows lt h = subst (λ (ls : List (List ℕ)). AreOnlyRows n ls rows) (sym (line-at xs i d lt)) h
 
 -- All lines are read.
-pub all-lines : (n : ℕ) (xs : List (Bor (List ℕ))) (i : ℕ) (lists : StateLists) → length xs ≤ i
-    → AreOnlyRows n (take i (map (λ (line : Bor (List ℕ)). line.now) xs)) (rows_of lists)
-    → AreLists n lists × (map line_of_row (rows_of lists) ≡ map (λ (line : Bor (List ℕ)). line.now) xs)
-all-lines n xs i lists end h =
+pub all-lines : (n : ℕ) (xs : List (Bor (List ℕ))) (i : ℕ) (r : Reading) → length xs ≤ i
+    → AreOnlyRows n (take i (map (λ (line : Bor (List ℕ)). line.now) xs)) (rows_of r.lists) → IsKept r
+    → AreLists n r.lists × (map line_of_row (rows_of r.lists) ≡ map (λ (line : Bor (List ℕ)). line.now) xs)
+all-lines n xs i r end h kept =
     let f = λ (line : Bor (List ℕ)). line.now in
     let long : length (map f xs) ≡ length xs = length-map xs f in
-    (All-from_recursion (IsRow n) (rows_of lists) h.valid, h.lines_are ∙ take_all i (map f xs) (omega (arith, end, long)))
+    (lists-so-far n (take i (map f xs)) r h kept, h.lines_are ∙ take_all i (map f xs) (omega (arith, end, long)))

@@ -1,7 +1,8 @@
 -- A row is read from its fields exactly if each of its parts is.
-use Rattle.std.proofs.Common.{◌≡◌, ◌↔◌, ℕ, List, [], ◌∷◌, length, map, get_or, Option, Some, None, subst, refl, sym, ap, ◌∙◌, arith}
+use Rattle.std.proofs.Common.{◌≡◌, ◌≢◌, ◌↔◌, ℕ, List, [], ◌∷◌, length, map, get_or, Option, Some, None, subst, refl, sym, ap, ◌∙◌, arith}
 use Rattle.std.specs.Prelude.{codes, decimal}
 use Rattle.lock_modes.specs.declared.Mode.{Mode}
+use Rattle.lock_modes.specs.declared.Mode.TheVariants.{NL}
 use Rattle.lock_modes.specs.Codes.{name_of}
 use Rattle.lock_tree.specs.Paths.{IsResource}
 use Rattle.lock_tree.specs.Text.{text_of}
@@ -67,7 +68,7 @@ pub claim-iff : (n : ℕ) (word session number victim resource mode : List ℕ) 
     → ((x : ClaimKind) → (ko ≡ Some x) ↔ (word ≡ word_of_kind x))
     → ((x : OpenTransaction) → (oo ≡ Some x) ↔ (IsOpen n x × (session ≡ decimal x.session) × (number ≡ decimal x.transaction.number) × (victim ≡ victim_field x.transaction)))
     → ((x : List ℕ) → (ro ≡ Some x) ↔ (IsResource x × (resource ≡ text_of x)))
-    → ((x : Mode) → (mo ≡ Some x) ↔ (mode ≡ name_of x))
+    → ((x : Mode) → (mo ≡ Some x) ↔ ((x ≢ NL) × (mode ≡ name_of x)))
     → ko ≡ Some k → oo ≡ Some o → ro ≡ Some r → mo ≡ Some m
     → (c : Claim) → (Some (record { resource = r; session = o.session; transaction = o.transaction; mode = m; kind = k }) ≡ Some c)
     ↔ (IsClaim n c × (word ≡ word_of_kind c.kind) × (session ≡ decimal c.session) × (number ≡ decimal c.transaction.number) × (victim ≡ victim_field c.transaction)
@@ -82,13 +83,13 @@ claim-iff n word session number victim resource mode ko oo ro mo k o r m kinds o
       let w = (modes m).0 m-is in
       subst (λ (d : Claim). IsClaim n d × (word ≡ word_of_kind d.kind) × (session ≡ decimal d.session) × (number ≡ decimal d.transaction.number) × (victim ≡ victim_field d.transaction)
       × (resource ≡ text_of d.resource) × (mode ≡ name_of d.mode)) same
-      ((y.0.0, y.0.1, z.0), x, y.1, y.2, y.3, z.1, w),
+      ((y.0.0, y.0.1, z.0, w.0), x, y.1, y.2, y.3, z.1, w.1),
   λ h.
       let begun : OpenTransaction = record { session = c.session; transaction = c.transaction } in
       let x = only ko k c.kind k-is ((kinds c.kind).1 h.1) in
       let y = only oo o begun o-is ((opens begun).1 ((h.0.0, h.0.1), h.2, h.3, h.4)) in
       let z = only ro r c.resource r-is ((resources c.resource).1 (h.0.2, h.5)) in
-      let w = only mo m c.mode m-is ((modes c.mode).1 h.6) in
+      let w = only mo m c.mode m-is ((modes c.mode).1 (h.0.3, h.6)) in
       λ i. Some (record { resource = z i; session = (y i).session; transaction = (y i).transaction; mode = w i; kind = x i }),
 )
 

@@ -44,12 +44,12 @@ lines-then n text front last lt parts os cs ws valid is =
 -- A text with a bad line is the rows of no state.
 pub none-bad : (n : ℕ) (text : List ℕ) (front : List (List ℕ)) (last : List ℕ) (k : ℕ) → n < 2 ^ 16 → lines_of text ≡ front ++ last ∷ [] → IsFirstBad n front k → IsNoState n text
 none-bad n text front last k lt parts bad = λ os cs ws valid is.
-    let same = lines-then n text front last lt parts os cs ws valid is in
+    let same = lines-then n text front last lt parts os cs ws valid.rows is in
     bad.bad os cs ws (drop k front) valid (sym same.0 ∙ sym (take-append-drop k front))
 
 -- So is one that doesn't end with a line feed.
 pub none-unended : (n : ℕ) (text : List ℕ) (front : List (List ℕ)) (last : List ℕ) → n < 2 ^ 16 → lines_of text ≡ front ++ last ∷ [] → (last ≡ [] → ⊥) → IsNoState n text
-none-unended n text front last lt parts unended = λ os cs ws valid is. unended (lines-then n text front last lt parts os cs ws valid is).1
+none-unended n text front last lt parts unended = λ os cs ws valid is. unended (lines-then n text front last lt parts os cs ws valid.rows is).1
 
 -- A line that is the first bad one without the last is so with it.
 pub bad-in-all : (n : ℕ) (text : List ℕ) (front : List (List ℕ)) (last : List ℕ) (k : ℕ) → lines_of text ≡ front ++ last ∷ [] → IsFirstBad n front k → IsFirstBad n (lines_of text) k
@@ -71,11 +71,4 @@ pub open-end : (n : ℕ) (text : List ℕ) (rest : List (Bor (List ℕ))) (last 
     → AreLists n lists × (map line_of_row (rows_of lists) ≡ map (λ (line : Bor (List ℕ)). line.now) rest) → (last.now ≡ [] → ⊥) → IsOpenEnd n text k
 open-end n text rest last k lists parts number read unended =
     let f = λ (line : Bor (List ℕ)). line.now in
-    record {
-      front = map f rest;
-      last = last.now;
-      lines = parts;
-      number = sym number ∙ ap (λ (j : ℕ). j + 1) (sym (length-map rest f));
-      rows = (lists.opens.items, lists.claims.items, lists.waits.items, read);
-      unended = unended;
-    }
+    record { front = map f rest; last = last.now; lines = parts; number = sym number ∙ ap (λ (j : ℕ). j + 1) (sym (length-map rest f)); rows = (lists.opens.items, lists.claims.items, lists.waits.items, read); unended = unended }

@@ -1,6 +1,7 @@
 -- A row of a state, and its text without the line feed.
-use Rattle.std.specs.Prelude.{◌<◌, ◌≤◌, ◌^◌, ℕ, Bool, if◌then◌else◌, ◌==◌, List, [], codes}
+use Rattle.std.specs.Prelude.{◌≢◌, ◌<◌, ◌≤◌, ◌^◌, ℕ, Bool, if◌then◌else◌, ◌==◌, List, [], codes}
 use Rattle.std.specs.List.{join_with_byte}
+use Rattle.lock_modes.specs.declared.Mode.TheVariants as mode
 use Rattle.lock_tree.specs.Paths.{IsResource}
 use Rattle.lock_rules.specs.declared.calls.Transaction.{Transaction}
 use Rattle.lock_rules.specs.declared.listing.Claim.{Claim}
@@ -22,9 +23,9 @@ IsNumbered t = t.number < 2 ^ 64
 abbrev pub IsOpen : ℕ → OpenTransaction → Type 0
 IsOpen n o = IsSession n o.session × IsNumbered o.transaction
 
--- the lock or request is of one of the sessions 1 to n, and its resource is valid
+-- the lock or request is of one of the sessions 1 to n, its resource is valid, and its mode isn't NL
 abbrev pub IsClaim : ℕ → Claim → Type 0
-IsClaim n c = IsSession n c.session × IsNumbered c.transaction × IsResource c.resource
+IsClaim n c = IsSession n c.session × IsNumbered c.transaction × IsResource c.resource × (c.mode ≢ mode.NL)
 
 -- both sessions are of the sessions 1 to n
 abbrev pub IsWait : ℕ → Wait → Type 0

@@ -1,9 +1,10 @@
--- The rows of a state as they are read: in their order, line by line.
-use Rattle.std.specs.Prelude.{◌≡◌, ◌≢◌, ◌<◌, ◌≤◌, ◌+◌, ◌-◌, ◌⊎◌, ℕ, Bool, ◌==◌, List, [], ◌∷◌, ◌++◌, length, map, take, All}
-use Rattle.std.specs.List.{slice_split}
+-- The rows of a state as they are read: in their order, line by line, with no wait of a session that has no request.
+use Rattle.std.specs.Prelude.{◌≡◌, ◌≢◌, ◌<◌, ◌≤◌, ◌+◌, ◌-◌, ◌⊎◌, ◌&&◌, ℕ, Bool, true, ◌==◌, List, [], ◌∷◌, ◌++◌, length, map, take, All}
+use Rattle.std.specs.List.{list_any, slice_split}
 use Rattle.lock_rules.specs.declared.listing.Claim.{Claim}
 use Rattle.lock_report.specs.declared.snapshot.OpenTransaction.{OpenTransaction}
 use Rattle.lock_report.specs.declared.snapshot.Wait.{Wait}
+use Rattle.lock_report.specs.Claims.{is_request_kind}
 use Rattle.lock_report.specs.StateRows.{rows_of_state}
 use Rattle.state_rows.specs.declared.reading.StateLists.{StateLists}
 use Rattle.state_rows.specs.declared.row.StateRow.{StateRow}
@@ -18,9 +19,18 @@ rows_in opens claims waits = map row.Transaction opens ++ (map row.Claim claims 
 abbrev pub rows_of : StateLists → List StateRow
 rows_of lists = rows_in lists.opens.items lists.claims.items lists.waits.items
 
--- all rows of these lists are rows for the sessions 1 to n
+-- session s has a waiting request among the claims
+abbrev pub has_request : List Claim → ℕ → Bool
+has_request claims s = list_any (λ c. is_request_kind c.kind && (c.session == s)) claims
+
+-- as far as it is tested, these are the lists of a state of the sessions 1 to n: each wait is of a session that has a request
+pub record IsState (n : ℕ) (opens : List OpenTransaction) (claims : List Claim) (waits : List Wait) : Type 0 where
+  pub rows : All (IsRow n) (rows_in opens claims waits)
+  pub requested : All (λ w. has_request claims w.session ≡ true) waits
+
+-- as far as it is tested, the lists are those of a state of the sessions 1 to n
 abbrev pub AreLists : ℕ → StateLists → Type 0
-AreLists n lists = All (IsRow n) (rows_of lists)
+AreLists n lists = IsState n lists.opens.items lists.claims.items lists.waits.items
 
 -- the text of these lists
 abbrev pub text_of : StateLists → List ℕ
@@ -28,7 +38,7 @@ text_of lists = rows_of_state lists.opens.items lists.claims.items lists.waits.i
 
 -- the text isn't the rows of any state of the sessions 1 to n
 abbrev pub IsNoState : ℕ → List ℕ → Type 0
-IsNoState n text = (opens : List OpenTransaction) (claims : List Claim) (waits : List Wait) → All (IsRow n) (rows_in opens claims waits) → text ≢ rows_of_state opens claims waits
+IsNoState n text = (opens : List OpenTransaction) (claims : List Claim) (waits : List Wait) → IsState n opens claims waits → text ≢ rows_of_state opens claims waits
 
 -- the byte is a line feed
 abbrev pub is_line_feed : ℕ → Bool
@@ -41,16 +51,16 @@ lines_of text = slice_split is_line_feed text
 -- the lines are those of the rows of a state
 abbrev pub AreLinesOfState : ℕ → List (List ℕ) → Type 0
 AreLinesOfState n lines =
-    (opens : List OpenTransaction) × (claims : List Claim) × (waits : List Wait) × (All (IsRow n) (rows_in opens claims waits) × (map line_of_row (rows_in opens claims waits) ≡ lines))
+    (opens : List OpenTransaction) × (claims : List Claim) × (waits : List Wait) × (IsState n opens claims waits × (map line_of_row (rows_in opens claims waits) ≡ lines))
 
 -- the rows of no state begin with these lines
 abbrev pub BeginNoState : ℕ → List (List ℕ) → Type 0
-BeginNoState n lines = (opens : List OpenTransaction) (claims : List Claim) (waits : List Wait) (rest : List (List ℕ)) → All (IsRow n) (rows_in opens claims waits)
+BeginNoState n lines = (opens : List OpenTransaction) (claims : List Claim) (waits : List Wait) (rest : List (List ℕ)) → IsState n opens claims waits
     → map line_of_row (rows_in opens claims waits) ≢ lines ++ rest
 
 -- the row can't come behind these rows in any state
 abbrev pub IsLate : StateRow → List StateRow → Type 0
-IsLate r rows = (opens : List OpenTransaction) (claims : List Claim) (waits : List Wait) (rest : List StateRow) → rows ++ r ∷ rest ≢ rows_in opens claims waits
+IsLate r rows = (opens : List OpenTransaction) (claims : List Claim) (waits : List Wait) (rest : List StateRow) → All (λ w. has_request claims w.session ≡ true) waits → rows ++ r ∷ rest ≢ rows_in opens claims waits
 
 -- line number k, counted from 1, is the first with which these lines aren't the beginning of the rows of any state
 pub record IsFirstBad (n : ℕ) (lines : List (List ℕ)) (k : ℕ) : Type 0 where

@@ -1,6 +1,6 @@
 //! Reads single fields of a row of a state. Each reader takes exactly the texts that the writer makes.
 
-ghost use Rattle.std.specs.Prelude.{◌≡◌, ◌<◌, ◌↔◌, ◌^◌, ℕ, Bool, true, false, List, Some, IfSome, IfNone, decimal};
+ghost use Rattle.std.specs.Prelude.{◌≡◌, ◌≢◌, ◌<◌, ◌↔◌, ◌^◌, ℕ, Bool, true, false, List, Some, IfSome, IfNone, decimal};
 ghost use Rattle.std.specs.Str.{is_utf8};
 ghost use Rattle.lock_modes.specs.declared.Mode.{Mode as ModeValue};
 ghost use Rattle.lock_modes.specs.Codes.{name_of};
@@ -65,11 +65,12 @@ pub(crate) fn resource_of(field: &[u8]) -> Option<Resource>
     Resource::parse(text_in(field)?).ok()
 }
 
-/// The mode of a field.
+/// The mode of a field, `None` also for NL, which is the mode of no lock.
 pub(crate) fn mode_of(field: &[u8]) -> Option<Mode>
-    ensures { (m : ModeValue) → (result ≡ Some m) ↔ (field.now ≡ name_of m) }
+    ensures { (m : ModeValue) → (result ≡ Some m) ↔ ((m ≢ ModeValue.NL) × (field.now ≡ name_of m)) }
 {
-    Mode::parse(text_in(field)?)
+    let mode = Mode::parse(text_in(field)?)?;
+    if mode == Mode::NL { None } else { Some(mode) }
 }
 
 /// The kind of claims whose word is the field.

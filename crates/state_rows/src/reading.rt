@@ -1,15 +1,18 @@
 //! Reads the rows of a whole state.
 
-ghost use Rattle.std.specs.Prelude.{◌≡◌, ℕ, List, ◌++◌, ◌∷◌, [], true, false, Ok, Err, IfOk, OnOk, map};
+ghost use Rattle.std.specs.Prelude.{◌≡◌, ℕ, List, ◌++◌, ◌∷◌, [], true, false, ◌&&◌, ◌||◌, ◌==◌, Ok, Err, IfOk, OnOk, map};
+ghost use Rattle.std.specs.List.{list_any};
+ghost use Rattle.lock_report.specs.Claims.{is_request_kind};
 ghost use Rattle.state_rows.specs.declared.row.StateRow.TheVariants as variant;
 ghost use Rattle.state_rows.specs.declared.reading.StateFault.TheVariants as fault;
 ghost use Rattle.state_rows.specs.Rows.{line_of_row};
-ghost use Rattle.state_rows.specs.inner.Prefixes.{AreOnlyRows};
+ghost use Rattle.state_rows.specs.inner.Prefixes.{AreOnlyRows, IsKept};
 ghost use Rattle.state_rows.specs.States.{AreLists, BeginNoState, IsFaulty, IsFirstBad, IsLate, IsNoState, lines_of, rows_of, text_of};
 
 use crate::row::{StateRow, is_blank, row_of};
+use indexmap::IndexSet;
 use lock_report::{OpenTransaction, Wait};
-use lock_rules::Claim;
+use lock_rules::{Claim, ClaimKind};
 use std::alloc::{AllocError as NoMemory, Global};
 
 /// The rows of a state, by their kinds.
@@ -32,10 +35,21 @@ pub enum StateFault {
     NoMemory,
 }
 
+/// The rows of a state so far.
+#[derive(Drop)]
+struct Reading {
+    /// The rows.
+    lists: StateLists,
+    /// The sessions of the waiting requests.
+    asking: IndexSet<u16>,
+}
+
 /// Adds the row of an open transaction. Returns false, with nothing added, if a lock, a request or a wait came before it.
 fn add_open(begun: OpenTransaction, lists: &mut StateLists) -> Result<bool, NoMemory>
     ensures added { result ≡ Ok true → rows_of lists.new ≡ rows_of lists.old ++ variant.Transaction begun ∷ [] }
     ensures late { result ≡ Ok false → IsLate (variant.Transaction begun) (rows_of lists.old) }
+    ensures claims { result ≡ Ok true → lists.new.claims.items ≡ lists.old.claims.items }
+    ensures waits { result ≡ Ok true → lists.new.waits.items ≡ lists.old.waits.items }
 {
     if !lists.claims.is_empty() {
         return Ok(false);
@@ -47,38 +61,53 @@ fn add_open(begun: OpenTransaction, lists: &mut StateLists) -> Result<bool, NoMe
     Ok(true)
 }
 
-/// Adds the row of a lock or a request. Returns false, with nothing added, if a wait came before it.
-fn add_claim(claim: Claim, lists: &mut StateLists) -> Result<bool, NoMemory>
-    ensures added { result ≡ Ok true → rows_of lists.new ≡ rows_of lists.old ++ variant.Claim claim ∷ [] }
-    ensures late { result ≡ Ok false → IsLate (variant.Claim claim) (rows_of lists.old) }
+/// Adds the session of a waiting request. Fails if memory is refused.
+fn add_asking(claim: &Claim, asking: &mut IndexSet<u16>) -> Result<(), NoMemory>
+    ensures { OnOk result ((s : ℕ) → list_any (λ k. s == k) asking.new.keys ≡ (list_any (λ k. s == k) asking.old.keys || (is_request_kind claim.now.kind && (claim.now.session == s)))) }
 {
-    if !lists.waits.is_empty() {
-        return Ok(false);
+    if claim.kind != ClaimKind::Held {
+        asking.insert(claim.session)?;
     }
-    lists.claims.push(claim)?;
-    Ok(true)
-}
-
-/// Adds the row of a wait.
-fn add_wait(wait: Wait, lists: &mut StateLists) -> Result<(), NoMemory>
-    ensures { OnOk result (rows_of lists.new ≡ rows_of lists.old ++ variant.Wait wait ∷ []) }
-{
-    lists.waits.push(wait)?;
     Ok(())
 }
 
+/// Adds the row of a lock or a request. Returns false, with nothing added, if a wait came before it.
+fn add_claim(claim: Claim, reading: &mut Reading) -> Result<bool, NoMemory>
+    ensures added { result ≡ Ok true → rows_of reading.new.lists ≡ rows_of reading.old.lists ++ variant.Claim claim ∷ [] }
+    ensures late { result ≡ Ok false → IsLate (variant.Claim claim) (rows_of reading.old.lists) }
+    ensures kept { result ≡ Ok true → IsKept reading.old → IsKept reading.new }
+{
+    if !reading.lists.waits.is_empty() {
+        return Ok(false);
+    }
+    add_asking(&claim, &mut reading.asking)?;
+    reading.lists.claims.push(claim)?;
+    Ok(true)
+}
+
+/// Adds the row of a wait. Returns false, with nothing added, if its session has no waiting request.
+fn add_wait(wait: Wait, reading: &mut Reading) -> Result<bool, NoMemory>
+    ensures added { result ≡ Ok true → rows_of reading.new.lists ≡ rows_of reading.old.lists ++ variant.Wait wait ∷ [] }
+    ensures late { result ≡ Ok false → IsKept reading.old → IsLate (variant.Wait wait) (rows_of reading.old.lists) }
+    ensures kept { result ≡ Ok true → IsKept reading.old → IsKept reading.new }
+{
+    if !reading.asking.contains(&wait.session) {
+        return Ok(false);
+    }
+    reading.lists.waits.push(wait)?;
+    Ok(true)
+}
+
 /// Adds the row. Returns false, with nothing added, if it can't come behind the rows before it.
-fn add_row(row: StateRow, lists: &mut StateLists) -> Result<bool, NoMemory>
-    ensures added { result ≡ Ok true → rows_of lists.new ≡ rows_of lists.old ++ row ∷ [] }
-    ensures late { result ≡ Ok false → IsLate row (rows_of lists.old) }
+fn add_row(row: StateRow, reading: &mut Reading) -> Result<bool, NoMemory>
+    ensures added { result ≡ Ok true → rows_of reading.new.lists ≡ rows_of reading.old.lists ++ row ∷ [] }
+    ensures late { result ≡ Ok false → IsKept reading.old → IsLate row (rows_of reading.old.lists) }
+    ensures kept { result ≡ Ok true → IsKept reading.old → IsKept reading.new }
 {
     match row {
-        StateRow::Transaction(begun) => add_open(begun, lists),
-        StateRow::Claim(claim) => add_claim(claim, lists),
-        StateRow::Wait(wait) => {
-            add_wait(wait, lists)?;
-            Ok(true)
-        }
+        StateRow::Transaction(begun) => add_open(begun, &mut reading.lists),
+        StateRow::Claim(claim) => add_claim(claim, reading),
+        StateRow::Wait(wait) => add_wait(wait, reading),
     }
 }
 
@@ -87,16 +116,17 @@ fn add_line(
     alloc: Global,
     sessions: u16,
     line: &[u8],
-    lists: &mut StateLists,
+    reading: &mut Reading,
 ) -> Result<bool, NoMemory>
-    ensures added { (before : List (List ℕ)) → result ≡ Ok true → AreOnlyRows sessions before (rows_of lists.old) → AreOnlyRows sessions (before ++ line.now ∷ []) (rows_of lists.new) }
-    ensures bad { (before : List (List ℕ)) → result ≡ Ok false → AreOnlyRows sessions before (rows_of lists.old) → BeginNoState sessions (before ++ line.now ∷ []) }
+    ensures added { (before : List (List ℕ)) → result ≡ Ok true → AreOnlyRows sessions before (rows_of reading.old.lists) → AreOnlyRows sessions (before ++ line.now ∷ []) (rows_of reading.new.lists) }
+    ensures bad { (before : List (List ℕ)) → result ≡ Ok false → AreOnlyRows sessions before (rows_of reading.old.lists) → IsKept reading.old → BeginNoState sessions (before ++ line.now ∷ []) }
+    ensures kept { result ≡ Ok true → IsKept reading.old → IsKept reading.new }
 {
     let found = row_of(alloc, sessions, line)?;
     let Some(row) = found else {
         return Ok(false);
     };
-    let added = add_row(row, lists)?;
+    let added = add_row(row, reading)?;
     Ok(added)
 }
 
@@ -105,20 +135,23 @@ fn rows_in_lines(alloc: Global, sessions: u16, lines: &[&[u8]]) -> Result<StateL
     ensures ok { IfOk result (λ lists. AreLists sessions lists × (map line_of_row (rows_of lists) ≡ map (λ line. line.now) lines.now)) }
     ensures bad { (k : ℕ) → result ≡ Err (fault.Line k) → IsFirstBad sessions (map (λ line. line.now) lines.now) k }
 {
-    let mut lists = StateLists {
-        opens: Vec::new(alloc),
-        claims: Vec::new(alloc),
-        waits: Vec::new(alloc),
+    let mut reading = Reading {
+        lists: StateLists {
+            opens: Vec::new(alloc),
+            claims: Vec::new(alloc),
+            waits: Vec::new(alloc),
+        },
+        asking: IndexSet::new(alloc),
     };
     for index in 0..lines.len() {
-        let Ok(added) = add_line(alloc, sessions, lines[index], &mut lists) else {
+        let Ok(added) = add_line(alloc, sessions, lines[index], &mut reading) else {
             return Err(StateFault::NoMemory);
         };
         if !added {
             return Err(StateFault::Line(index as u64 + 1));
         }
     }
-    Ok(lists)
+    Ok(reading.lists)
 }
 
 /// The lines of a text, without their line feeds. Fails if memory is refused.
@@ -129,7 +162,8 @@ fn lines_in<'a>(alloc: Global, text: &'a [u8]) -> Result<Vec<&'a [u8]>, NoMemory
 }
 
 /// Reads the rows of a state of the sessions 1 to `sessions`, as `lock_report::state_rows` writes them, and no other text. Fails with the
-/// first line that is no row, can't come behind the lines before it, or has no line feed, and with `NoMemory`.
+/// first line that is no row, can't come behind the lines before it, or has no line feed, and with `NoMemory`. A row in mode NL is none,
+/// and a wait can't come if its session has no waiting request.
 ///
 /// Its cost grows with the text. It keeps the lines and the rows in memory, 16 bytes a line and 64 a lock.
 pub fn read_state(alloc: Global, text: &[u8], sessions: u16) -> Result<StateLists, StateFault>

@@ -1,6 +1,6 @@
 //! A row of a state, read from its line.
 
-ghost use Rattle.std.specs.Prelude.{◌≡◌, ◌↔◌, true, [], ◌∷◌, Some, IfOk, map, decimal};
+ghost use Rattle.std.specs.Prelude.{◌≡◌, ◌↔◌, true, [], Some, IfOk, map, decimal};
 ghost use Rattle.std.specs.List.{slice_split};
 ghost use Rattle.lock_modes.specs.Codes.{name_of};
 ghost use Rattle.lock_tree.specs.Text.{text_of};
@@ -12,7 +12,7 @@ ghost use Rattle.lock_report.specs.Claims.{word_of_kind};
 ghost use Rattle.lock_report.specs.StateRows.{fields_of_claim, fields_of_transaction, fields_of_wait, victim_field};
 ghost use Rattle.state_rows.specs.declared.row.StateRow.{StateRow as RowValue};
 ghost use Rattle.state_rows.specs.inner.Fields.{texts_of};
-ghost use Rattle.state_rows.specs.Rows.{IsClaim, IsNumbered, IsOpen, IsRow, IsSession, IsWait, fields_of_row, is_comma, line_of_row};
+ghost use Rattle.state_rows.specs.Rows.{IsClaim, IsNumbered, IsOpen, IsRow, IsWait, fields_of_row, is_comma, line_of_row};
 
 use crate::fields::{kind_of, mode_of, number_of, resource_of, session_of, victim_of};
 use lock_report::{OpenTransaction, Wait};

@@ -37,7 +37,7 @@ text{font:10px sans-serif;fill:#222;pointer-events:none} .head{font-weight:bold;
 const LEGEND: &str = "\
 <rect class='bar' x='10' width='24' height='14'/><path class='call' d='M22 0v14'/><text class='name' x='40' y='11'>transaction (T) and call</text>
 <text class='name' x='190' y='11'>waits, for whom</text><rect class='victim' x='310' width='24' height='14'/><text class='name' x='340' y='11'>deadlock victim</text>
-<circle class='commit' cx='472' cy='7' r='4'/><text class='name' x='490' y='11'>commit</text><path class='abort' d='M622 7m-4 -4l8 8m0 -8l-8 8'/><text class='name' x='640' y='11'>abort</text>
+<circle class='commit' cx='472' cy='7' r='4'/><text class='name' x='490' y='11'>commit</text><path class='abort' d='M622 7m-4 -4l8 8m0 -8l-8 8'/><text class='name' x='640' y='11'>abort, restart</text>
 <path class='refused' d='M22 27m-5 0l5 -5l5 5l-5 5z'/><text class='name' x='40' y='31'>refused call</text>
 <path class='grants' d='M160 27h24'/><text class='name' x='190' y='31'>grants the request of</text>
 <path class='dooms' d='M310 27h24'/><text class='name' x='340' y='31'>makes a victim of</text>

@@ -84,6 +84,9 @@ impl Layout<'_> {
         for wait in &self.timeline.waits {
             self.put_wait(out, wait)?;
         }
+        for bar in &self.timeline.bars {
+            self.put_end(out, bar)?;
+        }
         for lane in self.lanes.values() {
             self.put_lane(out, lane)?;
         }
@@ -130,45 +133,61 @@ impl Layout<'_> {
         Ok(title)
     }
 
-    /// Writes the bar of a transaction: red from where it is a victim, with its name above it, and how it ended.
-    fn put_bar(&self, out: &mut String, bar: &Bar) -> Written {
+    /// The title of a part of a transaction: what happened to it at a place, and how it ended.
+    fn title_of_bar(&self, bar: &Bar, what: &str, place: u64) -> Result<String, NoMemory> {
         let (session, number, upto) = (bar.session, bar.transaction, bar.upto);
+        let whose = format!(in self.alloc; "session {session}, transaction {number}")?;
+        let mut title = format!(in self.alloc; "{whose}: {what} at place {place}, ")?;
+        match bar.end {
+            None => title.push_str("open at the end of the picture")?,
+            Some(Reply::Committed(_)) => write!(&mut title, "committed at place {upto}")?,
+            Some(Reply::Aborted(_)) => write!(&mut title, "aborted at place {upto}")?,
+            Some(_) => write!(&mut title, "restarted at place {upto}")?,
+        }
+        Ok(title)
+    }
+
+    /// Writes the bar of a transaction: red from where it is a victim, with its name above it.
+    fn put_bar(&self, out: &mut String, bar: &Bar) -> Written {
+        let (session, number) = (bar.session, bar.transaction);
         let Some(y) = self.bars_at(session) else {
             return Ok(());
         };
-        let (x, right) = (self.middle(bar.from), self.middle(upto));
-        let end = match bar.end {
-            None => format!(in self.alloc; "open at the end of the picture")?,
-            Some(Reply::Committed(_)) => format!(in self.alloc; "committed at place {upto}")?,
-            Some(Reply::Aborted(_)) => format!(in self.alloc; "aborted at place {upto}")?,
-            Some(_) => format!(in self.alloc; "restarted at place {upto}")?,
-        };
-        let whose = format!(in self.alloc; "session {session}, transaction {number}")?;
-        let title = format!(in self.alloc; "{whose}: {} at place {}, {end}", bar.origin, bar.from)?;
+        let (x, right) = (self.middle(bar.from), self.middle(bar.upto));
+        let title = self.title_of_bar(bar, bar.origin, bar.from)?;
         put(out, "bar", Rect(x, y, right, BAR), &title)?;
         if let Some(place) = bar.doomed {
             let red = self.middle(place);
-            let since = format!(in self.alloc; "made a deadlock victim at place {place}")?;
-            let title = format!(in self.alloc; "{whose}: {since}, {end}")?;
+            let title = self.title_of_bar(bar, "made a deadlock victim", place)?;
             put(out, "victim", Rect(red, y, right, BAR), &title)?;
         }
         let short = format!(in self.alloc; "T{number}")?;
         let long = format!(in self.alloc; "session {session}, {short}")?;
-        put_name(out, "name", x, right, y.saturating_sub(2), [&short, &long])?;
-        let middle = y.saturating_add(7);
+        put_name(out, "name", x, right, y.saturating_sub(2), [&short, &long])
+    }
+
+    /// Writes the sign of how a transaction ended, over what lies there.
+    fn put_end(&self, out: &mut String, bar: &Bar) -> Written {
+        let Some(y) = self.bars_at(bar.session) else {
+            return Ok(());
+        };
+        let title = self.title_of_bar(bar, bar.origin, bar.from)?;
+        let (x, middle) = (self.middle(bar.upto), y.saturating_add(7));
         match bar.end {
-            Some(Reply::Committed(_)) => put(out, "commit", Dot(right, middle), &title),
-            Some(_) => put(out, "abort", Cross(right, middle), &title),
+            Some(Reply::Committed(_)) => put(out, "commit", Dot(x, middle), &title),
+            Some(_) => put(out, "abort", Cross(x, middle), &title),
             None => Ok(()),
         }
     }
 
-    /// Writes a wait, and below it for whom the session waits, in the longest form for which there is room.
+    /// Writes a wait, half a column wide if its own call ended it, and below it for whom, in the longest form for which there is room.
     fn put_wait(&self, out: &mut String, wait: &Waited) -> Written {
         let Some(y) = self.bars_at(wait.request.session) else {
             return Ok(());
         };
-        let (x, right) = (self.middle(wait.from), self.middle(wait.upto));
+        let wide = u64::from(wait.from == wait.upto).saturating_mul(self.step / 4);
+        let x = self.middle(wait.from).saturating_sub(wide);
+        let right = self.middle(wait.upto).saturating_add(wide);
         let title = self.title_of_wait(wait)?;
         put(out, "wait", Rect(x, y, right, BAR), &title)?;
         let mut names = String::new(self.alloc);

@@ -146,14 +146,15 @@ impl Timeline {
     fn note_told(&mut self, told: &Explanation, mark: &mut Mark) -> Written {
         if let Some(wait) = &told.wait {
             mark.edges.extend_from_slice(&wait.edges)?;
-            if mark.entry.reply == Reply::Waiting {
-                let waited = Waited {
-                    request: wait.request,
-                    blockers: wait.blockers.clone()?,
-                    from: self.noted,
-                    upto: self.noted,
-                };
-                self.waiting.insert(mark.entry.session, waited)?;
+            let waited = Waited {
+                request: wait.request,
+                blockers: wait.blockers.clone()?,
+                from: self.noted,
+                upto: self.noted,
+            };
+            self.waiting.insert(mark.entry.session, waited)?;
+            if mark.entry.reply != Reply::Waiting {
+                self.end_wait(mark.entry.session)?;
             }
         }
         for victim in &told.victims {

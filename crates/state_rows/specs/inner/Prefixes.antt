@@ -1,11 +1,18 @@
 -- The rows of the first lines of a text.
-use Rattle.std.specs.Prelude.{◌≡◌, ℕ, List, map}
-use Rattle.std.specs.List.{AllByRecursion}
+use Rattle.std.specs.Prelude.{◌≡◌, ℕ, true, ◌==◌, List, map}
+use Rattle.std.specs.List.{AllByRecursion, list_any}
+use Rattle.state_rows.specs.declared.reading.Reading.{Reading}
 use Rattle.state_rows.specs.declared.row.StateRow.{StateRow}
 use Rattle.state_rows.specs.Rows.{IsRow, line_of_row}
+use Rattle.state_rows.specs.States.{has_request}
 
 -- these valid rows have these lines, and no other valid rows have
 pub record AreOnlyRows (n : ℕ) (lines : List (List ℕ)) (rows : List StateRow) : Type 0 where
   pub valid : AllByRecursion (IsRow n) rows
   pub lines_are : map line_of_row rows ≡ lines
   pub only : (others : List StateRow) → AllByRecursion (IsRow n) others → map line_of_row others ≡ lines → others ≡ rows
+
+-- the set has the sessions of the requests, and each wait is of one of them
+pub record IsKept (r : Reading) : Type 0 where
+  pub asking : (s : ℕ) → list_any (λ k. s == k) r.asking.keys ≡ has_request r.lists.claims.items s
+  pub requested : AllByRecursion (λ w. has_request r.lists.claims.items w.session ≡ true) r.lists.waits.items

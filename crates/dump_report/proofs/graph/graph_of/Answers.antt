@@ -17,7 +17,4 @@ pub returns-clause-pairs : goal.returns-clause-pairs
 returns-clause-pairs c =
     let waits = c.args.waits.now in
     let all : take c.loop-wait.wait-index waits ≡ waits = take_all c.loop-wait.wait-index waits c.loop-wait-test.false in
-    record {
-      pairs = λ a b. c.loop-wait.invariant.1 a b ∙ ap (λ (ws : List Wait). does_wait ws (a + 1) (b + 1)) all;
-      some = some-waits c.args.sessions waits c.requires.within;
-    }
+    record { pairs = λ a b. c.loop-wait.invariant.1 a b ∙ ap (λ (ws : List Wait). does_wait ws (a + 1) (b + 1)) all; some = some-waits c.args.sessions waits c.requires.within }

@@ -8,7 +8,4 @@ pub returns-in-Illegal : goal.returns-in-Illegal
 returns-in-Illegal c =
     let es = c.args.entries.now in
     let wrong = subst (IsVerdict es) c.in-Illegal.is c.requires.verdict in
-    record {
-      finding = c.finding_on.ensures;
-      verdict = IfOk-weaker c.finding_on.result _ _ (λ found is. wrong_found es c.in-Illegal.field-0 found wrong is ∙ sym c.in-Illegal.is) c.finding_on.ensures;
-    }
+    record { finding = c.finding_on.ensures; verdict = IfOk-weaker c.finding_on.result _ _ (λ found is. wrong_found es c.in-Illegal.field-0 found wrong is ∙ sym c.in-Illegal.is) c.finding_on.ensures }

@@ -30,8 +30,4 @@ loop-place-preserved c =
     let front : c.loop-place.book.history ++ e ∷ [] ≡ take (c.loop-place.place + 1) c.args.entries.now =
     ap (λ (es : List Entry). es ++ e ∷ []) c.loop-place.invariant.served ∙ sym (grown c.args.entries.now c.loop-place.place e below c.index-entries-place.is) in
     let none : c.in_ok-wrong.field-0 ≡ None = search rules in
-    record {
-      served = (rw none at c.in_ok-wrong.ensures.served) ∙ front;
-      legal = subst IsLegal front (rw none at c.in_ok-wrong.ensures.legal);
-      sessions = c.in_ok-wrong.ensures.sessions ∙ c.loop-place.invariant.sessions;
-    }
+    record { served = (rw none at c.in_ok-wrong.ensures.served) ∙ front; legal = subst IsLegal front (rw none at c.in_ok-wrong.ensures.legal); sessions = c.in_ok-wrong.ensures.sessions ∙ c.loop-place.invariant.sessions }

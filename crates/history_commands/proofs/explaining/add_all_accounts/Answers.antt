@@ -7,14 +7,7 @@ use Rattle.history_commands.specs.Explaining.{AreAccounts}
 use Rattle.history_commands.proofs.explaining.add_all_accounts.Goals as goal
 
 pub loop-place-init : goal.loop-place-init
-loop-place-init c = record {
-  behind = c.requires.behind;
-  ahead = c.requires.ahead;
-  sessions = refl;
-  others = c.requires.sessions;
-  legal = tt;
-  accounts = c.requires.empty;
-}
+loop-place-init c = record { behind = c.requires.behind; ahead = c.requires.ahead; sessions = refl; others = c.requires.sessions; legal = tt; accounts = c.requires.empty }
 
 pub add_next_account-requires : goal.add_next_account-requires
 add_next_account-requires c =
@@ -30,11 +23,7 @@ add_next_account-requires c =
     }
 
 pub returns-then-not-alike : goal.returns-then-not-alike
-returns-then-not-alike c = record {
-  wrong = c.in_ok-alike.ensures.wrong c.if-not-alike.true;
-  legal = tt;
-  accounts = tt;
-}
+returns-then-not-alike c = record { wrong = c.in_ok-alike.ensures.wrong c.if-not-alike.true; legal = tt; accounts = tt }
 
 pub loop-place-preserved : goal.loop-place-preserved
 loop-place-preserved c =

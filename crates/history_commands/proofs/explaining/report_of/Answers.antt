@@ -6,11 +6,7 @@ use Rattle.history_commands.specs.Explaining.{IsTextExplained}
 use Rattle.history_commands.proofs.explaining.report_of.Goals as goal
 
 pub report_on_book-requires : goal.report_on_book-requires
-report_on_book-requires c = record {
-  within = subst (λ (n : ℕ). All (IsEntry n) c.args.entries.now) (sym c.in_ok-before.ensures.sessions) c.requires.within;
-  behind = c.in_ok-before.ensures.empty;
-  place = c.requires.place;
-}
+report_on_book-requires c = record { within = subst (λ (n : ℕ). All (IsEntry n) c.args.entries.now) (sym c.in_ok-before.ensures.sessions) c.requires.within; behind = c.in_ok-before.ensures.empty; place = c.requires.place }
 
 pub returns : goal.returns
 returns c = record {

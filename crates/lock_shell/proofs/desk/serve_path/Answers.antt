@@ -5,19 +5,12 @@ use Rattle.lock_shell.proofs.Served.{entry_of, levels_end, levels_more, levels_s
 use Rattle.lock_shell.proofs.desk.serve_path.Goals as goal
 
 pub loop-level-init : goal.loop-level-init
-loop-level-init c = record {
-  alike = c.requires.alike;
-  served = no_levels c.args.desk.now.after.sessions c.args.session c.args.resource c.args.mode c.args.desk.now.after.history c.args.text.now.items;
-}
+loop-level-init c = record { alike = c.requires.alike; served = no_levels c.args.desk.now.after.sessions c.args.session c.args.resource c.args.mode c.args.desk.now.after.history c.args.text.now.items }
 
 pub serve_told-requires : goal.serve_told-requires
 serve_told-requires c =
     let so_far = c.loop-level.invariant in
-    record {
-      some = c.requires.some;
-      within = omega (arith, c.requires.within, so_far.alike.others);
-      alike = subst (λ (n : ℕ). AreAlike n c.loop-level.desk.before c.loop-level.desk.after) (sym so_far.alike.others) so_far.alike;
-    }
+    record { some = c.requires.some; within = omega (arith, c.requires.within, so_far.alike.others); alike = subst (λ (n : ℕ). AreAlike n c.loop-level.desk.before c.loop-level.desk.after) (sym so_far.alike.others) so_far.alike }
 
 pub returns-then-not-grants-clause-served : goal.returns-then-not-grants-clause-served
 returns-then-not-grants-clause-served c =

@@ -13,11 +13,7 @@ pub serve_told-requires : goal.serve_told-requires
 serve_told-requires c =
     let so_far = c.loop-row.invariant in
     let is : IsRow c.args.after.now.sessions c.row-item.result = subst (IsRow c.args.after.now.sessions) (sym c.row-item.is) (c.requires.within c.loop-row.row-index c.row-item.result c.loop-row-test.true) in
-    record {
-      some = omega (arith, is.first);
-      within = omega (arith, is.last, so_far.alike.others);
-      alike = subst (λ (n : ℕ). AreAlike n c.loop-row.before c.loop-row.after) (sym so_far.alike.others) so_far.alike;
-    }
+    record { some = omega (arith, is.first); within = omega (arith, is.last, so_far.alike.others); alike = subst (λ (n : ℕ). AreAlike n c.loop-row.before c.loop-row.after) (sym so_far.alike.others) so_far.alike }
 
 pub loop-row-preserved : goal.loop-row-preserved
 loop-row-preserved c =

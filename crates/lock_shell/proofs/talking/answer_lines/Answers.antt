@@ -7,10 +7,7 @@ use Rattle.lock_shell.proofs.Talks.{answered_more, answered_part, answered_whole
 use Rattle.lock_shell.proofs.talking.answer_lines.Goals as goal
 
 pub loop-count-init : goal.loop-count-init
-loop-count-init g c = record {
-  alike = c.requires.alike;
-  answered = none_answered c.args.desk.now.after.sessions (kept_in c.args.desk.now.after c.args.marks.now.items) (g.W.Write.contents c.args.output.now);
-}
+loop-count-init g c = record { alike = c.requires.alike; answered = none_answered c.args.desk.now.after.sessions (kept_in c.args.desk.now.after c.args.marks.now.items) (g.W.Write.contents c.args.output.now) }
 
 pub answer_next-requires : goal.answer_next-requires
 answer_next-requires g c =

@@ -8,6 +8,6 @@ returns-in_err-text_in c = λ m. (
   λ e. absurd cc,
   λ h.
       let no : is_utf8 c.args.field.now ≡ false = search rules in
-      let yes : is_utf8 c.args.field.now ≡ true = ap is_utf8 h ∙ mode-utf8 m in
+      let yes : is_utf8 c.args.field.now ≡ true = ap is_utf8 h.1 ∙ mode-utf8 m in
       absurd cc,
 )

@@ -4,4 +4,5 @@ use Rattle.state_rows.proofs.reading.add_claim.Goals as goal
 
 pub returns-then-not-is_empty-clause-late : goal.returns-then-not-is_empty-clause-late
 returns-then-not-is_empty-clause-late c = λ e.
-    late-claim c.args.lists.now.opens.items c.args.lists.now.claims.items c.args.lists.now.waits.items c.args.claim (λ (none : c.args.lists.now.waits.items ≡ []). search (rules, tests))
+    let lists = c.args.reading.now.lists in
+    late-claim lists.opens.items lists.claims.items lists.waits.items c.args.claim (λ (none : lists.waits.items ≡ []). search (rules, tests))
