@@ -142,6 +142,14 @@ static void fan(void) {
 
 static void call_close_fan(void) { wait(CALLER, PELGAISTI_X, HERE); }
 
+/* The same, but that each of them waits for the one before it, and the first for the caller. */
+static void line(void) {
+    uint32_t first = next_session, n = quantity("n");
+    for (uint32_t k = 0; k < n; k++) take(newcomer(), PELGAISTI_S, HERE);
+    for (uint32_t k = 0; k <= n; k++) take(k ? first + k - 1 : CALLER, PELGAISTI_X, RING + k);
+    for (uint32_t k = 0; k < n; k++) wait(first + k, PELGAISTI_X, RING + k);
+}
+
 static void own_reader(void) { take(CALLER, PELGAISTI_S, HERE); }
 
 static void call_convert(void) { serve(CALLER, call_on(PELGAISTI_CONVERT, PELGAISTI_X, HERE), PELGAISTI_GRANTED); }
@@ -447,6 +455,7 @@ static const struct row {
     {"lock, that waits behind requests for other modes", readers_and_queue, call_lock_announce, 0},
     {"lock, that closes a cycle", ring, call_close_ring, 0},
     {"lock, that closes many cycles", fan, call_close_fan, 0},
+    {"lock, that makes 1000 victims", line, call_close_fan, 0},
     {"lock, that closes a cycle that is kept", ring, call_close_ring, 0},
     {"lock, that closes many cycles that are kept", fan, call_close_fan, 0},
     {"convert, of a single holder", own_reader, call_convert, 0},

@@ -38,19 +38,20 @@ HERE = {"holders": 100, "queue": 60, "kept": 20}
 class Row:
     """A call, with the quantities that it has beside the usual ones, and how its cost grows with each."""
 
-    def __init__(self, name, has=(), square=(), grows=(), partly=(), words=(), n=0, usual=USUAL):
+    def __init__(self, name, has=(), square=(), grows=(), partly=(), words=(), n=0, usual=USUAL, kept=()):
         self.name = name
+        self.kept = kept
         self.quantities = {**usual, **{what: HERE[what] for what in has}, **({"n": n} if n else {})}
         self.main = [*square, *grows][:1]
         self.factors = {what: factor for names, factor in ((words, WORDS), (partly, PARTLY), (grows, GROWS), (square, SQUARE)) for what in names}
 
-    def most(self, quantity):
-        """The greatest multiple if this quantity is doubled."""
-        return self.factors.get(quantity, STAYS)
+    def changes(self):
+        """Each quantity with another number, and the greatest multiple of the count with it: doubled, or as many deadlocks kept in place of none."""
+        return [("kept", *pair) for pair in self.kept] or [(what, 2 * number, self.factors.get(what, STAYS)) for what, number in self.quantities.items()]
 
     def variants(self):
-        """The quantities as they are, and then with each doubled in turn."""
-        return [self.quantities, *({**self.quantities, what: 2 * number} for what, number in self.quantities.items())]
+        """The quantities as they are, and then with each change in turn."""
+        return [self.quantities, *({**self.quantities, what: number} for what, number, _ in self.changes())]
 
     def line(self, quantities):
         """A line of the input of checks/costs.c."""
@@ -75,6 +76,7 @@ ROWS = [
     Row("convert, that waits", BOTH, grows=["queue", "holders", "elsewhere"], words=["sessions"]),
     Row("lock, that closes a cycle", grows=["n"], partly=["sessions"], words=["elsewhere"], n=100),
     Row("lock, that closes many cycles", square=["n"], partly=["sessions"], words=["elsewhere"], n=100),
+    Row("lock, that makes 1000 victims", n=1000, usual={"sessions": 1024}, kept=[(1, 2.5), (1000, 20)]),
     Row("lock, that closes a cycle that is kept", ["kept"], grows=["n", "sessions"], words=["elsewhere"], n=100),
     Row("lock, that closes many cycles that are kept", ["kept"], square=["n"], grows=["sessions"], words=["elsewhere"], n=100),
     Row("release, the first", grows=["own"]),
@@ -148,13 +150,13 @@ def counts_of(row, program):
 
 def faults_of(row, counts):
     """What is wrong with the counts."""
-    first, *doubled = counts
-    for quantity, count in zip(row.quantities, doubled):
+    first, *changed = counts
+    for (quantity, number, most), count in zip(row.changes(), changed):
         times = count / first
-        if times > row.most(quantity):
-            yield f"{times:.2f} times as many with {quantity} doubled, at most {row.most(quantity)}"
+        if times > most:
+            yield f"{times:.2f} times as many with {number} {quantity}, at most {most}"
         if quantity in row.main and times <= LEAST:
-            yield f"{times:.2f} times as many with {quantity} doubled, which it is said to grow with"
+            yield f"{times:.2f} times as many with {number} {quantity}, which it is said to grow with"
 
 
 def main():
@@ -176,8 +178,8 @@ def main():
             passed += not faults
             print(f"{row.name}: {counts[0]} instructions{''.join(f'; {fault}' for fault in faults)}")
             if given.rows:
-                for quantity, count in zip(row.quantities, counts[1:]):
-                    print(f"    {quantity} {row.quantities[quantity]}, doubled: {count / counts[0]:.3f} times")
+                for (quantity, number, _), count in zip(row.changes(), counts[1:]):
+                    print(f"    {quantity} {row.quantities.get(quantity, 0)}, then {number}: {count / counts[0]:.3f} times")
     print(f"{passed} passed, {len(rows) - passed} failed")
     sys.exit(1 if passed < len(rows) else 0)
 

@@ -632,10 +632,11 @@ pelgaisti_status pelgaisti_book_take_history(pelgaisti_book *book, uint64_t *fir
 
 /* ---- Deadlocks of a book: the newest ones, as many as were asked for before its first call. The memory for them is taken then, so that no
    call lacks memory for a deadlock. A call that makes one pays for a search: of the sessions that the victim waits for, directly or through
-   others, each with its row of a bit for each session. One that makes none costs what it costs in a book that keeps none. ---- */
+   others, each with its row of a bit for each session; for twice as many victims as are kept at most. One that makes none costs what it
+   costs in a book that keeps none. ---- */
 
 /* Keeps the newest `most` deadlocks from now on. A book keeps none unless it is asked to. Takes memory for a cycle of all sessions for each:
-   some 56 bytes a session.
+   some 56 bytes a session; and a bit for each pair of sessions.
    NULL, CLOSED, SERVED, NO_MEMORY. */
 pelgaisti_status pelgaisti_book_keep_deadlocks(pelgaisti_book *book, size_t most);
 

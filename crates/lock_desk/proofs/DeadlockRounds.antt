@@ -1,5 +1,5 @@
 -- The deadlocks that are noted while victims are chosen are those of the state.
-use Rattle.std.proofs.Common.{◌≡◌, ℕ, zero, suc, ◌+◌, ◌-◌, ◌<◌, ◌≤◌, Bool, true, false, cond, List, [], ◌∷◌, ◌++◌, length, map, append_assoc, append-nil, refl, sym, ◌∙◌, ap, arith, subst}
+use Rattle.std.proofs.Common.{◌≡◌, ℕ, zero, suc, ◌+◌, ◌-◌, ◌<◌, ◌≤◌, ◌⊎◌, inl, inr, Bool, true, false, cond, List, [], ◌∷◌, ◌++◌, length, map, append_assoc, append-nil, refl, sym, ◌∙◌, ap, arith, subst}
 use Rattle.std.proofs.lemmas.List.{map-append}
 use Rattle.lock_rules.specs.State as rules
 use Rattle.lock_rules.specs.Waits.{reaches, victim_of, after_victim, after_cancel, after_victims}
@@ -7,11 +7,17 @@ use Rattle.lock_rules.specs.Sound.{IsSound}
 use Rattle.lock_rules.proofs.Cuts.{cancelled-follows, cancelled-fewer}
 use Rattle.lock_rules.proofs.Settle.{victim-waits}
 use Rattle.lock_desk.specs.Deadlocks.{Moment, deadlocked_states, moments_at}
+use Rattle.waits_for.specs.Pairs.{pairs_of}
 use Rattle.lock_desk.specs.declared.lock_table.LockTable.{LockTable}
-use Rattle.lock_desk.specs.inner.Noting.{LogView, HasNoted}
+use Rattle.lock_desk.specs.declared.waits.Waits.{Waits}
+use Rattle.lock_desk.specs.inner.Blocking.{IsCurrent}
+use Rattle.lock_desk.specs.inner.Changes.{standings, IsWhole}
+use Rattle.lock_desk.specs.inner.Noting.{LogView, HasNoted, HasNotedAhead, AreChosen}
 use Rattle.lock_desk.specs.inner.Shows.{Shows}
-use Rattle.lock_desk.proofs.VictimRounds.{IsRound}
-use Rattle.lock_desk.proofs.DeadlocksTold.{noted-none, noted-on}
+use Rattle.lock_desk.proofs.VictimRounds.{IsRound, same-pairs, same-numbers}
+use Rattle.lock_desk.proofs.VictimsAhead.{by_position, closed-same, chosen-ahead}
+use Rattle.lock_desk.proofs.FewRequests.{nobody-asks}
+use Rattle.lock_desk.proofs.DeadlocksTold.{noted-none, noted-ahead, ahead-on, ahead-none}
 
 -- more rounds than requests find no more deadlocks
 pub deadlocked-enough : (n m s : ℕ) (st : rules.State) → IsSound st.table → length st.table.requests < n → length st.table.requests < m → deadlocked_states n s st ≡ deadlocked_states m s st
@@ -28,20 +34,38 @@ deadlocked-enough (suc n) (suc m) s st i few less = go (reaches st.table s s) re
         let fewer = cancelled-fewer (victim_of st s) st.table w.0 i w.1 in
         ap (λ (sts : List rules.State). st ∷ sts) (next (cancelled-follows (victim_of st s) st.table i).sound (omega (arith, fewer)) (omega (arith, fewer)))
 
--- the lock table represents the state after k of n rounds, and the deadlocks of these rounds are noted
-pub record IsNotedRound (n k s place : ℕ) (st : rules.State) (d : LockTable) (before after : LogView) : Type 0 where
+-- the lock table represents the state after k of n rounds, at least so many deadlocks are to come, and with them those of these rounds
+-- are noted
+pub record IsNotedRound (coming n k s place : ℕ) (st : rules.State) (d : LockTable) (before after : LogView) : Type 0 where
   pub round : IsRound n k s st d
   pub states : List rules.State
   pub split : deadlocked_states n s st ≡ states ++ deadlocked_states (n - k) s round.state
-  pub noted : HasNoted (moments_at place s states) before after
+  pub sure : coming ≤ length (deadlocked_states (n - k) s round.state)
+  pub noted : HasNotedAhead coming (moments_at place s states) before after
+
+-- those that are chosen on a copy of the graph come
+pub known-coming : (m c x n k s place : ℕ) (st : rules.State) (d : LockTable) (waits : Waits) (a b : LogView) (r : IsNotedRound m n k s place st d a b) → IsWhole d → IsCurrent d.cells.entries (standings d) waits → 1 ≤ s
+    → (c ≡ m) ⊎ ((vs : List ℕ) × AreChosen (pairs_of waits.rows) waits.numbers.items (s - 1) vs × (length vs ≡ c) × (c ≤ x)) → x ≤ n - k → c ≤ length (deadlocked_states (n - k) s r.round.state)
+known-coming m c x n k s place st d waits a b r w filled one (inl e) few = omega (arith, e, r.sure)
+known-coming m c x n k s place st d waits a b r w filled one (inr h) few =
+    let t = r.round in
+    let edges = same-pairs d w waits filled t.state t.shows t.sound t.numbered in
+    omega (
+      arith,
+      h.2,
+      chosen-ahead h.0 (n - k) s t.state (pairs_of waits.rows) waits.numbers.items one t.sound t.numbered (nobody-asks d t.state w t.sound t.shows) (same-numbers d w waits filled t.state t.shows t.sound t.numbered)
+          (closed-same (pairs_of waits.rows) (by_position t.state.table) edges) (closed-same (by_position t.state.table) (pairs_of waits.rows) (λ x y. sym (edges x y)))
+          h.1 (omega (arith, h.2, h.3, few)),
+    )
 
 -- none yet
-pub noted-begun : (n s place : ℕ) (st : rules.State) (d : LockTable) (log : LogView) (r : IsRound n 0 s st d) → r.state ≡ st → IsNotedRound n 0 s place st d log log
+pub noted-begun : (n s place : ℕ) (st : rules.State) (d : LockTable) (log : LogView) (r : IsRound n 0 s st d) → r.state ≡ st → IsNotedRound 0 n 0 s place st d log log
 noted-begun n s place st d log r is = record {
   round = r;
   states = [];
   split = let all : n ≡ n - 0 = omega arith in ap (deadlocked_states n s) (sym is) ∙ ap (λ (k : ℕ). deadlocked_states k s r.state) all;
-  noted = noted-none log;
+  sure = omega arith;
+  noted = noted-ahead 0 log log [] (noted-none log);
 }
 
 -- on a cycle, the next deadlock is that of the state
@@ -55,34 +79,37 @@ no-state : (m s : ℕ) (st : rules.State) → reaches st.table s s ≡ false →
 no-state zero s st off = refl
 no-state (suc m) s st off = ap (λ (b : Bool). cond b (st ∷ deadlocked_states m s (after_victim (victim_of st s) st)) []) off
 
--- one more round
-pub noted-round : (n k s v place : ℕ) (st : rules.State) (d e : LockTable) (a b c : LogView) (r : IsNotedRound n k s place st d a b) → (i : IsRound n (k + 1) s st e) → i.state ≡ after_victim v r.round.state → k < n → reaches r.round.state.table s s ≡ true → victim_of r.round.state s ≡ v
-    → HasNoted (moments_at place s (r.round.state ∷ [])) b c → IsNotedRound n (k + 1) s place st e a c
-noted-round n k s v place st d e a b c r i next lt on is noted =
-    let x = r.round.state in
+-- one more round, before which more deadlocks may be known to come
+pub noted-round : (m c n k s v place : ℕ) (st : rules.State) (d e : LockTable) (x y z : LogView) (r : IsNotedRound m n k s place st d x y) → (i : IsRound n (k + 1) s st e) → i.state ≡ after_victim v r.round.state → k < n → reaches r.round.state.table s s ≡ true → victim_of r.round.state s ≡ v
+    → m ≤ c → c ≤ length (deadlocked_states (n - k) s r.round.state) → HasNotedAhead (c - 1) (moments_at place s (r.round.state ∷ [])) y z → IsNotedRound (c - 1) n (k + 1) s place st e x z
+noted-round m c n k s v place st d e x y z r i next lt on is more sure noted =
+    let t = r.round.state in
+    let rest : deadlocked_states (n - k) s t ≡ t ∷ deadlocked_states (n - (k + 1)) s i.state =
+    next-state (n - k) n k s t (omega (arith, lt)) on ∙ (ap (λ (u : ℕ). t ∷ deadlocked_states (n - (k + 1)) s (after_victim u t)) is ∙ ap (λ (w : rules.State). t ∷ deadlocked_states (n - (k + 1)) s w) (sym next)) in
+    let one : length (moments_at place s (t ∷ [])) ≡ 1 = refl in
     record {
       round = i;
-      states = r.states ++ x ∷ [];
-      split =
-          r.split
-          ∙ (ap (λ (sts : List rules.State). r.states ++ sts) (next-state (n - k) n k s x (omega (arith, lt)) on ∙ ap (λ (u : ℕ). x ∷ deadlocked_states (n - (k + 1)) s (after_victim u x)) is)
-          ∙ (sym (append_assoc r.states (x ∷ []) (deadlocked_states (n - (k + 1)) s (after_victim v x)))
-          ∙ ap (λ (y : rules.State). r.states ++ x ∷ [] ++ deadlocked_states (n - (k + 1)) s y) (sym next)));
-      noted = subst (λ (ms : List Moment). HasNoted ms a c) (sym (map-append _ r.states (x ∷ []))) (noted-on a b c (moments_at place s r.states) (moments_at place s (x ∷ [])) r.noted noted);
+      states = r.states ++ t ∷ [];
+      split = r.split ∙ (ap (λ (sts : List rules.State). r.states ++ sts) rest ∙ sym (append_assoc r.states (t ∷ []) (deadlocked_states (n - (k + 1)) s i.state)));
+      sure = omega (arith, sure, ap length rest);
+      noted = subst (λ (ms : List Moment). HasNotedAhead (c - 1) ms x z) (sym (map-append _ r.states (t ∷ [])))
+          (ahead-on m (c - 1) x y z (moments_at place s r.states) (moments_at place s (t ∷ [])) (omega (arith, more, one)) r.noted noted);
     }
 
 -- if the session is on no cycle, all are noted
-pub noted-last : (n k s place : ℕ) (st : rules.State) (d : LockTable) (a b : LogView) (r : IsNotedRound n k s place st d a b) → reaches r.round.state.table s s ≡ false → HasNoted (moments_at place s (deadlocked_states n s st)) a b
-noted-last n k s place st d a b r off =
-    let all : deadlocked_states n s st ≡ r.states = r.split ∙ (ap (λ (sts : List rules.State). r.states ++ sts) (no-state (n - k) s r.round.state off) ∙ append-nil r.states) in
-    subst (λ (sts : List rules.State). HasNoted (moments_at place s sts) a b) (sym all) r.noted
+pub noted-last : (c n k s place : ℕ) (st : rules.State) (d : LockTable) (a b : LogView) (r : IsNotedRound c n k s place st d a b) → reaches r.round.state.table s s ≡ false → HasNoted (moments_at place s (deadlocked_states n s st)) a b
+noted-last c n k s place st d a b r off =
+    let none = no-state (n - k) s r.round.state off in
+    let all : deadlocked_states n s st ≡ r.states = r.split ∙ (ap (λ (sts : List rules.State). r.states ++ sts) none ∙ append-nil r.states) in
+    subst (λ (sts : List rules.State). HasNoted (moments_at place s sts) a b) (sym all) (ahead-none c a b (moments_at place s r.states) (omega (arith, r.sure, ap length none)) r.noted)
 
 -- nor are there more rounds
-pub noted-end : (n k s place : ℕ) (st : rules.State) (d : LockTable) (a b : LogView) (r : IsNotedRound n k s place st d a b) → n ≤ k → HasNoted (moments_at place s (deadlocked_states n s st)) a b
-noted-end n k s place st d a b r le =
-    let none : n - k ≡ 0 = omega (arith, le) in
-    let all : deadlocked_states n s st ≡ r.states = r.split ∙ (ap (λ (m : ℕ). r.states ++ deadlocked_states m s r.round.state) none ∙ append-nil r.states) in
-    subst (λ (sts : List rules.State). HasNoted (moments_at place s sts) a b) (sym all) r.noted
+pub noted-end : (c n k s place : ℕ) (st : rules.State) (d : LockTable) (a b : LogView) (r : IsNotedRound c n k s place st d a b) → n ≤ k → HasNoted (moments_at place s (deadlocked_states n s st)) a b
+noted-end c n k s place st d a b r le =
+    let gone : n - k ≡ 0 = omega (arith, le) in
+    let none : deadlocked_states (n - k) s r.round.state ≡ [] = ap (λ (m : ℕ). deadlocked_states m s r.round.state) gone in
+    let all : deadlocked_states n s st ≡ r.states = r.split ∙ (ap (λ (sts : List rules.State). r.states ++ sts) none ∙ append-nil r.states) in
+    subst (λ (sts : List rules.State). HasNoted (moments_at place s sts) a b) (sym all) (ahead-none c a b (moments_at place s r.states) (omega (arith, r.sure, ap length none)) r.noted)
 
 -- and the lock table represents the state after the last one
 pub shown-end : (n k s : ℕ) (st : rules.State) (d : LockTable) (r : IsRound n k s st d) → n ≤ k → Shows d (after_victims n s st)

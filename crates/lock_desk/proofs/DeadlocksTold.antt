@@ -1,9 +1,9 @@
 -- What a log tells: the newest deadlocks, and one more.
-use Rattle.std.proofs.Common.{◌≡◌, ℕ, ◌+◌, ◌-◌, ◌<◌, ◌≤◌, List, [], ◌∷◌, ◌++◌, length, drop, refl, sym, ◌∙◌, ap, arith, subst, append_assoc, append-nil, length-append, length-drop}
+use Rattle.std.proofs.Common.{◌≡◌, ℕ, suc, ◌+◌, ◌-◌, ◌<◌, ◌≤◌, List, [], ◌∷◌, ◌++◌, length, drop, refl, sym, ◌∙◌, ap, arith, subst, append_assoc, append-nil, length-append, length-drop}
 use Rattle.std.proofs.lemmas.List.{drop-append-le, drop-drop}
 use Rattle.lock_desk.specs.Deadlocks.{Moment, IsCycleTold, IsDeadlockTold, AreDeadlocksTold, newest}
 use Rattle.lock_desk.specs.declared.deadlock_log.Deadlock.{Deadlock}
-use Rattle.lock_desk.specs.inner.Noting.{LogView, HasTold, HasNoted, IsAlike, AreAlike}
+use Rattle.lock_desk.specs.inner.Noting.{LogView, HasTold, HasCounted, HasNoted, HasNotedAhead, IsAlike, AreAlike}
 use Rattle.lock_desk.proofs.VictimsCounted.{counted-none, counted-on}
 
 -- lists of deadlocks told
@@ -43,6 +43,13 @@ newest-push {X = X} n xs x some full =
     ∙ (drop-append-le (length xs - n + 1) xs (x ∷ []) (omega (arith, some, full))
     ∙ ap (λ (ys : List X). ys ++ x ∷ []) (sym (drop-drop 1 (length xs - n) xs)))
 
+-- if as many stand at the end, they are these
+pub newest-behind : {X : Type 0} (n : ℕ) (xs ys : List X) → n ≤ length ys → newest n (xs ++ ys) ≡ newest n ys
+newest-behind n [] ys le = refl
+newest-behind {X = X} n (x ∷ xs) ys le =
+    let more : length (x ∷ xs ++ ys) - n ≡ suc (length (xs ++ ys) - n) = omega (arith, length-append xs ys, le) in
+    ap (λ (k : ℕ). drop k (x ∷ xs ++ ys)) more ∙ newest-behind n xs ys le
+
 -- how many there are
 pub newest-length : {X : Type 0} (n : ℕ) (xs : List X) → length (newest n xs) ≡ length xs - (length xs - n)
 newest-length n xs = length-drop (length xs - n) xs
@@ -67,6 +74,31 @@ noted-on a b c ms ns h k = record {
       subst (λ (all : List Moment). AreDeadlocksTold (newest a.most all) c.told) (append_assoc before ms ns) two;
   counted = counted-on a.counts b.counts c.counts ms ns h.counted k.counted;
 }
+
+-- what is noted whatever is noted behind it
+pub noted-ahead : (n : ℕ) (a b : LogView) (ms : List Moment) → HasNoted ms a b → HasNotedAhead n ms a b
+noted-ahead n a b ms h more c few k = noted-on a b c ms more h k
+
+-- the first of many needn't be kept
+pub skipped-ahead : (n : ℕ) (a b : LogView) (ms : List Moment) → a.most ≤ n → b.most ≡ a.most → b.told ≡ a.told → HasCounted ms a.counts b.counts → HasNotedAhead n ms a b
+skipped-ahead n a b ms few most told counted more c le k = record {
+  most = k.most ∙ most;
+  told = λ before h.
+      let one = subst (λ (m : ℕ). AreDeadlocksTold (newest m before) b.told) (sym most) (subst (AreDeadlocksTold (newest a.most before)) (sym told) h) in
+      let two = subst (λ (m : ℕ). AreDeadlocksTold (newest m (before ++ more)) c.told) most (k.told before one) in
+      subst (λ (xs : List Moment). AreDeadlocksTold xs c.told) (newest-behind a.most before more (omega (arith, few, le)) ∙ (sym (newest-behind a.most (before ++ ms) more (omega (arith, few, le))) ∙ ap (newest a.most) (append_assoc before ms more))) two;
+  counted = counted-on a.counts b.counts c.counts ms more counted k.counted;
+}
+
+-- some, and then more
+pub ahead-on : (m n : ℕ) (a b c : LogView) (ms ns : List Moment) → m ≤ n + length ns → HasNotedAhead m ms a b → HasNotedAhead n ns b c → HasNotedAhead n (ms ++ ns) a c
+ahead-on m n a b c ms ns le h k more d few last =
+    subst (λ (xs : List Moment). HasNoted xs a d) (sym (append_assoc ms ns more))
+    (h (ns ++ more) d (omega (arith, le, few, length-append ns more)) (k more d few last))
+
+-- if none have to come, all are noted
+pub ahead-none : (n : ℕ) (a b : LogView) (ms : List Moment) → n ≤ 0 → HasNotedAhead n ms a b → HasNoted ms a b
+ahead-none n a b ms none h = subst (λ (xs : List Moment). HasNoted xs a b) (append-nil ms) (h [] b none (noted-none b))
 
 -- nothing is kept
 pub told-nowhere : (a : LogView) (ms : List Moment) → a.most ≡ 0 → a.told ≡ [] → HasTold ms a a

@@ -67,6 +67,10 @@ module _ (d : LockTable) (st : rules.State) (w : IsWhole d) (i : IsSound st.tabl
           let b = (once-at r d.cells.entries w.cells).waiting in
           absurd (cc)
 
+  -- so it has no request
+  pub nobody-asks : rules.request_of 0 st.table.requests ≡ None
+  nobody-asks = is-none (rules.request_of 0 st.table.requests) (sym (waits-told 0 st.table (standing 0 d).wanted (λ x. (w.agree x).wanted 0 ∙ ap (λ (v : View). has_session 0 v.waiting) (h.views x))) ∙ nobody-waits)
+
   -- a session without a locker does not wait
   beyond : (ss : List Standing) (s : ℕ) → length ss ≤ s → is_some (standing_at s ss).wanted ≡ false
   beyond [] s le = refl

@@ -71,6 +71,8 @@ pub mod RowsOfTheTable
 pub mod WaitsOfTheState
 -- the victim that is found is the victim of the state
 pub mod VictimRounds
+-- the victims that are chosen on a copy of the graph are no more than those of the state
+pub mod VictimsAhead
 -- no more requests wait than there are sessions
 pub mod FewRequests
 -- what is counted of victims

@@ -82,6 +82,17 @@ module _ (P Q : ℕ → ℕ → Bool) (same : (a b : ℕ) → P a b ≡ Q (a + 1
         omega (arith, g, told (u - 1), told v, ap age e),
   )
 
+-- the youngest on a cycle in a graph with the waits of a state is the victim of the state
+pub victim-found : (P : ℕ → ℕ → Bool) (ages : List ℕ) (st : rules.State) → IsNumbered st → ((a b : ℕ) → P a b ≡ waits_for st.table (a + 1) (b + 1)) → ((s u : ℕ) → waits_for st.table s u ≡ true → 1 ≤ s) → ((a : ℕ) → slice_index ages a ≡ rules.number_of st (a + 1))
+    → (s v : ℕ) → 1 ≤ s → 1 ≤ v → IsYoungestOnCircle P ages (s - 1) (v - 1) → (reaches st.table s s ≡ true) × (victim_of st s ≡ v)
+victim-found P ages st j same some-wait told s v some one y =
+    let e : s - 1 + 1 ≡ s = omega (arith, some) in
+    let f : v - 1 + 1 ≡ v = omega (arith, one) in
+    let c = youngest-up P (waits_for st.table) same some-wait (s - 1) (v - 1) ages (rules.number_of st) told y in
+    let is : IsVictim st s v = subst (λ (x : ℕ). IsVictim st x v) e (subst (λ (x : ℕ). IsVictim st (s - 1 + 1) x) f (record { on_circle = c.0; youngest = c.1 })) in
+    let on = reaches-walk st.table s s (reaches-trans (waits_for st.table) s v s is.on_circle.there is.on_circle.back) in
+    (on, one-victim st j s (victim_of st s) v (victim-most st s on) is)
+
 -- number 0, which no session has
 
 -- so it has no mode in a list without it
@@ -123,7 +134,7 @@ rewaited n k s st d waits r = record {
 
 module _ (d : LockTable) (w : IsWhole d) (waits : Waits) (filled : IsCurrent d.cells.entries (standings d) waits) (st : rules.State) (h : Shows d st) (i : IsSound st.table) (j : IsNumbered st) where
   -- the edges are the waits of the state
-  same-pairs : (a b : ℕ) → pairs_of waits.rows a b ≡ waits_for st.table (a + 1) (b + 1)
+  pub same-pairs : (a b : ℕ) → pairs_of waits.rows a b ≡ waits_for st.table (a + 1) (b + 1)
   same-pairs a b = filled.pairs a b ∙ pairs-shown d st w i h (a + 1) (b + 1)
 
   -- a session that waits has a number of at least 1
@@ -132,7 +143,7 @@ module _ (d : LockTable) (w : IsWhole d) (waits : Waits) (filled : IsCurrent d.c
   some-wait (suc s) u e = omega arith
 
   -- the transaction numbers are those of the state
-  same-numbers : (a : ℕ) → slice_index waits.numbers.items a ≡ rules.number_of st (a + 1)
+  pub same-numbers : (a : ℕ) → slice_index waits.numbers.items a ≡ rules.number_of st (a + 1)
   same-numbers a = filled.numbers a ∙ ap rules.number_in (h.transactions (a + 1))
 
   -- if no victim is found, the session is on no cycle of the state
@@ -148,16 +159,7 @@ module _ (d : LockTable) (w : IsWhole d) (waits : Waits) (filled : IsCurrent d.c
 
   -- a victim that is found is that of the state
   pub found : (s v : ℕ) → 1 ≤ s → 1 ≤ v → IsYoungestOnCircle (pairs_of waits.rows) waits.numbers.items (s - 1) (v - 1) → (reaches st.table s s ≡ true) × (victim_of st s ≡ v)
-  found s v some one y =
-      let e : s - 1 + 1 ≡ s = omega (arith, some) in
-      let f : v - 1 + 1 ≡ v = omega (arith, one) in
-      let c = youngest-up (pairs_of waits.rows) (waits_for st.table) same-pairs some-wait (s - 1) (v - 1) waits.numbers.items (rules.number_of st) same-numbers y in
-      let is : IsVictim st s v = subst (λ (x : ℕ). IsVictim st x v) e (subst (λ (x : ℕ). IsVictim st (s - 1 + 1) x) f (record { on_circle = c.0; youngest = c.1 })) in
-      let on = reaches-walk st.table s s (circle is.on_circle.there is.on_circle.back) in
-      (on, one-victim st j s (victim_of st s) v (victim-most st s on) is)
-    where
-      circle : Reaches (waits_for st.table) s v → Reaches (waits_for st.table) v s → Reaches (waits_for st.table) s s
-      circle a b = reaches-trans (waits_for st.table) s v s a b
+  found = victim-found (pairs_of waits.rows) waits.numbers.items st j same-pairs some-wait same-numbers
 
 -- after a session is doomed, the lock table represents the state after it has become the victim
 pub doomed-shown : (d e : LockTable) (st : rules.State) (v : ℕ) → IsSound st.table → HasDoomed v d e → Shows d st → Shows e (after_victim v st)

@@ -1,6 +1,6 @@
 //! The newest deadlocks: of each the call that made it, and the cycle with what its members waited for.
 
-ghost use Rattle.std.specs.Prelude.{◌≡◌, ℕ, ◌+◌, ◌-◌, ◌<◌, ◌≤◌, true, [], ◌∷◌, ◌++◌, drop, nat_lt, if◌then◌else◌, length, slice_index_or, vec_len, vec_capacity, IfOk};
+ghost use Rattle.std.specs.Prelude.{◌≡◌, ℕ, ◌+◌, ◌-◌, ◌<◌, ◌≤◌, ◌⊎◌, List, true, [], ◌∷◌, ◌++◌, drop, nat_lt, if◌then◌else◌, length, slice_index_or, vec_len, vec_capacity, IfOk};
 ghost use Rattle.std.specs.List.{All};
 ghost use Rattle.waits_for.specs.Pairs.{pairs_of};
 ghost use Rattle.waits_for.specs.Walks.{Reaches};
@@ -15,10 +15,13 @@ ghost use Rattle.lock_desk.specs.inner.Changes.{IsWhole, MayServe};
 ghost use Rattle.lock_desk.specs.inner.Ready.{IsReadyTable};
 ghost use Rattle.lock_desk.specs.inner.Shows.{Shows};
 ghost use Rattle.lock_desk.specs.inner.Counting.{no_waits, with_victim, with_abort, with_restart};
-ghost use Rattle.lock_desk.specs.inner.Noting.{HasTold, HasNoted, IsLogFor, AreAlike};
+ghost use Rattle.lock_desk.specs.inner.Blocking.{IsSizedFor};
+ghost use Rattle.lock_desk.specs.inner.Noting.{HasTold, HasNotedAhead, IsLogFor, AreAlike, AreChosen};
 
+use crate::graph_copy::GraphCopy;
 use crate::lock_table::LockTable;
 use crate::wait_counts::WaitCounts;
+use crate::waits::{Waits, count_victims};
 use lock_modes::Mode;
 use lock_rules::{Claim, MAX_SESSIONS};
 use session_sets::{position_of, session_at};
@@ -59,6 +62,8 @@ pub struct DeadlockLog {
     count: usize,
     /// The search for the cycle.
     search: CycleSearch,
+    /// Memory to look ahead how many deadlocks a call makes.
+    copy: GraphCopy,
     /// How many victims there were, and the waits that their own sessions gave up, also if no deadlock is kept.
     counts: WaitCounts,
 }
@@ -156,7 +161,7 @@ impl DeadlockLog {
         ensures told { IfOk result (λ log. log.told ≡ []) }
         ensures counts { IfOk result (λ log. log.counts ≡ no_waits) }
     {
-        DeadlockLog::keeping(alloc, 0, 0)
+        DeadlockLog::keeping(alloc, 1, 0)
     }
 
     /// A log for sessions 1 to `sessions` that keeps the newest `most` deadlocks. Fails if memory is refused.
@@ -165,6 +170,7 @@ impl DeadlockLog {
         sessions: u16,
         most: usize,
     ) -> Result<DeadlockLog, AllocError>
+        requires some { 1 ≤ sessions }
         requires few { sessions ≤ MAX_SESSIONS }
         ensures most { IfOk result (λ log. log.most ≡ most) }
         ensures sessions { IfOk result (λ log. log.sessions ≡ sessions) }
@@ -184,6 +190,7 @@ impl DeadlockLog {
             slots,
             count: 0,
             search,
+            copy: GraphCopy::new(alloc, sessions)?,
             counts: WaitCounts::NONE,
         })
     }
@@ -230,18 +237,54 @@ impl DeadlockLog {
         self.counts = self.counts.with_restart(waits);
     }
 
+    /// At least how many victims the call of `session` makes in the rounds that are left, `rounds` of them, if `known` are known to come.
+    ///
+    /// Looks ahead once, when as many were `made` as are kept: of more, the first needn't be kept.
+    pub(crate) fn coming(
+        &mut self,
+        waits: &Waits,
+        session: u16,
+        made: usize,
+        rounds: usize,
+        known: usize,
+    ) -> usize
+        requires some { 1 ≤ session }
+        requires within { session ≤ waits.now.rows.sessions }
+        requires ready { IsSizedFor waits.now.rows.sessions waits.now }
+        requires log { IsLogFor waits.now.rows.sessions self.old }
+        ensures same { self.new ≡ self.old }
+        ensures known { known ≤ result }
+        ensures chosen { (result ≡ known) ⊎ ((vs : List ℕ) × AreChosen (pairs_of waits.now.rows) waits.now.numbers.items (session - 1) vs
+            × (length vs ≡ result) × (result ≤ rounds)) }
+    {
+        if known > 0 || made == 0 || made != self.slots.len() {
+            return known;
+        }
+        count_victims(waits, &mut self.copy, session, rounds)
+    }
+
     /// Notes the deadlock of `session`, whose call has the place `place`, before `victim` is doomed: counts it, and keeps it in the place
-    /// of the oldest one if there are more than are kept. `victim` must be on a cycle.
-    pub(crate) fn note(&mut self, table: &LockTable, place: u64, session: u16, victim: u16)
+    /// of the oldest one if there are more than are kept. `victim` must be on a cycle. If with it more are `coming` than are kept, it isn't
+    /// kept, since those behind it take its place.
+    pub(crate) fn note(
+        &mut self,
+        table: &LockTable,
+        place: u64,
+        session: u16,
+        victim: u16,
+        coming: usize,
+    )
         requires may_serve { MayServe victim table.now }
         requires log { IsLogFor (vec_len table.now.lockers) self.old }
         requires cycle { Reaches (pairs_of table.now.waits.rows) (victim - 1) (victim - 1) }
         ensures log { IsLogFor (vec_len table.now.lockers) self.new }
         ensures noted { (st : State) → IsSound st.table → Shows table.now st → victim_of st session ≡ victim
-            → HasNoted (moments_at place session (st ∷ [])) self.old self.new }
+            → HasNotedAhead (coming - 1) (moments_at place session (st ∷ [])) self.old self.new }
     {
         self.count_victim(place);
-        self.keep(table, place, session, victim);
+        if coming <= self.most() {
+            self.keep(table, place, session, victim);
+        }
     }
 
     /// Keeps the deadlock of `session`, whose call has the place `place`, before `victim` is doomed, and lets go of the oldest one if

@@ -39,6 +39,7 @@ mod cells;
 mod counts;
 mod deadlock_log;
 mod gauges;
+mod graph_copy;
 mod lock_table;
 mod lockers;
 mod notes;

@@ -6,9 +6,11 @@ ghost use Rattle.waits_for.specs.Walks.{Reaches, IsYoungestOnCircle};
 ghost use Rattle.lock_holders.specs.declared.session_mode.SessionMode.{SessionMode as SessionModeValue};
 ghost use Rattle.lock_desk.specs.inner.Cells.{View, view_of, view_after_giving_up, is_request, is_granted, IsOnce};
 ghost use Rattle.lock_holders.specs.SessionModes.{has_session, times, AreOfSessions};
+ghost use Rattle.lock_desk.specs.inner.Noting.{AreChosen, IsCopyFor};
 ghost use Rattle.lock_desk.specs.inner.Blocking.{cell_blocks, fits_beside, has_fitting, has_fitting_beside, has_conflicting, IsOfSessions, IsSizedFor, AreWritten, HasRequestedAt, DoFollow};
 
 use crate::cells::{Cell, GivenUp, RequestStatus};
+use crate::graph_copy::GraphCopy;
 use lock_holders::SessionMode;
 use lock_modes::Mode;
 use session_sets::{position_of, session_at};
@@ -346,6 +348,19 @@ pub(crate) fn edges(waits: &Waits) -> &Rows
     ensures { result.now ≡ waits.now.rows }
 {
     &waits.rows
+}
+
+/// Counts the victims that will be chosen for `session`, `most` at most, on `copy`.
+pub(crate) fn count_victims(waits: &Waits, copy: &mut GraphCopy, session: u16, most: usize) -> usize
+    requires some { 1 ≤ session }
+    requires within { session ≤ waits.now.rows.sessions }
+    requires ready { IsSizedFor waits.now.rows.sessions waits.now }
+    requires copy { IsCopyFor waits.now.rows.sessions copy.old }
+    ensures copy { IsCopyFor waits.now.rows.sessions copy.new }
+    ensures few { result ≤ most }
+    ensures chosen { (vs : List ℕ) × AreChosen (pairs_of waits.now.rows) waits.now.numbers.items (session - 1) vs × (length vs ≡ result) }
+{
+    copy.count_victims(&waits.rows, &waits.numbers, position_of(session), most)
 }
 
 /// Whether the graph has an edge from `session` to `other`. False if there is no such session.

@@ -10,9 +10,9 @@ use std::alloc::{AllocError as NoMemory, Global};
 impl Book {
     /// Keeps the newest `most` deadlocks from now on, for `deadlocks` to tell. No call may have been served yet.
     ///
-    /// Takes all memory for them at once: for each deadlock that of a cycle of all sessions, some 56 bytes a session. So no call takes
-    /// memory for a deadlock, and a call that makes none costs the same with and without. A book keeps none unless it is asked for.
-    /// Fails with `NoMemory` if memory is refused; the book is unchanged then.
+    /// Takes all memory for them at once: for each deadlock that of a cycle of all sessions, some 56 bytes a session, and a bit for each
+    /// pair of sessions. So no call takes memory for a deadlock, and a call that makes none costs the same with and without. A book keeps
+    /// none unless it is asked for. Fails with `NoMemory` if memory is refused; the book is unchanged then.
     pub fn keep_deadlocks(&mut self, alloc: Global, most: usize) -> Result<(), NoMemory>
         requires fresh { self.old.history ≡ [] }
         ensures ok { OnOk result (self.new ≡ record self.old { deadlocks = most }) }

@@ -57,11 +57,15 @@ impl LockTable {
         ensures noted { (st : State) → IsSound st.table → IsNumbered st → Shows self.old st
             → HasNoted (moments_at place session (deadlocked_states (vec_len self.old.lockers + 1) session st)) log.old log.new }
     {
-        for _round in 0..self.lockers.len() + 1 {
+        let rounds = self.lockers.len() + 1;
+        let mut coming = 0;
+        for round in 0..rounds {
             let Some(chosen) = victim(&mut self.waits, session) else {
                 return;
             };
-            log.note(self, place, session, chosen);
+            coming = log.coming(&self.waits, session, round, rounds - round, coming);
+            log.note(self, place, session, chosen, coming);
+            coming = coming.saturating_sub(1);
             self.doom(chosen);
         }
     }

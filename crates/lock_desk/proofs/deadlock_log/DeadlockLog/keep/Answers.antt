@@ -5,7 +5,7 @@ use Rattle.std.proofs.lemmas.Bool.{cases_lt, lt-ltb, le-ltb, false≢true}
 use Rattle.wait_cycles.proofs.Cycles.{cycle-few}
 use Rattle.lock_desk.specs.declared.deadlock_log.Deadlock.{Deadlock}
 use Rattle.lock_desk.specs.declared.deadlock_log.DeadlockLog.TheInside.{Inside}
-use Rattle.lock_desk.specs.inner.Noting.{LogView, log_view_of, IsLogFor, HasTold}
+use Rattle.lock_desk.specs.inner.Noting.{LogView, log_view_of, IsCopyFor, IsLogFor, HasTold}
 use Rattle.lock_desk.proofs.CyclesTold.{told-slot}
 use Rattle.lock_desk.proofs.deadlock_log.DeadlockLog.keep.Goals as goal
 
@@ -45,6 +45,7 @@ invariant_of-self-2 c =
     record {
       few = one-more-few a.count (length new.items) _ (c.one_more-self-inside.ensures ∙ ap (λ (n : ℕ). cond (ltb a.count n) (a.count + 1) a.count) (c.len.ensures ∙ new.ok.0)) (omega (arith, long, c.self.invariant.few));
       room = subst (λ (n : ℕ). All (λ (d : Deadlock). n ≤ vec_capacity d.cycle) new.items) (sym c.find.ensures.sessions) (c.refill.ensures.room a.search.sessions c.self.invariant.room);
+      copy = subst (λ (n : ℕ). IsCopyFor n a.copy) (sym c.find.ensures.sessions) c.self.invariant.copy;
     }
 
 pub returns-clause-told : goal.returns-clause-told
@@ -55,6 +56,6 @@ returns-clause-told c = λ st i h v.
     let some : 0 < length a.slots.items = omega (arith, not-none _ (sym c.is_empty.ensures ∙ c.if-is_empty.false), a.slots.ok.0) in
     let first = ap (λ (ps : List ℕ). get_or ps 0 0) c.cycle.ensures ∙ (c.if-not-find.ensures.cycle refl).first in
     let own = v ∙ omega (arith, first, c.position_of.ensures, c.requires.may_serve.session.some) in
-    subst (λ (l : LogView). HasTold (record { place = c.args.place; session = c.args.session; state = st } ∷ []) l (log_view_of (record { slots = new; count = c.one_more-self-inside.result; search = c.find.new.self; counts = a.counts }))) c.self.view_is
+    subst (λ (l : LogView). HasTold (record { place = c.args.place; session = c.args.session; state = st } ∷ []) l (log_view_of (record { slots = new; count = c.one_more-self-inside.result; search = c.find.new.self; copy = a.copy; counts = a.counts }))) c.self.view_is
     (told-slot a.slots.items new.items a.count c.one_more-self-inside.result a.search.sessions c.find.new.self.sessions a.counts _ slots.0 some c.self.invariant.few slots.1
     (c.one_more-self-inside.ensures ∙ ap (λ (n : ℕ). cond (ltb a.count n) (a.count + 1) a.count) (c.len.ensures ∙ new.ok.0)) (slots.2 st i h own))

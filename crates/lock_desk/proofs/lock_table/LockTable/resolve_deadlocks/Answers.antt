@@ -1,13 +1,17 @@
-use Rattle.std.proofs.Common.{◌≡◌, ℕ, ◌<◌, ◌≤◌, refl, ◌+◌, ◌-◌, vec_len, sym, ◌∙◌, ap, arith, subst}
+use Rattle.std.proofs.Common.{◌≡◌, ℕ, ◌<◌, ◌≤◌, refl, ◌+◌, ◌-◌, [], ◌∷◌, vec_len, sym, ◌∙◌, ap, arith, subst}
 use Rattle.lock_rules.specs.Waits.{after_victims}
 use Rattle.waits_for.specs.Pairs.{pairs_of}
 use Rattle.waits_for.specs.Walks.{Reaches}
 use Rattle.waits_for.proofs.Walks.{reaches-trans}
 use Rattle.lock_desk.specs.declared.waits.Waits.{Waits}
+use Rattle.lock_desk.specs.inner.Blocking.{IsCurrent}
+use Rattle.lock_desk.specs.inner.Changes.{standings}
+use Rattle.lock_desk.specs.inner.Noting.{LogView, HasNotedAhead}
+use Rattle.lock_desk.specs.Deadlocks.{moments_at}
 use Rattle.lock_desk.proofs.Agreement.{keeps-on}
 use Rattle.lock_desk.proofs.EndedWaits.{waits_ended-on, waits_ended-none}
 use Rattle.lock_desk.proofs.VictimRounds.{keeps-searched, may-serve_searched, rewaited, none-found, found, next-round, last-round}
-use Rattle.lock_desk.proofs.DeadlockRounds.{noted-begun, noted-round, noted-last, noted-end, shown-end}
+use Rattle.lock_desk.proofs.DeadlockRounds.{IsNotedRound, known-coming, noted-begun, noted-round, noted-last, noted-end, shown-end}
 use Rattle.lock_desk.proofs.lock_table.LockTable.resolve_deadlocks.Goals as goal
 
 pub returns-in_default-clause-settled : goal.returns-in_default-clause-settled
@@ -15,7 +19,7 @@ returns-in_default-clause-settled c = λ st i j h.
     let d = c.loop-round.self in
     let k = c.loop-round.invariant in
     let r = (k.rounds st i j (record { count = h.count; transactions = h.transactions; views = h.views })).round in
-    last-round (vec_len c.args.self.now.lockers + 1) c.loop-round._round c.args.session st _ (rewaited (vec_len c.args.self.now.lockers + 1) c.loop-round._round c.args.session st d c.victim.new.waits r)
+    last-round (vec_len c.args.self.now.lockers + 1) c.loop-round.round c.args.session st _ (rewaited (vec_len c.args.self.now.lockers + 1) c.loop-round.round c.args.session st d c.victim.new.waits r)
     (none-found d k.kept.whole d.waits k.kept.ready.filled r.state r.shows r.sound r.numbered c.args.session c.requires.may_serve.session.some c.in_default.ensures.none)
 
 pub returns-in_default-clause-noted : goal.returns-in_default-clause-noted
@@ -24,7 +28,7 @@ returns-in_default-clause-noted c = λ st i j h.
     let k = c.loop-round.invariant in
     let n = k.rounds st i j (record { count = h.count; transactions = h.transactions; views = h.views }) in
     let r = n.round in
-    noted-last (vec_len c.args.self.now.lockers + 1) c.loop-round._round c.args.session c.args.place st d c.args.log.now c.loop-round.log n
+    noted-last c.loop-round.coming (vec_len c.args.self.now.lockers + 1) c.loop-round.round c.args.session c.args.place st d c.args.log.now c.loop-round.log n
     (none-found d k.kept.whole d.waits k.kept.ready.filled r.state r.shows r.sound r.numbered c.args.session c.requires.may_serve.session.some c.in_default.ensures.none)
 
 pub returns-in_default-clause-kept : goal.returns-in_default-clause-kept
@@ -62,11 +66,15 @@ loop-round-preserved c =
           let r = n.round in
           let y = c.in-Some.ensures.some in
           let f = found d k.kept.whole d.waits k.kept.ready.filled r.state r.shows r.sound r.numbered c.args.session c.in-Some.chosen c.requires.may_serve.session.some y.0 y.2 in
-          let lt : c.loop-round._round < vec_len c.args.self.now.lockers + 1 = omega (arith, c.loop-round-test.true, c.len-round-end.ensures) in
-          let again = rewaited (vec_len c.args.self.now.lockers + 1) c.loop-round._round c.args.session st d c.victim.new.waits r in
-          noted-round (vec_len c.args.self.now.lockers + 1) c.loop-round._round c.args.session c.in-Some.chosen c.args.place st d c.doom.new.self c.args.log.now c.loop-round.log c.note.new.self n
-          (next-round (vec_len c.args.self.now.lockers + 1) c.loop-round._round c.args.session c.in-Some.chosen st _ c.doom.new.self again lt f.0 f.1 c.doom.ensures.doomed)
-          refl lt f.0 f.1 (c.note.ensures.noted r.state r.sound again.shows f.1);
+          let lt : c.loop-round.round < vec_len c.args.self.now.lockers + 1 = omega (arith, c.loop-round-test.true, c.len-rounds.ensures) in
+          let again = rewaited (vec_len c.args.self.now.lockers + 1) c.loop-round.round c.args.session st d c.victim.new.waits r in
+          let sure = known-coming c.loop-round.coming c.coming-coming.result _ (vec_len c.args.self.now.lockers + 1) c.loop-round.round c.args.session c.args.place st d c.victim.new.waits c.args.log.now c.loop-round.log n k.kept.whole
+          (subst (IsCurrent d.cells.entries (standings d)) (sym c.in-Some.ensures.same) k.kept.ready.filled) c.requires.may_serve.session.some c.coming-coming.ensures.chosen (omega (arith, c.len-rounds.ensures)) in
+          subst (λ (m : ℕ). IsNotedRound m (vec_len c.args.self.now.lockers + 1) (c.loop-round.round + 1) c.args.session c.args.place st c.doom.new.self c.args.log.now c.note.new.self) (sym c.saturating_sub-coming.ensures)
+          (noted-round c.loop-round.coming c.coming-coming.result (vec_len c.args.self.now.lockers + 1) c.loop-round.round c.args.session c.in-Some.chosen c.args.place st d c.doom.new.self c.args.log.now c.loop-round.log c.note.new.self n
+          (next-round (vec_len c.args.self.now.lockers + 1) c.loop-round.round c.args.session c.in-Some.chosen st _ c.doom.new.self again lt f.0 f.1 c.doom.ensures.doomed)
+          refl lt f.0 f.1 c.coming-coming.ensures.known sure
+          (subst (λ (l : LogView). HasNotedAhead (c.coming-coming.result - 1) (moments_at c.args.place c.args.session (r.state ∷ [])) l c.note.new.self) c.coming-coming.ensures.same (c.note.ensures.noted r.state r.sound again.shows f.1)));
     }
 
 pub loop-round-init : goal.loop-round-init
@@ -85,11 +93,11 @@ loop-round-init c = record {
 pub returns-clause-settled : goal.returns-clause-settled
 returns-clause-settled c = λ st i j h.
     let k = c.loop-round.invariant in
-    let le : vec_len c.args.self.now.lockers + 1 ≤ c.loop-round._round = omega (arith, c.loop-round-test.false, c.len-round-end.ensures) in
-    shown-end (vec_len c.args.self.now.lockers + 1) c.loop-round._round c.args.session st c.loop-round.self (k.rounds st i j h).round le
+    let le : vec_len c.args.self.now.lockers + 1 ≤ c.loop-round.round = omega (arith, c.loop-round-test.false, c.len-rounds.ensures) in
+    shown-end (vec_len c.args.self.now.lockers + 1) c.loop-round.round c.args.session st c.loop-round.self (k.rounds st i j h).round le
 
 pub returns-clause-noted : goal.returns-clause-noted
 returns-clause-noted c = λ st i j h.
     let k = c.loop-round.invariant in
-    let le : vec_len c.args.self.now.lockers + 1 ≤ c.loop-round._round = omega (arith, c.loop-round-test.false, c.len-round-end.ensures) in
-    noted-end (vec_len c.args.self.now.lockers + 1) c.loop-round._round c.args.session c.args.place st c.loop-round.self c.args.log.now c.loop-round.log (k.rounds st i j h) le
+    let le : vec_len c.args.self.now.lockers + 1 ≤ c.loop-round.round = omega (arith, c.loop-round-test.false, c.len-rounds.ensures) in
+    noted-end c.loop-round.coming (vec_len c.args.self.now.lockers + 1) c.loop-round.round c.args.session c.args.place st c.loop-round.self c.args.log.now c.loop-round.log (k.rounds st i j h) le

@@ -13,5 +13,5 @@ invariant-loop-round l = record {
   count : l.self.count ≡ l.initial.self.count;
   waits_ended : HasNotedEnded 0 l.initial.self l.self;
   log : IsLogFor (vec_len l.initial.self.lockers) l.log;
-  rounds : (st : State) → IsSound st.table → IsNumbered st → Shows l.initial.self st → IsNotedRound (vec_len l.initial.self.lockers + 1) l._round l.session l.place st l.self l.initial.log l.log;
+  rounds : (st : State) → IsSound st.table → IsNumbered st → Shows l.initial.self st → IsNotedRound l.coming (vec_len l.initial.self.lockers + 1) l.round l.session l.place st l.self l.initial.log l.log;
 }
