@@ -78,7 +78,7 @@ ROWS = [
     Row("lock, that closes many cycles", square=["n"], partly=["sessions"], words=["elsewhere"], n=100),
     Row("lock, that makes 1000 victims", n=1000, usual={"sessions": 1024}, kept=[(1, 2.5), (1000, 20)]),
     Row("lock, that closes a cycle that is kept", ["kept"], grows=["n", "sessions"], words=["elsewhere"], n=100),
-    Row("lock, that closes many cycles that are kept", ["kept"], square=["n"], grows=["sessions"], words=["elsewhere"], n=100),
+    Row("lock, that closes many cycles that are kept", ["kept"], square=["n"], grows=["sessions"], partly=["kept", "elsewhere"], n=100),
     Row("release, the first", grows=["own"]),
     Row("release, the next"),
     Row("release, that frees requests", ["queue"], grows=["queue", "own"], words=["sessions"]),
@@ -117,7 +117,7 @@ ROWS = [
     Row("reserve, resources", grows=["resources"], partly=["n"], n=3000),
     Row("shrink", grows=["n"], partly=["resources", "sessions", "history", "others"], n=2000),
     Row("deadlocks", grows=["kept"], usual={"sessions": 512, "kept": 600}),
-    Row("keep_deadlocks", grows=["n"], partly=["sessions"], usual={"sessions": 512}, n=100),
+    Row("keep_deadlocks", grows=["n"], square=["sessions"], usual={"sessions": 512}, n=100),
     Row("open", grows=["sessions"], usual={"sessions": 512}),
     Row("close", grows=["elsewhere", "sessions"], partly=["resources", "others", "own", "n"], n=600),
 ]
