@@ -2,7 +2,9 @@
 use Rattle.std.proofs.Common.{arith, ap, sym, refl, subst, inl, inr, ◌≡◌, ◌∙◌, ◌≢◌, ◌<◌, ◌≤◌, ◌+◌, ◌-◌, ◌⊎◌, ℕ, zero, suc, Bool, cond, List, [], ◌∷◌, ◌++◌, length, map, get_or}
 use Rattle.std.proofs.lemmas.List.{length-append, length-map, map-append, get_or_append_left, get_or_at}
 use Rattle.std.specs.List.{All, Any}
-use Rattle.std.proofs.lemmas.Bool.{eq-eqb, ne_eqb, cases_lt, cases_eq}
+use mathlib.Core.Logic.{dite}
+use native.Mathlib.Decide.{ℕ_discrete}
+use Rattle.std.proofs.lemmas.Bool.{eq-eqb, ne_eqb, cases_lt}
 use Rattle.std.proofs.lemmas.List.Elements.{All-cons, All-head, All-tail, All-nil, All-push, All-weaker}
 use Rattle.lock_rules.specs.declared.calls.Call.{Call}
 use Rattle.lock_rules.specs.Entries.{Entry}
@@ -109,23 +111,24 @@ calls-of-session office rows all h i legal performed accounts (k, s, below, is, 
     ∙ performs.calls ∙ ap (λ n. calls_of_rows n rows) number
 
 -- the calls of a history as rows, which are as many
-rows-of : List Entry → List TraceRow
+abbrev rows-of : List Entry → List TraceRow
 rows-of es = map (λ (e : Entry). record { session = e.session; call = e.call }) es
 
 calls-of-rows : (i place : ℕ) (es : List Entry) → calls_answered (calls_from i place es) ≡ calls_of_rows i (rows-of es)
 calls-of-rows i place [] = refl
-calls-of-rows i place (e ∷ es) = go (cases_eq e.session i)
+calls-of-rows i place (e ∷ es) = go (dite (ℕ_discrete e.session i) inl inr) (calls-of-rows i (place + 1) es)
   where
-    row : TraceRow
+    abbrev row : TraceRow
     row = record { session = e.session; call = e.call }
 
-    go : (e.session ≡ i) ⊎ (e.session ≢ i) → calls_answered (calls_from i place (e ∷ es)) ≡ calls_of_rows i (rows-of (e ∷ es))
-    go (inl own) =
+    go : (e.session ≡ i) ⊎ (e.session ≢ i) → calls_answered (calls_from i (place + 1) es) ≡ calls_of_rows i (rows-of es)
+        → calls_answered (calls_from i place (e ∷ es)) ≡ calls_of_rows i (rows-of (e ∷ es))
+    go (inl own) rest =
         ap (λ (b : Bool). calls_answered (cond b (record { place = place; call = e.call; reply = e.reply } ∷ calls_from i (place + 1) es) (calls_from i (place + 1) es))) (eq-eqb e.session i own)
-        ∙ ap (λ (cs : List Call). e.call ∷ cs) (calls-of-rows i (place + 1) es) ∙ sym (calls-own i row (rows-of es) own)
-    go (inr other) =
+        ∙ ap (λ (cs : List Call). e.call ∷ cs) rest ∙ sym (calls-own i row (rows-of es) own)
+    go (inr other) rest =
         ap (λ (b : Bool). calls_answered (cond b (record { place = place; call = e.call; reply = e.reply } ∷ calls_from i (place + 1) es) (calls_from i (place + 1) es))) (ne_eqb e.session i other)
-        ∙ calls-of-rows i (place + 1) es ∙ sym (calls-other i row (rows-of es) other)
+        ∙ rest ∙ sym (calls-other i row (rows-of es) other)
 
 rows-within : (n : ℕ) (es : List Entry) → All (IsEntryWithin n) es → All (IsNumbered n) (rows-of es)
 rows-within n [] within = All-nil (IsNumbered n)

@@ -123,7 +123,7 @@ single-idle u none p floor is = absurd (let e = sym none ∙ is in cc)
 single-same : (t u : TicketView) → u.pending ≡ t.pending → IsPendingSingle t → IsPendingSingle u
 single-same t u same single p floor is = single p floor (sym same ∙ is)
 
-asked-or : Program → Option Pending → Program
+abbrev asked-or : Program → Option Pending → Program
 asked-or p None = p
 asked-or p (Some q) = q.call
 
