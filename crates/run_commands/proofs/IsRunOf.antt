@@ -118,17 +118,14 @@ calls-of-rows : (i place : ℕ) (es : List Entry) → calls_answered (calls_from
 calls-of-rows i place [] = refl
 calls-of-rows i place (e ∷ es) = go (dite (ℕ_discrete e.session i) inl inr) (calls-of-rows i (place + 1) es)
   where
-    abbrev row : TraceRow
-    row = record { session = e.session; call = e.call }
-
     go : (e.session ≡ i) ⊎ (e.session ≢ i) → calls_answered (calls_from i (place + 1) es) ≡ calls_of_rows i (rows-of es)
         → calls_answered (calls_from i place (e ∷ es)) ≡ calls_of_rows i (rows-of (e ∷ es))
     go (inl own) rest =
         ap (λ (b : Bool). calls_answered (cond b (record { place = place; call = e.call; reply = e.reply } ∷ calls_from i (place + 1) es) (calls_from i (place + 1) es))) (eq-eqb e.session i own)
-        ∙ ap (λ (cs : List Call). e.call ∷ cs) rest ∙ sym (calls-own i row (rows-of es) own)
+        ∙ ap (λ (cs : List Call). e.call ∷ cs) rest ∙ sym (calls-own i (record { session = e.session; call = e.call }) (rows-of es) own)
     go (inr other) rest =
         ap (λ (b : Bool). calls_answered (cond b (record { place = place; call = e.call; reply = e.reply } ∷ calls_from i (place + 1) es) (calls_from i (place + 1) es))) (ne_eqb e.session i other)
-        ∙ rest ∙ sym (calls-other i row (rows-of es) other)
+        ∙ rest ∙ sym (calls-other i (record { session = e.session; call = e.call }) (rows-of es) other)
 
 rows-within : (n : ℕ) (es : List Entry) → All (IsEntryWithin n) es → All (IsNumbered n) (rows-of es)
 rows-within n [] within = All-nil (IsNumbered n)

@@ -174,7 +174,7 @@ run_written k office workers taker rows done after next old mid new opened withi
     let all = done ++ after ∷ [] in
     let (programs, (closed, same_history)) = rest.1.0 in
     let h = flat_history programs.history in
-    let behind = subst (λ (l : List Entry). (next ≤ length l) × Appends mid new (text_of_piece next (drop next l))) same_history rest.1.1 in
+    let behind = subst (λ (l : List Entry). (next ≤ length l) × Appends mid new (text_of_piece next (drop next l))) same_history (rest.1.1, rest.1.2) in
     let run : IsRunOf rows h =
     run_of_streamed office rows k workers done all taker after programs opened.sessions opened.workers_are opened.taker_is numbers same refl performed within closed in
     record {

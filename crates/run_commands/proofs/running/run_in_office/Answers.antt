@@ -1,3 +1,5 @@
+use Rattle.std.proofs.Common.{subst, sym}
+use Rattle.run_commands.specs.Runs.{IsRunOf}
 use Rattle.run_commands.proofs.IsRunOf.{all_ours, closes, run_of_closed, sessions_new}
 use Rattle.run_commands.proofs.running.run_in_office.Goals as goal
 
@@ -16,6 +18,7 @@ unreachable-requires g c =
 
 pub returns : goal.returns
 returns g c =
-    run_of_closed c.in-Ok.office c.args.sessions c.args.rows.now c.in-Ok.all.items c.in_ok-all.all.items c.in-Ok-close.book
+    subst (IsRunOf c.args.rows.now) (sym c.into_object.ensures.history)
+    (run_of_closed c.in-Ok.office c.args.sessions c.args.rows.now c.in-Ok.all.items c.in_ok-all.all.items c.in-Ok-close.programs
     c.in-Ok.ensures.office c.in-Ok.ensures.sessions c.in_ok-all.ensures.numbers c.in_ok-all.ensures.performed c.requires.within
-    c.in-Ok-close.ensures.ok
+    c.in-Ok-close.ensures.ok)

@@ -5,15 +5,10 @@ use Rattle.run_commands.proofs.workers.OfficeService.turn.Goals as goal
 pub returns-clause-ours : goal.returns-clause-ours
 returns-clause-ours c =
     let e = c.turn.ensures in
-    let single = c.requires.2 in (
-      e.ours,
-      (
-        e.live,
-        by-next c.turn.result (λ a is. single-idle _ (e.idle a is).0)
-            (λ is. single-starved _ _ _ single (e.starved is) (λ pending. (e.starved_on is pending).0))
-            (λ w is. single-waits _ _ _ _ _ _ single (e.tried w is) (e.published w is) (e.waits w is)),
-      ),
-    )
+    let single = c.requires.2 in
+    let after = by-next c.turn.result (λ a is. single-idle _ (e.idle a is).0) (λ is. single-starved _ _ _ single (e.starved is) (λ pending. (e.starved_on is pending).0))
+    (λ w is. single-waits _ _ _ _ _ _ single (e.tried w is) (e.published w is) (e.waits w is)) in
+    (e.ours, e.live, after)
 
 pub returns-clause-answered : goal.returns-clause-answered
 returns-clause-answered c answer is =
