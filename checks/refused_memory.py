@@ -3,10 +3,11 @@
 objects and of what is below the lock table. (checks/scripts_of_calls does the same with scripts of calls of the lock table,
 checks/embedding with cases of offices and with each call of the library for C that may lack memory.)
 
-Usage: checks/refused_memory.py [--over-gate]
+Usage: checks/refused_memory.py [--over-gate [--all]]
 
 In each round one allocation is refused: the first one in the first round, the second one in the second round, and so on. The last
-round is the first one in which nothing was refused.
+round is the first one in which nothing was refused. With --over-gate and without --all, a command's rounds behind the first 200 refuse
+every tenth allocation.
 
 A replay, a check, a state, a dump and an explanation have to end with status 4, their line on standard error and nothing on
 standard output, in every round but a few, in which they end as with ample memory: room for all words of the command line is only
@@ -36,12 +37,14 @@ import subprocess
 import sys
 import tempfile
 from concurrent.futures import ThreadPoolExecutor
-from itertools import count
+from itertools import chain, count, islice
 from pathlib import Path
 
 TOP = Path(__file__).resolve().parent.parent
 PROGRAM = TOP / "crates/glm_main/out/glm_main"
 PROCESSORS = os.cpu_count() or 1
+# how many allocations are refused one by one, and of how many of the others one, if not all are
+FIRST, ONE_IN = 200, 10
 REFUSED = (4, b"", b"glm: out of memory\n")
 UNSTARTED = (5, b"", b"glm: device\n")
 # how many rows a piece of a history has that `replay --stream` writes
@@ -155,11 +158,11 @@ class Trial:
         told.unlink(missing_ok=True)
         return was_refused, ended
 
-    def rounds(self, library, folder, pool):
-        """Yields the number of each round in which memory was refused, and how the command ended."""
-        quiet = 0
-        for first in count(1, 4 * PROCESSORS):
-            numbers = range(first, first + 4 * PROCESSORS)
+    def rounds(self, library, folder, pool, is_all):
+        """Yields the number of each allocation that was refused, and how the command ended."""
+        quiet, left = 0, count(1) if is_all else chain(range(1, FIRST), count(FIRST, ONE_IN))
+        while True:
+            numbers = [*islice(left, 4 * PROCESSORS)]
             for number, (was_refused, ended) in zip(numbers, pool.map(lambda it: self.round(it, library, folder), numbers)):
                 quiet = 0 if was_refused else quiet + 1
                 if quiet == self.quiet:
@@ -354,6 +357,7 @@ def build(folder, is_over_gate):
 def main():
     parser = argparse.ArgumentParser(description=__doc__, formatter_class=argparse.RawDescriptionHelpFormatter)
     parser.add_argument("--over-gate", action="store_true", help="takes what a full run of the gate has left")
+    parser.add_argument("--all", action="store_true", help="refuses each allocation also over the gate")
     words = parser.parse_args()
     passed, failed = 0, []
     with tempfile.TemporaryDirectory() as name, ThreadPoolExecutor(PROCESSORS) as pool:
@@ -361,7 +365,9 @@ def main():
         library = build(folder, words.over_gate)
         for trial in (*trials_of_the_program(folder), *trials_of_tests()):
             before, told = passed, set()
-            for number, ended in trial.rounds(library, folder, pool):
+            # what some round has to print may be told of a single allocation
+            is_all = words.all or not words.over_gate or trial.name in TOLD or PROGRAM not in trial.words
+            for number, ended in trial.rounds(library, folder, pool, is_all):
                 if trial.is_right(ended):
                     passed += 1
                     told.add(ended[1].decode().replace("test result: ok", "").strip())
