@@ -1,13 +1,17 @@
 use Rattle.combining.proofs.Turns.{by-next}
+use Rattle.lock_office.specs.ProgramTurns.{IsPendingSingle}
 use Rattle.run_commands.proofs.Turns.{single-idle, single-starved, single-waits, turn-answered, turn-starved, turn-waits}
 use Rattle.run_commands.proofs.workers.OfficeService.turn.Goals as goal
 
 pub returns-clause-ours : goal.returns-clause-ours
 returns-clause-ours c =
+    let t = c.args.session.now in
+    let u = c.turn.new.self in
     let e = c.turn.ensures in
     let single = c.requires.2 in
-    let after = by-next c.turn.result (λ a is. single-idle _ (e.idle a is).0) (λ is. single-starved _ _ _ single (e.starved is) (λ pending. (e.starved_on is pending).0))
-    (λ w is. single-waits _ _ _ _ _ _ single (e.tried w is) (e.published w is) (e.waits w is)) in
+    let after : IsPendingSingle u = by-next c.turn.result (λ a is. single-idle u (e.idle a is).0)
+    (λ is. single-starved t u c.args.call.now single (e.starved is) (λ pending. (e.starved_on is pending).0))
+    (λ w is. single-waits t u c.args.call.now _ _ _ single (e.tried w is) (e.published w is) (e.waits w is)) in
     (e.ours, e.live, after)
 
 pub returns-clause-answered : goal.returns-clause-answered
