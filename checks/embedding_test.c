@@ -2387,6 +2387,7 @@ static void *tell_and_hear(void *argument) {
         t->bad += pelgaisti_session_publish(own, &call, NULL) != PELGAISTI_OK;
         while (!tell_and_collect(t, own, &answer)) sched_yield();
         t->bad += answer.place < known;
+        sched_yield(); /* so that the threads' calls mix, also where one is done before the next begins */
     }
     return NULL;
 }
