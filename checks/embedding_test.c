@@ -105,6 +105,54 @@ static void null_is_refused(void) {
     }
 }
 
+/* Each call with an open handle that isn't where it was opened returns COPIED, and writes nothing: its pointer leads nowhere. */
+static void astray_handles_are_told(void) {
+    static const pelgaisti_session astray = {1, 0x55555555, (void *)1}, closed = PELGAISTI_EMPTY;
+    unsigned char before[9][64];
+    memset(pointed_to, 0x55, sizeof pointed_to);
+    for (size_t place = 0; place < 2; place++)
+        for (size_t k = 0; k < COUNT(all_calls); k++) {
+            const char *name = all_calls[k].name;
+            if (place == 1 && strcmp(name, "session_hear") && strcmp(name, "session_hand_in") && strcmp(name, "office_close")) continue;
+            memcpy(pointed_to[0], place == 0 ? &astray : &closed, sizeof astray);
+            memcpy(pointed_to[1], place == 1 ? &astray : &closed, sizeof astray);
+            memcpy(before, pointed_to, sizeof before);
+            if (status_with(k, 9, 1) != PELGAISTI_COPIED) printf("%s: ", name);
+            CHECK(status_with(k, 9, 1) == PELGAISTI_COPIED && !memcmp(before, pointed_to, sizeof before));
+        }
+}
+
+/* A copy of a handle, and one that was moved, are told, before and after the handle itself is closed; moved back it is used again. */
+static void copies_are_told(void) {
+    const pelgaisti_call begin = call_of(PELGAISTI_BEGIN, 0, 0, 0, 0);
+    pelgaisti_session two[2] = {PELGAISTI_EMPTY, PELGAISTI_EMPTY}, copy, moved[3] = {PELGAISTI_EMPTY, PELGAISTI_EMPTY, PELGAISTI_EMPTY};
+    pelgaisti_book book = PELGAISTI_EMPTY, other, closed = PELGAISTI_EMPTY;
+    pelgaisti_reply reply = {77, 88};
+    pelgaisti_answer answer = {99, {77, 88}};
+    CHECK(pelgaisti_office_open(two, 2) == PELGAISTI_OK);
+    copy = two[1];
+    CHECK(pelgaisti_session_perform(&copy, &begin, 9, &answer) == PELGAISTI_COPIED && answer.place == 99);
+    CHECK(pelgaisti_session_hand_in(&copy, &two[0]) == PELGAISTI_COPIED && pelgaisti_session_hear(&two[0], &copy) == PELGAISTI_COPIED);
+    CHECK(pelgaisti_office_open(&copy, 1) == PELGAISTI_COPIED);
+    /* an array of handles that was moved by one, as one that grows is */
+    memcpy(&moved[1], two, sizeof two);
+    two[0] = two[1] = pelgaisti_empty_session();
+    CHECK(pelgaisti_session_perform(&moved[1], &begin, 9, &answer) == PELGAISTI_COPIED && answer.place == 99);
+    CHECK(pelgaisti_session_hand_in(&moved[2], &moved[1]) == PELGAISTI_COPIED && pelgaisti_office_close(&moved[1], &book) == PELGAISTI_COPIED);
+    CHECK(pelgaisti_office_open(moved, 3) == PELGAISTI_COPIED);
+    memcpy(two, &moved[1], sizeof two);
+    CHECK(pelgaisti_session_perform(&two[1], &begin, 9, &answer) == PELGAISTI_OK && answer.reply.kind == PELGAISTI_BEGAN);
+    CHECK(pelgaisti_session_hand_in(&two[1], &two[0]) == PELGAISTI_OK);
+    CHECK(pelgaisti_session_retire(&copy) == PELGAISTI_COPIED && pelgaisti_session_hand_in(&copy, &two[0]) == PELGAISTI_COPIED);
+    copy = two[0];
+    CHECK(pelgaisti_office_close(&two[0], &book) == PELGAISTI_OK && pelgaisti_office_close(&copy, &closed) == PELGAISTI_COPIED);
+    other = book;
+    CHECK(pelgaisti_book_serve(&other, 1, &begin, &reply) == PELGAISTI_COPIED && reply.kind == 77);
+    CHECK(pelgaisti_office_close(&two[0], &other) == PELGAISTI_COPIED);
+    CHECK(pelgaisti_book_serve(&book, 1, &begin, &reply) == PELGAISTI_OK && reply.kind == PELGAISTI_BEGAN);
+    CHECK(pelgaisti_book_close(&book) == PELGAISTI_OK && pelgaisti_book_close(&other) == PELGAISTI_COPIED);
+}
+
 /* Every bad argument of a book's calls gives its status, and then nothing is written. */
 static void books_refuse(void) {
     pelgaisti_book book = PELGAISTI_EMPTY;
@@ -2387,6 +2435,7 @@ static void *tell_and_hear(void *argument) {
         t->bad += pelgaisti_session_publish(own, &call, NULL) != PELGAISTI_OK;
         while (!tell_and_collect(t, own, &answer)) sched_yield();
         t->bad += answer.place < known;
+        sched_yield(); /* so that the threads' calls mix, also where one is done before the next begins */
     }
     return NULL;
 }
@@ -3116,6 +3165,8 @@ int main(int argc, char **argv) {
     }
     if (argc > 1) transactions = (uint32_t)strtoul(argv[1], NULL, 10);
     null_is_refused();
+    astray_handles_are_told();
+    copies_are_told();
     books_refuse();
     books_serve();
     history_is_let_go();

@@ -103,11 +103,11 @@ def new_resources():
 
 # Each case: the fast way, its calls, how many they count as (None: as many as they are), the most instructions of one of them.
 CASES = [
-    ("a single holder is kept in its cell, without a list", first_locks, None, 915),
+    ("a single holder is kept in its cell, without a list", first_locks, None, 975),
     ("the parent's cell is found at the noted place, without a hash", parents, None, 105),
     ("the cell of a lock that ends is found at the noted place, without a hash", ends, 4000, 205),
-    ("modes of many holders are tested 16 at a time", readers_beside_readers, None, 575),
-    ("a wait for many holders is written by their mask", writers_beside_readers, None, 1600),
+    ("modes of many holders are tested 16 at a time", readers_beside_readers, None, 635),
+    ("a wait for many holders is written by their mask", writers_beside_readers, None, 1660),
     ("a second holder joins the first without memory", new_resources, None, 86),
 ]
 # Each of the dearest calls: what it is, its rows, the sessions, the most instructions of one.
@@ -124,20 +124,20 @@ DEAREST = [
 THROUGH_C = [
     ("compatible locks of a batch are granted together", "batches", "batch_of_locks", 200, 32, 730),
     ("locks are granted by a pass of an office", "locks", "pass_of_locks", 200, 32, 1410),
-    ("a call is performed at once", "performs", "perform_transaction", 2000, 3, 1120),
-    ("a call is performed at once in an office with a waker", "wakes", "perform_transaction", 2000, 3, 1160),
+    ("a call is performed at once", "performs", "perform_transaction", 2000, 3, 1135),
+    ("a call is performed at once in an office with a waker", "wakes", "perform_transaction", 2000, 3, 1175),
 ]
 
 # Dear calls through the library for C: what it is, what checks/dear_calls.c does, how many calls or items it counts as, the most
 # instructions of one.
 DEAR_THROUGH_C = [
-    ("a lock of 4,096, as the table grows", "growth", 4096, 915),
-    ("a lock of 4,096, behind a reserve", "reserved", 4096, 700),
+    ("a lock of 4,096, as the table grows", "growth", 4096, 935),
+    ("a lock of 4,096, behind a reserve", "reserved", 4096, 720),
     ("a page of 8 of 8,192 locks", "page", 1, 2_300_000),
     ("a pass that serves 63 commits of 4,096 locks, for each lock", "commits", 63 * 4096, 280),
     ("a commit before 1,023 readers", "readers", 1, 375_000),
     ("a withdrawal from the front of a queue of 1,023", "withdraw", 1, 32_000),
-    ("a poll of 4,096, of which 1,024 are kept", "history", 4096, 340),
+    ("a poll of 4,096, of which 1,024 are kept", "history", 4096, 360),
     ("a shrink of 8,192 idle cells, for each", "idle", 8192, 22),
 ]
 

@@ -30,7 +30,9 @@
  * RULES FOR THE CALLER. The library is proved, but no proof covers the C code that calls it. Some calls have further rules, in
  * their comments after "Requires".
  * - A handle (pelgaisti_book, pelgaisti_session) is a struct in the caller's memory. Set it to PELGAISTI_EMPTY, or all its bytes
- *   to zero, before its first use. From then on never copy, move, read or write it, and keep its memory until it is closed.
+ *   to zero, before its first use. From then on never copy, move, read or write it, and keep its memory until it is closed. A call
+ *   with an open handle that isn't where it was opened, since it is a copy or was moved, returns PELGAISTI_COPIED and does nothing
+ *   [tested; unless the two places are a multiple of 32 GiB apart]. A handle that is moved back can be used again.
  * - Every pointer is aligned and points to memory of its type. No two arguments of a call overlap. A call returns PELGAISTI_NULL
  *   for a NULL pointer, unless its comment allows it, or it is an array's whose `room` is 0. pelgaisti_path_call and
  *   pelgaisti_deadlock_text test none.
@@ -61,19 +63,20 @@
  * left out. If it is built with -fsanitize=memory, the archive tells MemorySanitizer what a call has written with OK or NO_MEMORY;
  * what pelgaisti_path_call returns it can't tell.
  *
- * STATUSES. Every call on a handle returns a pelgaisti_status. A call tests its arguments first, in the order in which
- * its comment lists the statuses; the first test that fails gives the status. A status other than PELGAISTI_OK means that nothing
- * has changed and nothing was written: no handle, no history, no memory that an argument points to. There are four exceptions: a
- * serve that returns ELSEWHERE may put the session's record on the publication list; COPIED closes the session's handle; where
- * memory was refused for a call that was to be performed at once, a pass was made that may have served other calls, and the waker was
+ * STATUSES. Every call on a handle returns a pelgaisti_status. A call tests first whether each open handle is where it was opened, and
+ * returns COPIED if not: comments don't list that. Then it tests its arguments, in the order in which its comment lists the statuses;
+ * the first test that fails gives the status. A status other than PELGAISTI_OK means that nothing has changed and nothing was
+ * written: no handle, no history, no memory that an argument points to. There are four exceptions: a serve that returns
+ * ELSEWHERE may put the session's record on the publication list; COPIED of a close may close the session; where memory was refused
+ * for a call that was to be performed at once, a pass was made that may have served other calls, and the waker was
  * called for whom it has told of; and where memory was refused for the answer to a question of a session, or for the room that it
  * reserves, the session may know more of the history. The calls that make several turns say for themselves what they leave
  * (pelgaisti_session_perform, .._run, .._lock_path).
  *
  * WHAT IS PROVED. Each call leads to an export of crates/pelgaisti_c, which states and proves its contract: what PELGAISTI_OK means,
  * which other statuses the call can return, and what each of these implies. What stands between is in bindings/c, some 600 lines of C,
- * and is tested: that calls are made and turns follow as their comments say, that SAME is refused, that threads pause and are woken,
- * names. So are three sentences:
+ * and is tested: that calls are made and turns follow as their comments say, that SAME and COPIED are returned, that threads pause
+ * and are woken, names. So are three sentences:
  * - NOT_SERVED. Proved: the session has a pending call, and that call is not in the part of the history that the session knows
  *   (pelgaisti_session_seen counts its entries). So a collect directly after a serve of the same session that returned OK with
  *   `starved` 0 never returns NOT_SERVED. Tested: a collect finds the answer that another session's pass has written.
@@ -121,8 +124,8 @@ typedef enum pelgaisti_status {
                                       table is tested] */
     PELGAISTI_OTHER_OFFICE = 14,   /* the two sessions belong to different offices [other_office: their marks differ] */
     PELGAISTI_MISSING = 15,        /* a session of the office was not handed in [missing] */
-    PELGAISTI_COPIED = 16,         /* a handle was copied or moved, against the rules above; see pelgaisti_office_close [whole, done: all
-                                      tests before it passed, and the session is closed; when it comes isn't tested] */
+    PELGAISTI_COPIED = 16,         /* an open handle isn't where it was opened: it is a copy, or was moved, against the rules above
+                                      [tested]; see pelgaisti_office_close, too */
     PELGAISTI_NULL = 17,           /* a pointer is NULL and must not be [null, exactly then; of a waker tested] */
     PELGAISTI_SAME = 18,           /* both arguments are the same handle [tested] */
     PELGAISTI_LET_GO = 19,         /* the entry at this place of the history was let go [let_go, exactly then] */
@@ -375,13 +378,13 @@ typedef struct pelgaisti_pass_counts {
 
 /* The handle of a lock table and its history. */
 typedef struct pelgaisti_book {
-    uint32_t is_open_;
+    uint32_t is_open_, note_;
     void *at_;
 } pelgaisti_book;
 
 /* The handle of one session of an office. */
 typedef struct pelgaisti_session {
-    uint32_t is_open_;
+    uint32_t is_open_, note_;
     void *at_;
 } pelgaisti_session;
 
@@ -413,7 +416,7 @@ typedef struct pelgaisti_waker {
 } pelgaisti_waker;
 
 /* The initial value of a handle, and the same as values, for an assignment: book = pelgaisti_empty_book(). */
-#define PELGAISTI_EMPTY {0, NULL}
+#define PELGAISTI_EMPTY {0, 0, NULL}
 
 pelgaisti_book pelgaisti_empty_book(void);
 pelgaisti_session pelgaisti_empty_session(void);
@@ -969,8 +972,9 @@ pelgaisti_status pelgaisti_session_hand_in(pelgaisti_session *session, pelgaisti
    opens `book` with the lock table and the history, of which it keeps all entries or those that the office's bound has left. Open
    transactions and waiting requests may be left: the book has them with their locks, and pelgaisti_book_close frees them with it. No
    waker is called.
-   COPIED means that a handle was copied or moved; most such handles are told by no status. It is the only status other than OK that
-   closes `session`.
+   COPIED, if both handles are where they were opened, means that another handle of the office is open still, which only a breach of
+   the rules leaves so. Then it closes `session`, as no other status but OK does [whole, done: all tests before it passed, and the
+   session is closed; when it comes isn't tested].
    NULL, OPEN (the book), CLOSED (the session), MISSING, PENDING, NO_MEMORY, COPIED. */
 pelgaisti_status pelgaisti_office_close(pelgaisti_session *session, pelgaisti_book *book);
 

@@ -4,6 +4,24 @@
 #include "seed.h"
 #include "wait.h"
 
+/* ---- Where handles lie: an open one has a note of its own address, by which a copy of it, or one that moved, is told. ---- */
+
+/* Addresses with the same note are a multiple of 32 GiB apart. */
+static inline uint32_t note_of(const void *handle) { return (uint32_t)((uintptr_t)handle >> 3); }
+
+/* Whether a handle, of a book or of a session, is open and isn't where it was opened. */
+static inline int is_astray(const void *handle) {
+    const uint32_t *words = (const uint32_t *)handle;
+    return __builtin_expect(words && words[1] != note_of(handle) && words[0] == 1, 0);
+}
+
+/* Writes the note of an open handle, behind each call of the archive, which knows of none and may leave anything there. */
+static inline pelgaisti_status noting(void *handle, pelgaisti_status status) {
+    uint32_t *words = (uint32_t *)handle;
+    if (words && words[0] == 1) words[1] = note_of(handle);
+    return status;
+}
+
 /* ---- ThreadSanitizer, which can't see the steps of the archive. A program that is built with it has these functions. ---- */
 
 __attribute__((weak)) void __tsan_acquire(void *at);
@@ -46,10 +64,17 @@ static COLD pelgaisti_status end_use(void *handle, int order, uint32_t status) {
     return (pelgaisti_status)status;
 }
 
-/* The status of a call of the archive that uses the handle. */
+/* The status of a call of the archive that uses the handle, or COPIED. */
 #define ORDERING_CALL(handle, order, call) \
-    (IS_WATCHED ? (begin_use(handle, order), end_use(handle, order, call)) : (pelgaisti_status)(call))
+    (is_astray(handle) ? PELGAISTI_COPIED \
+     : noting(handle, IS_WATCHED ? (begin_use(handle, order), end_use(handle, order, call)) : (pelgaisti_status)(call)))
 #define CALL(handle, call) ORDERING_CALL(handle, ORDERS_NOTHING, call)
+
+/* Notes the use of a further handle of a call. Whether it is astray. */
+static inline int use_too(void *handle) {
+    if (IS_WATCHED) note_use(handle);
+    return is_astray(handle);
+}
 
 /* ---- MemorySanitizer, which can't see what the archive writes. A program that is built with it has this function. ---- */
 
@@ -241,10 +266,13 @@ pelgaisti_status pelgaisti_book_run(pelgaisti_book *book, uint32_t session, cons
 static pelgaisti_status open_office(pelgaisti_session *sessions, size_t count, uint64_t bound, const pelgaisti_waker *waker,
                                     uint64_t seed, size_t deadlocks) {
     const uint64_t at = (uint64_t)(uintptr_t)waker;
+    pelgaisti_status status;
     size_t k;
-    if (IS_WATCHED && sessions)
-        for (k = 1; k < count && k < PELGAISTI_MAX_SESSIONS; k++) note_use(&sessions[k]);
-    return CALL(sessions, pelgaisti_raw_office_open(LIST(sessions, count), draw_mark(), bound, at, seed, deadlocks));
+    for (k = 1; sessions && k < count && count <= PELGAISTI_MAX_SESSIONS; k++)
+        if (use_too(&sessions[k])) return PELGAISTI_COPIED;
+    status = CALL(sessions, pelgaisti_raw_office_open(LIST(sessions, count), draw_mark(), bound, at, seed, deadlocks));
+    for (k = 1; k < count && status == PELGAISTI_OK; k++) noting(&sessions[k], status);
+    return status;
 }
 
 pelgaisti_status pelgaisti_office_open(pelgaisti_session *sessions, size_t count) {
@@ -602,24 +630,19 @@ pelgaisti_status pelgaisti_session_retire(pelgaisti_session *session) {
 
 /* ---- Calls that use two handles. ---- */
 
-/* Notes the use of the second handle of a call. */
-static inline void use_too(void *handle) {
-    if (IS_WATCHED) note_use(handle);
-}
-
 pelgaisti_status pelgaisti_session_hear(pelgaisti_session *session, pelgaisti_session *other) {
+    if (use_too(other)) return PELGAISTI_COPIED;
     if (session && session == other) return PELGAISTI_SAME;
-    use_too(other);
-    return CALL(session, pelgaisti_raw_session_hear(&session, &other));
+    return noting(other, CALL(session, pelgaisti_raw_session_hear(&session, &other)));
 }
 
 pelgaisti_status pelgaisti_session_hand_in(pelgaisti_session *session, pelgaisti_session *to) {
+    if (use_too(to)) return PELGAISTI_COPIED;
     if (session && session == to) return PELGAISTI_SAME;
-    use_too(to);
-    return CALL(session, pelgaisti_raw_session_hand_in(&session, &to));
+    return noting(to, CALL(session, pelgaisti_raw_session_hand_in(&session, &to)));
 }
 
 pelgaisti_status pelgaisti_office_close(pelgaisti_session *session, pelgaisti_book *book) {
-    use_too(book);
-    return CALL(session, pelgaisti_raw_office_close(&session, &book));
+    if (use_too(book)) return PELGAISTI_COPIED;
+    return noting(book, CALL(session, pelgaisti_raw_office_close(&session, &book)));
 }
