@@ -10,15 +10,15 @@ ghost use Rattle.pelgaisti_c.specs.Sessions.{IsSameShare, IsHandedIn};
 use crate::session_share::SessionShare;
 use crate::status::{COPIED, MISSING, NO_MEMORY, OTHER_OFFICE, PENDING};
 use lock_desk::Book;
+use lock_office::{CloseFault, Session, Ticket};
 use lock_rules::MAX_SESSIONS;
-use lock_office::{CallSession, CloseFault, Session};
 use publication::Roll;
 use std::alloc::Global;
 use std::sync::Arc;
 
 /// Whether `handed` and `last` together are all sessions of an office with `sessions` sessions. It looks at each of them and at
 /// each number once, and takes no memory.
-fn is_each_once(handed: &[Session], last: &CallSession, sessions: u16) -> bool
+fn is_each_once(handed: &[Ticket], last: &Session, sessions: u16) -> bool
     requires few { sessions ≤ MAX_SESSIONS }
     ensures { IsTrue result ↔ IsEachOnce sessions (handed.now ++ last.now ∷ []) }
 {
@@ -34,7 +34,7 @@ fn is_each_once(handed: &[Session], last: &CallSession, sessions: u16) -> bool
 }
 
 /// Whether the session has no pending call.
-fn is_settled(session: &CallSession) -> bool
+fn is_settled(session: &Session) -> bool
     requires live { session.now.pending ≢ None → session.now.retired ≡ false }
     ensures yes { result ≡ true → HasNothingPending session.now }
     ensures no { result ≡ false → session.now.pending ≢ None }

@@ -13,8 +13,8 @@ use crate::pointers::HandleList;
 use crate::session_handle::SessionHandle;
 use crate::session_share::SessionShare;
 use crate::status::{NO_MEMORY, NO_SUCH_COUNT, NULL_POINTER, OK, OPEN};
+use lock_office::{Counted, Ended, Office, Session, Ticket, open_telling};
 use lock_rules::MAX_SESSIONS;
-use lock_office::{CallSession, Counted, Ended, Office, Session, open_telling};
 use std::alloc::{AllocError, Global};
 use std::sync::Arc;
 
@@ -33,12 +33,12 @@ fn has_open(handles: &mut [SessionHandle]) -> bool
 }
 
 /// Makes single calls by a session of an office that was just opened, which knows no calls of the history.
-fn call_session_of(session: Session) -> CallSession
+fn call_session_of(session: Ticket) -> Session
     requires none { session.pending ≡ None }
     requires unknowing { session.front ≡ [] }
     ensures { result ≡ session }
 {
-    CallSession::new(session, 0)
+    Session::new(session, 0)
 }
 
 /// Makes the share of one session. `count` is the number of sessions of the office. With a waker it has room for all sessions that
@@ -46,7 +46,7 @@ fn call_session_of(session: Session) -> CallSession
 fn share_of(
     alloc: Global,
     shared: &Arc<Office>,
-    session: Session,
+    session: Ticket,
     count: u16,
     mark: u64,
     waker: u64,
@@ -78,7 +78,7 @@ fn share_of(
 fn shares_of(
     alloc: Global,
     office: Office,
-    sessions: Vec<Session>,
+    sessions: Vec<Ticket>,
     count: u16,
     mark: u64,
     waker: u64,

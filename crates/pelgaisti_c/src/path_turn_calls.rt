@@ -20,13 +20,13 @@ use crate::status::{NO_MEMORY, NO_SUCH_MODE, NOT_SERVED, OK, PENDING, RETIRED};
 use crate::turn_calls::{NO_TURN, forget_told, publish_last, wait_number};
 use combining::{Answer, Nobody, TRIES_AT_ONCE};
 use lock_desk::{Mode, Resource, grants, lock_of_level};
-use lock_rules::Reply;
 use lock_office::{Counted, NextOfPath};
+use lock_rules::Reply;
 
 /// A level was locked, and the next turn is to be made at once.
 pub const AT_ONCE: u32 = 1;
 
-/// Makes one turn of a path, as `CallSession::path_turn` does. In an office with a waker it lists whom to wake in the share.
+/// Makes one turn of a path, as `Session::path_turn` does. In an office with a waker it lists whom to wake in the share.
 #[inline(always)]
 fn make_path_turn(
     share: &mut SessionShare,

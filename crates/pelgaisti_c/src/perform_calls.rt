@@ -20,13 +20,13 @@ use crate::status::{
     ELSEWHERE, NO_MEMORY, NO_ROOM, NO_SUCH_MODE, NO_SUCH_OP, OK, PENDING, RETIRED,
 };
 use combining::Performed;
+use lock_office::Session;
 use lock_rules::{Call, Reply};
-use lock_office::CallSession;
 use std::alloc::Global;
 
 /// The call that the numbers encode, if the session may make it. Else the status of the first test that fails.
 #[inline(always)]
-fn call_of(session: &CallSession, asked: &CallNumbers) -> Result<Call, u32>
+fn call_of(session: &Session, asked: &CallNumbers) -> Result<Call, u32>
     ensures ok { IfOk result (λ call. IsCall asked.now call × IsIdle session.now) }
     ensures call { IfErr result (λ fault. NO_SUCH_OP ≤ fault → fault ≤ NO_SUCH_MODE → IsCallFault asked.now fault) }
     ensures retired { IfErr result (λ fault. fault ≡ RETIRED → (session.now.retired ≡ true) × ((call : CallValue) × IsCall asked.now call)) }

@@ -25,8 +25,8 @@ use crate::status::{
 };
 use crate::turn_calls::{NO_TURN, forget_told, wait_number};
 use combining::{LOOKS_PER_TRY, Next, Nobody, TRIES_AT_ONCE};
-use lock_programs::{Answer, Program};
 use lock_office::Counted;
+use lock_programs::{Answer, Program};
 
 /// The program that the numbers encode, if it makes a call. Else the status of the first test that fails: a program of no calls fails that of
 /// its last call.
@@ -71,7 +71,7 @@ fn write_next(
     }
 }
 
-/// Makes one turn of a program, as `CallSession::run_turn` does. In an office with a waker it lists whom to wake in the share.
+/// Makes one turn of a program, as `Session::run_turn` does. In an office with a waker it lists whom to wake in the share.
 #[inline(always)]
 fn make_turn(share: &mut SessionShare, program: &Program, made: u64) -> Next<Answer>
     requires live { share.old.session.retired ≡ false }
@@ -106,7 +106,7 @@ fn make_turn(share: &mut SessionShare, program: &Program, made: u64) -> Next<Ans
         .run_turn(&share.office, program, made, &mut share.told)
 }
 
-/// Makes one turn of the pending program, as `CallSession::run_look` does. In an office with a waker it lists whom to wake in the share.
+/// Makes one turn of the pending program, as `Session::run_look` does. In an office with a waker it lists whom to wake in the share.
 fn make_look(share: &mut SessionShare, looked: u64) -> Next<Answer>
     requires pending { share.old.session.pending ≢ None }
     requires none { share.old.told.told.list ≡ [] }
@@ -146,7 +146,7 @@ fn publish_last(share: &mut SessionShare, program: Program)
         .publish_program_if_idle(&share.office, program);
 }
 
-/// Makes turn number `made` of a program, of which there are `turns` at most: as `CallSession::run_turn` makes it, or, if no turn is left,
+/// Makes turn number `made` of a program, of which there are `turns` at most: as `Session::run_turn` makes it, or, if no turn is left,
 /// publishes the program unless one is pending. Writes the answer; or how to wait before the next turn, 0 if none is left; and how many
 /// sessions are to be woken to `told`.
 #[inline(always)]
@@ -223,7 +223,7 @@ pub(crate) fn run_turn(
     turn_of(share, &program, made, turns, answer, wait, told)
 }
 
-/// Makes turn number `looked` of the pending program, of which there are `turns` at most, as `CallSession::run_look` makes it. Writes as
+/// Makes turn number `looked` of the pending program, of which there are `turns` at most, as `Session::run_look` makes it. Writes as
 /// `run_turn` does.
 pub(crate) fn run_look(
     share: &mut SessionShare,

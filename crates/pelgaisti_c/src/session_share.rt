@@ -5,7 +5,7 @@ ghost use Rattle.lock_rules.specs.declared.calls.TheConstants.{MAX_SESSIONS};
 ghost use Rattle.lock_office.specs.Sessions.{IsSessionOf, HasNothingPending};
 
 use crate::ended_list::EndedList;
-use lock_office::{CallSession, Counted, Ended, Office, Session};
+use lock_office::{Counted, Ended, Office, Session, Ticket};
 use std::sync::Arc;
 
 /// A session and its share of the office.
@@ -14,9 +14,9 @@ pub struct SessionShare {
     /// The office, which all shares of its sessions own together.
     pub(crate) office: Arc<Office>,
     /// The handle's session.
-    pub(crate) session: CallSession,
+    pub(crate) session: Session,
     /// The sessions that were handed in to this one.
-    pub(crate) handed: Vec<Session>,
+    pub(crate) handed: Vec<Ticket>,
     /// The number of sessions of the office.
     pub(crate) sessions: u16,
     /// The caller's number for the office. The caller gives no two open offices the same.

@@ -23,8 +23,8 @@ use crate::status::{
 };
 use combining::{LOOKS_PER_TRY, Next, Nobody, TRIES_AT_ONCE, Told, Wait};
 use lock_desk::Book;
-use lock_rules::{Call, Reply};
 use lock_office::Counted;
+use lock_rules::{Call, Reply};
 use programs::Programs;
 
 /// No turn is left.
@@ -82,7 +82,7 @@ pub(crate) fn forget_told(share: &mut SessionShare)
     }
 }
 
-/// Makes one turn of a call, as `CallSession::turn` does. In an office with a waker it lists whom to wake in the share.
+/// Makes one turn of a call, as `Session::turn` does. In an office with a waker it lists whom to wake in the share.
 #[inline(always)]
 fn make_turn(share: &mut SessionShare, call: &Call, made: u64) -> Next<Reply>
     requires live { share.old.session.retired ≡ false }
@@ -114,7 +114,7 @@ fn make_turn(share: &mut SessionShare, call: &Call, made: u64) -> Next<Reply>
         .turn(&share.office, call, made, &mut share.told)
 }
 
-/// Makes one turn of the pending call, as `CallSession::look` does. In an office with a waker it lists whom to wake in the share.
+/// Makes one turn of the pending call, as `Session::look` does. In an office with a waker it lists whom to wake in the share.
 #[inline(always)]
 fn make_look(share: &mut SessionShare, looked: u64) -> Next<Reply>
     requires pending { share.old.session.pending ≢ None }
@@ -151,7 +151,7 @@ pub(crate) fn publish_last(share: &mut SessionShare, call: Call)
     share.session.publish_if_idle(&share.office, call);
 }
 
-/// Makes turn number `made` of a call, of which there are `turns` at most: as `CallSession::turn` makes it, or, if no turn is left, publishes
+/// Makes turn number `made` of a call, of which there are `turns` at most: as `Session::turn` makes it, or, if no turn is left, publishes
 /// the call unless it is pending. Writes the answer; or how to wait before the next turn, 0 if none is left; and how many sessions are to be
 /// woken to `told`.
 #[inline(always)]
@@ -251,7 +251,7 @@ pub(crate) fn turn(
     turn_of(share, &call, made, turns, answer, wait, told)
 }
 
-/// Makes turn number `looked` of the pending call, of which there are `turns` at most, as `CallSession::look` makes it. Writes as `turn` does.
+/// Makes turn number `looked` of the pending call, of which there are `turns` at most, as `Session::look` makes it. Writes as `turn` does.
 /// A pending program of several calls is refused.
 pub(crate) fn look(
     share: &mut SessionShare,
