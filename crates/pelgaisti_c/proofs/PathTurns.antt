@@ -9,9 +9,9 @@ use Rattle.lock_office.specs.ProgramBoards.{TicketView}
 use Rattle.lock_office.specs.Sessions.{IsIdle}
 use Rattle.lock_office.specs.SingleCalls.{IsCalled, IsAnswered}
 use Rattle.lock_office.specs.PathTurns.{IsPathPerformed}
-use Rattle.pelgaisti_c.specs.declared.numbers.AnswerNumbers.{AnswerNumbers}
+use Rattle.library_books.specs.declared.numbers.AnswerNumbers.{AnswerNumbers}
 use Rattle.pelgaisti_c.specs.declared.session_share.SessionShare.{SessionShare}
-use Rattle.pelgaisti_c.specs.Numbers.{numbers_of_reply}
+use Rattle.library_books.specs.Numbers.{numbers_of_reply}
 use Rattle.pelgaisti_c.specs.Sessions.{IsSameOffice}
 use Rattle.pelgaisti_c.specs.PathTurns.{HasGoneDown}
 use Rattle.pelgaisti_c.proofs.SameOffice.{same-trans}

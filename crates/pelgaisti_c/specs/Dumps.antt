@@ -4,11 +4,11 @@ use Rattle.lock_rules.specs.declared.calls.Transaction.{Transaction}
 use Rattle.lock_rules.specs.State.{State}
 use Rattle.lock_rules.specs.Listing.{listing_of}
 use Rattle.lock_office.specs.Dump.{opens_of}
-use Rattle.pelgaisti_c.specs.declared.claims.ClaimNumbers.{ClaimNumbers}
+use Rattle.library_books.specs.declared.claims.ClaimNumbers.{ClaimNumbers}
 use Rattle.pelgaisti_c.specs.declared.session_share.SessionShare.{SessionShare}
-use Rattle.pelgaisti_c.specs.Calls.{are_written}
-use Rattle.pelgaisti_c.specs.Claims.{number_of_bool, numbers_of_claim}
-use Rattle.pelgaisti_c.specs.Numbers.{nowhere}
+use Rattle.library_books.specs.Calls.{are_written}
+use Rattle.library_books.specs.Claims.{number_of_bool, numbers_of_claim}
+use Rattle.library_books.specs.Numbers.{nowhere}
 use Rattle.pelgaisti_c.specs.Queries.{IsSeen, state_seen}
 
 -- the row of a session with its open transaction: of kind 0, without a mode and a resource

@@ -3,12 +3,12 @@ use Rattle.std.specs.Prelude.{◌≡◌, ℕ, ◌≤◌, List, Option, Some, Non
 use Rattle.lock_tree.specs.declared.levels.TheConstants.{LEVELS}
 use Rattle.lock_rules.specs.State.{State, claims_of}
 use Rattle.lock_desk.specs.Pages.{locks_of}
-use Rattle.pelgaisti_c.specs.declared.claims.ClaimNumbers.{ClaimNumbers}
-use Rattle.pelgaisti_c.specs.declared.numbers.ResourceNumbers.{ResourceNumbers}
+use Rattle.library_books.specs.declared.claims.ClaimNumbers.{ClaimNumbers}
+use Rattle.library_books.specs.declared.numbers.ResourceNumbers.{ResourceNumbers}
 use Rattle.pelgaisti_c.specs.declared.session_share.SessionShare.{SessionShare}
-use Rattle.pelgaisti_c.specs.Calls.{are_written}
-use Rattle.pelgaisti_c.specs.Claims.{numbers_of_claim}
-use Rattle.pelgaisti_c.specs.Numbers.{IsPath}
+use Rattle.library_books.specs.Calls.{are_written}
+use Rattle.library_books.specs.Claims.{numbers_of_claim}
+use Rattle.library_books.specs.Numbers.{IsPath}
 use Rattle.pelgaisti_c.specs.Queries.{IsOfOffice, IsSeen, state_seen}
 
 -- the level of the resource behind which a page begins; 0 means that the page begins with the first lock

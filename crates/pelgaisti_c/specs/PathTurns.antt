@@ -8,11 +8,11 @@ use Rattle.lock_desk.specs.Paths.{lock_of_level, grants}
 use Rattle.lock_office.specs.Sessions.{IsIdle}
 use Rattle.lock_office.specs.SingleCalls.{IsCalled, IsAnswered}
 use Rattle.lock_office.specs.PathTurns.{IsPathPerformed}
-use Rattle.pelgaisti_c.specs.declared.numbers.ResourceNumbers.{ResourceNumbers}
-use Rattle.pelgaisti_c.specs.declared.numbers.AnswerNumbers.{AnswerNumbers}
+use Rattle.library_books.specs.declared.numbers.ResourceNumbers.{ResourceNumbers}
+use Rattle.library_books.specs.declared.numbers.AnswerNumbers.{AnswerNumbers}
 use Rattle.pelgaisti_c.specs.declared.session_share.SessionShare.{SessionShare}
 use Rattle.pelgaisti_c.specs.declared.path_turn_calls.TheConstants.{AT_ONCE}
-use Rattle.pelgaisti_c.specs.Numbers.{IsPath, numbers_of_reply}
+use Rattle.library_books.specs.Numbers.{IsPath, numbers_of_reply}
 use Rattle.pelgaisti_c.specs.Sessions.{IsSameOffice}
 use Rattle.pelgaisti_c.specs.Turns.{IsCallStarved, IsCallLate}
 

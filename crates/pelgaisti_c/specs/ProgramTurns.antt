@@ -11,12 +11,12 @@ use Rattle.combining.specs.Calls.{IsAnsweredAt, IsCalling, IsWaitingOn}
 use Rattle.combining.specs.Waits.{IsWaitAfterTry, IsWaitAfterLook}
 use Rattle.combining.specs.declared.backoff.TheConstants.{TRIES_AT_ONCE}
 use Rattle.combining.specs.declared.backoff.Wait.{Wait}
-use Rattle.pelgaisti_c.specs.declared.program_numbers.ProgramNumbers.{ProgramNumbers}
-use Rattle.pelgaisti_c.specs.declared.program_numbers.ProgramAnswerNumbers.{ProgramAnswerNumbers}
+use Rattle.library_books.specs.declared.program_numbers.ProgramNumbers.{ProgramNumbers}
+use Rattle.library_books.specs.declared.program_numbers.ProgramAnswerNumbers.{ProgramAnswerNumbers}
 use Rattle.pelgaisti_c.specs.declared.session_share.SessionShare.{SessionShare}
-use Rattle.pelgaisti_c.specs.declared.status.TheConstants.{NO_SUCH_OP}
+use Rattle.library_books.specs.declared.status.TheConstants.{NO_SUCH_OP}
 use Rattle.pelgaisti_c.specs.declared.turn_calls.TheConstants.{NO_TURN}
-use Rattle.pelgaisti_c.specs.Programs.{IsProgram, IsProgramFault, numbers_of_answer}
+use Rattle.library_books.specs.Programs.{IsProgram, IsProgramFault, numbers_of_answer}
 use Rattle.pelgaisti_c.specs.Sessions.{IsSameOffice}
 use Rattle.pelgaisti_c.specs.Turns.{number_of_wait}
 

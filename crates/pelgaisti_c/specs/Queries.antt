@@ -9,14 +9,14 @@ use Rattle.publication.specs.Boards.{HasCallsOf}
 use Rattle.lock_desk.specs.Queries.{blockers_among}
 use Rattle.lock_office.specs.ProgramBoards.{flat_history}
 use Rattle.lock_office.specs.Sessions.{HasLooked}
-use Rattle.pelgaisti_c.specs.declared.claims.ClaimNumbers.{ClaimNumbers}
-use Rattle.pelgaisti_c.specs.declared.claims.TransactionNumbers.{TransactionNumbers}
-use Rattle.pelgaisti_c.specs.declared.numbers.HolderNumbers.{HolderNumbers}
-use Rattle.pelgaisti_c.specs.declared.numbers.ResourceNumbers.{ResourceNumbers}
+use Rattle.library_books.specs.declared.claims.ClaimNumbers.{ClaimNumbers}
+use Rattle.library_books.specs.declared.claims.TransactionNumbers.{TransactionNumbers}
+use Rattle.library_books.specs.declared.numbers.HolderNumbers.{HolderNumbers}
+use Rattle.library_books.specs.declared.numbers.ResourceNumbers.{ResourceNumbers}
 use Rattle.pelgaisti_c.specs.declared.session_share.SessionShare.{SessionShare}
-use Rattle.pelgaisti_c.specs.Calls.{are_written}
-use Rattle.pelgaisti_c.specs.Claims.{numbers_of_claim, numbers_of_request, numbers_of_transaction}
-use Rattle.pelgaisti_c.specs.Numbers.{IsPath, numbers_of_holder}
+use Rattle.library_books.specs.Calls.{are_written}
+use Rattle.library_books.specs.Claims.{numbers_of_claim, numbers_of_request, numbers_of_transaction}
+use Rattle.library_books.specs.Numbers.{IsPath, numbers_of_holder}
 use Rattle.pelgaisti_c.specs.Sessions.{IsSameOffice}
 
 -- the office has a session with this number

@@ -15,12 +15,12 @@ use Rattle.lock_office.specs.Sessions.{HasNothingPending, IsIdle, IsPassed, IsRe
 use Rattle.lock_office.specs.SingleCalls.{MakesOneCall, IsPerformed, IsCollected}
 use Rattle.lock_office.specs.ProgramTurns.{IsPendingSingle}
 use Rattle.lock_office.specs.Ended.{AreToldBy}
-use Rattle.pelgaisti_c.specs.declared.numbers.CallNumbers.{CallNumbers}
-use Rattle.pelgaisti_c.specs.declared.numbers.AnswerNumbers.{AnswerNumbers}
+use Rattle.library_books.specs.declared.numbers.CallNumbers.{CallNumbers}
+use Rattle.library_books.specs.declared.numbers.AnswerNumbers.{AnswerNumbers}
 use Rattle.pelgaisti_c.specs.declared.session_share.SessionShare.{SessionShare}
-use Rattle.pelgaisti_c.specs.declared.numbers.EntryNumbers.{EntryNumbers}
-use Rattle.pelgaisti_c.specs.Calls.{are_written}
-use Rattle.pelgaisti_c.specs.Numbers.{IsCall, numbers_of_reply, numbers_of_entry}
+use Rattle.library_books.specs.declared.numbers.EntryNumbers.{EntryNumbers}
+use Rattle.library_books.specs.Calls.{are_written}
+use Rattle.library_books.specs.Numbers.{IsCall, numbers_of_reply, numbers_of_entry}
 
 -- the share keeps its office, the sessions handed in to it, its mark, its waker, and the bound of its passes
 pub record IsSameOffice (before after : SessionShare) : Type 0 where

@@ -9,11 +9,11 @@ use Rattle.combining.specs.Calls.{IsWaitingOn}
 use Rattle.combining.specs.Waits.{IsWaitAfterTry, IsWaitAfterLook}
 use Rattle.combining.specs.declared.backoff.TheConstants.{TRIES_AT_ONCE, LOOKS_PER_TRY}
 use Rattle.combining.specs.declared.backoff.Wait.{Wait}
-use Rattle.pelgaisti_c.specs.declared.numbers.CallNumbers.{CallNumbers}
-use Rattle.pelgaisti_c.specs.declared.numbers.AnswerNumbers.{AnswerNumbers}
+use Rattle.library_books.specs.declared.numbers.CallNumbers.{CallNumbers}
+use Rattle.library_books.specs.declared.numbers.AnswerNumbers.{AnswerNumbers}
 use Rattle.pelgaisti_c.specs.declared.session_share.SessionShare.{SessionShare}
 use Rattle.pelgaisti_c.specs.declared.turn_calls.TheConstants.{NO_TURN, YIELD}
-use Rattle.pelgaisti_c.specs.Numbers.{IsCall, numbers_of_reply}
+use Rattle.library_books.specs.Numbers.{IsCall, numbers_of_reply}
 use Rattle.pelgaisti_c.specs.Sessions.{IsSameOffice}
 
 -- the number of a wait: of pause instructions how many there are

@@ -1,4 +1,3 @@
 pub mod Held
-pub mod Items
 pub mod EndedLists
 pub mod Lending

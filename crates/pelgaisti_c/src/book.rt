@@ -8,21 +8,21 @@ ghost use Rattle.lock_rules.specs.State.{held_mode, mode_or_nothing, holders};
 ghost use Rattle.lock_rules.specs.Waits.{waits_for};
 ghost use Rattle.lock_rules.specs.declared.calls.Call.{Call};
 ghost use Rattle.lock_desk.specs.BookView.{BookView};
-ghost use Rattle.pelgaisti_c.specs.Behind.{IsNullList};
-ghost use Rattle.pelgaisti_c.specs.Numbers.{IsCall, IsCallFault, IsLevel, IsPath, numbers_of_holder};
-ghost use Rattle.pelgaisti_c.specs.Calls.{IsSession, IsServed, AreListedOnce, are_written};
-ghost use Rattle.pelgaisti_c.specs.Batches.{AreItems, IsBatchServed, IsFirstFault};
+ghost use Rattle.library_books.specs.Behind.{IsNullList};
+ghost use Rattle.library_books.specs.Numbers.{IsCall, IsCallFault, IsLevel, IsPath, numbers_of_holder};
+ghost use Rattle.library_books.specs.Calls.{IsSession, IsServed, AreListedOnce, are_written};
+ghost use Rattle.library_books.specs.Batches.{AreItems, IsBatchServed, IsFirstFault};
 ghost use Rattle.lock_desk.specs.Batches.{Item};
 
-use crate::pointers::{
+use library_books::pointers::{
     BookPointer, CallPointer, EntryList, HolderList, ReplyPointer, ResourcePointer, SessionList,
     SizePointer, U32Pointer,
 };
-use crate::status::{
+use library_books::status::{
     CLOSED, NO_MEMORY, NO_SUCH_COUNT, NO_SUCH_LEVEL, NO_SUCH_MODE, NO_SUCH_OP, NO_SUCH_SESSION,
     NULL_POINTER, OK, OPEN,
 };
-use crate::{batch, book_calls};
+use library_books::{batch, book_calls};
 use lock_desk::{Book, NO_BOUND};
 use lock_rules::MAX_SESSIONS;
 use std::alloc::Global;

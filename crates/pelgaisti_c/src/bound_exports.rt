@@ -8,7 +8,7 @@ ghost use Rattle.pelgaisti_c.specs.Bounds.{IsBoundOf, IsNoBound, HasBound};
 ghost use Rattle.pelgaisti_c.specs.declared.session_share.SessionShare.{SessionShare};
 
 use crate::pointers::SessionPointer;
-use crate::status::{CLOSED, NO_SUCH_COUNT, NULL_POINTER, OK};
+use library_books::status::{CLOSED, NO_SUCH_COUNT, NULL_POINTER, OK};
 use lock_office::PassBound;
 use std::alloc::Global;
 

@@ -10,8 +10,9 @@ ghost use Rattle.pelgaisti_c.specs.Sessions.{IsKept, IsHandedIn};
 ghost use Rattle.pelgaisti_c.specs.declared.session_share.SessionShare.{SessionShare as ShareValue};
 
 use crate::hand_in;
-use crate::pointers::{BookPointer, SessionPointer};
-use crate::status::{
+use crate::pointers::SessionPointer;
+use library_books::pointers::BookPointer;
+use library_books::status::{
     CLOSED, COPIED, MISSING, NO_MEMORY, NULL_POINTER, OK, OPEN, OTHER_OFFICE, PENDING,
 };
 use std::alloc::Global;

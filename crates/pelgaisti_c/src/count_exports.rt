@@ -4,13 +4,15 @@ ghost use Rattle.std.specs.Prelude.{◌≡◌, ◌≢◌, ◌≤◌, ◌↔◌, 
 ghost use denote.RawPtr.{null_ptr};
 ghost use Rattle.lock_desk.specs.BookView.{BookView};
 ghost use Rattle.lock_desk.specs.Counts.{counts_of};
-ghost use Rattle.pelgaisti_c.specs.Counts.{AreCountsSeen, numbers_of_counts};
+ghost use Rattle.library_books.specs.Counts.{numbers_of_counts};
+ghost use Rattle.pelgaisti_c.specs.Counts.{AreCountsSeen};
 ghost use Rattle.pelgaisti_c.specs.declared.session_share.SessionShare.{SessionShare};
 
-use crate::count_numbers::{CountNumbers, count_numbers};
-use crate::pointers::{BookPointer, CountsPointer, SessionPointer, U64Pointer};
+use crate::pointers::SessionPointer;
 use crate::session_share::SessionShare;
-use crate::status::{CLOSED, ELSEWHERE, NULL_POINTER, OK};
+use library_books::count_numbers::{CountNumbers, count_numbers};
+use library_books::pointers::{BookPointer, CountsPointer, U64Pointer};
+use library_books::status::{CLOSED, ELSEWHERE, NULL_POINTER, OK};
 use std::alloc::Global;
 
 /// Writes the counters of the open office, and how many calls the history had then.

@@ -4,16 +4,16 @@ ghost use Rattle.std.specs.Prelude.{◌≡◌, ◌≢◌, ◌≤◌, ◌↔◌, 
 ghost use denote.RawPtr.{null_ptr};
 ghost use Rattle.lock_desk.specs.BookView.{BookView};
 ghost use Rattle.lock_desk.specs.Deadlocks.{deadlocks_in, newest};
-ghost use Rattle.pelgaisti_c.specs.Behind.{IsNullList};
-ghost use Rattle.pelgaisti_c.specs.Deadlocks.{AreDeadlocksSeen, AreDeadlocksWritten};
+ghost use Rattle.library_books.specs.Behind.{IsNullList};
+ghost use Rattle.library_books.specs.Deadlocks.{AreDeadlocksWritten};
+ghost use Rattle.pelgaisti_c.specs.Deadlocks.{AreDeadlocksSeen};
 ghost use Rattle.pelgaisti_c.specs.Queries.{HasSeen};
 ghost use Rattle.pelgaisti_c.specs.declared.session_share.SessionShare.{SessionShare};
 
 use crate::deadlocks;
-use crate::pointers::{
-    BookPointer, DeadlockList, MemberList, SessionPointer, SizePointer, U64Pointer,
-};
-use crate::status::{CLOSED, ELSEWHERE, NO_MEMORY, NULL_POINTER, OK, SERVED};
+use crate::pointers::SessionPointer;
+use library_books::pointers::{BookPointer, DeadlockList, MemberList, SizePointer, U64Pointer};
+use library_books::status::{CLOSED, ELSEWHERE, NO_MEMORY, NULL_POINTER, OK, SERVED};
 use std::alloc::Global;
 
 /// Keeps the newest `most` deadlocks from now on. The book must not have served calls.

@@ -2,12 +2,13 @@
 
 ghost use Rattle.std.specs.Prelude.{◌≡◌, ◌≢◌, ◌≤◌, ◌⊎◌, ◌↔◌, []};
 ghost use Rattle.lock_desk.specs.Deadlocks.{deadlocks_in, newest};
-ghost use Rattle.pelgaisti_c.specs.Deadlocks.{AreDeadlocksSeen, AreDeadlocksWritten};
+ghost use Rattle.library_books.specs.Deadlocks.{AreDeadlocksWritten};
+ghost use Rattle.pelgaisti_c.specs.Deadlocks.{AreDeadlocksSeen};
 ghost use Rattle.pelgaisti_c.specs.Queries.{HasSeen};
 
-use crate::deadlock_numbers::{DeadlockNumbers, MemberNumbers, write_told};
 use crate::session_share::SessionShare;
-use crate::status::{ELSEWHERE, NO_MEMORY, OK, SERVED};
+use library_books::deadlock_numbers::{DeadlockNumbers, MemberNumbers, write_told};
+use library_books::status::{ELSEWHERE, NO_MEMORY, OK, SERVED};
 use lock_desk::Book;
 use std::alloc::Global;
 

@@ -2,15 +2,15 @@
 
 ghost use Rattle.std.specs.Prelude.{◌≡◌, ◌≢◌, ◌≤◌, ◌⊎◌, ◌++◌, IfOk, OnOk, length, map};
 ghost use Rattle.lock_rules.specs.Legal.{state_of};
-ghost use Rattle.pelgaisti_c.specs.Calls.{are_written};
-ghost use Rattle.pelgaisti_c.specs.Claims.{numbers_of_claim};
+ghost use Rattle.library_books.specs.Calls.{are_written};
+ghost use Rattle.library_books.specs.Claims.{numbers_of_claim};
 ghost use Rattle.pelgaisti_c.specs.Dumps.{IsDumpSeen, IsDumped, numbers_of_open};
 ghost use Rattle.pelgaisti_c.specs.Queries.{HasSeen};
 
-use crate::claims::{ClaimNumbers, claim_numbers, transaction_numbers};
-use crate::numbers::NOWHERE;
 use crate::session_share::SessionShare;
-use crate::status::{ELSEWHERE, NO_MEMORY, OK};
+use library_books::claims::{ClaimNumbers, claim_numbers, transaction_numbers};
+use library_books::numbers::NOWHERE;
+use library_books::status::{ELSEWHERE, NO_MEMORY, OK};
 use lock_desk::{Book, Claim, Transaction};
 use lock_office::dump_book;
 use std::alloc::{AllocError as NoMemory, Global};

@@ -4,14 +4,15 @@ ghost use Rattle.std.specs.Prelude.{◌≡◌, ◌≢◌, ◌≤◌, ◌↔◌, 
 ghost use denote.RawPtr.{null_ptr};
 ghost use Rattle.lock_rules.specs.Legal.{state_of};
 ghost use Rattle.lock_desk.specs.BookView.{BookView};
-ghost use Rattle.pelgaisti_c.specs.Behind.{IsNullList};
+ghost use Rattle.library_books.specs.Behind.{IsNullList};
 ghost use Rattle.pelgaisti_c.specs.declared.session_share.SessionShare.{SessionShare};
 ghost use Rattle.pelgaisti_c.specs.Dumps.{IsDumpSeen, IsDumped};
 ghost use Rattle.pelgaisti_c.specs.Queries.{HasSeen};
 
 use crate::dump;
-use crate::pointers::{BookPointer, ClaimList, SessionPointer, SizePointer, U64Pointer};
-use crate::status::{CLOSED, ELSEWHERE, NO_MEMORY, NULL_POINTER, OK};
+use crate::pointers::SessionPointer;
+use library_books::pointers::{BookPointer, ClaimList, SizePointer, U64Pointer};
+use library_books::status::{CLOSED, ELSEWHERE, NO_MEMORY, NULL_POINTER, OK};
 use std::alloc::Global;
 
 /// Writes the rows of a dump of the book: of each open transaction, and then of each lock and waiting request, resource by resource, as

@@ -5,13 +5,15 @@ ghost use denote.RawPtr.{null_ptr};
 ghost use Rattle.lock_rules.specs.Legal.{state_of};
 ghost use Rattle.lock_desk.specs.BookView.{BookView};
 ghost use Rattle.lock_desk.specs.Gauges.{gauges_of};
-ghost use Rattle.pelgaisti_c.specs.Counts.{AreGaugesSeen, numbers_of_gauges};
+ghost use Rattle.library_books.specs.Counts.{numbers_of_gauges};
+ghost use Rattle.pelgaisti_c.specs.Counts.{AreGaugesSeen};
 ghost use Rattle.pelgaisti_c.specs.declared.session_share.SessionShare.{SessionShare};
 
-use crate::count_numbers::{GaugeNumbers, gauge_numbers};
-use crate::pointers::{BookPointer, GaugesPointer, SessionPointer, U64Pointer};
+use crate::pointers::SessionPointer;
 use crate::session_share::SessionShare;
-use crate::status::{CLOSED, ELSEWHERE, NULL_POINTER, OK};
+use library_books::count_numbers::{GaugeNumbers, gauge_numbers};
+use library_books::pointers::{BookPointer, GaugesPointer, U64Pointer};
+use library_books::status::{CLOSED, ELSEWHERE, NULL_POINTER, OK};
 use std::alloc::Global;
 
 /// Writes the gauges of the open office, and how many calls the history had then.

@@ -8,7 +8,7 @@ ghost use Rattle.pelgaisti_c.specs.Offices.{all_of, IsClosed};
 ghost use Rattle.pelgaisti_c.specs.Sessions.{IsSameShare, IsHandedIn};
 
 use crate::session_share::SessionShare;
-use crate::status::{COPIED, MISSING, NO_MEMORY, OTHER_OFFICE, PENDING};
+use library_books::status::{COPIED, MISSING, NO_MEMORY, OTHER_OFFICE, PENDING};
 use lock_desk::Book;
 use lock_office::{CloseFault, Session, Ticket};
 use lock_rules::MAX_SESSIONS;

@@ -4,8 +4,8 @@ ghost use Rattle.std.specs.Prelude.{◌≡◌, Option};
 ghost use Rattle.pelgaisti_c.specs.inner.Held.{share_at, share_coded};
 ghost use Rattle.pelgaisti_c.specs.declared.session_share.SessionShare.{SessionShare as ShareValue};
 
-use crate::raw_box::{Opaque, RawBox};
 use crate::session_share::SessionShare;
+use library_books::raw_box::{Opaque, RawBox};
 use std::alloc::Global;
 use std::marker::Model;
 

@@ -3,13 +3,13 @@
 ghost use Rattle.std.specs.Prelude.{◌≡◌, ◌≢◌, ◌+◌, ◌-◌, ◌<◌, ◌↔◌, ◌⊎◌, Some, length, drop, min};
 ghost use denote.RawPtr.{null_ptr};
 ghost use Rattle.lock_desk.specs.BookView.{BookView, first_kept_by, kept_by};
-ghost use Rattle.pelgaisti_c.specs.Behind.{IsNullList};
-ghost use Rattle.pelgaisti_c.specs.Numbers.{numbers_of_entry};
-ghost use Rattle.pelgaisti_c.specs.Calls.{are_written};
+ghost use Rattle.library_books.specs.Behind.{IsNullList};
+ghost use Rattle.library_books.specs.Numbers.{numbers_of_entry};
+ghost use Rattle.library_books.specs.Calls.{are_written};
 
-use crate::book_calls;
-use crate::pointers::{BookPointer, EntryList, SizePointer, U64Pointer};
-use crate::status::{CLOSED, LET_GO, NULL_POINTER, OK};
+use library_books::book_calls;
+use library_books::pointers::{BookPointer, EntryList, SizePointer, U64Pointer};
+use library_books::status::{CLOSED, LET_GO, NULL_POINTER, OK};
 use std::alloc::Global;
 
 /// Writes the number of calls that the book has served, also of those whose entries were let go.

@@ -3,13 +3,14 @@
 ghost use Rattle.std.specs.Prelude.{◌≡◌, ◌≢◌, ◌↔◌, ◌⊎◌, Some, length, drop};
 ghost use denote.RawPtr.{null_ptr};
 ghost use Rattle.lock_office.specs.Seen.{number_of_calls};
-ghost use Rattle.pelgaisti_c.specs.Calls.{are_written};
+ghost use Rattle.library_books.specs.Calls.{are_written};
 ghost use Rattle.pelgaisti_c.specs.Sessions.{IsHeard};
 ghost use Rattle.pelgaisti_c.specs.declared.session_share.SessionShare.{SessionShare};
 
-use crate::pointers::{SessionPointer, U64Pointer};
+use crate::pointers::SessionPointer;
 use crate::session_calls;
-use crate::status::{CLOSED, NULL_POINTER, OK, OTHER_OFFICE};
+use library_books::pointers::U64Pointer;
+use library_books::status::{CLOSED, NULL_POINTER, OK, OTHER_OFFICE};
 use std::alloc::Global;
 
 /// Writes the number of history entries that the session knows. These are the first ones.

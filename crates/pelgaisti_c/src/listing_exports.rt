@@ -5,13 +5,15 @@ ghost use denote.RawPtr.{null_ptr};
 ghost use Rattle.lock_rules.specs.Legal.{state_of};
 ghost use Rattle.lock_rules.specs.Listing.{listing_of, waiting_line};
 ghost use Rattle.lock_desk.specs.BookView.{BookView};
-ghost use Rattle.pelgaisti_c.specs.Behind.{IsNullList};
-ghost use Rattle.pelgaisti_c.specs.Calls.{IsSession, are_written};
-ghost use Rattle.pelgaisti_c.specs.Claims.{numbers_of_claim, numbers_of_request, numbers_of_transaction};
+ghost use Rattle.library_books.specs.Behind.{IsNullList};
+ghost use Rattle.library_books.specs.Calls.{IsSession, are_written};
+ghost use Rattle.library_books.specs.Claims.{numbers_of_claim, numbers_of_request, numbers_of_transaction};
 
-use crate::listing;
-use crate::pointers::{BookPointer, ClaimList, ClaimPointer, SizePointer, TransactionPointer};
-use crate::status::{CLOSED, NO_MEMORY, NO_SUCH_SESSION, NULL_POINTER, OK};
+use library_books::listing;
+use library_books::pointers::{
+    BookPointer, ClaimList, ClaimPointer, SizePointer, TransactionPointer,
+};
+use library_books::status::{CLOSED, NO_MEMORY, NO_SUCH_SESSION, NULL_POINTER, OK};
 use std::alloc::Global;
 
 /// Writes the number of the session's open transaction, and whether it is a deadlock victim. Number 0 means that none is open.

@@ -4,7 +4,7 @@ ghost use Rattle.std.specs.Prelude.{◌≡◌, ◌≢◌, ◌≤◌, ◌⊎◌};
 ghost use Rattle.pelgaisti_c.specs.Queries.{HasSeen, IsSeen};
 
 use crate::session_share::SessionShare;
-use crate::status::{ELSEWHERE, NO_MEMORY, OK};
+use library_books::status::{ELSEWHERE, NO_MEMORY, OK};
 use lock_desk::{CountIdle, Reserve, Shrink};
 
 /// Makes room in the lock table, and writes how many calls the history had then.

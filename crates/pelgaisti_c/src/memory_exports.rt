@@ -8,8 +8,9 @@ ghost use Rattle.pelgaisti_c.specs.Queries.{HasSeen, IsSeen};
 ghost use Rattle.pelgaisti_c.specs.declared.session_share.SessionShare.{SessionShare};
 
 use crate::memory_calls;
-use crate::pointers::{BookPointer, SessionPointer, SizePointer, U64Pointer};
-use crate::status::{CLOSED, ELSEWHERE, NO_MEMORY, NULL_POINTER, OK};
+use crate::pointers::SessionPointer;
+use library_books::pointers::{BookPointer, SizePointer, U64Pointer};
+use library_books::status::{CLOSED, ELSEWHERE, NO_MEMORY, NULL_POINTER, OK};
 use std::alloc::Global;
 
 /// Makes room for so many resources beside those that are held or waited for, and for so many entries of the history beside those that

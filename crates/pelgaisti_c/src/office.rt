@@ -12,7 +12,7 @@ use crate::ended_list::EndedList;
 use crate::pointers::HandleList;
 use crate::session_handle::SessionHandle;
 use crate::session_share::SessionShare;
-use crate::status::{NO_MEMORY, NO_SUCH_COUNT, NULL_POINTER, OK, OPEN};
+use library_books::status::{NO_MEMORY, NO_SUCH_COUNT, NULL_POINTER, OK, OPEN};
 use lock_office::{Counted, Ended, Office, Session, Ticket, open_telling};
 use lock_rules::MAX_SESSIONS;
 use std::alloc::{AllocError, Global};

@@ -4,15 +4,16 @@
 ghost use Rattle.std.specs.Prelude.{◌≡◌, ◌≢◌, ◌≤◌, ◌⊎◌, IfSome, IfNone, length};
 ghost use Rattle.lock_rules.specs.Legal.{state_of};
 ghost use Rattle.lock_rules.specs.State.{claims_of};
-ghost use Rattle.pelgaisti_c.specs.Calls.{IsSession};
+ghost use Rattle.library_books.specs.Calls.{IsSession};
 ghost use Rattle.pelgaisti_c.specs.Pages.{IsAfter, IsAfterLevel, IsPageOf, IsCountSeen, IsPageSeen};
 ghost use Rattle.pelgaisti_c.specs.Queries.{IsOfOffice, HasSeen};
 
-use crate::claims::{ClaimNumbers, write_claims};
-use crate::numbers::{ResourceNumbers, read_resource};
+use crate::queries;
 use crate::session_share::SessionShare;
-use crate::status::{ELSEWHERE, NO_MEMORY, NO_SUCH_LEVEL, NO_SUCH_SESSION, OK};
-use crate::{book_calls, queries};
+use library_books::book_calls;
+use library_books::claims::{ClaimNumbers, write_claims};
+use library_books::numbers::{ResourceNumbers, read_resource};
+use library_books::status::{ELSEWHERE, NO_MEMORY, NO_SUCH_LEVEL, NO_SUCH_SESSION, OK};
 use lock_desk::{Book, Resource};
 use std::alloc::Global;
 

@@ -5,10 +5,11 @@ ghost use denote.RawPtr.{null_ptr};
 ghost use Rattle.pelgaisti_c.specs.Queries.{IsSeen};
 ghost use Rattle.pelgaisti_c.specs.declared.session_share.SessionShare.{SessionShare};
 
-use crate::count_numbers::{PassCountNumbers, pass_count_numbers};
-use crate::pointers::{PassCountsPointer, SessionPointer, U64Pointer};
+use crate::pass_count_numbers::{PassCountNumbers, pass_count_numbers};
+use crate::pointers::{PassCountsPointer, SessionPointer};
 use crate::session_share::SessionShare;
-use crate::status::{CLOSED, ELSEWHERE, NULL_POINTER, OK};
+use library_books::pointers::U64Pointer;
+use library_books::status::{CLOSED, ELSEWHERE, NULL_POINTER, OK};
 use std::alloc::Global;
 
 /// Writes what the passes of the open office have served, and how many calls the history had then.

@@ -6,16 +6,16 @@ ghost use Rattle.lock_rules.specs.Legal.{state_of};
 ghost use Rattle.lock_desk.specs.BookView.{BookView};
 ghost use Rattle.lock_desk.specs.Queries.{blockers_among};
 ghost use Rattle.lock_desk.specs.declared.book.paths.PathLocked.{PathLocked};
-ghost use Rattle.pelgaisti_c.specs.Behind.{IsNullList};
-ghost use Rattle.pelgaisti_c.specs.Numbers.{IsModeCode};
-ghost use Rattle.pelgaisti_c.specs.Calls.{IsSession, are_written};
-ghost use Rattle.pelgaisti_c.specs.Paths.{HasLevelBehind, HasRoom, IsPathServed, IsPathTold};
+ghost use Rattle.library_books.specs.Behind.{IsNullList};
+ghost use Rattle.library_books.specs.Numbers.{IsModeCode};
+ghost use Rattle.library_books.specs.Calls.{IsSession, are_written};
+ghost use Rattle.library_books.specs.Paths.{HasLevelBehind, HasRoom, IsPathServed, IsPathTold};
 
-use crate::path_calls;
-use crate::pointers::{
+use library_books::path_calls;
+use library_books::pointers::{
     BookPointer, ReplyPointer, ResourcePointer, SessionList, SizePointer, U32Pointer,
 };
-use crate::status::{
+use library_books::status::{
     CLOSED, NO_MEMORY, NO_ROOM, NO_SUCH_LEVEL, NO_SUCH_MODE, NO_SUCH_SESSION, NULL_POINTER, OK,
 };
 use std::alloc::Global;

@@ -5,13 +5,13 @@ ghost use Rattle.lock_modes.specs.Codes.{code_of};
 ghost use Rattle.lock_modes.specs.Order.{need_of};
 ghost use Rattle.lock_modes.specs.declared.Mode.{Mode};
 ghost use Rattle.lock_desk.specs.Paths.{lock_of_level};
-ghost use Rattle.pelgaisti_c.specs.Numbers.{IsModeCode, numbers_of_call};
-ghost use Rattle.pelgaisti_c.specs.Paths.{HasLevelBehind};
+ghost use Rattle.library_books.specs.Numbers.{IsModeCode, numbers_of_call};
+ghost use Rattle.library_books.specs.Paths.{HasLevelBehind};
 ghost use Rattle.pelgaisti_c.specs.PathTurns.{IsRestOf};
 
-use crate::numbers::{CallNumbers, ResourceNumbers, call_numbers, read_mode};
-use crate::path_calls::read_path;
-use crate::status::{NO_SUCH_LEVEL, NO_SUCH_MODE, OK};
+use library_books::numbers::{CallNumbers, ResourceNumbers, call_numbers, read_mode};
+use library_books::path_calls::read_path;
+use library_books::status::{NO_SUCH_LEVEL, NO_SUCH_MODE, OK};
 use lock_desk::lock_of_level;
 
 /// The code of the mode that a lock in the mode with this code needs of the parent, at least. A number that is no mode's comes back as it

@@ -10,15 +10,15 @@ ghost use Rattle.lock_office.specs.Ended.{AreToldBy};
 ghost use Rattle.lock_desk.specs.Paths.{lock_of_level, grants};
 ghost use Rattle.lock_office.specs.PathTurns.{IsPathPerformed};
 ghost use Rattle.pelgaisti_c.specs.Bounds.{HasServedWithin};
-ghost use Rattle.pelgaisti_c.specs.Numbers.{IsModeCode, numbers_of_reply};
+ghost use Rattle.library_books.specs.Numbers.{IsModeCode, numbers_of_reply};
 ghost use Rattle.pelgaisti_c.specs.Sessions.{IsSameOffice, AreToWake};
 ghost use Rattle.pelgaisti_c.specs.PathTurns.{IsPathEnded, HasPathLeft, IsPathLate, IsPathStarved};
 
-use crate::numbers::{AnswerNumbers, read_mode, reply_numbers};
 use crate::session_share::SessionShare;
-use crate::status::{NO_MEMORY, NO_SUCH_MODE, NOT_SERVED, OK, PENDING, RETIRED};
 use crate::turn_calls::{NO_TURN, forget_told, publish_last, wait_number};
 use combining::{Answer, Nobody, TRIES_AT_ONCE};
+use library_books::numbers::{AnswerNumbers, read_mode, reply_numbers};
+use library_books::status::{NO_MEMORY, NO_SUCH_MODE, NOT_SERVED, OK, PENDING, RETIRED};
 use lock_desk::{Mode, Resource, grants, lock_of_level};
 use lock_office::{Counted, NextOfPath};
 use lock_rules::Reply;

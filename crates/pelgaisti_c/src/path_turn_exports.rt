@@ -3,16 +3,17 @@
 ghost use Rattle.std.specs.Prelude.{◌≡◌, ◌≢◌, ◌+◌, ◌<◌, ◌≤◌, ◌⊎◌, ◌↔◌, ℕ, true, Some, None, List};
 ghost use denote.RawPtr.{null_ptr};
 ghost use Rattle.pelgaisti_c.specs.Bounds.{HasServedWithin};
-ghost use Rattle.pelgaisti_c.specs.Numbers.{IsModeCode};
-ghost use Rattle.pelgaisti_c.specs.Paths.{HasLevelBehind};
+ghost use Rattle.library_books.specs.Numbers.{IsModeCode};
+ghost use Rattle.library_books.specs.Paths.{HasLevelBehind};
 ghost use Rattle.pelgaisti_c.specs.Sessions.{AreToWake};
 ghost use Rattle.pelgaisti_c.specs.PathTurns.{IsRestOf, IsPathEnded, HasPathLeft, IsPathLate, IsPathStarved};
 ghost use Rattle.pelgaisti_c.specs.declared.session_share.SessionShare.{SessionShare};
 
-use crate::path_calls::read_path;
 use crate::path_turn_calls;
-use crate::pointers::{AnswerPointer, ResourcePointer, SessionPointer, U32Pointer};
-use crate::status::{
+use crate::pointers::SessionPointer;
+use library_books::path_calls::read_path;
+use library_books::pointers::{AnswerPointer, ResourcePointer, U32Pointer};
+use library_books::status::{
     CLOSED, NO_MEMORY, NO_SUCH_LEVEL, NO_SUCH_MODE, NOT_SERVED, NULL_POINTER, OK, PENDING, RETIRED,
 };
 use std::alloc::Global;

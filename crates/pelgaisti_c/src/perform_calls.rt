@@ -10,16 +10,16 @@ ghost use Rattle.sequential.specs.Histories.{calls_of};
 ghost use Rattle.publication.specs.Boards.{HasCallsOf, heard_from};
 ghost use Rattle.lock_rules.specs.declared.calls.Call.{Call as CallValue};
 ghost use Rattle.lock_rules.specs.declared.calls.Reply.{Reply as ReplyValue};
-ghost use Rattle.pelgaisti_c.specs.Numbers.{IsCall, IsCallFault, numbers_of_reply};
+ghost use Rattle.library_books.specs.Numbers.{IsCall, IsCallFault, numbers_of_reply};
 ghost use Rattle.pelgaisti_c.specs.Sessions.{IsSameOffice, AreToWake, HasToldNone, IsPerformedAtOnce, IsRefusedAtOnce, IsToldPerformed, IsToldRefused, HasToldNobody, MayCall};
 
-use crate::numbers::{AnswerNumbers, CallNumbers, PassNumbers, read_call, reply_numbers};
 use crate::session_calls::write_ended;
 use crate::session_share::SessionShare;
-use crate::status::{
+use combining::Performed;
+use library_books::numbers::{AnswerNumbers, CallNumbers, PassNumbers, read_call, reply_numbers};
+use library_books::status::{
     ELSEWHERE, NO_MEMORY, NO_ROOM, NO_SUCH_MODE, NO_SUCH_OP, OK, PENDING, RETIRED,
 };
-use combining::Performed;
 use lock_office::Session;
 use lock_rules::{Call, Reply};
 use std::alloc::Global;

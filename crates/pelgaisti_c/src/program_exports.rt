@@ -4,16 +4,16 @@ ghost use Rattle.std.specs.Prelude.{◌≡◌, ◌≢◌, ◌≤◌, ◌↔◌, 
 ghost use denote.RawPtr.{null_ptr};
 ghost use Rattle.lock_desk.specs.BookView.{BookView};
 ghost use Rattle.lock_programs.specs.declared.program.Program.{Program};
-ghost use Rattle.pelgaisti_c.specs.Behind.{IsNullList};
-ghost use Rattle.pelgaisti_c.specs.Calls.{IsSession};
-ghost use Rattle.pelgaisti_c.specs.Paths.{HasRoom};
-ghost use Rattle.pelgaisti_c.specs.Programs.{IsProgram, IsProgramFault, IsProgramRun};
+ghost use Rattle.library_books.specs.Behind.{IsNullList};
+ghost use Rattle.library_books.specs.Calls.{IsSession};
+ghost use Rattle.library_books.specs.Paths.{HasRoom};
+ghost use Rattle.library_books.specs.Programs.{IsProgram, IsProgramFault, IsProgramRun};
 
-use crate::pointers::{
+use library_books::pointers::{
     BookPointer, ProgramAnswerPointer, ProgramPointer, SessionList, SizePointer,
 };
-use crate::program_calls;
-use crate::status::{
+use library_books::program_calls;
+use library_books::status::{
     CLOSED, NO_MEMORY, NO_ROOM, NO_SUCH_ABOVE, NO_SUCH_MODE, NO_SUCH_OP, NO_SUCH_SESSION,
     NO_SUCH_START, NULL_POINTER, OK,
 };

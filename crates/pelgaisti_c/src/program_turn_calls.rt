@@ -12,19 +12,21 @@ ghost use Rattle.combining.specs.Calls.{IsCalling, IsWaitingOn};
 ghost use Rattle.combining.specs.Ended.{entered_since};
 ghost use Rattle.combining.specs.Waits.{IsWaitAfterTry, IsWaitAfterLook};
 ghost use Rattle.pelgaisti_c.specs.Bounds.{HasServedWithin};
-ghost use Rattle.pelgaisti_c.specs.Programs.{numbers_of_answer};
+ghost use Rattle.library_books.specs.Programs.{numbers_of_answer};
 ghost use Rattle.pelgaisti_c.specs.Sessions.{IsSameOffice, AreToWake};
 ghost use Rattle.pelgaisti_c.specs.Turns.{number_of_wait, IsLookStarved, IsLookMade};
 ghost use Rattle.pelgaisti_c.specs.ProgramTurns.{IsOfCalls, IsRunFault, IsProgramAnswered, IsProgramStarved, IsProgramLate, IsRunAnswered, IsRunStarved, IsRunMade, IsRunLookAnswered};
 
-use crate::program_numbers::{ProgramAnswerNumbers, ProgramNumbers, answer_numbers, read_program};
 use crate::session_share::SessionShare;
-use crate::status::{
+use crate::turn_calls::{NO_TURN, forget_told, wait_number};
+use combining::{LOOKS_PER_TRY, Next, Nobody, TRIES_AT_ONCE};
+use library_books::program_numbers::{
+    ProgramAnswerNumbers, ProgramNumbers, answer_numbers, read_program,
+};
+use library_books::status::{
     NO_MEMORY, NO_SUCH_ABOVE, NO_SUCH_MODE, NO_SUCH_OP, NO_SUCH_START, NOT_SERVED, NOTHING_PENDING,
     OK, PENDING, RETIRED,
 };
-use crate::turn_calls::{NO_TURN, forget_told, wait_number};
-use combining::{LOOKS_PER_TRY, Next, Nobody, TRIES_AT_ONCE};
 use lock_office::Counted;
 use lock_programs::{Answer, Program};
 

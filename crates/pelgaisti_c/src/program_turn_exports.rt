@@ -9,9 +9,10 @@ ghost use Rattle.pelgaisti_c.specs.Turns.{IsLookStarved, IsLookMade};
 ghost use Rattle.pelgaisti_c.specs.ProgramTurns.{IsOfCalls, IsRunFault, IsRunAnswered, IsRunStarved, IsRunMade, IsRunLookAnswered};
 ghost use Rattle.pelgaisti_c.specs.declared.session_share.SessionShare.{SessionShare};
 
-use crate::pointers::{ProgramAnswerPointer, ProgramPointer, SessionPointer};
+use crate::pointers::SessionPointer;
 use crate::program_turn_calls;
-use crate::status::{
+use library_books::pointers::{ProgramAnswerPointer, ProgramPointer};
+use library_books::status::{
     CLOSED, NO_MEMORY, NO_SUCH_ABOVE, NO_SUCH_MODE, NO_SUCH_OP, NO_SUCH_START, NOT_SERVED,
     NOTHING_PENDING, NULL_POINTER, OK, PENDING, RETIRED,
 };

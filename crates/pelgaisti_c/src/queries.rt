@@ -1,16 +1,16 @@
 //! The questions of a session about the lock table of its open office, in numbers, on the share that a handle holds.
 
 ghost use Rattle.std.specs.Prelude.{◌≡◌, ◌≢◌, ◌≤◌, ◌⊎◌, IfSome, IfNone, length};
-ghost use Rattle.pelgaisti_c.specs.Numbers.{IsLevel};
+ghost use Rattle.library_books.specs.Numbers.{IsLevel};
 ghost use Rattle.pelgaisti_c.specs.Queries.{IsOfOffice, HasSeen, IsHeldSeen, IsWaitSeen, AreHoldersSeen, AreBlockersSeen, IsTransactionSeen, IsRequestSeen, AreLocksSeen};
 
-use crate::book_calls::{write_holders, write_sessions};
-use crate::claims::{
+use crate::session_share::SessionShare;
+use library_books::book_calls::{write_holders, write_sessions};
+use library_books::claims::{
     ClaimNumbers, TransactionNumbers, request_numbers, transaction_numbers, write_claims_from,
 };
-use crate::numbers::{HolderNumbers, ResourceNumbers, read_resource};
-use crate::session_share::SessionShare;
-use crate::status::{ELSEWHERE, NO_MEMORY, NO_SUCH_LEVEL, NO_SUCH_SESSION, OK};
+use library_books::numbers::{HolderNumbers, ResourceNumbers, read_resource};
+use library_books::status::{ELSEWHERE, NO_MEMORY, NO_SUCH_LEVEL, NO_SUCH_SESSION, OK};
 use std::alloc::Global;
 
 /// The session number as the office takes it. Returns `None` if the office has no such session.

@@ -3,17 +3,18 @@
 
 ghost use Rattle.std.specs.Prelude.{◌≡◌, ◌≢◌, ◌≤◌, ◌↔◌, ◌⊎◌, Some};
 ghost use denote.RawPtr.{null_ptr};
-ghost use Rattle.pelgaisti_c.specs.Behind.{IsNullList};
-ghost use Rattle.pelgaisti_c.specs.Numbers.{IsLevel};
+ghost use Rattle.library_books.specs.Behind.{IsNullList};
+ghost use Rattle.library_books.specs.Numbers.{IsLevel};
 ghost use Rattle.pelgaisti_c.specs.Queries.{IsOfOffice, HasSeen, IsHeldSeen, IsWaitSeen, AreHoldersSeen, AreBlockersSeen, IsTransactionSeen, IsRequestSeen, AreLocksSeen};
 ghost use Rattle.pelgaisti_c.specs.declared.session_share.SessionShare.{SessionShare};
 
-use crate::pointers::{
-    ClaimList, ClaimPointer, HolderList, ResourcePointer, SessionList, SessionPointer, SizePointer,
+use crate::pointers::SessionPointer;
+use crate::queries;
+use library_books::pointers::{
+    ClaimList, ClaimPointer, HolderList, ResourcePointer, SessionList, SizePointer,
     TransactionPointer, U32Pointer, U64Pointer,
 };
-use crate::queries;
-use crate::status::{
+use library_books::status::{
     CLOSED, ELSEWHERE, NO_MEMORY, NO_SUCH_LEVEL, NO_SUCH_SESSION, NULL_POINTER, OK,
 };
 use std::alloc::Global;

@@ -8,16 +8,16 @@ ghost use Rattle.lock_office.specs.Ended.{AreToldBy};
 ghost use Rattle.sequential.specs.Histories.{calls_of};
 ghost use Rattle.publication.specs.Boards.{HasCallsOf, heard_from};
 ghost use Rattle.lock_rules.specs.declared.calls.Call.{Call as CallValue};
-ghost use Rattle.pelgaisti_c.specs.Calls.{are_written};
-ghost use Rattle.pelgaisti_c.specs.Numbers.{IsCall, IsCallFault};
+ghost use Rattle.library_books.specs.Calls.{are_written};
+ghost use Rattle.library_books.specs.Numbers.{IsCall, IsCallFault};
 ghost use Rattle.pelgaisti_c.specs.Sessions.{IsSameOffice, IsPublished, IsElsewhere, AreToWake, IsToldTurn, IsAnswered, IsPieceTaken, IsHeard, IsRetired};
 
-use crate::book_calls::{write_entries, write_sessions};
-use crate::numbers::{
+use crate::session_share::SessionShare;
+use library_books::book_calls::{write_entries, write_sessions};
+use library_books::numbers::{
     AnswerNumbers, CallNumbers, EntryNumbers, PassNumbers, read_call, reply_numbers,
 };
-use crate::session_share::SessionShare;
-use crate::status::{
+use library_books::status::{
     ELSEWHERE, NO_MEMORY, NO_ROOM, NO_SUCH_MODE, NO_SUCH_OP, NOT_SERVED, NOTHING_PENDING, OK,
     OTHER_OFFICE, PENDING, RETIRED,
 };

@@ -3,8 +3,8 @@
 ghost use Rattle.std.specs.Prelude.{◌≡◌, ◌≢◌, Some, None, IsSome, IfSome, IfNone};
 
 use crate::held_share::HeldShare;
-use crate::raw_box::RawBox;
 use crate::session_share::SessionShare;
+use library_books::raw_box::RawBox;
 use std::alloc::Global;
 use std::mem;
 

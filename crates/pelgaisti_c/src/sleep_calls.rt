@@ -4,7 +4,7 @@ ghost use Rattle.std.specs.Prelude.{◌≡◌, ◌≢◌, ◌<◌, ◌≤◌, �
 ghost use Rattle.publication.specs.Sleep.{AreWritten};
 
 use crate::session_share::SessionShare;
-use crate::status::{NO_ROOM, OK};
+use library_books::status::{NO_ROOM, OK};
 
 /// Begins a sleep of the session, and writes its number. Returns 1 if its thread may sleep; else 0, and the session is up again.
 pub(crate) fn begin_sleep(share: &mut SessionShare, number: &mut u32) -> u32

@@ -7,7 +7,7 @@ ghost use Rattle.pelgaisti_c.specs.declared.session_share.SessionShare.{SessionS
 
 use crate::pointers::SessionPointer;
 use crate::sleep_calls;
-use crate::status::{CLOSED, NO_ROOM, NULL_POINTER, OK};
+use library_books::status::{CLOSED, NO_ROOM, NULL_POINTER, OK};
 use std::alloc::Global;
 
 /// Begins a sleep of the session, and writes its number to `number`. Writes 1 to `may_sleep` if its thread may sleep until

@@ -12,16 +12,16 @@ ghost use Rattle.combining.specs.Calls.{IsWaitingOn};
 ghost use Rattle.combining.specs.Ended.{entered_since};
 ghost use Rattle.combining.specs.Waits.{IsWaitAfterTry, IsWaitAfterLook};
 ghost use Rattle.pelgaisti_c.specs.Bounds.{HasServedWithin};
-ghost use Rattle.pelgaisti_c.specs.Numbers.{IsCall, IsCallFault, numbers_of_reply};
+ghost use Rattle.library_books.specs.Numbers.{IsCall, IsCallFault, numbers_of_reply};
 ghost use Rattle.pelgaisti_c.specs.Sessions.{IsSameOffice, AreToWake};
 ghost use Rattle.pelgaisti_c.specs.Turns.{number_of_wait, IsCallAnswered, IsCallStarved, IsCallLate, IsTurnAnswered, IsTurnStarved, IsTurnMade, IsLookAnswered, IsLookStarved, IsLookMade};
 
-use crate::numbers::{AnswerNumbers, CallNumbers, read_call, reply_numbers};
 use crate::session_share::SessionShare;
-use crate::status::{
+use combining::{LOOKS_PER_TRY, Next, Nobody, TRIES_AT_ONCE, Told, Wait};
+use library_books::numbers::{AnswerNumbers, CallNumbers, read_call, reply_numbers};
+use library_books::status::{
     NO_MEMORY, NO_SUCH_MODE, NO_SUCH_OP, NOT_SERVED, NOTHING_PENDING, OK, PENDING, RETIRED,
 };
-use combining::{LOOKS_PER_TRY, Next, Nobody, TRIES_AT_ONCE, Told, Wait};
 use lock_desk::Book;
 use lock_office::Counted;
 use lock_rules::{Call, Reply};

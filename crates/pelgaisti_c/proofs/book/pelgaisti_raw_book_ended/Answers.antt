@@ -1,5 +1,5 @@
 use Rattle.std.proofs.Common.{rules, ◌≡◌, ℕ, List, Some, length, subst}
-use Rattle.pelgaisti_c.specs.Calls.{AreListedOnce, are_written}
+use Rattle.library_books.specs.Calls.{AreListedOnce, are_written}
 use Rattle.pelgaisti_c.proofs.book.pelgaisti_raw_book_ended.Goals as goal
 
 pub returns-clause-ok : goal.returns-clause-ok

@@ -1,5 +1,5 @@
 use Rattle.std.proofs.Common.{◌≡◌, ◌++◌, map, take}
-use Rattle.pelgaisti_c.specs.Claims.{numbers_of_claim}
+use Rattle.library_books.specs.Claims.{numbers_of_claim}
 use Rattle.pelgaisti_c.proofs.dump.add_claims.Given as goal
 
 -- the rows of those before this one are added

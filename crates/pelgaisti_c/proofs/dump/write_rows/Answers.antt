@@ -1,7 +1,7 @@
 use Rattle.std.proofs.Common.{◌≡◌, ℕ, suc, ◌+◌, [], get_or, set, ap, ◌∙◌, arith}
-use Rattle.pelgaisti_c.specs.declared.claims.ClaimNumbers.{ClaimNumbers}
-use Rattle.pelgaisti_c.specs.Calls.{written}
-use Rattle.pelgaisti_c.proofs.Writing.{next_written}
+use Rattle.library_books.specs.declared.claims.ClaimNumbers.{ClaimNumbers}
+use Rattle.library_books.specs.Calls.{written}
+use Rattle.library_books.proofs.Writing.{next_written}
 use Rattle.pelgaisti_c.proofs.dump.write_rows.Goals as goal
 
 pub loop-k-preserved : goal.loop-k-preserved

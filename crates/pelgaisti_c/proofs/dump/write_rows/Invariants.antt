@@ -1,5 +1,5 @@
 use Rattle.std.proofs.Common.{◌≡◌, ◌≤◌, length}
-use Rattle.pelgaisti_c.specs.Calls.{written}
+use Rattle.library_books.specs.Calls.{written}
 use Rattle.pelgaisti_c.proofs.dump.write_rows.Given as goal
 
 abbrev pub invariant-loop-k : goal.invariant-loop-k

@@ -1,5 +1,5 @@
 use Rattle.std.proofs.Common.{rules, ◌≡◌, List, Some, subst}
-use Rattle.pelgaisti_c.specs.declared.claims.ClaimNumbers.{ClaimNumbers}
+use Rattle.library_books.specs.declared.claims.ClaimNumbers.{ClaimNumbers}
 use Rattle.pelgaisti_c.specs.Dumps.{IsDumpSeen}
 use Rattle.pelgaisti_c.proofs.dump_exports.pelgaisti_raw_session_dump.Goals as goal
 

@@ -1,6 +1,6 @@
 use Rattle.std.proofs.Common.{rules, ◌≡◌, List, Some, subst}
-use Rattle.pelgaisti_c.specs.declared.claims.ClaimNumbers.{ClaimNumbers}
-use Rattle.pelgaisti_c.specs.declared.numbers.ResourceNumbers.{ResourceNumbers}
+use Rattle.library_books.specs.declared.claims.ClaimNumbers.{ClaimNumbers}
+use Rattle.library_books.specs.declared.numbers.ResourceNumbers.{ResourceNumbers}
 use Rattle.pelgaisti_c.specs.Pages.{IsAfterLevel, IsPageSeen}
 use Rattle.pelgaisti_c.proofs.page_exports.pelgaisti_raw_session_locks_of.Goals as goal
 

@@ -3,7 +3,7 @@ use Rattle.combining.specs.Calls.{IsWaitingOn}
 use Rattle.lock_desk.specs.Paths.{lock_of_level}
 use Rattle.lock_office.specs.ProgramBoards.{TicketView}
 use Rattle.lock_office.specs.SingleCalls.{IsCalling}
-use Rattle.pelgaisti_c.specs.declared.numbers.AnswerNumbers.{AnswerNumbers}
+use Rattle.library_books.specs.declared.numbers.AnswerNumbers.{AnswerNumbers}
 use Rattle.pelgaisti_c.proofs.SameOffice.{same-trans}
 use Rattle.pelgaisti_c.proofs.PathTurns.{gone-performed, gone-answered}
 use Rattle.pelgaisti_c.proofs.ServedWithin.{within-since, within-none}

@@ -1,6 +1,6 @@
 use Rattle.std.proofs.Common.{subst}
-use Rattle.pelgaisti_c.specs.declared.program_numbers.ProgramNumbers.{ProgramNumbers}
-use Rattle.pelgaisti_c.specs.Programs.{IsProgram}
+use Rattle.library_books.specs.declared.program_numbers.ProgramNumbers.{ProgramNumbers}
+use Rattle.library_books.specs.Programs.{IsProgram}
 use Rattle.pelgaisti_c.proofs.program_exports.pelgaisti_raw_book_run.Goals as goal
 
 pub returns-clause-asked : goal.returns-clause-asked

@@ -2,7 +2,7 @@ use Rattle.std.proofs.Common.{◌∙◌, ap, sym, arith, subst}
 use Rattle.lock_programs.specs.declared.program.Program.{Program}
 use Rattle.lock_office.specs.ProgramBoards.{TicketView}
 use Rattle.combining.specs.Calls.{IsWaitingOn}
-use Rattle.pelgaisti_c.specs.Programs.{numbers_of_answer}
+use Rattle.library_books.specs.Programs.{numbers_of_answer}
 use Rattle.pelgaisti_c.specs.ProgramTurns.{IsPendingAnswered}
 use Rattle.pelgaisti_c.proofs.SameOffice.{same-trans}
 use Rattle.pelgaisti_c.proofs.ServedWithin.{within-since, within-none}

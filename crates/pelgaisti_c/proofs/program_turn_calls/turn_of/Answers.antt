@@ -3,7 +3,7 @@ use Rattle.lock_office.specs.ProgramBoards.{TicketView}
 use Rattle.lock_office.specs.ProgramTurns.{IsCalled}
 use Rattle.combining.specs.Calls.{IsCalling, IsWaitingOn}
 use Rattle.lock_programs.specs.declared.program.Program.{Program}
-use Rattle.pelgaisti_c.specs.Programs.{numbers_of_answer}
+use Rattle.library_books.specs.Programs.{numbers_of_answer}
 use Rattle.pelgaisti_c.specs.ProgramTurns.{IsPendingAnswered}
 use Rattle.pelgaisti_c.proofs.SameOffice.{same-trans}
 use Rattle.pelgaisti_c.proofs.ServedWithin.{within-since, within-none}

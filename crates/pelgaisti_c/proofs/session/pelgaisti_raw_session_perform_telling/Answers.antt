@@ -1,9 +1,9 @@
 use Rattle.std.proofs.Common.{rules, ◌≡◌, ℕ, ◌<◌, ◌∙◌, List, Some, length, subst, sym}
 use Rattle.std.specs.Prelude.{◌⊎◌}
 use Rattle.lock_rules.specs.declared.calls.Call.{Call}
-use Rattle.pelgaisti_c.specs.declared.numbers.CallNumbers.{CallNumbers}
+use Rattle.library_books.specs.declared.numbers.CallNumbers.{CallNumbers}
 use Rattle.pelgaisti_c.specs.declared.session_share.SessionShare.{SessionShare}
-use Rattle.pelgaisti_c.specs.Numbers.{IsCall}
+use Rattle.library_books.specs.Numbers.{IsCall}
 use Rattle.pelgaisti_c.specs.Sessions.{IsToldPerformed, HasToldNobody, IsToldRefused, MayCall}
 use Rattle.pelgaisti_c.proofs.session.pelgaisti_raw_session_perform_telling.Goals as goal
 

@@ -1,5 +1,5 @@
 use Rattle.std.proofs.Common.{rules, ◌≡◌, List, Some, subst}
-use Rattle.pelgaisti_c.specs.declared.numbers.EntryNumbers.{EntryNumbers}
+use Rattle.library_books.specs.declared.numbers.EntryNumbers.{EntryNumbers}
 use Rattle.pelgaisti_c.specs.Sessions.{IsPieceTaken}
 use Rattle.pelgaisti_c.proofs.session.pelgaisti_raw_session_take_history.Goals as goal
 

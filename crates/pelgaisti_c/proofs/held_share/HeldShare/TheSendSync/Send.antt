@@ -5,7 +5,7 @@ use Rattle.std_alloc.proofs.SendSync.{quiet}
 use Rattle.std_heap.proofs.Global.TheSendSync as handle
 use Rattle.pelgaisti_c.specs.contracts.session_share.SessionShare as inner
 use Rattle.pelgaisti_c.proofs.session_share.SessionShare.TheSendSync.{the_send as sent}
-use Rattle.pelgaisti_c.proofs.HeldValues.{box_keyless}
+use Rattle.library_books.proofs.HeldValues.{box_keyless}
 use Rattle.pelgaisti_c.specs.contracts.held_share.HeldShare.{the_row, the_type}
 
 pub send : IsSend the_row

@@ -10,11 +10,11 @@ use Rattle.core.proofs.alloc.Calls.{Goes-blank}
 use Rattle.std.proofs.raw_atomic.Walks.{proved_at}
 use Rattle.std.specs.contracts.alloc.Global as heap
 use Rattle.std.specs.contracts.impls.GlobalAllocator.TheImpl.{ghosts}
-use Rattle.pelgaisti_c.proofs.PointerValues.{value_is}
-use Rattle.pelgaisti_c.proofs.Moving.{moved}
+use Rattle.library_books.proofs.PointerValues.{value_is}
+use Rattle.library_books.proofs.Moving.{moved}
 use Rattle.pelgaisti_c.specs.inner.Held.{share_at}
 use Rattle.pelgaisti_c.specs.contracts.session_share.SessionShare as inner
-use Rattle.pelgaisti_c.specs.contracts.raw_box.RawBox as raw_box
+use Rattle.library_books.specs.contracts.raw_box.RawBox as raw_box
 use Rattle.pelgaisti_c.specs.contracts.held_share.HeldShare as held
 use Rattle.pelgaisti_c.specs.contracts.held_share.HeldShare.into_raw_box.{ended, clauses}
 use Rattle.pelgaisti_c.specs.contracts.held_share.HeldShare.into_raw_box.Key.{name as #self}

@@ -1,0 +1,13 @@
+pub mod PointerValues
+pub mod Moving
+pub mod HeldValues
+pub mod Writing
+pub mod Batches
+pub mod Programs
+pub mod Blockers
+pub mod Members
+pub mod Behind
+pub mod Lending
+pub mod Copying
+pub mod ItemLists
+pub mod ListKinds

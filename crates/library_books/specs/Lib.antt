@@ -1,0 +1,11 @@
+-- what contracts speak of
+pub mod Numbers
+pub mod Paths
+pub mod Calls
+pub mod Claims
+pub mod Batches
+pub mod Programs
+pub mod Deadlocks
+pub mod Counts
+pub mod Behind
+pub mod inner

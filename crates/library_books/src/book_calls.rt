@@ -1,0 +1,197 @@
+//! The calls of a book in numbers, on the book that a handle holds.
+
+ghost use Rattle.std.specs.Prelude.{◌≡◌, ◌≢◌, ◌+◌, ◌<◌, ◌≤◌, ◌↔◌, ◌⊎◌, ℕ, List, IfSome, IfNone, if◌then◌else◌, length, drop, min};
+ghost use Rattle.lock_modes.specs.Codes.{code_of};
+ghost use Rattle.lock_rules.specs.Legal.{state_of};
+ghost use Rattle.lock_rules.specs.State.{held_mode, mode_or_nothing, holders};
+ghost use Rattle.lock_rules.specs.Waits.{waits_for as is_waited_for};
+ghost use Rattle.lock_rules.specs.declared.calls.Call.{Call as CallValue};
+ghost use Rattle.lock_desk.specs.BookView.{first_kept_by, kept_by};
+ghost use Rattle.library_books.specs.Numbers.{IsCall, IsCallFault, IsLevel, IsPath, numbers_of_entry, numbers_of_holder};
+ghost use Rattle.library_books.specs.Calls.{IsSession, IsServed, AreListedOnce, are_written};
+
+use crate::numbers::{
+    CallNumbers, EntryNumbers, HolderNumbers, ReplyNumbers, ResourceNumbers, entry_numbers,
+    holder_numbers, read_call, read_resource, reply_numbers,
+};
+use crate::status::{
+    LET_GO, NO_MEMORY, NO_SUCH_LEVEL, NO_SUCH_MODE, NO_SUCH_OP, NO_SUCH_SESSION, OK,
+};
+use lock_desk::{Book, Entry, Mode};
+use std::alloc::Global;
+
+/// The session number as the book takes it. Returns `None` if the book has no such session.
+pub fn session_of(book: &Book, session: u32) -> Option<u16>
+    ensures some { IfSome result (λ number. (number ≡ session) × IsSession book.now session) }
+    ensures none { IfNone result (¬ (IsSession book.now session)) }
+{
+    if session == 0 || session > u32::from(book.sessions()) {
+        return None;
+    }
+    Some(session as u16)
+}
+
+/// Serves the call that the numbers encode.
+pub fn serve(book: &mut Book, session: u32, asked: &CallNumbers, reply: &mut ReplyNumbers) -> u32
+    ensures served { result ≡ OK → IsSession book.old session × IsServed book.old book.new session asked.now reply.new }
+    ensures failed { result ≢ OK → (book.new ≡ book.old) × (reply.new ≡ reply.old) }
+    ensures session { result ≡ NO_SUCH_SESSION → ¬ (IsSession book.old session) }
+    ensures call { NO_SUCH_OP ≤ result → IsSession book.old session × IsCallFault asked.now result }
+    ensures memory { result ≡ NO_MEMORY → IsSession book.old session × ((call : CallValue) × IsCall asked.now call) }
+    ensures statuses { (result ≤ NO_MEMORY) ⊎ ((NO_SUCH_SESSION ≤ result) × (result ≤ NO_SUCH_MODE)) }
+{
+    let Some(number) = session_of(book, session) else {
+        return NO_SUCH_SESSION;
+    };
+    let call = match read_call(asked) {
+        Ok(call) => call,
+        Err(fault) => return fault,
+    };
+    match book.serve(number, call) {
+        Ok(outcome) => {
+            *reply = reply_numbers(outcome);
+            OK
+        }
+        Err(_) => NO_MEMORY,
+    }
+}
+
+/// Writes the code of the mode that the session holds on the resource, or that of NL if it holds none.
+pub fn held(book: &Book, session: u32, path: &ResourceNumbers, mode: &mut u32) -> u32
+    ensures ok { result ≡ OK → IsSession book.now session
+        × ((r : List ℕ) × IsPath path.now r × (mode.new ≡ code_of (mode_or_nothing (held_mode (state_of book.now.history).table session r)))) }
+    ensures failed { result ≢ OK → mode.new ≡ mode.old }
+    ensures session { result ≡ NO_SUCH_SESSION → ¬ (IsSession book.now session) }
+    ensures level { result ≡ NO_SUCH_LEVEL → IsSession book.now session × ¬ (IsLevel path.now.level) }
+    ensures statuses { (result ≡ OK) ⊎ ((result ≡ NO_SUCH_SESSION) ⊎ (result ≡ NO_SUCH_LEVEL)) }
+{
+    let Some(number) = session_of(book, session) else {
+        return NO_SUCH_SESSION;
+    };
+    let Some(resource) = read_resource(path) else {
+        return NO_SUCH_LEVEL;
+    };
+    *mode = match book.held(number, resource) {
+        Some(held) => u32::from(held.code()),
+        None => 0,
+    };
+    OK
+}
+
+/// Writes 1 to `edge` if the session waits for the other one directly, else 0.
+pub fn waits_for(book: &Book, session: u32, other: u32, edge: &mut u32) -> u32
+    ensures ok { result ≡ OK → IsSession book.now session × IsSession book.now other
+        × (edge.new ≡ if is_waited_for (state_of book.now.history).table session other then 1 else 0) }
+    ensures failed { result ≢ OK → edge.new ≡ edge.old }
+    ensures session { result ≡ NO_SUCH_SESSION → ¬ (IsSession book.now session × IsSession book.now other) }
+    ensures statuses { (result ≡ OK) ⊎ (result ≡ NO_SUCH_SESSION) }
+{
+    let Some(waiter) = session_of(book, session) else {
+        return NO_SUCH_SESSION;
+    };
+    let Some(waited) = session_of(book, other) else {
+        return NO_SUCH_SESSION;
+    };
+    *edge = if book.waits_for(waiter, waited) { 1 } else { 0 };
+    OK
+}
+
+/// Writes the numbers of the first holders, as many as `list` has room for.
+pub fn write_holders(found: &[(u16, Mode)], list: &mut [HolderNumbers])
+    ensures { list.new ≡ are_written numbers_of_holder found.now list.old }
+{
+    let count = usize::min(found.len(), list.len());
+    for k in 0..count {
+        list[k] = holder_numbers(&found[k]);
+    }
+}
+
+/// Writes the holders of the resource, as many as `list` has room for, and the number of all holders to `count`.
+pub fn holders(
+    alloc: Global,
+    book: &Book,
+    path: &ResourceNumbers,
+    list: &mut [HolderNumbers],
+    count: &mut usize,
+) -> u32
+    ensures ok { result ≡ OK → (r : List ℕ) × IsPath path.now r × (let all = holders r (state_of book.now.history).table.held in
+        (list.new ≡ are_written numbers_of_holder all list.old) × (count.new ≡ length all)) }
+    ensures failed { result ≢ OK → (list.new ≡ list.old) × (count.new ≡ count.old) }
+    ensures level { result ≡ NO_SUCH_LEVEL → ¬ (IsLevel path.now.level) }
+    ensures memory { result ≡ NO_MEMORY → IsLevel path.now.level }
+    ensures statuses { (result ≡ OK) ⊎ ((result ≡ NO_MEMORY) ⊎ (result ≡ NO_SUCH_LEVEL)) }
+{
+    let Some(resource) = read_resource(path) else {
+        return NO_SUCH_LEVEL;
+    };
+    let mut found = Vec::new(alloc);
+    if book.holders(resource, &mut found).is_err() {
+        return NO_MEMORY;
+    }
+    write_holders(found.as_slice(), list);
+    *count = found.len();
+    OK
+}
+
+/// Writes the numbers of the first of these sessions, as many as `list` has room for.
+pub fn write_sessions(found: &[u16], list: &mut [u32])
+    ensures { list.new ≡ are_written (λ u. u) found.now list.old }
+{
+    let count = usize::min(found.len(), list.len());
+    for k in 0..count {
+        list[k] = u32::from(found[k]);
+    }
+}
+
+/// Writes the sessions whose wait the last call or batch has ended, as many as `list` has room for, and the number of all of
+/// them to `count`.
+pub fn ended(book: &Book, list: &mut [u32], count: &mut usize)
+    ensures { (told : List ℕ) × AreListedOnce book.now.ended told × (list.new ≡ are_written (λ u. u) told list.old) × (count.new ≡ length told) }
+{
+    let found = book.ended();
+    write_sessions(found, list);
+    *count = found.len();
+}
+
+/// Writes the numbers of the first entries, as many as `places` has room for. Returns the number of entries written.
+pub fn write_entries(entries: &[Entry], places: &mut [EntryNumbers]) -> usize
+    ensures count { result ≡ min (length entries.now) (length places.old) }
+    ensures entries { places.new ≡ are_written numbers_of_entry entries.now places.old }
+{
+    let count = usize::min(entries.len(), places.len());
+    for k in 0..count {
+        places[k] = entry_numbers(&entries[k]);
+    }
+    count
+}
+
+/// Writes the entries of the history from index `first` on, as many as `places` has room for, and the number of entries
+/// written to `count`. The entry at `first` must not have been let go.
+pub fn history(book: &Book, first: u64, places: &mut [EntryNumbers], count: &mut usize) -> u32
+    ensures ok { result ≡ OK → (let rest = drop first book.now.history in
+        (places.new ≡ are_written numbers_of_entry rest places.old) × (count.new ≡ min (length rest) (length places.old))) }
+    ensures failed { result ≢ OK → (places.new ≡ places.old) × (count.new ≡ count.old) }
+    ensures let_go { result ≡ LET_GO ↔ (first < first_kept_by book.now) }
+    ensures statuses { (result ≡ OK) ⊎ (result ≡ LET_GO) }
+{
+    let kept = book.history();
+    let first_kept = book.first_kept();
+    if first < first_kept {
+        return LET_GO;
+    }
+    let start = u64::min(first - first_kept, kept.len() as u64) as usize;
+    *count = write_entries(&kept[start..], places);
+    OK
+}
+
+/// Writes the oldest entries of the history that are kept, as many as `places` has room for, and lets go of them. Returns
+/// how many there were.
+pub fn take_history(book: &mut Book, places: &mut [EntryNumbers]) -> usize
+    ensures count { result ≡ min (length (kept_by book.old)) (length places.old) }
+    ensures entries { places.new ≡ are_written numbers_of_entry (kept_by book.old) places.old }
+    ensures book { book.new ≡ record book.old { cut = first_kept_by book.old + result } }
+{
+    let count = write_entries(book.history(), places);
+    book.let_go(count as u64);
+    count
+}

@@ -1,0 +1,23 @@
+//! Pointers of C that may be null, and lists: a pointer with the number of its items. C passes the address of its own variable.
+//!
+//! What C must keep to: behind a pointer that isn't null lies a value of its type. Until the call returns it is the export's alone; of
+//! `constants.rt` it is only read, by others too. No two arguments overlap.
+//!
+//! Each pointee has a type of its own, since no generic struct crosses to C. `get` and `is_null` take `&mut self`, since nothing is read
+//! through a `&` to a struct that owns memory. Their proofs are alike: those of `proofs/Lending.antt`, `proofs/Copying.antt` and
+//! `proofs/ItemLists.antt`.
+
+mod constants;
+mod handles;
+mod integers;
+mod lists;
+mod structs;
+
+pub use constants::{CallPointer, ProgramPointer, ResourcePointer};
+pub use handles::BookPointer;
+pub use integers::{SizePointer, U32Pointer, U64Pointer};
+pub use lists::{ClaimList, DeadlockList, EntryList, HolderList, MemberList, SessionList};
+pub use structs::{
+    AnswerPointer, ClaimPointer, CountsPointer, GaugesPointer, PassPointer, ProgramAnswerPointer,
+    ReplyPointer, TransactionPointer,
+};

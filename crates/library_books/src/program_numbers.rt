@@ -1,0 +1,174 @@
+//! Programs and their answers in numbers: reading them from C's structs, and writing them there.
+
+ghost use Rattle.std.specs.Prelude.{◌≡◌, ◌↔◌, ◌⊎◌, ℕ, List, [], ◌∷◌, ◌++◌, Some, IfOk, IfErr, length};
+ghost use Rattle.lock_rules.specs.declared.calls.Call.{Call as CallValue};
+ghost use Rattle.lock_programs.specs.declared.program.Start.{Start as StartValue};
+ghost use Rattle.lock_programs.specs.Answers.{replies_of};
+ghost use Rattle.lock_programs.specs.Starts.{start_calls, last_call};
+ghost use Rattle.lock_programs.specs.Calls.{calls_of};
+ghost use Rattle.library_books.specs.Calls.{are_written};
+ghost use Rattle.library_books.specs.Numbers.{IsModeCode, numbers_of_reply};
+ghost use Rattle.library_books.specs.Programs.{number_of_start, stop_number, stop_of, IsOnPath, IsPathTo, IsProgram, IsProgramFault, numbers_of_answer};
+
+use crate::numbers::{CallNumbers, ReplyNumbers, read_call, read_mode, reply_numbers};
+use crate::status::{NO_SUCH_ABOVE, NO_SUCH_OP, NO_SUCH_START, NOT_ON_PATH};
+use lock_modes::Mode;
+use lock_programs::{Answer, CALLS, Last, Program, Start, goes_on_behind};
+use lock_rules::{Call, Reply};
+use lock_tree::Resource;
+
+/// The op of the last call of a program that has none: what `start` says is all that it does.
+pub const NO_CALL: u32 = 0;
+
+/// What stands in an answer where there is no reply.
+const NO_REPLY: ReplyNumbers = ReplyNumbers { kind: 0, value: 0 };
+
+/// A program: what `start` says, then a lock in the mode `above` on each ancestor of the last call's resource, from the level `from`
+/// on, and then the last call. `from` and `above` matter only if the last call has a resource.
+#[repr(C)]
+#[derive(Clone, Copy)]
+pub struct ProgramNumbers {
+    pub start: u32,
+    pub from: u32,
+    pub above: u32,
+    pub last: CallNumbers,
+}
+
+/// The answer to a program: the index of the first call's entry in the history, the number of calls served, 1 if memory was refused
+/// to the next one and otherwise 0, the kind of the reply at which the program stopped and otherwise 0, and the replies, with zeros
+/// behind those that there are.
+#[repr(C)]
+#[derive(Clone, Copy)]
+pub struct ProgramAnswerNumbers {
+    pub place: u64,
+    pub served: u32,
+    pub starved: u32,
+    pub stop: u32,
+    pub replies: [ReplyNumbers; CALLS],
+}
+
+/// What the number says that a program does first. Returns `None` if it says nothing.
+#[inline(always)]
+fn read_start(number: u32) -> Option<Start>
+    ensures { (start : StartValue) → (result ≡ Some start) ↔ (number ≡ number_of_start start) }
+{
+    match number {
+        0 => Some(Start::Nothing),
+        1 => Some(Start::Begins),
+        2 => Some(Start::Commits),
+        3 => Some(Start::Aborts),
+        4 => Some(Start::CommitsAndBegins),
+        5 => Some(Start::AbortsAndBegins),
+        6 => Some(Start::Restarts),
+        _ => None,
+    }
+}
+
+/// The program whose path leads to `resource`, with this call at its end.
+#[inline(always)]
+fn read_path(
+    asked: &ProgramNumbers,
+    start: Start,
+    resource: &Resource,
+    last: Last,
+) -> Result<Program, u32>
+    ensures ok { IfOk result (λ program. (path : List CallValue) × IsPathTo asked.now resource.now last path × (calls_of program ≡ start_calls start ++ path)) }
+    ensures err { IfErr result (λ fault. ((fault ≡ NOT_ON_PATH) × ¬ (IsOnPath asked.now.from resource.now))
+        ⊎ ((fault ≡ NO_SUCH_ABOVE) × IsOnPath asked.now.from resource.now × ¬ (IsModeCode asked.now.above))) }
+{
+    if asked.from == 0 || asked.from > u32::from(resource.level()) {
+        return Err(NOT_ON_PATH);
+    }
+    let Some(above) = read_mode(asked.above) else {
+        return Err(NO_SUCH_ABOVE);
+    };
+    Ok(Program::path(start, resource, asked.from as u8, above, last))
+}
+
+/// The program of one call that names no resource, behind what `start` says.
+fn read_plain(start: Start, last: Last) -> Program
+    ensures { (r : List ℕ) × (calls_of result ≡ start_calls start ++ last_call last r ∷ []) }
+{
+    match Resource::from_numbers(&[0]) {
+        Some(resource) => Program::path(start, &resource, resource.level(), Mode::NL, last),
+        None => unreachable!(),
+    }
+}
+
+/// The program that the numbers encode. Tests `start`, then the last call as `read_call` does, then `from`, then `above`, and returns
+/// the status of the first test that fails.
+pub fn read_program(asked: &ProgramNumbers) -> Result<Program, u32>
+    ensures ok { IfOk result (λ program. IsProgram asked.now program) }
+    ensures err { IfErr result (λ fault. IsProgramFault asked.now fault) }
+{
+    let Some(start) = read_start(asked.start) else {
+        return Err(NO_SUCH_START);
+    };
+    if asked.last.op == NO_CALL {
+        return Ok(Program::start(start));
+    }
+    let call = match read_call(&asked.last) {
+        Ok(call) => call,
+        Err(fault) => return Err(fault),
+    };
+    match call {
+        Call::Lock(resource, mode) => read_path(asked, start, &resource, Last::Locks(mode)),
+        Call::Convert(resource, mode) => read_path(asked, start, &resource, Last::Converts(mode)),
+        Call::Try(resource, mode) => read_path(asked, start, &resource, Last::Tries(mode)),
+        Call::Release(resource) => read_path(asked, start, &resource, Last::Releases),
+        Call::Poll => Ok(read_plain(start, Last::Polls)),
+        Call::Withdraw => Ok(read_plain(start, Last::Withdraws)),
+        Call::Begin | Call::Commit | Call::Abort | Call::Restart => Err(NO_SUCH_OP),
+    }
+}
+
+/// The kind of the reply if a program stops at it, otherwise 0.
+#[inline(always)]
+fn stop_number(reply: &Reply) -> u32
+    ensures { result ≡ stop_number reply.now }
+{
+    if goes_on_behind(reply) {
+        return 0;
+    }
+    reply.kind().number()
+}
+
+/// The kind of the last reply of the answer if the program stopped at it, otherwise 0.
+#[inline(always)]
+fn stop_of(program: &Program, answer: &Answer) -> u32
+    ensures { result ≡ stop_of (replies_of program.now answer.now) }
+{
+    let served = answer.served(program);
+    if served == 0 {
+        return 0;
+    }
+    stop_number(&answer.reply(program, served - 1))
+}
+
+/// Writes the numbers of the answer's replies, from the first place on.
+#[inline(always)]
+fn write_replies(program: &Program, answer: &Answer, places: &mut [ReplyNumbers])
+    requires { length places.old ≡ CALLS }
+    ensures { places.new ≡ are_written numbers_of_reply (replies_of program.now answer.now) places.old }
+{
+    let served = answer.served(program);
+    for k in 0..served {
+        places[k] = reply_numbers(answer.reply(program, k));
+    }
+}
+
+/// The numbers of the answer to a program.
+#[inline(always)]
+pub fn answer_numbers(program: &Program, answer: &Answer) -> ProgramAnswerNumbers
+    ensures { result ≡ numbers_of_answer program.now answer.now }
+{
+    let mut replies = [NO_REPLY; CALLS];
+    write_replies(program, answer, &mut replies);
+    ProgramAnswerNumbers {
+        place: answer.first(),
+        served: answer.served(program) as u32,
+        starved: u32::from(answer.is_refused()),
+        stop: stop_of(program, answer),
+        replies,
+    }
+}

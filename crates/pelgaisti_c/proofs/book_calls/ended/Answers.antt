@@ -1,5 +1,0 @@
-use Rattle.std.proofs.Common.{rules}
-use Rattle.pelgaisti_c.proofs.book_calls.ended.Goals as goal
-
-pub returns : goal.returns
-returns c = (c.ended-found.result.now, record { listed = c.ended-found.ensures.ended; once = c.ended-found.ensures.once }, c.write_sessions.ensures, search rules)

@@ -1,9 +1,0 @@
-use Rattle.std.proofs.Common.{◌∙◌, arith}
-use Rattle.lock_programs.specs.Answers.{replies_of}
-use Rattle.pelgaisti_c.proofs.Programs.{stop_last}
-use Rattle.pelgaisti_c.proofs.program_numbers.stop_of.Goals as goal
-
-pub returns : goal.returns
-returns c =
-    let replies = replies_of c.args.program.now c.args.answer.now in
-    c.stop_number.ensures ∙ stop_last replies _ c.reply.result c.reply.ensures (omega (arith, c.served-served.ensures.value, c.if-served-eq0.false))
