@@ -1,38 +1,14 @@
 //! The export that says how much the passes of a session's whole calls serve.
 
-ghost use Rattle.std.specs.Prelude.{◌≡◌, ◌≢◌, ◌<◌, ◌↔◌, ◌⊎◌, Some, IfSome, IfNone};
+ghost use Rattle.std.specs.Prelude.{◌≡◌, ◌≢◌, ◌↔◌, ◌⊎◌, Some};
 ghost use denote.RawPtr.{null_ptr};
-ghost use Rattle.combining.specs.Rounds.{IsBound};
-ghost use Rattle.combining.specs.declared.bounds.PassBound.{PassBound as PassBoundValue};
-ghost use Rattle.pelgaisti_c.specs.Bounds.{IsBoundOf, IsNoBound, HasBound};
-ghost use Rattle.pelgaisti_c.specs.declared.session_share.SessionShare.{SessionShare};
+ghost use Rattle.library_sessions.specs.Bounds.{IsNoBound, HasBound};
+ghost use Rattle.library_sessions.specs.declared.session_share.SessionShare.{SessionShare};
 
-use crate::pointers::SessionPointer;
 use library_books::status::{CLOSED, NO_SUCH_COUNT, NULL_POINTER, OK};
-use lock_office::PassBound;
+use library_sessions::bounds::bound_passes;
+use library_sessions::pointers::SessionPointer;
 use std::alloc::Global;
-
-/// How much a pass in a whole call of a session serves, unless it was told otherwise: bench/README.md has what other bounds give.
-pub(crate) const WHOLE_CALLS: PassBound = PassBound {
-    calls: 64,
-    weight: 4096,
-    rounds: 4,
-};
-
-/// The bound that the numbers say, if they are in range.
-fn bound_of(calls: u32, locks: u32, rounds: u32) -> Option<PassBound>
-    ensures some { IfSome result (λ bound. IsBoundOf calls locks rounds bound × IsBound bound) }
-    ensures none { IfNone result (IsNoBound calls locks rounds) }
-{
-    if calls == 0 || calls > 65_535 || locks == 0 || rounds == 0 || rounds > 65_535 {
-        return None;
-    }
-    Some(PassBound {
-        calls: calls as u16,
-        weight: locks,
-        rounds: rounds as u16,
-    })
-}
 
 /// From now on a pass in a whole call of the session serves at most `calls` published programs a round, takes none once those that it has
 /// taken give back `locks` locks, and makes `rounds` rounds at most.
@@ -59,11 +35,7 @@ pub extern "C" fn pelgaisti_raw_session_bound_passes(
     let Some(mut share) = session.take(alloc) else {
         return CLOSED;
     };
-    let Some(bound) = bound_of(calls, locks, rounds) else {
-        session.put(share);
-        return NO_SUCH_COUNT;
-    };
-    share.told.bound = bound;
+    let status = bound_passes(&mut share, calls, locks, rounds);
     session.put(share);
-    OK
+    status
 }

@@ -5,16 +5,16 @@ ghost use denote.RawPtr.{null_ptr};
 ghost use Rattle.lock_desk.specs.BookView.{BookView};
 ghost use Rattle.publication.specs.Boards.{IsEachOnce};
 ghost use Rattle.lock_office.specs.Sessions.{HasNothingPending};
-ghost use Rattle.pelgaisti_c.specs.Offices.{all_of, IsClosed};
-ghost use Rattle.pelgaisti_c.specs.Sessions.{IsKept, IsHandedIn};
-ghost use Rattle.pelgaisti_c.specs.declared.session_share.SessionShare.{SessionShare as ShareValue};
+ghost use Rattle.library_sessions.specs.Offices.{all_of, IsClosed};
+ghost use Rattle.library_sessions.specs.Sessions.{IsKept, IsHandedIn};
+ghost use Rattle.library_sessions.specs.declared.session_share.SessionShare.{SessionShare as ShareValue};
 
-use crate::hand_in;
-use crate::pointers::SessionPointer;
 use library_books::pointers::BookPointer;
 use library_books::status::{
     CLOSED, COPIED, MISSING, NO_MEMORY, NULL_POINTER, OK, OPEN, OTHER_OFFICE, PENDING,
 };
+use library_sessions::hand_in;
+use library_sessions::pointers::SessionPointer;
 use std::alloc::Global;
 
 /// Hands the session, with all sessions that were handed in to it, in to the session `to` of its office, and closes its

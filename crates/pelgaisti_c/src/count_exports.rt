@@ -5,30 +5,15 @@ ghost use denote.RawPtr.{null_ptr};
 ghost use Rattle.lock_desk.specs.BookView.{BookView};
 ghost use Rattle.lock_desk.specs.Counts.{counts_of};
 ghost use Rattle.library_books.specs.Counts.{numbers_of_counts};
-ghost use Rattle.pelgaisti_c.specs.Counts.{AreCountsSeen};
-ghost use Rattle.pelgaisti_c.specs.declared.session_share.SessionShare.{SessionShare};
+ghost use Rattle.library_sessions.specs.Counts.{AreCountsSeen};
+ghost use Rattle.library_sessions.specs.declared.session_share.SessionShare.{SessionShare};
 
-use crate::pointers::SessionPointer;
-use crate::session_share::SessionShare;
-use library_books::count_numbers::{CountNumbers, count_numbers};
+use library_books::count_numbers::count_numbers;
 use library_books::pointers::{BookPointer, CountsPointer, U64Pointer};
 use library_books::status::{CLOSED, ELSEWHERE, NULL_POINTER, OK};
+use library_sessions::counts::counts_of_office;
+use library_sessions::pointers::SessionPointer;
 use std::alloc::Global;
-
-/// Writes the counters of the open office, and how many calls the history had then.
-fn counts_of_office(share: &mut SessionShare, counts: &mut CountNumbers, seen: &mut u64) -> u32
-    ensures ok { result ≡ OK → AreCountsSeen share.old share.new counts.new seen.new }
-    ensures failed { result ≢ OK → (share.new ≡ share.old) × (counts.new ≡ counts.old) × (seen.new ≡ seen.old) }
-    ensures elsewhere { result ≡ ELSEWHERE → 2 ≤ share.old.sessions }
-    ensures statuses { (result ≡ OK) ⊎ (result ≡ ELSEWHERE) }
-{
-    let Some(told) = share.session.counts(&share.office) else {
-        return ELSEWHERE;
-    };
-    *counts = count_numbers(&told.found);
-    *seen = told.length;
-    OK
-}
 
 /// Writes the counters of the book's history.
 #[unsafe(no_mangle)]

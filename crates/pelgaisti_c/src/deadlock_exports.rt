@@ -6,14 +6,14 @@ ghost use Rattle.lock_desk.specs.BookView.{BookView};
 ghost use Rattle.lock_desk.specs.Deadlocks.{deadlocks_in, newest};
 ghost use Rattle.library_books.specs.Behind.{IsNullList};
 ghost use Rattle.library_books.specs.Deadlocks.{AreDeadlocksWritten};
-ghost use Rattle.pelgaisti_c.specs.Deadlocks.{AreDeadlocksSeen};
-ghost use Rattle.pelgaisti_c.specs.Queries.{HasSeen};
-ghost use Rattle.pelgaisti_c.specs.declared.session_share.SessionShare.{SessionShare};
+ghost use Rattle.library_sessions.specs.Deadlocks.{AreDeadlocksSeen};
+ghost use Rattle.library_sessions.specs.Queries.{HasSeen};
+ghost use Rattle.library_sessions.specs.declared.session_share.SessionShare.{SessionShare};
 
-use crate::deadlocks;
-use crate::pointers::SessionPointer;
 use library_books::pointers::{BookPointer, DeadlockList, MemberList, SizePointer, U64Pointer};
 use library_books::status::{CLOSED, ELSEWHERE, NO_MEMORY, NULL_POINTER, OK, SERVED};
+use library_sessions::deadlocks;
+use library_sessions::pointers::SessionPointer;
 use std::alloc::Global;
 
 /// Keeps the newest `most` deadlocks from now on. The book must not have served calls.

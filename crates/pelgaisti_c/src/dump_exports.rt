@@ -5,14 +5,14 @@ ghost use denote.RawPtr.{null_ptr};
 ghost use Rattle.lock_rules.specs.Legal.{state_of};
 ghost use Rattle.lock_desk.specs.BookView.{BookView};
 ghost use Rattle.library_books.specs.Behind.{IsNullList};
-ghost use Rattle.pelgaisti_c.specs.declared.session_share.SessionShare.{SessionShare};
-ghost use Rattle.pelgaisti_c.specs.Dumps.{IsDumpSeen, IsDumped};
-ghost use Rattle.pelgaisti_c.specs.Queries.{HasSeen};
+ghost use Rattle.library_sessions.specs.declared.session_share.SessionShare.{SessionShare};
+ghost use Rattle.library_sessions.specs.Dumps.{IsDumpSeen, IsDumped};
+ghost use Rattle.library_sessions.specs.Queries.{HasSeen};
 
-use crate::dump;
-use crate::pointers::SessionPointer;
 use library_books::pointers::{BookPointer, ClaimList, SizePointer, U64Pointer};
 use library_books::status::{CLOSED, ELSEWHERE, NO_MEMORY, NULL_POINTER, OK};
+use library_sessions::dump;
+use library_sessions::pointers::SessionPointer;
 use std::alloc::Global;
 
 /// Writes the rows of a dump of the book: of each open transaction, and then of each lock and waiting request, resource by resource, as

@@ -6,30 +6,15 @@ ghost use Rattle.lock_rules.specs.Legal.{state_of};
 ghost use Rattle.lock_desk.specs.BookView.{BookView};
 ghost use Rattle.lock_desk.specs.Gauges.{gauges_of};
 ghost use Rattle.library_books.specs.Counts.{numbers_of_gauges};
-ghost use Rattle.pelgaisti_c.specs.Counts.{AreGaugesSeen};
-ghost use Rattle.pelgaisti_c.specs.declared.session_share.SessionShare.{SessionShare};
+ghost use Rattle.library_sessions.specs.Counts.{AreGaugesSeen};
+ghost use Rattle.library_sessions.specs.declared.session_share.SessionShare.{SessionShare};
 
-use crate::pointers::SessionPointer;
-use crate::session_share::SessionShare;
-use library_books::count_numbers::{GaugeNumbers, gauge_numbers};
+use library_books::count_numbers::gauge_numbers;
 use library_books::pointers::{BookPointer, GaugesPointer, U64Pointer};
 use library_books::status::{CLOSED, ELSEWHERE, NULL_POINTER, OK};
+use library_sessions::counts::gauges_of_office;
+use library_sessions::pointers::SessionPointer;
 use std::alloc::Global;
-
-/// Writes the gauges of the open office, and how many calls the history had then.
-fn gauges_of_office(share: &mut SessionShare, gauges: &mut GaugeNumbers, seen: &mut u64) -> u32
-    ensures ok { result ≡ OK → AreGaugesSeen share.old share.new gauges.new seen.new }
-    ensures failed { result ≢ OK → (share.new ≡ share.old) × (gauges.new ≡ gauges.old) × (seen.new ≡ seen.old) }
-    ensures elsewhere { result ≡ ELSEWHERE → 2 ≤ share.old.sessions }
-    ensures statuses { (result ≡ OK) ⊎ (result ≡ ELSEWHERE) }
-{
-    let Some(told) = share.session.gauges(&share.office) else {
-        return ELSEWHERE;
-    };
-    *gauges = gauge_numbers(told.found);
-    *seen = told.length;
-    OK
-}
 
 /// Writes the gauges of the book.
 #[unsafe(no_mangle)]

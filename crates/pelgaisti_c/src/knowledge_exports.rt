@@ -4,13 +4,13 @@ ghost use Rattle.std.specs.Prelude.{◌≡◌, ◌≢◌, ◌↔◌, ◌⊎◌, 
 ghost use denote.RawPtr.{null_ptr};
 ghost use Rattle.lock_office.specs.Seen.{number_of_calls};
 ghost use Rattle.library_books.specs.Calls.{are_written};
-ghost use Rattle.pelgaisti_c.specs.Sessions.{IsHeard};
-ghost use Rattle.pelgaisti_c.specs.declared.session_share.SessionShare.{SessionShare};
+ghost use Rattle.library_sessions.specs.Sessions.{IsHeard};
+ghost use Rattle.library_sessions.specs.declared.session_share.SessionShare.{SessionShare};
 
-use crate::pointers::SessionPointer;
-use crate::session_calls;
 use library_books::pointers::U64Pointer;
 use library_books::status::{CLOSED, NULL_POINTER, OK, OTHER_OFFICE};
+use library_sessions::pointers::SessionPointer;
+use library_sessions::session_calls;
 use std::alloc::Global;
 
 /// Writes the number of history entries that the session knows. These are the first ones.

@@ -1,18 +1,14 @@
 //! The lock manager for C: exports over books and over the sessions of offices, which C holds by handles in its own
 //! memory.
 //!
-//! Exports over a book: `book.rt`, `history_exports.rt`, `listing_exports.rt`, `path_exports.rt`, `path_step_exports.rt`,
-//! `program_exports.rt`. Over sessions: `office.rt`, `session.rt`, `knowledge_exports.rt`, `turn_exports.rt`, `path_turn_exports.rt`,
-//! `program_turn_exports.rt`, `bound_exports.rt`, `sleep_exports.rt`, `close_exports.rt`. Over both: `query_exports.rt`,
-//! `deadlock_exports.rt`, `page_exports.rt`, `dump_exports.rt`, `count_exports.rt`, `gauge_exports.rt`, `pass_count_exports.rt`,
-//! `memory_exports.rt`. And `version.rt`. What they do with a book: `library_books`; with a session: `session_calls.rt`, `perform_calls.rt`,
-//! `turn_calls.rt`, `path_turn_calls.rt`, `program_turn_calls.rt`, `queries.rt`, `deadlocks.rt`, `pages.rt`, `dump.rt`, `memory_calls.rt`,
-//! `sleep_calls.rt`, `hand_in.rt`. A session's handle: `session_handle.rt`, and what is in it. Pointers to handles: `pointers.rt`.
+//! Over a book: `book.rt`, `history_exports.rt`, `listing_exports.rt`, `path_exports.rt`, `path_step_exports.rt`, `program_exports.rt`. Over
+//! sessions: `office.rt`, `session.rt`, `knowledge_exports.rt`, `turn_exports.rt`, `path_turn_exports.rt`, `program_turn_exports.rt`,
+//! `bound_exports.rt`, `sleep_exports.rt`, `close_exports.rt`. Over both: `query_exports.rt`, `deadlock_exports.rt`, `page_exports.rt`,
+//! `dump_exports.rt`, `count_exports.rt`, `gauge_exports.rt`, `pass_count_exports.rt`, `memory_exports.rt`. And `version.rt`.
 //!
 //! An export tests the caller's pointers for null, which C gives by their addresses, takes the value out of the handle, makes one call of
-//! `library_books`, `combining` or `lock_office`, writes the reply in numbers, puts the value back, and returns a status. Of what it is
-//! given by reference C says that it isn't null: numbers that C keeps for itself, and all of `path_step_exports.rt`. `bindings/c` makes
-//! a whole call of turns.
+//! `library_books` or `library_sessions`, puts the value back, and returns a status. Of what it is given by reference C says that it isn't
+//! null: numbers that C keeps for itself, and all of `path_step_exports.rt`. `bindings/c` makes a whole call of turns.
 //!
 //! Proved: each export states the clauses of its call again, in numbers; one that failed has changed nothing, but for
 //! the exceptions that docs/PROMISES.md lists. Not proved is what C must keep to: the rules for callers in
@@ -24,45 +20,24 @@ mod bound_exports;
 mod close_exports;
 mod count_exports;
 mod deadlock_exports;
-mod deadlocks;
-mod dump;
 mod dump_exports;
-mod ended_list;
 mod gauge_exports;
-mod hand_in;
-mod held_share;
 mod history_exports;
 mod knowledge_exports;
 mod listing_exports;
-mod memory_calls;
 mod memory_exports;
 mod office;
 mod page_exports;
-mod pages;
 mod pass_count_exports;
-mod pass_count_numbers;
 mod path_exports;
 mod path_step_exports;
-mod path_turn_calls;
 mod path_turn_exports;
-mod perform_calls;
-mod pointers;
 mod program_exports;
-mod program_turn_calls;
 mod program_turn_exports;
-mod queries;
 mod query_exports;
 mod session;
-mod session_calls;
-mod session_handle;
-mod session_share;
-mod sleep_calls;
 mod sleep_exports;
-mod turn_calls;
 mod turn_exports;
 mod version;
 
-pub use pass_count_numbers::PassCountNumbers;
-pub use pointers::{HandleList, PassCountsPointer, SessionPointer};
-pub use session_handle::SessionHandle;
 pub use version::HEADER_VERSION;

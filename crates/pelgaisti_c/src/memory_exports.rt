@@ -4,13 +4,13 @@
 
 ghost use Rattle.std.specs.Prelude.{◌≡◌, ◌≢◌, ◌≤◌, ◌↔◌, ◌⊎◌, Some};
 ghost use denote.RawPtr.{null_ptr};
-ghost use Rattle.pelgaisti_c.specs.Queries.{HasSeen, IsSeen};
-ghost use Rattle.pelgaisti_c.specs.declared.session_share.SessionShare.{SessionShare};
+ghost use Rattle.library_sessions.specs.Queries.{HasSeen, IsSeen};
+ghost use Rattle.library_sessions.specs.declared.session_share.SessionShare.{SessionShare};
 
-use crate::memory_calls;
-use crate::pointers::SessionPointer;
 use library_books::pointers::{BookPointer, SizePointer, U64Pointer};
 use library_books::status::{CLOSED, ELSEWHERE, NO_MEMORY, NULL_POINTER, OK};
+use library_sessions::memory_calls;
+use library_sessions::pointers::SessionPointer;
 use std::alloc::Global;
 
 /// Makes room for so many resources beside those that are held or waited for, and for so many entries of the history beside those that

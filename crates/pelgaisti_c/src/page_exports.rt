@@ -9,16 +9,16 @@ ghost use Rattle.lock_rules.specs.State.{claims_of};
 ghost use Rattle.lock_desk.specs.BookView.{BookView};
 ghost use Rattle.library_books.specs.Behind.{IsNullList};
 ghost use Rattle.library_books.specs.Calls.{IsSession};
-ghost use Rattle.pelgaisti_c.specs.Pages.{IsAfterLevel, IsPageOf, IsCountSeen, IsPageSeen};
-ghost use Rattle.pelgaisti_c.specs.Queries.{IsOfOffice, HasSeen};
-ghost use Rattle.pelgaisti_c.specs.declared.session_share.SessionShare.{SessionShare};
+ghost use Rattle.library_sessions.specs.Pages.{IsAfterLevel, IsPageOf, IsCountSeen, IsPageSeen};
+ghost use Rattle.library_sessions.specs.Queries.{IsOfOffice, HasSeen};
+ghost use Rattle.library_sessions.specs.declared.session_share.SessionShare.{SessionShare};
 
-use crate::pages;
-use crate::pointers::SessionPointer;
 use library_books::pointers::{BookPointer, ClaimList, ResourcePointer, SizePointer, U64Pointer};
 use library_books::status::{
     CLOSED, ELSEWHERE, NO_MEMORY, NO_SUCH_LEVEL, NO_SUCH_SESSION, NULL_POINTER, OK,
 };
+use library_sessions::pages;
+use library_sessions::pointers::SessionPointer;
 use std::alloc::Global;
 
 /// Writes how many locks the session holds.

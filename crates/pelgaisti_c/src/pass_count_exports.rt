@@ -2,30 +2,14 @@
 
 ghost use Rattle.std.specs.Prelude.{◌≡◌, ◌≢◌, ◌≤◌, ◌↔◌, ◌⊎◌, Some};
 ghost use denote.RawPtr.{null_ptr};
-ghost use Rattle.pelgaisti_c.specs.Queries.{IsSeen};
-ghost use Rattle.pelgaisti_c.specs.declared.session_share.SessionShare.{SessionShare};
+ghost use Rattle.library_sessions.specs.Queries.{IsSeen};
+ghost use Rattle.library_sessions.specs.declared.session_share.SessionShare.{SessionShare};
 
-use crate::pass_count_numbers::{PassCountNumbers, pass_count_numbers};
-use crate::pointers::{PassCountsPointer, SessionPointer};
-use crate::session_share::SessionShare;
 use library_books::pointers::U64Pointer;
 use library_books::status::{CLOSED, ELSEWHERE, NULL_POINTER, OK};
+use library_sessions::counts::passes_of_office;
+use library_sessions::pointers::{PassCountsPointer, SessionPointer};
 use std::alloc::Global;
-
-/// Writes what the passes of the open office have served, and how many calls the history had then.
-fn passes_of_office(share: &mut SessionShare, passes: &mut PassCountNumbers, seen: &mut u64) -> u32
-    ensures ok { result ≡ OK → IsSeen share.old share.new seen.new }
-    ensures failed { result ≢ OK → (share.new ≡ share.old) × (passes.new ≡ passes.old) × (seen.new ≡ seen.old) }
-    ensures elsewhere { result ≡ ELSEWHERE → 2 ≤ share.old.sessions }
-    ensures statuses { (result ≡ OK) ⊎ (result ≡ ELSEWHERE) }
-{
-    let Some(told) = share.session.passes(&share.office) else {
-        return ELSEWHERE;
-    };
-    *passes = pass_count_numbers(told.found);
-    *seen = told.length;
-    OK
-}
 
 /// Writes what the passes of the open office have served, and how many calls the history had then. No clause says what the numbers are.
 #[unsafe(no_mangle)]

@@ -7,7 +7,7 @@ ghost use Rattle.lock_modes.specs.declared.Mode.{Mode};
 ghost use Rattle.lock_desk.specs.Paths.{lock_of_level};
 ghost use Rattle.library_books.specs.Numbers.{IsModeCode, numbers_of_call};
 ghost use Rattle.library_books.specs.Paths.{HasLevelBehind};
-ghost use Rattle.pelgaisti_c.specs.PathTurns.{IsRestOf};
+ghost use Rattle.library_sessions.specs.PathTurns.{IsRestOf};
 
 use library_books::numbers::{CallNumbers, ResourceNumbers, call_numbers, read_mode};
 use library_books::path_calls::read_path;

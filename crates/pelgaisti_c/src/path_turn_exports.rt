@@ -2,20 +2,20 @@
 
 ghost use Rattle.std.specs.Prelude.{◌≡◌, ◌≢◌, ◌+◌, ◌<◌, ◌≤◌, ◌⊎◌, ◌↔◌, ℕ, true, Some, None, List};
 ghost use denote.RawPtr.{null_ptr};
-ghost use Rattle.pelgaisti_c.specs.Bounds.{HasServedWithin};
+ghost use Rattle.library_sessions.specs.Bounds.{HasServedWithin};
 ghost use Rattle.library_books.specs.Numbers.{IsModeCode};
 ghost use Rattle.library_books.specs.Paths.{HasLevelBehind};
-ghost use Rattle.pelgaisti_c.specs.Sessions.{AreToWake};
-ghost use Rattle.pelgaisti_c.specs.PathTurns.{IsRestOf, IsPathEnded, HasPathLeft, IsPathLate, IsPathStarved};
-ghost use Rattle.pelgaisti_c.specs.declared.session_share.SessionShare.{SessionShare};
+ghost use Rattle.library_sessions.specs.Sessions.{AreToWake};
+ghost use Rattle.library_sessions.specs.PathTurns.{IsRestOf, IsPathEnded, HasPathLeft, IsPathLate, IsPathStarved};
+ghost use Rattle.library_sessions.specs.declared.session_share.SessionShare.{SessionShare};
 
-use crate::path_turn_calls;
-use crate::pointers::SessionPointer;
 use library_books::path_calls::read_path;
 use library_books::pointers::{AnswerPointer, ResourcePointer, U32Pointer};
 use library_books::status::{
     CLOSED, NO_MEMORY, NO_SUCH_LEVEL, NO_SUCH_MODE, NOT_SERVED, NULL_POINTER, OK, PENDING, RETIRED,
 };
+use library_sessions::path_turn_calls;
+use library_sessions::pointers::SessionPointer;
 use std::alloc::Global;
 
 /// Makes one turn on the way down a path: the ancestors of the resource, from the database down, in the mode that `mode` needs of a parent,

@@ -3,19 +3,19 @@
 ghost use Rattle.std.specs.Prelude.{◌≡◌, ◌≢◌, ◌≤◌, ◌⊎◌, ◌↔◌, true, Some, None};
 ghost use denote.RawPtr.{null_ptr};
 ghost use Rattle.lock_programs.specs.declared.program.Program.{Program};
-ghost use Rattle.pelgaisti_c.specs.Bounds.{HasServedWithin};
-ghost use Rattle.pelgaisti_c.specs.Sessions.{AreToWake};
-ghost use Rattle.pelgaisti_c.specs.Turns.{IsLookStarved, IsLookMade};
-ghost use Rattle.pelgaisti_c.specs.ProgramTurns.{IsOfCalls, IsRunFault, IsRunAnswered, IsRunStarved, IsRunMade, IsRunLookAnswered};
-ghost use Rattle.pelgaisti_c.specs.declared.session_share.SessionShare.{SessionShare};
+ghost use Rattle.library_sessions.specs.Bounds.{HasServedWithin};
+ghost use Rattle.library_sessions.specs.Sessions.{AreToWake};
+ghost use Rattle.library_sessions.specs.Turns.{IsLookStarved, IsLookMade};
+ghost use Rattle.library_sessions.specs.ProgramTurns.{IsOfCalls, IsRunFault, IsRunAnswered, IsRunStarved, IsRunMade, IsRunLookAnswered};
+ghost use Rattle.library_sessions.specs.declared.session_share.SessionShare.{SessionShare};
 
-use crate::pointers::SessionPointer;
-use crate::program_turn_calls;
 use library_books::pointers::{ProgramAnswerPointer, ProgramPointer};
 use library_books::status::{
     CLOSED, NO_MEMORY, NO_SUCH_ABOVE, NO_SUCH_MODE, NO_SUCH_OP, NO_SUCH_START, NOT_SERVED,
     NOTHING_PENDING, NULL_POINTER, OK, PENDING, RETIRED,
 };
+use library_sessions::pointers::SessionPointer;
+use library_sessions::program_turn_calls;
 use std::alloc::Global;
 
 /// Makes turn number `made` of a program, of which the caller makes `turns` at most, counted from 0, as `pelgaisti_raw_session_turn` makes

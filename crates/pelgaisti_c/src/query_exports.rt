@@ -5,11 +5,9 @@ ghost use Rattle.std.specs.Prelude.{◌≡◌, ◌≢◌, ◌≤◌, ◌↔◌, 
 ghost use denote.RawPtr.{null_ptr};
 ghost use Rattle.library_books.specs.Behind.{IsNullList};
 ghost use Rattle.library_books.specs.Numbers.{IsLevel};
-ghost use Rattle.pelgaisti_c.specs.Queries.{IsOfOffice, HasSeen, IsHeldSeen, IsWaitSeen, AreHoldersSeen, AreBlockersSeen, IsTransactionSeen, IsRequestSeen, AreLocksSeen};
-ghost use Rattle.pelgaisti_c.specs.declared.session_share.SessionShare.{SessionShare};
+ghost use Rattle.library_sessions.specs.Queries.{IsOfOffice, HasSeen, IsHeldSeen, IsWaitSeen, AreHoldersSeen, AreBlockersSeen, IsTransactionSeen, IsRequestSeen, AreLocksSeen};
+ghost use Rattle.library_sessions.specs.declared.session_share.SessionShare.{SessionShare};
 
-use crate::pointers::SessionPointer;
-use crate::queries;
 use library_books::pointers::{
     ClaimList, ClaimPointer, HolderList, ResourcePointer, SessionList, SizePointer,
     TransactionPointer, U32Pointer, U64Pointer,
@@ -17,6 +15,8 @@ use library_books::pointers::{
 use library_books::status::{
     CLOSED, ELSEWHERE, NO_MEMORY, NO_SUCH_LEVEL, NO_SUCH_SESSION, NULL_POINTER, OK,
 };
+use library_sessions::pointers::SessionPointer;
+use library_sessions::queries;
 use std::alloc::Global;
 
 /// Writes the code of the mode that session `whose` holds on the resource, or that of NL if it holds none.

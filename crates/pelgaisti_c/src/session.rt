@@ -7,11 +7,9 @@ ghost use Rattle.lock_office.specs.ProgramTurns.{HasSeveralPending};
 ghost use Rattle.lock_rules.specs.declared.calls.Call.{Call};
 ghost use Rattle.library_books.specs.Behind.{IsNullList};
 ghost use Rattle.library_books.specs.Numbers.{IsCall, IsCallFault};
-ghost use Rattle.pelgaisti_c.specs.Sessions.{IsPublished, IsTurn, AreToWake, HasToldNone, IsToldTurn, IsPerformedAtOnce, IsRefusedAtOnce, IsToldPerformed, IsToldRefused, HasToldNobody, MayCall, IsElsewhere, IsAnswered, IsPieceTaken, IsRetired};
-ghost use Rattle.pelgaisti_c.specs.declared.session_share.SessionShare.{SessionShare};
+ghost use Rattle.library_sessions.specs.Sessions.{IsPublished, IsTurn, AreToWake, HasToldNone, IsToldTurn, IsPerformedAtOnce, IsRefusedAtOnce, IsToldPerformed, IsToldRefused, HasToldNobody, MayCall, IsElsewhere, IsAnswered, IsPieceTaken, IsRetired};
+ghost use Rattle.library_sessions.specs.declared.session_share.SessionShare.{SessionShare};
 
-use crate::pointers::SessionPointer;
-use crate::{perform_calls, session_calls};
 use library_books::pointers::{
     AnswerPointer, CallPointer, EntryList, PassPointer, SessionList, SizePointer, U32Pointer,
     U64Pointer,
@@ -20,6 +18,8 @@ use library_books::status::{
     CLOSED, ELSEWHERE, NO_MEMORY, NO_ROOM, NO_SUCH_MODE, NO_SUCH_OP, NOT_SERVED, NOTHING_PENDING,
     NULL_POINTER, OK, PENDING, RETIRED,
 };
+use library_sessions::pointers::SessionPointer;
+use library_sessions::{perform_calls, session_calls};
 use std::alloc::Global;
 
 /// Publishes the call that the numbers encode. The call is pending until the session collects its answer. Writes 1 to

@@ -3,11 +3,11 @@
 ghost use Rattle.std.specs.Prelude.{◌≡◌, ◌≢◌, ◌<◌, ◌≤◌, ◌⊎◌, ◌↔◌, ℕ, List, Some, length};
 ghost use denote.RawPtr.{null_ptr};
 ghost use Rattle.publication.specs.Sleep.{AreWritten};
-ghost use Rattle.pelgaisti_c.specs.declared.session_share.SessionShare.{SessionShare};
+ghost use Rattle.library_sessions.specs.declared.session_share.SessionShare.{SessionShare};
 
-use crate::pointers::SessionPointer;
-use crate::sleep_calls;
 use library_books::status::{CLOSED, NO_ROOM, NULL_POINTER, OK};
+use library_sessions::pointers::SessionPointer;
+use library_sessions::sleep_calls;
 use std::alloc::Global;
 
 /// Begins a sleep of the session, and writes its number to `number`. Writes 1 to `may_sleep` if its thread may sleep until

@@ -4,19 +4,19 @@ ghost use Rattle.std.specs.Prelude.{◌≡◌, ◌≢◌, ◌≤◌, ◌⊎◌, 
 ghost use denote.RawPtr.{null_ptr};
 ghost use Rattle.lock_rules.specs.declared.calls.Call.{Call};
 ghost use Rattle.lock_office.specs.ProgramTurns.{HasSeveralPending};
-ghost use Rattle.pelgaisti_c.specs.Bounds.{HasServedWithin};
+ghost use Rattle.library_sessions.specs.Bounds.{HasServedWithin};
 ghost use Rattle.library_books.specs.Numbers.{IsCall, IsCallFault};
-ghost use Rattle.pelgaisti_c.specs.Sessions.{AreToWake};
-ghost use Rattle.pelgaisti_c.specs.Turns.{IsTurnAnswered, IsTurnStarved, IsTurnMade, IsLookAnswered, IsLookStarved, IsLookMade};
-ghost use Rattle.pelgaisti_c.specs.declared.session_share.SessionShare.{SessionShare};
+ghost use Rattle.library_sessions.specs.Sessions.{AreToWake};
+ghost use Rattle.library_sessions.specs.Turns.{IsTurnAnswered, IsTurnStarved, IsTurnMade, IsLookAnswered, IsLookStarved, IsLookMade};
+ghost use Rattle.library_sessions.specs.declared.session_share.SessionShare.{SessionShare};
 
-use crate::pointers::SessionPointer;
-use crate::turn_calls;
 use library_books::pointers::{AnswerPointer, CallPointer};
 use library_books::status::{
     CLOSED, NO_MEMORY, NO_SUCH_MODE, NO_SUCH_OP, NOT_SERVED, NOTHING_PENDING, NULL_POINTER, OK,
     PENDING, RETIRED,
 };
+use library_sessions::pointers::SessionPointer;
+use library_sessions::turn_calls;
 use std::alloc::Global;
 
 /// Makes turn number `made` of a call, of which the caller makes `turns` at most, counted from 0. A session with no call pending tries to

@@ -1,8 +1,8 @@
 use Rattle.std.proofs.Common.{rules, ◌≡◌, Option, Some, inr, subst}
 use Rattle.std.specs.Prelude.{IfSome}
 use Rattle.std.specs.Global.{Box}
-use Rattle.pelgaisti_c.specs.declared.session_share.SessionShare.{SessionShare}
-use Rattle.pelgaisti_c.specs.Sessions.{IsSameShare}
+use Rattle.library_sessions.specs.declared.session_share.SessionShare.{SessionShare}
+use Rattle.library_sessions.specs.Sessions.{IsSameShare}
 use Rattle.pelgaisti_c.proofs.close_exports.pelgaisti_raw_office_close.Goals as goal
 
 pub returns-in-Ok-clause-ok : goal.returns-in-Ok-clause-ok

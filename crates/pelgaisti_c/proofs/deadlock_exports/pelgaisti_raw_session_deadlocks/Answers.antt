@@ -1,7 +1,7 @@
 use Rattle.std.proofs.Common.{rules, ◌≡◌, List, Some, subst}
 use Rattle.library_books.specs.declared.deadlock_numbers.DeadlockNumbers.{DeadlockNumbers}
 use Rattle.library_books.specs.declared.deadlock_numbers.MemberNumbers.{MemberNumbers}
-use Rattle.pelgaisti_c.specs.Deadlocks.{AreDeadlocksSeen}
+use Rattle.library_sessions.specs.Deadlocks.{AreDeadlocksSeen}
 use Rattle.pelgaisti_c.proofs.deadlock_exports.pelgaisti_raw_session_deadlocks.Goals as goal
 
 pub returns-clause-ok : goal.returns-clause-ok

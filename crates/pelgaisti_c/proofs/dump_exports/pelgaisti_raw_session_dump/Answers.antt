@@ -1,6 +1,6 @@
 use Rattle.std.proofs.Common.{rules, ◌≡◌, List, Some, subst}
 use Rattle.library_books.specs.declared.claims.ClaimNumbers.{ClaimNumbers}
-use Rattle.pelgaisti_c.specs.Dumps.{IsDumpSeen}
+use Rattle.library_sessions.specs.Dumps.{IsDumpSeen}
 use Rattle.pelgaisti_c.proofs.dump_exports.pelgaisti_raw_session_dump.Goals as goal
 
 pub returns-clause-ok : goal.returns-clause-ok

@@ -1,8 +1,8 @@
 use Rattle.std.proofs.Common.{rules, ◌≡◌, List, length, sym, subst, ap, ◌∙◌}
 use Rattle.std.specs.Prelude.{Any}
 use Rattle.std.proofs.lemmas.List.{length-map}
-use Rattle.pelgaisti_c.specs.declared.session_handle.SessionHandle.{SessionHandle}
-use Rattle.pelgaisti_c.proofs.Handles.{new_tickets_count, are_unknowing}
+use Rattle.library_sessions.specs.declared.session_handle.SessionHandle.{SessionHandle}
+use Rattle.library_sessions.proofs.Handles.{new_tickets_count, are_unknowing}
 use Rattle.pelgaisti_c.proofs.office.pelgaisti_raw_office_open.Goals as goal
 
 pub open_handles-requires : goal.open_handles-requires

@@ -1,7 +1,7 @@
 use Rattle.std.proofs.Common.{rules, ◌≡◌, List, Some, subst}
 use Rattle.library_books.specs.declared.claims.ClaimNumbers.{ClaimNumbers}
 use Rattle.library_books.specs.declared.numbers.ResourceNumbers.{ResourceNumbers}
-use Rattle.pelgaisti_c.specs.Pages.{IsAfterLevel, IsPageSeen}
+use Rattle.library_sessions.specs.Pages.{IsAfterLevel, IsPageSeen}
 use Rattle.pelgaisti_c.proofs.page_exports.pelgaisti_raw_session_locks_of.Goals as goal
 
 pub returns-clause-ok : goal.returns-clause-ok

@@ -2,7 +2,7 @@ use Rattle.std.proofs.Common.{rules, ◌≡◌, ℕ, ◌+◌, ◌<◌, ◌≤◌
 use Rattle.std.specs.Prelude.{◌⊎◌}
 use Rattle.library_books.specs.declared.numbers.ResourceNumbers.{ResourceNumbers}
 use Rattle.library_books.specs.declared.numbers.AnswerNumbers.{AnswerNumbers}
-use Rattle.pelgaisti_c.specs.PathTurns.{IsRestOf, IsPathEnded, IsPathStarved, HasPathLeft, IsPathLate}
+use Rattle.library_sessions.specs.PathTurns.{IsRestOf, IsPathEnded, IsPathStarved, HasPathLeft, IsPathLate}
 use Rattle.pelgaisti_c.proofs.path_turn_exports.pelgaisti_raw_session_path_turn.Goals as goal
 
 pub returns-clause-ok : goal.returns-clause-ok

@@ -1,7 +1,7 @@
 use Rattle.std.proofs.Common.{rules, ◌≡◌, Some, subst}
 use Rattle.lock_programs.specs.declared.program.Program.{Program}
 use Rattle.library_books.specs.declared.program_numbers.ProgramNumbers.{ProgramNumbers}
-use Rattle.pelgaisti_c.specs.ProgramTurns.{IsOfCalls, IsRunFault, IsRunAnswered, IsRunStarved, IsRunMade}
+use Rattle.library_sessions.specs.ProgramTurns.{IsOfCalls, IsRunFault, IsRunAnswered, IsRunStarved, IsRunMade}
 use Rattle.pelgaisti_c.proofs.program_turn_exports.pelgaisti_raw_session_run_turn.Goals as goal
 
 pub returns-clause-ok : goal.returns-clause-ok

@@ -1,5 +1,5 @@
 use Rattle.std.proofs.Common.{rules, ◌≡◌, ℕ, List, Some, subst}
-use Rattle.pelgaisti_c.specs.Queries.{AreBlockersSeen}
+use Rattle.library_sessions.specs.Queries.{AreBlockersSeen}
 use Rattle.pelgaisti_c.proofs.query_exports.pelgaisti_raw_session_blockers.Goals as goal
 
 pub returns-clause-ok : goal.returns-clause-ok

@@ -1,7 +1,7 @@
 use Rattle.std.proofs.Common.{rules, ◌≡◌, Some, subst}
 use Rattle.library_books.specs.declared.numbers.ResourceNumbers.{ResourceNumbers}
 use Rattle.library_books.specs.Numbers.{IsLevel}
-use Rattle.pelgaisti_c.specs.Queries.{IsHeldSeen}
+use Rattle.library_sessions.specs.Queries.{IsHeldSeen}
 use Rattle.pelgaisti_c.proofs.query_exports.pelgaisti_raw_session_held.Goals as goal
 
 pub returns-clause-ok : goal.returns-clause-ok

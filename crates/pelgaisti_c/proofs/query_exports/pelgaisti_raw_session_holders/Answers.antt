@@ -2,7 +2,7 @@ use Rattle.std.proofs.Common.{rules, ◌≡◌, List, Some, subst}
 use Rattle.library_books.specs.declared.numbers.ResourceNumbers.{ResourceNumbers}
 use Rattle.library_books.specs.declared.numbers.HolderNumbers.{HolderNumbers}
 use Rattle.library_books.specs.Numbers.{IsLevel}
-use Rattle.pelgaisti_c.specs.Queries.{AreHoldersSeen}
+use Rattle.library_sessions.specs.Queries.{AreHoldersSeen}
 use Rattle.pelgaisti_c.proofs.query_exports.pelgaisti_raw_session_holders.Goals as goal
 
 pub returns-clause-ok : goal.returns-clause-ok

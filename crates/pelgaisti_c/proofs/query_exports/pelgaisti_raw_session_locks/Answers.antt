@@ -1,6 +1,6 @@
 use Rattle.std.proofs.Common.{rules, ◌≡◌, List, Some, subst}
 use Rattle.library_books.specs.declared.claims.ClaimNumbers.{ClaimNumbers}
-use Rattle.pelgaisti_c.specs.Queries.{AreLocksSeen}
+use Rattle.library_sessions.specs.Queries.{AreLocksSeen}
 use Rattle.pelgaisti_c.proofs.query_exports.pelgaisti_raw_session_locks.Goals as goal
 
 pub returns-clause-ok : goal.returns-clause-ok

@@ -2,7 +2,7 @@ use Rattle.std.proofs.Common.{rules, ◌≡◌, Some, subst}
 use Rattle.lock_rules.specs.declared.calls.Call.{Call}
 use Rattle.library_books.specs.declared.numbers.CallNumbers.{CallNumbers}
 use Rattle.library_books.specs.Numbers.{IsCall}
-use Rattle.pelgaisti_c.specs.Sessions.{IsPerformedAtOnce, IsRefusedAtOnce, MayCall}
+use Rattle.library_sessions.specs.Sessions.{IsPerformedAtOnce, IsRefusedAtOnce, MayCall}
 use Rattle.pelgaisti_c.proofs.session.pelgaisti_raw_session_perform_at_once.Goals as goal
 
 pub returns-clause-ok : goal.returns-clause-ok

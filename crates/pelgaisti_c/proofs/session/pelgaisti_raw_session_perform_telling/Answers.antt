@@ -2,9 +2,9 @@ use Rattle.std.proofs.Common.{rules, ◌≡◌, ℕ, ◌<◌, ◌∙◌, List, S
 use Rattle.std.specs.Prelude.{◌⊎◌}
 use Rattle.lock_rules.specs.declared.calls.Call.{Call}
 use Rattle.library_books.specs.declared.numbers.CallNumbers.{CallNumbers}
-use Rattle.pelgaisti_c.specs.declared.session_share.SessionShare.{SessionShare}
+use Rattle.library_sessions.specs.declared.session_share.SessionShare.{SessionShare}
 use Rattle.library_books.specs.Numbers.{IsCall}
-use Rattle.pelgaisti_c.specs.Sessions.{IsToldPerformed, HasToldNobody, IsToldRefused, MayCall}
+use Rattle.library_sessions.specs.Sessions.{IsToldPerformed, HasToldNobody, IsToldRefused, MayCall}
 use Rattle.pelgaisti_c.proofs.session.pelgaisti_raw_session_perform_telling.Goals as goal
 
 pub returns-clause-ok : goal.returns-clause-ok

@@ -1,6 +1,6 @@
 use Rattle.std.proofs.Common.{rules, ◌≡◌, ℕ, ◌<◌, ◌∙◌, List, Some, length, subst, sym}
-use Rattle.pelgaisti_c.specs.declared.session_share.SessionShare.{SessionShare}
-use Rattle.pelgaisti_c.specs.Sessions.{IsToldTurn}
+use Rattle.library_sessions.specs.declared.session_share.SessionShare.{SessionShare}
+use Rattle.library_sessions.specs.Sessions.{IsToldTurn}
 use Rattle.pelgaisti_c.proofs.session.pelgaisti_raw_session_serve_telling.Goals as goal
 
 pub returns-clause-ok : goal.returns-clause-ok

@@ -1,6 +1,6 @@
 use Rattle.std.proofs.Common.{rules, ◌≡◌, List, Some, subst}
 use Rattle.library_books.specs.declared.numbers.EntryNumbers.{EntryNumbers}
-use Rattle.pelgaisti_c.specs.Sessions.{IsPieceTaken}
+use Rattle.library_sessions.specs.Sessions.{IsPieceTaken}
 use Rattle.pelgaisti_c.proofs.session.pelgaisti_raw_session_take_history.Goals as goal
 
 pub returns-clause-ok : goal.returns-clause-ok

@@ -1,5 +1,5 @@
 use Rattle.std.proofs.Common.{rules, ◌≡◌, ◌<◌, ◌∙◌, Some, length, subst, sym}
-use Rattle.pelgaisti_c.specs.declared.session_share.SessionShare.{SessionShare}
+use Rattle.library_sessions.specs.declared.session_share.SessionShare.{SessionShare}
 use Rattle.pelgaisti_c.proofs.sleep_exports.pelgaisti_raw_session_rouse.Goals as goal
 
 pub returns-clause-ok : goal.returns-clause-ok

@@ -1,5 +1,5 @@
 use Rattle.std.proofs.Common.{rules, ◌≡◌, ◌≢◌, ◌∙◌, None, Some, arith, sym, subst, ⊎_elim}
-use Rattle.pelgaisti_c.specs.declared.session_share.SessionShare.{SessionShare}
+use Rattle.library_sessions.specs.declared.session_share.SessionShare.{SessionShare}
 use Rattle.pelgaisti_c.proofs.turn_exports.pelgaisti_raw_session_look.Goals as goal
 
 pub returns-clause-ok : goal.returns-clause-ok

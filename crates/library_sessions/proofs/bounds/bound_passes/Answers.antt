@@ -1,0 +1,15 @@
+use Rattle.std.proofs.Common.{refl}
+use Rattle.library_sessions.proofs.bounds.bound_passes.Goals as goal
+
+pub returns-clause-ok : goal.returns-clause-ok
+returns-clause-ok c = λ _. record {
+  bound = c.in-Some-bound_of.ensures.some.0;
+  session = refl;
+  ended = refl;
+  told = refl;
+  office = refl;
+  handed = refl;
+  sessions = refl;
+  mark = refl;
+  waker = refl;
+}

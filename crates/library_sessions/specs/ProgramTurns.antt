@@ -1,0 +1,87 @@
+-- The outcomes of one turn of a session's program, as the exports state them.
+use Rattle.std.specs.Prelude.{◌≡◌, ◌≢◌, ℕ, ◌<◌, ◌≤◌, ◌⊎◌, Some, None, length}
+use Rattle.publication.specs.Views.{asks}
+use Rattle.lock_programs.specs.declared.program.Program.{Program}
+use Rattle.lock_programs.specs.declared.answer.Answer.{Answer}
+use Rattle.lock_programs.specs.Calls.{calls_of}
+use Rattle.lock_office.specs.ProgramBoards.{TicketView, program_object}
+use Rattle.lock_office.specs.Sessions.{IsIdle}
+use Rattle.lock_office.specs.ProgramTurns.{IsCalled}
+use Rattle.combining.specs.Calls.{IsAnsweredAt, IsCalling, IsWaitingOn}
+use Rattle.combining.specs.Waits.{IsWaitAfterTry, IsWaitAfterLook}
+use Rattle.combining.specs.declared.backoff.TheConstants.{TRIES_AT_ONCE}
+use Rattle.combining.specs.declared.backoff.Wait.{Wait}
+use Rattle.library_books.specs.declared.program_numbers.ProgramNumbers.{ProgramNumbers}
+use Rattle.library_books.specs.declared.program_numbers.ProgramAnswerNumbers.{ProgramAnswerNumbers}
+use Rattle.library_sessions.specs.declared.session_share.SessionShare.{SessionShare}
+use Rattle.library_books.specs.declared.status.TheConstants.{NO_SUCH_OP}
+use Rattle.library_sessions.specs.declared.turn_calls.TheConstants.{NO_TURN}
+use Rattle.library_books.specs.Programs.{IsProgram, IsProgramFault, numbers_of_answer}
+use Rattle.library_sessions.specs.Sessions.{IsSameOffice}
+use Rattle.library_sessions.specs.Turns.{number_of_wait}
+
+-- the numbers encode a program, which makes a call
+abbrev pub IsOfCalls : ProgramNumbers → Program → Type 0
+IsOfCalls asked program = IsProgram asked program × (0 < length (calls_of program))
+
+-- the status for numbers that encode no program, or one of no calls
+abbrev pub IsRunFault : ProgramNumbers → ℕ → Type 0
+IsRunFault asked fault = IsProgramFault asked fault ⊎ ((fault ≡ NO_SUCH_OP) × ((program : Program) × IsProgram asked program × (length (calls_of program) ≡ 0)))
+
+-- the session, which was idle, made the program, and these are the numbers of its answer
+abbrev pub IsProgramCalled : TicketView → TicketView → Program → ProgramAnswerNumbers → Type 0
+IsProgramCalled before after program answer = (at : ℕ) × (made : Answer) × IsCalled before after program at made × (answer ≡ numbers_of_answer program made)
+
+-- the session's pending program is answered, and these are the numbers of its answer
+pub record IsPendingAnswered (before after : TicketView) (answer : ProgramAnswerNumbers) : Type 0 where
+  pub program : Program
+  pub floor : ℕ
+  pub pending : before.pending ≡ Some (asks program floor)
+  pub made : Answer
+  pub at : ℕ
+  pub answered : IsAnsweredAt program_object before after program floor at made
+  pub told : answer ≡ numbers_of_answer program made
+
+-- the session's program is answered: this one if it had none pending, and else the one that it had
+pub record IsProgramAnswered (before after : SessionShare) (program : Program) (answer : ProgramAnswerNumbers) : Type 0 where
+  pub called : before.session.pending ≡ None → IsProgramCalled before.session after.session program answer
+  pub answered : before.session.pending ≢ None → IsPendingAnswered before.session after.session answer
+  pub idle : IsIdle after.session
+  pub office : IsSameOffice before after
+
+-- memory was refused in a pass of the session, and its program is pending: this one if it had none pending
+pub record IsProgramStarved (before after : SessionShare) (program : Program) : Type 0 where
+  pub published : before.session.pending ≡ None → IsCalling before.session after.session program
+  pub waits : before.session.pending ≢ None → IsWaitingOn before.session after.session
+  pub put_back : before.session.pending ≢ None → before.session.put_backs < after.session.put_backs
+  pub office : IsSameOffice before after
+
+-- the program has no answer yet, behind `made` turns of at most `turns`. A session with nothing pending has tried to perform the program at
+-- once in the first turns, and then published it; in an office with other sessions. If no turn was left, it has published the program, and one
+-- that had it pending is unchanged. The number says what to do before the next turn
+pub record IsProgramLate (before after : SessionShare) (program : Program) (made turns number : ℕ) : Type 0 where
+  pub tried : made < turns → before.session.pending ≡ None → made < TRIES_AT_ONCE → (after.session ≡ before.session) × (2 ≤ before.sessions)
+      × ((wait : Wait) × IsWaitAfterTry wait × (number ≡ number_of_wait wait))
+  pub published : made < turns → before.session.pending ≡ None → TRIES_AT_ONCE ≤ made → IsCalling before.session after.session program × (2 ≤ before.sessions)
+      × ((wait : Wait) × IsWaitAfterLook 0 wait × (number ≡ number_of_wait wait))
+  pub waits : made < turns → before.session.pending ≢ None → IsWaitingOn before.session after.session
+      × ((wait : Wait) × IsWaitAfterLook made wait × (number ≡ number_of_wait wait))
+  pub last : turns ≤ made → (number ≡ NO_TURN) × (before.session.pending ≡ None → IsCalling before.session after.session program)
+      × (before.session.pending ≢ None → after.session ≡ before.session)
+  pub office : IsSameOffice before after
+
+-- these, of the program that the numbers encode
+abbrev pub IsRunAnswered : SessionShare → SessionShare → ProgramNumbers → ProgramAnswerNumbers → Type 0
+IsRunAnswered before after asked answer = (program : Program) × IsOfCalls asked program × IsProgramAnswered before after program answer
+
+abbrev pub IsRunStarved : SessionShare → SessionShare → ProgramNumbers → Type 0
+IsRunStarved before after asked = (program : Program) × IsOfCalls asked program × IsProgramStarved before after program
+
+abbrev pub IsRunMade : SessionShare → SessionShare → ProgramNumbers → ℕ → ℕ → ℕ → Type 0
+IsRunMade before after asked made turns number = (program : Program) × IsOfCalls asked program × IsProgramLate before after program made turns number
+
+-- the session's pending program is answered
+pub record IsRunLookAnswered (before after : SessionShare) (answer : ProgramAnswerNumbers) : Type 0 where
+  pub answered : IsPendingAnswered before.session after.session answer
+  pub idle : IsIdle after.session
+  pub office : IsSameOffice before after

@@ -1,0 +1,138 @@
+//! A dump of a book or of an open office, in numbers: its open transactions, locks and waiting requests of one moment.
+
+ghost use Rattle.std.specs.Prelude.{◌≡◌, ◌≢◌, ◌≤◌, ◌⊎◌, ◌++◌, IfOk, OnOk, length, map};
+ghost use Rattle.lock_rules.specs.Legal.{state_of};
+ghost use Rattle.library_books.specs.Calls.{are_written};
+ghost use Rattle.library_books.specs.Claims.{numbers_of_claim};
+ghost use Rattle.library_sessions.specs.Dumps.{IsDumpSeen, IsDumped, numbers_of_open};
+ghost use Rattle.library_sessions.specs.Queries.{HasSeen};
+
+use crate::session_share::SessionShare;
+use library_books::claims::{ClaimNumbers, claim_numbers, transaction_numbers};
+use library_books::numbers::NOWHERE;
+use library_books::status::{ELSEWHERE, NO_MEMORY, OK};
+use lock_desk::{Book, Claim, Transaction};
+use lock_office::dump_book;
+use std::alloc::{AllocError as NoMemory, Global};
+
+/// The row of a session with its open transaction.
+fn open_numbers(open: &(u16, Transaction)) -> ClaimNumbers
+    ensures { result ≡ numbers_of_open open.now }
+{
+    let transaction = transaction_numbers(Some(open.1));
+    ClaimNumbers {
+        session: u32::from(open.0),
+        kind: 0,
+        mode: 0,
+        doomed: transaction.doomed,
+        transaction: transaction.number,
+        resource: NOWHERE,
+    }
+}
+
+/// Adds the rows of the open transactions. Fails if memory is refused.
+fn add_opens(opens: &[(u16, Transaction)], rows: &mut Vec<ClaimNumbers>) -> Result<(), NoMemory>
+    ensures { OnOk result (rows.new.items ≡ rows.old.items ++ map numbers_of_open opens.now) }
+{
+    for open in opens {
+        rows.push(open_numbers(open))?;
+    }
+    Ok(())
+}
+
+/// Adds the rows of the locks and requests. Fails if memory is refused.
+fn add_claims(claims: &[Claim], rows: &mut Vec<ClaimNumbers>) -> Result<(), NoMemory>
+    ensures { OnOk result (rows.new.items ≡ rows.old.items ++ map numbers_of_claim claims.now) }
+{
+    for claim in claims {
+        rows.push(claim_numbers(claim))?;
+    }
+    Ok(())
+}
+
+/// The rows of a dump. Fails if memory is refused.
+fn rows_of(
+    alloc: Global,
+    opens: &[(u16, Transaction)],
+    claims: &[Claim],
+) -> Result<Vec<ClaimNumbers>, NoMemory>
+    ensures { IfOk result (λ rows. rows.items ≡ map numbers_of_open opens.now ++ map numbers_of_claim claims.now) }
+{
+    let mut rows = Vec::new(alloc);
+    add_opens(opens, &mut rows)?;
+    add_claims(claims, &mut rows)?;
+    Ok(rows)
+}
+
+/// Writes the first rows, as many as `places` has room for.
+fn write_rows(rows: &[ClaimNumbers], places: &mut [ClaimNumbers])
+    ensures { places.new ≡ are_written (λ row. row) rows.now places.old }
+{
+    let count = usize::min(rows.len(), places.len());
+    for k in 0..count {
+        places[k] = rows[k];
+    }
+}
+
+/// Writes the rows of a dump of the book, as many as `list` has room for, the number of all rows to `count`, and how many calls the history
+/// has.
+pub fn dump_of_book(
+    alloc: Global,
+    book: &Book,
+    list: &mut [ClaimNumbers],
+    count: &mut usize,
+    place: &mut u64,
+) -> u32
+    ensures ok { result ≡ OK → IsDumped book.now.sessions (state_of book.now.history) list.old list.new count.new × (place.new ≡ length book.now.history) }
+    ensures failed { result ≢ OK → (list.new ≡ list.old) × (count.new ≡ count.old) × (place.new ≡ place.old) }
+    ensures statuses { (result ≡ OK) ⊎ (result ≡ NO_MEMORY) }
+{
+    let mut claims = Vec::new(alloc);
+    let mut opens = Vec::new(alloc);
+    if dump_book(alloc, book, book.sessions(), &mut claims, &mut opens).is_err() {
+        return NO_MEMORY;
+    }
+    let Ok(rows) = rows_of(alloc, opens.as_slice(), claims.as_slice()) else {
+        return NO_MEMORY;
+    };
+    write_rows(rows.as_slice(), list);
+    *count = rows.len();
+    *place = book.served();
+    OK
+}
+
+/// Writes the rows of a dump of the open office, as many as `list` has room for, the number of all rows to `count`, and how many calls the
+/// history had then.
+pub fn dump_of_office(
+    alloc: Global,
+    share: &mut SessionShare,
+    list: &mut [ClaimNumbers],
+    count: &mut usize,
+    seen: &mut u64,
+) -> u32
+    ensures ok { result ≡ OK → IsDumpSeen share.old share.new list.old list.new count.new seen.new }
+    ensures failed { result ≢ OK → (list.new ≡ list.old) × (count.new ≡ count.old) × (seen.new ≡ seen.old) }
+    ensures same { result ≢ OK → result ≢ NO_MEMORY → share.new ≡ share.old }
+    ensures memory { result ≡ NO_MEMORY → HasSeen share.old share.new }
+    ensures elsewhere { result ≡ ELSEWHERE → 2 ≤ share.old.sessions }
+    ensures statuses { (result ≡ OK) ⊎ ((result ≡ NO_MEMORY) ⊎ (result ≡ ELSEWHERE)) }
+{
+    let mut claims = Vec::new(alloc);
+    let mut opens = Vec::new(alloc);
+    let Ok(asked) = share
+        .session
+        .dump(&share.office, alloc, &mut claims, &mut opens)
+    else {
+        return NO_MEMORY;
+    };
+    let Some(length) = asked else {
+        return ELSEWHERE;
+    };
+    let Ok(rows) = rows_of(alloc, opens.as_slice(), claims.as_slice()) else {
+        return NO_MEMORY;
+    };
+    write_rows(rows.as_slice(), list);
+    *count = rows.len();
+    *seen = length;
+    OK
+}

@@ -1,0 +1,115 @@
+//! Pointers of C to the handles of sessions, and to what passes have served. They are as `library_books::pointers` has them.
+
+ghost use Rattle.std.specs.Prelude.{◌≡◌, ◌≢◌, ◌↔◌, IsTrue, List, MatchOption};
+ghost use Rattle.std.specs.Coded.{coded_list};
+ghost use denote.RawPtr.{Testable, null_ptr};
+ghost use Rattle.library_books.specs.Behind.{IsNullList, list_at, maybe_at};
+ghost use Rattle.library_sessions.specs.declared.pass_count_numbers.PassCountNumbers.{PassCountNumbers};
+ghost use Rattle.library_sessions.specs.contracts.pass_count_numbers.PassCountNumbers.{the_row as pass_counts_row};
+ghost use Rattle.library_sessions.specs.declared.session_handle.SessionHandle.{SessionHandle};
+ghost use Rattle.library_sessions.specs.contracts.session_handle.SessionHandle.{the_row as session_handle_row};
+
+use crate::pass_count_numbers::PassCountNumbers;
+use crate::session_handle::SessionHandle;
+use std::marker::Model;
+use std::slice;
+
+/// A pointer of C, null or to a session's handle.
+#[repr(C)]
+pub struct SessionPointer {
+    pub at: *mut SessionHandle,
+    ghost testable: { Testable at },
+    pub ghost behind: { SessionHandle } by { session_handle_row.coded },
+}
+
+impl Model for SessionPointer {
+    ghost also_owns = { λ p. maybe_at session_handle_row p.at p.behind };
+}
+
+impl SessionPointer {
+    ghost use Rattle.std.specs.Borrow.{sem};
+    ghost use Rattle.library_sessions.specs.inner.Lending.{lends_of_session_pointer};
+
+    /// What lies behind the pointer, or `None` at null.
+    pub fn get(&mut self) -> Option<&mut SessionHandle>
+        ensures* lends { sem 𝓛 (lends_of_session_pointer self.entry result) }
+        ensures value { MatchOption result (self.old.at ≡ null_ptr) (λ r. (self.old.at ≢ null_ptr) × (r.now ≡ self.old.behind)) }
+    {
+        let at = self.at;
+        if at == std::ptr::null_mut() {
+            return None;
+        }
+        unsafe { Some(&mut *at) }
+    }
+}
+
+/// A pointer of C, null or to what passes have served.
+#[repr(C)]
+pub struct PassCountsPointer {
+    pub at: *mut PassCountNumbers,
+    ghost testable: { Testable at },
+    pub ghost behind: { PassCountNumbers } by { pass_counts_row.coded },
+}
+
+impl Model for PassCountsPointer {
+    ghost also_owns = { λ p. maybe_at pass_counts_row p.at p.behind };
+}
+
+impl PassCountsPointer {
+    ghost use Rattle.std.specs.Borrow.{sem};
+    ghost use Rattle.library_sessions.specs.inner.Lending.{lends_of_pass_counts_pointer};
+
+    /// What lies behind the pointer, or `None` at null.
+    pub fn get(&mut self) -> Option<&mut PassCountNumbers>
+        ensures* lends { sem 𝓛 (lends_of_pass_counts_pointer self.entry result) }
+        ensures value { MatchOption result (self.old.at ≡ null_ptr) (λ r. (self.old.at ≢ null_ptr) × (r.now ≡ self.old.behind)) }
+    {
+        let at = self.at;
+        if at == std::ptr::null_mut() {
+            return None;
+        }
+        unsafe { Some(&mut *at) }
+    }
+}
+
+/// A pointer of C to `room` sessions' handles, or null.
+#[repr(C)]
+pub struct HandleList {
+    pub at: *mut SessionHandle,
+    pub room: usize,
+    ghost testable: { Testable at },
+    pub ghost behind: { List SessionHandle } by { coded_list session_handle_row.coded },
+}
+
+impl Model for HandleList {
+    ghost also_owns = { λ p. list_at session_handle_row p.room p.at p.behind };
+}
+
+impl HandleList {
+    ghost use Rattle.std.specs.Borrow.{sem};
+    ghost use Rattle.library_sessions.specs.inner.Lending.{lends_of_handle_list};
+
+    /// Whether the pointer is null.
+    pub fn is_null(&mut self) -> bool
+        ensures value { IsTrue result ↔ (self.old.at ≡ null_ptr) }
+        ensures same { self.new ≡ self.old }
+    {
+        let at = self.at;
+        at == std::ptr::null_mut()
+    }
+
+    /// The `room` sessions' handles. The pointer must not be null.
+    pub fn items(&mut self) -> &mut [SessionHandle]
+        requires not_null { self.old.at ≢ null_ptr }
+        ensures* lends { sem 𝓛 (lends_of_handle_list self.entry result) }
+        ensures value { result.now ≡ self.old.behind }
+    {
+        let room = self.room;
+        let mut at = self.at;
+        if room == 0 {
+            // A slice of no items must not begin at null either.
+            at = self as *mut HandleList as *mut SessionHandle;
+        }
+        unsafe { slice::from_raw_parts_mut(at, room) }
+    }
+}

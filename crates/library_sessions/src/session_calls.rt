@@ -1,0 +1,275 @@
+//! The calls of a session in numbers, on the share that a handle holds.
+
+ghost use Rattle.std.specs.Prelude.{◌≡◌, ◌≢◌, ◌<◌, ◌≤◌, ◌⊎◌, ◌↔◌, ◌==◌, true, false, [], None, IsTrue, length, drop};
+ghost use Rattle.combining.specs.Ended.{entered_since};
+ghost use Rattle.lock_office.specs.Sessions.{IsPassed, IsPendingServed};
+ghost use Rattle.lock_office.specs.ProgramTurns.{HasSeveralPending};
+ghost use Rattle.lock_office.specs.Ended.{AreToldBy};
+ghost use Rattle.sequential.specs.Histories.{calls_of};
+ghost use Rattle.publication.specs.Boards.{HasCallsOf, heard_from};
+ghost use Rattle.lock_rules.specs.declared.calls.Call.{Call as CallValue};
+ghost use Rattle.library_books.specs.Calls.{are_written};
+ghost use Rattle.library_books.specs.Numbers.{IsCall, IsCallFault};
+ghost use Rattle.library_sessions.specs.Sessions.{IsSameOffice, IsPublished, IsElsewhere, AreToWake, IsToldTurn, IsAnswered, IsPieceTaken, IsHeard, IsRetired};
+
+use crate::session_share::SessionShare;
+use library_books::book_calls::{write_entries, write_sessions};
+use library_books::numbers::{
+    AnswerNumbers, CallNumbers, EntryNumbers, PassNumbers, read_call, reply_numbers,
+};
+use library_books::status::{
+    ELSEWHERE, NO_MEMORY, NO_ROOM, NO_SUCH_MODE, NO_SUCH_OP, NOT_SERVED, NOTHING_PENDING, OK,
+    OTHER_OFFICE, PENDING, RETIRED,
+};
+use lock_office::{Counted, Ended, Posted, Turn};
+use std::alloc::Global;
+
+/// The session's record is on the publication list.
+const LISTED: u32 = 1;
+
+/// The session's record is not on the publication list yet. Only passes of the session visit it.
+const UNLISTED: u32 = 2;
+
+/// The number of `posted`.
+fn posted_number(posted: Posted) -> u32
+    ensures some { (LISTED ≤ result) × (result ≤ UNLISTED) }
+    ensures listed { result ≡ LISTED → posted ≡ Posted.Listed }
+    ensures unlisted { result ≡ UNLISTED → posted ≡ Posted.Unlisted }
+{
+    match posted {
+        Posted::Listed => LISTED,
+        Posted::Unlisted => UNLISTED,
+    }
+}
+
+/// Publishes the call that the numbers encode.
+pub fn publish(share: &mut SessionShare, asked: &CallNumbers, posted: &mut u32) -> u32
+    ensures ok { result ≡ OK → IsPublished share.old share.new asked.now posted.new }
+    ensures posted { result ≡ OK → (LISTED ≤ posted.new) × (posted.new ≤ UNLISTED) }
+    ensures failed { result ≢ OK → (share.new ≡ share.old) × (posted.new ≡ posted.old) }
+    ensures call { NO_SUCH_OP ≤ result → result ≤ NO_SUCH_MODE → IsCallFault asked.now result }
+    ensures retired { result ≡ RETIRED → (share.old.session.retired ≡ true) × ((call : CallValue) × IsCall asked.now call) }
+    ensures pending { result ≡ PENDING → (share.old.session.pending ≢ None) × ((call : CallValue) × IsCall asked.now call) }
+    ensures statuses { (result ≡ OK) ⊎ ((result ≡ RETIRED) ⊎ ((result ≡ PENDING) ⊎ ((NO_SUCH_OP ≤ result) × (result ≤ NO_SUCH_MODE)))) }
+{
+    let call = match read_call(asked) {
+        Ok(call) => call,
+        Err(fault) => return fault,
+    };
+    if share.session.is_retired() {
+        return RETIRED;
+    }
+    if !share.session.is_idle() {
+        return PENDING;
+    }
+    *posted = posted_number(share.session.publish(&share.office, call));
+    OK
+}
+
+/// Writes the numbers of a pass. Returns the status of the turn.
+fn write_turn(turn: Turn, pass: &mut PassNumbers) -> u32
+    ensures ok { result ≡ OK → turn ≡ Turn.Pass pass.new.served (pass.new.starved == 1) }
+    ensures starved { result ≡ OK → pass.new.starved ≤ 1 }
+    ensures failed { result ≢ OK → (turn ≡ Turn.Elsewhere) × (pass.new ≡ pass.old) }
+    ensures statuses { (result ≡ OK) ⊎ (result ≡ ELSEWHERE) }
+{
+    match turn {
+        Turn::Elsewhere => ELSEWHERE,
+        Turn::Pass {
+            served,
+            starved: true,
+        } => {
+            *pass = PassNumbers { served, starved: 1 };
+            OK
+        }
+        Turn::Pass {
+            served,
+            starved: false,
+        } => {
+            *pass = PassNumbers { served, starved: 0 };
+            OK
+        }
+    }
+}
+
+/// Tries once to become the combiner, and makes a pass if that succeeds. In an office with a waker it lists whom to wake in the share.
+fn make_pass(share: &mut SessionShare) -> Turn
+    ensures pass { (served : _) (starved : _) → result ≡ Turn.Pass served starved → IsPassed share.old.session share.new.session served }
+    ensures starved { (served : _) (starved : _) → result ≡ Turn.Pass served starved → IsTrue starved ↔ (share.old.session.put_backs < share.new.session.put_backs) }
+    ensures rises { (j : _) → heard_from share.old.session j ≤ heard_from share.new.session j }
+    ensures calls { HasCallsOf share.new.session.front share.new.session }
+    ensures own { (served : _) → result ≡ Turn.Pass served false → share.old.session.pending ≢ None → IsPendingServed share.new.session }
+    ensures heard { (served j : _) → result ≡ Turn.Pass served false → 0 < j → j ≤ share.old.sessions
+        → heard_from share.old.session j ≤ length (calls_of j share.new.session.front) }
+    ensures told { share.new.waker ≢ 0 → AreToldBy share.new.sessions share.new.session.front (entered_since share.old.session share.new.session) share.new.told.told.list }
+    ensures same { IsSameOffice share.old share.new }
+    ensures elsewhere { result ≡ Turn.Elsewhere → IsElsewhere share.old share.new × (share.new.told.told.list ≡ []) }
+{
+    if share.waker == 0 {
+        return share.session.serve(&share.office);
+    }
+    share.session.serve_telling(&share.office, &mut share.told)
+}
+
+/// Makes a pass as `make_pass` does. Writes how many sessions are to be woken to `told`.
+pub fn serve(share: &mut SessionShare, pass: &mut PassNumbers, told: &mut usize) -> u32
+    ensures passed { result ≡ OK → IsPassed share.old.session share.new.session pass.new.served }
+    ensures starved { result ≡ OK → pass.new.starved ≤ 1 }
+    ensures put_back { result ≡ OK → (pass.new.starved ≡ 1) ↔ (share.old.session.put_backs < share.new.session.put_backs) }
+    ensures rises { (j : _) → heard_from share.old.session j ≤ heard_from share.new.session j }
+    ensures calls { HasCallsOf share.new.session.front share.new.session }
+    ensures own { result ≡ OK → pass.new.starved ≡ 0 → share.old.session.pending ≢ None → IsPendingServed share.new.session }
+    ensures heard { (j : _) → result ≡ OK → pass.new.starved ≡ 0 → 0 < j → j ≤ share.old.sessions
+        → heard_from share.old.session j ≤ length (calls_of j share.new.session.front) }
+    ensures same { IsSameOffice share.old share.new }
+    ensures told { result ≡ OK → AreToWake share.old share.new told.new }
+    ensures failed { result ≢ OK → pass.new ≡ pass.old }
+    ensures elsewhere { result ≡ ELSEWHERE → IsElsewhere share.old share.new }
+    ensures untold { result ≡ ELSEWHERE → told.new ≡ 0 }
+    ensures statuses { (result ≡ OK) ⊎ (result ≡ ELSEWHERE) }
+{
+    let turn = make_pass(share);
+    *told = share.told.told.sessions().len();
+    write_turn(turn, pass)
+}
+
+/// Writes the sessions that the share lists to be woken, from index `first` on, as many as `list` has room for, and the number of all
+/// of them to `count`.
+pub fn told(share: &SessionShare, first: usize, list: &mut [u32], count: &mut usize)
+    ensures list { list.new ≡ are_written (λ u. u) (drop first share.now.told.told.list) list.old }
+    ensures count { count.new ≡ length share.now.told.told.list }
+{
+    let sessions = share.told.told.sessions();
+    let start = usize::min(first, sessions.len());
+    write_sessions(&sessions[start..], list);
+    *count = sessions.len();
+}
+
+/// Writes the sessions whose wait a call has ended to `list`, which has room for them, and how many they are to `count`.
+pub fn write_ended(ended: &Counted<Ended>, list: &mut [u32], count: &mut usize)
+    requires room { ended.now.told.room ≤ length list.old }
+    ensures list { list.new ≡ are_written (λ u. u) ended.now.told.list list.old }
+    ensures count { (count.new ≡ length ended.now.told.list) × (count.new ≤ length list.old) }
+{
+    let sessions = ended.told.sessions();
+    write_sessions(sessions, list);
+    *count = sessions.len();
+}
+
+/// Serves as `serve` does, and writes the sessions whose wait the pass has ended to `list`, and how many they are to `count`.
+/// `list` has to have room for all sessions of the office.
+pub fn serve_telling(
+    alloc: Global,
+    share: &mut SessionShare,
+    pass: &mut PassNumbers,
+    list: &mut [u32],
+    count: &mut usize,
+) -> u32
+    ensures ok { result ≡ OK → IsToldTurn share.old share.new pass.new.served pass.new.starved list.old list.new count.new }
+    ensures failed { result ≢ OK → (pass.new ≡ pass.old) × (list.new ≡ list.old) × (count.new ≡ count.old) }
+    ensures elsewhere { result ≡ ELSEWHERE → IsElsewhere share.old share.new }
+    ensures room { result ≡ NO_ROOM ↔ (length list.old < share.old.sessions) }
+    ensures same { (result ≡ NO_ROOM) ⊎ (result ≡ NO_MEMORY) → share.new ≡ share.old }
+    ensures statuses { (result ≡ OK) ⊎ ((result ≡ NO_ROOM) ⊎ ((result ≡ NO_MEMORY) ⊎ (result ≡ ELSEWHERE))) }
+{
+    if list.len() < usize::from(share.sessions) {
+        return NO_ROOM;
+    }
+    let Some(mut ended) = share.ended.take(alloc) else {
+        return NO_MEMORY;
+    };
+    let turn = share.session.serve_telling(&share.office, &mut ended);
+    let status = write_turn(turn, pass);
+    if status == OK {
+        write_ended(&ended, list, count);
+    }
+    share.ended.put(ended);
+    status
+}
+
+/// Takes the oldest entries of the history that the lock table keeps, as many as `places` has room for, and writes them there,
+/// the place of the first one to `first`, and how many they are to `count`.
+pub fn take_history(
+    alloc: Global,
+    share: &mut SessionShare,
+    first: &mut u64,
+    places: &mut [EntryNumbers],
+    count: &mut usize,
+) -> u32
+    ensures ok { result ≡ OK → IsPieceTaken share.old share.new first.new count.new places.old places.new }
+    ensures failed { result ≢ OK → (share.new ≡ share.old) × (first.new ≡ first.old) × (places.new ≡ places.old) × (count.new ≡ count.old) }
+    ensures elsewhere { result ≡ ELSEWHERE → 2 ≤ share.old.sessions }
+    ensures statuses { (result ≡ OK) ⊎ ((result ≡ NO_MEMORY) ⊎ (result ≡ ELSEWHERE)) }
+{
+    let Ok(taken) = share
+        .session
+        .take_oldest(&share.office, alloc, places.len())
+    else {
+        return NO_MEMORY;
+    };
+    let Some(piece) = taken else {
+        return ELSEWHERE;
+    };
+    *first = piece.first;
+    *count = write_entries(piece.lines.as_slice(), places);
+    OK
+}
+
+/// Takes the answer to the pending call. A pending program of several calls is refused.
+pub fn collect(share: &mut SessionShare, answer: &mut AnswerNumbers) -> u32
+    ensures ok { result ≡ OK → IsAnswered share.old share.new answer.new }
+    ensures failed { result ≢ OK → (share.new ≡ share.old) × (answer.new ≡ answer.old) }
+    ensures nothing { result ≡ NOTHING_PENDING → share.old.session.pending ≡ None }
+    ensures late { result ≡ NOT_SERVED → (share.old.session.pending ≢ None) × ¬ (IsPendingServed share.old.session) }
+    ensures several { result ≡ PENDING → HasSeveralPending share.old.session }
+    ensures statuses { (result ≡ OK) ⊎ ((result ≡ NOTHING_PENDING) ⊎ ((result ≡ PENDING) ⊎ (result ≡ NOT_SERVED))) }
+{
+    if share.session.is_idle() || share.session.is_retired() {
+        return NOTHING_PENDING;
+    }
+    if !share.session.is_single() {
+        return PENDING;
+    }
+    match share.session.collect(&share.office) {
+        Some(found) => {
+            *answer = AnswerNumbers {
+                place: found.place,
+                reply: reply_numbers(found.reply),
+            };
+            OK
+        }
+        None => NOT_SERVED,
+    }
+}
+
+/// Retires the session.
+pub fn retire(share: &mut SessionShare) -> u32
+    ensures ok { result ≡ OK → IsRetired share.old share.new }
+    ensures failed { result ≢ OK → share.new ≡ share.old }
+    ensures retired { result ≡ RETIRED → share.old.session.retired ≡ true }
+    ensures pending { result ≡ PENDING → share.old.session.pending ≢ None }
+    ensures statuses { (result ≡ OK) ⊎ ((result ≡ RETIRED) ⊎ (result ≡ PENDING)) }
+{
+    if share.session.is_retired() {
+        return RETIRED;
+    }
+    if !share.session.is_idle() {
+        return PENDING;
+    }
+    share.session.retire(&share.office);
+    OK
+}
+
+/// Makes what `other` knows of the history known to `share`.
+pub fn hear(share: &mut SessionShare, other: &mut SessionShare) -> u32
+    requires one_office { share.old.mark ≡ other.old.mark → share.old.office.value ≡ other.old.office.value }
+    ensures ok { result ≡ OK → (share.old.mark ≡ other.old.mark) × IsHeard share.old other.old share.new }
+    ensures failed { result ≢ OK → (result ≡ OTHER_OFFICE) × (share.old.mark ≢ other.old.mark) × (share.new ≡ share.old) }
+    ensures other { other.new ≡ other.old }
+{
+    if share.mark != other.mark {
+        return OTHER_OFFICE;
+    }
+    share.session.hear(&share.office, &mut other.session);
+    OK
+}

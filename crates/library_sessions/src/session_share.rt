@@ -1,0 +1,37 @@
+//! What a session's handle holds.
+
+ghost use Rattle.std.specs.Prelude.{◌≡◌, ◌≢◌, ◌≤◌, [], All};
+ghost use Rattle.lock_rules.specs.declared.calls.TheConstants.{MAX_SESSIONS};
+ghost use Rattle.lock_office.specs.Sessions.{IsSessionOf, HasNothingPending};
+
+use crate::ended_list::EndedList;
+use lock_office::{Counted, Ended, Office, Session, Ticket};
+use std::sync::Arc;
+
+/// A session and its share of the office.
+#[derive(Drop)]
+pub struct SessionShare {
+    /// The office, which all shares of its sessions own together.
+    pub office: Arc<Office>,
+    /// The handle's session.
+    pub session: Session,
+    /// The sessions that were handed in to this one.
+    pub handed: Vec<Ticket>,
+    /// The number of sessions of the office.
+    pub sessions: u16,
+    /// The caller's number for the office. The caller gives no two open offices the same.
+    pub mark: u64,
+    /// Scratch list of the sessions whose wait a call of the session has ended.
+    pub ended: EndedList,
+    /// The address of the office's waker, or 0 if it has none.
+    pub waker: u64,
+    /// The sessions whose wait the session's last pass has ended. In an office without a waker it has no room and stays empty.
+    pub told: Counted<Ended>,
+    ghost ours: { IsSessionOf office.value session },
+    ghost theirs: { All (λ one. IsSessionOf office.value one × HasNothingPending one) handed.items },
+    ghost count: { sessions ≡ office.value.sessions },
+    ghost few: { sessions ≤ MAX_SESSIONS },
+    ghost room: { ended.room ≡ sessions },
+    ghost waking: { waker ≢ 0 → told.told.room ≡ sessions },
+    ghost silent: { waker ≡ 0 → told.told.list ≡ [] },
+}

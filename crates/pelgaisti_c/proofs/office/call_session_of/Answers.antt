@@ -1,6 +1,0 @@
-use Rattle.std.proofs.Common.{ap, sym}
-use Rattle.lock_office.specs.Seen.{number_of_calls}
-use Rattle.pelgaisti_c.proofs.office.call_session_of.Goals as goal
-
-pub new-requires-clause-seen : goal.new-requires-clause-seen
-new-requires-clause-seen c = ap number_of_calls (sym c.requires.unknowing)
