@@ -3,7 +3,7 @@ use Rattle.library_sessions.proofs.bounds.bound_passes.Goals as goal
 
 pub returns-clause-ok : goal.returns-clause-ok
 returns-clause-ok c = λ _. record {
-  bound = c.in-Some-bound_of.ensures.some.0;
+  bound = c.in-Some.ensures.some.0;
   session = refl;
   ended = refl;
   told = refl;
