@@ -334,8 +334,8 @@ static COLD void wake_listed(pelgaisti_session *session, const uint32_t *list, s
 /* ---- Sleep: a session that has waited for long in a whole call sleeps, and whoever had the lock table wakes it. The archive says who may
    sleep, and whom to wake. ---- */
 
-/* The turns that a whole call makes before its thread sleeps, as those of the crate sleeping_calls, and the turns between two sleeps: the
-   first of them tries for the lock table. */
+/* The turns that a whole call makes before its thread sleeps, and the turns between two sleeps: the first of them tries for the lock
+   table. */
 enum { TURNS_AWAKE = 128, TURNS_BETWEEN_SLEEPS = 8 };
 
 /* Ends the sleeps of all sessions of the office, and wakes their threads. */

@@ -1,7 +1,7 @@
 use Rattle.std.proofs.Common.{◌≡◌, ◌≤◌, ◌+◌, false}
 use Rattle.publication.specs.Kinds.{with_sleep}
-use Rattle.publication.specs.Sleep.{IsSameSleep}
-use Rattle.publication.proofs.sleep_steps.wake_sleepers.Given as goal
+use Rattle.publication.specs.Sleep.{IsSameSleep, AreRoused}
+use Rattle.publication.proofs.sleep_steps.rouse_sleepers.Given as goal
 
 abbrev pub invariant-loop-whose : goal.invariant-loop-whose
 invariant-loop-whose g l = record {
@@ -10,8 +10,8 @@ invariant-loop-whose g l = record {
   own : IsSameSleep l.initial.seat.me.0.sleep l.seat.me.0.sleep;
   looks : l.seat.me.0.sleep.looks ≡ false;
   sweeps : l.seat.me.0.sleep.sweeps ≤ l.whose + 1;
-  owes : l.seat.me.0.sleep.owes ≡ l.initial.seat.me.0.sleep.owes;
-  few : l.woken + l.whose ≤ l.sessions;
+  roused : AreRoused l.sessions l.whose l.initial.seat.me.0.sleep.ended l.seat.me.0.sleep.ended l.initial.list l.list l.count;
+  few : l.count + l.whose ≤ l.sessions;
 }
 
 abbrev pub decreases-loop-whose : goal.decreases-loop-whose
