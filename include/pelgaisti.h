@@ -422,7 +422,7 @@ pelgaisti_book pelgaisti_empty_book(void);
 pelgaisti_session pelgaisti_empty_session(void);
 
 /* What the archive was compiled with: sizes in bytes, and the places of fields. */
-#ifdef __cplusplus
+#if defined(__cplusplus) && __cplusplus >= 201103L
 #define PELGAISTI_ASSERT_(name, condition) static_assert(condition, "pelgaisti.h: " #name)
 #elif defined(__STDC_VERSION__) && __STDC_VERSION__ >= 201112L
 #define PELGAISTI_ASSERT_(name, condition) _Static_assert(condition, "pelgaisti.h: " #name)
