@@ -333,6 +333,18 @@ static void call_dump(void) {
     check(pelgaisti_book_dump(&book, claims, quantity("n"), &count, &place));
 }
 
+/* All its lines. */
+static void call_dump_line(void) {
+    pelgaisti_dumping at = pelgaisti_dump_begin();
+    const size_t queue = quantity("queue");
+    size_t count, lines = 0;
+    uint64_t place;
+    char line[100];
+    check(pelgaisti_book_dump(&book, claims, MOST, &count, &place));
+    while (pelgaisti_dump_line(claims, count, &at, line, sizeof line)) lines++;
+    if (count > MOST || lines != count + queue * (queue + 1) / 2) exit(24);
+}
+
 static void call_counts(void) {
     pelgaisti_counts counts;
     check(pelgaisti_book_counts(&book, &counts));
@@ -490,6 +502,7 @@ static const struct row {
     {"request", request_behind, call_request, 0},
     {"locks", readers_and_queue, call_locks, 0},
     {"dump", readers_and_queue, call_dump, 0},
+    {"dump_line, of all lines", writer_before_readers, call_dump_line, 0},
     {"counts", readers_and_queue, call_counts, 0},
     {"locks_held", readers_and_queue, call_locks_held, 0},
     {"locks_of, of few", readers_and_queue, call_locks_of, 0},

@@ -104,6 +104,7 @@ ROWS = [
     Row("blockers, of a session that doesn't wait", BOTH),
     Row("locks", BOTH, grows=["resources", "others", "holders", "queue", "elsewhere", "own"], n=8),
     Row("dump", BOTH, grows=["resources", "others", "holders", "queue", "elsewhere", "own", "sessions"], n=8),
+    Row("dump_line, of all lines", square=["queue"], usual={"sessions": 512, "queue": 240}),
     Row("counts", BOTH, grows=["sessions"]),
     Row("locks_held", BOTH),
     Row("locks_of, of few", BOTH, grows=["own", "n"], n=8),

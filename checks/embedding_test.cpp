@@ -291,6 +291,7 @@ static void offices() {
     CHECK(office[0].locks_behind(office[0].locks_of(2, 1)->found.at(0), 8)->found.empty());
     CHECK(throws(PELGAISTI_NO_SUCH_SESSION, [&] { office[0].blockers(3); }));
     CHECK(office[1].lock_path({7, 8}, mode::X, level)->reply.kind == kind::granted && level == 2);
+    CHECK(throws(PELGAISTI_NO_SUCH_LEVEL, [&] { static_cast<void>(office[1].lock_path({7, 8}, mode::X, level)); }) && level == 2);
     office[0].hear(office[1]);
     office[0].retire();
     CHECK(throws(PELGAISTI_RETIRED, [&] { office[0].publish({op::begin}); }));

@@ -422,7 +422,7 @@ pelgaisti_book pelgaisti_empty_book(void);
 pelgaisti_session pelgaisti_empty_session(void);
 
 /* What the archive was compiled with: sizes in bytes, and the places of fields. */
-#ifdef __cplusplus
+#if defined(__cplusplus) && __cplusplus >= 201103L
 #define PELGAISTI_ASSERT_(name, condition) static_assert(condition, "pelgaisti.h: " #name)
 #elif defined(__STDC_VERSION__) && __STDC_VERSION__ >= 201112L
 #define PELGAISTI_ASSERT_(name, condition) _Static_assert(condition, "pelgaisti.h: " #name)
@@ -582,7 +582,7 @@ pelgaisti_status pelgaisti_book_gauges(pelgaisti_book *book, pelgaisti_gauges *g
 typedef struct pelgaisti_dumping {
     size_t row;
     size_t wait;
-    uint32_t other;
+    uint64_t others[PELGAISTI_MAX_SESSIONS / 64];
 } pelgaisti_dumping;
 
 /* The place in front of a dump's first line. */
@@ -590,11 +590,11 @@ pelgaisti_dumping pelgaisti_dump_begin(void);
 
 /* Writes the next line of a whole dump to `text`, as snprintf does: at most `room` bytes with the 0 at the end; 100 are enough. Returns
    the length of the line without the 0, and 0 behind the last one. The lines are those of `glm show --csv` of the state: of the `count`
-   rows of the dump, one each, and then of who waits for whom, which follows from these rows. A line of a wait costs a look at the rows of
-   its resource, and each session that waits a look at all rows: so 1,023 requests for one resource are 523,776 lines, and seconds. Who
-   doesn't want them stops behind `count` lines, and asks pelgaisti_session_blockers for whom one session waits; but `glm show --state`
-   reads all of them or none. No handle is needed. `rows` may be NULL if `count` is 0. Requires `count`
-   elements at `rows`, all of one dump, and at `at` what pelgaisti_dump_begin or an earlier call with these rows left there. */
+   rows of the dump, one each, and then of who waits for whom, which follows from these rows: 523,776 lines where 1,023 requests wait for
+   one resource. The time grows with the lines, and each session that waits costs a look at all rows once. Who doesn't want these lines
+   stops behind `count` lines, and asks pelgaisti_session_blockers for whom one session waits; but `glm show --state` reads all of them or
+   none. No handle is needed. `rows` may be NULL if `count` is 0. Requires `count` elements at `rows`, all of one dump, and at `at` what
+   pelgaisti_dump_begin or an earlier call with these rows left there. */
 uint32_t pelgaisti_dump_line(const pelgaisti_claim *rows, size_t count, pelgaisti_dumping *at, char *text, size_t room);
 
 /* Writes the first `room` of the sessions whose wait the last call, batch, path or program has ended to `list`, each once, in no
@@ -759,14 +759,14 @@ pelgaisti_status pelgaisti_office_open_keeping(pelgaisti_session *sessions, size
    thread sleeps on it by sem_wait and polls, as if there were no limit. examples/engine.c does so.
 
    Why no wake-up is lost. (1) A session whose last answer is WAITING, collected or not, has a waiting request, or an entry of the
-   history behind that answer has ended its wait, which exactly one session has entered in a pass [proved: not_forgotten of
-   lock_office::laws::nobody_who_waits_is_forgotten]. (2) The call that made this pass lists exactly the sessions whose waits its
-   entries have ended, also if the wait began in the same pass, and also if memory was refused [proved: none_lost of
-   lock_office::laws::no_wake_up_is_lost, and told of the exports]. (3) The call reads its list [proved: ok of
-   pelgaisti_raw_session_told] and calls the waker for each [tested, and that nothing of this takes memory]. (4) A semaphore counts, so
-   that a post before the thread sleeps wakes it as well [that is the system's]. (5) The next poll of a session that was told of, and
-   has made no call since its wait ended, replies CLEAR or DEADLOCK, whatever others call before it [proved: none_idle of
-   lock_office::laws::no_wake_up_is_lost]. */
+   history behind that answer has ended its wait, which exactly one session has entered [proved: not_forgotten of
+   lock_office::laws::nobody_who_waits_is_forgotten, and publication::laws::each_place_is_entered_once, which say nothing of
+   telling]. (2) The call that entered it lists exactly the sessions whose waits its entries have ended, also if the wait began in
+   the same pass, and also if memory was refused [proved: none_lost of lock_office::laws::no_wake_up_is_lost, and told of the
+   exports]. (3) The call reads its list [proved: ok of pelgaisti_raw_session_told] and calls the waker for each [tested, and that
+   nothing of this takes memory]. (4) A semaphore counts, so that a post before the thread sleeps wakes it as well [that is the
+   system's]. (5) The next poll of a session that was told of, and has made no call since its wait ended, replies CLEAR or DEADLOCK,
+   whatever others call before it [proved: none_idle of lock_office::laws::no_wake_up_is_lost]. */
 pelgaisti_status pelgaisti_office_open_waking(pelgaisti_session *sessions, size_t count, uint64_t bound,
                                               const pelgaisti_waker *waker);
 

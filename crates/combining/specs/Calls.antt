@@ -74,7 +74,7 @@ module _ {C R : Type 0} where
 
 module _ {O C R : Type 0} (obj : Ghosts O C R) where
   -- Memory was refused for the idle session's call, which is pending. The session performed a pass in which it was refused for the
-  -- call, and then published it; or it published it, and put calls back in the pass that it made last.
+  -- call, or only looked, and then published it; or it published it, and put calls back in the pass that it made last.
   abbrev pub HasStarvedCalling : TicketView C R → TicketView C R → C → Type 0
   HasStarvedCalling before after call = ((between : TicketView C R) × IsRefused obj before between × IsCalling between after call)
       ⊎ ((between : TicketView C R) × IsCalling before between call × IsWaitingOn between after × (between.put_backs < after.put_backs))

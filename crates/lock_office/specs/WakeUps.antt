@@ -29,9 +29,9 @@ pub record HasEndedWait (s : BoardState) (since u k index : ℕ) : Type 0 where
 pub data IsNotForgotten (s : BoardState) (told : ℕ → ℕ) (since u : ℕ) : Type 0 where
   -- it has a waiting request
   waits : HasRequest (state_of (flat_history (history_of s))) u → IsNotForgotten s told since u
-  -- a call has told of it
+  -- `told` counts it
   was_told : (k index : ℕ) → HasEndedWait s since u k index → index < told k → IsNotForgotten s told since u
-  -- the session in the lock word has still to tell of it
+  -- `told` doesn't, and the session that entered it is in the lock word
   combiner_tells : (k index : ℕ) → HasEndedWait s since u k index → told k ≤ index → word s 0 ≡ k → IsNotForgotten s told since u
-  -- the call of a session that isn't in the lock word any more has it in its list, which it hasn't handed out yet
+  -- `told` doesn't, and the session that entered it isn't in the lock word any more
   is_listed : (k index : ℕ) → HasEndedWait s since u k index → told k ≤ index → word s 0 ≢ k → IsNotForgotten s told since u
