@@ -1,11 +1,11 @@
 -- Rounds of a bounded pass, one behind another.
-use Rattle.std.proofs.Common.{◌≡◌, ◌≢◌, ℕ, ◌+◌, ◌-◌, ◌*◌, ◌<◌, ◌≤◌, ◌↔◌, Bool, true, false, IsTrue, None, List, ◌++◌, length, get_or, refl, sym, ap, ◌∙◌, subst, arith, append_assoc, append-nil}
+use Rattle.std.proofs.Common.{◌≡◌, ◌≢◌, ℕ, ◌+◌, ◌-◌, ◌*◌, ◌<◌, ◌≤◌, Bool, None, List, ◌++◌, length, get_or, refl, sym, ap, ◌∙◌, subst, arith, append_assoc, append-nil}
 use Rattle.std.proofs.Math.Nat.{mul-le-mul_right}
 use Rattle.std.specs.List.{range_with_len}
 use mathlib.Core.List.{IsPrefix}
 use Rattle.sequential.specs.Histories.{calls_of}
 use Rattle.publication.specs.Views.{TicketView}
-use Rattle.publication.specs.Boards.{heard_from, published_by}
+use Rattle.publication.specs.Boards.{published_by}
 use Rattle.publication.specs.declared.slot.Load.{Load}
 use Rattle.publication.proofs.Lists.{prefix_trans}
 use Rattle.combining.specs.inner.Passes.{HasPassed}
@@ -60,6 +60,7 @@ module _ {O C R : Type 0} {weight : List (Entry C R) → ℕ → C → ℕ} wher
         longer = prefix_trans t.front u.front v.front longer later.longer;
         few = next-round made bound.calls a b few (omega (arith, later.few));
         led = λ unstarved. led-further weight bound made t.front u.front v.front led (later.led unstarved);
+        all = later.all;
         full = λ unstarved is. full-on weight bound b (a + b) v.front (omega arith) (later.full unstarved is);
         put_back = (λ h. subst (λ (k : ℕ). k < v.put_backs) backs (later.put_back.0 h), λ h. later.put_back.1 (subst (λ (k : ℕ). k < v.put_backs) (sym backs) h));
         kept = λ unstarved. later.kept unstarved ∙ backs;

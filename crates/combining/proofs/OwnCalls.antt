@@ -112,6 +112,11 @@ module _ {O C R : Type 0} where
       }
 
 module _ {C R : Type 0} where
+  -- A pass with an own call takes no piece of the history.
+  pub own-taken : (first : Bool) (t u : TicketView C R) (call : C) (o : Option (ℕ × R)) (served : ℕ) → IfSome o (λ r. IsPassWithOwn first t u call r.0 r.1 served) → IfNone o (HasPassed t u served) → u.taken ≡ t.taken
+  own-taken first t u call None served some none = ap (λ (x : TicketView C R). x.taken) none.session
+  own-taken first t u call (Some r) served some none = ap (λ (x : TicketView C R). x.taken) some.session
+
   -- A pass before or after a call for which memory was refused is the whole pass.
   pub refused-first : (t u v : TicketView C R) (served : ℕ) → u ≡ t → HasPassed u v served → HasPassed t v served
   refused-first t u v served same p = subst (λ (x : TicketView C R). HasPassed x v served) same p

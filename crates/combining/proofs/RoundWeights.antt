@@ -1,5 +1,5 @@
 -- The weight of the calls that a round takes.
-use Rattle.std.proofs.Common.{◌≡◌, ◌⊎◌, inl, inr, ⊎_elim, ℕ, ◌+◌, ◌*◌, ◌<◌, ◌≤◌, zero, suc, List, [], ◌∷◌, ◌++◌, length, take, drop, vec_len, refl, sym, ap, ◌∙◌, subst, arith, length-append}
+use Rattle.std.proofs.Common.{None, ◌≡◌, ◌⊎◌, inl, inr, ⊎_elim, ℕ, ◌+◌, ◌<◌, ◌≤◌, suc, List, [], ◌∷◌, ◌++◌, length, take, drop, vec_len, refl, sym, ap, ◌∙◌, subst, arith, length-append}
 use Rattle.std.specs.Prelude.{Contains}
 use Rattle.std.specs.Global.{Vec}
 use Rattle.std.proofs.lemmas.List.{take-append-drop}
@@ -8,10 +8,12 @@ use Rattle.std.proofs.Math.Seq.{drop-append_seam}
 use mathlib.Core.List.{IsPrefix}
 use Rattle.sequential.specs.declared.entry.Entry.{Entry}
 use Rattle.sequential.specs.declared.entry.Item.{Item}
+use Rattle.sequential.specs.declared.entry.TheConstants.{MAX_SESSIONS}
 use Rattle.sequential.specs.Batches.{asked_by, asked_in}
 use Rattle.sequential.proofs.Batches.{asked-append}
-use Rattle.combining.specs.Rounds.{weight_of, IsLight, IsRound, HaveLed, IsFull}
+use Rattle.combining.specs.Rounds.{weight_of, IsLight, IsUnmet, IsRound, HaveLed, IsFull}
 use Rattle.combining.specs.declared.bounds.PassBound.{PassBound}
+use Rattle.combining.specs.declared.bounds.TheConstants.{MAX_WEIGHT, UNBOUNDED}
 use Rattle.combining.specs.inner.Passes.{HasInserted}
 use Rattle.combining.specs.inner.BoundedPasses.{IsFilled, IsWithin}
 
@@ -23,6 +25,13 @@ module _ {C R : Type 0} (weight : List (Entry C R) → ℕ → C → ℕ) (front
   asked-inserted : (old new : List (Item C R)) (whose : ℕ) (call : C) (i : HasInserted whose call old new)
       → asked_by new ≡ asked_by (take i.place old) ++ (whose, call) ∷ asked_by (drop i.place old)
   asked-inserted old new whose call i = ap asked_by i.items ∙ asked-append (take i.place old) _
+
+  -- A call that is inserted makes the row longer by one.
+  pub longer-inserted : (old new : List (Item C R)) (whose : ℕ) (call : C) → HasInserted whose call old new → length new ≡ length old + 1
+  longer-inserted old new whose call i =
+      let parts : length old ≡ length (take i.place old) + length (drop i.place old)
+      = ap (λ (l : List (Item C R)). length l) (sym (take-append-drop i.place old)) ∙ length-append (take i.place old) (drop i.place old) in
+      omega (arith, parts, ap (λ (l : List (Item C R)). length l) i.items ∙ length-append (take i.place old) ((record { session = whose; call = call; reply = None }) ∷ drop i.place old))
 
   -- A call that is inserted adds its weight.
   pub weight-inserted : (old new : List (Item C R)) (whose : ℕ) (call : C) → HasInserted whose call old new
@@ -50,25 +59,27 @@ module _ {C R : Type 0} (weight : List (Entry C R) → ℕ → C → ℕ) where
     few = omega (arith, len);
     weight_is = ap (λ (l : List (Item C R)). weight_of weight front (asked_by l)) (sym none);
     light = subst (λ (l : List (Item C R)). IsLight weight bound.weight front (asked_by l)) (sym none) (λ heaviest each. omega (arith, some));
+    slight = omega arith;
   }
 
   -- A round that isn't filled may take one call more.
   pub within-opened : (bound : PassBound) (front : List (Entry C R)) (old new : Vec (Item C R)) (opened now whose : ℕ) (call : C) → IsWithin weight bound front old opened → vec_len old < bound.calls → opened < bound.weight
-      → vec_len new ≤ vec_len old + 1 → HasInserted whose call old.items new.items → now ≡ opened + weight front whose call → IsWithin weight bound front new now
-  within-opened bound front old new opened now whose call w room less one i is =
+      → vec_len new ≤ vec_len old + 1 → HasInserted whose call old.items new.items → now ≡ opened + weight front whose call → weight front whose call ≤ MAX_WEIGHT → IsWithin weight bound front new now
+  within-opened bound front old new opened now whose call w room less one i is slight =
       let more = weight-inserted weight front old.items new.items whose call i in
       record {
         few = omega (arith, room, one);
         weight_is = omega (arith, is, w.weight_is, more);
         light = light-inserted weight front bound.weight old.items new.items whose call i (omega (arith, less, w.weight_is));
+        slight = omega (arith, is, slight, w.slight, longer-inserted weight front old.items new.items whose call i);
       }
 
   -- A round that isn't filled looks at one record more.
   pub within-further : (bound : PassBound) (front : List (Entry C R)) (old new : Vec (Item C R)) (opened now whose : ℕ) → IsWithin weight bound front old opened → vec_len old < bound.calls → opened < bound.weight
-      → vec_len new ≤ vec_len old + 1 → ((new ≡ old) × (now ≡ opened)) ⊎ ((call : C) × HasInserted whose call old.items new.items × (now ≡ opened + weight front whose call)) → IsWithin weight bound front new now
+      → vec_len new ≤ vec_len old + 1 → ((new ≡ old) × (now ≡ opened)) ⊎ ((call : C) × HasInserted whose call old.items new.items × (now ≡ opened + weight front whose call) × (weight front whose call ≤ MAX_WEIGHT)) → IsWithin weight bound front new now
   within-further bound front old new opened now whose w room less one further =
       ⊎_elim (λ same. subst (λ (v : Vec (Item C R)). IsWithin weight bound front v now) (sym same.0) (subst (λ (n : ℕ). IsWithin weight bound front old n) (sym same.1) w))
-      (λ more. within-opened bound front old new opened now whose more.0 w room less one more.1 more.2) further
+      (λ more. within-opened bound front old new opened now whose more.0 w room less one more.1 more.2 more.3) further
 
   -- The entries by which a round has led on.
   led-on : (front after : List (Entry C R)) → IsPrefix front after → after ≡ front ++ drop (length front) after
@@ -124,3 +135,13 @@ module _ {C R : Type 0} (weight : List (Entry C R) → ℕ → C → ℕ) where
     own = omega (arith, f.own, few);
     full = f.full;
   }
+
+  -- No round is filled within a bound that no pass meets.
+  pub never-filled : (bound : PassBound) (front : List (Entry C R)) (row : Vec (Item C R)) (opened sessions : ℕ) → IsWithin weight bound front row opened → IsUnmet bound
+      → length row.items ≤ sessions → vec_len row ≡ length row.items → sessions ≤ MAX_SESSIONS → IsFilled bound (vec_len row) opened → ⊥
+  never-filled bound front row opened sessions w unmet few long many filled =
+      ⊎_elim (λ calls. omega (arith, calls, unmet.0, few, long, many)) (λ heavy. omega (arith, heavy, unmet.1, w.slight, few, many)) filled
+
+-- No pass meets the bound that stands for none.
+pub unbounded : IsUnmet UNBOUNDED
+unbounded = (omega arith, omega arith)

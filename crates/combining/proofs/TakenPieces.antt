@@ -73,9 +73,9 @@ module _ {O C R : Type 0} {obj : Ghosts O C R} where
         legal = subst obj.is_legal (sym front) b.legal;
       }
 
-module _ {O C R : Type 0} {obj : Ghosts O C R} {tells_from : O → ℕ → Type 0} where
+module _ {O C R : Type 0} {obj : Ghosts O C R} where
   -- A pass that was made and ended.
-  pub pass-ended : (n : ℕ) (before mid after : TicketView C R) (load : Load O C R) (served : ℕ) → HasMadePass obj tells_from n before mid load served → after ≡ record mid { has_object = false; route = []; taken = []; looks = true }
+  pub pass-ended : (n : ℕ) (before mid after : TicketView C R) (load : Load O C R) (served : ℕ) → HasMadePass obj n before mid load served → after ≡ record mid { has_object = false; route = []; taken = []; looks = true }
       → IsPassed obj before after served
   pass-ended n before mid after load served m released =
       let front : after.front ≡ mid.front = ap (λ (x : TicketView C R). x.front) released in

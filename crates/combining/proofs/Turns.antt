@@ -1,5 +1,5 @@
 -- A whole call of a session: what it knows from turn to turn, and at its end.
-use Rattle.std.proofs.Common.{◌≡◌, ◌≢◌, ℕ, ◌+◌, ◌-◌, ◌*◌, ◌/◌, ◌%◌, ◌≤◌, ◌⊎◌, inl, inr, ⊎_elim, Bool, true, Option, Some, None, List, [], ◌∷◌, ◌++◌, length, refl, sym, ap, ◌∙◌, subst, arith, append_assoc, length-append}
+use Rattle.std.proofs.Common.{◌≡◌, ◌≢◌, ℕ, ◌+◌, ◌-◌, ◌*◌, ◌/◌, ◌%◌, ◌≤◌, ◌⊎◌, inl, inr, ⊎_elim, Bool, true, false, Option, Some, None, List, [], ◌∷◌, ◌++◌, length, refl, sym, ap, ◌∙◌, subst, arith, append_assoc, length-append}
 use Rattle.std.specs.List.{range_with_len}
 use mathlib.Core.List.{IsPrefix}
 use mathlib.Core.Option as opt
@@ -21,6 +21,7 @@ use Rattle.publication.specs.declared.board.Posted.{Posted}
 use Rattle.publication.specs.declared.board.Posted.TheVariants.{Listed, Unlisted}
 use Rattle.combining.specs.Calls.{HasGoneOn}
 use Rattle.combining.specs.Waits.{FitIntoLooks}
+use Rattle.combining.specs.Turns.{HasAwaited, HasTurned}
 use Rattle.combining.specs.Ended.{IsNotedUpTo}
 use Rattle.combining.specs.declared.backoff.TheConstants.{LOOKS_PER_TRY}
 use Rattle.combining.specs.Calls.{later, IsWaitingOn, IsAnswered, IsCalled, IsCalling}
@@ -282,6 +283,21 @@ module _ {C R : Type 0} where
 
   pub calling-live : (t u : TicketView C R) (call : C) → IsCalling t u call → u.retired ≡ t.retired
   calling-live t u call k = ap (λ (x : TicketView C R). x.retired) k.session
+
+  -- A turn of the pending call of a session is a turn of this session, whatever call it is given.
+  pub awaited-turn : {A : Type 0} {is_called is_answered : ℕ → A → Type 0} {is_calling is_refused : Type 0} {n made : ℕ} {next : Next A} (t u : TicketView C R) → t.pending ≢ None → t.retired ≡ false
+      → HasAwaited t u is_answered next → HasTurned t u n made is_called is_answered is_calling is_refused next
+  awaited-turn {next = next} t u some live e = record {
+    awaited = λ _. e;
+    called = λ answer is none. absurd (some none);
+    idle = e.idle;
+    starved = λ is none. absurd (some none);
+    refused = λ is none. absurd (some none);
+    tried = λ wait is none _. absurd (some none);
+    published = λ wait is none _. absurd (some none);
+    live = by-next next (λ a is. (e.idle a is).1) (λ is. waiting-live t u (e.starved is).0 ∙ live) (λ w is. waiting-live t u (e.waits w is) ∙ live);
+    on = e.on;
+  }
 
   -- How often a session has tried to have a call listed.
 

@@ -3,6 +3,7 @@ pub mod Sessions
 pub mod Closed
 pub mod Ended
 pub mod Calls
+pub mod Turns
 pub mod Looks
 pub mod Waits
 pub mod Rounds

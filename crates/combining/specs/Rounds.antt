@@ -2,11 +2,17 @@
 use Rattle.std.specs.Prelude.{◌≡◌, ◌⊎◌, ℕ, ◌+◌, ◌*◌, ◌<◌, ◌≤◌, List, [], ◌∷◌, ◌++◌, length, max, zero, suc, Contains}
 use Rattle.sequential.specs.declared.entry.Entry.{Entry}
 use Rattle.sequential.specs.Batches.{asked_in}
+use Rattle.sequential.specs.declared.entry.TheConstants.{MAX_SESSIONS}
 use Rattle.combining.specs.declared.bounds.PassBound.{PassBound}
+use Rattle.combining.specs.declared.bounds.TheConstants.{MAX_WEIGHT}
 
 -- A round may take a call, and a pass may make a round.
 abbrev pub IsBound : PassBound → Type 0
 IsBound bound = (0 < bound.calls) × (0 < bound.weight) × (0 < bound.rounds)
+
+-- No pass meets the bound: a round has room for a call of each session, whatever it weighs.
+abbrev pub IsUnmet : PassBound → Type 0
+IsUnmet bound = (MAX_SESSIONS < bound.calls) × (MAX_SESSIONS * MAX_WEIGHT < bound.weight)
 
 -- The bound with 1 in place of each 0.
 abbrev pub at_least_one : PassBound → PassBound

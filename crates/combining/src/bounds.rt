@@ -17,6 +17,9 @@ pub struct PassBound {
     pub rounds: u16,
 }
 
+/// What a call weighs at most.
+pub const MAX_WEIGHT: u16 = u16::MAX;
+
 /// One round, with room for a call of each session whatever it weighs: a pass that serves all that is published.
 pub const UNBOUNDED: PassBound = PassBound {
     calls: u16::MAX,

@@ -3,29 +3,19 @@
 ghost use Rattle.std.specs.Prelude.{◌≡◌, ◌≢◌, ◌⊎◌, ◌+◌, ◌-◌, ◌<◌, ◌≤◌, ◌%◌, true, false, [], None, length};
 ghost use Rattle.combining.specs.Sessions.{IsSessionOf, IsIdle, IsPendingServed};
 ghost use Rattle.combining.specs.Calls.{IsCalled, IsCalling, IsAnswered, IsWaitingOn, HasStarved, HasStarvedCalling, HasGoneOn};
+ghost use Rattle.combining.specs.Turns.{HasAwaited, HasTurned};
 ghost use Rattle.combining.specs.Ended.{AreToldBy, HasAddedTold, HasRoom, IsNotedUpTo, entered_since};
 ghost use Rattle.combining.specs.Rounds.{most_of};
-ghost use Rattle.combining.specs.Waits.{IsWaitAfterTry, IsWaitAfterLook, FitIntoLooks};
+ghost use Rattle.combining.specs.Waits.{IsWaitAfterTry, IsWaitAfterLook, IsWaitAfterTurn, FitIntoLooks};
 
 use crate::backoff::{LOOKS_PER_TRY, TRIES_AT_ONCE, Wait, after_look, after_try, back_off};
-use crate::office::{Answer, BoundedTurn, Office, Performed};
+use crate::bounds::PassBound;
+use crate::office::{Answer, Office, Performed, Turn};
 use crate::told::Told;
 use publication::{Posted, Ticket as Session};
 use sequential::Batching;
 
-/// The outcome of `call` and `resume`.
-#[derive(Clone, Copy, Debug, PartialEq, Eq)]
-pub enum Called<R> {
-    /// The answer. The session is idle.
-    Answered(Answer<R>),
-    /// No answer came within so many turns. The call is published and pending, and `resume` goes on with it.
-    NotYet,
-    /// Memory was refused in a pass of the session, and the call has no answer yet. It is published and pending, and `resume`
-    /// goes on with it.
-    Starved,
-}
-
-/// The outcome of one turn of a call.
+/// The outcome of one turn of a call, and of the turns of `call` and `resume`.
 #[derive(Clone, Copy, Debug, PartialEq, Eq)]
 pub enum Next<R> {
     /// The answer. The session is idle.
@@ -33,7 +23,7 @@ pub enum Next<R> {
     /// Memory was refused in a pass of the session, and the call has no answer yet. It is published and pending. Another turn goes
     /// on with it.
     Starved,
-    /// No answer yet. Another turn goes on, after this wait.
+    /// No answer yet. Another turn goes on, after this wait. Behind `call` and `resume` the call is published and pending.
     Wait(Wait),
 }
 
@@ -42,6 +32,7 @@ fn serve_if<O: Batching, T: Told<O>>(
     office: &Office<O>,
     session: &mut Session<O>,
     serve_now: bool,
+    bound: PassBound,
     told: &mut T,
 ) -> bool
     requires ours { IsSessionOf office.now session.old }
@@ -54,24 +45,22 @@ fn serve_if<O: Batching, T: Told<O>>(
     ensures tries { session.new.tries ≤ session.old.tries + 1 }
     ensures untried { serve_now ≡ false → session.new.tries ≡ session.old.tries }
     ensures listed { session.old.listed ≡ true → session.new.tries ≡ session.old.tries }
-    ensures few { length (entered_since session.old session.new) ≤ most_of (T.most told.old) }
+    ensures few { length (entered_since session.old session.new) ≤ most_of bound }
     ensures told { HasAddedTold T.ends office.now.sessions session.new.front (entered_since session.old session.new) (T.list told.old) (T.list told.new) }
     ensures room { T.room told.new ≡ T.room told.old }
-    ensures most { T.most told.new ≡ T.most told.old }
     ensures notes { T.notes told.old session.old.front → T.notes told.new session.new.front }
 {
     if !serve_now {
         return false;
     }
-    let bound = told.bound().at_least_one();
-    match office.pass_bounded(session, bound, told) {
-        BoundedTurn::Pass { starved, .. } => starved,
-        BoundedTurn::Elsewhere => false,
+    match office.pass(session, bound.at_least_one(), told) {
+        Turn::Pass { starved, .. } => starved,
+        Turn::Elsewhere => false,
     }
 }
 
 /// Makes one turn of the pending call of a session, behind `looked` turns: tries to serve, at the first and then at every
-/// `LOOKS_PER_TRY`th turn, and looks for the answer. It serves within the bound of `told`, as `Office::serve_bounded` does.
+/// `LOOKS_PER_TRY`th turn, and looks for the answer. It serves within the bound, in which a 0 counts as 1, as `Office::serve` does.
 ///
 /// Adds the sessions whose waits the pass has ended to those that were told.
 #[inline(never)]
@@ -79,31 +68,27 @@ pub fn look<O: Batching, T: Told<O>>(
     office: &Office<O>,
     session: &mut Session<O>,
     looked: u64,
+    bound: PassBound,
     told: &mut T,
 ) -> Next<O::Reply>
     requires ours { IsSessionOf office.now session.old }
     requires pending { session.old.pending ≢ None }
     requires room { HasRoom (T.room told.old) office.now.sessions }
     ensures ours { IsSessionOf office.now session.new }
-    ensures answered { (answer : _) → result ≡ Next.Answered answer → IsAnswered O.Sequential session.old session.new answer.place answer.reply }
-    ensures idle { (answer : _) → result ≡ Next.Answered answer → IsIdle session.new }
-    ensures starved { result ≡ Next.Starved → IsWaitingOn session.old session.new × (session.old.put_backs < session.new.put_backs) }
-    ensures waits { (w : _) → result ≡ Next.Wait w → IsWaitingOn session.old session.new }
+    ensures awaited { HasAwaited session.old session.new (IsAnswered O.Sequential session.old session.new) result }
     ensures others { (w : _) → result ≡ Next.Wait w → looked % LOOKS_PER_TRY ≡ 0 → 1 < office.now.sessions }
     ensures tries { session.new.tries ≤ session.old.tries + 1 }
     ensures untried { looked % LOOKS_PER_TRY ≢ 0 → session.new.tries ≡ session.old.tries }
     ensures listed { session.old.listed ≡ true → session.new.tries ≡ session.old.tries }
     ensures wait { (w : _) → result ≡ Next.Wait w → IsWaitAfterLook looked w }
-    ensures on { HasGoneOn session.old session.new }
-    ensures few { length (entered_since session.old session.new) ≤ most_of (T.most told.old) }
+    ensures few { length (entered_since session.old session.new) ≤ most_of bound }
     ensures told { HasAddedTold T.ends office.now.sessions session.new.front (entered_since session.old session.new) (T.list told.old) (T.list told.new) }
     ensures room { T.room told.new ≡ T.room told.old }
-    ensures most { T.most told.new ≡ T.most told.old }
     ensures noted { (answer : _) → result ≡ Next.Answered answer → T.notes told.old session.old.front → IsNotedUpTo (T.notes told.new) session.new.front (answer.place + 1) }
     ensures notes_starved { result ≡ Next.Starved → T.notes told.old session.old.front → T.notes told.new session.new.front }
     ensures notes_waits { (w : _) → result ≡ Next.Wait w → T.notes told.old session.old.front → T.notes told.new session.new.front }
 {
-    let starved = serve_if(office, session, looked % LOOKS_PER_TRY == 0, told);
+    let starved = serve_if(office, session, looked % LOOKS_PER_TRY == 0, bound, told);
     if let Some(answer) = office.collect(session) {
         return Next::Answered(answer);
     }
@@ -121,6 +106,7 @@ fn publish_and_look<O: Batching, T: Told<O>>(
     office: &Office<O>,
     session: &mut Session<O>,
     call: O::Call,
+    bound: PassBound,
     told: &mut T,
 ) -> Next<O::Reply>
     requires ours { IsSessionOf office.now session.old }
@@ -135,16 +121,15 @@ fn publish_and_look<O: Batching, T: Told<O>>(
     ensures tries { session.new.tries ≤ session.old.tries + 1 }
     ensures wait { (w : _) → result ≡ Next.Wait w → IsWaitAfterLook 0 w }
     ensures on { HasGoneOn session.old session.new }
-    ensures few { length (entered_since session.old session.new) ≤ most_of (T.most told.old) }
+    ensures few { length (entered_since session.old session.new) ≤ most_of bound }
     ensures told { HasAddedTold T.ends office.now.sessions session.new.front (entered_since session.old session.new) (T.list told.old) (T.list told.new) }
     ensures room { T.room told.new ≡ T.room told.old }
-    ensures most { T.most told.new ≡ T.most told.old }
     ensures noted { (answer : _) → result ≡ Next.Answered answer → T.notes told.old session.old.front → IsNotedUpTo (T.notes told.new) session.new.front (answer.place + 1) }
     ensures notes_starved { result ≡ Next.Starved → T.notes told.old session.old.front → T.notes told.new session.new.front }
     ensures notes_waits { (w : _) → result ≡ Next.Wait w → T.notes told.old session.old.front → T.notes told.new session.new.front }
 {
     match office.publish(session, call) {
-        Posted::Listed => look(office, session, 0, told),
+        Posted::Listed => look(office, session, 0, bound, told),
         Posted::Unlisted => Next::Wait(after_look(0)),
     }
 }
@@ -155,6 +140,7 @@ fn try_at_once<O: Batching, T: Told<O>>(
     office: &Office<O>,
     session: &mut Session<O>,
     call: &O::Call,
+    bound: PassBound,
     told: &mut T,
 ) -> Next<O::Reply>
     requires ours { IsSessionOf office.now session.old }
@@ -169,16 +155,14 @@ fn try_at_once<O: Batching, T: Told<O>>(
     ensures tries { session.new.tries ≤ session.old.tries + 1 }
     ensures wait { (w : _) → result ≡ Next.Wait w → IsWaitAfterTry w }
     ensures on { HasGoneOn session.old session.new }
-    ensures few { length (entered_since session.old session.new) ≤ most_of (T.most told.old) + 1 }
+    ensures few { length (entered_since session.old session.new) ≤ most_of bound + 1 }
     ensures told { HasAddedTold T.ends office.now.sessions session.new.front (entered_since session.old session.new) (T.list told.old) (T.list told.new) }
     ensures room { T.room told.new ≡ T.room told.old }
-    ensures most { T.most told.new ≡ T.most told.old }
     ensures noted { (answer : _) → result ≡ Next.Answered answer → T.notes told.old session.old.front → IsNotedUpTo (T.notes told.new) session.new.front (answer.place + 1) }
     ensures notes_starved { result ≡ Next.Starved → T.notes told.old session.old.front → T.notes told.new session.new.front }
     ensures notes_waits { (w : _) → result ≡ Next.Wait w → T.notes told.old session.old.front → T.notes told.new session.new.front }
 {
-    let bound = told.bound().at_least_one();
-    match office.perform_adding(session, *call, Some(bound), told) {
+    match office.perform_adding(session, *call, bound.at_least_one(), told) {
         Performed::Answered { answer, .. } => Next::Answered(answer),
         Performed::Elsewhere => Next::Wait(after_try()),
         Performed::Starved => {
@@ -189,7 +173,7 @@ fn try_at_once<O: Batching, T: Told<O>>(
 }
 
 /// Makes one turn of a call, behind `made` turns. An idle session tries to perform the call at once, in its first `TRIES_AT_ONCE`
-/// turns, and publishes it in the next one. If it performs the call, it makes a pass within the bound of `told` beside. A session with a call pending makes a turn as `look` does; it goes on with the call that is
+/// turns, and publishes it in the next one. If it performs the call, it makes a pass within the bound beside. A session with a call pending makes a turn as `look` does; it goes on with the call that is
 /// pending, whatever `call` is. No turn loses a call: it is answered, pending, or not made yet.
 ///
 /// Adds the sessions whose waits the turn's passes have ended to those that were told.
@@ -199,43 +183,33 @@ pub fn turn<O: Batching, T: Told<O>>(
     session: &mut Session<O>,
     call: &O::Call,
     made: u64,
+    bound: PassBound,
     told: &mut T,
 ) -> Next<O::Reply>
     requires ours { IsSessionOf office.now session.old }
     requires live { session.old.retired ≡ false }
     requires room { HasRoom (T.room told.old) office.now.sessions }
     ensures ours { IsSessionOf office.now session.new }
-    ensures called { (answer : _) → result ≡ Next.Answered answer → session.old.pending ≡ None → IsCalled O.Sequential session.old session.new call.now answer.place answer.reply }
-    ensures answered { (answer : _) → result ≡ Next.Answered answer → session.old.pending ≢ None → IsAnswered O.Sequential session.old session.new answer.place answer.reply }
-    ensures idle { (answer : _) → result ≡ Next.Answered answer → IsIdle session.new }
-    ensures starved { result ≡ Next.Starved → session.old.pending ≡ None → IsCalling session.old session.new call.now }
-    ensures refused { result ≡ Next.Starved → session.old.pending ≡ None → HasStarvedCalling O.Sequential session.old session.new call.now }
-    ensures starved_on { result ≡ Next.Starved → session.old.pending ≢ None → IsWaitingOn session.old session.new × (session.old.put_backs < session.new.put_backs) }
-    ensures tried { (w : _) → result ≡ Next.Wait w → session.old.pending ≡ None → made < TRIES_AT_ONCE → (session.new ≡ session.old) × (1 < office.now.sessions) }
-    ensures published { (w : _) → result ≡ Next.Wait w → session.old.pending ≡ None → TRIES_AT_ONCE ≤ made → IsCalling session.old session.new call.now × (1 < office.now.sessions) }
-    ensures waits { (w : _) → result ≡ Next.Wait w → session.old.pending ≢ None → IsWaitingOn session.old session.new }
-    ensures wait_tried { (w : _) → result ≡ Next.Wait w → session.old.pending ≡ None → made < TRIES_AT_ONCE → IsWaitAfterTry w }
-    ensures wait_published { (w : _) → result ≡ Next.Wait w → session.old.pending ≡ None → TRIES_AT_ONCE ≤ made → IsWaitAfterLook 0 w }
-    ensures wait_looked { (w : _) → result ≡ Next.Wait w → session.old.pending ≢ None → IsWaitAfterLook made w }
+    ensures turned { HasTurned session.old session.new office.now.sessions made (IsCalled O.Sequential session.old session.new call.now)
+        (IsAnswered O.Sequential session.old session.new) (IsCalling session.old session.new call.now)
+        (HasStarvedCalling O.Sequential session.old session.new call.now) result }
+    ensures wait { (w : _) → result ≡ Next.Wait w → IsWaitAfterTurn (session.old.pending ≡ None) made w }
     ensures tries { session.new.tries ≤ session.old.tries + 1 }
     ensures untried { session.old.pending ≢ None → made % LOOKS_PER_TRY ≢ 0 → session.new.tries ≡ session.old.tries }
-    ensures live { session.new.retired ≡ false }
-    ensures on { HasGoneOn session.old session.new }
-    ensures few { length (entered_since session.old session.new) ≤ most_of (T.most told.old) + 1 }
+    ensures few { length (entered_since session.old session.new) ≤ most_of bound + 1 }
     ensures told { HasAddedTold T.ends office.now.sessions session.new.front (entered_since session.old session.new) (T.list told.old) (T.list told.new) }
     ensures room { T.room told.new ≡ T.room told.old }
-    ensures most { T.most told.new ≡ T.most told.old }
     ensures noted { (answer : _) → result ≡ Next.Answered answer → T.notes told.old session.old.front → IsNotedUpTo (T.notes told.new) session.new.front (answer.place + 1) }
     ensures notes_starved { result ≡ Next.Starved → T.notes told.old session.old.front → T.notes told.new session.new.front }
     ensures notes_waits { (w : _) → result ≡ Next.Wait w → T.notes told.old session.old.front → T.notes told.new session.new.front }
 {
     if !session.is_idle() {
-        return look(office, session, made, told);
+        return look(office, session, made, bound, told);
     }
     if made < TRIES_AT_ONCE {
-        try_at_once(office, session, call, told)
+        try_at_once(office, session, call, bound, told)
     } else {
-        publish_and_look(office, session, *call, told)
+        publish_and_look(office, session, *call, bound, told)
     }
 }
 
@@ -255,82 +229,84 @@ pub fn publish_if_idle<O: Batching>(office: &Office<O>, session: &mut Session<O>
     }
 }
 
-/// Goes on with the pending call of a session: looks for the answer in at most `turns` turns, with waits between them. `NotYet`: the
-/// answer wasn't there. `Starved`: the session made a pass in which memory was refused. Tells whose waits the session's passes have
-/// ended, as `Office::serve_telling` tells it of a pass.
+/// Goes on with the pending call of a session: looks for the answer in at most `turns` turns, with waits between them. `Wait`: the
+/// answer wasn't there, and `resume` goes on after this wait. `Starved`: the session made a pass in which memory was refused. Tells whose waits the session's passes have
+/// ended, as `Office::serve` tells it of a pass.
 pub fn resume<O: Batching, T: Told<O>>(
     office: &Office<O>,
     session: &mut Session<O>,
     turns: u64,
+    bound: PassBound,
     told: &mut T,
-) -> Called<O::Reply>
+) -> Next<O::Reply>
     requires ours { IsSessionOf office.now session.old }
     requires pending { session.old.pending ≢ None }
     requires room { HasRoom (T.room told.old) office.now.sessions }
     ensures ours { IsSessionOf office.now session.new }
-    ensures answered { (answer : _) → result ≡ Called.Answered answer → IsAnswered O.Sequential session.old session.new answer.place answer.reply }
-    ensures idle { (answer : _) → result ≡ Called.Answered answer → IsIdle session.new }
-    ensures not_yet { result ≡ Called.NotYet → IsWaitingOn session.old session.new }
-    ensures starved { result ≡ Called.Starved → HasStarved session.old session.new }
-    ensures others { result ≡ Called.NotYet → 0 < turns → 1 < office.now.sessions }
+    ensures answered { (answer : _) → result ≡ Next.Answered answer → IsAnswered O.Sequential session.old session.new answer.place answer.reply }
+    ensures idle { (answer : _) → result ≡ Next.Answered answer → IsIdle session.new }
+    ensures waits { (w : _) → result ≡ Next.Wait w → IsWaitingOn session.old session.new }
+    ensures starved { result ≡ Next.Starved → HasStarved session.old session.new }
+    ensures others { (w : _) → result ≡ Next.Wait w → 0 < turns → 1 < office.now.sessions }
+    ensures wait { (w : _) → result ≡ Next.Wait w → IsWaitAfterLook turns w }
     ensures tries { FitIntoLooks (session.new.tries - session.old.tries) turns }
     ensures told { AreToldBy T.ends office.now.sessions session.new.front (entered_since session.old session.new) (T.list told.new) }
     ensures room { T.room told.new ≡ T.room told.old }
-    ensures most { T.most told.new ≡ T.most told.old }
-    ensures noted { (answer : _) → result ≡ Called.Answered answer → T.notes told.old session.old.front → IsNotedUpTo (T.notes told.new) session.new.front (answer.place + 1) }
-    ensures notes_starved { result ≡ Called.Starved → T.notes told.old session.old.front → T.notes told.new session.new.front }
-    ensures notes_not_yet { result ≡ Called.NotYet → T.notes told.old session.old.front → T.notes told.new session.new.front }
+    ensures noted { (answer : _) → result ≡ Next.Answered answer → T.notes told.old session.old.front → IsNotedUpTo (T.notes told.new) session.new.front (answer.place + 1) }
+    ensures notes_starved { result ≡ Next.Starved → T.notes told.old session.old.front → T.notes told.new session.new.front }
+    ensures notes_waits { (w : _) → result ≡ Next.Wait w → T.notes told.old session.old.front → T.notes told.new session.new.front }
 {
     told.clear();
     for looked in 0..turns {
-        match look(office, session, looked, told) {
-            Next::Answered(answer) => return Called::Answered(answer),
-            Next::Starved => return Called::Starved,
+        match look(office, session, looked, bound, told) {
+            Next::Answered(answer) => return Next::Answered(answer),
+            Next::Starved => return Next::Starved,
             Next::Wait(next) => back_off(next),
         }
     }
-    Called::NotYet
+    Next::Wait(after_look(turns))
 }
 
 /// Makes a call of an idle session, in one turn and `turns` more at most, as `turn` makes them, with waits between them. If the call
 /// isn't published by then, it is published.
 ///
-/// `Answered`: the session is idle again. `NotYet` and `Starved` leave the call published and pending. `Starved`: memory was
+/// `Answered`: the session is idle again. `Wait` and `Starved` leave the call published and pending. `Starved`: memory was
 /// refused for the call, or in a pass of the session. Tells whose waits the call and the session's passes have ended, as
-/// `Office::serve_telling` tells it of a pass, whatever the outcome.
+/// `Office::serve` tells it of a pass, whatever the outcome.
 pub fn call<O: Batching, T: Told<O>>(
     office: &Office<O>,
     session: &mut Session<O>,
     call: O::Call,
     turns: u64,
+    bound: PassBound,
     told: &mut T,
-) -> Called<O::Reply>
+) -> Next<O::Reply>
     requires ours { IsSessionOf office.now session.old }
     requires idle { IsIdle session.old }
     requires room { HasRoom (T.room told.old) office.now.sessions }
     ensures ours { IsSessionOf office.now session.new }
-    ensures answered { (answer : _) → result ≡ Called.Answered answer → IsCalled O.Sequential session.old session.new call answer.place answer.reply }
-    ensures idle { (answer : _) → result ≡ Called.Answered answer → IsIdle session.new }
-    ensures not_yet { result ≡ Called.NotYet → IsCalling session.old session.new call × (1 < office.now.sessions) }
-    ensures starved { result ≡ Called.Starved → IsCalling session.old session.new call }
-    ensures refused { result ≡ Called.Starved → HasStarvedCalling O.Sequential session.old session.new call }
+    ensures answered { (answer : _) → result ≡ Next.Answered answer → IsCalled O.Sequential session.old session.new call answer.place answer.reply }
+    ensures idle { (answer : _) → result ≡ Next.Answered answer → IsIdle session.new }
+    ensures waits { (w : _) → result ≡ Next.Wait w → IsCalling session.old session.new call × (1 < office.now.sessions) }
+    ensures starved { result ≡ Next.Starved → IsCalling session.old session.new call }
+    ensures refused { result ≡ Next.Starved → HasStarvedCalling O.Sequential session.old session.new call }
+    ensures wait { (w : _) → result ≡ Next.Wait w → IsWaitAfterLook turns w }
     ensures tries { FitIntoLooks (session.new.tries - session.old.tries) (turns + 1) }
     ensures told { AreToldBy T.ends office.now.sessions session.new.front (entered_since session.old session.new) (T.list told.new) }
     ensures room { T.room told.new ≡ T.room told.old }
-    ensures most { T.most told.new ≡ T.most told.old }
-    ensures noted { (answer : _) → result ≡ Called.Answered answer → T.notes told.old session.old.front → IsNotedUpTo (T.notes told.new) session.new.front (answer.place + 1) }
-    ensures notes_starved { result ≡ Called.Starved → T.notes told.old session.old.front → T.notes told.new session.new.front }
-    ensures notes_not_yet { result ≡ Called.NotYet → T.notes told.old session.old.front → T.notes told.new session.new.front }
+    ensures noted { (answer : _) → result ≡ Next.Answered answer → T.notes told.old session.old.front → IsNotedUpTo (T.notes told.new) session.new.front (answer.place + 1) }
+    ensures notes_starved { result ≡ Next.Starved → T.notes told.old session.old.front → T.notes told.new session.new.front }
+    ensures notes_waits { (w : _) → result ≡ Next.Wait w → T.notes told.old session.old.front → T.notes told.new session.new.front }
 {
     told.clear();
     let asked = call;
     for made in 0..turns.saturating_add(1) {
-        match turn(office, session, &asked, made, told) {
-            Next::Answered(answer) => return Called::Answered(answer),
-            Next::Starved => return Called::Starved,
+        match turn(office, session, &asked, made, bound, told) {
+            Next::Answered(answer) => return Next::Answered(answer),
+            Next::Starved => return Next::Starved,
             Next::Wait(next) => back_off(next),
         }
     }
     publish_if_idle(office, session, asked);
-    Called::NotYet
+    Next::Wait(after_look(turns))
 }

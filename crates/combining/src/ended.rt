@@ -7,7 +7,7 @@ use sequential::Telling;
 use std::alloc::{AllocError as NoMemory, Global};
 use std::marker::Model;
 
-/// A list in which `serve_telling`, `serve_bounded`, `perform_telling`, `call` and `resume` tell whose waits the session's passes have
+/// A list in which `serve`, `perform`, `call` and `resume` tell whose waits the session's passes have
 /// ended. Contracts see its sessions, and for how many it has room. Only `new` takes memory.
 #[derive(Drop)]
 pub struct Ended {

@@ -1,6 +1,6 @@
 //! The office and the calls of its sessions.
 
-ghost use Rattle.std.specs.Prelude.{◌≡◌, ◌≢◌, ◌⊎◌, ◌+◌, ◌<◌, ◌≤◌, ◌↔◌, [], true, false, IsTrue, Some, None, Err, IfOk, IfErr, IfSome, IfNone, length, max, slice_index};
+ghost use Rattle.std.specs.Prelude.{◌≡◌, ◌≢◌, ◌⊎◌, ◌+◌, ◌*◌, ◌<◌, ◌≤◌, ◌↔◌, [], true, false, IsTrue, Some, None, Err, IfOk, IfErr, IfSome, IfNone, length, max, slice_index};
 ghost use Rattle.std.specs.List.{All};
 ghost use mathlib.Core.List.{IsPrefix};
 ghost use Rattle.sequential.specs.Histories.{calls_of};
@@ -9,16 +9,16 @@ ghost use Rattle.publication.specs.Boards.{HasCallsOf, heard_from, known_by, pub
 ghost use Rattle.combining.specs.Sessions.{IsSessionOf, IsIdle, HasNothingPending, IsPendingServed, HasTriedToList, IsPassed, IsCollected};
 ghost use Rattle.combining.specs.Closed.{IsClosed};
 ghost use Rattle.combining.specs.Ended.{AreToldBy, entered_since, HasRoom};
+ghost use Rattle.combining.specs.Rounds.{IsBound, IsUnmet, AreRounds, IsFull};
 
-mod bounded;
 mod looks;
 mod passes;
 mod perform;
 mod sleeping;
 mod taking;
 
-use crate::told::{Nobody, Told};
-pub use bounded::BoundedTurn;
+use crate::bounds::PassBound;
+use crate::told::Told;
 pub use perform::Performed;
 use publication::{Board, CloseFault, Knowledge, Posted, Ticket as Session};
 use sequential::{Batching, Fresh, MAX_SESSIONS};
@@ -49,12 +49,16 @@ pub enum Turn {
     Elsewhere,
     /// The session was the combiner and made a pass.
     Pass {
-        /// How many calls it served.
+        /// How many calls it served, in all rounds.
         served: u32,
-        /// Whether calls stay published because memory was refused for one: that call, and those behind it in the
-        /// pass. What `false` implies is proved (clauses `own` and `heard` of `serve`). That `true` means refused
-        /// memory is tested, not proved.
+        /// Whether calls stay published because memory was refused for one in the last round: that call, and those behind it in
+        /// the round. What `false` implies is proved (clauses `own` and `heard` of `serve`). That `true` means refused memory is
+        /// tested, not proved.
         starved: bool,
+        /// Whether the last round saw a published call that it left, since it had taken as much as it may. What `false`
+        /// implies is proved (clause `heard` of `serve`), and that a round which leaves a call is full. That `true` means a
+        /// published call is tested, not proved.
+        left: bool,
     },
 }
 
@@ -123,53 +127,51 @@ impl<O: Batching> Office<O> {
         self.board.post(session, call)
     }
 
-    /// Tries once to become the combiner, and if it does, makes a pass: serves every listed call and the session's
-    /// own, until memory is refused for a call. The session need not be pending. If its call isn't listed, it first
-    /// tries once to have it listed.
+    /// Tries once to become the combiner, and if it does, makes a pass: rounds in each of which it serves at most `bound.calls`
+    /// calls, and takes no further one once those that it has taken weigh `bound.weight`, as `T` weighs them behind the history with which
+    /// the round begins. It makes rounds until one finds no call or memory is refused for one, but at most `bound.rounds`. It has the
+    /// object for all rounds. The session need not be pending. If its call isn't listed, it first tries once to have it listed.
     ///
-    /// Calls that go first are served before the other calls. Both groups are served in the order of the publication list, with the
-    /// session's own call last in its group if its record isn't on the list.
-    pub fn serve(&self, session: &mut Session<O>) -> Turn
-        requires ours { IsSessionOf self.now session.old }
-        ensures ours { IsSessionOf self.now session.new }
-        ensures elsewhere { result ≡ Turn.Elsewhere → HasTriedToList session.old session.new × (1 < self.now.sessions) }
-        ensures pass { (served : _) (starved : _) → result ≡ Turn.Pass served starved → IsPassed O.Sequential session.old session.new served }
-        ensures starved { (served : _) (starved : _) → result ≡ Turn.Pass served starved → IsTrue starved ↔ (session.old.put_backs < session.new.put_backs) }
-        ensures rises { (j : _) → heard_from session.old j ≤ heard_from session.new j }
-        ensures calls { HasCallsOf session.new.front session.new }
-        ensures own { (served : _) → result ≡ Turn.Pass served false → session.old.pending ≢ None → IsPendingServed session.new }
-        ensures heard { (served j : _) → result ≡ Turn.Pass served false → 0 < j → j ≤ self.now.sessions
-            → heard_from session.old j ≤ length (calls_of j session.new.front) }
-    {
-        self.pass(session, &mut Nobody)
-    }
-
-    /// Serves as `serve` does, and tells whose wait a call of the pass has ended, as the object says: afterwards `told` has each
-    /// of these sessions once, also one that waits again since, and nobody else.
+    /// Within [`UNBOUNDED`](crate::UNBOUNDED) it serves every listed call and the session's own. Else a pass serves at most `bound.rounds`
+    /// times `bound.calls` calls, however many are published; what it leaves stays published, and the next pass of any session finds it.
+    /// More rounds serve more calls for each time that the object is taken, and hold up the session's own thread for longer.
     ///
-    /// A thread that waits need not ask until a pass tells its session: whoever made that pass wakes it. `told` has room for
-    /// all sessions of the office, so that the call takes no memory beyond what `serve` takes. That a pass tells whose wait it
-    /// has ended is this project's own.
-    pub fn serve_telling<T: Told<O>>(&self, session: &mut Session<O>, told: &mut T) -> Turn
+    /// Calls that go first are served before the others of their round. Both groups are served in the order of the publication list,
+    /// behind the session's own call.
+    ///
+    /// Tells whose wait a call of the pass has ended, as the object says: afterwards `told` has each of these sessions once, also one that
+    /// waits again since, and nobody else; with [`Nobody`](crate::Nobody) it tells nobody. A thread that waits need not ask until a pass
+    /// tells its session: whoever made that pass wakes it. `told` has room for all sessions of the office, so that telling takes no memory.
+    /// That a pass tells whose wait it has ended is this project's own.
+    pub fn serve<T: Told<O>>(
+        &self,
+        session: &mut Session<O>,
+        bound: PassBound,
+        told: &mut T,
+    ) -> Turn
         requires ours { IsSessionOf self.now session.old }
+        requires bound { IsBound bound }
         requires room { HasRoom (T.room told.old) self.now.sessions }
         ensures ours { IsSessionOf self.now session.new }
         ensures elsewhere { result ≡ Turn.Elsewhere → HasTriedToList session.old session.new × (1 < self.now.sessions) }
-        ensures pass { (served : _) (starved : _) → result ≡ Turn.Pass served starved → IsPassed O.Sequential session.old session.new served }
-        ensures starved { (served : _) (starved : _) → result ≡ Turn.Pass served starved → IsTrue starved ↔ (session.old.put_backs < session.new.put_backs) }
+        ensures pass { (served : _) (starved left : _) → result ≡ Turn.Pass served starved left → IsPassed O.Sequential session.old session.new served }
+        ensures few { (served : _) (starved left : _) → result ≡ Turn.Pass served starved left → served ≤ bound.rounds * bound.calls }
+        ensures rounds { (served : _) (left : _) → result ≡ Turn.Pass served false left → AreRounds T.weight bound served session.new.front }
+        ensures full { (served : _) → result ≡ Turn.Pass served false true → IsFull T.weight bound served session.new.front }
+        ensures all { (served : _) (starved left : _) → result ≡ Turn.Pass served starved left → IsUnmet bound → left ≡ false }
+        ensures starved { (served : _) (starved left : _) → result ≡ Turn.Pass served starved left → IsTrue starved ↔ (session.old.put_backs < session.new.put_backs) }
         ensures rises { (j : _) → heard_from session.old j ≤ heard_from session.new j }
         ensures calls { HasCallsOf session.new.front session.new }
-        ensures own { (served : _) → result ≡ Turn.Pass served false → session.old.pending ≢ None → IsPendingServed session.new }
-        ensures heard { (served j : _) → result ≡ Turn.Pass served false → 0 < j → j ≤ self.now.sessions
+        ensures own { (served : _) (left : _) → result ≡ Turn.Pass served false left → session.old.pending ≢ None → IsPendingServed session.new }
+        ensures heard { (served j : _) → result ≡ Turn.Pass served false false → 0 < j → j ≤ self.now.sessions
             → heard_from session.old j ≤ length (calls_of j session.new.front) }
         ensures told { AreToldBy T.ends self.now.sessions session.new.front (entered_since session.old session.new) (T.list told.new) }
         ensures none { result ≡ Turn.Elsewhere → T.list told.new ≡ [] }
         ensures room { T.room told.new ≡ T.room told.old }
-        ensures most { T.most told.new ≡ T.most told.old }
         ensures notes { T.notes told.old session.old.front → T.notes told.new session.new.front }
     {
         told.clear();
-        self.pass(session, told)
+        self.pass(session, bound, told)
     }
 
     /// Takes the answer to the session's published call; each answer is taken once. `None`, with nothing changed,

@@ -5,11 +5,10 @@ ghost use Rattle.combining.specs.Sessions.{IsIdle};
 ghost use Rattle.combining.specs.inner.OwnCalls.{IsOwnEntered, IsPassWithOwn};
 ghost use Rattle.combining.specs.inner.Passes.{IsAtWork, HasPassed, HasServed};
 ghost use Rattle.combining.specs.Ended.{HasAddedTold, HasRoom, entered_since};
-ghost use Rattle.combining.specs.Rounds.{IsBound};
+ghost use Rattle.combining.specs.Rounds.{IsBound, IsUnmet};
 
-use crate::bounded_pass::{Rounds, serve_rounds};
 use crate::bounds::PassBound;
-use crate::pass::serve_published;
+use crate::rounds::{Pass, serve_rounds};
 use crate::told::Told;
 use publication::{Board, Load, Ticket};
 use sequential::Batching;
@@ -59,70 +58,11 @@ pub(crate) fn perform_own_telling<O: Batching, T: Told<O>>(
     ensures taken { load.new.pieces.items ≡ load.old.pieces.items }
     ensures told { HasAddedTold T.ends board.now.sessions session.new.front (entered_since session.old session.new) (T.list told.old) (T.list told.new) }
     ensures room { T.room told.new ≡ T.room told.old }
-    ensures most { T.most told.new ≡ T.most told.old }
     ensures notes { T.notes told.old session.old.front → T.notes told.new session.new.front }
 {
     let answer = perform_own(board, session, load, call)?;
     told.add(&load.object, 1);
     Some(answer)
-}
-
-/// Runs a whole pass as `serve_published` does, for a session with no call pending, and tells whose waits it has ended.
-#[inline(always)]
-fn serve_all_telling<O: Batching, T: Told<O>>(
-    board: &Board<O>,
-    session: &mut Ticket<O>,
-    load: &mut Load<O>,
-    told: &mut T,
-) -> Rounds
-    requires work { IsAtWork O.Sequential board.now session.old load.old }
-    requires none { session.old.pending ≡ None }
-    requires room { HasRoom (T.room told.old) board.now.sessions }
-    ensures work { IsAtWork O.Sequential board.now session.new load.new }
-    ensures pass { HasPassed session.old session.new result.served }
-    ensures served { HasServed board.now.sessions session.old session.new load.old load.new result.starved result.left }
-    ensures whole { result.left ≡ false }
-    ensures told { HasAddedTold T.ends board.now.sessions session.new.front (entered_since session.old session.new) (T.list told.old) (T.list told.new) }
-    ensures room { T.room told.new ≡ T.room told.old }
-    ensures most { T.most told.new ≡ T.most told.old }
-    ensures noted { T.notes told.new session.new.front }
-{
-    let pass = serve_published(board, session, load);
-    told.add(&load.object, pass.served);
-    Rounds {
-        served: pass.served,
-        starved: pass.starved,
-        left: false,
-    }
-}
-
-/// Runs a pass for a session with no call pending, a whole one or within the bound that is given, and tells whose waits it has ended.
-#[inline(always)]
-pub(crate) fn serve_published_telling<O: Batching, T: Told<O>>(
-    board: &Board<O>,
-    session: &mut Ticket<O>,
-    load: &mut Load<O>,
-    bound: Option<PassBound>,
-    told: &mut T,
-) -> Rounds
-    requires work { IsAtWork O.Sequential board.now session.old load.old }
-    requires none { session.old.pending ≡ None }
-    requires room { HasRoom (T.room told.old) board.now.sessions }
-    requires bound { IfSome bound IsBound }
-    ensures work { IsAtWork O.Sequential board.now session.new load.new }
-    ensures pass { HasPassed session.old session.new result.served }
-    ensures served { HasServed board.now.sessions session.old session.new load.old load.new result.starved result.left }
-    ensures whole { IfNone bound (result.left ≡ false) }
-    ensures few { IfSome bound (λ b. result.served ≤ b.rounds * b.calls) }
-    ensures told { HasAddedTold T.ends board.now.sessions session.new.front (entered_since session.old session.new) (T.list told.old) (T.list told.new) }
-    ensures room { T.room told.new ≡ T.room told.old }
-    ensures most { T.most told.new ≡ T.most told.old }
-    ensures noted { T.notes told.new session.new.front }
-{
-    match bound {
-        Some(bound) => serve_rounds(board, session, load, bound, told),
-        None => serve_all_telling(board, session, load, told),
-    }
 }
 
 /// Performs a call of the combiner's own and then runs a pass.
@@ -132,10 +72,10 @@ fn serve_own_first<O: Batching, T: Told<O>>(
     session: &mut Ticket<O>,
     load: &mut Load<O>,
     call: O::Call,
-    bound: Option<PassBound>,
+    bound: PassBound,
     told: &mut T,
-) -> (Rounds, Option<(u64, O::Reply)>)
-    requires bound { IfSome bound IsBound }
+) -> (Pass, Option<(u64, O::Reply)>)
+    requires bound { IsBound bound }
     requires work { IsAtWork O.Sequential board.now session.old load.old }
     requires idle { IsIdle session.old }
     requires room { HasRoom (T.room told.old) board.now.sessions }
@@ -143,18 +83,14 @@ fn serve_own_first<O: Batching, T: Told<O>>(
     ensures refused { IfNone result.1 (HasPassed session.old session.new result.0.served) }
     ensures work { IsAtWork O.Sequential board.now session.new load.new }
     ensures served { HasServed board.now.sessions session.old session.new load.old load.new result.0.starved result.0.left }
-    ensures whole { IfNone bound (result.0.left ≡ false) }
-    ensures few { IfSome bound (λ b. result.0.served ≤ b.rounds * b.calls) }
+    ensures all { IsUnmet bound → result.0.left ≡ false }
+    ensures few { result.0.served ≤ bound.rounds * bound.calls }
     ensures told { HasAddedTold T.ends board.now.sessions session.new.front (entered_since session.old session.new) (T.list told.old) (T.list told.new) }
     ensures room { T.room told.new ≡ T.room told.old }
-    ensures most { T.most told.new ≡ T.most told.old }
     ensures noted { T.notes told.new session.new.front }
 {
     let answer = perform_own_telling(board, session, load, call, told);
-    (
-        serve_published_telling(board, session, load, bound, told),
-        answer,
-    )
+    (serve_rounds(board, session, load, bound, told), answer)
 }
 
 /// Runs a pass and then performs a call of the combiner's own.
@@ -164,10 +100,10 @@ fn serve_own_last<O: Batching, T: Told<O>>(
     session: &mut Ticket<O>,
     load: &mut Load<O>,
     call: O::Call,
-    bound: Option<PassBound>,
+    bound: PassBound,
     told: &mut T,
-) -> (Rounds, Option<(u64, O::Reply)>)
-    requires bound { IfSome bound IsBound }
+) -> (Pass, Option<(u64, O::Reply)>)
+    requires bound { IsBound bound }
     requires work { IsAtWork O.Sequential board.now session.old load.old }
     requires idle { IsIdle session.old }
     requires room { HasRoom (T.room told.old) board.now.sessions }
@@ -175,19 +111,18 @@ fn serve_own_last<O: Batching, T: Told<O>>(
     ensures refused { IfNone result.1 (HasPassed session.old session.new result.0.served) }
     ensures work { IsAtWork O.Sequential board.now session.new load.new }
     ensures served { HasServed board.now.sessions session.old session.new load.old load.new result.0.starved result.0.left }
-    ensures whole { IfNone bound (result.0.left ≡ false) }
-    ensures few { IfSome bound (λ b. result.0.served ≤ b.rounds * b.calls) }
+    ensures all { IsUnmet bound → result.0.left ≡ false }
+    ensures few { result.0.served ≤ bound.rounds * bound.calls }
     ensures told { HasAddedTold T.ends board.now.sessions session.new.front (entered_since session.old session.new) (T.list told.old) (T.list told.new) }
     ensures room { T.room told.new ≡ T.room told.old }
-    ensures most { T.most told.new ≡ T.most told.old }
     ensures noted { T.notes told.new session.new.front }
 {
-    let pass = serve_published_telling(board, session, load, bound, told);
+    let pass = serve_rounds(board, session, load, bound, told);
     let answer = perform_own_telling(board, session, load, call, told);
     (pass, answer)
 }
 
-/// Runs a pass, a whole one or within the bound that is given, in which the combiner performs a call of its own, which it has not
+/// Runs a pass within the bound, in which the combiner performs a call of its own, which it has not
 /// published: ahead of the others if the call goes first, else behind them. Returns the pass, and of the own call its place and reply; `None` if memory is
 /// refused for it. Tells whose waits the pass and the call have ended.
 pub(crate) fn serve_with_own<O: Batching, T: Told<O>>(
@@ -195,10 +130,10 @@ pub(crate) fn serve_with_own<O: Batching, T: Told<O>>(
     session: &mut Ticket<O>,
     load: &mut Load<O>,
     call: O::Call,
-    bound: Option<PassBound>,
+    bound: PassBound,
     told: &mut T,
-) -> (Rounds, Option<(u64, O::Reply)>)
-    requires bound { IfSome bound IsBound }
+) -> (Pass, Option<(u64, O::Reply)>)
+    requires bound { IsBound bound }
     requires work { IsAtWork O.Sequential board.now session.old load.old }
     requires idle { IsIdle session.old }
     requires room { HasRoom (T.room told.old) board.now.sessions }
@@ -206,11 +141,10 @@ pub(crate) fn serve_with_own<O: Batching, T: Told<O>>(
     ensures refused { IfNone result.1 (HasPassed session.old session.new result.0.served) }
     ensures work { IsAtWork O.Sequential board.now session.new load.new }
     ensures served { HasServed board.now.sessions session.old session.new load.old load.new result.0.starved result.0.left }
-    ensures whole { IfNone bound (result.0.left ≡ false) }
-    ensures few { IfSome bound (λ b. result.0.served ≤ b.rounds * b.calls) }
+    ensures all { IsUnmet bound → result.0.left ≡ false }
+    ensures few { result.0.served ≤ bound.rounds * bound.calls }
     ensures told { HasAddedTold T.ends board.now.sessions session.new.front (entered_since session.old session.new) (T.list told.old) (T.list told.new) }
     ensures room { T.room told.new ≡ T.room told.old }
-    ensures most { T.most told.new ≡ T.most told.old }
     ensures noted { T.notes told.new session.new.front }
 {
     if O::goes_first(&call) {

@@ -1,5 +1,5 @@
-//! A pass of the combiner: it walks the publication list, opens the records in which calls are posted, performs the
-//! calls and answers them.
+//! What a round of a pass is made of: the combiner opens records in which calls are posted, performs the calls as one batch, and
+//! answers them.
 
 ghost use Rattle.std.specs.Prelude.{◌≡◌, ◌≢◌, ◌+◌, ◌-◌, ◌^◌, ◌<◌, ◌≤◌, ◌↔◌, ◌∷◌, ◌++◌, min, [], true, false, IsTrue, Some, None, IfSome, IfNone, length, take, drop, vec_len, vec_capacity, if◌then◌else◌, All};
 ghost use mathlib.Core.List.{IsPrefix};
@@ -11,26 +11,17 @@ ghost use Rattle.publication.specs.Kinds.{IsRoute};
 ghost use Rattle.combining.specs.inner.Passes.{AreOpened, HasCalls, KeepsCalls, IsVisited, HasVisitedOpened, IsNext, HasMet, IsSameSession, HasInserted, HasAnswered, HasPassed, IsObjectInHand, IsAtWork, HasRow, HasServed, HasServedRow};
 ghost use Rattle.combining.specs.inner.Ages.{sessions_of, sessions_since, noted};
 
-use crate::clean_up::{clean_up, note_served};
+use crate::clean_up::note_served;
 use publication::{Board, Load, Ticket};
 use sequential::{Batching, Item};
 
-/// The outcome of a pass.
+/// The outcome of a row of calls.
 #[derive(Drop)]
-pub(crate) struct Pass {
+pub(crate) struct Served {
     /// How many calls it served.
     pub served: u32,
     /// Whether it put calls back, because memory was refused for one.
     pub starved: bool,
-}
-
-/// A pass that a session has made: its outcome, and what the session took from the object's slot and has to give back.
-#[derive(Drop)]
-pub(crate) struct MadePass<O: Batching> {
-    /// The outcome.
-    pub pass: Pass,
-    /// The object, and what passes work with.
-    pub load: Box<Load<O>>,
 }
 
 /// Inserts an item for the call of session `whose` into the row, which has room for it, behind the first `place` items.
@@ -127,89 +118,6 @@ pub(crate) fn open_record<O: Batching>(
     open_posted(board, session, row, going_first, whose)
 }
 
-/// Visits the records of the walk from `next` on, and opens each in which a call is posted.
-#[inline(always)]
-fn open_walked<O: Batching>(
-    board: &Board<O>,
-    session: &mut Ticket<O>,
-    row: &mut Vec<Item<O::Call, O::Reply>>,
-    going_first: &mut usize,
-    next: Option<u16>,
-)
-    requires ours { IsOf board.now session.old × (session.old.has_object ≡ true) }
-    requires route { IsRoute (board.now.sessions + 1) session.old.route }
-    requires next { IsNext next session.old.route × HasMet next session.old }
-    requires row { AreOpened board.now.sessions session.old.opened row.old.items }
-    requires room { (board.now.sessions ≤ vec_capacity row.old) × (going_first.old ≤ vec_len row.old) }
-    requires visited { HasVisitedOpened session.old }
-    ensures session { IsSameSession session.old session.new × (session.new.front ≡ session.old.front) }
-    ensures row { AreOpened board.now.sessions session.new.opened row.new.items }
-    ensures room { (board.now.sessions ≤ vec_capacity row.new) × (going_first.new ≤ vec_len row.new) }
-    ensures calls { KeepsCalls session.old session.new }
-    ensures visited { HasVisitedOpened session.new }
-    ensures met { (j : _) → IsOn j session.old.route → IsVisited j session.new }
-{
-    let mut next = next;
-    while let Some(whose) = next {
-        let _call = open_record(board, session, row, going_first, whose);
-        next = board.walk(session, Some(whose));
-    }
-}
-
-/// Walks the publication list from the head word to the end mark, and opens each record in which a call is posted.
-#[inline(always)]
-fn open_listed<O: Batching>(
-    board: &Board<O>,
-    session: &mut Ticket<O>,
-    row: &mut Vec<Item<O::Call, O::Reply>>,
-    going_first: &mut usize,
-)
-    requires ours { IsOf board.now session.old × (session.old.has_object ≡ true) }
-    requires none { OpensNone session.old }
-    requires row { AreOpened board.now.sessions session.old.opened row.old.items }
-    requires room { (board.now.sessions ≤ vec_capacity row.old) × (going_first.old ≤ vec_len row.old) }
-    ensures session { IsSameSession session.old session.new × (session.new.front ≡ session.old.front) }
-    ensures row { AreOpened board.now.sessions session.new.opened row.new.items }
-    ensures room { (board.now.sessions ≤ vec_capacity row.new) × (going_first.new ≤ vec_len row.new) }
-    ensures calls { KeepsCalls session.old session.new }
-    ensures visited { HasVisitedOpened session.new }
-    ensures met { (j : _) → 0 < j → j ≤ board.now.sessions → HasCalls (heard_from session.old j) j session.new }
-{
-    let next = board.walk(session, None);
-    if next.is_some() {
-        open_walked(board, session, row, going_first, next);
-    }
-}
-
-/// Visits the records on the publication list, and then the combiner's own if its call is pending and not listed, and opens
-/// each in which a call is posted.
-#[inline(always)]
-fn open_records<O: Batching>(
-    board: &Board<O>,
-    session: &mut Ticket<O>,
-    row: &mut Vec<Item<O::Call, O::Reply>>,
-)
-    requires ours { IsOf board.now session.old × (session.old.has_object ≡ true) }
-    requires number { IsNumber board.now session.old.number }
-    requires none { OpensNone session.old }
-    requires listed { session.old.pending ≢ None → session.old.listed ≡ true → heard_from session.old session.old.number ≡ published_by session.old }
-    requires row { (vec_len row.old ≡ 0) × (board.now.sessions ≤ vec_capacity row.old) }
-    ensures session { IsSameSession session.old session.new × (session.new.front ≡ session.old.front) }
-    ensures row { AreOpened board.now.sessions session.new.opened row.new.items }
-    ensures few { vec_len row.new < 65536 }
-    ensures room { board.now.sessions ≤ vec_capacity row.new }
-    ensures heard { (j : _) → 0 < j → j ≤ board.now.sessions → HasCalls (heard_from session.old j) j session.new }
-    ensures own { session.old.pending ≢ None → HasCalls (published_by session.old) session.old.number session.new }
-{
-    // the number of sessions fits into 16 bits, so a u32 counts the calls of the row
-    let _sessions = board.sessions();
-    let mut going_first = 0;
-    open_listed(board, session, row, &mut going_first);
-    if session.is_unlisted() {
-        let _call = open_record(board, session, row, &mut going_first, session.number());
-    }
-}
-
 /// Answers the first `served` calls of the row, in order, each with the reply in its item.
 fn answer_row<O: Batching>(
     board: &Board<O>,
@@ -290,7 +198,11 @@ fn put_back_row<O: Batching>(
 /// Performs the calls of the row, answers those that were performed, and posts the others again. Notes the pass as the
 /// age of each session that it served.
 #[inline(never)]
-fn serve_opened<O: Batching>(board: &Board<O>, session: &mut Ticket<O>, load: &mut Load<O>) -> Pass
+fn serve_opened<O: Batching>(
+    board: &Board<O>,
+    session: &mut Ticket<O>,
+    load: &mut Load<O>,
+) -> Served
     requires row { HasRow O.Sequential board.now session.old load.old }
     ensures served { HasServedRow O.Sequential O.tells_from board.now.sessions session.old session.new load.old load.new result.served result.starved }
 {
@@ -298,7 +210,7 @@ fn serve_opened<O: Batching>(board: &Board<O>, session: &mut Ticket<O>, load: &m
     put_back_row(board, session, &load.row[served..]);
     let starved = served < load.row.len();
     note_served(&mut load.ages, &load.row[..served], load.passes);
-    Pass {
+    Served {
         served: served as u32,
         starved,
     }
@@ -310,12 +222,12 @@ pub(crate) fn serve_any<O: Batching>(
     board: &Board<O>,
     session: &mut Ticket<O>,
     load: &mut Load<O>,
-) -> Pass
+) -> Served
     requires row { HasRow O.Sequential board.now session.old load.old }
     ensures served { HasServedRow O.Sequential O.tells_from board.now.sessions session.old session.new load.old load.new result.served result.starved }
 {
     if load.row.is_empty() {
-        return Pass {
+        return Served {
             served: 0,
             starved: false,
         };
@@ -329,33 +241,4 @@ pub(crate) fn one_more_if(test: bool, count: u64) -> u64
     ensures { result ≡ (if test then min (count + 1) (2 ^ 64 - 1) else count) }
 {
     if test { count.saturating_add(1) } else { count }
-}
-
-/// Runs a whole pass for a combiner that has the load, and leaves the load fit to be given back.
-#[inline(always)]
-pub(crate) fn serve_published<O: Batching>(
-    board: &Board<O>,
-    session: &mut Ticket<O>,
-    load: &mut Load<O>,
-) -> Pass
-    requires work { IsAtWork O.Sequential board.now session.old load.old }
-    requires listed { session.old.pending ≢ None → session.old.listed ≡ true → heard_from session.old session.old.number ≡ published_by session.old }
-    ensures work { IsAtWork O.Sequential board.now session.new load.new }
-    ensures pass { HasPassed session.old session.new result.served }
-    ensures served { HasServed board.now.sessions session.old session.new load.old load.new result.starved false }
-    ensures own { result.starved ≡ false → session.old.pending ≢ None → published_by session.old ≤ length (calls_of session.old.number session.new.front) }
-    ensures passes { load.new.passes ≡ min (load.old.passes + 1) (2 ^ 64 - 1) }
-    ensures served_in_all { load.new.served ≡ min (load.old.served + result.served) (2 ^ 64 - 1) }
-    ensures starved_in_all { load.new.starved ≡ (if result.starved then min (load.old.starved + 1) (2 ^ 64 - 1) else load.old.starved) }
-    ensures ages { load.new.ages.items ≡ noted load.old.ages.items (sessions_since (length session.old.front) session.new.front) load.new.passes }
-    ensures tells { 0 < result.served → O.tells_from load.new.object (length session.old.front) }
-{
-    load.passes = load.passes.saturating_add(1);
-    open_records(board, session, &mut load.row);
-    let pass = serve_any(board, session, load);
-    load.row.clear();
-    load.served = load.served.saturating_add(u64::from(pass.served));
-    load.starved = one_more_if(pass.starved, load.starved);
-    clean_up(board, session, load.ages.as_slice(), load.passes);
-    pass
 }

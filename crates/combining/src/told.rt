@@ -1,15 +1,13 @@
-//! What a session's passes go by: who is told whose waits they have ended, and how much they serve.
+//! Who is told whose waits a session's passes have ended, and what a call weighs in them.
 
-use crate::bounds::{PassBound, UNBOUNDED};
 use crate::ended::Ended;
 use sequential::{Batching, Telling};
 
-/// What a session's passes go by: who is told whose waits they have ended, which is a list ([`Ended`]), or [`Nobody`], which costs nothing;
-/// and how much a pass in a whole call serves at most, which is all that is published for these two.
+/// Who is told whose waits a session's passes have ended: a list ([`Ended`]), or [`Nobody`], which costs nothing. It also says what a call
+/// weighs, which is nothing for these two.
 pub trait Told<O: Batching> {
     ghost use Rattle.std.specs.Prelude.{◌≡◌, ◌⊎◌, ℕ, ◌+◌, ◌<◌, ◌≤◌, ◌↔◌, Option, List, [], length, Contains};
     ghost use Rattle.sequential.specs.declared.entry.Entry.{Entry};
-    ghost use Rattle.combining.specs.declared.bounds.PassBound.{PassBound as PassBoundValue};
     ghost use Rattle.combining.specs.Ended.{HasRoom, IsOnce, IsEndedFrom};
 
     // The sessions that it was told of since it was cleared.
@@ -24,18 +22,11 @@ pub trait Told<O: Batching> {
     // What it has noted is true of this history. Nothing is asked of who notes nothing.
     ghost notes: { Self → List (Entry O.Call O.Reply) → Type 0 };
 
-    // How much a pass in a whole call serves at most.
-    ghost most: { Self → PassBoundValue };
-
     // The weight of this call of this session, behind this history.
     ghost weight: { List (Entry O.Call O.Reply) → ℕ → O.Call → ℕ };
 
-    /// How much a pass in a whole call serves at most.
-    fn bound(&self) -> PassBound
-        ensures { result ≡ most self.now };
-
     /// The weight of a call of `session` that `object` is to serve.
-    fn weigh(object: &O, session: u16, call: &O::Call) -> u32
+    fn weigh(object: &O, session: u16, call: &O::Call) -> u16
         requires some { 1 ≤ session }
         requires few { session ≤ O.sessions object.now }
         ensures { result ≡ weight (O.history object.now) session call.now };
@@ -44,7 +35,6 @@ pub trait Told<O: Batching> {
     fn clear(&mut self)
         ensures none { list self.new ≡ [] }
         ensures room { room self.new ≡ room self.old }
-        ensures most { most self.new ≡ most self.old }
         ensures notes { (history : _) → notes self.old history → notes self.new history };
 
     /// Adds the sessions whose wait the last `served` calls have ended, by the object that served them, each if it was not added
@@ -56,7 +46,6 @@ pub trait Told<O: Batching> {
             → Contains (list self.new) u ↔ (Contains (list self.old) u ⊎ IsEndedFrom ends (O.sessions object.now) (O.history object.now) from u) }
         ensures once { IsOnce (list self.old) → IsOnce (list self.new) }
         ensures room { room self.new ≡ room self.old }
-        ensures most { most self.new ≡ most self.old }
         ensures notes { notes self.new (O.history object.now) };
 }
 
@@ -66,7 +55,6 @@ pub struct Nobody;
 
 impl<O: Batching> Told<O> for Nobody {
     ghost use Rattle.std.specs.Prelude.{[], None};
-    ghost use Rattle.combining.specs.declared.bounds.TheConstants.{UNBOUNDED};
 
     ghost list = { λ _. [] };
 
@@ -76,17 +64,10 @@ impl<O: Batching> Told<O> for Nobody {
 
     ghost notes = { λ _ _. Unit };
 
-    ghost most = { λ _. UNBOUNDED };
-
     ghost weight = { λ _ _ _. 0 };
 
     #[inline(always)]
-    fn bound(&self) -> PassBound {
-        UNBOUNDED
-    }
-
-    #[inline(always)]
-    fn weigh(_object: &O, _session: u16, _call: &O::Call) -> u32 {
+    fn weigh(_object: &O, _session: u16, _call: &O::Call) -> u16 {
         0
     }
 
@@ -99,7 +80,6 @@ impl<O: Batching> Told<O> for Nobody {
 
 impl<O: Telling> Told<O> for Ended {
     ghost use Rattle.std.specs.Prelude.{Some};
-    ghost use Rattle.combining.specs.declared.bounds.TheConstants.{UNBOUNDED};
 
     ghost list = { λ ended. ended.list };
 
@@ -109,15 +89,9 @@ impl<O: Telling> Told<O> for Ended {
 
     ghost notes = { λ _ _. Unit };
 
-    ghost most = { λ _. UNBOUNDED };
-
     ghost weight = { λ _ _ _. 0 };
 
-    fn bound(&self) -> PassBound {
-        UNBOUNDED
-    }
-
-    fn weigh(_object: &O, _session: u16, _call: &O::Call) -> u32 {
+    fn weigh(_object: &O, _session: u16, _call: &O::Call) -> u16 {
         0
     }
 

@@ -9,8 +9,9 @@ use Rattle.sequential.specs.Histories.{calls_of}
 use Rattle.publication.specs.Views.{TicketView}
 use Rattle.publication.specs.Boards.{heard_from, published_by}
 use Rattle.publication.specs.declared.slot.Load.{Load}
-use Rattle.combining.specs.Rounds.{weight_of, IsLight, HaveLed, IsFull}
+use Rattle.combining.specs.Rounds.{weight_of, IsLight, IsUnmet, HaveLed, IsFull}
 use Rattle.combining.specs.declared.bounds.PassBound.{PassBound}
+use Rattle.combining.specs.declared.bounds.TheConstants.{MAX_WEIGHT}
 use Rattle.combining.specs.inner.Passes.{HasPassed}
 
 -- A round that has opened so many calls, of so much weight, takes no further one.
@@ -23,6 +24,7 @@ module _ {C R : Type 0} (weight : List (Entry C R) → ℕ → C → ℕ) where
     pub few : vec_len row ≤ bound.calls
     pub weight_is : opened ≡ weight_of weight history (asked_by row.items)
     pub light : IsLight weight bound.weight history (asked_by row.items)
+    pub slight : opened ≤ length row.items * MAX_WEIGHT
 
 module _ {O C R : Type 0} (weight : List (Entry C R) → ℕ → C → ℕ) where
   -- So many rounds within the bound.
@@ -35,6 +37,8 @@ module _ {O C R : Type 0} (weight : List (Entry C R) → ℕ → C → ℕ) wher
     pub full : starved ≡ false → left ≡ true → IsFull weight bound served after.front
     pub put_back : IsTrue starved ↔ (before.put_backs < after.put_backs)
     pub kept : starved ≡ false → after.put_backs ≡ before.put_backs
+    -- no call is left by a bound that no pass meets
+    pub all : IsUnmet bound → left ≡ false
     -- the session's own call is served, also if others are left
     pub own : starved ≡ false → before.pending ≢ None → published_by before ≤ length (calls_of before.number after.front)
     pub heard : starved ≡ false → left ≡ false → (j : ℕ) → 0 < j → j ≤ n → heard_from before j ≤ length (calls_of j after.front)

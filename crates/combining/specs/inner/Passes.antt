@@ -157,10 +157,9 @@ module _ {O C R : Type 0} (obj : Ghosts O C R) (tells_from : O → ℕ → Type 
     pub len : vec_len new.ages ≡ vec_len old.ages
     pub tells : 0 < served → tells_from new.object (length before.front)
 
-module _ {O C R : Type 0} (obj : Ghosts O C R) (tells_from : O → ℕ → Type 0) where
+module _ {O C R : Type 0} (obj : Ghosts O C R) where
   -- The session has made a pass and still has the object. If its pending call wasn't listed, it first tried once more to
   -- have it listed. It knows the entries added before this pass, followed by those that this pass added, `served` of them.
-  -- If there are any, the object tells what these have brought about.
   pub record HasMadePass (sessions : ℕ) (before after : TicketView C R) (load : Load O C R) (served : ℕ) : Type 0 where
     pub between : TicketView C R
     pub is_tried : HasTriedToList before between
@@ -180,4 +179,3 @@ module _ {O C R : Type 0} (obj : Ghosts O C R) (tells_from : O → ℕ → Type 
     pub entered : after.entered ≡ before.entered ++ range_with_len (length (before.front ++ others)) served
     pub home : IsHome obj after.front (sessions + 1) load
     pub legal : obj.is_legal after.front
-    pub tells : 0 < served → tells_from load.object (length (before.front ++ others))

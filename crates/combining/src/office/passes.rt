@@ -1,18 +1,29 @@
 //! What every way to serve has in common: the pass of a session, up to where it gives the object back, and its end.
 
-ghost use Rattle.std.specs.Prelude.{◌≡◌, ◌≢◌, ◌+◌, ◌<◌, ◌≤◌, ◌↔◌, [], true, false, IsTrue, None, IfSome, IfNone, length};
+ghost use Rattle.std.specs.Prelude.{◌≡◌, ◌≢◌, ◌+◌, ◌*◌, ◌<◌, ◌≤◌, ◌↔◌, [], true, false, IsTrue, None, IfSome, IfNone, length};
 ghost use Rattle.sequential.specs.Histories.{calls_of};
 ghost use Rattle.publication.specs.Rule.{IsHome};
 ghost use Rattle.publication.specs.Boards.{IsOf, OpensNone, HasCallsOf, heard_from};
 ghost use Rattle.combining.specs.Sessions.{IsSessionOf, IsPendingServed, HasTriedToList, IsPassed};
 ghost use Rattle.combining.specs.Ended.{HasAddedTold, HasRoom, entered_since};
+ghost use Rattle.combining.specs.Rounds.{IsBound, IsUnmet, AreRounds, IsFull};
 ghost use Rattle.combining.specs.inner.Passes.{HasMadePass};
 
+use crate::bounds::PassBound;
 use crate::office::{Office, Turn};
-use crate::pass::{MadePass, serve_published};
+use crate::rounds::{Pass, serve_rounds};
 use crate::told::Told;
-use publication::Ticket as Session;
+use publication::{Load, Ticket as Session};
 use sequential::Batching;
+
+/// A pass that a session has made, and what it took from the object's slot and has to give back.
+#[derive(Drop)]
+struct MadePass<O: Batching> {
+    /// The outcome.
+    pass: Pass,
+    /// The object, and what passes work with.
+    load: Box<Load<O>>,
+}
 
 impl<O: Batching> Office<O> {
     /// Tries once to have the session's pending call listed, if it has one that isn't.
@@ -27,27 +38,41 @@ impl<O: Batching> Office<O> {
         }
     }
 
-    /// Has the session's call listed, tries once to become the combiner, and if it does, makes a pass. The session then has
-    /// the object.
+    /// Has the session's call listed, tries once to become the combiner, and if it does, makes a pass. The session then has the object.
     #[inline(always)]
-    fn make_pass(&self, session: &mut Session<O>) -> Option<MadePass<O>>
+    fn make_pass<T: Told<O>>(
+        &self,
+        session: &mut Session<O>,
+        bound: PassBound,
+        told: &mut T,
+    ) -> Option<MadePass<O>>
         requires ours { IsSessionOf self.now session.old }
+        requires bound { IsBound bound }
+        requires room { HasRoom (T.room told.old) self.now.sessions }
         ensures ours { IsOf self.now session.new }
-        ensures made { IfSome result (λ made. HasMadePass O.Sequential O.tells_from self.now.sessions session.old session.new made.load.value made.pass.served) }
+        ensures made { IfSome result (λ made. HasMadePass O.Sequential self.now.sessions session.old session.new made.load.value made.pass.served) }
         ensures bound { IfSome result (λ made. O.bound made.load.value.object ≡ self.now.bound) }
         ensures has { IfSome result (λ made. (session.new.has_object ≡ true) × (session.new.taken ≡ made.load.value.pieces.items)) }
         ensures back { IfSome result (λ _. OpensNone session.new × (session.new.pending ≢ None → session.new.retired ≡ false)) }
         ensures none { IfNone result (IsSessionOf self.now session.new × HasTriedToList session.old session.new × (1 < self.now.sessions)) }
+        ensures few { IfSome result (λ made. made.pass.served ≤ bound.rounds * bound.calls) }
+        ensures rounds { IfSome result (λ made. made.pass.starved ≡ false → AreRounds T.weight bound made.pass.served session.new.front) }
+        ensures full { IfSome result (λ made. made.pass.starved ≡ false → made.pass.left ≡ true → IsFull T.weight bound made.pass.served session.new.front) }
+        ensures all { IfSome result (λ made. IsUnmet bound → made.pass.left ≡ false) }
         ensures starved { IfSome result (λ made. IsTrue made.pass.starved ↔ (session.old.put_backs < session.new.put_backs)) }
         ensures rises { (j : _) → heard_from session.old j ≤ heard_from session.new j }
         ensures calls { IfNone result (HasCallsOf session.new.front session.new) }
         ensures own { IfSome result (λ made. made.pass.starved ≡ false → session.old.pending ≢ None → IsPendingServed session.new) }
-        ensures heard { IfSome result (λ made. made.pass.starved ≡ false → (j : _) → 0 < j → j ≤ self.now.sessions
+        ensures heard { IfSome result (λ made. made.pass.starved ≡ false → made.pass.left ≡ false → (j : _) → 0 < j → j ≤ self.now.sessions
             → heard_from session.old j ≤ length (calls_of j session.new.front)) }
+        ensures told { IfSome result (λ _. HasAddedTold T.ends self.now.sessions session.new.front (entered_since session.old session.new) (T.list told.old) (T.list told.new)) }
+        ensures untold { IfNone result (told.new ≡ told.old) }
+        ensures room { T.room told.new ≡ T.room told.old }
+        ensures noted { IfSome result (λ _. T.notes told.new session.new.front) }
     {
         self.enlist(session);
         let mut load = self.board.seize(session)?;
-        let pass = serve_published(&self.board, session, &mut load);
+        let pass = serve_rounds(&self.board, session, &mut load, bound, told);
         Some(MadePass { pass, load })
     }
 
@@ -61,40 +86,49 @@ impl<O: Batching> Office<O> {
         ensures ours { IsSessionOf self.now session.new }
         ensures session { session.new ≡ record session.old { has_object = false; route = []; taken = []; looks = true } }
         ensures calls { HasCallsOf session.new.front session.new }
-        ensures turn { result ≡ Turn.Pass made.pass.served made.pass.starved }
+        ensures turn { result ≡ Turn.Pass made.pass.served made.pass.starved made.pass.left }
     {
         let MadePass { pass, load } = made;
         self.board.release(session, load);
         Turn::Pass {
             served: pass.served,
             starved: pass.starved,
+            left: pass.left,
         }
     }
 
     /// Serves as `serve` does, and adds the sessions whose waits the pass has ended to those that were told.
     #[inline(always)]
-    pub(crate) fn pass<T: Told<O>>(&self, session: &mut Session<O>, told: &mut T) -> Turn
+    pub(crate) fn pass<T: Told<O>>(
+        &self,
+        session: &mut Session<O>,
+        bound: PassBound,
+        told: &mut T,
+    ) -> Turn
         requires ours { IsSessionOf self.now session.old }
+        requires bound { IsBound bound }
         requires room { HasRoom (T.room told.old) self.now.sessions }
         ensures ours { IsSessionOf self.now session.new }
         ensures elsewhere { result ≡ Turn.Elsewhere → HasTriedToList session.old session.new × (1 < self.now.sessions) }
-        ensures pass { (served : _) (starved : _) → result ≡ Turn.Pass served starved → IsPassed O.Sequential session.old session.new served }
-        ensures starved { (served : _) (starved : _) → result ≡ Turn.Pass served starved → IsTrue starved ↔ (session.old.put_backs < session.new.put_backs) }
+        ensures pass { (served : _) (starved left : _) → result ≡ Turn.Pass served starved left → IsPassed O.Sequential session.old session.new served }
+        ensures few { (served : _) (starved left : _) → result ≡ Turn.Pass served starved left → served ≤ bound.rounds * bound.calls }
+        ensures rounds { (served : _) (left : _) → result ≡ Turn.Pass served false left → AreRounds T.weight bound served session.new.front }
+        ensures full { (served : _) → result ≡ Turn.Pass served false true → IsFull T.weight bound served session.new.front }
+        ensures all { (served : _) (starved left : _) → result ≡ Turn.Pass served starved left → IsUnmet bound → left ≡ false }
+        ensures starved { (served : _) (starved left : _) → result ≡ Turn.Pass served starved left → IsTrue starved ↔ (session.old.put_backs < session.new.put_backs) }
         ensures rises { (j : _) → heard_from session.old j ≤ heard_from session.new j }
         ensures calls { HasCallsOf session.new.front session.new }
-        ensures own { (served : _) → result ≡ Turn.Pass served false → session.old.pending ≢ None → IsPendingServed session.new }
-        ensures heard { (served j : _) → result ≡ Turn.Pass served false → 0 < j → j ≤ self.now.sessions
+        ensures own { (served : _) (left : _) → result ≡ Turn.Pass served false left → session.old.pending ≢ None → IsPendingServed session.new }
+        ensures heard { (served j : _) → result ≡ Turn.Pass served false false → 0 < j → j ≤ self.now.sessions
             → heard_from session.old j ≤ length (calls_of j session.new.front) }
         ensures told { HasAddedTold T.ends self.now.sessions session.new.front (entered_since session.old session.new) (T.list told.old) (T.list told.new) }
         ensures none { result ≡ Turn.Elsewhere → told.new ≡ told.old }
         ensures room { T.room told.new ≡ T.room told.old }
-        ensures most { T.most told.new ≡ T.most told.old }
         ensures notes { T.notes told.old session.old.front → T.notes told.new session.new.front }
     {
-        let Some(made) = self.make_pass(session) else {
+        let Some(made) = self.make_pass(session, bound, told) else {
             return Turn::Elsewhere;
         };
-        told.add(&made.load.object, made.pass.served);
         self.end_pass(session, made)
     }
 }

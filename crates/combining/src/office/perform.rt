@@ -5,12 +5,12 @@ ghost use Rattle.sequential.specs.Histories.{calls_of};
 ghost use Rattle.publication.specs.Boards.{HasCallsOf, heard_from};
 ghost use Rattle.combining.specs.Sessions.{IsSessionOf, IsIdle, IsPerformed, IsRefused};
 ghost use Rattle.combining.specs.Ended.{AreToldBy, HasAddedTold, HasRoom, entered_since};
-ghost use Rattle.combining.specs.Rounds.{IsBound};
+ghost use Rattle.combining.specs.Rounds.{IsBound, IsUnmet};
 
 use crate::bounds::PassBound;
 use crate::office::{Answer, Office};
 use crate::own_call::serve_with_own;
-use crate::told::{Nobody, Told};
+use crate::told::Told;
 use publication::Ticket as Session;
 use sequential::Batching;
 
@@ -35,68 +35,16 @@ pub enum Performed<R> {
 }
 
 impl<O: Batching> Office<O> {
-    /// Tries once to become the combiner, and if it does, performs the call at once and makes a pass, as `serve` does. The
-    /// call is not published: its entry joins the history and its answer is collected at one step, and the session's
+    /// Tries once to become the combiner, and if it does, performs the call at once and makes a pass within the bound, as `serve` does.
+    /// The call is not published: its entry joins the history and its answer is collected at one step, and the session's
     /// record stays as it is. A call that goes first is performed ahead of the published calls, any other call behind
     /// them.
     ///
     /// `Elsewhere`: nothing changed, and the call may be published instead. `Starved`: the call is not in the history, and
-    /// may be performed again or published. The session is idle again in each case. Reports no ended waits: if threads sleep
-    /// until a pass tells of them, use `perform_telling` everywhere.
-    pub fn perform(&self, session: &mut Session<O>, call: O::Call) -> Performed<O::Reply>
-        requires ours { IsSessionOf self.now session.old }
-        requires idle { IsIdle session.old }
-        ensures ours { IsSessionOf self.now session.new }
-        ensures idle { IsIdle session.new }
-        ensures answered { (answer : _) (served : _) (starved : _) → result ≡ Performed.Answered answer served starved
-            → IsPerformed O.Sequential (O.goes_first call) session.old session.new call answer.place answer.reply served }
-        ensures put_back { (answer : _) (served : _) (starved : _) → result ≡ Performed.Answered answer served starved
-            → IsTrue starved ↔ (session.old.put_backs < session.new.put_backs) }
-        ensures heard { (answer : _) (served j : _) → result ≡ Performed.Answered answer served false → 0 < j → j ≤ self.now.sessions
-            → heard_from session.old j ≤ length (calls_of j session.new.front) }
-        ensures elsewhere { result ≡ Performed.Elsewhere → (session.new ≡ session.old) × (1 < self.now.sessions) }
-        ensures refused { result ≡ Performed.Starved → IsRefused O.Sequential session.old session.new }
-        ensures calls { HasCallsOf session.new.front session.new }
-    {
-        self.perform_adding(session, call, None, &mut Nobody)
-    }
-
-    /// Performs as `perform` does, and tells whose wait the pass and the call have ended, as `serve_telling` tells it of a pass, also
-    /// if memory was refused for the call.
-    ///
-    /// `told` has room for all sessions of the office, so that the call takes no memory beyond what `perform` takes.
-    pub fn perform_telling<T: Told<O>>(
-        &self,
-        session: &mut Session<O>,
-        call: O::Call,
-        told: &mut T,
-    ) -> Performed<O::Reply>
-        requires ours { IsSessionOf self.now session.old }
-        requires idle { IsIdle session.old }
-        requires room { HasRoom (T.room told.old) self.now.sessions }
-        ensures ours { IsSessionOf self.now session.new }
-        ensures idle { IsIdle session.new }
-        ensures answered { (answer : _) (served : _) (starved : _) → result ≡ Performed.Answered answer served starved
-            → IsPerformed O.Sequential (O.goes_first call) session.old session.new call answer.place answer.reply served }
-        ensures put_back { (answer : _) (served : _) (starved : _) → result ≡ Performed.Answered answer served starved
-            → IsTrue starved ↔ (session.old.put_backs < session.new.put_backs) }
-        ensures heard { (answer : _) (served j : _) → result ≡ Performed.Answered answer served false → 0 < j → j ≤ self.now.sessions
-            → heard_from session.old j ≤ length (calls_of j session.new.front) }
-        ensures elsewhere { result ≡ Performed.Elsewhere → (session.new ≡ session.old) × (1 < self.now.sessions) }
-        ensures refused { result ≡ Performed.Starved → IsRefused O.Sequential session.old session.new }
-        ensures calls { HasCallsOf session.new.front session.new }
-        ensures told { AreToldBy T.ends self.now.sessions session.new.front (entered_since session.old session.new) (T.list told.new) }
-        ensures none { result ≡ Performed.Elsewhere → T.list told.new ≡ [] }
-        ensures room { T.room told.new ≡ T.room told.old }
-        ensures most { T.most told.new ≡ T.most told.old }
-        ensures notes { T.notes told.old session.old.front → T.notes told.new session.new.front }
-    {
-        told.clear();
-        self.perform_adding(session, call, None, told)
-    }
-
-    /// Performs and tells as `perform_telling` does, but makes a pass as `serve_bounded` does, within the bound.
-    pub fn perform_bounded<T: Told<O>>(
+    /// may be performed again or published. The session is idle again in each case. Tells whose wait the pass and the call have ended, as
+    /// `serve` does, also if memory was refused for the call. With `Nobody` it reports no ended waits: if threads sleep until a pass tells
+    /// of them, every pass has to tell.
+    pub fn perform<T: Told<O>>(
         &self,
         session: &mut Session<O>,
         call: O::Call,
@@ -113,32 +61,32 @@ impl<O: Batching> Office<O> {
             → IsPerformed O.Sequential (O.goes_first call) session.old session.new call answer.place answer.reply served }
         ensures put_back { (answer : _) (served : _) (starved : _) → result ≡ Performed.Answered answer served starved
             → IsTrue starved ↔ (session.old.put_backs < session.new.put_backs) }
+        ensures few { length (entered_since session.old session.new) ≤ bound.rounds * bound.calls + 1 }
+        ensures heard { (answer : _) (served j : _) → IsUnmet bound → result ≡ Performed.Answered answer served false → 0 < j → j ≤ self.now.sessions
+            → heard_from session.old j ≤ length (calls_of j session.new.front) }
         ensures elsewhere { result ≡ Performed.Elsewhere → (session.new ≡ session.old) × (1 < self.now.sessions) }
         ensures refused { result ≡ Performed.Starved → IsRefused O.Sequential session.old session.new }
-        ensures few { length (entered_since session.old session.new) ≤ bound.rounds * bound.calls + 1 }
         ensures calls { HasCallsOf session.new.front session.new }
         ensures told { AreToldBy T.ends self.now.sessions session.new.front (entered_since session.old session.new) (T.list told.new) }
         ensures none { result ≡ Performed.Elsewhere → T.list told.new ≡ [] }
         ensures room { T.room told.new ≡ T.room told.old }
-        ensures most { T.most told.new ≡ T.most told.old }
         ensures notes { T.notes told.old session.old.front → T.notes told.new session.new.front }
     {
         told.clear();
-        self.perform_adding(session, call, Some(bound), told)
+        self.perform_adding(session, call, bound, told)
     }
 
-    /// Performs as `perform` does, with a pass within the bound that is given, if one is, and adds the sessions whose waits the pass and
-    /// the call have ended to those that were told.
+    /// Performs as `perform` does, and adds the sessions whose waits the pass and the call have ended to those that were told.
     pub(crate) fn perform_adding<T: Told<O>>(
         &self,
         session: &mut Session<O>,
         call: O::Call,
-        bound: Option<PassBound>,
+        bound: PassBound,
         told: &mut T,
     ) -> Performed<O::Reply>
-        requires bound { IfSome bound IsBound }
         requires ours { IsSessionOf self.now session.old }
         requires idle { IsIdle session.old }
+        requires bound { IsBound bound }
         requires room { HasRoom (T.room told.old) self.now.sessions }
         ensures ours { IsSessionOf self.now session.new }
         ensures idle { IsIdle session.new }
@@ -146,8 +94,8 @@ impl<O: Batching> Office<O> {
             → IsPerformed O.Sequential (O.goes_first call) session.old session.new call answer.place answer.reply served }
         ensures put_back { (answer : _) (served : _) (starved : _) → result ≡ Performed.Answered answer served starved
             → IsTrue starved ↔ (session.old.put_backs < session.new.put_backs) }
-        ensures few { IfSome bound (λ b. length (entered_since session.old session.new) ≤ b.rounds * b.calls + 1) }
-        ensures heard { (answer : _) (served j : _) → bound ≡ None → result ≡ Performed.Answered answer served false → 0 < j → j ≤ self.now.sessions
+        ensures few { length (entered_since session.old session.new) ≤ bound.rounds * bound.calls + 1 }
+        ensures heard { (answer : _) (served j : _) → IsUnmet bound → result ≡ Performed.Answered answer served false → 0 < j → j ≤ self.now.sessions
             → heard_from session.old j ≤ length (calls_of j session.new.front) }
         ensures elsewhere { result ≡ Performed.Elsewhere → (session.new ≡ session.old) × (1 < self.now.sessions) }
         ensures refused { result ≡ Performed.Starved → IsRefused O.Sequential session.old session.new }
@@ -155,7 +103,6 @@ impl<O: Batching> Office<O> {
         ensures told { HasAddedTold T.ends self.now.sessions session.new.front (entered_since session.old session.new) (T.list told.old) (T.list told.new) }
         ensures none { result ≡ Performed.Elsewhere → told.new ≡ told.old }
         ensures room { T.room told.new ≡ T.room told.old }
-        ensures most { T.most told.new ≡ T.most told.old }
         ensures notes { T.notes told.old session.old.front → T.notes told.new session.new.front }
     {
         let Some(mut load) = self.board.seize(session) else {

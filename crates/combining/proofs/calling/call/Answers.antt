@@ -39,8 +39,8 @@ returns-in-Answered-clause-answered g c answer is =
     let same : a ≡ answer = cc is in
     subst (λ (x : Answer _). IsCalled g.O.Sequential t v c.args.call x.place x.reply) same
     (⊎_elim
-    (λ still. subst (λ (x : TicketView _ _). IsCalled g.O.Sequential x v c.args.call a.place a.reply) still (e.called a c.in-Answered.is (none-pending t u still c.requires.idle.0)))
-    (λ calling. calling-answered t u v c.args.call a.place a.reply calling.0 (e.answered a c.in-Answered.is (calling-pending t u c.args.call calling.0)))
+    (λ still. subst (λ (x : TicketView _ _). IsCalled g.O.Sequential x v c.args.call a.place a.reply) still (e.turned.called a c.in-Answered.is (none-pending t u still c.requires.idle.0)))
+    (λ calling. calling-answered t u v c.args.call a.place a.reply calling.0 ((e.turned.awaited (calling-pending t u c.args.call calling.0)).answered a c.in-Answered.is))
     c.loop-made.invariant.calling)
 
 pub returns-in-Answered-clause-told : goal.returns-in-Answered-clause-told
@@ -51,7 +51,7 @@ returns-in-Answered-clause-told g c =
     let v = c.turn.new.session in
     let e = c.turn.ensures in
     told-all n v.front _ [] (g.T.Told.list c.turn.new.told) refl
-    (told-on n t u v [] (g.T.Told.list c.loop-made.told) (g.T.Told.list c.turn.new.told) (gone n t u c.args.call c.loop-made.invariant.calling).entered e.on.longer e.on.entered c.loop-made.invariant.told e.told)
+    (told-on n t u v [] (g.T.Told.list c.loop-made.told) (g.T.Told.list c.turn.new.told) (gone n t u c.args.call c.loop-made.invariant.calling).entered e.turned.on.longer e.turned.on.entered c.loop-made.invariant.told e.told)
 
 pub returns-in-Starved-clause-starved : goal.returns-in-Starved-clause-starved
 returns-in-Starved-clause-starved g c _ =
@@ -60,8 +60,8 @@ returns-in-Starved-clause-starved g c _ =
     let v = c.turn.new.session in
     let e = c.turn.ensures in
     ⊎_elim
-    (λ still. subst (λ (x : TicketView _ _). IsCalling x v c.args.call) still (e.starved c.in-Starved.is (none-pending t u still c.requires.idle.0)))
-    (λ calling. calling-on t u v c.args.call calling.0 (e.starved_on c.in-Starved.is (calling-pending t u c.args.call calling.0)).0)
+    (λ still. subst (λ (x : TicketView _ _). IsCalling x v c.args.call) still (e.turned.starved c.in-Starved.is (none-pending t u still c.requires.idle.0)))
+    (λ calling. calling-on t u v c.args.call calling.0 ((e.turned.awaited (calling-pending t u c.args.call calling.0)).starved c.in-Starved.is).0)
     c.loop-made.invariant.calling
 
 pub returns-in-Starved-clause-told : goal.returns-in-Starved-clause-told
@@ -72,7 +72,7 @@ returns-in-Starved-clause-told g c =
     let v = c.turn.new.session in
     let e = c.turn.ensures in
     told-all n v.front _ [] (g.T.Told.list c.turn.new.told) refl
-    (told-on n t u v [] (g.T.Told.list c.loop-made.told) (g.T.Told.list c.turn.new.told) (gone n t u c.args.call c.loop-made.invariant.calling).entered e.on.longer e.on.entered c.loop-made.invariant.told e.told)
+    (told-on n t u v [] (g.T.Told.list c.loop-made.told) (g.T.Told.list c.turn.new.told) (gone n t u c.args.call c.loop-made.invariant.calling).entered e.turned.on.longer e.turned.on.entered c.loop-made.invariant.told e.told)
 
 pub loop-made-preserved : goal.loop-made-preserved
 loop-made-preserved g c =
@@ -86,10 +86,10 @@ loop-made-preserved g c =
     let next = c.in-Wait.next in
     let after : ((v ≡ t) ⊎ (IsCalling t v c.args.call × (1 < n))) × (1 < n) = ⊎_elim
     (λ still. let none = none-pending t u still c.requires.idle.0 in ⊎_elim
-    (λ few. let r = e.tried next is none few in (inl (r.0 ∙ still), r.1))
-    (λ many. let r = e.published next is none many in (inr (subst (λ (x : TicketView _ _). IsCalling x v c.args.call) still r.0, r.1), r.1))
+    (λ few. let r = e.turned.tried next is none few in (inl (r.0 ∙ still), r.1))
+    (λ many. let r = e.turned.published next is none many in (inr (subst (λ (x : TicketView _ _). IsCalling x v c.args.call) still r.0, r.1), r.1))
     (less-or c.loop-made.made TRIES_AT_ONCE))
-    (λ calling. (inr (calling-on t u v c.args.call calling.0 (e.waits next is (calling-pending t u c.args.call calling.0)), calling.1), calling.1))
+    (λ calling. (inr (calling-on t u v c.args.call calling.0 ((e.turned.awaited (calling-pending t u c.args.call calling.0)).waits next is), calling.1), calling.1))
     i.calling in
     record {
       ours = e.ours;
@@ -97,14 +97,13 @@ loop-made-preserved g c =
       others = λ _. after.1;
       tries = tries-after c.loop-made.made t u v e.tries e.untried i.tries
           (⊎_elim (λ still. inl still) (λ calling. inr (calling-pending t u c.args.call calling.0)) i.calling);
-      told = told-on n t u v [] (g.T.Told.list c.loop-made.told) (g.T.Told.list c.turn.new.told) (gone n t u c.args.call i.calling).entered e.on.longer e.on.entered i.told e.told;
+      told = told-on n t u v [] (g.T.Told.list c.loop-made.told) (g.T.Told.list c.turn.new.told) (gone n t u c.args.call i.calling).entered e.turned.on.longer e.turned.on.entered i.told e.told;
       room = e.room ∙ i.room;
-      most = e.most ∙ i.most;
       notes = λ before. e.notes_waits next is (i.notes before);
     }
 
-pub returns-clause-not_yet : goal.returns-clause-not_yet
-returns-clause-not_yet g c _ =
+pub returns-clause-waits : goal.returns-clause-waits
+returns-clause-waits g c _ _ =
     let t = c.args.session.now in
     let u = c.loop-made.session in
     let v = c.publish_if_idle.new.session in
@@ -133,8 +132,8 @@ returns-in-Starved-clause-refused g c _ =
     let v = c.turn.new.session in
     let e = c.turn.ensures in
     ⊎_elim
-    (λ still. subst (λ (x : TicketView _ _). HasStarvedCalling g.O.Sequential x v c.args.call) still (e.refused c.in-Starved.is (none-pending t u still c.requires.idle.0)))
-    (λ calling. let found = e.starved_on c.in-Starved.is (calling-pending t u c.args.call calling.0) in inr (u, calling.0, found.0, found.1))
+    (λ still. subst (λ (x : TicketView _ _). HasStarvedCalling g.O.Sequential x v c.args.call) still (e.turned.refused c.in-Starved.is (none-pending t u still c.requires.idle.0)))
+    (λ calling. let found = (e.turned.awaited (calling-pending t u c.args.call calling.0)).starved c.in-Starved.is in inr (u, calling.0, found.0, found.1))
     c.loop-made.invariant.calling
 
 pub returns-in-Answered-clause-tries : goal.returns-in-Answered-clause-tries
@@ -171,6 +170,6 @@ returns-clause-tries g c =
     (λ calling. subst (λ (x : TicketView _ _). FitIntoLooks (x.tries - t.tries) (c.args.turns + 1)) (sym (e.same (calling-pending t u c.args.call calling.0))) (fit-longer (u.tries - t.tries) c.loop-made.made (c.args.turns + 1) (omega arith) i.tries))
     i.calling
 
-pub returns-clause-notes_not_yet : goal.returns-clause-notes_not_yet
-returns-clause-notes_not_yet g c _ before =
+pub returns-clause-notes_waits : goal.returns-clause-notes_waits
+returns-clause-notes_waits g c _ _ before =
     subst (λ (l : List _). g.T.Told.notes c.loop-made.told l) (sym c.publish_if_idle.ensures.known.0) (c.loop-made.invariant.notes (c.clear.ensures.notes c.args.session.now.front before))

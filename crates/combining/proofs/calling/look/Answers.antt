@@ -1,9 +1,10 @@
 use Rattle.std.proofs.Common.{◌≡◌, ◌+◌, ap, subst}
 use Rattle.publication.specs.Views.{TicketView}
 use Rattle.combining.proofs.EndedWaits.{told-knowing}
-use Rattle.combining.proofs.Turns.{waiting-on, on-trans, collected-on}
+use Rattle.combining.proofs.Turns.{collects, waiting-on, on-trans, collected-on}
 use Rattle.combining.specs.declared.office.Answer.{Answer}
 use Rattle.combining.specs.Ended.{IsNotedUpTo}
+use Rattle.combining.specs.Calls.{IsAnswered}
 use Rattle.combining.proofs.calling.look.Goals as goal
 
 pub returns-in-Some-clause-told : goal.returns-in-Some-clause-told
@@ -12,12 +13,21 @@ returns-in-Some-clause-told g c =
     told-knowing c.args.office.now.sessions c.args.session.now c.serve_if-starved.new.session c.collect.new.session (g.T.Told.list c.args.told.now) (g.T.Told.list c.serve_if-starved.new.told)
     got.longer (ap (λ (x : TicketView _ _). x.entered) got.session) c.serve_if-starved.ensures.told
 
-pub returns-in-Some-clause-on : goal.returns-in-Some-clause-on
-returns-in-Some-clause-on g c =
+pub returns-in-Some-clause-awaited : goal.returns-in-Some-clause-awaited
+returns-in-Some-clause-awaited g c =
     let t = c.args.session.now in
     let u = c.serve_if-starved.new.session in
     let v = c.collect.new.session in
-    on-trans t u v (waiting-on t u c.serve_if-starved.ensures.waits) (collected-on u v c.in-Some.answer.place c.in-Some.answer.reply c.in-Some.ensures.some)
+    let a = c.in-Some.answer in
+    let waits = c.serve_if-starved.ensures.waits in
+    let got = c.in-Some.ensures.some in
+    record {
+      answered = λ answer is. let same : a ≡ answer = cc is in subst (λ (x : Answer _). IsAnswered g.O.Sequential t v x.place x.reply) same (collects t u v a.place a.reply waits got);
+      idle = λ answer is. c.in-Some.ensures.idle;
+      starved = λ is. absurd (cc is);
+      waits = λ wait is. absurd (cc is);
+      on = on-trans t u v (waiting-on t u waits) (collected-on u v a.place a.reply got);
+    }
 
 pub returns-in-Some-clause-noted : goal.returns-in-Some-clause-noted
 returns-in-Some-clause-noted g c answer is before =

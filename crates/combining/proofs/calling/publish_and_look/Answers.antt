@@ -11,7 +11,7 @@ returns-in-Listed-clause-answered g c answer is =
     let t = c.args.session.now in
     let u = c.publish.new.session in
     let p = c.publish.ensures in
-    published-called t u c.look.new.session c.args.call answer.place answer.reply (posted-waits t u c.args.call (posted-cases c.publish.result p.listed p.unlisted)) (c.look.ensures.answered answer is)
+    published-called t u c.look.new.session c.args.call answer.place answer.reply (posted-waits t u c.args.call (posted-cases c.publish.result p.listed p.unlisted)) (c.look.ensures.awaited.answered answer is)
 
 pub returns-in-Listed-clause-starved : goal.returns-in-Listed-clause-starved
 returns-in-Listed-clause-starved g c is =
@@ -20,7 +20,7 @@ returns-in-Listed-clause-starved g c is =
     let v = c.look.new.session in
     let p = c.publish.ensures in
     published {obj = g.O.Sequential} t t v c.args.call (inr refl)
-    (waiting-trans (publishing t c.args.call) u v (posted-waits t u c.args.call (posted-cases c.publish.result p.listed p.unlisted)) (c.look.ensures.starved is).0)
+    (waiting-trans (publishing t c.args.call) u v (posted-waits t u c.args.call (posted-cases c.publish.result p.listed p.unlisted)) (c.look.ensures.awaited.starved is).0)
 
 pub returns-in-Listed-clause-waits : goal.returns-in-Listed-clause-waits
 returns-in-Listed-clause-waits g c w is =
@@ -29,7 +29,7 @@ returns-in-Listed-clause-waits g c w is =
     let v = c.look.new.session in
     let p = c.publish.ensures in (
       published {obj = g.O.Sequential} t t v c.args.call (inr refl)
-          (waiting-trans (publishing t c.args.call) u v (posted-waits t u c.args.call (posted-cases c.publish.result p.listed p.unlisted)) (c.look.ensures.waits w is)),
+          (waiting-trans (publishing t c.args.call) u v (posted-waits t u c.args.call (posted-cases c.publish.result p.listed p.unlisted)) (c.look.ensures.awaited.waits w is)),
       c.look.ensures.others w is refl,
     )
 
@@ -39,7 +39,7 @@ returns-in-Listed-clause-on g c =
     let u = c.publish.new.session in
     let p = c.publish.ensures in
     let same = posted-same t u c.args.call (posted-cases c.publish.result p.listed p.unlisted) in
-    on-trans t u c.look.new.session (on-same t u same.0 same.1) c.look.ensures.on
+    on-trans t u c.look.new.session (on-same t u same.0 same.1) c.look.ensures.awaited.on
 
 pub returns-in-Listed-clause-told : goal.returns-in-Listed-clause-told
 returns-in-Listed-clause-told g c =
@@ -51,7 +51,7 @@ returns-in-Listed-clause-told g c =
     let e = c.look.ensures in
     let same = posted-same t u c.args.call (posted-cases c.publish.result p.listed p.unlisted) in
     let first = on-same t u same.0 same.1 in
-    told-on n t u v (g.T.Told.list c.args.told.now) (g.T.Told.list c.args.told.now) (g.T.Told.list c.look.new.told) first.entered e.on.longer e.on.entered
+    told-on n t u v (g.T.Told.list c.args.told.now) (g.T.Told.list c.args.told.now) (g.T.Told.list c.look.new.told) first.entered e.awaited.on.longer e.awaited.on.entered
     (told-self n t u (g.T.Told.list c.args.told.now) same.1) e.told
 
 pub returns-in-Listed-clause-refused : goal.returns-in-Listed-clause-refused
@@ -59,7 +59,7 @@ returns-in-Listed-clause-refused g c is =
     let t = c.args.session.now in
     let u = c.publish.new.session in
     let p = c.publish.ensures in
-    let found = c.look.ensures.starved is in
+    let found = c.look.ensures.awaited.starved is in
     inr (u, published {obj = g.O.Sequential} t t u c.args.call (inr refl) (posted-waits t u c.args.call (posted-cases c.publish.result p.listed p.unlisted)), found.0, found.1)
 
 pub returns-in-Listed-clause-tries : goal.returns-in-Listed-clause-tries

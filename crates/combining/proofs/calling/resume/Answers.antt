@@ -12,7 +12,7 @@ returns-in-Answered-clause-told g c =
     let i = c.loop-looked.invariant in
     let e = c.look.ensures in
     told-all n c.look.new.session.front _ [] (g.T.Told.list c.look.new.told) refl
-    (told-on n c.args.session.now c.loop-looked.session c.look.new.session [] (g.T.Told.list c.loop-looked.told) (g.T.Told.list c.look.new.told) i.waits.entered e.on.longer e.on.entered i.told e.told)
+    (told-on n c.args.session.now c.loop-looked.session c.look.new.session [] (g.T.Told.list c.loop-looked.told) (g.T.Told.list c.look.new.told) i.waits.entered e.awaited.on.longer e.awaited.on.entered i.told e.told)
 
 pub returns-in-Starved-clause-told : goal.returns-in-Starved-clause-told
 returns-in-Starved-clause-told g c =
@@ -20,7 +20,7 @@ returns-in-Starved-clause-told g c =
     let i = c.loop-looked.invariant in
     let e = c.look.ensures in
     told-all n c.look.new.session.front _ [] (g.T.Told.list c.look.new.told) refl
-    (told-on n c.args.session.now c.loop-looked.session c.look.new.session [] (g.T.Told.list c.loop-looked.told) (g.T.Told.list c.look.new.told) i.waits.entered e.on.longer e.on.entered i.told e.told)
+    (told-on n c.args.session.now c.loop-looked.session c.look.new.session [] (g.T.Told.list c.loop-looked.told) (g.T.Told.list c.look.new.told) i.waits.entered e.awaited.on.longer e.awaited.on.entered i.told e.told)
 
 pub loop-looked-preserved : goal.loop-looked-preserved
 loop-looked-preserved g c =
@@ -32,12 +32,11 @@ loop-looked-preserved g c =
     let e = c.look.ensures in
     record {
       ours = e.ours;
-      waits = waiting-trans t u v i.waits (e.waits c.in-Wait.next c.in-Wait.is);
+      waits = waiting-trans t u v i.waits (e.awaited.waits c.in-Wait.next c.in-Wait.is);
       others = λ _. dite (ℕ_discrete c.loop-looked.looked 0) (λ none. e.others c.in-Wait.next c.in-Wait.is (ap (λ (k : ℕ). k % LOOKS_PER_TRY) none)) (λ some. i.others (omega (arith, some)));
       tries = fit-next t.tries u.tries v.tries c.loop-looked.looked i.tries e.tries e.untried;
-      told = told-on n t u v [] (g.T.Told.list c.loop-looked.told) (g.T.Told.list c.look.new.told) i.waits.entered e.on.longer e.on.entered i.told e.told;
+      told = told-on n t u v [] (g.T.Told.list c.loop-looked.told) (g.T.Told.list c.look.new.told) i.waits.entered e.awaited.on.longer e.awaited.on.entered i.told e.told;
       room = e.room ∙ i.room;
-      most = e.most ∙ i.most;
       notes = λ before. e.notes_waits c.in-Wait.next c.in-Wait.is (i.notes before);
     }
 

@@ -15,6 +15,5 @@ invariant-loop-looked g l = record {
   tries : FitIntoLooks (l.session.tries - l.initial.session.tries) l.looked;
   told : HasAddedTold g.T.Told.ends l.office.sessions l.session.front (entered_since l.initial.session l.session) [] (g.T.Told.list l.told);
   room : g.T.Told.room l.told ≡ g.T.Told.room l.initial.told;
-  most : g.T.Told.most l.told ≡ g.T.Told.most l.initial.told;
   notes : g.T.Told.notes l.initial.told l.initial.session.front → g.T.Told.notes l.told l.session.front;
 }

@@ -1,14 +1,22 @@
-use Rattle.std.proofs.Common.{◌≡◌, ◌≤◌, ◌+◌, ◌*◌, ◌++◌, ◌∙◌, ℕ, Option, List, length, ap, subst, arith}
+use Rattle.std.proofs.Common.{rules, sym, ◌≡◌, ◌+◌, ◌++◌, ◌∙◌, ℕ, Option, length, ap, subst, arith}
 use Rattle.std.specs.Prelude.{IfSome, IfNone}
 use Rattle.std.specs.List.{range_with_len}
 use Rattle.publication.specs.Views.{TicketView}
-use Rattle.combining.specs.Ended.{entered_since}
-use Rattle.combining.specs.declared.bounds.PassBound.{PassBound}
 use Rattle.combining.specs.inner.OwnCalls.{IsPassWithOwn}
 use Rattle.combining.specs.inner.Passes.{HasPassed}
-use Rattle.combining.proofs.OwnCalls.{some_weaker}
+use Rattle.combining.proofs.OwnCalls.{own-taken}
 use Rattle.combining.proofs.Places.{entered-count}
 use Rattle.combining.proofs.office.Office.perform_adding.Goals as goal
+
+pub release-requires-clause-took : goal.release-requires-clause-took
+release-requires-clause-took g c =
+    let s = c.seize.new.ticket in
+    let u = c.serve_with_own-own.new.session in
+    let e = c.serve_with_own-own.ensures in
+    let kept = own-taken _ s u c.args.call c.serve_with_own-own.result.1 c.serve_with_own-own.result.0.served e.performed e.refused in
+    let none : c.serve_with_own-own.new.load.pieces.items ≡ c.in-Some.load.value.pieces.items = search rules in
+    let same : u.taken ≡ c.serve_with_own-own.new.load.pieces.items = kept ∙ (ap (λ (x : TicketView _ _). x.taken) c.in-Some.ensures.ticket ∙ sym none) in
+    search rules
 
 pub returns-in-Some-own-clause-few : goal.returns-in-Some-own-clause-few
 returns-in-Some-own-clause-few g c =
@@ -21,7 +29,7 @@ returns-in-Some-own-clause-few g c =
     let entered : v.entered ≡ t.entered ++ range_with_len (length s.front) (served + 1) = ap (λ (x : TicketView _ _). x.entered) c.release.ensures.ticket
     ∙ (own.entered ∙ ap (λ (x : TicketView _ _). x.entered ++ range_with_len (length s.front) (served + 1)) c.in-Some.ensures.ticket) in
     let count = entered-count t v (length s.front) (served + 1) entered in
-    some_weaker c.args.bound (λ (b : PassBound). served ≤ b.rounds * b.calls) (λ (b : PassBound). length (entered_since t v) ≤ b.rounds * b.calls + 1) (λ b few. omega (arith, count, few)) c.serve_with_own-own.ensures.few
+    omega (arith, count, c.serve_with_own-own.ensures.few)
 
 pub returns-in-None-clause-few : goal.returns-in-None-clause-few
 returns-in-None-clause-few g c =
@@ -34,4 +42,4 @@ returns-in-None-clause-few g c =
     let entered : v.entered ≡ t.entered ++ range_with_len (length s.front) served = ap (λ (x : TicketView _ _). x.entered) c.release.ensures.ticket
     ∙ (pass.entered ∙ ap (λ (x : TicketView _ _). x.entered ++ range_with_len (length s.front) served) c.in-Some.ensures.ticket) in
     let count = entered-count t v (length s.front) served entered in
-    some_weaker c.args.bound (λ (b : PassBound). served ≤ b.rounds * b.calls) (λ (b : PassBound). length (entered_since t v) ≤ b.rounds * b.calls + 1) (λ b few. omega (arith, count, few)) c.serve_with_own-own.ensures.few
+    omega (arith, count, c.serve_with_own-own.ensures.few)

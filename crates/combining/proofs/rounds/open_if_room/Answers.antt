@@ -1,6 +1,6 @@
-use Rattle.std.proofs.Common.{rules, ◌≡◌, ◌<◌, vec_len, arith}
+use Rattle.std.proofs.Common.{rules, ◌<◌, vec_len}
 use Rattle.combining.proofs.RoundWeights.{within-further}
-use Rattle.combining.proofs.bounded_pass.open_if_room.Goals as goal
+use Rattle.combining.proofs.rounds.open_if_room.Goals as goal
 
 pub returns-then-opening-from-clause-within : goal.returns-then-opening-from-clause-within
 returns-then-opening-from-clause-within g c =

@@ -1,11 +1,11 @@
-use Rattle.std.proofs.Common.{rules, ◌≡◌, ◌∙◌, ◌+◌, ◌*◌, ◌-◌, ◌%◌, ◌^◌, ◌≤◌, false, ℕ, length, refl, subst, arith}
+use Rattle.std.proofs.Common.{rules, ◌≡◌, ◌∙◌, ◌+◌, ◌-◌, ◌≤◌, false, ℕ, length, refl, subst, arith}
 use Rattle.publication.proofs.Lists.{prefix_self, prefix_trans}
 use Rattle.combining.proofs.EndedWaits.{told-on, told-self}
 use Rattle.combining.proofs.OwnCalls.{pass-entered}
 use Rattle.combining.proofs.BoundedPasses.{passed-none, passed-on, rounds-on, no-round, next-round, all-rounds, served-is}
 use Rattle.combining.proofs.RoundWeights.{led-further}
 use Rattle.combining.specs.inner.BoundedPasses.{HasServedWithin}
-use Rattle.combining.proofs.bounded_pass.serve_rounds.Goals as goal
+use Rattle.combining.proofs.rounds.serve_rounds.Goals as goal
 
 pub loop-made-init : goal.loop-made-init
 loop-made-init g c =
@@ -20,7 +20,6 @@ loop-made-init g c =
       few = c.requires.bound.2;
       told = told-self c.args.board.now.sessions t t (g.T.Told.list c.args.told.now) refl;
       room = refl;
-      most = refl;
     }
 
 pub loop-made-preserved : goal.loop-made-preserved
@@ -47,7 +46,6 @@ loop-made-preserved g c =
       few = search rules;
       told = told-on c.args.board.now.sessions t u v _ _ _ (pass-entered t u served i.passed.1) e.round.longer (pass-entered u v next.result.served e.round.passed) i.told e.told;
       room = e.room ∙ i.room;
-      most = e.most ∙ i.most;
     }
 
 pub returns-then-made-bound-clause-rounds : goal.returns-then-made-bound-clause-rounds
@@ -75,3 +73,16 @@ returns-then-made-bound-clause-told g c =
     let last = c.serve_round_telling-last in
     let e = last.ensures in
     told-on c.args.board.now.sessions t u last.new.session _ _ _ (pass-entered t u i.passed.0 i.passed.1) e.round.longer (pass-entered u last.new.session last.result.served e.round.passed) i.told e.told
+
+pub returns-then-made-bound-clause-pass : goal.returns-then-made-bound-clause-pass
+returns-then-made-bound-clause-pass g c = (returns-then-made-bound-clause-rounds g c).2.passed
+
+pub returns-then-made-bound-clause-served : goal.returns-then-made-bound-clause-served
+returns-then-made-bound-clause-served g c =
+    let all = (returns-then-made-bound-clause-rounds g c).2 in
+    record { longer = all.longer; put_back = all.put_back; heard = all.heard; taken = all.taken }
+
+pub returns-then-made-bound-clause-few : goal.returns-then-made-bound-clause-few
+returns-then-made-bound-clause-few g c =
+    let rounds = returns-then-made-bound-clause-rounds g c in
+    all-rounds rounds.0 c.args.bound.rounds c.args.bound.calls _ rounds.1 rounds.2.few

@@ -3,7 +3,7 @@ use mathlib.Core.List.{IsPrefix}
 use Rattle.combining.specs.Ended.{HasAddedTold, entered_since}
 use Rattle.combining.specs.Rounds.{HaveLed}
 use Rattle.combining.specs.inner.Passes.{HasPassed, IsAtWork}
-use Rattle.combining.proofs.bounded_pass.serve_rounds.Given as goal
+use Rattle.combining.proofs.rounds.serve_rounds.Given as goal
 
 -- So many rounds are made, and none was starved.
 abbrev pub invariant-loop-made : goal.invariant-loop-made
@@ -17,7 +17,6 @@ invariant-loop-made g l = record {
   few : l.made < l.bound.rounds;
   told : HasAddedTold g.T.Told.ends l.board.sessions l.session.front (entered_since l.initial.session l.session) (g.T.Told.list l.initial.told) (g.T.Told.list l.told);
   room : g.T.Told.room l.told ≡ g.T.Told.room l.initial.told;
-  most : g.T.Told.most l.told ≡ g.T.Told.most l.initial.told;
 }
 
 abbrev pub decreases-loop-made : goal.decreases-loop-made

@@ -3,7 +3,7 @@ use Rattle.combining.specs.Ended.{HasRoom}
 use Rattle.combining.proofs.EndedWaits.{told-step}
 use Rattle.combining.proofs.RoundWeights.{led-once}
 use Rattle.combining.proofs.Places.{entered-step}
-use Rattle.combining.proofs.bounded_pass.serve_round_telling.Goals as goal
+use Rattle.combining.proofs.rounds.serve_round_telling.Goals as goal
 
 pub add-requires : goal.add-requires
 add-requires g c =
@@ -23,6 +23,7 @@ returns-clause-round g c =
       few = omega (arith, e.few);
       led = λ unstarved. led-once g.T.Told.weight c.args.bound c.args.session.now.front c.serve_round-round.new.session.front (e.round unstarved);
       full = e.full;
+      all = e.all;
       put_back = e.put_back;
       kept = e.kept;
       own = e.own;

@@ -1,4 +1,4 @@
-//! A pass in rounds, each of which serves published calls within a bound, and which says whether it saw a call that it left.
+//! A pass of the combiner, in rounds: each serves published calls within a bound, and says whether it saw a call that it left.
 
 ghost use Rattle.std.specs.Prelude.{◌≡◌, ◌≢◌, ◌⊎◌, ◌+◌, ◌*◌, ℕ, ◌<◌, ◌≤◌, ◌↔◌, [], true, false, IsTrue, None, Some, length, vec_len, vec_capacity, ◌-◌, ◌^◌, min, if◌then◌else◌};
 ghost use mathlib.Core.List.{IsPrefix};
@@ -7,8 +7,10 @@ ghost use Rattle.publication.specs.Boards.{IsOf, IsNumber, OpensNone, heard_from
 ghost use Rattle.publication.specs.List.{IsOn};
 ghost use Rattle.publication.specs.Kinds.{IsRoute};
 ghost use Rattle.combining.specs.Ended.{HasAddedTold, HasRoom, entered_since};
-ghost use Rattle.combining.specs.Rounds.{IsBound, IsRound, IsFull};
-ghost use Rattle.combining.specs.inner.Passes.{AreOpened, HasInserted, HasCalls, KeepsCalls, IsVisited, HasVisitedOpened, IsNext, HasMet, IsSameSession, HasPassed, IsAtWork};
+ghost use Rattle.combining.specs.Rounds.{IsBound, IsUnmet, IsRound, IsFull};
+ghost use Rattle.combining.specs.declared.bounds.TheConstants.{MAX_WEIGHT};
+ghost use Rattle.combining.specs.inner.Ages.{sessions_since, noted};
+ghost use Rattle.combining.specs.inner.Passes.{AreOpened, HasInserted, HasCalls, KeepsCalls, IsVisited, HasVisitedOpened, IsNext, HasMet, IsSameSession, HasPassed, IsAtWork, HasServed};
 ghost use Rattle.combining.specs.inner.BoundedPasses.{IsWithin, IsFilled, HasServedWithin};
 
 use crate::bounds::PassBound;
@@ -27,20 +29,9 @@ struct Opening {
     weight: u64,
 }
 
-/// The outcome of a round.
+/// The outcome of a round, or of all rounds of a pass.
 #[derive(Clone, Copy)]
-struct Round {
-    /// How many calls it served.
-    served: u32,
-    /// Whether it put calls back, because memory was refused for one.
-    starved: bool,
-    /// Whether it saw a call posted that it didn't open.
-    left: bool,
-}
-
-/// The outcome of all rounds of a bounded pass.
-#[derive(Clone, Copy)]
-pub(crate) struct Rounds {
+pub(crate) struct Pass {
     /// How many calls they served.
     pub served: u32,
     /// Whether the last one put calls back, because memory was refused for one.
@@ -85,7 +76,8 @@ fn open_weighed<O: Batching, T: Told<O>>(
     ensures met { IsVisited whose session.new }
     ensures opened { ((load.new.row ≡ load.old.row) × (opening.new.weight ≡ opening.old.weight))
         ⊎ ((call : O.Call) × HasInserted whose call load.old.row.items load.new.row.items
-        × (opening.new.weight ≡ opening.old.weight + T.weight (O.history load.old.object) whose call)) }
+        × (opening.new.weight ≡ opening.old.weight + T.weight (O.history load.old.object) whose call)
+        × (T.weight (O.history load.old.object) whose call ≤ MAX_WEIGHT)) }
     ensures grows { vec_len load.new.row ≤ vec_len load.old.row + 1 }
     ensures load { load.new ≡ record load.old { row = load.new.row } }
 {
@@ -138,7 +130,7 @@ fn open_if_room<O: Batching, T: Told<O>>(
 /// Visits the records of the walk from `next` on, and opens each in which a call is posted, until the round may take no more. Then it only
 /// looks for a call that is left, and returns whether it found one.
 #[inline(always)]
-fn open_walked_within<O: Batching, T: Told<O>>(
+fn open_walked<O: Batching, T: Told<O>>(
     board: &Board<O>,
     session: &mut Ticket<O>,
     load: &mut Load<O>,
@@ -177,7 +169,7 @@ fn open_walked_within<O: Batching, T: Told<O>>(
 /// Walks the publication list from the head word, and opens each record in which a call is posted, until the round may take no more. Then
 /// it only looks for a call that is left, and returns whether it found one.
 #[inline(always)]
-fn open_listed_within<O: Batching, T: Told<O>>(
+fn open_listed<O: Batching, T: Told<O>>(
     board: &Board<O>,
     session: &mut Ticket<O>,
     load: &mut Load<O>,
@@ -204,13 +196,13 @@ fn open_listed_within<O: Batching, T: Told<O>>(
     if next.is_none() {
         return false;
     }
-    open_walked_within::<O, T>(board, session, load, opening, next, bound)
+    open_walked::<O, T>(board, session, load, opening, next, bound)
 }
 
 /// Visits the combiner's own record first, and then those on the publication list, and opens each in which a call is posted, until the
 /// round may take no more. Returns whether it saw a call that it left.
 #[inline(always)]
-fn open_records_within<O: Batching, T: Told<O>>(
+fn open_records<O: Batching, T: Told<O>>(
     board: &Board<O>,
     session: &mut Ticket<O>,
     load: &mut Load<O>,
@@ -227,6 +219,7 @@ fn open_records_within<O: Batching, T: Told<O>>(
     ensures room { board.now.sessions ≤ vec_capacity load.new.row }
     ensures heard { result ≡ false → (j : _) → 0 < j → j ≤ board.now.sessions → HasCalls (heard_from session.old j) j session.new }
     ensures own { session.old.pending ≢ None → HasCalls (published_by session.old) session.old.number session.new }
+    ensures all { IsUnmet bound → result ≡ false }
     ensures within { (weight : ℕ) × IsWithin T.weight bound (O.history load.old.object) load.new.row weight × (result ≡ true → IsFilled bound (vec_len load.new.row) weight) }
     ensures load { load.new ≡ record load.old { row = load.new.row } }
 {
@@ -234,9 +227,11 @@ fn open_records_within<O: Batching, T: Told<O>>(
         going_first: 0,
         weight: 0,
     };
+    // an object has at most MAX_SESSIONS sessions, so an unmet bound has room for a call of each
+    let _sessions = load.object.sessions();
     let own = session.number();
     open_weighed::<O, T>(board, session, load, &mut opening, own);
-    open_listed_within::<O, T>(board, session, load, &mut opening, bound)
+    open_listed::<O, T>(board, session, load, &mut opening, bound)
 }
 
 /// Makes a round for a combiner that has the load, and leaves the load fit to be given back: serves the session's own published call,
@@ -247,7 +242,7 @@ fn serve_round<O: Batching, T: Told<O>>(
     session: &mut Ticket<O>,
     load: &mut Load<O>,
     bound: PassBound,
-) -> Round
+) -> Pass
     requires work { IsAtWork O.Sequential board.now session.old load.old }
     requires some { (0 < bound.calls) × (0 < bound.weight) }
     ensures work { IsAtWork O.Sequential board.now session.new load.new }
@@ -256,6 +251,7 @@ fn serve_round<O: Batching, T: Told<O>>(
     ensures few { result.served ≤ bound.calls }
     ensures round { result.starved ≡ false → IsRound T.weight bound session.old.front session.new.front }
     ensures full { result.starved ≡ false → result.left ≡ true → IsFull T.weight bound result.served session.new.front }
+    ensures all { IsUnmet bound → result.left ≡ false }
     ensures put_back { IsTrue result.starved ↔ (session.old.put_backs < session.new.put_backs) }
     ensures kept { result.starved ≡ false → session.new.put_backs ≡ session.old.put_backs }
     ensures own { result.starved ≡ false → session.old.pending ≢ None → published_by session.old ≤ length (calls_of session.old.number session.new.front) }
@@ -265,16 +261,17 @@ fn serve_round<O: Batching, T: Told<O>>(
     ensures passes { load.new.passes ≡ min (load.old.passes + 1) (2 ^ 64 - 1) }
     ensures served_in_all { load.new.served ≡ min (load.old.served + result.served) (2 ^ 64 - 1) }
     ensures starved_in_all { load.new.starved ≡ (if result.starved then min (load.old.starved + 1) (2 ^ 64 - 1) else load.old.starved) }
+    ensures ages { load.new.ages.items ≡ noted load.old.ages.items (sessions_since (length session.old.front) session.new.front) load.new.passes }
     ensures tells { 0 < result.served → O.tells_from load.new.object (length session.old.front) }
 {
     load.passes = load.passes.saturating_add(1);
-    let left = open_records_within::<O, T>(board, session, load, bound);
+    let left = open_records::<O, T>(board, session, load, bound);
     let pass = serve_any(board, session, load);
     load.row.clear();
     load.served = load.served.saturating_add(u64::from(pass.served));
     load.starved = one_more_if(pass.starved, load.starved);
     clean_up(board, session, load.ages.as_slice(), load.passes);
-    Round {
+    Pass {
         served: pass.served,
         starved: pass.starved,
         left,
@@ -289,7 +286,7 @@ fn serve_round_telling<O: Batching, T: Told<O>>(
     load: &mut Load<O>,
     bound: PassBound,
     told: &mut T,
-) -> Round
+) -> Pass
     requires work { IsAtWork O.Sequential board.now session.old load.old }
     requires some { (0 < bound.calls) × (0 < bound.weight) }
     requires room { HasRoom (T.room told.old) board.now.sessions }
@@ -297,7 +294,6 @@ fn serve_round_telling<O: Batching, T: Told<O>>(
     ensures round { HasServedWithin T.weight board.now.sessions bound 1 session.old session.new load.old load.new result.served result.starved result.left }
     ensures told { HasAddedTold T.ends board.now.sessions session.new.front (entered_since session.old session.new) (T.list told.old) (T.list told.new) }
     ensures room { T.room told.new ≡ T.room told.old }
-    ensures most { T.most told.new ≡ T.most told.old }
     ensures noted { T.notes told.new session.new.front }
 {
     let round = serve_round::<O, T>(board, session, load, bound);
@@ -305,24 +301,26 @@ fn serve_round_telling<O: Batching, T: Told<O>>(
     round
 }
 
-/// Makes rounds as `serve_round` does, until one serves no call or has to put calls back, but no more than the bound has. Tells whose
-/// waits they have ended.
+/// Makes a pass: rounds as `serve_round` makes them, until one serves no call or has to put calls back, but no more than the bound has.
+/// Tells whose waits they have ended.
 pub(crate) fn serve_rounds<O: Batching, T: Told<O>>(
     board: &Board<O>,
     session: &mut Ticket<O>,
     load: &mut Load<O>,
     bound: PassBound,
     told: &mut T,
-) -> Rounds
+) -> Pass
     requires work { IsAtWork O.Sequential board.now session.old load.old }
     requires bound { IsBound bound }
     requires room { HasRoom (T.room told.old) board.now.sessions }
     ensures work { IsAtWork O.Sequential board.now session.new load.new }
     ensures rounds { (made : ℕ) × (made ≤ bound.rounds)
         × HasServedWithin T.weight board.now.sessions bound made session.old session.new load.old load.new result.served result.starved result.left }
+    ensures pass { HasPassed session.old session.new result.served }
+    ensures served { HasServed board.now.sessions session.old session.new load.old load.new result.starved result.left }
+    ensures few { result.served ≤ bound.rounds * bound.calls }
     ensures told { HasAddedTold T.ends board.now.sessions session.new.front (entered_since session.old session.new) (T.list told.old) (T.list told.new) }
     ensures room { T.room told.new ≡ T.room told.old }
-    ensures most { T.most told.new ≡ T.most told.old }
     ensures noted { T.notes told.new session.new.front }
 {
     let known = session.seen();
@@ -331,7 +329,7 @@ pub(crate) fn serve_rounds<O: Batching, T: Told<O>>(
         let last = serve_round_telling(board, session, load, bound, told);
         made += 1;
         if made >= bound.rounds || last.served == 0 || last.starved {
-            return Rounds {
+            return Pass {
                 served: (session.seen() - known) as u32,
                 starved: last.starved,
                 left: last.left,

@@ -1,5 +1,0 @@
-use Rattle.combining.proofs.EndedWaits.{told-all}
-use Rattle.combining.proofs.office.Office.serve_bounded.Goals as goal
-
-pub returns-clause-told : goal.returns-clause-told
-returns-clause-told g c = told-all c.args.self.now.sessions c.pass_bounded.new.session.front _ _ _ c.clear.ensures.none c.pass_bounded.ensures.told
