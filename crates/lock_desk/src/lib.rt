@@ -14,9 +14,8 @@
 //! 2. The lock table: all cells, all lockers and the waits-for graph (`lock_table.rt`). `lock_table/calls.rt` serves
 //!    each kind of call: first the tests that can refuse it (`refusals.rt`), then its effect. `requests.rt` has the
 //!    effect of a lock or a conversion, `restarts.rt` that of a restart. `deadlocks.rt` resolves the deadlocks that a
-//!    wait closes, and notes them in a log of the newest (`deadlock_log.rt`), if one was asked for. `runs.rt` grants
-//!    several locks on one resource together, by the operations of `grants.rt`. `listing.rt` lists all locks and
-//!    requests, `lock_table/pages.rt` the locks of one session by pages (`lockers/pages.rt`),
+//!    wait closes, and notes them in a log of the newest (`deadlock_log.rt`), if one was asked for. `listing.rt` lists all
+//!    locks and requests, `lock_table/pages.rt` the locks of one session by pages (`lockers/pages.rt`),
 //!    `lock_table/memory.rt` makes room and gives memory back.
 //! 3. The book: the lock table with its history (`book.rt`). It is all that callers see. `book/paths.rt` locks a path,
 //!    `book/blockers.rt` lists whom a session waits for, `book/deadlocks.rt` tells the newest deadlocks,
