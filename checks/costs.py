@@ -116,6 +116,7 @@ ROWS = [
     Row("reserve, resources", grows=["resources"], partly=["n"], n=3000),
     Row("shrink", grows=["n"], partly=["resources", "sessions", "history", "others"], n=2000),
     Row("deadlocks", grows=["kept"], usual={"sessions": 512, "kept": 600}),
+    Row("newest_deadlocks", grows=["n"], usual={"sessions": 16, "kept": 3000}, n=50),
     Row("keep_deadlocks", grows=["n"], square=["sessions"], usual={"sessions": 512}, n=100),
     Row("open", grows=["sessions"], usual={"sessions": 512}),
     Row("close", grows=["elsewhere", "sessions"], partly=["resources", "others", "own", "n"], n=600),

@@ -343,6 +343,11 @@ static void books_tell_deadlocks() {
         const auto told = book.deadlocks();
         const std::size_t kept = std::min(most, std::size_t{20});
         CHECK(told.size() == kept);
+        for (const std::size_t asked : {0u, 1u, 12u, 40u}) {  // the newest ones, in the same order
+            const auto newest = book.deadlocks(asked);
+            CHECK(newest.size() == std::min(asked, kept));
+            for (std::size_t k = 0; k < newest.size(); ++k) CHECK(newest[k].place == told[kept - newest.size() + k].place && newest[k].cycle.size() == 2);
+        }
         for (std::size_t k = 0; k < told.size(); ++k) {
             const std::uint64_t round = 20 - kept + k;
             CHECK(told[k].place == 8 * round + 5 && told[k].session == 2 && told[k].cycle.size() == 2);

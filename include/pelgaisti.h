@@ -656,6 +656,13 @@ pelgaisti_status pelgaisti_book_keep_deadlocks(pelgaisti_book *book, size_t most
 pelgaisti_status pelgaisti_book_deadlocks(pelgaisti_book *book, pelgaisti_deadlock *list, size_t room, size_t *count,
                                           pelgaisti_member *members, size_t member_room, size_t *member_count);
 
+/* Writes the newest `room` of the deadlocks that are kept, oldest first, to `list`, and the number of all that are kept to `count`; and the
+   first `member_room` of the members of these `room` to `members`, and their number to `member_count`. Else it is as
+   pelgaisti_book_deadlocks. Its cost grows with these deadlocks, not with all.
+   NULL, CLOSED, NO_MEMORY. */
+pelgaisti_status pelgaisti_book_newest_deadlocks(pelgaisti_book *book, pelgaisti_deadlock *list, size_t room, size_t *count,
+                                                 pelgaisti_member *members, size_t member_room, size_t *member_count);
+
 /* ---- Memory of a book. It grows by doubling, and what has grown is moved then, in one call. It gives nothing back by itself: a resource
    that nobody holds or waits for any more leaves an idle cell, whose memory the next new resource takes. These three calls change nothing
    that another call tells [proved: same; what they do to the memory is tested]. ---- */
@@ -885,6 +892,12 @@ pelgaisti_status pelgaisti_session_locks(pelgaisti_session *session, size_t firs
    NULL, CLOSED, NO_MEMORY or ELSEWHERE. */
 pelgaisti_status pelgaisti_session_deadlocks(pelgaisti_session *session, pelgaisti_deadlock *list, size_t room, size_t *count,
                                              pelgaisti_member *members, size_t member_room, size_t *member_count, uint64_t *seen);
+
+/* Writes the newest `room` of them, as pelgaisti_book_newest_deadlocks does, and else is as pelgaisti_session_deadlocks.
+   NULL, CLOSED, NO_MEMORY or ELSEWHERE. */
+pelgaisti_status pelgaisti_session_newest_deadlocks(pelgaisti_session *session, pelgaisti_deadlock *list, size_t room,
+                                                    size_t *count, pelgaisti_member *members, size_t member_room,
+                                                    size_t *member_count, uint64_t *seen);
 
 /* Writes how many locks session `whose` holds, as pelgaisti_book_locks_held does.
    NULL, CLOSED, NO_SUCH_SESSION, ELSEWHERE. */

@@ -17,7 +17,7 @@ use Rattle.lock_desk.specs.declared.cells.Cell.{Cell}
 use Rattle.lock_desk.specs.inner.Cells.{View, no_view, view_of, Cells, cell_at, CellsBecame, AreKeptCells, IsKeptCell, IsCellAt, IsPlace}
 use Rattle.lock_desk.specs.inner.Tables.{in_use, AreIdleFrom}
 use Rattle.lock_desk.proofs.CellTable.{became, became-view}
-use Rattle.lock_desk.proofs.CellEntries.{set-there, same-cell, keys-beside, resource-at, cell-at, beside-written, beside-pushed, beside-set, entry-last, length-beside, beside-cut, cell-pushed, one, cell-gone, cell-set}
+use Rattle.lock_desk.proofs.CellEntries.{set-there, same-cell, keys-beside, resource-at, cell-at, beside-written, beside-pushed, beside-set, entry-last, length-beside, beside-cut, cell-pushed, cell-gone, cell-set}
 
 -- the cells behind those in use
 
