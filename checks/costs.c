@@ -244,22 +244,12 @@ static void call_lock_path(void) {
     if (level != 5) exit(7);
 }
 
-static void fill_batch(uint32_t op, uint32_t mode, uint32_t step, uint32_t session) {
-    for (uint32_t k = 0; k < quantity("n"); k++) {
-        entries[k].session = session + k * (step == 0);
-        entries[k].call = call_on(op, mode, HERE + k * step);
-    }
-}
-
 /* `n` locks of new resources. */
-static void batch_of_new(void) { fill_batch(PELGAISTI_LOCK, PELGAISTI_X, 1, CALLER); }
-
-/* `n` sessions lock a resource that is held by somebody. */
-static void batch_of_group(void) {
-    uint32_t first = next_session + 1;
-    take(newcomer(), PELGAISTI_IS, HERE);
-    for (uint32_t k = 0; k < quantity("n"); k++) newcomer();
-    fill_batch(PELGAISTI_LOCK, PELGAISTI_IS, 0, first);
+static void batch_of_new(void) {
+    for (uint32_t k = 0; k < quantity("n"); k++) {
+        entries[k].session = CALLER;
+        entries[k].call = call_on(PELGAISTI_LOCK, PELGAISTI_X, HERE + k);
+    }
 }
 
 static void call_batch(void) {
@@ -499,7 +489,6 @@ static const struct row {
     {"run", nothing, call_run, 0},
     {"lock_path", nothing, call_lock_path, 0},
     {"serve_batch", batch_of_new, call_batch, 0},
-    {"serve_batch, of a group", batch_of_group, call_batch, 0},
     {"held", reader_and_readers, call_held, 0},
     {"holders", readers, call_holders, 0},
     {"blockers", request_behind, call_blockers, 0},

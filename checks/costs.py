@@ -92,7 +92,6 @@ ROWS = [
     Row("abort", BOTH, grows=["queue", "own"], words=["holders", "sessions"]),
     Row("restart", BOTH, grows=["queue", "own"], words=["holders", "sessions"]),
     Row("serve_batch", grows=["n"], n=100),
-    Row("serve_batch, of a group", grows=["n"], n=100),
     Row("run", grows=["own"]),
     Row("lock_path"),
     Row("held", ["holders"]),

@@ -504,11 +504,10 @@ pelgaisti_status pelgaisti_book_serve(pelgaisti_book *book, uint32_t session, co
 
 /* Serves several calls in order, `length` of them, and writes the number of those that were served to `count`. A call is given by
    `session` and `call` of an entry. Each that is served becomes its entry of the history: `reply` is written, and the numbers that
-   the call doesn't use become 0. Replies and history are those of serving the calls one after another; locks of several sessions on
-   one resource that follow one another are granted together where their modes allow. `count` is less than `length` only if memory
-   was refused for the next call [that is tested]; the entries from there on are as they were, and may be served again. If an entry
-   is no call, its status is returned, and none is served. `calls` may be NULL if `length` is 0. Requires `length` elements at
-   `calls`.
+   the call doesn't use become 0. Replies and history are those of serving the calls one after another. `count` is less than `length`
+   only if memory was refused for the next call [that is tested]; the entries from there on are as they were, and may be served
+   again. If an entry is no call, its status is returned, and none is served. `calls` may be NULL if `length` is 0. Requires `length`
+   elements at `calls`.
    NULL, CLOSED, NO_SUCH_SESSION, NO_SUCH_OP, NO_SUCH_LEVEL, NO_SUCH_MODE (the first entry that is no call), NO_MEMORY. */
 pelgaisti_status pelgaisti_book_serve_batch(pelgaisti_book *book, pelgaisti_entry *calls, size_t length, size_t *count);
 

@@ -161,19 +161,6 @@ waits-counted h now s c reply served old new is legal told numbered at few has a
           ∙ sym (total-push (λ x y z. one_if (gives_up op.Restart x y z)) h e));
     })
 
--- a lock that makes no victim ends no wait of its session
-pub waits-same : (h : List Entry) (s : ℕ) (c : Call) (reply : Reply) (w : WaitCounts) (r : List ℕ) (m : Mode) → c ≡ Lock r m
-    → deadlocks_in (h ++ record { session = s; call = c; reply = reply } ∷ []) ≡ deadlocks_in h → AreWaitsCounted h w → AreWaitsCounted (h ++ record { session = s; call = c; reply = reply } ∷ []) w
-waits-same h s c reply w r m is same a =
-    let e : Entry = record { session = s; call = c; reply = reply } in
-    let none : (o : Op) → eqb (number_of_op op.Lock) (number_of_op o) ≡ false → one_if (gives_up o (state_of h) e (step (state_of h) s c).state) ≡ 0 =
-    λ o f. ap (λ (b : Bool). one_if (b && (is_waiting (state_of h) s && not (is_waiting (step (state_of h) s c).state s)))) (ap (λ (x : Call). eqb (number_of_op (op_of_call x)) (number_of_op o)) is ∙ f) in
-    record {
-      victims = subst (λ (ms : List Moment). AreVictimsCounted ms w) (sym same) a.victims;
-      aborted = omega (arith, a.aborted, total-push (λ x y z. one_if (gives_up op.Abort x y z)) h e, none op.Abort refl);
-      restarted = omega (arith, a.restarted, total-push (λ x y z. one_if (gives_up op.Restart x y z)) h e, none op.Restart refl);
-    }
-
 -- of no calls, none are counted
 pub none-counted : AreWaitsCounted [] no_waits
 none-counted = record { victims = record { victims = refl; closing = refl; last = refl }; aborted = refl; restarted = refl }

@@ -5,7 +5,7 @@
 //! - `book.rt`, `book/`: the lock table with its history. `recording.rt` serves one call; `object.rt` and `tending.rt` make the book an
 //!   object that threads can share.
 //! - `lock_table.rt`, `lock_table/`: all cells, all lockers and the waits-for graph; `calls.rt` serves each kind of call. It and the log of
-//!   the newest deadlocks (`deadlock_log.rt`) use each other; of the book it uses the items of batches.
+//!   the newest deadlocks (`deadlock_log.rt`) use each other.
 //! - Parts that use neither: a cell has the holders and the queue of a resource (`cells.rt`), a locker the transaction, request and locks
 //!   of a session (`lockers.rt`), `waits.rt` keeps the graph; `promotion.rt` and `cell_table.rt` change all three.
 //!

@@ -1,6 +1,6 @@
 use Rattle.std.proofs.Common.{refl}
 use Rattle.lock_desk.proofs.Batches.{served-start}
-use Rattle.lock_desk.proofs.book.Book.serve_several.Goals as goal
+use Rattle.lock_desk.proofs.book.Book.serve_items.Goals as goal
 
 pub loop-served-init : goal.loop-served-init
 loop-served-init c = record {
@@ -9,5 +9,6 @@ loop-served-init c = record {
   bound = refl;
   deadlocks = refl;
   within = c.requires.within;
+  long = refl;
   served = served-start c.args.self.now c.args.items.now c.requires.none;
 }

@@ -1,8 +1,8 @@
-use Rattle.std.proofs.Common.{◌≡◌, ◌-◌, length}
+use Rattle.std.proofs.Common.{◌≡◌, length}
 use Rattle.std.specs.List.{All}
 use Rattle.sequential.specs.Batches.{IsItemWithin}
-use Rattle.lock_desk.specs.inner.Runs.{AreServed}
-use Rattle.lock_desk.proofs.book.Book.serve_several.Given as goal
+use Rattle.lock_desk.specs.inner.Served.{AreServed}
+use Rattle.lock_desk.proofs.book.Book.serve_items.Given as goal
 
 abbrev pub invariant-loop-served : goal.invariant-loop-served
 invariant-loop-served l = record {
@@ -11,8 +11,6 @@ invariant-loop-served l = record {
   bound : l.self.bound ≡ l.initial.self.bound;
   deadlocks : l.self.deadlocks ≡ l.initial.self.deadlocks;
   within : All (IsItemWithin l.self.sessions) l.items;
+  long : length l.items ≡ length l.initial.items;
   served : AreServed l.initial.self.sessions l.served l.initial.items l.initial.self.history l.self.ended l.self.history l.items;
 }
-
-abbrev pub decreases-loop-served : goal.decreases-loop-served
-decreases-loop-served l = length l.initial.items - l.served
