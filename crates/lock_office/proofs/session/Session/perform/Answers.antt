@@ -1,7 +1,7 @@
 use Rattle.std.proofs.Common.{◌∙◌, ℕ, Bool, sym, refl}
 use Rattle.lock_office.specs.SingleCalls.{CallAnswer as Answer, IsPerformed}
 use Rattle.lock_office.proofs.Sessions.{performed-reply, read-performed}
-use Rattle.lock_office.proofs.session.Session.perform_telling.Goals as goal
+use Rattle.lock_office.proofs.session.Session.perform.Goals as goal
 
 pub answer_of-requires : goal.answer_of-requires
 answer_of-requires g c =
