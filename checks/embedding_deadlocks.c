@@ -216,8 +216,8 @@ static void a_restarted_victim_is_one_again(void) {
     close_book(&book);
 }
 
-/* With less room than there is, the newest deadlocks are written, and all are counted; of their members the first ones are written, by a room
-   of their own, and theirs alone are counted. */
+/* With less room than there is, the newest deadlocks are written, and all are counted; of members the first ones of these deadlocks, by a
+   room of their own, and all of these are counted. */
 static void room_is_kept(void) {
     pelgaisti_book book = PELGAISTI_EMPTY;
     open_book(&book, 2, 9);

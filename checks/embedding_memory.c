@@ -78,8 +78,8 @@ static void try_meanwhile(void) {
 enum { BOOK_OPEN, BOOK_SERVE, BOOK_SERVE_BATCH, BOOK_LOCK_PATH, BOOK_RUN, BOOK_HOLDERS, BOOK_LOCKS, OFFICE_OPEN, SESSION_SERVE, AT_ONCE, TELLING,
        SESSION_HOLDERS, SESSION_BLOCKERS, SESSION_LOCKS, HAND_IN, OFFICE_CLOSE, OPEN_WAKING, WAKING_SERVE, WAKING_SERVE_TELLING,
        WAKING_AT_ONCE, WAKING_TELLING, WAKING_PERFORM, WAKING_PATH, SESSION_RUN, BOOK_RESERVE, SESSION_RESERVE,
-       KEEP_DEADLOCKS, BOOK_DEADLOCKS, OPEN_TELLING, SESSION_DEADLOCKS, BOOK_LOCKS_OF,
-       SESSION_LOCKS_OF, BOOK_DUMP, SESSION_DUMP, LACKING };
+       KEEP_DEADLOCKS, BOOK_DEADLOCKS, OPEN_TELLING, SESSION_DEADLOCKS, BOOK_LOCKS_OF, SESSION_LOCKS_OF, BOOK_DUMP, SESSION_DUMP,
+       LACKING };
 static const char *const lacking[LACKING] = {"book_open", "book_serve", "book_serve_batch", "book_lock_path", "book_run",
                                              "book_holders", "book_locks", "office_open", "session_serve", "session_perform_at_once",
                                              "session_perform_telling", "session_holders", "session_blockers", "session_locks",
@@ -87,8 +87,8 @@ static const char *const lacking[LACKING] = {"book_open", "book_serve", "book_se
                                              "session_serve_telling, which wakes", "session_perform_at_once, which wakes",
                                              "session_perform_telling, which wakes", "session_perform, which wakes",
                                              "session_lock_path, which wakes", "session_run", "book_reserve", "session_reserve",
-                                             "book_keep_deadlocks", "book_deadlocks", "office_open_telling", "session_deadlocks", "book_locks_of",
-                                             "session_locks_of", "book_dump", "session_dump"};
+                                             "book_keep_deadlocks", "book_deadlocks", "office_open_telling", "session_deadlocks",
+                                             "book_locks_of", "session_locks_of", "book_dump", "session_dump"};
 static long lacked[LACKING];
 
 /* How many batches were refused memory behind the calls that they served. */
