@@ -5,13 +5,16 @@ use Rattle.lock_office.proofs.by_calls.WakeUps.{told-to-wait}
 use Rattle.programs.proofs.Sessions.{calls_of-flat}
 use Rattle.lock_office.specs.ProgramBoards.{flat_history, history_of, calls_answered, program_object}
 use Rattle.lock_office.proofs.InTime.{board-legal}
-use Rattle.lock_office.proofs.WakeUps.{not-forgotten}
-use Rattle.lock_office.proofs.laws.nobody_who_waits_is_forgotten.Goals as goal
+use Rattle.lock_office.proofs.WakeUps.{waits-or-ended-here, listed-there}
+use Rattle.lock_office.proofs.laws.ended_waits_are_listed.Goals as goal
 
-pub returns-clause-not_forgotten : goal.returns-clause-not_forgotten
-returns-clause-not_forgotten c n load s told u ready untaken run wait =
+pub returns-clause-waits_or_ended : goal.returns-clause-waits_or_ended
+returns-clause-waits_or_ended c n load s u ready untaken run wait =
     let ruled = still-ruled (c.boards_open_with_an_empty_history.ensures.ruled n load ready untaken) run in
-    not-forgotten s (c.each_place_is_entered_once.ensures n load s ready untaken run) (board-legal s ruled) told u wait
+    waits-or-ended-here s (c.each_place_is_entered_once.ensures n load s ready untaken run) (board-legal s ruled) u wait
+
+pub returns-clause-listed : goal.returns-clause-listed
+returns-clause-listed c n s since u k index places list end some few told at = listed-there n s since u k index end some few told at
 
 pub returns-clause-told_to_wait : goal.returns-clause-told_to_wait
 returns-clause-told_to_wait c s u answers place before call ruled has are =
