@@ -408,16 +408,10 @@ static void call_idle_cells(void) {
 
 static void call_close(void) { check(pelgaisti_book_close(&book)); }
 
+/* The newest `n`. */
 static void call_deadlocks(void) {
     size_t count, member_count;
-    check(pelgaisti_book_deadlocks(&book, deadlocks, MOST, &count, members, 2 * MOST, &member_count));
-    if (count != quantity("kept") || member_count != 2 * count) exit(22);
-}
-
-/* The newest `n`. */
-static void call_newest_deadlocks(void) {
-    size_t count, member_count;
-    check(pelgaisti_book_newest_deadlocks(&book, deadlocks, quantity("n"), &count, members, 2 * MOST, &member_count));
+    check(pelgaisti_book_deadlocks(&book, deadlocks, quantity("n"), &count, members, 2 * MOST, &member_count));
     if (count != quantity("kept") || member_count != 2 * quantity("n")) exit(22);
 }
 
@@ -512,7 +506,6 @@ static const struct row {
     {"shrink", idle, call_shrink, 1},
     {"idle_cells", idle, call_idle_cells, 1},
     {"deadlocks", deadlocked, call_deadlocks, 0},
-    {"newest_deadlocks", deadlocked, call_newest_deadlocks, 0},
     {"keep_deadlocks", open_anew, call_keep_deadlocks, 1},
     {"open", close_it, call_open, 1},
     {"close", idle, call_close, 1},

@@ -57,30 +57,13 @@ static int is_within(const struct told *told, size_t room, size_t member_room) {
     return is_unwritten(&told->list[deadlocks], &told->list[ROOM]) && is_unwritten(&told->members[members], &told->members[MEMBER_ROOM]);
 }
 
-/* What the book tells, with so much room. */
+/* What the book tells, with so much room: the newest deadlocks. */
 static struct told told_by_book(pelgaisti_book *book, size_t room, size_t member_room) {
     struct told told;
     memset(&told, 0x55, sizeof told);
     CHECK(pelgaisti_book_deadlocks(book, room ? told.list : NULL, room, &told.count, member_room ? told.members : NULL, member_room,
                                    &told.member_count) == PELGAISTI_OK);
     CHECK(is_within(&told, room, member_room) && is_unwritten(&told.seen, &told.seen + 1));
-    return told;
-}
-
-/* The newest of them, so many; of a session, if there is one. */
-static struct told newest_of(pelgaisti_book *book, pelgaisti_session *session, size_t room, size_t member_room) {
-    struct told told;
-    pelgaisti_status status;
-    memset(&told, 0x55, sizeof told);
-    do {
-        pelgaisti_deadlock *list = room ? told.list : NULL;
-        pelgaisti_member *members = member_room ? told.members : NULL;
-        if (session)
-            status = pelgaisti_session_newest_deadlocks(session, list, room, &told.count, members, member_room, &told.member_count, &told.seen);
-        else
-            status = pelgaisti_book_newest_deadlocks(book, list, room, &told.count, members, member_room, &told.member_count);
-    } while (status == PELGAISTI_ELSEWHERE);
-    CHECK(status == PELGAISTI_OK && is_within(&told, room, member_room));
     return told;
 }
 
@@ -140,7 +123,7 @@ static void ask(pelgaisti_book *book, uint32_t session, uint32_t mode, pelgaisti
 
 static void open_book(pelgaisti_book *book, uint32_t sessions, size_t most) {
     CHECK(pelgaisti_book_open(book, sessions) == PELGAISTI_OK && pelgaisti_book_keep_deadlocks(book, most) == PELGAISTI_OK);
-    CHECK(told_by_book(book, ROOM, MEMBER_ROOM).count == 0 && told_by_book(book, 0, 0).member_count == 0);
+    CHECK(told_by_book(book, ROOM, MEMBER_ROOM).member_count == 0 && told_by_book(book, 0, 0).count == 0);
 }
 
 static void close_book(pelgaisti_book *book) { CHECK(pelgaisti_book_close(book) == PELGAISTI_OK); }
@@ -233,8 +216,8 @@ static void a_restarted_victim_is_one_again(void) {
     close_book(&book);
 }
 
-/* With less room than there is, the first ones are written, or the newest ones, and all are counted: deadlocks and members each by their own
-   room. Members of the newest ones are counted alone. */
+/* With less room than there is, the newest deadlocks are written, and all are counted; of members the first ones of these deadlocks, by a
+   room of their own, and all of these are counted. */
 static void room_is_kept(void) {
     pelgaisti_book book = PELGAISTI_EMPTY;
     open_book(&book, 2, 9);
@@ -243,16 +226,14 @@ static void room_is_kept(void) {
     for (size_t room = 0; room < 4; room++)
         for (size_t member_room = 0; member_room < 6; member_room++) {
             const struct told told = told_by_book(&book, room, member_room);
-            CHECK(told.count == 2 && told.member_count == 4);
-            if (room > 0 && member_room > 1) want_cross(&told, 0, 0);
+            CHECK(told.count == 2 && told.member_count == (room < 2 ? 2 * room : 4));
+            if (room == 1) CHECK(is_deadlock(&told, 0, 17, 1, 2));
+            if (room == 1 && member_room > 0) CHECK(is_member(&told, 0, 2, 4, PELGAISTI_FRESH, PELGAISTI_X, nine, PELGAISTI_S));
+            if (room == 1 && member_room > 1) want_cross_again(&told, 0, 0);
+            if (room > 1) CHECK(is_deadlock(&told, 0, 5, 2, 2) && is_deadlock(&told, 1, 17, 1, 2));
+            if (room > 1 && member_room > 1) want_cross(&told, 0, 0);
+            if (room > 1 && member_room == 3) CHECK(is_member(&told, 2, 2, 4, PELGAISTI_FRESH, PELGAISTI_X, nine, PELGAISTI_S));
             if (room > 1 && member_room > 3) want_cross_again(&told, 1, 2);
-            if (member_room == 3) CHECK(is_member(&told, 2, 2, 4, PELGAISTI_FRESH, PELGAISTI_X, nine, PELGAISTI_S));
-            if (room == 1) CHECK(is_deadlock(&told, 0, 5, 2, 2));
-            const struct told newest = newest_of(&book, NULL, room, member_room);
-            CHECK(newest.count == 2 && newest.member_count == (room < 2 ? 2 * room : 4));
-            if (room == 1) CHECK(is_deadlock(&newest, 0, 17, 1, 2));
-            if (room == 1 && member_room > 1) want_cross_again(&newest, 0, 0);
-            if (room > 1 && member_room > 3) want_cross(&newest, 0, 0), want_cross_again(&newest, 1, 2);
         }
     close_book(&book);
 }
@@ -576,12 +557,9 @@ static void want_deadlocks_of(size_t kept) {
     for (size_t room = 0; room < 3; room++)
         for (size_t member_room = 0; member_room < 4; member_room++) {
             told = told_by_session(&sessions[1], room, member_room);
-            CHECK(told.count == kept && told.member_count == 2 * kept && told.seen == 7);
-            if (kept > 0 && room > 0) CHECK(is_deadlock(&told, 0, 5, 2, 2));
-            if (kept > 0 && member_room > 0) CHECK(is_member(&told, 0, 2, 2, PELGAISTI_FRESH, PELGAISTI_X, one, PELGAISTI_X));
-            told = newest_of(NULL, &sessions[1], room, member_room);
             CHECK(told.count == kept && told.member_count == (room > 0 ? 2 * kept : 0) && told.seen == 7);
             if (kept > 0 && room > 0) CHECK(is_deadlock(&told, 0, 5, 2, 2));
+            if (kept > 0 && room > 0 && member_room > 0) CHECK(is_member(&told, 0, 2, 2, PELGAISTI_FRESH, PELGAISTI_X, one, PELGAISTI_X));
         }
     close_office(&book);
     close_book(&book);

@@ -642,26 +642,22 @@ pelgaisti_status pelgaisti_book_take_history(pelgaisti_book *book, uint64_t *fir
    NULL, CLOSED, SERVED, NO_MEMORY. */
 pelgaisti_status pelgaisti_book_keep_deadlocks(pelgaisti_book *book, size_t most);
 
-/* Writes the first `room` of the deadlocks that are kept, oldest first, to `list`, and the number of all of them to `count`; and the first
-   `member_room` of the members of all of them, deadlock by deadlock, to `members`, and the number of all members to `member_count`. So the
-   members of the first deadlock are the first list[0].members, those of the second follow them.
+/* Writes the newest `room` of the deadlocks that are kept, oldest first, to `list`, and the number of all that are kept to `count`; and the
+   first `member_room` of the members of those in `list`, deadlock by deadlock, to `members`, and the number of these deadlocks' members to
+   `member_count`. So the members of the first deadlock are the first list[0].members, those of the second follow them. The cost grows with
+   the deadlocks that are asked for, not with all that are kept.
    A call makes a deadlock for each victim that it dooms; those of one call have the same place, in the order in which their victims were
    doomed. Of several cycles that go through the victim one is told, a shortest one [tested: that it is a shortest one].
    An example: transaction 1 of session 1 holds database 1 in X, transaction 2 of session 2 database 2 in S. Session 1 asks for database 2
    in X and waits; then session 2, by the call at place 5, asks for database 1 in S. The deadlock has place 5, session 2 and 2 members:
    session 2 with a request for database 1 in S, `held` X; and session 1 with a request for database 2 in X, `held` S.
    `list` may be NULL if `room` is 0, and `members` if `member_room` is. Requires `room` elements at `list`, and `member_room` at
-   `members`. As many as pelgaisti_book_keep_deadlocks was told, and this number times the book's sessions, suffice always.
+   `members`. As many as pelgaisti_book_keep_deadlocks was told, and this number times the book's sessions, suffice always. Else call it
+   with `room` 0, for `count`; and then with so much room, or less for fewer, and as much for members as is likely: if `member_count` is
+   more, once more with that.
    NULL, CLOSED, NO_MEMORY. */
 pelgaisti_status pelgaisti_book_deadlocks(pelgaisti_book *book, pelgaisti_deadlock *list, size_t room, size_t *count,
                                           pelgaisti_member *members, size_t member_room, size_t *member_count);
-
-/* Writes the newest `room` of the deadlocks that are kept, oldest first, to `list`, and the number of all that are kept to `count`; and the
-   first `member_room` of the members of these `room` to `members`, and their number to `member_count`. Else it is as
-   pelgaisti_book_deadlocks. Its cost grows with these deadlocks, not with all.
-   NULL, CLOSED, NO_MEMORY. */
-pelgaisti_status pelgaisti_book_newest_deadlocks(pelgaisti_book *book, pelgaisti_deadlock *list, size_t room, size_t *count,
-                                                 pelgaisti_member *members, size_t member_room, size_t *member_count);
 
 /* ---- Memory of a book. It grows by doubling, and what has grown is moved then, in one call. It gives nothing back by itself: a resource
    that nobody holds or waits for any more leaves an idle cell, whose memory the next new resource takes. These three calls change nothing
@@ -887,17 +883,12 @@ pelgaisti_status pelgaisti_session_blockers(pelgaisti_session *session, uint32_t
 pelgaisti_status pelgaisti_session_locks(pelgaisti_session *session, size_t first, pelgaisti_claim *list, size_t room,
                                          size_t *count, uint64_t *seen);
 
-/* Writes the newest deadlocks, as many as pelgaisti_office_open_telling was told, to `list`, and their members to `members`, as
-   pelgaisti_book_deadlocks does. NO_MEMORY: the session knows the history up to there all the same.
+/* Writes the newest `room` deadlocks of those that pelgaisti_office_open_telling was told to keep, and their members, as
+   pelgaisti_book_deadlocks does. Other sessions may make more between two calls. NO_MEMORY: the session knows the history up to there all
+   the same.
    NULL, CLOSED, NO_MEMORY or ELSEWHERE. */
 pelgaisti_status pelgaisti_session_deadlocks(pelgaisti_session *session, pelgaisti_deadlock *list, size_t room, size_t *count,
                                              pelgaisti_member *members, size_t member_room, size_t *member_count, uint64_t *seen);
-
-/* Writes the newest `room` of them, as pelgaisti_book_newest_deadlocks does, and else is as pelgaisti_session_deadlocks.
-   NULL, CLOSED, NO_MEMORY or ELSEWHERE. */
-pelgaisti_status pelgaisti_session_newest_deadlocks(pelgaisti_session *session, pelgaisti_deadlock *list, size_t room,
-                                                    size_t *count, pelgaisti_member *members, size_t member_room,
-                                                    size_t *member_count, uint64_t *seen);
 
 /* Writes how many locks session `whose` holds, as pelgaisti_book_locks_held does.
    NULL, CLOSED, NO_SUCH_SESSION, ELSEWHERE. */

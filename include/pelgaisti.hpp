@@ -185,8 +185,8 @@ template <class Traits> std::basic_ostream<char, Traits> &operator<<(std::basic_
 // whether it wrote.
 template <class Call> bool tell_deadlocks(std::vector<deadlock> &told, size_t most, Call call) {
     std::vector<pelgaisti_deadlock> list((std::min)(most, size_t{8}));
-    std::vector<member> members(32);
-    for (size_t count = 0, all = 0;; list.resize(count), members.resize((std::max)(all, members.size()))) {
+    std::vector<member> members(4 * list.size());
+    for (size_t count = 0, all = 0;; list.resize(count), members.resize((std::max)(all, 4 * count))) {
         if (!call(list.data(), list.size(), &count, members.data(), members.size(), &all)) return false;
         count = (std::min)(count, most);
         if (count > list.size() || all > members.size()) continue;
@@ -277,7 +277,7 @@ public:
     std::vector<deadlock> deadlocks(size_t most = SIZE_MAX) {
         std::vector<deadlock> told;
         static_cast<void>(tell_deadlocks(told, most, [&](auto *at, size_t room, auto *n, auto *members, size_t members_room, auto *all) {
-            return check(pelgaisti_book_newest_deadlocks(&handle_, at, room, n, members, members_room, all)), true; }));
+            return check(pelgaisti_book_deadlocks(&handle_, at, room, n, members, members_room, all)), true; }));
         return told;
     }
     // How many locks the session holds; and a page of them, up to `most`: the first ones, those on resources behind `after`, or those behind the
@@ -410,7 +410,7 @@ public:
     std::optional<seen<std::vector<deadlock>>> deadlocks(size_t most = SIZE_MAX) {
         seen<std::vector<deadlock>> made{{}, 0};
         const bool is_told = tell_deadlocks(made.found, most, [&](auto *at, size_t room, auto *n, auto *members, size_t member_room, auto *all) {
-            return !elsewhere(pelgaisti_session_newest_deadlocks(&handle_, at, room, n, members, member_room, all, &made.length)); });
+            return !elsewhere(pelgaisti_session_deadlocks(&handle_, at, room, n, members, member_room, all, &made.length)); });
         return is_told ? std::optional(std::move(made)) : std::nullopt;
     }
     std::optional<seen<size_t>> locks_held(uint32_t whose) {

@@ -228,21 +228,11 @@ pelgaisti_status pelgaisti_book_keep_deadlocks(pelgaisti_book *book, size_t most
     return CALL(book, pelgaisti_raw_book_keep_deadlocks(&book, most));
 }
 
-static pelgaisti_status deadlocks_of_book(pelgaisti_book *book, size_t most, pelgaisti_deadlock *list, size_t room, size_t *count,
-                                          pelgaisti_member *members, size_t member_room, size_t *member_count) {
-    return LISTING(list, room, count, LISTING(members, member_room, member_count,
-                   CALL(book, pelgaisti_raw_book_deadlocks(&book, most, LIST(list, room), &count, LIST(members, member_room),
-                        &member_count))));
-}
-
 pelgaisti_status pelgaisti_book_deadlocks(pelgaisti_book *book, pelgaisti_deadlock *list, size_t room, size_t *count,
                                           pelgaisti_member *members, size_t member_room, size_t *member_count) {
-    return deadlocks_of_book(book, SIZE_MAX, list, room, count, members, member_room, member_count);
-}
-
-pelgaisti_status pelgaisti_book_newest_deadlocks(pelgaisti_book *book, pelgaisti_deadlock *list, size_t room, size_t *count,
-                                                 pelgaisti_member *members, size_t member_room, size_t *member_count) {
-    return deadlocks_of_book(book, room, list, room, count, members, member_room, member_count);
+    return LISTING(list, room, count, LISTING(members, member_room, member_count,
+                   CALL(book, pelgaisti_raw_book_deadlocks(&book, room, LIST(list, room), &count, LIST(members, member_room),
+                        &member_count))));
 }
 
 pelgaisti_status pelgaisti_book_reserve(pelgaisti_book *book, size_t resources, size_t entries) {
@@ -575,23 +565,12 @@ pelgaisti_status pelgaisti_session_locks(pelgaisti_session *session, size_t firs
                    HOLDING(session, pelgaisti_raw_session_locks(&session, first, LIST(list, room), &count, &seen))));
 }
 
-static pelgaisti_status deadlocks_seen(pelgaisti_session *session, size_t most, pelgaisti_deadlock *list, size_t room, size_t *count,
-                                       pelgaisti_member *members, size_t member_room, size_t *member_count, uint64_t *seen) {
-    return LISTING(list, room, count, LISTING(members, member_room, member_count, WRITING(seen,
-                   HOLDING(session, pelgaisti_raw_session_deadlocks(&session, most, LIST(list, room), &count,
-                        LIST(members, member_room), &member_count, &seen)))));
-}
-
 pelgaisti_status pelgaisti_session_deadlocks(pelgaisti_session *session, pelgaisti_deadlock *list, size_t room, size_t *count,
                                              pelgaisti_member *members, size_t member_room, size_t *member_count,
                                              uint64_t *seen) {
-    return deadlocks_seen(session, SIZE_MAX, list, room, count, members, member_room, member_count, seen);
-}
-
-pelgaisti_status pelgaisti_session_newest_deadlocks(pelgaisti_session *session, pelgaisti_deadlock *list, size_t room,
-                                                    size_t *count, pelgaisti_member *members, size_t member_room,
-                                                    size_t *member_count, uint64_t *seen) {
-    return deadlocks_seen(session, room, list, room, count, members, member_room, member_count, seen);
+    return LISTING(list, room, count, LISTING(members, member_room, member_count, WRITING(seen,
+                   HOLDING(session, pelgaisti_raw_session_deadlocks(&session, room, LIST(list, room), &count,
+                        LIST(members, member_room), &member_count, &seen)))));
 }
 
 pelgaisti_status pelgaisti_session_locks_held(pelgaisti_session *session, uint32_t whose, size_t *count, uint64_t *seen) {

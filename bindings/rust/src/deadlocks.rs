@@ -90,7 +90,8 @@ fn whole_deadlocks(
     most: usize,
     mut ask: impl FnMut((&mut [RawDeadlock], &mut usize), (&mut [RawMember], &mut usize)) -> Result<(), Error>,
 ) -> Result<Vec<Deadlock>, Error> {
-    let (mut list, mut members) = (blank::<RawDeadlock>(most.min(8))?, blank::<RawMember>(8)?);
+    let few = most.min(8);
+    let (mut list, mut members) = (blank::<RawDeadlock>(few)?, blank::<RawMember>(4 * few)?);
     loop {
         let (mut count, mut member_count) = (0, 0);
         ask((&mut list, &mut count), (&mut members, &mut member_count))?;
@@ -98,7 +99,7 @@ fn whole_deadlocks(
         if let (Some(list), Some(members)) = (list.get(..count), members.get(..member_count)) {
             return deadlocks_of(list, members);
         }
-        (list, members) = (blank(count)?, blank(member_count.max(members.len()))?);
+        (list, members) = (blank(count)?, blank(member_count.max(4 * count))?);
     }
 }
 
@@ -157,9 +158,7 @@ impl Book {
             let (to, room) = (list.as_mut_ptr(), list.len());
             let (members, member_room) = (members.as_mut_ptr(), members.len());
             // SAFETY: the handle is this book's; the lists have so much room, and the counts are locals
-            done(unsafe {
-                ffi::pelgaisti_book_newest_deadlocks(self.raw(), to, room, count, members, member_room, member_count)
-            })
+            done(unsafe { ffi::pelgaisti_book_deadlocks(self.raw(), to, room, count, members, member_room, member_count) })
         })
     }
 }
@@ -186,9 +185,7 @@ impl Session {
             let (to, room) = (list.as_mut_ptr(), list.len());
             let (members, member_room) = (members.as_mut_ptr(), members.len());
             // SAFETY: the handle is this session's, used by `&mut`; the lists have so much room, the others are locals of their types
-            done(unsafe {
-                ffi::pelgaisti_session_newest_deadlocks(handle, to, room, count, members, member_room, member_count, &mut length)
-            })
+            done(unsafe { ffi::pelgaisti_session_deadlocks(handle, to, room, count, members, member_room, member_count, &mut length) })
         })?;
         Ok(Seen { length, found })
     }
