@@ -4,10 +4,10 @@
 Usage: bench/measure.py [--over-gate | --try] [--rounds N] [--seconds N] [--quick] [--paste] [--only SECTION]..
 
 A section makes its cases in rounds (5 by default): each case once in a round, and every second round backwards. With --seconds it
-makes as many as fit. A figure is the median of the rounds, with the least and the greatest in brackets, or the quartiles. Before the
-tables of a section a line says on which machine, when and in how many rounds they were measured, and which share of all ticks of the
-processors was stolen by others than this system, or idle, by /proc/stat. Rounds in which more than 1 in 100 was stolen are robbed: their
-figures come in tables of their own.
+makes as many as fit. A figure is the median of the rounds, with the least and the greatest in brackets, or between the other quartiles.
+Before the tables of a section a line says on which machine, when and in how many rounds they were measured, and which share of all ticks
+of the processors was stolen by others than this system, or idle, by /proc/stat. Rounds in which more than 1 in 100 was stolen are robbed:
+their figures come in tables of their own. The sections of threads make a run anew, twice at most, in which a tick was stolen.
 
 A section has two texts: all its figures, which are printed, and a short one of medians alone, of the clean rounds if there are any.
 
@@ -17,9 +17,7 @@ The sections, with the minutes that they take on 4 free processors:
     memory        the peak memory of a whole process, by bench/memory.c                                      1/2
     growth        a new book and a new office of 256 and of 1,024 sessions, by bench/memory.c                0
     threads       an office beside ten other ways to share a lock table, by bench/threads.c                  1/2
-    work          the same with work between calls                                                           1
-    loads         the same with hot rows, shared reads and own files                                         1 1/2
-    unpinned      the same with threads on any processor, also beside three busy processes                   1/2
+    loads         the same with hot rows, shared reads, own files, work between calls, on any processor      1
     store         examples/store over offices, RocksDB's own transactions and Berkeley DB, by bench/store.cpp  15
     hash_table    its orders over a hash table, by these, a mutex and reader-writer locks, by bench/store.cpp  15
     waiting       three ways to wait for locks, by bench/waiting.c                                           1
@@ -122,7 +120,7 @@ class Figures:
         return statistics.mean(self.found[key, name])
 
     def text(self, key, name, digits=0, per=1):
-        """The median, and in brackets the least and the greatest or the quartiles, if they differ as they are printed."""
+        """The median, and in brackets the least and the greatest, if they differ as they are printed; or the three quartiles."""
         return self.pair(key, [name], digits, per)
 
     def pair(self, key, names, digits=0, per=1):
@@ -132,15 +130,16 @@ class Figures:
             return ""
         ends = (lambda column: self.end(column, False)), (lambda column: self.end(column, True))
         middle, least, greatest = ("/".join(f"{of(column) / per:,.{digits}f}" for column in columns) for of in (statistics.median, *ends))
-        between = "–" if self.part > 1 else " to "
-        return f"{middle} ({least}{between}{greatest})" if self.has_spread and least != greatest else middle
+        if not self.has_spread or least == greatest:
+            return middle
+        return f"{least}–{middle}–{greatest}" if self.part > 1 else f"{middle} ({least} to {greatest})"
 
 
 def make_rounds(section, count, seconds):
     """Makes so many rounds, or as many as fit into so many seconds, at least one. Returns the figures of those that are clean and of
     those that are robbed, how many there are of each, and the ticks of all."""
     cases = section.cases()
-    found, numbers, start = {is_robbed: Figures(section.has_quartiles) for is_robbed in (False, True)}, {False: 0, True: 0}, Ticks()
+    found, numbers, start = {is_robbed: Figures(section.is_by_runs) for is_robbed in (False, True)}, {False: 0, True: 0}, Ticks()
     begun = time.monotonic()
     for turn in range(count):
         if seconds and turn and (time.monotonic() - begun) * (turn + 1) / turn > seconds:
@@ -148,7 +147,7 @@ def make_rounds(section, count, seconds):
         before = Ticks()
         told = [(key, make()) for key, make in (cases if turn % 2 == 0 else cases[::-1])]
         spent = Ticks().since(before)
-        robbed = spent.is_robbed()
+        robbed = spent.is_robbed() and not section.is_by_runs
         numbers[robbed] += 1
         for key, numbers_told in told:
             found[robbed].add(key, numbers_told)
@@ -174,7 +173,7 @@ def texts_of(section, rounds, seconds, tried):
     day, start = today(), time.monotonic()
     found, numbers, spent = make_rounds(section, rounds, seconds)
     rounds = sum(numbers.values())
-    spread = f", in brackets the {'quartiles' if section.has_quartiles else 'least and the greatest'}" if rounds > 1 else ""
+    spread = ", in brackets the least and the greatest" if rounds > 1 and not section.is_by_runs else ""
     whole = [head_of(rounds, day, spent, spread + tried, section.how)]
     short = [head_of(rounds, day, spent, f" ([all figures](results/{section.name}.md)){tried}", section.short_how or section.how)]
     shown = not numbers[False]

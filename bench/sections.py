@@ -1,5 +1,4 @@
 """The sections of bench/README.md that bench/measure.py measures: how each is measured, and its tables."""
-import itertools
 import os
 import re
 import shlex
@@ -40,7 +39,9 @@ class Section:
     """A section of bench/README.md. Its `cases` are pairs of a key and a function that measures once, and returns numbers by their
     names; `tables` returns the lines that show the figures, `short_tables` those of bench/README.md."""
 
-    needs, how, short_how, most_rounds, has_quartiles = (), "", "", None, False
+    needs, how, short_how, most_rounds = (), "", "", None
+    # a section of many short runs tells quartiles, and sees by itself to runs that are robbed
+    is_by_runs = False
 
     def __init__(self, folder, is_quick):
         self.folder, self.is_quick = folder, is_quick
@@ -309,20 +310,20 @@ def short_table(head, rows, ways, base, digits, found):
 class Threads(Section):
     name, heading, needs = "threads", "How threads share a lock table: `bench/threads.c`", (LIBRARY,)
     how = (
-        "NORM: transactions, for one of a single thread by *mutex for each program* in the same milliseconds; thousands of transactions a"
+        "NORM: transactions, for one of a single thread by *mutex each program* in the same milliseconds; thousands of transactions a"
         " second; µs of processors; 50th and 99th of 100, µs; involuntary switches of a run and, as a mean, ticks stolen in it."
     )
-    short_how = "In brackets the quartiles."
-    has_quartiles, MILLISECONDS, THREADS = True, 25, (1, 2, 4, 8, 16)
+    short_how = "Of NORM the three quartiles."
+    is_by_runs, MILLISECONDS, THREADS = True, 25, (1, 2, 4, 8, 16)
     # workload, nanoseconds of work before each path, place of the threads
     LOADS = {("bank", "0", "pinned"): "bank"}
     WAYS = {
         "calls": "office, single calls",
         "programs": "**office, programs**",
-        "mutex-calls": "mutex for each call",
-        "mutex": "mutex for each program",
+        "mutex-calls": "mutex each call",
+        "mutex": "mutex each program",
         "adaptive": "adaptive mutex",
-        "barging": "barging futex mutex",
+        "barging": "barging mutex",
         "mcs": "MCS",
         "ccsynch": "CC-Synch",
         "server": "server thread",
@@ -331,7 +332,7 @@ class Threads(Section):
         "berkeley": "Berkeley DB",
     }
     # those that bench/README.md has
-    SHOWN = WAYS
+    SHOWN = ("calls", "programs", "mutex-calls", "mutex", "barging", "ccsynch", "server", "mutexes", "spins", "berkeley")
     # what is told of a run: the digits behind the point, and by how much it is divided
     NUMBERS = {"second": (0, 1000), "processor": (1, 1000), "median": (1, 1000), "99th": (1, 1000), "switches": (0,)}
 
@@ -347,7 +348,12 @@ class Threads(Section):
 
     def told(self, program, load, count, way):
         words = [program, way, load[0], str(count), *load[1:], str(self.few(self.MILLISECONDS))]
-        return {name: float(number) for name, number in re.findall(r"(\w+)=([\d.]+)", output_of(words))}
+        # a run in which a tick was stolen is made again, twice at most
+        for _ in range(3):
+            told = {name: float(number) for name, number in re.findall(r"(\w+)=([\d.]+)", output_of(words))}
+            if not told["stolen"]:
+                break
+        return told
 
     def rows(self, head, columns, cell, ways=WAYS):
         """A table with a row for each way, and columns of loads and numbers of threads by their titles."""
@@ -382,44 +388,26 @@ class Threads(Section):
     def short_tables(self, found):
         columns, short = self.columns({load: "" for load in self.LOADS}), found.medians()
         lines = self.shown("NORM, threads", columns, found, ("norm", 2))[1:]
+        del columns[str(self.THREADS[0])]
         return lines + self.shown("99th of 100/processors, µs", columns, short, ("99th", 0), ("processor", 1))
 
 
-class Work(Threads):
-    name, heading = "work", "Threads that work between calls: `bench/threads.c`"
-    short_how = "Work before each path, threads: NORM, to one thread that works too/99th of 100, µs."
-    SHOWN = ("calls", "programs", "mutex-calls", "mutex", "barging", "ccsynch", "server", "mutexes", "berkeley")
-    LOADS = {("bank", "500", "pinned"): "bank, 0.5 µs", ("bank", "2000", "pinned"): "bank, 2 µs"}
-
-    def short_tables(self, found):
-        columns = {f"{int(load[1]) / 1000:g} µs, {count}": (load, count) for load in self.LOADS for count in (4, 16)}
-        return self.shown("threads", columns, found.medians(), ("norm", 2), ("99th", 0))[1:]
-
-
-class OtherLoads(Threads):
+class Loads(Threads):
     name, heading = "loads", "Other loads of threads: `bench/threads.c`"
-    short_how = "NORM, to one thread that does the same/99th of 100, µs."
-    KINDS, WORK, SHOWN = ("hot", "reads", "own"), ("0", "500", "2000"), Work.SHOWN
-    LOADS = {(load, work, "pinned"): f"{load}, {int(work) / 1000:g} µs" for load, work in itertools.product(KINDS, WORK)}
+    short_how = "4 threads: NORM, to one thread that does the same/99th of 100, µs."
+    SHOWN = ("calls", "programs", "mutex-calls", "mutex", "barging", "ccsynch", "server", "mutexes")
+    LOADS = {
+        **{(load, "0", "pinned"): load for load in ("hot", "reads", "own")},
+        **{("bank", "0", place): place for place in ("free", "robbed")},
+        **{(load, work, "pinned"): f"{load}, {int(work) / 1000:g} µs" for work in ("500", "2000") for load in ("bank", "hot", "reads", "own")},
+    }
 
     def counts(self, load):
-        return self.THREADS if load[1] == "0" else (4,)
+        return (2, 4, 8) if load[2] == "robbed" else (4, 16) if load[0] == "bank" or load[1] == "0" else (4,)
 
     def short_tables(self, found):
-        columns = {load[0]: (load, 4) for load in self.LOADS if load[1] == "0"}
-        return self.shown("4 threads", columns, found.medians(), ("norm", 2), ("99th", 0))[1:]
-
-
-class Unpinned(Threads):
-    name, heading = "unpinned", "Threads on any processor: `bench/threads.c`"
-    short_how = "NORM/99th of 100, µs. *Robbed*: beside three processes that are never idle."
-    THREADS, MILLISECONDS, SHOWN = (2, 4, 8), 50, Work.SHOWN
-    LOADS = {("bank", "0", "free"): "unpinned", ("bank", "0", "robbed"): "robbed"}
-
-    def short_tables(self, found):
-        columns = self.columns({load: f"{told}, " for load, told in self.LOADS.items()})
-        del columns["unpinned, 2"], columns["unpinned, 8"]
-        return self.shown("threads", columns, found.medians(), ("norm", 2), ("99th", 0))[1:]
+        shown = {told: (load, 4) for load, told in self.LOADS.items() if load[0] == "bank" or load[1] == "0"}
+        return self.shown("way", shown, found.medians(), ("norm", 2), ("99th", 0))[1:]
 
 
 class Store(Section):
@@ -560,5 +548,5 @@ class Instructions(Section):
         return table(["calls", "instructions", "at most"], [[told, f"{int(a):,}", f"{int(b):,}"] for told, a, b in self.lines])
 
 
-SECTIONS = [Replay, Worst, Memory, Growth, Threads, Work, OtherLoads, Unpinned, Store, StoreInMemory, Waiting, Embedding, Instructions]
+SECTIONS = [Replay, Worst, Memory, Growth, Threads, Loads, Store, StoreInMemory, Waiting, Embedding, Instructions]
 

@@ -14,7 +14,7 @@
    `robbed`: free beside three processes that are never idle. A run lasts so long, behind some milliseconds; before and behind it one
    thread does the same for 5 ms by `mutex`. Prints the rate over the greater of these two, transactions a second, the time of one
    (median and 99th of 100) and its processor time, in ns; and the involuntary switches of the run, yields among them, and the ticks
-   that the host gave to others. Fails if money was made or lost.
+   that the host gave to others in all three. Fails if money was made or lost.
        ./embed && cc -O2 bench/threads.c -Iout -Lout -lpelgaisti -lpthread -o threads
        ./embed && cc -O2 -DBERKELEY_DB bench/threads.c -Iout -Lout -lpelgaisti -lpthread -ldb -o threads */
 #define _GNU_SOURCE
@@ -618,6 +618,6 @@ int main(int argc, char **argv) {
     norm = behind.made / behind.ns > before.made / before.ns ? behind.made / behind.ns : before.made / before.ns;
     printf("%s %s threads=%u work=%s %s norm=%.3f second=%.0f median=%.0f 99th=%.0f processor=%.0f switches=%.0f stolen=%.0f\n", of->name,
            argv[2], count, argv[4], argv[5], m.made / m.ns / norm, m.made / m.ns * 1e9, median, late,
-           m.used / m.made, m.switches, m.stolen);
+           m.used / m.made, m.switches, before.stolen + m.stolen + behind.stolen);
     return 0;
 }
