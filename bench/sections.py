@@ -367,7 +367,7 @@ class Threads(Section):
             told = [found.text(key, "norm", 2), *(found.medians().text(key, name, *of) for name, of in self.NUMBERS.items())]
             return "; ".join([*told, f"{found.mean(key, 'stolen'):.1f}"])
 
-        return [line for load, told in self.LOADS.items() for line in self.rows(told, self.columns({load: ""}), cell)][1:]
+        return self.rows("load, threads", self.columns({load: f"{told}, " for load, told in self.LOADS.items()}), cell)[1:]
 
     def counts(self, load):
         """The numbers of threads with which a load is measured."""
