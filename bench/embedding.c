@@ -1,8 +1,6 @@
-/* Times the lock table through pelgaisti.h: embedding FILE TIMES serves the rows of a trace on a new book so many times, then on
-   a new book with a mutex round each call, and in turn with these by the lock subsystem of Berkeley DB where it was built with
-   -DBERKELEY_DB. Prints the nanoseconds a call of the fastest time of each.
-       ./embed && cc -O2 bench/embedding.c -Iout -Lout -lpelgaisti -lpthread -o embedding
-       ./embed && cc -O2 -DBERKELEY_DB bench/embedding.c -Iout -Lout -lpelgaisti -lpthread -ldb -o embedding */
+/* Times the lock table through pelgaisti.h: embedding FILE TIMES serves the rows of a trace on a new book so many times, and in turn on
+   a new book with a mutex round each call. Prints the nanoseconds a call of the fastest time of each.
+       ./embed && cc -O2 bench/embedding.c -Iout -Lout -lpelgaisti -lpthread -o embedding */
 #define _DEFAULT_SOURCE
 #include "pelgaisti.h"
 #include <pthread.h>
@@ -85,80 +83,6 @@ static double serve_all(pthread_mutex_t *mutex) {
     return taken;
 }
 
-#ifdef BERKELEY_DB
-#include <db.h>
-
-/* Berkeley DB has no parent rule, no history, and no queue for a request that isn't to block: one that is denied is made again at
-   the session's polls. A transaction is a locker, and its end gives all its locks back at once. */
-typedef struct locker {
-    u_int32_t number;
-    int is_open, is_waiting;
-    row asked;
-} locker;
-
-static DB_ENV *environment;
-static locker lockers[PELGAISTI_MAX_SESSIONS + 1];
-
-static void open_environment(void) {
-    if (db_env_create(&environment, 0)) exit(7);
-    environment->set_lk_max_locks(environment, 200000);
-    environment->set_lk_max_objects(environment, 200000);
-    environment->set_lk_max_lockers(environment, 20000);
-    environment->set_lk_tablesize(environment, 131072);
-    environment->set_lk_detect(environment, DB_LOCK_YOUNGEST);
-    if (environment->open(environment, NULL, DB_PRIVATE | DB_INIT_LOCK | DB_THREAD | DB_CREATE, 0)) exit(7);
-}
-
-static void get(locker *l, const row *r) {
-    static const db_lockmode_t modes[] = {DB_LOCK_NG, DB_LOCK_IREAD, DB_LOCK_NG,  DB_LOCK_IWRITE, DB_LOCK_NG, DB_LOCK_READ,
-                                          DB_LOCK_NG, DB_LOCK_IWR,   DB_LOCK_NG,  DB_LOCK_NG,     DB_LOCK_NG, DB_LOCK_NG,
-                                          DB_LOCK_NG, DB_LOCK_NG,    DB_LOCK_NG,  DB_LOCK_WRITE};
-    DBT object;
-    DB_LOCK lock;
-    memset(&object, 0, sizeof object);
-    object.data = (void *)r->call.resource.numbers;
-    object.size = 4 * r->call.resource.level;
-    l->is_waiting = environment->lock_get(environment, l->number, DB_LOCK_NOWAIT, &object, modes[r->call.mode], &lock) != 0;
-    if (l->is_waiting) l->asked = *r;
-}
-
-static void end(locker *l) {
-    DB_LOCKREQ request;
-    memset(&request, 0, sizeof request);
-    request.op = DB_LOCK_PUT_ALL;
-    if (environment->lock_vec(environment, l->number, 0, &request, 1, NULL)) exit(8);
-    if (environment->lock_id_free(environment, l->number)) exit(8);
-    l->is_open = l->is_waiting = 0;
-}
-
-static double lock_all(void) {
-    double from = now();
-    for (size_t k = 0; k < rows; k++) {
-        locker *l = &lockers[all[k].session];
-        switch (all[k].call.op) {
-            case PELGAISTI_BEGIN:
-                if (!l->is_open && environment->lock_id(environment, &l->number)) exit(8);
-                l->is_open = 1;
-                break;
-            case PELGAISTI_LOCK:
-            case PELGAISTI_CONVERT:
-                if (l->is_open && !l->is_waiting) get(l, &all[k]);
-                break;
-            case PELGAISTI_POLL:
-                if (l->is_open && l->is_waiting) get(l, &l->asked);
-                break;
-            case PELGAISTI_RELEASE: exit(9); /* its locks are given back by handles, which this program doesn't keep */
-            default:
-                if (l->is_open) end(l);
-        }
-    }
-    double taken = now() - from;
-    for (int k = 1; k <= PELGAISTI_MAX_SESSIONS; k++)
-        if (lockers[k].is_open) end(&lockers[k]);
-    return taken;
-}
-#endif
-
 static void keep_least(double *least, double taken) {
     if (taken < *least) *least = taken;
 }
@@ -168,23 +92,12 @@ int main(int count, char **words) {
     double alone = 1e18, guarded = 1e18;
     if (count != 3) return 2;
     read_rows(words[1]);
-#ifdef BERKELEY_DB
-    double berkeley = 1e18;
-    open_environment();
-#endif
     for (int turn = atoi(words[2]); turn > 0 && rows > 0; turn--) {
         keep_least(&alone, serve_all(NULL));
         keep_least(&guarded, serve_all(&mutex));
-#ifdef BERKELEY_DB
-        keep_least(&berkeley, lock_all());
-#endif
     }
     printf("%.1f ns a call of pelgaisti_book_serve\n", alone / (double)rows);
     printf("%.1f ns with a mutex round each\n", guarded / (double)rows);
-#ifdef BERKELEY_DB
-    printf("%.1f ns by Berkeley DB\n", berkeley / (double)rows);
-    environment->close(environment, 0);
-#endif
     free(all);
     return 0;
 }

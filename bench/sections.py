@@ -7,12 +7,14 @@ import subprocess
 from pathlib import Path
 
 import replay
-import sharing
 import worst
 
 TOP = Path(__file__).resolve().parent.parent
 GLM = TOP / "crates/glm_main/out/glm_main"
 LIBRARY = TOP / "out/libpelgaisti.a"
+# how a program is built against it, and against the library of ./embed --try
+LINKED = [f"-I{TOP}/out", f"-L{TOP}/out", "-lpelgaisti"]
+UNPROVED = [f"-I{TOP}/out/try", f"-L{TOP}/out/try", "-lpelgaisti_unproved"]
 # --quick makes so many times fewer repetitions and rows
 LESS = 100
 
@@ -38,6 +40,8 @@ class Section:
     names; `tables` returns the lines that show the figures, `short_tables` those of bench/README.md."""
 
     needs, how, short_how, most_rounds = (), "", "", None
+    # a section of many short runs tells quartiles, and sees by itself to runs that are robbed
+    is_by_runs = False
 
     def __init__(self, folder, is_quick):
         self.folder, self.is_quick = folder, is_quick
@@ -52,7 +56,7 @@ class Section:
     def built(self, name, *flags, library=True):
         """The program that a source of bench/ makes, built against the library."""
         program = self.folder / name
-        linked = [f"-I{TOP}/out", f"-L{TOP}/out", "-lpelgaisti", "-lpthread"] if library else []
+        linked = [*LINKED, "-lpthread"] if library else []
         compiler = shlex.split(os.environ.get("CC", "cc"))
         # what goes wrong without the library of Berkeley DB is no message for a reader
         errors = subprocess.DEVNULL if flags else None
@@ -214,41 +218,6 @@ class Growth(Section):
         return table(["what, in C", *(f"{n:,} sessions" for n in self.SESSIONS)], shown)
 
 
-class Sharing(Section):
-    name, heading, needs = "sharing", "How threads share a lock table: `bench/sharing.c`", (LIBRARY,)
-    how = "Mutex/office. A call's time is that of the fastest of 9 turns; from a call to its answer, by 9 other turns."
-    short_how = "Mutex/office: a call in ns, in the fastest of 9 turns; the 99th of 100 answers in µs, in 9 other turns."
-    TURNS = 9
-    KINDS = ("own", "shared", "conflict")
-
-    def cases(self):
-        program, traces = self.built("sharing"), sharing.write_traces(self.folder, self.few(sharing.ROWS))
-        return [(case, lambda c=case: self.told(program, traces[c[0], c[2]], c[1])) for case in sharing.CASES]
-
-    def told(self, program, trace, threads):
-        found = sharing.by_c(program, trace, threads, self.few(self.TURNS))
-        return {f"{way} {name}": number for way, told in found.items() for name, number in told.items()}
-
-    def tables(self, found):
-        names = [("least", 0, 1), ("median", 0, 1), ("99th", 1, 1000), ("9999th", 0, 1000)]
-        rows = []
-        for case in sorted(sharing.CASES, key=lambda case: self.KINDS.index(case[0])):
-            shown = [found.pair(case, [f"mutex {name}", f"office {name}"], digits, per) for name, digits, per in names]
-            rows.append([case[0], f"{case[1]}, {case[2]}", *shown])
-        return table(["trace", "threads, sessions", "a call, ns", "median answer, ns", "99th of 100, µs", "9,999th of 10,000, µs"], rows)
-
-    def short_tables(self, found):
-        short = found.medians()
-
-        def cell(case):
-            told = [("least", 0, 1), ("99th", 1, 1000)]
-            return "; ".join(filter(None, (short.pair(case, [f"mutex {name}", f"office {name}"], *more) for name, *more in told)))
-
-        # a row for each number of threads and sessions, a column for each kind of trace
-        numbers = sorted({case[1:] for case in sharing.CASES})
-        return table(["threads, sessions", *self.KINDS], [[f"{t}, {s}", *(cell((kind, t, s)) for kind in self.KINDS)] for t, s in numbers])
-
-
 class Waiting(Section):
     name, heading, needs = "waiting", "How threads wait for locks: `bench/waiting.c`", (LIBRARY,)
     how = "Processor time and calls are those of a transaction; the time to the grant is that of requests that wait."
@@ -291,13 +260,27 @@ class Waiting(Section):
         return table(["threads, records, held", "way", *(told.get(name, name) for name in names)], rows)
 
 
-def side_by_side(count):
-    """Rows of 8 sessions, whose transactions are open side by side, of the kind `sharing.shared`."""
+def own(session, turn):
+    """The calls of a transaction in a database, a file and a page of the session's own."""
+    page = f"{session}/{turn % 4}/{turn % 64}"
+    above = [f"lock,{path},IX" for path in (session, f"{session}/{turn % 4}", page)]
+    return ["begin,,", *above, *(f"lock,{page}/{(turn * 7 + record) % 1000},X" for record in range(10)), "commit,,"]
+
+
+def shared(session, turn):
+    """The calls of a transaction in a page that all sessions share, on records of the session's own."""
+    numbers = [session * 1000 + (turn * 3 + record) % 1000 for record in range(4)]
+    records = [f"lock,1/1/1/{number},{'SX'[record % 2]}" for record, number in enumerate(numbers)]
+    return ["begin,,", "lock,1,IX", "lock,1/1,IX", "lock,1/1/1,IX", *records, "commit,,"]
+
+
+def transactions(kind, count, is_side_by_side):
+    """Rows of 8 sessions, of so many calls at least: one whole transaction behind another, or 8 of them open side by side."""
     made = turn = 0
     while made < count:
-        sessions = [["begin,,", *(",".join(call) for call in sharing.shared(session, turn))] for session in range(1, 9)]
-        for calls in zip(*sessions):
-            yield from (f"{session},{call}\n" for session, call in enumerate(calls, 1))
+        sessions = [[f"{session},{call}\n" for call in kind(session, turn)] for session in range(1, 9)]
+        for rows in zip(*sessions) if is_side_by_side else sessions:
+            yield from rows
         made += sum(map(len, sessions))
         turn += 1
 
@@ -324,52 +307,107 @@ def short_table(head, rows, ways, base, digits, found):
     return [line, "", *table([head, *(f"{count} threads" if count > 1 else "1 thread" for count in SHOWN_THREADS)], shown)]
 
 
-class Programs(Section):
-    name, heading, needs = "programs", "Programs and single calls: `bench/programs.c`", (LIBRARY,)
+class Threads(Section):
+    name, heading, needs = "threads", "How threads share a lock table: `bench/threads.c`", (LIBRARY,)
     how = (
-        "Thousands of transactions a second; the ratio of the medians to a book behind a mutex that is taken for each call; µs of processors"
-        " for a transaction; and the 99th of 100 times of one, in µs. The program says what each workload does, and each way to share."
+        "NORM: transactions, for one of a single thread by *mutex each program* in the same milliseconds; thousands of transactions a"
+        " second; µs of processors; 50th and 99th of 100, µs; involuntary switches of a run and, as a mean, ticks stolen in it."
     )
-    short_how = "The program says what each workload does, and each way to share."
-    TRANSACTIONS = 60_000
-    THREADS = (1, 2, 4, 8, 16)
-    WORKLOADS = ("bank", "audits", "own", "shared", "conflict", "scans", "zipf")
+    short_how = "Of NORM the three quartiles."
+    is_by_runs, MILLISECONDS, THREADS = True, 25, (1, 2, 4, 8, 16)
+    # workload, nanoseconds of work before each path, place of the threads
+    LOADS = {("bank", "0", "pinned"): "bank"}
     WAYS = {
-        "book": "mutex for each call",
-        "book-programs": "mutex for each program",
-        "office": "office, single calls",
-        "programs": "office, programs",
+        "calls": "office, single calls",
+        "programs": "**office, programs**",
+        "mutex-calls": "mutex each call",
+        "mutex": "mutex each program",
+        "adaptive": "adaptive mutex",
+        "barging": "barging mutex",
+        "mcs": "MCS",
+        "ccsynch": "CC-Synch",
+        "server": "server thread",
+        "mutexes": "16 books, mutexes",
+        "spins": "16 books, spin locks",
         "berkeley": "Berkeley DB",
     }
+    # those that bench/README.md has
+    SHOWN = ("calls", "programs", "mutex-calls", "mutex", "barging", "ccsynch", "server", "mutexes", "spins", "berkeley")
+    # what is told of a run: the digits behind the point, and by how much it is divided
+    NUMBERS = {"second": (0, 1000), "processor": (1, 1000), "median": (1, 1000), "99th": (1, 1000), "switches": (0,)}
 
     def cases(self):
         try:
-            program = self.built("programs", "-DBERKELEY_DB", "-ldb")
+            program = self.built("threads", "-DBERKELEY_DB", "-ldb")
         except subprocess.CalledProcessError:
-            program, self.WAYS = self.built("programs"), {way: told for way, told in self.WAYS.items() if way != "berkeley"}
-        keys = [(workload, threads, way) for workload in self.WORKLOADS for threads in self.THREADS for way in self.WAYS]
-        return [(key, lambda k=key: self.told(program, *k)) for key in keys if key[::2] != ("conflict", "berkeley")]
+            program, self.WAYS = self.built("threads"), {way: told for way, told in self.WAYS.items() if way != "berkeley"}
+        keys = [(load, count, way) for load in self.LOADS for count in self.counts(load) for way in self.WAYS]
+        # a transaction of several books can't wait for those of `hot`
+        asked = [key for key in keys if key[0][0] != "hot" or key[2] not in ("mutexes", "spins")]
+        return [(key, lambda k=key: self.told(program, *k)) for key in asked]
 
-    def told(self, program, workload, threads, way):
-        line = output_of([program, way, workload, str(threads), str(max(threads, self.few(self.TRANSACTIONS)))])
-        return {name: float(number) for name, number in re.findall(r"(\w+)=([\d.]+)", line)}
+    def told(self, program, load, count, way):
+        words = [program, way, load[0], str(count), *load[1:], str(self.few(self.MILLISECONDS))]
+        # a run in which a tick was stolen is made again, twice at most
+        for _ in range(3):
+            told = {name: float(number) for name, number in re.findall(r"(\w+)=([\d.]+)", output_of(words))}
+            if not told["stolen"]:
+                break
+        return told
 
-    def cell(self, found, key):
-        if (key, "second") not in found.found:
-            return ""
-        ratio = found.middle(key, "second") / found.middle((*key[:2], "book"), "second")
-        told = [found.text(key, "second", 0, 1000), f"{ratio:.2f}"]
-        return ", ".join([*told, *(f"{found.middle(key, name) / 1000:.1f}" for name in ("processor", "99th"))])
+    def rows(self, head, columns, cell, ways=WAYS):
+        """A table with a row for each way, and columns of loads and numbers of threads by their titles."""
+        rows = [[told, *(cell((*of, way)) for of in columns.values())] for way, told in self.WAYS.items() if way in ways]
+        return ["", *table([head, *columns], rows)]
 
     def tables(self, found):
-        lines = []
-        for workload in self.WORKLOADS:
-            rows = [[threads, *(self.cell(found, (workload, threads, way)) for way in self.WAYS)] for threads in self.THREADS]
-            lines += ["", *table([f"{workload}, threads", *self.WAYS.values()], rows)]
-        return lines[1:]
+        def cell(key):
+            if (key, "norm") not in found.found:
+                return "-"
+            told = [found.text(key, "norm", 2), *(found.medians().text(key, name, *of) for name, of in self.NUMBERS.items())]
+            return "; ".join([*told, f"{found.mean(key, 'stolen'):.1f}"])
+
+        return self.rows("load, threads", self.columns({load: f"{told}, " for load, told in self.LOADS.items()}), cell)[1:]
+
+    def counts(self, load):
+        """The numbers of threads with which a load is measured."""
+        return self.THREADS
+
+    def columns(self, loads):
+        return {f"{told}{count}": (load, count) for load, told in loads.items() for count in self.counts(load)}
+
+    def shown(self, head, columns, found, *told):
+        """The same with some of the numbers, of which `told` has the names and the digits behind the point."""
+
+        def cell(key):
+            shown = [(name, digits) for name, digits in told if (key, name) in found.found]
+            return "/".join(found.text(key, name, digits, 1 if name == "norm" else 1000) for name, digits in shown) or "-"
+
+        return self.rows(head, columns, cell, self.SHOWN)
 
     def short_tables(self, found):
-        return short_table("workload", {work: (work,) for work in self.WORKLOADS}, self.WAYS, "book", 0, found)
+        columns, short = self.columns({load: "" for load in self.LOADS}), found.medians()
+        lines = self.shown("NORM, threads", columns, found, ("norm", 2))[1:]
+        del columns[str(self.THREADS[0])]
+        return lines + self.shown("99th of 100/processors, µs", columns, short, ("99th", 0), ("processor", 1))
+
+
+class Loads(Threads):
+    name, heading = "loads", "Other loads of threads: `bench/threads.c`"
+    short_how = "4 threads: NORM, to one thread that does the same/99th of 100, µs."
+    SHOWN = ("calls", "programs", "mutex-calls", "mutex", "barging", "ccsynch", "server", "mutexes")
+    LOADS = {
+        **{(load, "0", "pinned"): load for load in ("hot", "reads", "own")},
+        **{("bank", "0", place): place for place in ("free", "robbed")},
+        **{(load, work, "pinned"): f"{load}, {int(work) / 1000:g} µs" for work in ("500", "2000") for load in ("bank", "hot", "reads", "own")},
+    }
+
+    def counts(self, load):
+        return (2, 4, 8) if load[2] == "robbed" else (4, 16) if load[0] == "bank" or load[1] == "0" else (4,)
+
+    def short_tables(self, found):
+        shown = {told: (load, 4) for load, told in self.LOADS.items() if load[0] == "bank" or load[1] == "0"}
+        return self.shown("way", shown, found.medians(), ("norm", 2), ("99th", 0))[1:]
 
 
 class Store(Section):
@@ -397,7 +435,7 @@ class Store(Section):
     def build(self, *flags):
         program = self.folder / "store"
         compiler = shlex.split(os.environ.get("CXX", "c++"))
-        linked = [f"-I{TOP}/out", f"-L{TOP}/out", "-lpelgaisti", "-lrocksdb", *flags, "-lpthread"]
+        linked = [*LINKED, "-lrocksdb", *flags, "-lpthread"]
         # what goes wrong without the library of Berkeley DB is no message for a reader
         errors = subprocess.DEVNULL if flags else None
         subprocess.run([*compiler, "-std=c++17", "-O2", TOP / "bench/store.cpp", *linked, "-o", program], check=True, stderr=errors)
@@ -469,24 +507,14 @@ class Embedding(Section):
         "own": "a database, a file and a page of one's own by IX, and 10 records by X",
         "shared": "the same with 4 records, the rest shared by all, whose transactions are open side by side",
     }
-    COLUMNS = {"book": "`pelgaisti_book_serve`", "mutex": "with a mutex round each call", "berkeley": "Berkeley DB"}
-
-    def build(self):
-        """The program with Berkeley DB, if that is there, or without."""
-        try:
-            program = self.built("embedding", "-DBERKELEY_DB", "-ldb")
-        except subprocess.CalledProcessError:
-            self.has_berkeley = False
-            return self.built("embedding")
-        self.has_berkeley = True
-        return program
+    COLUMNS = {"book": "`pelgaisti_book_serve`", "mutex": "with a mutex round each call"}
 
     def cases(self):
-        program, rows = self.build(), self.few(self.ROWS)
+        program, rows = self.built("embedding"), self.few(self.ROWS)
         traces = {case: self.folder / f"{case}.csv" for case in self.CASES}
         replay.write(traces["databases"], replay.uncontended(rows))
-        sharing.write_trace(traces["own"], "own", 8, rows)
-        replay.write(traces["shared"], side_by_side(rows))
+        replay.write(traces["own"], transactions(own, rows, False))
+        replay.write(traces["shared"], transactions(shared, rows, True))
         return [(case, lambda t=trace: self.told(program, t)) for case, trace in traces.items()]
 
     def told(self, program, trace):
@@ -494,10 +522,8 @@ class Embedding(Section):
         return dict(zip(self.COLUMNS, (float(line.split()[0]) for line in lines)))
 
     def tables(self, found):
-        shown = [name for name in self.COLUMNS if name != "berkeley" or self.has_berkeley]
-        rows = [[told, *(found.text(case, name, 1) for name in shown)] for case, told in self.CASES.items()]
-        note = [] if self.has_berkeley else ["", "Berkeley DB is left out, since a program that uses it isn't built here."]
-        return [*table(["rows", *(self.COLUMNS[name] for name in shown)], rows), *note]
+        rows = [[told, *(found.text(case, name, 1) for name in self.COLUMNS)] for case, told in self.CASES.items()]
+        return table(["rows", *self.COLUMNS.values()], rows)
 
 
 class Instructions(Section):
@@ -522,5 +548,5 @@ class Instructions(Section):
         return table(["calls", "instructions", "at most"], [[told, f"{int(a):,}", f"{int(b):,}"] for told, a, b in self.lines])
 
 
-SECTIONS = [Replay, Worst, Memory, Growth, Sharing, Programs, Store, StoreInMemory, Waiting, Embedding, Instructions]
+SECTIONS = [Replay, Worst, Memory, Growth, Threads, Loads, Store, StoreInMemory, Waiting, Embedding, Instructions]
 
