@@ -4,3 +4,4 @@ pub mod SameOffice
 pub mod PathTurns
 pub mod ListKinds
 pub mod ServedWithin
+pub mod Turns

@@ -15,10 +15,10 @@ IsNoBound calls locks rounds = (calls ≡ 0) ⊎ ((65535 < calls) ⊎ ((locks �
 
 -- the share has this bound, and nothing else has changed
 pub record HasBound (calls locks rounds : ℕ) (before after : SessionShare) : Type 0 where
-  pub bound : IsBoundOf calls locks rounds after.told.bound
+  pub bound : IsBoundOf calls locks rounds after.bound
   pub session : after.session ≡ before.session
   pub ended : after.ended ≡ before.ended
-  pub told : after.told.told ≡ before.told.told
+  pub told : after.told ≡ before.told
   pub office : after.office ≡ before.office
   pub handed : after.handed.items ≡ before.handed.items
   pub sessions : after.sessions ≡ before.sessions
@@ -27,4 +27,4 @@ pub record HasBound (calls locks rounds : ℕ) (before after : SessionShare) : T
 
 -- the session has entered at most as many calls as a pass within the share's bound may serve, and `own` more
 abbrev pub HasServedWithin : ℕ → SessionShare → SessionShare → Type 0
-HasServedWithin own before after = length (entered_since before.session after.session) ≤ most_of before.told.bound + own
+HasServedWithin own before after = length (entered_since before.session after.session) ≤ most_of before.bound + own

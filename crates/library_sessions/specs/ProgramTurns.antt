@@ -7,18 +7,14 @@ use Rattle.lock_programs.specs.Calls.{calls_of}
 use Rattle.lock_office.specs.ProgramBoards.{TicketView, program_object}
 use Rattle.lock_office.specs.Sessions.{IsIdle}
 use Rattle.lock_office.specs.ProgramTurns.{IsCalled}
-use Rattle.combining.specs.Calls.{IsAnsweredAt, IsCalling, IsWaitingOn}
-use Rattle.combining.specs.Waits.{IsWaitAfterTry, IsWaitAfterLook}
-use Rattle.combining.specs.declared.backoff.TheConstants.{TRIES_AT_ONCE}
-use Rattle.combining.specs.declared.backoff.Wait.{Wait}
+use Rattle.combining.specs.Calls.{IsAnsweredAt, IsCalling}
 use Rattle.library_books.specs.declared.program_numbers.ProgramNumbers.{ProgramNumbers}
 use Rattle.library_books.specs.declared.program_numbers.ProgramAnswerNumbers.{ProgramAnswerNumbers}
 use Rattle.library_sessions.specs.declared.session_share.SessionShare.{SessionShare}
 use Rattle.library_books.specs.declared.status.TheConstants.{NO_SUCH_OP}
-use Rattle.library_sessions.specs.declared.turn_calls.TheConstants.{NO_TURN}
 use Rattle.library_books.specs.Programs.{IsProgram, IsProgramFault, numbers_of_answer}
 use Rattle.library_sessions.specs.Sessions.{IsSameOffice}
-use Rattle.library_sessions.specs.Turns.{number_of_wait}
+use Rattle.library_sessions.specs.Turns.{IsTurnStarvedOf, IsTurnLateOf}
 
 -- the numbers encode a program, which makes a call
 abbrev pub IsOfCalls : ProgramNumbers → Program → Type 0
@@ -49,26 +45,12 @@ pub record IsProgramAnswered (before after : SessionShare) (program : Program) (
   pub idle : IsIdle after.session
   pub office : IsSameOffice before after
 
--- memory was refused in a pass of the session, and its program is pending: this one if it had none pending
-pub record IsProgramStarved (before after : SessionShare) (program : Program) : Type 0 where
-  pub published : before.session.pending ≡ None → IsCalling before.session after.session program
-  pub waits : before.session.pending ≢ None → IsWaitingOn before.session after.session
-  pub put_back : before.session.pending ≢ None → before.session.put_backs < after.session.put_backs
-  pub office : IsSameOffice before after
+-- what `Turns.antt` says of a call, of a program
+abbrev pub IsProgramStarved : SessionShare → SessionShare → Program → Type 0
+IsProgramStarved before after program = IsTurnStarvedOf (IsCalling before.session after.session program) before after
 
--- the program has no answer yet, behind `made` turns of at most `turns`. A session with nothing pending has tried to perform the program at
--- once in the first turns, and then published it; in an office with other sessions. If no turn was left, it has published the program, and one
--- that had it pending is unchanged. The number says what to do before the next turn
-pub record IsProgramLate (before after : SessionShare) (program : Program) (made turns number : ℕ) : Type 0 where
-  pub tried : made < turns → before.session.pending ≡ None → made < TRIES_AT_ONCE → (after.session ≡ before.session) × (2 ≤ before.sessions)
-      × ((wait : Wait) × IsWaitAfterTry wait × (number ≡ number_of_wait wait))
-  pub published : made < turns → before.session.pending ≡ None → TRIES_AT_ONCE ≤ made → IsCalling before.session after.session program × (2 ≤ before.sessions)
-      × ((wait : Wait) × IsWaitAfterLook 0 wait × (number ≡ number_of_wait wait))
-  pub waits : made < turns → before.session.pending ≢ None → IsWaitingOn before.session after.session
-      × ((wait : Wait) × IsWaitAfterLook made wait × (number ≡ number_of_wait wait))
-  pub last : turns ≤ made → (number ≡ NO_TURN) × (before.session.pending ≡ None → IsCalling before.session after.session program)
-      × (before.session.pending ≢ None → after.session ≡ before.session)
-  pub office : IsSameOffice before after
+abbrev pub IsProgramLate : SessionShare → SessionShare → Program → ℕ → ℕ → ℕ → Type 0
+IsProgramLate before after program = IsTurnLateOf (IsCalling before.session after.session program) before after
 
 -- these, of the program that the numbers encode
 abbrev pub IsRunAnswered : SessionShare → SessionShare → ProgramNumbers → ProgramAnswerNumbers → Type 0

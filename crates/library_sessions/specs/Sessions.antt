@@ -29,7 +29,7 @@ pub record IsSameOffice (before after : SessionShare) : Type 0 where
   pub sessions : after.sessions ≡ before.sessions
   pub mark : after.mark ≡ before.mark
   pub waker : after.waker ≡ before.waker
-  pub bound : after.told.bound ≡ before.told.bound
+  pub bound : after.bound ≡ before.bound
 
 -- the call that the numbers encode is published, as a program of this one call, and pending. 1: the call is listed, after one try or none, and
 -- the session counts all its calls as heard of. 2: the call is not listed after one try, which happens only in an office with other sessions

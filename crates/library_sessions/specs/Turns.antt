@@ -6,7 +6,7 @@ use Rattle.lock_office.specs.Sessions.{IsIdle}
 use Rattle.lock_office.specs.SingleCalls.{IsCalled, IsCalling, IsAnswered}
 use Rattle.lock_office.specs.ProgramTurns.{IsPendingSingle}
 use Rattle.combining.specs.Calls.{IsWaitingOn}
-use Rattle.combining.specs.Waits.{IsWaitAfterTry, IsWaitAfterLook}
+use Rattle.combining.specs.Waits.{IsWaitAfterLook, IsWaitAfterTurn}
 use Rattle.combining.specs.declared.backoff.TheConstants.{TRIES_AT_ONCE, LOOKS_PER_TRY}
 use Rattle.combining.specs.declared.backoff.Wait.{Wait}
 use Rattle.library_books.specs.declared.numbers.CallNumbers.{CallNumbers}
@@ -31,26 +31,30 @@ pub record IsCallAnswered (before after : SessionShare) (call : Call) (answer : 
   pub idle : IsIdle after.session
   pub office : IsSameOffice before after
 
--- memory was refused in a pass of the session, and its call is pending: this one if it had none pending
-pub record IsCallStarved (before after : SessionShare) (call : Call) : Type 0 where
-  pub published : before.session.pending ≡ None → IsCalling before.session after.session call
+-- memory was refused in a pass of the session, and its call is pending: if it had none pending, the one that it was given (`is_calling`)
+pub record IsTurnStarvedOf (is_calling : Type 0) (before after : SessionShare) : Type 0 where
+  pub published : before.session.pending ≡ None → is_calling
   pub waits : before.session.pending ≢ None → IsWaitingOn before.session after.session
   pub put_back : before.session.pending ≢ None → before.session.put_backs < after.session.put_backs
   pub office : IsSameOffice before after
 
 -- the call has no answer yet, behind `made` turns of at most `turns`. A session with no call pending has tried to perform the call at once in
--- the first turns, and then published it; in an office with other sessions. If no turn was left, it has published the call, and one that had it
--- pending is unchanged. The number says what to do before the next turn
-pub record IsCallLate (before after : SessionShare) (call : Call) (made turns number : ℕ) : Type 0 where
+-- the first turns, and then published it (`is_calling`); in an office with other sessions. If no turn was left, it has published the call, and
+-- one that had it pending is unchanged. The number says what to do before the next turn
+pub record IsTurnLateOf (is_calling : Type 0) (before after : SessionShare) (made turns number : ℕ) : Type 0 where
   pub tried : made < turns → before.session.pending ≡ None → made < TRIES_AT_ONCE → (after.session ≡ before.session) × (2 ≤ before.sessions)
-      × ((wait : Wait) × IsWaitAfterTry wait × (number ≡ number_of_wait wait))
-  pub published : made < turns → before.session.pending ≡ None → TRIES_AT_ONCE ≤ made → IsCalling before.session after.session call × (2 ≤ before.sessions)
-      × ((wait : Wait) × IsWaitAfterLook 0 wait × (number ≡ number_of_wait wait))
+  pub published : made < turns → before.session.pending ≡ None → TRIES_AT_ONCE ≤ made → is_calling × (2 ≤ before.sessions)
   pub waits : made < turns → before.session.pending ≢ None → IsWaitingOn before.session after.session
-      × ((wait : Wait) × IsWaitAfterLook made wait × (number ≡ number_of_wait wait))
-  pub last : turns ≤ made → (number ≡ NO_TURN) × (before.session.pending ≡ None → IsCalling before.session after.session call)
-      × (before.session.pending ≢ None → after.session ≡ before.session)
+  pub wait : made < turns → (wait : Wait) × IsWaitAfterTurn (before.session.pending ≡ None) made wait × (number ≡ number_of_wait wait)
+  pub last : turns ≤ made → (number ≡ NO_TURN) × (before.session.pending ≡ None → is_calling) × (before.session.pending ≢ None → after.session ≡ before.session)
   pub office : IsSameOffice before after
+
+-- these, of a call
+abbrev pub IsCallStarved : SessionShare → SessionShare → Call → Type 0
+IsCallStarved before after call = IsTurnStarvedOf (IsCalling before.session after.session call) before after
+
+abbrev pub IsCallLate : SessionShare → SessionShare → Call → ℕ → ℕ → ℕ → Type 0
+IsCallLate before after call = IsTurnLateOf (IsCalling before.session after.session call) before after
 
 -- these, of the call that the numbers encode
 abbrev pub IsTurnAnswered : SessionShare → SessionShare → CallNumbers → AnswerNumbers → Type 0

@@ -40,6 +40,6 @@ pub fn bound_passes(share: &mut SessionShare, calls: u32, locks: u32, rounds: u3
     let Some(bound) = bound_of(calls, locks, rounds) else {
         return NO_SUCH_COUNT;
     };
-    share.told.bound = bound;
+    share.bound = bound;
     OK
 }

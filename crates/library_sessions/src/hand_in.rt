@@ -65,6 +65,7 @@ fn take_in(share: Box<SessionShare>, to: &mut SessionShare) -> Result<(), Box<Se
         mark: _,
         ended: _,
         waker: _,
+        bound: _,
         told: _,
     } = Box::into_inner(share);
     to.handed.push_reserved(session.into_session());
@@ -128,6 +129,7 @@ fn finish(share: SessionShare, room: Box<Book>) -> Option<Box<Book>>
         mark: _,
         ended: _,
         waker: _,
+        bound: _,
         told: _,
     } = share;
     let mut all = handed;

@@ -63,7 +63,8 @@ fn share_of(
         mark,
         ended: EndedList::new(count),
         waker,
-        told: Counted::within(told, WHOLE_CALLS),
+        bound: WHOLE_CALLS,
+        told: Counted::new(told),
     };
     let boxed = Box::new(alloc, share)?;
     Ok(boxed)

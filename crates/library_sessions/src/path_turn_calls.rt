@@ -3,7 +3,7 @@
 ghost use Rattle.std.specs.Prelude.{◌≡◌, ◌≢◌, ◌+◌, ◌<◌, ◌≤◌, ◌⊎◌, if◌then◌else◌, true, false, None, length};
 ghost use Rattle.combining.specs.Calls.{IsWaitingOn};
 ghost use Rattle.combining.specs.Ended.{entered_since};
-ghost use Rattle.combining.specs.Waits.{IsWaitAfterTry, IsWaitAfterLook};
+ghost use Rattle.combining.specs.Waits.{IsWaitAfterTurn};
 ghost use Rattle.lock_office.specs.Sessions.{IsIdle};
 ghost use Rattle.lock_office.specs.SingleCalls.{IsCalled, IsCalling, IsAnswered};
 ghost use Rattle.lock_office.specs.Ended.{AreToldBy};
@@ -16,11 +16,11 @@ ghost use Rattle.library_sessions.specs.PathTurns.{IsPathEnded, HasPathLeft, IsP
 
 use crate::session_share::SessionShare;
 use crate::turn_calls::{NO_TURN, forget_told, publish_last, wait_number};
-use combining::{Answer, Nobody, TRIES_AT_ONCE};
+use combining::{Answer, TRIES_AT_ONCE};
 use library_books::numbers::{AnswerNumbers, read_mode, reply_numbers};
 use library_books::status::{NO_MEMORY, NO_SUCH_MODE, NOT_SERVED, OK, PENDING, RETIRED};
 use lock_desk::{Mode, Resource, grants, lock_of_level};
-use lock_office::{Counted, NextOfPath};
+use lock_office::{Counted, NextOfPath, Nobody};
 use lock_rules::Reply;
 
 /// A level was locked, and the next turn is to be made at once.
@@ -50,20 +50,27 @@ fn make_path_turn(
     ensures starved_on { result ≡ NextOfPath.Starved → share.old.session.pending ≢ None
         → IsWaitingOn share.old.session share.new.session × (share.old.session.put_backs < share.new.session.put_backs) }
     ensures tried { (w : _) → result ≡ NextOfPath.Wait w → share.old.session.pending ≡ None → made < TRIES_AT_ONCE
-        → (share.new.session ≡ share.old.session) × (1 < share.old.sessions) × IsWaitAfterTry w }
+        → (share.new.session ≡ share.old.session) × (1 < share.old.sessions) }
     ensures published { (w : _) → result ≡ NextOfPath.Wait w → share.old.session.pending ≡ None → TRIES_AT_ONCE ≤ made
-        → IsCalling share.old.session share.new.session (lock_of_level resource mode (locked + 1)) × (1 < share.old.sessions) × IsWaitAfterLook 0 w }
+        → IsCalling share.old.session share.new.session (lock_of_level resource mode (locked + 1)) × (1 < share.old.sessions) }
     ensures waits { (w : _) → result ≡ NextOfPath.Wait w → share.old.session.pending ≢ None
-        → IsWaitingOn share.old.session share.new.session × IsWaitAfterLook made w }
+        → IsWaitingOn share.old.session share.new.session }
+    ensures wait { (w : _) → result ≡ NextOfPath.Wait w → IsWaitAfterTurn (share.old.session.pending ≡ None) made w }
     ensures told { share.new.waker ≢ 0 → AreToldBy share.new.sessions share.new.session.front (entered_since share.old.session share.new.session) share.new.told.told.list }
     ensures few { HasServedWithin 1 share.old share.new }
     ensures same { IsSameOffice share.old share.new }
 {
     if share.waker == 0 {
-        let mut nobody = Counted::within(Nobody, share.told.bound);
-        return share
-            .session
-            .path_turn(&share.office, &resource, mode, locked, made, &mut nobody);
+        let mut nobody = Counted::new(Nobody);
+        return share.session.path_turn(
+            &share.office,
+            &resource,
+            mode,
+            locked,
+            made,
+            share.bound,
+            &mut nobody,
+        );
     }
     share.session.path_turn(
         &share.office,
@@ -71,6 +78,7 @@ fn make_path_turn(
         mode,
         locked,
         made,
+        share.bound,
         &mut share.told,
     )
 }

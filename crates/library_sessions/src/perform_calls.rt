@@ -20,7 +20,7 @@ use library_books::numbers::{AnswerNumbers, CallNumbers, PassNumbers, read_call,
 use library_books::status::{
     ELSEWHERE, NO_MEMORY, NO_ROOM, NO_SUCH_MODE, NO_SUCH_OP, OK, PENDING, RETIRED,
 };
-use lock_office::Session;
+use lock_office::{Counted, Nobody, Session, UNBOUNDED};
 use lock_rules::{Call, Reply};
 use std::alloc::Global;
 
@@ -95,7 +95,7 @@ fn make_call(share: &mut SessionShare, call: Call) -> Performed<Reply>
 {
     share
         .session
-        .perform_telling(&share.office, call, &mut share.told)
+        .perform(&share.office, call, UNBOUNDED, &mut share.told)
 }
 
 /// Performs the call, which the numbers encode, at once, as `make_call` does. Writes how many sessions are to be woken to `told`, also if
@@ -156,7 +156,10 @@ pub fn perform_at_once(
     if share.waker != 0 {
         return perform_waking(share, asked, call, pass, answer, told);
     }
-    let performed = share.session.perform(&share.office, call);
+    let mut nobody = Counted::new(Nobody);
+    let performed = share
+        .session
+        .perform(&share.office, call, UNBOUNDED, &mut nobody);
     *told = 0;
     write_performed(performed, pass, answer)
 }
@@ -197,7 +200,7 @@ pub fn perform_telling(
     };
     let performed = share
         .session
-        .perform_telling(&share.office, call, &mut ended);
+        .perform(&share.office, call, UNBOUNDED, &mut ended);
     let status = write_performed(performed, pass, answer);
     if status != ELSEWHERE {
         write_ended(&ended, list, count);

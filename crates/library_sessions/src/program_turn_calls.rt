@@ -6,11 +6,12 @@ ghost use Rattle.lock_programs.specs.declared.answer.Answer.{Answer as AnswerVal
 ghost use Rattle.lock_programs.specs.Calls.{calls_of};
 ghost use Rattle.combining.specs.declared.office.Answer.{Answer as AnswerOf};
 ghost use Rattle.lock_office.specs.Sessions.{IsIdle};
-ghost use Rattle.lock_office.specs.ProgramTurns.{IsCalled, IsAnswered};
+ghost use Rattle.lock_office.specs.ProgramTurns.{IsCalled, IsAnswered, HasStarvedCalling};
 ghost use Rattle.lock_office.specs.Ended.{AreToldBy};
-ghost use Rattle.combining.specs.Calls.{IsCalling, IsWaitingOn};
+ghost use Rattle.combining.specs.Calls.{IsCalling};
 ghost use Rattle.combining.specs.Ended.{entered_since};
-ghost use Rattle.combining.specs.Waits.{IsWaitAfterTry, IsWaitAfterLook};
+ghost use Rattle.combining.specs.Waits.{IsWaitAfterLook, IsWaitAfterTurn};
+ghost use Rattle.combining.specs.Turns.{HasAwaited, HasTurned};
 ghost use Rattle.library_sessions.specs.Bounds.{HasServedWithin};
 ghost use Rattle.library_books.specs.Programs.{numbers_of_answer};
 ghost use Rattle.library_sessions.specs.Sessions.{IsSameOffice, AreToWake};
@@ -19,7 +20,7 @@ ghost use Rattle.library_sessions.specs.ProgramTurns.{IsOfCalls, IsRunFault, IsP
 
 use crate::session_share::SessionShare;
 use crate::turn_calls::{NO_TURN, forget_told, wait_number};
-use combining::{LOOKS_PER_TRY, Next, Nobody, TRIES_AT_ONCE};
+use combining::{LOOKS_PER_TRY, Next};
 use library_books::program_numbers::{
     ProgramAnswerNumbers, ProgramNumbers, answer_numbers, read_program,
 };
@@ -27,7 +28,7 @@ use library_books::status::{
     NO_MEMORY, NO_SUCH_ABOVE, NO_SUCH_MODE, NO_SUCH_OP, NO_SUCH_START, NOT_SERVED, NOTHING_PENDING,
     OK, PENDING, RETIRED,
 };
-use lock_office::Counted;
+use lock_office::{Counted, Nobody};
 use lock_programs::{Answer, Program};
 
 /// The program that the numbers encode, if it makes a call. Else the status of the first test that fails: a program of no calls fails that of
@@ -79,58 +80,45 @@ fn make_turn(share: &mut SessionShare, program: &Program, made: u64) -> Next<Ans
     requires live { share.old.session.retired ≡ false }
     requires some { 0 < length (calls_of program.now) }
     requires none { share.old.told.told.list ≡ [] }
-    ensures called { (answer : _) → result ≡ Next.Answered answer → share.old.session.pending ≡ None
-        → IsCalled share.old.session share.new.session program.now answer.place answer.reply }
-    ensures answered { (answer : _) → result ≡ Next.Answered answer → share.old.session.pending ≢ None
-        → IsAnswered share.old.session share.new.session answer.place answer.reply }
-    ensures idle { (answer : _) → result ≡ Next.Answered answer → IsIdle share.new.session }
-    ensures starved { result ≡ Next.Starved → share.old.session.pending ≡ None → IsCalling share.old.session share.new.session program.now }
-    ensures starved_on { result ≡ Next.Starved → share.old.session.pending ≢ None
-        → IsWaitingOn share.old.session share.new.session × (share.old.session.put_backs < share.new.session.put_backs) }
-    ensures tried { (w : _) → result ≡ Next.Wait w → share.old.session.pending ≡ None → made < TRIES_AT_ONCE
-        → (share.new.session ≡ share.old.session) × (1 < share.old.sessions) × IsWaitAfterTry w }
-    ensures published { (w : _) → result ≡ Next.Wait w → share.old.session.pending ≡ None → TRIES_AT_ONCE ≤ made
-        → IsCalling share.old.session share.new.session program.now × (1 < share.old.sessions) × IsWaitAfterLook 0 w }
-    ensures waits { (w : _) → result ≡ Next.Wait w → share.old.session.pending ≢ None
-        → IsWaitingOn share.old.session share.new.session × IsWaitAfterLook made w }
+    ensures turned { HasTurned share.old.session share.new.session share.old.sessions made (IsCalled share.old.session share.new.session program.now)
+        (IsAnswered share.old.session share.new.session) (IsCalling share.old.session share.new.session program.now)
+        (HasStarvedCalling share.old.session share.new.session program.now) result }
+    ensures wait { (w : _) → result ≡ Next.Wait w → IsWaitAfterTurn (share.old.session.pending ≡ None) made w }
     ensures told { share.new.waker ≢ 0 → AreToldBy share.new.sessions share.new.session.front (entered_since share.old.session share.new.session) share.new.told.told.list }
     ensures few { HasServedWithin 1 share.old share.new }
     ensures same { IsSameOffice share.old share.new }
 {
     if share.waker == 0 {
-        let mut nobody = Counted::within(Nobody, share.told.bound);
+        let mut nobody = Counted::new(Nobody);
         return share
             .session
-            .run_turn(&share.office, program, made, &mut nobody);
+            .run_turn(&share.office, program, made, share.bound, &mut nobody);
     }
     share
         .session
-        .run_turn(&share.office, program, made, &mut share.told)
+        .run_turn(&share.office, program, made, share.bound, &mut share.told)
 }
 
 /// Makes one turn of the pending program, as `Session::run_look` does. In an office with a waker it lists whom to wake in the share.
 fn make_look(share: &mut SessionShare, looked: u64) -> Next<Answer>
     requires pending { share.old.session.pending ≢ None }
     requires none { share.old.told.told.list ≡ [] }
-    ensures answered { (answer : _) → result ≡ Next.Answered answer
-        → IsAnswered share.old.session share.new.session answer.place answer.reply }
-    ensures idle { (answer : _) → result ≡ Next.Answered answer → IsIdle share.new.session }
-    ensures starved { result ≡ Next.Starved
-        → IsWaitingOn share.old.session share.new.session × (share.old.session.put_backs < share.new.session.put_backs) }
-    ensures waits { (w : _) → result ≡ Next.Wait w
-        → IsWaitingOn share.old.session share.new.session × IsWaitAfterLook looked w }
+    ensures awaited { HasAwaited share.old.session share.new.session (IsAnswered share.old.session share.new.session) result }
     ensures others { (w : _) → result ≡ Next.Wait w → looked % LOOKS_PER_TRY ≡ 0 → 1 < share.old.sessions }
+    ensures wait { (w : _) → result ≡ Next.Wait w → IsWaitAfterLook looked w }
     ensures told { share.new.waker ≢ 0 → AreToldBy share.new.sessions share.new.session.front (entered_since share.old.session share.new.session) share.new.told.told.list }
     ensures few { HasServedWithin 0 share.old share.new }
     ensures same { IsSameOffice share.old share.new }
 {
     if share.waker == 0 {
-        let mut nobody = Counted::within(Nobody, share.told.bound);
-        return share.session.run_look(&share.office, looked, &mut nobody);
+        let mut nobody = Counted::new(Nobody);
+        return share
+            .session
+            .run_look(&share.office, looked, share.bound, &mut nobody);
     }
     share
         .session
-        .run_look(&share.office, looked, &mut share.told)
+        .run_look(&share.office, looked, share.bound, &mut share.told)
 }
 
 /// Publishes the program of a session that has none pending, and may make one.

@@ -21,7 +21,7 @@ use library_books::status::{
     ELSEWHERE, NO_MEMORY, NO_ROOM, NO_SUCH_MODE, NO_SUCH_OP, NOT_SERVED, NOTHING_PENDING, OK,
     OTHER_OFFICE, PENDING, RETIRED,
 };
-use lock_office::{Counted, Ended, Posted, Turn};
+use lock_office::{Counted, Ended, Nobody, Posted, Turn, UNBOUNDED};
 use std::alloc::Global;
 
 /// The session's record is on the publication list.
@@ -68,7 +68,7 @@ pub fn publish(share: &mut SessionShare, asked: &CallNumbers, posted: &mut u32) 
 
 /// Writes the numbers of a pass. Returns the status of the turn.
 fn write_turn(turn: Turn, pass: &mut PassNumbers) -> u32
-    ensures ok { result ≡ OK → turn ≡ Turn.Pass pass.new.served (pass.new.starved == 1) }
+    ensures ok { result ≡ OK → (left : _) × (turn ≡ Turn.Pass pass.new.served (pass.new.starved == 1) left) }
     ensures starved { result ≡ OK → pass.new.starved ≤ 1 }
     ensures failed { result ≢ OK → (turn ≡ Turn.Elsewhere) × (pass.new ≡ pass.old) }
     ensures statuses { (result ≡ OK) ⊎ (result ≡ ELSEWHERE) }
@@ -78,6 +78,7 @@ fn write_turn(turn: Turn, pass: &mut PassNumbers) -> u32
         Turn::Pass {
             served,
             starved: true,
+            ..
         } => {
             *pass = PassNumbers { served, starved: 1 };
             OK
@@ -85,6 +86,7 @@ fn write_turn(turn: Turn, pass: &mut PassNumbers) -> u32
         Turn::Pass {
             served,
             starved: false,
+            ..
         } => {
             *pass = PassNumbers { served, starved: 0 };
             OK
@@ -94,21 +96,24 @@ fn write_turn(turn: Turn, pass: &mut PassNumbers) -> u32
 
 /// Tries once to become the combiner, and makes a pass if that succeeds. In an office with a waker it lists whom to wake in the share.
 fn make_pass(share: &mut SessionShare) -> Turn
-    ensures pass { (served : _) (starved : _) → result ≡ Turn.Pass served starved → IsPassed share.old.session share.new.session served }
-    ensures starved { (served : _) (starved : _) → result ≡ Turn.Pass served starved → IsTrue starved ↔ (share.old.session.put_backs < share.new.session.put_backs) }
+    ensures pass { (served : _) (starved left : _) → result ≡ Turn.Pass served starved left → IsPassed share.old.session share.new.session served }
+    ensures starved { (served : _) (starved left : _) → result ≡ Turn.Pass served starved left → IsTrue starved ↔ (share.old.session.put_backs < share.new.session.put_backs) }
     ensures rises { (j : _) → heard_from share.old.session j ≤ heard_from share.new.session j }
     ensures calls { HasCallsOf share.new.session.front share.new.session }
-    ensures own { (served : _) → result ≡ Turn.Pass served false → share.old.session.pending ≢ None → IsPendingServed share.new.session }
-    ensures heard { (served j : _) → result ≡ Turn.Pass served false → 0 < j → j ≤ share.old.sessions
+    ensures own { (served : _) (left : _) → result ≡ Turn.Pass served false left → share.old.session.pending ≢ None → IsPendingServed share.new.session }
+    ensures heard { (served j : _) (left : _) → result ≡ Turn.Pass served false left → 0 < j → j ≤ share.old.sessions
         → heard_from share.old.session j ≤ length (calls_of j share.new.session.front) }
     ensures told { share.new.waker ≢ 0 → AreToldBy share.new.sessions share.new.session.front (entered_since share.old.session share.new.session) share.new.told.told.list }
     ensures same { IsSameOffice share.old share.new }
     ensures elsewhere { result ≡ Turn.Elsewhere → IsElsewhere share.old share.new × (share.new.told.told.list ≡ []) }
 {
     if share.waker == 0 {
-        return share.session.serve(&share.office);
+        let mut nobody = Counted::new(Nobody);
+        return share.session.serve(&share.office, UNBOUNDED, &mut nobody);
     }
-    share.session.serve_telling(&share.office, &mut share.told)
+    share
+        .session
+        .serve(&share.office, UNBOUNDED, &mut share.told)
 }
 
 /// Makes a pass as `make_pass` does. Writes how many sessions are to be woken to `told`.
@@ -178,7 +183,7 @@ pub fn serve_telling(
     let Some(mut ended) = share.ended.take(alloc) else {
         return NO_MEMORY;
     };
-    let turn = share.session.serve_telling(&share.office, &mut ended);
+    let turn = share.session.serve(&share.office, UNBOUNDED, &mut ended);
     let status = write_turn(turn, pass);
     if status == OK {
         write_ended(&ended, list, count);

@@ -5,7 +5,7 @@ ghost use Rattle.lock_rules.specs.declared.calls.TheConstants.{MAX_SESSIONS};
 ghost use Rattle.lock_office.specs.Sessions.{IsSessionOf, HasNothingPending};
 
 use crate::ended_list::EndedList;
-use lock_office::{Counted, Ended, Office, Session, Ticket};
+use lock_office::{Counted, Ended, Office, PassBound, Session, Ticket};
 use std::sync::Arc;
 
 /// A session and its share of the office.
@@ -25,6 +25,8 @@ pub struct SessionShare {
     pub ended: EndedList,
     /// The address of the office's waker, or 0 if it has none.
     pub waker: u64,
+    /// How much a pass in a whole call of the session serves at most.
+    pub bound: PassBound,
     /// The sessions whose wait the session's last pass has ended. In an office without a waker it has no room and stays empty.
     pub told: Counted<Ended>,
     ghost ours: { IsSessionOf office.value session },

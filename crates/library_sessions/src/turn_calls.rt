@@ -5,25 +5,25 @@ ghost use Rattle.lock_rules.specs.declared.calls.Call.{Call as CallValue};
 ghost use Rattle.lock_rules.specs.declared.calls.Reply.{Reply as ReplyValue};
 ghost use Rattle.combining.specs.declared.office.Answer.{Answer};
 ghost use Rattle.lock_office.specs.Sessions.{IsIdle};
-ghost use Rattle.lock_office.specs.SingleCalls.{IsCalled, IsCalling, IsAnswered};
+ghost use Rattle.lock_office.specs.SingleCalls.{IsCalled, IsCalling, IsAnswered, HasStarvedCalling};
 ghost use Rattle.lock_office.specs.ProgramTurns.{HasSeveralPending};
 ghost use Rattle.lock_office.specs.Ended.{AreToldBy};
-ghost use Rattle.combining.specs.Calls.{IsWaitingOn};
 ghost use Rattle.combining.specs.Ended.{entered_since};
-ghost use Rattle.combining.specs.Waits.{IsWaitAfterTry, IsWaitAfterLook};
+ghost use Rattle.combining.specs.Waits.{IsWaitAfterLook, IsWaitAfterTurn};
+ghost use Rattle.combining.specs.Turns.{HasAwaited, HasTurned};
 ghost use Rattle.library_sessions.specs.Bounds.{HasServedWithin};
 ghost use Rattle.library_books.specs.Numbers.{IsCall, IsCallFault, numbers_of_reply};
 ghost use Rattle.library_sessions.specs.Sessions.{IsSameOffice, AreToWake};
 ghost use Rattle.library_sessions.specs.Turns.{number_of_wait, IsCallAnswered, IsCallStarved, IsCallLate, IsTurnAnswered, IsTurnStarved, IsTurnMade, IsLookAnswered, IsLookStarved, IsLookMade};
 
 use crate::session_share::SessionShare;
-use combining::{LOOKS_PER_TRY, Next, Nobody, TRIES_AT_ONCE, Told, Wait};
+use combining::{LOOKS_PER_TRY, Next, Told, Wait};
 use library_books::numbers::{AnswerNumbers, CallNumbers, read_call, reply_numbers};
 use library_books::status::{
     NO_MEMORY, NO_SUCH_MODE, NO_SUCH_OP, NOT_SERVED, NOTHING_PENDING, OK, PENDING, RETIRED,
 };
 use lock_desk::Book;
-use lock_office::Counted;
+use lock_office::{Counted, Nobody};
 use lock_rules::{Call, Reply};
 use programs::Programs;
 
@@ -87,31 +87,23 @@ pub fn forget_told(share: &mut SessionShare)
 fn make_turn(share: &mut SessionShare, call: &Call, made: u64) -> Next<Reply>
     requires live { share.old.session.retired ≡ false }
     requires none { share.old.told.told.list ≡ [] }
-    ensures called { (answer : _) → result ≡ Next.Answered answer → share.old.session.pending ≡ None
-        → IsCalled share.old.session share.new.session call.now answer.place answer.reply }
-    ensures answered { (answer : _) → result ≡ Next.Answered answer → share.old.session.pending ≢ None
-        → IsAnswered share.old.session share.new.session answer.place answer.reply }
-    ensures idle { (answer : _) → result ≡ Next.Answered answer → IsIdle share.new.session }
-    ensures starved { result ≡ Next.Starved → share.old.session.pending ≡ None → IsCalling share.old.session share.new.session call.now }
-    ensures starved_on { result ≡ Next.Starved → share.old.session.pending ≢ None
-        → IsWaitingOn share.old.session share.new.session × (share.old.session.put_backs < share.new.session.put_backs) }
-    ensures tried { (w : _) → result ≡ Next.Wait w → share.old.session.pending ≡ None → made < TRIES_AT_ONCE
-        → (share.new.session ≡ share.old.session) × (1 < share.old.sessions) × IsWaitAfterTry w }
-    ensures published { (w : _) → result ≡ Next.Wait w → share.old.session.pending ≡ None → TRIES_AT_ONCE ≤ made
-        → IsCalling share.old.session share.new.session call.now × (1 < share.old.sessions) × IsWaitAfterLook 0 w }
-    ensures waits { (w : _) → result ≡ Next.Wait w → share.old.session.pending ≢ None
-        → IsWaitingOn share.old.session share.new.session × IsWaitAfterLook made w }
+    ensures turned { HasTurned share.old.session share.new.session share.old.sessions made (IsCalled share.old.session share.new.session call.now)
+        (IsAnswered share.old.session share.new.session) (IsCalling share.old.session share.new.session call.now)
+        (HasStarvedCalling share.old.session share.new.session call.now) result }
+    ensures wait { (w : _) → result ≡ Next.Wait w → IsWaitAfterTurn (share.old.session.pending ≡ None) made w }
     ensures told { share.new.waker ≢ 0 → AreToldBy share.new.sessions share.new.session.front (entered_since share.old.session share.new.session) share.new.told.told.list }
     ensures few { HasServedWithin 1 share.old share.new }
     ensures same { IsSameOffice share.old share.new }
 {
     if share.waker == 0 {
-        let mut nobody = Counted::within(Nobody, share.told.bound);
-        return share.session.turn(&share.office, call, made, &mut nobody);
+        let mut nobody = Counted::new(Nobody);
+        return share
+            .session
+            .turn(&share.office, call, made, share.bound, &mut nobody);
     }
     share
         .session
-        .turn(&share.office, call, made, &mut share.told)
+        .turn(&share.office, call, made, share.bound, &mut share.told)
 }
 
 /// Makes one turn of the pending call, as `Session::look` does. In an office with a waker it lists whom to wake in the share.
@@ -119,23 +111,22 @@ fn make_turn(share: &mut SessionShare, call: &Call, made: u64) -> Next<Reply>
 fn make_look(share: &mut SessionShare, looked: u64) -> Next<Reply>
     requires pending { share.old.session.pending ≢ None }
     requires none { share.old.told.told.list ≡ [] }
-    ensures answered { (answer : _) → result ≡ Next.Answered answer
-        → IsAnswered share.old.session share.new.session answer.place answer.reply }
-    ensures idle { (answer : _) → result ≡ Next.Answered answer → IsIdle share.new.session }
-    ensures starved { result ≡ Next.Starved
-        → IsWaitingOn share.old.session share.new.session × (share.old.session.put_backs < share.new.session.put_backs) }
-    ensures waits { (w : _) → result ≡ Next.Wait w
-        → IsWaitingOn share.old.session share.new.session × IsWaitAfterLook looked w }
+    ensures awaited { HasAwaited share.old.session share.new.session (IsAnswered share.old.session share.new.session) result }
     ensures others { (w : _) → result ≡ Next.Wait w → looked % LOOKS_PER_TRY ≡ 0 → 1 < share.old.sessions }
+    ensures wait { (w : _) → result ≡ Next.Wait w → IsWaitAfterLook looked w }
     ensures told { share.new.waker ≢ 0 → AreToldBy share.new.sessions share.new.session.front (entered_since share.old.session share.new.session) share.new.told.told.list }
     ensures few { HasServedWithin 0 share.old share.new }
     ensures same { IsSameOffice share.old share.new }
 {
     if share.waker == 0 {
-        let mut nobody = Counted::within(Nobody, share.told.bound);
-        return share.session.look(&share.office, looked, &mut nobody);
+        let mut nobody = Counted::new(Nobody);
+        return share
+            .session
+            .look(&share.office, looked, share.bound, &mut nobody);
     }
-    share.session.look(&share.office, looked, &mut share.told)
+    share
+        .session
+        .look(&share.office, looked, share.bound, &mut share.told)
 }
 
 /// Publishes the call of a session that has none pending, and may make one.
@@ -186,30 +177,6 @@ fn turn_of(
     write_next(next, answer, wait)
 }
 
-/// As `turn_of`, in an office with a waker. It stands apart, so that an office without one pays for a test alone.
-#[inline(never)]
-fn turn_waking(
-    share: &mut SessionShare,
-    call: &Call,
-    made: u64,
-    turns: u64,
-    answer: &mut AnswerNumbers,
-    wait: &mut u32,
-    told: &mut usize,
-) -> u32
-    requires live { share.old.session.retired ≡ false }
-    ensures ok { result ≡ OK → IsCallAnswered share.old share.new call.now answer.new }
-    ensures memory { result ≡ NO_MEMORY → IsCallStarved share.old share.new call.now }
-    ensures late { result ≡ NOT_SERVED → IsCallLate share.old share.new call.now made turns wait.new }
-    ensures told { AreToWake share.old share.new told.new }
-    ensures few { HasServedWithin 1 share.old share.new }
-    ensures failed { result ≢ OK → answer.new ≡ answer.old }
-    ensures unread { result ≢ NOT_SERVED → wait.new ≡ wait.old }
-    ensures statuses { (result ≡ OK) ⊎ ((result ≡ NO_MEMORY) ⊎ (result ≡ NOT_SERVED)) }
-{
-    turn_of(share, call, made, turns, answer, wait, told)
-}
-
 /// Makes turn number `made` of the call that the numbers encode, as `turn_of` does. A session that has another call pending before the first
 /// turn is refused.
 pub fn turn(
@@ -244,9 +211,6 @@ pub fn turn(
     }
     if made == 0 && !share.session.is_idle() {
         return PENDING;
-    }
-    if share.waker != 0 {
-        return turn_waking(share, &call, made, turns, answer, wait, told);
     }
     turn_of(share, &call, made, turns, answer, wait, told)
 }

@@ -19,12 +19,8 @@ use Rattle.lock_desk.specs.Paths.{lock_of_level}
 use Rattle.publication.specs.Views.{asks}
 use Rattle.publication.specs.Boards.{publishing, enlisted, tried}
 use Rattle.publication.specs.declared.board.Posted.{Posted}
-use Rattle.combining.specs.Sessions.{HasTriedToList}
 use Rattle.combining.specs.Calls as any
-use Rattle.combining.specs.declared.office.Turn.{Turn}
-use Rattle.combining.specs.declared.office.Turn.TheVariants.{Elsewhere, Pass}
 use Rattle.combining.specs.declared.office.perform.Performed.{Performed}
-use Rattle.combining.specs.declared.calling.Called.{Called}
 use Rattle.combining.specs.declared.calling.Next.{Next}
 use Rattle.combining.proofs.EndedWaits.{split-at}
 use Rattle.lock_office.specs.Paths.{rest_of_path}
@@ -32,7 +28,7 @@ use Rattle.lock_office.specs.declared.session.Session.TheInside.{Inside}
 use Rattle.lock_office.specs.declared.session.descending.NextOfPath.{NextOfPath}
 use Rattle.lock_office.specs.inner.Sessions.{MakesACall, IsReadable}
 use Rattle.lock_office.specs.ProgramBoards.{TicketView, Pending, ProgramEntry, program_object, IsLegal}
-use Rattle.lock_office.specs.Sessions.{IsPassed, IsPerformed}
+use Rattle.lock_office.specs.Sessions.{IsPerformed}
 use Rattle.lock_office.specs.SingleCalls.{CallAnswer as Answer, MakesOneCall, IsLastReply, IsAnswered}
 use Rattle.lock_office.proofs.OneReplies.{some-replies, one-reply}
 
@@ -147,20 +143,6 @@ asked-or p (Some r) = r.call
 pub asks-same : (p q : Program) (a b : ℕ) (o : Option Pending) → o ≡ Some (asks p a) → o ≡ Some (asks q b) → q ≡ p
 asks-same p q a b o is also = sym (ap (asked-or p) (sym is ∙ also))
 
--- one that tried to have its call listed
-pub tried-same : (s t : TicketView) → HasTriedToList s t → t.pending ≡ s.pending
-tried-same s t h = ⊎_elim
-    (λ a. ⊎_elim (λ e. ap (λ (x : TicketView). x.pending) e) (λ e. ap (λ (x : TicketView). x.pending) e) a.1)
-    (λ b. ap (λ (x : TicketView). x.pending) b.1) h
-
--- one that made a pass
-pub passed-same : (s t : TicketView) (n : ℕ) → IsPassed s t n → t.pending ≡ s.pending
-passed-same s t n h = ap (λ (x : TicketView). x.pending) h.session ∙ tried-same s h.between h.is_tried
-
-pub turn-cases : {X : Type 0} (turn : Turn) → (turn ≡ Elsewhere → X) → ((n : ℕ) (b : Bool) → turn ≡ Pass n b → X) → X
-turn-cases Elsewhere f g = f refl
-turn-cases (Pass n b) f g = g n b refl
-
 -- What is said of an outcome is said of its parts.
 
 pub read-performed : (P : Answer → ℕ → Bool → Type 0) (x y : Answer) (n m : ℕ) (b d : Bool) → Performed.Answered x n b ≡ Performed.Answered y m d → P x n b → P y m d
@@ -172,9 +154,6 @@ read-performed P x y n m b d is h =
 
 pub read-next : (P : Answer → Type 0) (x y : Answer) → Next.Answered x ≡ Next.Answered y → P x → P y
 read-next P x y is h = let e : x ≡ y = cc in subst P e h
-
-pub read-called : (P : Answer → Type 0) (x y : Answer) → Called.Answered x ≡ Called.Answered y → P x → P y
-read-called P x y is h = let e : x ≡ y = cc in subst P e h
 
 pub read-path : (P : ℕ → Answer → Type 0) (n m : ℕ) (x y : Answer) → NextOfPath.Performed n x ≡ NextOfPath.Performed m y → P n x → P m y
 read-path P n m x y is h = let e : n ≡ m = cc in let f : x ≡ y = cc in subst (λ (k : ℕ). P k y) e (subst (λ (a : Answer). P n a) f h)

@@ -105,8 +105,8 @@ pub fn sessions_are_told_what_goes_together()
     laws::refusals_keep_the_state();
 }
 
-/// Why a session that waits may sleep until a pass tells it. A call that tells (`serve_telling`, `serve_bounded`, `perform_telling`,
-/// `call`, `resume`) tells each session whose wait was ended by a call of a program that the call's passes have entered, wherever in the
+/// Why a session that waits may sleep until a pass tells it. A call that tells (`serve`, `perform`, `call`, `resume`, each
+/// with a list of whom to tell) tells each session whose wait was ended by a call of a program that the call's passes have entered, wherever in the
 /// program that call stands: also one whose request came to wait in the same pass, and also if memory was refused. A told session that
 /// has made no call since its wait ended learns by its next poll how it has ended: `Clear` or `Deadlock`, whatever others call in between.
 pub fn no_wake_up_is_lost()

@@ -28,8 +28,8 @@ mod single;
 pub mod told_laws;
 
 pub use combining::{
-    BoundedTurn, CloseFault, Ended, Nobody, OpenFault, PassBound, Posted, Told, Turn, Wait,
-    back_off, call, look, resume, turn,
+    CloseFault, Ended, Nobody, OpenFault, PassBound, Posted, Told, Turn, UNBOUNDED, Wait, back_off,
+    call, look, resume, turn,
 };
 pub use dump::dump_book;
 pub use has_book::HasBook;
@@ -56,11 +56,8 @@ pub type CallAnswer = combining::Answer<Reply>;
 /// The outcome of one call of `Office::perform`.
 pub type Performed = combining::Performed<ProgramAnswer>;
 
-/// The outcome of one turn of a program.
+/// The outcome of one turn of a program, and of `call` and `resume`.
 pub type Next = combining::Next<ProgramAnswer>;
-
-/// The outcome of `call` and `resume`.
-pub type Called = combining::Called<ProgramAnswer>;
 
 /// A piece of the history that a session took: its lines are the calls of the programs with their replies.
 pub type HistoryPiece = combining::HistoryPiece<Entry>;

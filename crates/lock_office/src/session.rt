@@ -3,11 +3,11 @@
 //! Its single calls are those of `combining`, in its files `performing.rt`, `turning.rt`, `calling.rt` and `looking.rt`, and are answered with
 //! the place of the call in the history of calls, and the reply. `running.rt` makes a whole program, turn by turn. `descending.rt` goes down a
 //! path, by a program of several calls. `dumping.rt` copies the lock table, `counters.rt` tells its counters, its gauges and the office's
-//! passes. `bounding.rt` makes a bounded pass. `sleeping.rt` is for callers whose threads park by themselves.
+//! passes. `sleeping.rt` is for callers whose threads park by themselves.
 //!
 //! What is pending may be a program of several calls. A call that takes its answer as that of a single call tells the last reply and its place.
 
-ghost use Rattle.std.specs.Prelude.{◌≡◌, ◌≢◌, ◌⊎◌, ◌+◌, ◌-◌, ◌^◌, ◌<◌, ◌≤◌, ◌↔◌, ◌∷◌, ◌++◌, [], true, false, IsTrue, None, Some, Ok, IfOk, IfErr, IfSome, IfNone, List, length, slice_index, vec_len, min, max};
+ghost use Rattle.std.specs.Prelude.{◌≡◌, ◌≢◌, ◌⊎◌, ◌+◌, ◌-◌, ◌*◌, ◌^◌, ◌<◌, ◌≤◌, ◌↔◌, ◌∷◌, ◌++◌, [], true, false, IsTrue, None, Some, Ok, IfOk, IfErr, IfSome, IfNone, List, length, slice_index, vec_len, min, max};
 ghost use mathlib.Core.List.{IsPrefix};
 ghost use Rattle.sequential.specs.Histories.{calls_of as calls_of_session};
 ghost use Rattle.publication.specs.Kinds.{longer, maxes};
@@ -17,12 +17,13 @@ ghost use Rattle.lock_programs.specs.Answers.{replies_of};
 ghost use Rattle.lock_rules.specs.declared.calls.Reply.{Reply as ReplyValue};
 ghost use Rattle.combining.specs.Sessions.{HasTriedToList};
 ghost use Rattle.combining.specs.Ended.{AreToldBy, HasRoom, entered_since};
+ghost use Rattle.combining.specs.Rounds.{IsBound, IsUnmet, AreRounds, IsFull};
+ghost use Rattle.lock_office.specs.Weights.{locks_given_back};
 ghost use Rattle.lock_office.specs.ProgramBoards.{IsLegal, flat_history};
 ghost use Rattle.lock_office.specs.Seen.{number_of_calls};
 ghost use Rattle.lock_office.specs.Sessions.{IsSessionOf, IsIdle, IsPendingServed, IsPassed, HasTakenPiece};
 ghost use Rattle.lock_office.specs.SingleCalls.{MakesOneCall, IsCollected};
 
-mod bounding;
 mod calling;
 mod counters;
 mod counting;
@@ -37,7 +38,7 @@ mod sleeping;
 mod turning;
 
 use crate::{CallAnswer as Answer, HistoryPiece, Office, Ticket};
-use combining::{Nobody, Posted, Told, Turn};
+use combining::{PassBound, Posted, Told, Turn};
 pub use counting::Counted;
 use counting::seen_behind;
 pub use descending::NextOfPath;
@@ -169,46 +170,36 @@ impl Session {
         office.publish(&mut self.session, asked)
     }
 
-    /// Serves, as `Office::serve` does.
-    pub fn serve(&mut self, office: &Office) -> Turn
-        requires ours { IsSessionOf office.now self.old }
-        ensures ours { IsSessionOf office.now self.new }
-        ensures elsewhere { result ≡ Turn.Elsewhere → HasTriedToList self.old self.new × (1 < office.now.sessions) }
-        ensures pass { (served : _) (starved : _) → result ≡ Turn.Pass served starved → IsPassed self.old self.new served }
-        ensures starved { (served : _) (starved : _) → result ≡ Turn.Pass served starved → IsTrue starved ↔ (self.old.put_backs < self.new.put_backs) }
-        ensures rises { (j : _) → heard_from self.old j ≤ heard_from self.new j }
-        ensures calls { HasCallsOf self.new.front self.new }
-        ensures own { (served : _) → result ≡ Turn.Pass served false → self.old.pending ≢ None → IsPendingServed self.new }
-        ensures heard { (served j : _) → result ≡ Turn.Pass served false → 0 < j → j ≤ office.now.sessions
-            → heard_from self.old j ≤ length (calls_of_session j self.new.front) }
-    {
-        self.serve_telling(office, &mut Counted::new(Nobody))
-    }
-
-    /// Serves and tells, as `Office::serve_telling` does.
-    pub fn serve_telling<T: Told<Programs<Book>>>(
+    /// Serves and tells within a bound, as `Office::serve` does. The bound counts programs, each of which is one call or several, and weighs
+    /// the locks that they give back.
+    pub fn serve<T: Told<Programs<Book>>>(
         &mut self,
         office: &Office,
+        bound: PassBound,
         told: &mut Counted<T>,
     ) -> Turn
         requires ours { IsSessionOf office.now self.old }
+        requires bound { IsBound bound }
         requires room { HasRoom (T.room told.old.told) office.now.sessions }
         ensures ours { IsSessionOf office.now self.new }
         ensures elsewhere { result ≡ Turn.Elsewhere → HasTriedToList self.old self.new × (1 < office.now.sessions) }
-        ensures pass { (served : _) (starved : _) → result ≡ Turn.Pass served starved → IsPassed self.old self.new served }
-        ensures starved { (served : _) (starved : _) → result ≡ Turn.Pass served starved → IsTrue starved ↔ (self.old.put_backs < self.new.put_backs) }
+        ensures pass { (served : _) (starved left : _) → result ≡ Turn.Pass served starved left → IsPassed self.old self.new served }
+        ensures few { (served : _) (starved left : _) → result ≡ Turn.Pass served starved left → served ≤ bound.rounds * bound.calls }
+        ensures rounds { (served : _) (left : _) → result ≡ Turn.Pass served false left → AreRounds locks_given_back bound served self.new.front }
+        ensures full { (served : _) → result ≡ Turn.Pass served false true → IsFull locks_given_back bound served self.new.front }
+        ensures all { (served : _) (starved left : _) → result ≡ Turn.Pass served starved left → IsUnmet bound → left ≡ false }
+        ensures starved { (served : _) (starved left : _) → result ≡ Turn.Pass served starved left → IsTrue starved ↔ (self.old.put_backs < self.new.put_backs) }
         ensures rises { (j : _) → heard_from self.old j ≤ heard_from self.new j }
         ensures calls { HasCallsOf self.new.front self.new }
-        ensures own { (served : _) → result ≡ Turn.Pass served false → self.old.pending ≢ None → IsPendingServed self.new }
-        ensures heard { (served j : _) → result ≡ Turn.Pass served false → 0 < j → j ≤ office.now.sessions
+        ensures own { (served : _) (left : _) → result ≡ Turn.Pass served false left → self.old.pending ≢ None → IsPendingServed self.new }
+        ensures heard { (served j : _) → result ≡ Turn.Pass served false false → 0 < j → j ≤ office.now.sessions
             → heard_from self.old j ≤ length (calls_of_session j self.new.front) }
         ensures told { AreToldBy T.ends office.now.sessions self.new.front (entered_since self.old self.new) (T.list told.new.told) }
         ensures none { result ≡ Turn.Elsewhere → T.list told.new.told ≡ [] }
         ensures room { T.room told.new.told ≡ T.room told.old.told }
-        ensures most { told.new.bound ≡ told.old.bound }
     {
         told.seen = self.seen;
-        let turn = office.serve_telling(&mut self.session, told);
+        let turn = office.serve(&mut self.session, bound, told);
         self.seen = told.seen;
         turn
     }

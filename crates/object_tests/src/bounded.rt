@@ -4,20 +4,17 @@ ghost use Rattle.std.specs.Prelude.{◌<◌};
 ghost use Rattle.combining.specs.Sessions.{IsSessionOf, IsIdle};
 ghost use Rattle.combining.specs.Rounds.{IsBound};
 
-use combining::{
-    Answer, BoundedTurn, Nobody, Office, PassBound, Performed, Session, Told, UNBOUNDED,
-};
+use combining::{Answer, Nobody, Office, PassBound, Performed, Session, Told, Turn};
 use counter::Counter;
 use std::process::Abort;
 use std::test::Fail;
 
-/// Tells nobody, and weighs a call of the counter by what it adds.
+/// Tells nobody, and weighs a call of the counter by what it adds, up to `MAX_WEIGHT`.
 #[derive(Clone, Copy)]
 struct Weighing;
 
 impl Told<Counter> for Weighing {
-    ghost use Rattle.std.specs.Prelude.{[], None};
-    ghost use Rattle.combining.specs.declared.bounds.TheConstants.{UNBOUNDED};
+    ghost use Rattle.std.specs.Prelude.{[], None, min};
 
     ghost list = { λ _. [] };
 
@@ -27,16 +24,10 @@ impl Told<Counter> for Weighing {
 
     ghost notes = { λ _ _. Unit };
 
-    ghost most = { λ _. UNBOUNDED };
+    ghost weight = { λ _ _ adds. min adds 65535 };
 
-    ghost weight = { λ _ _ adds. adds };
-
-    fn bound(&self) -> PassBound {
-        UNBOUNDED
-    }
-
-    fn weigh(_object: &Counter, _session: u16, adds: &u32) -> u32 {
-        *adds
+    fn weigh(_object: &Counter, _session: u16, adds: &u32) -> u16 {
+        u32::min(*adds, 65_535) as u16
     }
 
     fn clear(&mut self) {}
@@ -51,7 +42,7 @@ fn want_pass(
     session: &mut Session<Counter>,
     calls: u16,
     rounds: u16,
-    want: BoundedTurn,
+    want: Turn,
 )
     requires ours { IsSessionOf office.now session.old }
     requires some { (0 < calls) × (0 < rounds) }
@@ -62,12 +53,12 @@ fn want_pass(
         weight: u32::MAX,
         rounds,
     };
-    assert!(rt; office.serve_bounded(session, bound, &mut Nobody) == want);
+    assert!(rt; office.serve(session, bound, &mut Nobody) == want);
 }
 
 /// The outcome of a pass that served so many calls, and may have left some.
-fn passed(served: u64, left: bool) -> BoundedTurn {
-    BoundedTurn::Pass {
+fn passed(served: u32, left: bool) -> Turn {
+    Turn::Pass {
         served,
         starved: false,
         left,
@@ -128,7 +119,7 @@ fn a_bounded_pass_serves_so_many_calls_and_tells_whether_some_are_left(
     let mut first = sessions.pop().expect(&rt, "session 1");
     want_rounds(&rt, &office, &mut first, &mut second, &mut third);
     let load = office.look(&mut first).expect(&rt, "the counter");
-    want_pass(&rt, &office, &mut second, 4, 4, BoundedTurn::Elsewhere);
+    want_pass(&rt, &office, &mut second, 4, 4, Turn::Elsewhere);
     assert!(rt; office.end_look(&mut first, load) == 3);
     Ok(())
 }
@@ -139,7 +130,7 @@ fn want_weighed(
     office: &Office<Counter>,
     session: &mut Session<Counter>,
     weight: u32,
-    want: BoundedTurn,
+    want: Turn,
 )
     requires ours { IsSessionOf office.now session.old }
     requires some { 0 < weight }
@@ -150,7 +141,7 @@ fn want_weighed(
         weight,
         rounds: 1,
     };
-    assert!(rt; office.serve_bounded(session, bound, &mut Weighing) == want);
+    assert!(rt; office.serve(session, bound, &mut Weighing) == want);
 }
 
 /// An idle session publishes a call that adds so much.
@@ -258,7 +249,7 @@ fn want_performed(
         served,
         starved: false,
     };
-    assert!(rt; office.perform_bounded(session, 10, bound, &mut Weighing) == want);
+    assert!(rt; office.perform(session, 10, bound, &mut Weighing) == want);
 }
 
 /// An answer that has this place and reply.

@@ -2,7 +2,7 @@
 
 ghost use Rattle.combining.specs.Sessions.{IsSessionOf, IsIdle};
 
-use combining::{Office, OpenFault, Session, Turn};
+use combining::{Nobody, Office, OpenFault, Session, Turn, UNBOUNDED};
 use counter::Counter;
 use sequential::Sequential;
 use std::process::Abort;
@@ -33,10 +33,10 @@ fn want_look(
     ensures first { IsSessionOf office.now first.new }
     ensures second { IsSessionOf office.now second.new }
 {
-    let _performed = office.perform(second, 7);
+    let _performed = office.perform(second, 7, UNBOUNDED, &mut Nobody);
     let load = office.look(first).expect(rt, "the counter");
     assert!(rt; load.object.served() == 1);
-    assert!(rt; office.serve(second) == Turn::Elsewhere);
+    assert!(rt; office.serve(second, UNBOUNDED, &mut Nobody) == Turn::Elsewhere);
     assert!(rt; office.end_look(first, load) == 1);
 }
 

@@ -5,7 +5,9 @@ ghost use Rattle.std.specs.Prelude.{◌≡◌, All, IfOk, IfSome};
 ghost use Rattle.combining.specs.Sessions.{IsSessionOf, IsIdle};
 
 use crate::choices::Chosen;
-use combining::{Answer, Called, HistoryPiece, Next, Nobody, Office, Session, call, resume, turn};
+use combining::{
+    Answer, HistoryPiece, Next, Nobody, Office, Session, UNBOUNDED, call, resume, turn,
+};
 use sequential::{Batching, Entry, Trimming};
 use std::alloc::{AllocError, Global};
 use std::process::Abort;
@@ -53,7 +55,7 @@ fn call_published<O: Batching>(
 {
     let _posted = office.publish(session, asked);
     for _turn in 0..TURNS {
-        let _turn = office.serve(session);
+        let _turn = office.serve(session, UNBOUNDED, &mut Nobody);
         let answer = office.collect(session);
         if answer.is_some() {
             return answer;
@@ -75,14 +77,14 @@ fn call_whole<O: Batching>(
     ensures ours { IsSessionOf office.now session.new }
     ensures idle { IfSome result (λ _. IsIdle session.new) }
 {
-    let called = match call(office, session, asked, turns, &mut Nobody) {
-        Called::Answered(answer) => return Some(answer),
-        Called::Starved => return None,
-        Called::NotYet => resume(office, session, TURNS, &mut Nobody),
+    let called = match call(office, session, asked, turns, UNBOUNDED, &mut Nobody) {
+        Next::Answered(answer) => return Some(answer),
+        Next::Starved => return None,
+        Next::Wait(_) => resume(office, session, TURNS, UNBOUNDED, &mut Nobody),
     };
     match called {
-        Called::Answered(answer) => Some(answer),
-        Called::Starved | Called::NotYet => None,
+        Next::Answered(answer) => Some(answer),
+        Next::Starved | Next::Wait(_) => None,
     }
 }
 
@@ -97,7 +99,7 @@ fn call_in_turns<O: Batching>(
     ensures idle { IfSome result (λ _. IsIdle session.new) }
 {
     for made in 0..TURNS {
-        match turn(office, session, &asked, made, &mut Nobody) {
+        match turn(office, session, &asked, made, UNBOUNDED, &mut Nobody) {
             Next::Answered(answer) => return Some(answer),
             Next::Starved => return None,
             Next::Wait(_) => thread::yield_now(),

@@ -3,10 +3,10 @@
 ghost use Rattle.std.specs.Prelude.{◌≡◌};
 ghost use Rattle.lock_office.specs.Sessions.{IsSessionOf};
 
-use combining::{Answer, Called, Performed};
+use combining::{Answer, Next, Performed};
 use lock_desk::{Call, Mode, NO_BOUND, Reply, Resource, Why};
 use lock_office::{
-    BoundedTurn, Counted, Nobody, Office, PassBound, Posted, Program, Session, Stop, Ticket,
+    Counted, Nobody, Office, PassBound, Posted, Program, Session, Stop, Ticket, Turn, UNBOUNDED,
     open_keeping, reply_of_one,
 };
 use std::process::Abort;
@@ -34,16 +34,16 @@ fn hold(
 {
     let told = &mut Counted::new(Nobody);
     assert!(rt; session.is_idle());
-    let begun = session.call(office, Call::Begin, 0, told);
+    let begun = session.call(office, Call::Begin, 0, UNBOUNDED, told);
     let reply = Reply::Began(number);
-    assert!(rt; begun == Called::Answered(Answer { place, reply }));
+    assert!(rt; begun == Next::Answered(Answer { place, reply }));
     assert!(rt; session.is_idle());
     assert!(rt; session.publish(office, Call::Lock(database, Mode::X)) == Posted::Listed);
     assert!(rt; !session.is_idle() && !session.is_retired());
-    let locked = session.resume(office, 1, told);
+    let locked = session.resume(office, 1, UNBOUNDED, told);
     let place = place.wrapping_add(1);
     let reply = Reply::Granted(Mode::X);
-    assert!(rt; locked == Called::Answered(Answer { place, reply }));
+    assert!(rt; locked == Next::Answered(Answer { place, reply }));
 }
 
 /// The other session learns what this one knows: so many calls.
@@ -76,13 +76,13 @@ fn want_round(rt: &impl Abort, office: &Office, session: &mut Session, weight: u
         weight,
         rounds: 1,
     };
-    let want = BoundedTurn::Pass {
+    let want = Turn::Pass {
         served: 1,
         starved: false,
         left,
     };
     let told = &mut Counted::new(Nobody);
-    assert!(rt; session.serve_bounded(office, bound, told) == want);
+    assert!(rt; session.serve(office, bound, told) == want);
 }
 
 /// Publishes a commit.
@@ -103,6 +103,7 @@ fn want_refused(rt: &impl Abort, office: &Office, session: &mut Session, place: 
     let Performed::Answered { answer, .. } = session.perform_program(
         office,
         Program::one(Call::Poll),
+        UNBOUNDED,
         told,
     ) else {
         panic!(rt; "an answer");

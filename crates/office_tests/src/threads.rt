@@ -3,7 +3,7 @@
 ghost use Rattle.std.specs.Prelude.{◌≡◌, All, IfOk};
 ghost use Rattle.combining.specs.Sessions.{IsSessionOf, IsIdle};
 
-use combining::{CloseFault, Nobody, Posted, call};
+use combining::{CloseFault, Nobody, Posted, UNBOUNDED, call};
 use lock_desk::Book;
 use lock_office::{Office, Program, Start, Ticket};
 use programs::Programs;
@@ -23,7 +23,14 @@ fn make(office: &Office, session: &mut Ticket, start: Start)
     ensures ours { IsSessionOf office.now session.new }
 {
     if session.is_idle() {
-        let _called = call(office, session, Program::start(start), TURNS, &mut Nobody);
+        let _called = call(
+            office,
+            session,
+            Program::start(start),
+            TURNS,
+            UNBOUNDED,
+            &mut Nobody,
+        );
     }
 }
 
@@ -87,7 +94,7 @@ fn settle(rt: &impl Abort, office: &Office, sessions: &mut Vec<Ticket>)
 {
     assert!(rt; sessions.len() == 8 && sessions[0].number() == 1);
     let mut first = sessions.remove(0);
-    let _turn = office.serve(&mut first);
+    let _turn = office.serve(&mut first, UNBOUNDED, &mut Nobody);
     assert!(rt; office.collect(&mut first).is_some());
     assert!(rt; first.is_idle());
     office.retire(&mut first);

@@ -5,7 +5,7 @@ ghost use Rattle.run_commands.specs.Calls.{calls_of_rows};
 ghost use Rattle.run_commands.specs.Workers.{TriedAtMost, fault_of_stop, rank_of_stop};
 
 use crate::call_gate::Gate;
-use combining::{Next as NextOf, Nobody, back_off};
+use combining::{Next as NextOf, Nobody, UNBOUNDED, back_off};
 use lock_desk::{Call, Reply};
 use lock_office::{Counted, Office, Session};
 use lock_trace::TraceRow;
@@ -110,7 +110,7 @@ impl Service for Office {
 
     /// Makes the turn, and tells nobody whose waits its passes have ended.
     fn turn(&self, session: &mut Session, call: &Call, made: u64) -> Next {
-        session.turn(self, call, made, &mut Counted::new(Nobody))
+        session.turn(self, call, made, UNBOUNDED, &mut Counted::new(Nobody))
     }
 }
 

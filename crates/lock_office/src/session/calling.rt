@@ -8,9 +8,9 @@ ghost use Rattle.lock_office.specs.Sessions.{IsSessionOf, IsIdle};
 ghost use Rattle.lock_office.specs.SingleCalls.{IsCalled, IsAnswered, IsCalling, HasStarvedCalling};
 
 use crate::Office;
-use crate::session::counting::{Counted, seen_called};
+use crate::session::counting::{Counted, seen_next};
 use crate::session::{Session, answer_of, last_of};
-use combining::{Called, Told};
+use combining::{Next, PassBound, Told};
 use lock_desk::{Book, Call, Reply};
 use lock_programs::Program;
 use programs::Programs;
@@ -22,31 +22,31 @@ impl Session {
         office: &Office,
         call: Call,
         turns: u64,
+        bound: PassBound,
         told: &mut Counted<T>,
-    ) -> Called<Reply>
+    ) -> Next<Reply>
         requires ours { IsSessionOf office.now self.old }
         requires idle { IsIdle self.old }
         requires room { HasRoom (T.room told.old.told) office.now.sessions }
         ensures ours { IsSessionOf office.now self.new }
-        ensures answered { (answer : _) → result ≡ Called.Answered answer → IsCalled self.old self.new call answer.place answer.reply }
-        ensures idle { (answer : _) → result ≡ Called.Answered answer → IsIdle self.new }
-        ensures not_yet { result ≡ Called.NotYet → IsCalling self.old self.new call × (1 < office.now.sessions) }
-        ensures starved { result ≡ Called.Starved → IsCalling self.old self.new call }
-        ensures refused { result ≡ Called.Starved → HasStarvedCalling self.old self.new call }
+        ensures answered { (answer : _) → result ≡ Next.Answered answer → IsCalled self.old self.new call answer.place answer.reply }
+        ensures idle { (answer : _) → result ≡ Next.Answered answer → IsIdle self.new }
+        ensures waits { (w : _) → result ≡ Next.Wait w → IsCalling self.old self.new call × (1 < office.now.sessions) }
+        ensures starved { result ≡ Next.Starved → IsCalling self.old self.new call }
+        ensures refused { result ≡ Next.Starved → HasStarvedCalling self.old self.new call }
         ensures tries { FitIntoLooks (self.new.tries - self.old.tries) (turns + 1) }
         ensures told { AreToldBy T.ends office.now.sessions self.new.front (entered_since self.old self.new) (T.list told.new.told) }
         ensures room { T.room told.new.told ≡ T.room told.old.told }
-        ensures most { told.new.bound ≡ told.old.bound }
     {
         self.asked = Program::one(call);
         let asked = self.asked;
         told.seen = self.seen;
-        let called = combining::call(office, &mut self.session, asked, turns, told);
-        self.seen = seen_called(told.seen, &asked, &called);
+        let called = combining::call(office, &mut self.session, asked, turns, bound, told);
+        self.seen = seen_next(told.seen, &asked, &called);
         match called {
-            Called::Answered(found) => Called::Answered(answer_of(&asked, &found.reply)),
-            Called::NotYet => Called::NotYet,
-            Called::Starved => Called::Starved,
+            Next::Answered(found) => Next::Answered(answer_of(&asked, &found.reply)),
+            Next::Wait(wait) => Next::Wait(wait),
+            Next::Starved => Next::Starved,
         }
     }
 
@@ -56,30 +56,30 @@ impl Session {
         &mut self,
         office: &Office,
         turns: u64,
+        bound: PassBound,
         told: &mut Counted<T>,
-    ) -> Called<Reply>
+    ) -> Next<Reply>
         requires ours { IsSessionOf office.now self.old }
         requires pending { self.old.pending ≢ None }
         requires room { HasRoom (T.room told.old.told) office.now.sessions }
         ensures ours { IsSessionOf office.now self.new }
-        ensures answered { (answer : _) → result ≡ Called.Answered answer → IsAnswered self.old self.new answer.place answer.reply }
-        ensures idle { (answer : _) → result ≡ Called.Answered answer → IsIdle self.new }
-        ensures not_yet { result ≡ Called.NotYet → IsWaitingOn self.old self.new }
-        ensures starved { result ≡ Called.Starved → HasStarved self.old self.new }
-        ensures others { result ≡ Called.NotYet → 0 < turns → 1 < office.now.sessions }
+        ensures answered { (answer : _) → result ≡ Next.Answered answer → IsAnswered self.old self.new answer.place answer.reply }
+        ensures idle { (answer : _) → result ≡ Next.Answered answer → IsIdle self.new }
+        ensures waits { (w : _) → result ≡ Next.Wait w → IsWaitingOn self.old self.new }
+        ensures starved { result ≡ Next.Starved → HasStarved self.old self.new }
+        ensures others { (w : _) → result ≡ Next.Wait w → 0 < turns → 1 < office.now.sessions }
         ensures tries { FitIntoLooks (self.new.tries - self.old.tries) turns }
         ensures told { AreToldBy T.ends office.now.sessions self.new.front (entered_since self.old self.new) (T.list told.new.told) }
         ensures room { T.room told.new.told ≡ T.room told.old.told }
-        ensures most { told.new.bound ≡ told.old.bound }
     {
         let asked = self.asked;
         told.seen = self.seen;
-        let called = combining::resume(office, &mut self.session, turns, told);
-        self.seen = seen_called(told.seen, &asked, &called);
+        let called = combining::resume(office, &mut self.session, turns, bound, told);
+        self.seen = seen_next(told.seen, &asked, &called);
         match called {
-            Called::Answered(found) => Called::Answered(last_of(&asked, &found.reply)),
-            Called::NotYet => Called::NotYet,
-            Called::Starved => Called::Starved,
+            Next::Answered(found) => Next::Answered(last_of(&asked, &found.reply)),
+            Next::Wait(wait) => Next::Wait(wait),
+            Next::Starved => Next::Starved,
         }
     }
 }

@@ -1,50 +1,32 @@
-//! What the passes of a session that makes single calls go by: whom they tell, how much they serve, and how many calls of the history the
-//! session knows.
+//! Whom the passes of a session tell, and how many calls of the history the session knows.
 
 ghost use Rattle.std.specs.Prelude.{◌≡◌, ◌+◌, ◌-◌, ◌^◌, max, min, length};
-ghost use Rattle.combining.specs.declared.bounds.TheConstants.{UNBOUNDED};
 ghost use Rattle.lock_programs.specs.Answers.{replies_of};
 ghost use Rattle.lock_programs.specs.Calls.{calls_of};
 ghost use Rattle.lock_office.specs.Weights.{begins_with_an_end};
 
-use combining::{Called, Next, PassBound, Told, UNBOUNDED};
+use combining::{Next, Told};
 use lock_desk::{Book, Call};
 use lock_programs::{Answer as ProgramAnswer, Program};
 use programs::Programs;
 
-/// What a session's passes go by: who is told whose waits they have ended, and how much a pass in a whole call serves at most. It has
-/// besides what a pass notes for a session that makes single calls.
+/// Who is told whose waits a session's passes have ended. It has besides what a pass notes for the session. A program weighs as many locks
+/// as it gives back.
 #[derive(Drop)]
 pub struct Counted<T> {
     /// Who is told.
     pub told: T,
-    /// How much a pass in a whole call serves at most. The bound counts programs, each of which is one call or several, and weighs the
-    /// locks that they give back. A 0 counts as 1.
-    pub bound: PassBound,
     /// How many calls the history had when it was told last.
     pub(crate) seen: u64,
 }
 
 impl<T> Counted<T> {
-    /// Tells this one. Passes serve all that is published.
-    pub fn new(told: T) -> Counted<T>
-        ensures told { result.told ≡ told }
-        ensures bound { result.bound ≡ UNBOUNDED }
-    {
-        Counted::within(told, UNBOUNDED)
-    }
-
-    /// Tells this one. A pass in a whole call serves within the bound.
+    /// Tells this one.
     #[inline(always)]
-    pub fn within(told: T, bound: PassBound) -> Counted<T>
-        ensures told { result.told ≡ told }
-        ensures bound { result.bound ≡ bound }
+    pub fn new(told: T) -> Counted<T>
+        ensures { result.told ≡ told }
     {
-        Counted {
-            told,
-            bound,
-            seen: 0,
-        }
+        Counted { told, seen: 0 }
     }
 }
 
@@ -71,21 +53,14 @@ impl<T: Told<Programs<Book>>> Told<Programs<Book>> for Counted<T> {
 
     ghost notes = { λ c history. c.seen ≡ number_of_calls history };
 
-    ghost most = { λ c. c.bound };
-
     ghost weight = { locks_given_back };
 
     #[inline(always)]
-    fn bound(&self) -> PassBound {
-        self.bound
-    }
-
-    #[inline(always)]
-    fn weigh(object: &Programs<Book>, session: u16, program: &Program) -> u32 {
+    fn weigh(object: &Programs<Book>, session: u16, program: &Program) -> u16 {
         if !begins_with_an_end(program) {
             return 0;
         }
-        object.object().locks_held(session) as u32
+        object.object().locks_held(session) as u16
     }
 
     #[inline(always)]
@@ -120,19 +95,5 @@ pub(crate) fn seen_next(seen: u64, program: &Program, next: &Next<ProgramAnswer>
     match next {
         Next::Answered(found) => seen_behind(seen, program, &found.reply),
         Next::Starved | Next::Wait(_) => seen,
-    }
-}
-
-/// The same once it has the answer, if a call has brought it.
-#[inline(always)]
-pub(crate) fn seen_called(seen: u64, program: &Program, called: &Called<ProgramAnswer>) -> u64
-    ensures answered { (answer : _) → called.now ≡ Called.Answered answer
-        → result ≡ max seen (min (answer.reply.first + length (replies_of program.now answer.reply)) (2 ^ 64 - 1)) }
-    ensures starved { called.now ≡ Called.Starved → result ≡ seen }
-    ensures not_yet { called.now ≡ Called.NotYet → result ≡ seen }
-{
-    match called {
-        Called::Answered(found) => seen_behind(seen, program, &found.reply),
-        Called::Starved | Called::NotYet => seen,
     }
 }

@@ -5,7 +5,7 @@ ghost use Rattle.combining.specs.declared.backoff.TheConstants.{TRIES_AT_ONCE};
 ghost use Rattle.combining.specs.Calls.{IsWaitingOn, HasGoneOn};
 ghost use Rattle.combining.specs.Ended.{AreToldBy, HasRoom, entered_since};
 ghost use Rattle.combining.specs.Rounds.{most_of};
-ghost use Rattle.combining.specs.Waits.{IsWaitAfterTry, IsWaitAfterLook};
+ghost use Rattle.combining.specs.Waits.{IsWaitAfterTry, IsWaitAfterTurn};
 ghost use Rattle.lock_desk.specs.Paths.{lock_of_level, grants};
 ghost use Rattle.lock_office.specs.Sessions.{IsSessionOf, IsIdle};
 ghost use Rattle.lock_office.specs.SingleCalls.{IsCalled, IsAnswered, IsCalling, HasStarvedCalling};
@@ -14,7 +14,7 @@ ghost use Rattle.lock_office.specs.PathTurns.{IsPathPerformed};
 use crate::session::counting::Counted;
 use crate::session::{Session, last_of};
 use crate::{CallAnswer as Answer, Office, levels_granted, path_program};
-use combining::{Next, Performed, TRIES_AT_ONCE, Told, Wait, after_try};
+use combining::{Next, PassBound, Performed, TRIES_AT_ONCE, Told, Wait, after_try};
 use lock_desk::{Book, Mode, Resource, grants, lock_of_level};
 use programs::Programs;
 
@@ -49,6 +49,7 @@ impl Session {
         resource: &Resource,
         mode: Mode,
         locked: u8,
+        bound: PassBound,
         told: &mut Counted<T>,
     ) -> NextOfPath
         requires ours { IsSessionOf office.now self.old }
@@ -66,15 +67,14 @@ impl Session {
         ensures wait { (w : _) → result ≡ NextOfPath.Wait w → IsWaitAfterTry w }
         ensures live { self.new.retired ≡ false }
         ensures on { HasGoneOn self.old self.new }
-        ensures few { length (entered_since self.old self.new) ≤ most_of told.old.bound + 1 }
+        ensures few { length (entered_since self.old self.new) ≤ most_of bound + 1 }
         ensures told { AreToldBy T.ends office.now.sessions self.new.front (entered_since self.old self.new) (T.list told.new.told) }
         ensures room { T.room told.new.told ≡ T.room told.old.told }
-        ensures most { told.new.bound ≡ told.old.bound }
     {
         // a resource has at most LEVELS numbers
         let _numbers = resource.numbers();
         let program = path_program(resource, mode, locked);
-        match self.perform_program_bounded(office, program, told) {
+        match self.perform_program(office, program, bound.at_least_one(), told) {
             Performed::Answered { answer: found, .. } => NextOfPath::Performed {
                 level: locked + levels_granted(&program, &found.reply) as u8,
                 answer: last_of(&program, &found.reply),
@@ -100,6 +100,7 @@ impl Session {
         mode: Mode,
         locked: u8,
         made: u64,
+        bound: PassBound,
         told: &mut Counted<T>,
     ) -> NextOfPath
         requires ours { IsSessionOf office.now self.old }
@@ -123,22 +124,19 @@ impl Session {
         ensures published { (w : _) → result ≡ NextOfPath.Wait w → self.old.pending ≡ None → TRIES_AT_ONCE ≤ made
             → IsCalling self.old self.new (lock_of_level resource.now mode (locked + 1)) × (1 < office.now.sessions) }
         ensures waits { (w : _) → result ≡ NextOfPath.Wait w → self.old.pending ≢ None → IsWaitingOn self.old self.new }
-        ensures wait_tried { (w : _) → result ≡ NextOfPath.Wait w → self.old.pending ≡ None → made < TRIES_AT_ONCE → IsWaitAfterTry w }
-        ensures wait_published { (w : _) → result ≡ NextOfPath.Wait w → self.old.pending ≡ None → TRIES_AT_ONCE ≤ made → IsWaitAfterLook 0 w }
-        ensures wait_looked { (w : _) → result ≡ NextOfPath.Wait w → self.old.pending ≢ None → IsWaitAfterLook made w }
+        ensures wait { (w : _) → result ≡ NextOfPath.Wait w → IsWaitAfterTurn (self.old.pending ≡ None) made w }
         ensures live { self.new.retired ≡ false }
         ensures on { HasGoneOn self.old self.new }
-        ensures few { length (entered_since self.old self.new) ≤ most_of told.old.bound + 1 }
+        ensures few { length (entered_since self.old self.new) ≤ most_of bound + 1 }
         ensures told { AreToldBy T.ends office.now.sessions self.new.front (entered_since self.old self.new) (T.list told.new.told) }
         ensures room { T.room told.new.told ≡ T.room told.old.told }
-        ensures most { told.new.bound ≡ told.old.bound }
     {
         // a resource has at most LEVELS numbers
         let _numbers = resource.numbers();
         told.clear();
         if made >= TRIES_AT_ONCE || !self.is_idle() {
             let call = lock_of_level(resource, mode, locked + 1);
-            return match self.turn(office, &call, made, told) {
+            return match self.turn(office, &call, made, bound, told) {
                 Next::Answered(answer) => NextOfPath::Answered {
                     level: locked + u8::from(grants(&answer.reply)),
                     answer,
@@ -147,6 +145,6 @@ impl Session {
                 Next::Wait(wait) => NextOfPath::Wait(wait),
             };
         }
-        self.try_path(office, resource, mode, locked, told)
+        self.try_path(office, resource, mode, locked, bound, told)
     }
 }

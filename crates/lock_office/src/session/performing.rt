@@ -1,51 +1,34 @@
 //! A call or program that its own session performs, without publishing it.
 
-ghost use Rattle.std.specs.Prelude.{◌≡◌, ◌+◌, ◌<◌, ◌≤◌, ◌↔◌, [], false, IsTrue, length};
+ghost use Rattle.std.specs.Prelude.{◌≡◌, ◌+◌, ◌*◌, ◌<◌, ◌≤◌, ◌↔◌, [], false, IsTrue, length};
 ghost use Rattle.sequential.specs.Histories.{calls_of as calls_of_session};
 ghost use Rattle.publication.specs.Boards.{HasCallsOf, heard_from};
 ghost use Rattle.combining.specs.Ended.{AreToldBy, HasRoom, entered_since};
-ghost use Rattle.combining.specs.Rounds.{most_of};
+ghost use Rattle.combining.specs.Rounds.{IsBound, IsUnmet};
 ghost use Rattle.lock_office.specs.Sessions.{IsSessionOf, IsIdle, IsRefused, IsPerformed as IsProgramPerformed};
 ghost use Rattle.lock_office.specs.SingleCalls.{IsPerformed};
 
 use crate::Office;
 use crate::session::counting::Counted;
 use crate::session::{Session, answer_of};
-use combining::{Nobody, Performed, Told};
+use combining::{PassBound, Performed, Told};
 use lock_desk::{Book, Call, Reply};
 use lock_programs::{Answer as ProgramAnswer, Program};
 use programs::Programs;
 
 impl Session {
-    /// Performs a call at once, as `Office::perform` does.
-    pub fn perform(&mut self, office: &Office, call: Call) -> Performed<Reply>
-        requires ours { IsSessionOf office.now self.old }
-        requires idle { IsIdle self.old }
-        ensures ours { IsSessionOf office.now self.new }
-        ensures idle { IsIdle self.new }
-        ensures answered { (answer : _) (served : _) (starved : _) → result ≡ Performed.Answered answer served starved
-            → IsPerformed self.old self.new call answer.place answer.reply served }
-        ensures put_back { (answer : _) (served : _) (starved : _) → result ≡ Performed.Answered answer served starved
-            → IsTrue starved ↔ (self.old.put_backs < self.new.put_backs) }
-        ensures heard { (answer : _) (served j : _) → result ≡ Performed.Answered answer served false → 0 < j → j ≤ office.now.sessions
-            → heard_from self.old j ≤ length (calls_of_session j self.new.front) }
-        ensures elsewhere { result ≡ Performed.Elsewhere → (self.new ≡ self.old) × (1 < office.now.sessions) }
-        ensures refused { result ≡ Performed.Starved → IsRefused self.old self.new }
-        ensures calls { HasCallsOf self.new.front self.new }
-    {
-        self.perform_telling(office, call, &mut Counted::new(Nobody))
-    }
-
-    /// Performs a call at once and tells, as `Office::perform_telling` does.
+    /// Performs a call at once, as a program of one call.
     #[inline(always)]
-    pub fn perform_telling<T: Told<Programs<Book>>>(
+    pub fn perform<T: Told<Programs<Book>>>(
         &mut self,
         office: &Office,
         call: Call,
+        bound: PassBound,
         told: &mut Counted<T>,
     ) -> Performed<Reply>
         requires ours { IsSessionOf office.now self.old }
         requires idle { IsIdle self.old }
+        requires bound { IsBound bound }
         requires room { HasRoom (T.room told.old.told) office.now.sessions }
         ensures ours { IsSessionOf office.now self.new }
         ensures idle { IsIdle self.new }
@@ -53,7 +36,8 @@ impl Session {
             → IsPerformed self.old self.new call answer.place answer.reply served }
         ensures put_back { (answer : _) (served : _) (starved : _) → result ≡ Performed.Answered answer served starved
             → IsTrue starved ↔ (self.old.put_backs < self.new.put_backs) }
-        ensures heard { (answer : _) (served j : _) → result ≡ Performed.Answered answer served false → 0 < j → j ≤ office.now.sessions
+        ensures few { length (entered_since self.old self.new) ≤ bound.rounds * bound.calls + 1 }
+        ensures heard { (answer : _) (served j : _) → IsUnmet bound → result ≡ Performed.Answered answer served false → 0 < j → j ≤ office.now.sessions
             → heard_from self.old j ≤ length (calls_of_session j self.new.front) }
         ensures elsewhere { result ≡ Performed.Elsewhere → (self.new ≡ self.old) × (1 < office.now.sessions) }
         ensures refused { result ≡ Performed.Starved → IsRefused self.old self.new }
@@ -61,10 +45,9 @@ impl Session {
         ensures told { AreToldBy T.ends office.now.sessions self.new.front (entered_since self.old self.new) (T.list told.new.told) }
         ensures none { result ≡ Performed.Elsewhere → T.list told.new.told ≡ [] }
         ensures room { T.room told.new.told ≡ T.room told.old.told }
-        ensures most { told.new.bound ≡ told.old.bound }
     {
         let asked = Program::one(call);
-        match self.perform_program(office, asked, told) {
+        match self.perform_program(office, asked, bound, told) {
             Performed::Answered {
                 answer: found,
                 served,
@@ -79,16 +62,18 @@ impl Session {
         }
     }
 
-    /// Performs a program of any calls at once and tells, as `Office::perform_telling` does.
+    /// Performs a program of any calls at once and tells, as `Office::perform` does.
     #[inline(always)]
     pub fn perform_program<T: Told<Programs<Book>>>(
         &mut self,
         office: &Office,
         program: Program,
+        bound: PassBound,
         told: &mut Counted<T>,
     ) -> Performed<ProgramAnswer>
         requires ours { IsSessionOf office.now self.old }
         requires idle { IsIdle self.old }
+        requires bound { IsBound bound }
         requires room { HasRoom (T.room told.old.told) office.now.sessions }
         ensures ours { IsSessionOf office.now self.new }
         ensures idle { IsIdle self.new }
@@ -96,7 +81,8 @@ impl Session {
             → IsProgramPerformed self.old self.new program answer.place answer.reply served }
         ensures put_back { (answer : _) (served : _) (starved : _) → result ≡ Performed.Answered answer served starved
             → IsTrue starved ↔ (self.old.put_backs < self.new.put_backs) }
-        ensures heard { (answer : _) (served j : _) → result ≡ Performed.Answered answer served false → 0 < j → j ≤ office.now.sessions
+        ensures few { length (entered_since self.old self.new) ≤ bound.rounds * bound.calls + 1 }
+        ensures heard { (answer : _) (served j : _) → IsUnmet bound → result ≡ Performed.Answered answer served false → 0 < j → j ≤ office.now.sessions
             → heard_from self.old j ≤ length (calls_of_session j self.new.front) }
         ensures elsewhere { result ≡ Performed.Elsewhere → (self.new ≡ self.old) × (1 < office.now.sessions) }
         ensures refused { result ≡ Performed.Starved → IsRefused self.old self.new }
@@ -104,39 +90,9 @@ impl Session {
         ensures told { AreToldBy T.ends office.now.sessions self.new.front (entered_since self.old self.new) (T.list told.new.told) }
         ensures none { result ≡ Performed.Elsewhere → T.list told.new.told ≡ [] }
         ensures room { T.room told.new.told ≡ T.room told.old.told }
-        ensures most { told.new.bound ≡ told.old.bound }
     {
         told.seen = self.seen;
-        let performed = office.perform_telling(&mut self.session, program, told);
-        self.seen = told.seen;
-        performed
-    }
-
-    /// Performs a program of any calls at once and tells, as `Office::perform_bounded` does within the bound of `told`.
-    #[inline(always)]
-    pub(crate) fn perform_program_bounded<T: Told<Programs<Book>>>(
-        &mut self,
-        office: &Office,
-        program: Program,
-        told: &mut Counted<T>,
-    ) -> Performed<ProgramAnswer>
-        requires ours { IsSessionOf office.now self.old }
-        requires idle { IsIdle self.old }
-        requires room { HasRoom (T.room told.old.told) office.now.sessions }
-        ensures ours { IsSessionOf office.now self.new }
-        ensures idle { IsIdle self.new }
-        ensures answered { (answer : _) (served : _) (starved : _) → result ≡ Performed.Answered answer served starved
-            → IsProgramPerformed self.old self.new program answer.place answer.reply served }
-        ensures elsewhere { result ≡ Performed.Elsewhere → (self.new ≡ self.old) × (1 < office.now.sessions) }
-        ensures refused { result ≡ Performed.Starved → IsRefused self.old self.new }
-        ensures few { length (entered_since self.old self.new) ≤ most_of told.old.bound + 1 }
-        ensures told { AreToldBy T.ends office.now.sessions self.new.front (entered_since self.old self.new) (T.list told.new.told) }
-        ensures room { T.room told.new.told ≡ T.room told.old.told }
-        ensures most { told.new.bound ≡ told.old.bound }
-    {
-        told.seen = self.seen;
-        let bound = told.bound.at_least_one();
-        let performed = office.perform_bounded(&mut self.session, program, bound, told);
+        let performed = office.perform(&mut self.session, program, bound, told);
         self.seen = told.seen;
         performed
     }

@@ -21,11 +21,11 @@ returns-clause-published c = λ w is none much.
     let p = c.path_turn-2.ensures.published w is none much in
     let some = p.1 in
     let many : c.deref-2.result.now.sessions ≡ c.args.share.now.sessions = search rules in
-    (p.0, omega (arith, some, many), c.path_turn-2.ensures.wait_published w is none much)
+    (p.0, omega (arith, some, many))
 
 pub returns-then-share-eq0-clause-published : goal.returns-then-share-eq0-clause-published
 returns-then-share-eq0-clause-published c = λ w is none much.
     let p = c.path_turn.ensures.published w is none much in
     let some = p.1 in
     let many : c.deref.result.now.sessions ≡ c.args.share.now.sessions = search rules in
-    (p.0, omega (arith, some, many), c.path_turn.ensures.wait_published w is none much)
+    (p.0, omega (arith, some, many))

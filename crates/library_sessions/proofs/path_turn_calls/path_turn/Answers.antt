@@ -24,11 +24,14 @@ returns-in-Wait-clause-late c = λ e.
         c.in-Some.ensures.some,
         record {
           tried = λ left none few. let r = made.ensures.tried wait c.in-Wait.is (ap (λ (t : TicketView). t.pending) back ∙ none) few in
-              (r.0 ∙ back, (let some = r.1 in omega (arith, some, many)), (wait, r.2, number));
+              (r.0 ∙ back, (let some = r.1 in omega (arith, some, many)));
           published = λ left none much. let r = made.ensures.published wait c.in-Wait.is (ap (λ (t : TicketView). t.pending) back ∙ none) much in
-              (subst (λ (t : TicketView). IsCalling t after.session (lock_of_level c.args.resource c.in-Some.wanted (c.args.level.now + 1))) back r.0, (let some = r.1 in omega (arith, some, many)), (wait, r.2, number));
-          waits = λ left some. let r = made.ensures.waits wait c.in-Wait.is (λ none. some (sym (ap (λ (t : TicketView). t.pending) back) ∙ none)) in
-              (subst (λ (t : TicketView). IsWaitingOn t after.session) back r.0, (wait, r.1, number));
+              (subst (λ (t : TicketView). IsCalling t after.session (lock_of_level c.args.resource c.in-Some.wanted (c.args.level.now + 1))) back r.0, (let some = r.1 in omega (arith, some, many)));
+          waits = λ left some. subst (λ (t : TicketView). IsWaitingOn t after.session) back (made.ensures.waits wait c.in-Wait.is (λ none. some (sym (ap (λ (t : TicketView). t.pending) back) ∙ none)));
+          wait = λ left.
+              let told = made.ensures.wait wait c.in-Wait.is in
+              let same = ap (λ (t : TicketView). t.pending) back in
+              (wait, record { tried = λ none. told.tried (same ∙ none); published = λ none. told.published (same ∙ none); looked = λ some. told.looked (λ none. some (sym same ∙ none)) }, number);
           last = λ over. absurd (let left = c.if-made-turns.false in omega (arith, left, over));
           office = same-trans c.args.share.now forgot.new.share after forgot.ensures.same made.ensures.same;
         },

@@ -1,6 +1,7 @@
 use Rattle.std.proofs.Common.{rules, ◌≡◌, ℕ, refl, sym, subst, arith}
 use Rattle.lock_office.specs.SingleCalls.{IsPerformed}
 use Rattle.combining.specs.declared.office.perform.Performed.TheVariants.{Answered}
+use Rattle.combining.proofs.RoundWeights.{unbounded}
 use Rattle.library_sessions.proofs.Starved.{is_one, falls}
 use Rattle.library_sessions.proofs.perform_calls.perform_at_once.Goals as goal
 
@@ -24,6 +25,6 @@ returns-clause-ok c = λ e.
       written.starved e,
       is_one pass.starved (done.put_back _ _ _ found.1),
       done.calls,
-      (λ none j some few. done.heard _ _ j (whole none) some (omega (arith, few, many))),
+      (λ none j some few. done.heard _ _ j unbounded (whole none) some (omega (arith, few, many))),
       record { office = refl; handed = refl; sessions = refl; mark = refl; waker = refl; bound = refl },
     )

@@ -15,8 +15,10 @@ returns-clause-late c = λ e.
     let after = made.new.share in
     let forgot = c.forget_told in
     let many = forgot.ensures.same.sessions in record {
-      waits = λ left. let r = made.ensures.waits found.0 found.1 in
-          (subst (λ (t : TicketView). IsWaitingOn t after.session) forgot.ensures.session r.0, (found.0, r.1, found.2));
+      waits = λ left. (
+        subst (λ (t : TicketView). IsWaitingOn t after.session) forgot.ensures.session (made.ensures.awaited.waits found.0 found.1),
+        (found.0, made.ensures.wait found.0 found.1, found.2),
+      );
       others = λ left at. let some = made.ensures.others found.0 found.1 at in omega (arith, some, many);
       last = λ over. absurd (let left = c.if-looked-turns.false in omega (arith, left, over));
       office = same-trans c.args.share.now forgot.new.share after forgot.ensures.same made.ensures.same;
@@ -28,7 +30,7 @@ returns-clause-ok c = λ e.
     let made = c.make_look-next in
     let after = made.new.share in
     let forgot = c.forget_told in
-    let d = made.ensures.answered found.0 found.1 in
+    let d = made.ensures.awaited.answered found.0 found.1 in
     let same = c.pending_program-asked.ensures d.0 d.1 d.2 in
     let done : IsPendingAnswered forgot.new.share.session after.session c.write_next.new.answer = record {
       program = d.0;
@@ -41,7 +43,7 @@ returns-clause-ok c = λ e.
     } in
     record {
       answered = subst (λ (t : TicketView). IsPendingAnswered t after.session c.write_next.new.answer) forgot.ensures.session done;
-      idle = made.ensures.idle found.0 found.1;
+      idle = made.ensures.awaited.idle found.0 found.1;
       office = same-trans c.args.share.now forgot.new.share after forgot.ensures.same made.ensures.same;
     }
 

@@ -18,8 +18,8 @@ returns-clause-ok c = λ e.
       reply = reply;
       reply_is = found.3;
       answered = subst (λ (p : ℕ). IsAnswered before.session after.session p reply) (sym found.2)
-          (subst (λ (t : TicketView). IsAnswered t after.session found.0.place reply) forgot.ensures.session (made.ensures.answered found.0 found.1));
-      idle = made.ensures.idle found.0 found.1;
+          (subst (λ (t : TicketView). IsAnswered t after.session found.0.place reply) forgot.ensures.session (made.ensures.awaited.answered found.0 found.1));
+      idle = made.ensures.awaited.idle found.0 found.1;
       office = same-trans before forgot.new.share after forgot.ensures.same made.ensures.same;
     }
 
@@ -30,8 +30,10 @@ returns-clause-late c = λ e.
     let after = made.new.share in
     let forgot = c.forget_told in
     let many = forgot.ensures.same.sessions in record {
-      waits = λ left. let r = made.ensures.waits found.0 found.1 in
-          (subst (λ (t : TicketView). IsWaitingOn t after.session) forgot.ensures.session r.0, (found.0, r.1, found.2));
+      waits = λ left. (
+        subst (λ (t : TicketView). IsWaitingOn t after.session) forgot.ensures.session (made.ensures.awaited.waits found.0 found.1),
+        (found.0, made.ensures.wait found.0 found.1, found.2),
+      );
       others = λ left at. let some = made.ensures.others found.0 found.1 at in omega (arith, some, many);
       last = λ over. absurd (let left = c.if-looked-turns.false in omega (arith, left, over));
       office = same-trans c.args.share.now forgot.new.share after forgot.ensures.same made.ensures.same;

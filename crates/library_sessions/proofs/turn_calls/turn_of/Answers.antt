@@ -1,8 +1,8 @@
-use Rattle.std.proofs.Common.{◌∙◌, ℕ, ◌<◌, refl, ap, sym, subst, arith}
+use Rattle.std.proofs.Common.{◌∙◌, ℕ, refl, ap, sym, subst, arith}
 use Rattle.lock_office.specs.ProgramBoards.{TicketView}
 use Rattle.lock_office.specs.SingleCalls.{IsCalled, IsCalling, IsAnswered}
-use Rattle.combining.specs.Calls.{IsWaitingOn}
 use Rattle.library_sessions.proofs.SameOffice.{same-trans}
+use Rattle.library_sessions.proofs.Turns.{starved-turn, late-turn, last-turn}
 use Rattle.library_sessions.proofs.ServedWithin.{within-since, within-none}
 use Rattle.library_sessions.proofs.turn_calls.turn_of.Goals as goal
 
@@ -19,10 +19,10 @@ returns-clause-ok c = λ e.
       reply = reply;
       reply_is = found.3;
       called = λ none. subst (λ (p : ℕ). IsCalled c.args.share.now.session after.session call p reply) place
-          (subst (λ (t : TicketView). IsCalled t after.session call found.0.place reply) back (made.ensures.called found.0 found.1 (ap (λ (t : TicketView). t.pending) back ∙ none)));
+          (subst (λ (t : TicketView). IsCalled t after.session call found.0.place reply) back (made.ensures.turned.called found.0 found.1 (ap (λ (t : TicketView). t.pending) back ∙ none)));
       answered = λ some. subst (λ (p : ℕ). IsAnswered c.args.share.now.session after.session p reply) place
-          (subst (λ (t : TicketView). IsAnswered t after.session found.0.place reply) back (made.ensures.answered found.0 found.1 (λ none. some (sym (ap (λ (t : TicketView). t.pending) back) ∙ none))));
-      idle = made.ensures.idle found.0 found.1;
+          (subst (λ (t : TicketView). IsAnswered t after.session found.0.place reply) back ((made.ensures.turned.awaited (λ none. some (sym (ap (λ (t : TicketView). t.pending) back) ∙ none))).answered found.0 found.1));
+      idle = made.ensures.turned.idle found.0 found.1;
       office = same-trans c.args.share.now forgot.new.share after forgot.ensures.same made.ensures.same;
     }
 
@@ -30,50 +30,25 @@ pub returns-clause-late : goal.returns-clause-late
 returns-clause-late c = λ e.
     let found = c.write_next.ensures.waits e in
     let made = c.make_turn-next in
-    let after = made.new.share in
     let forgot = c.forget_told in
-    let back = forgot.ensures.session in
-    let call = c.args.call.now in
-    let many = forgot.ensures.same.sessions in record {
-      tried = λ left none few. let r = made.ensures.tried found.0 found.1 (ap (λ (t : TicketView). t.pending) back ∙ none) few in
-          (r.0 ∙ back, (let some = r.1 in omega (arith, some, many)), (found.0, r.2, found.2));
-      published = λ left none much. let r = made.ensures.published found.0 found.1 (ap (λ (t : TicketView). t.pending) back ∙ none) much in
-          (subst (λ (t : TicketView). IsCalling t after.session call) back r.0, (let some = r.1 in omega (arith, some, many)), (found.0, r.2, found.2));
-      waits = λ left some. let r = made.ensures.waits found.0 found.1 (λ none. some (sym (ap (λ (t : TicketView). t.pending) back) ∙ none)) in
-          (subst (λ (t : TicketView). IsWaitingOn t after.session) back r.0, (found.0, r.1, found.2));
-      last = λ over. absurd (let left = c.if-made-turns.false in omega (arith, left, over));
-      office = same-trans c.args.share.now forgot.new.share after forgot.ensures.same made.ensures.same;
-    }
+    let left = c.if-made-turns.false in
+    late-turn c.args.share.now forgot.new.share made.new.share forgot.ensures.session forgot.ensures.same made.ensures.same (λ (t : TicketView). IsCalling t made.new.share.session c.args.call.now)
+    made.ensures.turned c.args.turns c.write_next.new.wait found.0 found.1 (made.ensures.wait found.0 found.1) found.2 (omega (arith, left))
 
 pub returns-then-made-turns-clause-late : goal.returns-then-made-turns-clause-late
 returns-then-made-turns-clause-late c = λ _.
-    let after = c.publish_last.new.share in
+    let last = c.publish_last in
     let forgot = c.forget_told in
-    let back = forgot.ensures.session in
-    let over = c.if-made-turns.true in record {
-      tried = λ left _ _. absurd (omega (arith, left, over));
-      published = λ left _ _. absurd (omega (arith, left, over));
-      waits = λ left _. absurd (omega (arith, left, over));
-      last = λ _. (
-        refl,
-        (λ none. subst (λ (t : TicketView). IsCalling t after.session c.args.call.now) back (c.publish_last.ensures.published (ap (λ (t : TicketView). t.pending) back ∙ none))),
-        (λ some. c.publish_last.ensures.same (λ none. some (sym (ap (λ (t : TicketView). t.pending) back) ∙ none)) ∙ back),
-      );
-      office = same-trans c.args.share.now forgot.new.share after forgot.ensures.same c.publish_last.ensures.office;
-    }
+    let over = c.if-made-turns.true in
+    last-turn c.args.share.now forgot.new.share last.new.share forgot.ensures.session forgot.ensures.same last.ensures.office (λ (t : TicketView). IsCalling t last.new.share.session c.args.call.now)
+    c.args.made c.args.turns _ last.ensures.published last.ensures.same refl (omega (arith, over))
 
 pub returns-clause-memory : goal.returns-clause-memory
 returns-clause-memory c = λ e.
-    let is = c.write_next.ensures.memory e in
     let made = c.make_turn-next in
-    let after = made.new.share in
     let forgot = c.forget_told in
-    let back = forgot.ensures.session in record {
-      published = λ none. subst (λ (t : TicketView). IsCalling t after.session c.args.call.now) back (made.ensures.starved is (ap (λ (t : TicketView). t.pending) back ∙ none));
-      waits = λ some. subst (λ (t : TicketView). IsWaitingOn t after.session) back (made.ensures.starved_on is (λ none. some (sym (ap (λ (t : TicketView). t.pending) back) ∙ none))).0;
-      put_back = λ some. subst (λ (t : TicketView). t.put_backs < after.session.put_backs) back (made.ensures.starved_on is (λ none. some (sym (ap (λ (t : TicketView). t.pending) back) ∙ none))).1;
-      office = same-trans c.args.share.now forgot.new.share after forgot.ensures.same made.ensures.same;
-    }
+    starved-turn c.args.share.now forgot.new.share made.new.share forgot.ensures.session forgot.ensures.same made.ensures.same (λ (t : TicketView). IsCalling t made.new.share.session c.args.call.now)
+    made.ensures.turned (c.write_next.ensures.memory e)
 
 pub returns-clause-few : goal.returns-clause-few
 returns-clause-few c = within-since 1 c.args.share.now c.forget_told.new.share c.make_turn-next.new.share c.forget_told.ensures.session c.forget_told.ensures.same.bound c.make_turn-next.ensures.few

@@ -2,8 +2,8 @@ use Rattle.std.proofs.Common.{◌∙◌, ap, sym, subst}
 use Rattle.lock_office.specs.ProgramBoards.{TicketView}
 use Rattle.lock_office.specs.SingleCalls.{CallAnswer as Answer, IsAnswered}
 use Rattle.lock_office.proofs.Seen.{counted-behind}
-use Rattle.lock_office.proofs.Sessions.{kept-some, pending-stands, pending-replies, pending-answered, read-called, readable-on, readable-idle}
-use Rattle.lock_office.proofs.session.Session.resume.Goals.{in-Answered, in-NotYet, in-Starved}
+use Rattle.lock_office.proofs.Sessions.{kept-some, pending-stands, pending-replies, pending-answered, read-next, readable-on, readable-idle}
+use Rattle.lock_office.proofs.session.Session.resume.Goals.{in-Answered, in-Starved, in-Wait}
 use Rattle.lock_office.proofs.session.Session.resume.Goals as goal
 
 pub last_of-requires : goal.last_of-requires
@@ -23,18 +23,18 @@ invariant_of-self g c =
           let k = kept-some d.0 c.self.inside.asked (c.self.invariant.readable d.0 d.1 d.2) in
           let stands = pending-stands c.self.inside.session t found.place found.reply asked d k in
           record {
-            readable = readable-idle c.seen_called-self-inside.result asked t (c.resume-called.ensures.idle found w.in-Answered.is).0;
-            counted = counted-behind t.front found.place c.self.inside.session.number asked found.reply _ _ d.3.legal stands (c.resume-called.ensures.noted found w.in-Answered.is c.self.invariant.counted) (c.seen_called-self-inside.ensures.answered found w.in-Answered.is);
+            readable = readable-idle c.seen_next-self-inside.result asked t (c.resume-called.ensures.idle found w.in-Answered.is).0;
+            counted = counted-behind t.front found.place c.self.inside.session.number asked found.reply _ _ d.3.legal stands (c.resume-called.ensures.noted found w.in-Answered.is c.self.invariant.counted) (c.seen_next-self-inside.ensures.answered found w.in-Answered.is);
           }
-      | in-NotYet w ↦ record {
-        readable = readable-on c.seen_called-self-inside.result c.self.inside t c.self.invariant.readable (ap (λ (x : TicketView). x.pending) (c.resume-called.ensures.not_yet w.in-NotYet.is).session);
-        counted = c.seen_called-self-inside.ensures.not_yet w.in-NotYet.is ∙ c.resume-called.ensures.notes_not_yet w.in-NotYet.is c.self.invariant.counted;
+      | in-Wait w ↦ record {
+        readable = readable-on c.seen_next-self-inside.result c.self.inside t c.self.invariant.readable (ap (λ (x : TicketView). x.pending) (c.resume-called.ensures.waits w.in-Wait.wait w.in-Wait.is).session);
+        counted = c.seen_next-self-inside.ensures.waits w.in-Wait.wait w.in-Wait.is ∙ c.resume-called.ensures.notes_waits w.in-Wait.wait w.in-Wait.is c.self.invariant.counted;
       }
       | in-Starved w ↦
           let k = c.resume-called.ensures.starved w.in-Starved.is in
           record {
-            readable = readable-on c.seen_called-self-inside.result c.self.inside t c.self.invariant.readable (ap (λ (x : TicketView). x.pending) k.2.session ∙ ap (λ (x : TicketView). x.pending) k.1.session);
-            counted = c.seen_called-self-inside.ensures.starved w.in-Starved.is ∙ c.resume-called.ensures.notes_starved w.in-Starved.is c.self.invariant.counted;
+            readable = readable-on c.seen_next-self-inside.result c.self.inside t c.self.invariant.readable (ap (λ (x : TicketView). x.pending) k.2.session ∙ ap (λ (x : TicketView). x.pending) k.1.session);
+            counted = c.seen_next-self-inside.ensures.starved w.in-Starved.is ∙ c.resume-called.ensures.notes_starved w.in-Starved.is c.self.invariant.counted;
           }
     ]
 
@@ -48,8 +48,8 @@ returns-clause-answered g c = λ answer is.
           let read = w.last_of.result in
           let told = w.last_of.ensures in
           let done : IsAnswered c.self.inside.session c.resume-called.new.session read.place read.reply = pending-answered c.self.inside.session c.resume-called.new.session found.place found.reply c.self.inside.asked d k read.place read.reply told.last told.first in
-          read-called (λ (a : Answer). IsAnswered c.args.self.now c.resume-called.new.session a.place a.reply) read answer (sym w.result-is ∙ is)
+          read-next (λ (a : Answer). IsAnswered c.args.self.now c.resume-called.new.session a.place a.reply) read answer (sym w.result-is ∙ is)
           (subst (λ (t : TicketView). IsAnswered t c.resume-called.new.session read.place read.reply) c.self.view_is done)
-      | in-NotYet w ↦ absurd (let e = sym w.result-is ∙ is in cc)
+      | in-Wait w ↦ absurd (let e = sym w.result-is ∙ is in cc)
       | in-Starved w ↦ absurd (let e = sym w.result-is ∙ is in cc)
     ]

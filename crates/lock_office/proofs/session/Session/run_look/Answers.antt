@@ -1,4 +1,5 @@
 use Rattle.std.proofs.Common.{◌∙◌, ap, subst}
+use Rattle.combining.specs.Turns.{HasAwaited}
 use Rattle.combining.proofs.Turns.{by-next}
 use Rattle.lock_office.specs.ProgramBoards.{TicketView}
 use Rattle.lock_office.specs.ProgramTurns.{IsAnswered}
@@ -16,20 +17,21 @@ invariant_of-self g c =
     let seen = c.seen_next-self-inside.ensures in
     by-next c.look-next.result
     (λ found is.
-    let d = e.answered found is in
+    let d = e.awaited.answered found is in
     let k = kept-some d.0 asked (c.self.invariant.readable d.0 d.1 d.2) in record {
-      readable = readable-idle n asked t (e.idle found is).0;
+      readable = readable-idle n asked t (e.awaited.idle found is).0;
       counted = counted-behind t.front found.place s.number asked found.reply _ _ d.3.legal (pending-stands s t found.place found.reply asked d k) (e.noted found is c.self.invariant.counted) (seen.answered found is);
     })
     (λ is. record {
-      readable = readable-on n c.self.inside t c.self.invariant.readable (ap (λ (x : TicketView). x.pending) (e.starved is).0.session);
+      readable = readable-on n c.self.inside t c.self.invariant.readable (ap (λ (x : TicketView). x.pending) (e.awaited.starved is).0.session);
       counted = seen.starved is ∙ e.notes_starved is c.self.invariant.counted;
     })
     (λ w is. record {
-      readable = readable-on n c.self.inside t c.self.invariant.readable (ap (λ (x : TicketView). x.pending) (e.waits w is).session);
+      readable = readable-on n c.self.inside t c.self.invariant.readable (ap (λ (x : TicketView). x.pending) (e.awaited.waits w is).session);
       counted = seen.waits w is ∙ e.notes_waits w is c.self.invariant.counted;
     })
 
-pub returns-clause-answered : goal.returns-clause-answered
-returns-clause-answered g c = λ answer is.
-    subst (λ (t : TicketView). IsAnswered t c.look-next.new.session answer.place answer.reply) c.self.view_is (c.look-next.ensures.answered answer is)
+pub returns-clause-awaited : goal.returns-clause-awaited
+returns-clause-awaited g c =
+    let t = c.look-next.new.session in
+    subst (λ (s : TicketView). HasAwaited s t (IsAnswered s t) c.look-next.result) c.self.view_is c.look-next.ensures.awaited
