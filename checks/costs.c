@@ -244,22 +244,12 @@ static void call_lock_path(void) {
     if (level != 5) exit(7);
 }
 
-static void fill_batch(uint32_t op, uint32_t mode, uint32_t step, uint32_t session) {
-    for (uint32_t k = 0; k < quantity("n"); k++) {
-        entries[k].session = session + k * (step == 0);
-        entries[k].call = call_on(op, mode, HERE + k * step);
-    }
-}
-
 /* `n` locks of new resources. */
-static void batch_of_new(void) { fill_batch(PELGAISTI_LOCK, PELGAISTI_X, 1, CALLER); }
-
-/* `n` sessions lock a resource that is held by somebody. */
-static void batch_of_group(void) {
-    uint32_t first = next_session + 1;
-    take(newcomer(), PELGAISTI_IS, HERE);
-    for (uint32_t k = 0; k < quantity("n"); k++) newcomer();
-    fill_batch(PELGAISTI_LOCK, PELGAISTI_IS, 0, first);
+static void batch_of_new(void) {
+    for (uint32_t k = 0; k < quantity("n"); k++) {
+        entries[k].session = CALLER;
+        entries[k].call = call_on(PELGAISTI_LOCK, PELGAISTI_X, HERE + k);
+    }
 }
 
 static void call_batch(void) {
@@ -331,6 +321,18 @@ static void call_dump(void) {
     uint64_t place;
     size_t count;
     check(pelgaisti_book_dump(&book, claims, quantity("n"), &count, &place));
+}
+
+/* All its lines. */
+static void call_dump_line(void) {
+    pelgaisti_dumping at = pelgaisti_dump_begin();
+    const size_t queue = quantity("queue");
+    size_t count, lines = 0;
+    uint64_t place;
+    char line[100];
+    check(pelgaisti_book_dump(&book, claims, MOST, &count, &place));
+    while (pelgaisti_dump_line(claims, count, &at, line, sizeof line)) lines++;
+    if (count > MOST || lines != count + queue * (queue + 1) / 2) exit(24);
 }
 
 static void call_counts(void) {
@@ -412,6 +414,13 @@ static void call_deadlocks(void) {
     if (count != quantity("kept") || member_count != 2 * count) exit(22);
 }
 
+/* The newest `n`. */
+static void call_newest_deadlocks(void) {
+    size_t count, member_count;
+    check(pelgaisti_book_newest_deadlocks(&book, deadlocks, quantity("n"), &count, members, 2 * MOST, &member_count));
+    if (count != quantity("kept") || member_count != 2 * quantity("n")) exit(22);
+}
+
 /* Twice as many deadlocks of two sessions as the book keeps. They are told once before: a first allocation of this size tidies up what the
    opening has freed, as the C library's `malloc` puts that off. */
 static void deadlocked(void) {
@@ -480,7 +489,6 @@ static const struct row {
     {"run", nothing, call_run, 0},
     {"lock_path", nothing, call_lock_path, 0},
     {"serve_batch", batch_of_new, call_batch, 0},
-    {"serve_batch, of a group", batch_of_group, call_batch, 0},
     {"held", reader_and_readers, call_held, 0},
     {"holders", readers, call_holders, 0},
     {"blockers", request_behind, call_blockers, 0},
@@ -490,6 +498,7 @@ static const struct row {
     {"request", request_behind, call_request, 0},
     {"locks", readers_and_queue, call_locks, 0},
     {"dump", readers_and_queue, call_dump, 0},
+    {"dump_line, of all lines", writer_before_readers, call_dump_line, 0},
     {"counts", readers_and_queue, call_counts, 0},
     {"locks_held", readers_and_queue, call_locks_held, 0},
     {"locks_of, of few", readers_and_queue, call_locks_of, 0},
@@ -503,6 +512,7 @@ static const struct row {
     {"shrink", idle, call_shrink, 1},
     {"idle_cells", idle, call_idle_cells, 1},
     {"deadlocks", deadlocked, call_deadlocks, 0},
+    {"newest_deadlocks", deadlocked, call_newest_deadlocks, 0},
     {"keep_deadlocks", open_anew, call_keep_deadlocks, 1},
     {"open", close_it, call_open, 1},
     {"close", idle, call_close, 1},

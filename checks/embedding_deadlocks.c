@@ -67,6 +67,23 @@ static struct told told_by_book(pelgaisti_book *book, size_t room, size_t member
     return told;
 }
 
+/* The newest of them, so many; of a session, if there is one. */
+static struct told newest_of(pelgaisti_book *book, pelgaisti_session *session, size_t room, size_t member_room) {
+    struct told told;
+    pelgaisti_status status;
+    memset(&told, 0x55, sizeof told);
+    do {
+        pelgaisti_deadlock *list = room ? told.list : NULL;
+        pelgaisti_member *members = member_room ? told.members : NULL;
+        if (session)
+            status = pelgaisti_session_newest_deadlocks(session, list, room, &told.count, members, member_room, &told.member_count, &told.seen);
+        else
+            status = pelgaisti_book_newest_deadlocks(book, list, room, &told.count, members, member_room, &told.member_count);
+    } while (status == PELGAISTI_ELSEWHERE);
+    CHECK(status == PELGAISTI_OK && is_within(&told, room, member_room));
+    return told;
+}
+
 /* The same of a session, which tries until it has the lock table. */
 static struct told told_by_session(pelgaisti_session *session, size_t room, size_t member_room) {
     struct told told;
@@ -216,7 +233,8 @@ static void a_restarted_victim_is_one_again(void) {
     close_book(&book);
 }
 
-/* With less room than there is, the first ones are written, and all are counted: deadlocks and members each by their own room. */
+/* With less room than there is, the first ones are written, or the newest ones, and all are counted: deadlocks and members each by their own
+   room. Members of the newest ones are counted alone. */
 static void room_is_kept(void) {
     pelgaisti_book book = PELGAISTI_EMPTY;
     open_book(&book, 2, 9);
@@ -230,6 +248,11 @@ static void room_is_kept(void) {
             if (room > 1 && member_room > 3) want_cross_again(&told, 1, 2);
             if (member_room == 3) CHECK(is_member(&told, 2, 2, 4, PELGAISTI_FRESH, PELGAISTI_X, nine, PELGAISTI_S));
             if (room == 1) CHECK(is_deadlock(&told, 0, 5, 2, 2));
+            const struct told newest = newest_of(&book, NULL, room, member_room);
+            CHECK(newest.count == 2 && newest.member_count == (room < 2 ? 2 * room : 4));
+            if (room == 1) CHECK(is_deadlock(&newest, 0, 17, 1, 2));
+            if (room == 1 && member_room > 1) want_cross_again(&newest, 0, 0);
+            if (room > 1 && member_room > 3) want_cross(&newest, 0, 0), want_cross_again(&newest, 1, 2);
         }
     close_book(&book);
 }
@@ -556,6 +579,9 @@ static void want_deadlocks_of(size_t kept) {
             CHECK(told.count == kept && told.member_count == 2 * kept && told.seen == 7);
             if (kept > 0 && room > 0) CHECK(is_deadlock(&told, 0, 5, 2, 2));
             if (kept > 0 && member_room > 0) CHECK(is_member(&told, 0, 2, 2, PELGAISTI_FRESH, PELGAISTI_X, one, PELGAISTI_X));
+            told = newest_of(NULL, &sessions[1], room, member_room);
+            CHECK(told.count == kept && told.member_count == (room > 0 ? 2 * kept : 0) && told.seen == 7);
+            if (kept > 0 && room > 0) CHECK(is_deadlock(&told, 0, 5, 2, 2));
         }
     close_office(&book);
     close_book(&book);

@@ -3,7 +3,8 @@
        embedding_dump trace < TRACE     serves the rows on a book and on an office; behind each row, and before the first, the two give the
                                         same dump; writes each dump as text, behind a line "at PLACE"
        embedding_dump busy CALLS        five threads make so many random calls each, while a sixth session takes dumps: each is the state
-                                        of its place, as a book shows it that serves the history up to there */
+                                        of its place, as a book shows it that serves the history up to there
+       embedding_dump queue             of 1,024 sessions one holds a resource, and 1,023 wait for it, each also for those ahead; writes the text */
 #include "must.h"
 #include "rows.h"
 #include "pelgaisti.h"
@@ -151,8 +152,46 @@ static void dump_busy(void) {
     MUST(pelgaisti_book_close(&replayed) == PELGAISTI_OK && pelgaisti_book_close(&book) == PELGAISTI_OK);
 }
 
+/* ---- A queue of all sessions but one. The last half of the sessions comes first, each half by rising numbers. ---- */
+
+static uint32_t in_turn(uint32_t k) { return (k + PELGAISTI_MAX_SESSIONS / 2) % PELGAISTI_MAX_SESSIONS + 1; }
+
+static void dump_queue(void) {
+    enum { ALL = PELGAISTI_MAX_SESSIONS };
+    static pelgaisti_claim rows[2 * ALL];
+    pelgaisti_book book = PELGAISTI_EMPTY;
+    pelgaisti_dumping at = pelgaisti_dump_begin();
+    uint64_t place;
+    size_t count;
+    char line[100], wanted[100];
+    MUST(pelgaisti_book_open(&book, ALL) == PELGAISTI_OK);
+    for (uint32_t k = 0; k < ALL; k++) {
+        const pelgaisti_call begin = {PELGAISTI_BEGIN, 0, {0, {0}}}, lock = {PELGAISTI_LOCK, PELGAISTI_X, {1, {7}}};
+        pelgaisti_reply reply;
+        MUST(pelgaisti_book_serve(&book, in_turn(k), &begin, &reply) == PELGAISTI_OK);
+        MUST(pelgaisti_book_serve(&book, in_turn(k), &lock, &reply) == PELGAISTI_OK);
+        MUST(reply.kind == (k == 0 ? PELGAISTI_GRANTED : PELGAISTI_WAITING));
+    }
+    MUST(pelgaisti_book_dump(&book, rows, 2 * ALL, &count, &place) == PELGAISTI_OK && count == 2 * ALL);
+    for (size_t k = 0; k < count; k++) {
+        MUST(pelgaisti_dump_line(rows, count, &at, line, sizeof line) > 0 && strncmp(line, "waits", 5) != 0);
+        fputs(line, stdout);
+    }
+    /* a session of the second half came before all of the first half, and behind those of its own half with lower numbers */
+    for (uint32_t session = 1; session <= ALL; session++)
+        for (uint32_t other = 1; other <= ALL; other++) {
+            const int late = session <= ALL / 2, late_other = other <= ALL / 2;
+            if (late == late_other ? other >= session : late_other) continue;
+            snprintf(wanted, sizeof wanted, "waits,%" PRIu32 ",,,,,%" PRIu32 "\n", session, other);
+            MUST(pelgaisti_dump_line(rows, count, &at, line, sizeof line) > 0 && !strcmp(line, wanted));
+            fputs(line, stdout);
+        }
+    MUST(pelgaisti_dump_line(rows, count, &at, line, sizeof line) == 0 && pelgaisti_book_close(&book) == PELGAISTI_OK);
+}
+
 int main(int count, char **words) {
     if (count == 2 && !strcmp(words[1], "trace")) dump_trace();
+    else if (count == 2 && !strcmp(words[1], "queue")) dump_queue();
     else if (count == 3 && !strcmp(words[1], "busy")) calls_each = strtol(words[2], NULL, 10), dump_busy();
     else return 64;
     return 0;

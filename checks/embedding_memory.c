@@ -46,6 +46,8 @@ static void ask_each(pelgaisti_session *session) {
     asked[8] = pelgaisti_session_shrink(session, &unseen);
     asked[9] = pelgaisti_session_idle_cells(session, &uncounted, &unseen);
     asked[10] = pelgaisti_session_deadlocks(session, &deadlock, 1, &uncounted, &member, 1, &unlisted, &unseen);
+    if (asked[10] == PELGAISTI_ELSEWHERE)
+        asked[10] = pelgaisti_session_newest_deadlocks(session, &deadlock, 1, &uncounted, &member, 1, &unlisted, &unseen);
     if (unlisted != 99) asked[10] = PELGAISTI_OK;
     asked[11] = pelgaisti_session_locks_held(session, 1, &uncounted, &unseen);
     asked[12] = pelgaisti_session_locks_of(session, 1, &place, &claim, 1, &uncounted, &unseen);
@@ -78,7 +80,7 @@ static void try_meanwhile(void) {
 enum { BOOK_OPEN, BOOK_SERVE, BOOK_SERVE_BATCH, BOOK_LOCK_PATH, BOOK_RUN, BOOK_HOLDERS, BOOK_LOCKS, OFFICE_OPEN, SESSION_SERVE, AT_ONCE, TELLING,
        SESSION_HOLDERS, SESSION_BLOCKERS, SESSION_LOCKS, HAND_IN, OFFICE_CLOSE, OPEN_WAKING, WAKING_SERVE, WAKING_SERVE_TELLING,
        WAKING_AT_ONCE, WAKING_TELLING, WAKING_PERFORM, WAKING_PATH, SESSION_RUN, BOOK_RESERVE, SESSION_RESERVE,
-       KEEP_DEADLOCKS, BOOK_DEADLOCKS, OPEN_TELLING, SESSION_DEADLOCKS, BOOK_LOCKS_OF,
+       KEEP_DEADLOCKS, BOOK_DEADLOCKS, BOOK_NEWEST, OPEN_TELLING, SESSION_DEADLOCKS, SESSION_NEWEST, BOOK_LOCKS_OF,
        SESSION_LOCKS_OF, BOOK_DUMP, SESSION_DUMP, LACKING };
 static const char *const lacking[LACKING] = {"book_open", "book_serve", "book_serve_batch", "book_lock_path", "book_run",
                                              "book_holders", "book_locks", "office_open", "session_serve", "session_perform_at_once",
@@ -87,7 +89,8 @@ static const char *const lacking[LACKING] = {"book_open", "book_serve", "book_se
                                              "session_serve_telling, which wakes", "session_perform_at_once, which wakes",
                                              "session_perform_telling, which wakes", "session_perform, which wakes",
                                              "session_lock_path, which wakes", "session_run", "book_reserve", "session_reserve",
-                                             "book_keep_deadlocks", "book_deadlocks", "office_open_telling", "session_deadlocks", "book_locks_of",
+                                             "book_keep_deadlocks", "book_deadlocks", "book_newest_deadlocks", "office_open_telling", "session_deadlocks",
+                                             "session_newest_deadlocks", "book_locks_of",
                                              "session_locks_of", "book_dump", "session_dump"};
 static long lacked[LACKING];
 
@@ -777,6 +780,11 @@ static void deadlocks_of_a_book(void) {
                                                                &told_of.member_count)))
         CHECK(!memcmp(&told_of, &untold_of, sizeof told_of));
     CHECK(are_told(kept, 20));
+    memset(&told_of, 0x55, sizeof told_of);
+    while (is_lacking(BOOK_NEWEST, pelgaisti_book_newest_deadlocks(&book, told_of.list, 2, &told_of.count, told_of.members, 4,
+                                                                   &told_of.member_count)))
+        CHECK(!memcmp(&told_of, &untold_of, sizeof told_of));
+    CHECK(are_told(kept, 20));
     CHECK(pelgaisti_book_close(&book) == PELGAISTI_OK);
 }
 
@@ -795,6 +803,11 @@ static void deadlocks_of_an_office(void) {
     memset(&told_of, 0x55, sizeof told_of);
     while (is_lacking(SESSION_DEADLOCKS, pelgaisti_session_deadlocks(&sessions[0], told_of.list, 2, &told_of.count, told_of.members, 4,
                                                                      &told_of.member_count, &told_of.seen)))
+        CHECK(!memcmp(&told_of, &untold_of, sizeof told_of));
+    CHECK(are_told(1, 10) && told_of.seen == 6);
+    memset(&told_of, 0x55, sizeof told_of);
+    while (is_lacking(SESSION_NEWEST, pelgaisti_session_newest_deadlocks(&sessions[0], told_of.list, 2, &told_of.count, told_of.members, 4,
+                                                                         &told_of.member_count, &told_of.seen)))
         CHECK(!memcmp(&told_of, &untold_of, sizeof told_of));
     CHECK(are_told(1, 10) && told_of.seen == 6);
     while (is_lacking(HAND_IN, pelgaisti_session_hand_in(&sessions[1], &sessions[0]))) continue;

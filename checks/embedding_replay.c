@@ -1,11 +1,9 @@
-/* Serves the rows of a trace on a book through pelgaisti.h, and writes the book's history as `glm replay` does. */
-#include "history.h"
+/* Serves the rows of a trace on a book through pelgaisti.h, and writes the book's history as `glm replay` does, by the function that
+   examples/monitor.c has for it. */
+#define main monitor
+#include "../examples/monitor.c"
+#undef main
 #include "names.h"
-#include "pelgaisti.h"
-#include <inttypes.h>
-#include <stdio.h>
-#include <stdlib.h>
-#include <string.h>
 
 static uint32_t number_of(const name *list, size_t length, const char *text) {
     const name *found = named(list, length, text);
@@ -43,7 +41,7 @@ int main(void) {
         pelgaisti_entry entries[3];
         size_t count = 0;
         if (pelgaisti_book_history(&book, place, entries, 3, &count) != PELGAISTI_OK || count == 0) return 5;
-        for (size_t k = 0; k < count; k++) write_entry(stdout, place + k, &entries[k]);
+        for (size_t k = 0; k < count; k++) write_entry(place + k, &entries[k], stdout);
         place += count - 1;
     }
     return pelgaisti_book_close(&book) != PELGAISTI_OK;

@@ -52,6 +52,7 @@ static const struct {
 } all_calls[] = {
     {ANY(book_open), "pn"}, {ANY(book_open_seeded), "pnn"}, {ANY(book_reserve), "pnn"}, {ANY(book_shrink), "p"},
     {ANY(book_keep_deadlocks), "pn"}, {ANY(book_deadlocks), "plrplrp"}, {ANY(session_deadlocks), "plrplrpp"},
+    {ANY(book_newest_deadlocks), "plrplrp"}, {ANY(session_newest_deadlocks), "plrplrpp"},
     {ANY(office_open_telling), "pnnon"}, {ANY(book_idle_cells), "pp"}, {ANY(office_open_seeded), "pnnon"}, {ANY(session_reserve), "pnnp"}, {ANY(session_shrink), "pp"},
     {ANY(session_idle_cells), "ppp"}, {ANY(book_close), "p"}, {ANY(book_serve), "pnpp"}, {ANY(book_serve_batch), "plrp"}, {ANY(book_held), "pnpp"},
     {ANY(book_holders), "pplrp"}, {ANY(book_waits_for), "pnnp"}, {ANY(book_blockers), "pnlrp"}, {ANY(book_transaction), "pnp"},

@@ -291,6 +291,7 @@ static void offices() {
     CHECK(office[0].locks_behind(office[0].locks_of(2, 1)->found.at(0), 8)->found.empty());
     CHECK(throws(PELGAISTI_NO_SUCH_SESSION, [&] { office[0].blockers(3); }));
     CHECK(office[1].lock_path({7, 8}, mode::X, level)->reply.kind == kind::granted && level == 2);
+    CHECK(throws(PELGAISTI_NO_SUCH_LEVEL, [&] { static_cast<void>(office[1].lock_path({7, 8}, mode::X, level)); }) && level == 2);
     office[0].hear(office[1]);
     office[0].retire();
     CHECK(throws(PELGAISTI_RETIRED, [&] { office[0].publish({op::begin}); }));
@@ -343,6 +344,11 @@ static void books_tell_deadlocks() {
         const auto told = book.deadlocks();
         const std::size_t kept = std::min(most, std::size_t{20});
         CHECK(told.size() == kept);
+        for (const std::size_t asked : {0u, 1u, 12u, 40u}) {  // the newest ones, in the same order
+            const auto newest = book.deadlocks(asked);
+            CHECK(newest.size() == std::min(asked, kept));
+            for (std::size_t k = 0; k < newest.size(); ++k) CHECK(newest[k].place == told[kept - newest.size() + k].place && newest[k].cycle.size() == 2);
+        }
         for (std::size_t k = 0; k < told.size(); ++k) {
             const std::uint64_t round = 20 - kept + k;
             CHECK(told[k].place == 8 * round + 5 && told[k].session == 2 && told[k].cycle.size() == 2);

@@ -75,6 +75,11 @@ static void of_a_book(void) {
     WRITES_2(count, deadlocks, pelgaisti_book_deadlocks(&book, deadlocks, 1, &count, members, 2, &member_count));
     READ(members);
     READ(member_count);
+    FORGET(members);
+    FORGET(member_count);
+    WRITES_2(count, deadlocks, pelgaisti_book_newest_deadlocks(&book, deadlocks, 1, &count, members, 2, &member_count));
+    READ(members);
+    READ(member_count);
     FORGET(text);
     if (pelgaisti_deadlock_text(&deadlocks[0], members, text, sizeof text) < sizeof text) faults++;
     READ(text);
@@ -120,6 +125,8 @@ static void of_an_office(void) {
     WRITES_3(blockers, count, seen, pelgaisti_session_blockers(&sessions[0], 2, blockers, 1, &count, &seen));
     WRITES_3(locks, count, seen, pelgaisti_session_locks(&sessions[0], 0, locks, 1, &count, &seen));
     WRITES_3(member_count, count, seen, pelgaisti_session_deadlocks(&sessions[0], deadlocks, 1, &count, members, 1, &member_count, &seen));
+    WRITES_3(member_count, count, seen, pelgaisti_session_newest_deadlocks(&sessions[0], deadlocks, 1, &count, members, 1, &member_count,
+                                                                           &seen));
     WRITES_2(count, seen, pelgaisti_session_locks_held(&sessions[0], 1, &count, &seen));
     WRITES_3(locks, count, seen, pelgaisti_session_locks_of(&sessions[0], 1, &nowhere, locks, 1, &count, &seen));
     WRITES_3(locks, count, seen, pelgaisti_session_dump(&sessions[0], locks, 1, &count, &seen));

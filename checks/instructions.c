@@ -1,6 +1,5 @@
 /* For checks/instructions.py, which counts the instructions of one function alone. Usage: instructions WHAT TIMES. WHAT is
        locks      passes of an office serve 32 compatible locks each: pass_of_locks
-       batches    a book serves batches of 32 compatible locks: batch_of_locks
        performs   one thread makes transactions of a begin, a lock and a commit: perform_transaction, of three calls
        wakes      the same, in an office with a waker, which wakes nobody since nobody waits
        calls      one thread makes transfers of seven calls: a commit, a begin, a database and a file in IX and a page in X, another file
@@ -62,43 +61,6 @@ static void locks(long passes) {
 }
 
 static pelgaisti_book book;
-
-/* Fills a batch with this call of each locker. */
-static void fill(pelgaisti_entry *batch, uint32_t op, uint32_t mode) {
-    for (uint32_t k = 0; k < LOCKERS; k++) {
-        memset(&batch[k], 0, sizeof batch[k]);
-        batch[k].session = k + 1;
-        batch[k].call = (pelgaisti_call){op, mode, {1, {7}}};
-    }
-}
-
-__attribute__((noinline)) void batch_of_locks(pelgaisti_entry *batch);
-
-/* A function of its own, by whose name its instructions are counted. */
-__attribute__((noinline)) void batch_of_locks(pelgaisti_entry *batch) {
-    size_t count;
-    if (pelgaisti_book_serve_batch(&book, batch, LOCKERS, &count) != PELGAISTI_OK || count != LOCKERS) exit(22);
-}
-
-static void batches(long times) {
-    const pelgaisti_call begin = {PELGAISTI_BEGIN, 0, {0, {0}}}, lock = {PELGAISTI_LOCK, PELGAISTI_IX, {1, {7}}};
-    pelgaisti_entry batch[LOCKERS];
-    pelgaisti_reply reply;
-    size_t count;
-    if (pelgaisti_book_open_seeded(&book, LOCKERS + 1, SEED) != PELGAISTI_OK || pelgaisti_book_keep_at_most(&book, 64) != PELGAISTI_OK) exit(23);
-    /* somebody holds the resource, so the first lock of a batch needs no cell */
-    if (pelgaisti_book_serve(&book, LOCKERS + 1, &begin, &reply) != PELGAISTI_OK) exit(24);
-    if (pelgaisti_book_serve(&book, LOCKERS + 1, &lock, &reply) != PELGAISTI_OK) exit(25);
-    for (long k = 0; k < times; k++) {
-        fill(batch, PELGAISTI_BEGIN, 0);
-        if (pelgaisti_book_serve_batch(&book, batch, LOCKERS, &count) != PELGAISTI_OK || count != LOCKERS) exit(26);
-        fill(batch, PELGAISTI_LOCK, PELGAISTI_IX);
-        batch_of_locks(batch);
-        if (batch[LOCKERS - 1].reply.kind != PELGAISTI_GRANTED) exit(27);
-        fill(batch, PELGAISTI_COMMIT, 0);
-        if (pelgaisti_book_serve_batch(&book, batch, LOCKERS, &count) != PELGAISTI_OK || count != LOCKERS) exit(28);
-    }
-}
 
 typedef struct row {
     uint32_t session;
@@ -224,7 +186,6 @@ int main(int argc, char **argv) {
     if (argc == 3 && !strcmp(argv[1], "rows")) rows(argv[2]);
     else if (argc == 3 && !strcmp(argv[1], "locks")) locks(times);
     else if (argc == 3 && (!strcmp(argv[1], "performs") || is_waking)) performs(times);
-    else if (argc == 3 && !strcmp(argv[1], "batches")) batches(times);
     else if (argc == 3) transfers(argv[1], times);
     return 0;
 }

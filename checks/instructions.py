@@ -5,12 +5,11 @@ Usage: checks/instructions.py [--over-gate]
 
 Each case has calls that go a fast way, and a bound on the instructions of one of them, counted by callgrind through the library for
 C (checks/instructions.c). A new book serves the calls behind what leads up to them, and what leads up alone: the count is the
-difference. A book serves locks of a batch, a pass of an office serves locks, and calls of one thread are performed at once, with no
-waker and with one that has nobody to wake. A transfer is made by single calls and by programs, of an
-office and of a book: what the office takes beyond the book is its hand-over. A bound is some 20 per cent above
-what was counted when it was set (more for the smallest count), and below what the calls cost without the fast way, as tried in
-builds in which it was broken; for locks of a batch, with locks of two databases in turn, which make no run; for a second holder,
-with the least that two requests for memory take. If calls have become dearer for a good reason, set the bound anew.
+difference. A pass of an office serves locks, and calls of one thread are performed at once, with no waker and with one that has
+nobody to wake. A transfer is made by single calls and by programs, of an office and of a book: what the office takes beyond the
+book is its hand-over. A bound is some 20 per cent above what was counted when it was set (more for the smallest count), and below
+what the calls cost without the fast way, as tried in builds in which it was broken; for a second holder, with the least that two
+requests for memory take. If calls have become dearer for a good reason, set the bound anew.
 
 The dearest calls known are counted, too: searches for cycles (bench/worst.py) by `glm replay`, as the difference between traces with
 them and without, and others through the library for C (checks/dear_calls.c). A search for cycles that takes the square of the sessions
@@ -122,7 +121,6 @@ DEAREST = [
 # What a thread alone does through the library for C: what it is, what checks/instructions.c does, the function of which the
 # instructions are counted, how often it is called, how many calls it makes each time, the most instructions of one.
 THROUGH_C = [
-    ("compatible locks of a batch are granted together", "batches", "batch_of_locks", 200, 32, 730),
     ("locks are granted by a pass of an office", "locks", "pass_of_locks", 200, 32, 1410),
     ("a call is performed at once", "performs", "perform_transaction", 2000, 3, 1135),
     ("a call is performed at once in an office with a waker", "wakes", "perform_transaction", 2000, 3, 1175),

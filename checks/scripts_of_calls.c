@@ -638,7 +638,7 @@ static uint32_t draw(uint32_t limit) {
     return (uint32_t)(seed >> 33) % limit;
 }
 
-/* A random call. Most are locks of one of two databases, so that there are runs of locks. */
+/* A random call. Most are locks of one of two databases. */
 static pelgaisti_entry random_entry(void) {
     static const uint32_t drawn[8] = {PELGAISTI_X, PELGAISTI_S, PELGAISTI_IX, PELGAISTI_U};
     uint32_t session = 1 + draw(40), number = 1 + draw(2), choice = draw(20), op = PELGAISTI_LOCK, at;

@@ -422,7 +422,7 @@ pelgaisti_book pelgaisti_empty_book(void);
 pelgaisti_session pelgaisti_empty_session(void);
 
 /* What the archive was compiled with: sizes in bytes, and the places of fields. */
-#ifdef __cplusplus
+#if defined(__cplusplus) && __cplusplus >= 201103L
 #define PELGAISTI_ASSERT_(name, condition) static_assert(condition, "pelgaisti.h: " #name)
 #elif defined(__STDC_VERSION__) && __STDC_VERSION__ >= 201112L
 #define PELGAISTI_ASSERT_(name, condition) _Static_assert(condition, "pelgaisti.h: " #name)
@@ -504,11 +504,10 @@ pelgaisti_status pelgaisti_book_serve(pelgaisti_book *book, uint32_t session, co
 
 /* Serves several calls in order, `length` of them, and writes the number of those that were served to `count`. A call is given by
    `session` and `call` of an entry. Each that is served becomes its entry of the history: `reply` is written, and the numbers that
-   the call doesn't use become 0. Replies and history are those of serving the calls one after another; locks of several sessions on
-   one resource that follow one another are granted together where their modes allow. `count` is less than `length` only if memory
-   was refused for the next call [that is tested]; the entries from there on are as they were, and may be served again. If an entry
-   is no call, its status is returned, and none is served. `calls` may be NULL if `length` is 0. Requires `length` elements at
-   `calls`.
+   the call doesn't use become 0. Replies and history are those of serving the calls one after another. `count` is less than `length`
+   only if memory was refused for the next call [that is tested]; the entries from there on are as they were, and may be served
+   again. If an entry is no call, its status is returned, and none is served. `calls` may be NULL if `length` is 0. Requires `length`
+   elements at `calls`.
    NULL, CLOSED, NO_SUCH_SESSION, NO_SUCH_OP, NO_SUCH_LEVEL, NO_SUCH_MODE (the first entry that is no call), NO_MEMORY. */
 pelgaisti_status pelgaisti_book_serve_batch(pelgaisti_book *book, pelgaisti_entry *calls, size_t length, size_t *count);
 
@@ -582,7 +581,7 @@ pelgaisti_status pelgaisti_book_gauges(pelgaisti_book *book, pelgaisti_gauges *g
 typedef struct pelgaisti_dumping {
     size_t row;
     size_t wait;
-    uint32_t other;
+    uint64_t others[PELGAISTI_MAX_SESSIONS / 64];
 } pelgaisti_dumping;
 
 /* The place in front of a dump's first line. */
@@ -590,11 +589,11 @@ pelgaisti_dumping pelgaisti_dump_begin(void);
 
 /* Writes the next line of a whole dump to `text`, as snprintf does: at most `room` bytes with the 0 at the end; 100 are enough. Returns
    the length of the line without the 0, and 0 behind the last one. The lines are those of `glm show --csv` of the state: of the `count`
-   rows of the dump, one each, and then of who waits for whom, which follows from these rows. A line of a wait costs a look at the rows of
-   its resource, and each session that waits a look at all rows: so 1,023 requests for one resource are 523,776 lines, and seconds. Who
-   doesn't want them stops behind `count` lines, and asks pelgaisti_session_blockers for whom one session waits; but `glm show --state`
-   reads all of them or none. No handle is needed. `rows` may be NULL if `count` is 0. Requires `count`
-   elements at `rows`, all of one dump, and at `at` what pelgaisti_dump_begin or an earlier call with these rows left there. */
+   rows of the dump, one each, and then of who waits for whom, which follows from these rows: 523,776 lines where 1,023 requests wait for
+   one resource. The time grows with the lines, and each session that waits costs a look at all rows once. Who doesn't want these lines
+   stops behind `count` lines, and asks pelgaisti_session_blockers for whom one session waits; but `glm show --state` reads all of them or
+   none. No handle is needed. `rows` may be NULL if `count` is 0. Requires `count` elements at `rows`, all of one dump, and at `at` what
+   pelgaisti_dump_begin or an earlier call with these rows left there. */
 uint32_t pelgaisti_dump_line(const pelgaisti_claim *rows, size_t count, pelgaisti_dumping *at, char *text, size_t room);
 
 /* Writes the first `room` of the sessions whose wait the last call, batch, path or program has ended to `list`, each once, in no
@@ -656,6 +655,13 @@ pelgaisti_status pelgaisti_book_keep_deadlocks(pelgaisti_book *book, size_t most
    NULL, CLOSED, NO_MEMORY. */
 pelgaisti_status pelgaisti_book_deadlocks(pelgaisti_book *book, pelgaisti_deadlock *list, size_t room, size_t *count,
                                           pelgaisti_member *members, size_t member_room, size_t *member_count);
+
+/* Writes the newest `room` of the deadlocks that are kept, oldest first, to `list`, and the number of all that are kept to `count`; and the
+   first `member_room` of the members of these `room` to `members`, and their number to `member_count`. Else it is as
+   pelgaisti_book_deadlocks. Its cost grows with these deadlocks, not with all.
+   NULL, CLOSED, NO_MEMORY. */
+pelgaisti_status pelgaisti_book_newest_deadlocks(pelgaisti_book *book, pelgaisti_deadlock *list, size_t room, size_t *count,
+                                                 pelgaisti_member *members, size_t member_room, size_t *member_count);
 
 /* ---- Memory of a book. It grows by doubling, and what has grown is moved then, in one call. It gives nothing back by itself: a resource
    that nobody holds or waits for any more leaves an idle cell, whose memory the next new resource takes. These three calls change nothing
@@ -759,10 +765,10 @@ pelgaisti_status pelgaisti_office_open_keeping(pelgaisti_session *sessions, size
    thread sleeps on it by sem_wait and polls, as if there were no limit. examples/engine.c does so.
 
    Why no wake-up is lost. (1) A session whose last answer is WAITING, collected or not, has a waiting request, or an entry of the
-   history behind that answer has ended its wait, which exactly one session has entered in a pass [proved: not_forgotten of
-   lock_office::laws::nobody_who_waits_is_forgotten]. (2) The call that made this pass lists exactly the sessions whose waits its
-   entries have ended, also if the wait began in the same pass, and also if memory was refused [proved: none_lost of
-   lock_office::laws::no_wake_up_is_lost, and told of the exports]. (3) The call reads its list [proved: ok of
+   history behind that answer has ended its wait, which exactly one session has entered in a pass [proved: waits_or_ended
+   of lock_office::laws::ended_waits_are_listed]. (2) The call that made this pass lists exactly the sessions whose waits its
+   entries have ended, also if the wait began in the same pass, and also if memory was refused [proved: listed of the
+   same law, none_lost of lock_office::laws::no_wake_up_is_lost, and told of the exports]. (3) The call reads its list [proved: ok of
    pelgaisti_raw_session_told] and calls the waker for each [tested, and that nothing of this takes memory]. (4) A semaphore counts, so
    that a post before the thread sleeps wakes it as well [that is the system's]. (5) The next poll of a session that was told of, and
    has made no call since its wait ended, replies CLEAR or DEADLOCK, whatever others call before it [proved: none_idle of
@@ -886,6 +892,12 @@ pelgaisti_status pelgaisti_session_locks(pelgaisti_session *session, size_t firs
    NULL, CLOSED, NO_MEMORY or ELSEWHERE. */
 pelgaisti_status pelgaisti_session_deadlocks(pelgaisti_session *session, pelgaisti_deadlock *list, size_t room, size_t *count,
                                              pelgaisti_member *members, size_t member_room, size_t *member_count, uint64_t *seen);
+
+/* Writes the newest `room` of them, as pelgaisti_book_newest_deadlocks does, and else is as pelgaisti_session_deadlocks.
+   NULL, CLOSED, NO_MEMORY or ELSEWHERE. */
+pelgaisti_status pelgaisti_session_newest_deadlocks(pelgaisti_session *session, pelgaisti_deadlock *list, size_t room,
+                                                    size_t *count, pelgaisti_member *members, size_t member_room,
+                                                    size_t *member_count, uint64_t *seen);
 
 /* Writes how many locks session `whose` holds, as pelgaisti_book_locks_held does.
    NULL, CLOSED, NO_SUCH_SESSION, ELSEWHERE. */

@@ -123,7 +123,7 @@ enum class start : uint32_t { nothing = 0, begins, commits, aborts, commits_and_
 struct dump {
     uint64_t place;
     std::vector<pelgaisti_claim> rows;
-    // The rows of `glm show --csv`. Of a long queue it takes seconds, as pelgaisti_dump_line says.
+    // The rows of `glm show --csv`. Of a long queue they are many, as pelgaisti_dump_line says.
     std::string text() const {
         std::string all;
         char line[128];
@@ -181,12 +181,14 @@ inline std::string to_string(const deadlock &it) {
 template <class Traits> std::basic_ostream<char, Traits> &operator<<(std::basic_ostream<char, Traits> &out, const deadlock &it) {
     return out << to_string(it).c_str();
 }
-// The deadlocks that a call writes, with their members: it is made again with more room until all fit. `call` returns whether it wrote.
-template <class Call> bool tell_deadlocks(std::vector<deadlock> &told, Call call) {
-    std::vector<pelgaisti_deadlock> list(8);
+// The newest deadlocks, `most` at most, that a call writes, with their members: it is made again with more room until all fit. `call` returns
+// whether it wrote.
+template <class Call> bool tell_deadlocks(std::vector<deadlock> &told, size_t most, Call call) {
+    std::vector<pelgaisti_deadlock> list((std::min)(most, size_t{8}));
     std::vector<member> members(32);
-    for (size_t count = 0, all = 0;; list.resize(count), members.resize(all)) {
+    for (size_t count = 0, all = 0;; list.resize(count), members.resize((std::max)(all, members.size()))) {
         if (!call(list.data(), list.size(), &count, members.data(), members.size(), &all)) return false;
+        count = (std::min)(count, most);
         if (count > list.size() || all > members.size()) continue;
         const member *next = members.data();
         for (size_t k = 0; k < count; next += list[k++].members)
@@ -271,11 +273,11 @@ public:
     }
     // Keeps the newest `most` deadlocks from now on, and takes the memory for them; else a book keeps none. SERVED: it has served calls.
     void keep_deadlocks(size_t most) { check(pelgaisti_book_keep_deadlocks(&handle_, most)); }
-    // The deadlocks that are kept, oldest first.
-    std::vector<deadlock> deadlocks() {
+    // The newest `most` of the deadlocks that are kept, oldest first.
+    std::vector<deadlock> deadlocks(size_t most = SIZE_MAX) {
         std::vector<deadlock> told;
-        static_cast<void>(tell_deadlocks(told, [&](auto *at, size_t room, auto *n, auto *members, size_t member_room, auto *all_members) {
-            return check(pelgaisti_book_deadlocks(&handle_, at, room, n, members, member_room, all_members)), true; }));
+        static_cast<void>(tell_deadlocks(told, most, [&](auto *at, size_t room, auto *n, auto *members, size_t members_room, auto *all) {
+            return check(pelgaisti_book_newest_deadlocks(&handle_, at, room, n, members, members_room, all)), true; }));
         return told;
     }
     // How many locks the session holds; and a page of them, up to `most`: the first ones, those on resources behind `after`, or those behind the
@@ -404,11 +406,11 @@ public:
         return listed<pelgaisti_claim>([&](auto *at, size_t room, auto *count, auto *n) {
             return pelgaisti_session_locks(&handle_, 0, at, room, count, n); });
     }
-    // The newest deadlocks, oldest first, as many as the office was told to keep.
-    std::optional<seen<std::vector<deadlock>>> deadlocks() {
+    // The newest `most` deadlocks, oldest first, of those that the office was told to keep.
+    std::optional<seen<std::vector<deadlock>>> deadlocks(size_t most = SIZE_MAX) {
         seen<std::vector<deadlock>> made{{}, 0};
-        const bool is_told = tell_deadlocks(made.found, [&](auto *at, size_t room, auto *n, auto *members, size_t member_room, auto *all) {
-            return !elsewhere(pelgaisti_session_deadlocks(&handle_, at, room, n, members, member_room, all, &made.length)); });
+        const bool is_told = tell_deadlocks(made.found, most, [&](auto *at, size_t room, auto *n, auto *members, size_t member_room, auto *all) {
+            return !elsewhere(pelgaisti_session_newest_deadlocks(&handle_, at, room, n, members, member_room, all, &made.length)); });
         return is_told ? std::optional(std::move(made)) : std::nullopt;
     }
     std::optional<seen<size_t>> locks_held(uint32_t whose) {

@@ -228,11 +228,21 @@ pelgaisti_status pelgaisti_book_keep_deadlocks(pelgaisti_book *book, size_t most
     return CALL(book, pelgaisti_raw_book_keep_deadlocks(&book, most));
 }
 
-pelgaisti_status pelgaisti_book_deadlocks(pelgaisti_book *book, pelgaisti_deadlock *list, size_t room, size_t *count,
+static pelgaisti_status deadlocks_of_book(pelgaisti_book *book, size_t most, pelgaisti_deadlock *list, size_t room, size_t *count,
                                           pelgaisti_member *members, size_t member_room, size_t *member_count) {
     return LISTING(list, room, count, LISTING(members, member_room, member_count,
-                   CALL(book, pelgaisti_raw_book_deadlocks(&book, LIST(list, room), &count, LIST(members, member_room),
+                   CALL(book, pelgaisti_raw_book_deadlocks(&book, most, LIST(list, room), &count, LIST(members, member_room),
                         &member_count))));
+}
+
+pelgaisti_status pelgaisti_book_deadlocks(pelgaisti_book *book, pelgaisti_deadlock *list, size_t room, size_t *count,
+                                          pelgaisti_member *members, size_t member_room, size_t *member_count) {
+    return deadlocks_of_book(book, SIZE_MAX, list, room, count, members, member_room, member_count);
+}
+
+pelgaisti_status pelgaisti_book_newest_deadlocks(pelgaisti_book *book, pelgaisti_deadlock *list, size_t room, size_t *count,
+                                                 pelgaisti_member *members, size_t member_room, size_t *member_count) {
+    return deadlocks_of_book(book, room, list, room, count, members, member_room, member_count);
 }
 
 pelgaisti_status pelgaisti_book_reserve(pelgaisti_book *book, size_t resources, size_t entries) {
@@ -334,8 +344,8 @@ static COLD void wake_listed(pelgaisti_session *session, const uint32_t *list, s
 /* ---- Sleep: a session that has waited for long in a whole call sleeps, and whoever had the lock table wakes it. The archive says who may
    sleep, and whom to wake. ---- */
 
-/* The turns that a whole call makes before its thread sleeps, as those of the crate sleeping_calls, and the turns between two sleeps: the
-   first of them tries for the lock table. */
+/* The turns that a whole call makes before its thread sleeps, and the turns between two sleeps: the first of them tries for the lock
+   table. */
 enum { TURNS_AWAKE = 128, TURNS_BETWEEN_SLEEPS = 8 };
 
 /* Ends the sleeps of all sessions of the office, and wakes their threads. */
@@ -565,12 +575,23 @@ pelgaisti_status pelgaisti_session_locks(pelgaisti_session *session, size_t firs
                    HOLDING(session, pelgaisti_raw_session_locks(&session, first, LIST(list, room), &count, &seen))));
 }
 
+static pelgaisti_status deadlocks_seen(pelgaisti_session *session, size_t most, pelgaisti_deadlock *list, size_t room, size_t *count,
+                                       pelgaisti_member *members, size_t member_room, size_t *member_count, uint64_t *seen) {
+    return LISTING(list, room, count, LISTING(members, member_room, member_count, WRITING(seen,
+                   HOLDING(session, pelgaisti_raw_session_deadlocks(&session, most, LIST(list, room), &count,
+                        LIST(members, member_room), &member_count, &seen)))));
+}
+
 pelgaisti_status pelgaisti_session_deadlocks(pelgaisti_session *session, pelgaisti_deadlock *list, size_t room, size_t *count,
                                              pelgaisti_member *members, size_t member_room, size_t *member_count,
                                              uint64_t *seen) {
-    return LISTING(list, room, count, LISTING(members, member_room, member_count, WRITING(seen,
-                   HOLDING(session, pelgaisti_raw_session_deadlocks(&session, LIST(list, room), &count, LIST(members, member_room),
-                        &member_count, &seen)))));
+    return deadlocks_seen(session, SIZE_MAX, list, room, count, members, member_room, member_count, seen);
+}
+
+pelgaisti_status pelgaisti_session_newest_deadlocks(pelgaisti_session *session, pelgaisti_deadlock *list, size_t room,
+                                                    size_t *count, pelgaisti_member *members, size_t member_room,
+                                                    size_t *member_count, uint64_t *seen) {
+    return deadlocks_seen(session, room, list, room, count, members, member_room, member_count, seen);
 }
 
 pelgaisti_status pelgaisti_session_locks_held(pelgaisti_session *session, uint32_t whose, size_t *count, uint64_t *seen) {

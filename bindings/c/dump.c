@@ -25,35 +25,40 @@ static size_t request_above(const pelgaisti_claim *rows, size_t count, uint32_t 
     return found;
 }
 
-/* The least number above `other` of a session for which the request at this index waits, 0 if there is none. A session may hold the
-   resource and be ahead in its queue. */
-static uint32_t blocker_above(const pelgaisti_claim *rows, size_t count, size_t request, uint32_t other) {
-    uint32_t least = 0;
-    size_t first = request;
-    while (first > 0 && is_on(&rows[first - 1], &rows[request])) first--;
-    for (size_t k = first; k < count && is_on(&rows[k], &rows[request]); k++) {
-        int blocks = is_request(&rows[k]) ? k < request : conflicts(rows[request].mode, rows[k].mode);
-        if (!blocks || rows[k].session == rows[request].session || rows[k].session <= other) continue;
-        if (least == 0 || rows[k].session < least) least = rows[k].session;
+/* Notes the sessions for which the request at this index waits: the holders that it conflicts with, and those ahead in its queue. */
+static void note_others(const pelgaisti_claim *rows, size_t request, pelgaisti_dumping *at) {
+    for (size_t k = request; k > 0 && is_on(&rows[k - 1], &rows[request]); k--) {
+        const pelgaisti_claim *row = &rows[k - 1];
+        const uint32_t bit = row->session - 1;
+        const int blocks = is_request(row) || conflicts(rows[request].mode, row->mode);
+        if (blocks && row->session != rows[request].session && bit < PELGAISTI_MAX_SESSIONS) at->others[bit / 64] |= (uint64_t)1 << bit % 64;
     }
-    return least;
 }
 
-/* Moves on to the next wait behind the rows. Returns 0 if there is none. */
-static int next_wait(const pelgaisti_claim *rows, size_t count, pelgaisti_dumping *at) {
-    while (at->wait < count || at->wait == SIZE_MAX) {
-        if (at->wait != SIZE_MAX) {
-            at->other = blocker_above(rows, count, at->wait, at->other);
-            if (at->other) return 1;
-        }
-        at->wait = request_above(rows, count, at->wait == SIZE_MAX ? 0 : rows[at->wait].session);
-        at->other = 0;
+/* The noted session with the least number, which is noted no more; 0 if there is none. */
+static uint32_t take_other(pelgaisti_dumping *at) {
+    for (uint32_t word = 0; word < PELGAISTI_MAX_SESSIONS / 64; word++) {
+        if (at->others[word] == 0) continue;
+        const uint32_t bit = (uint32_t)__builtin_ctzll(at->others[word]);
+        at->others[word] &= at->others[word] - 1;
+        return 64 * word + bit + 1;
     }
     return 0;
 }
 
+/* Moves on to the next wait behind the rows: the request is at `wait`, and the number is for whom it waits. 0 if there is none. */
+static uint32_t next_wait(const pelgaisti_claim *rows, size_t count, pelgaisti_dumping *at) {
+    uint32_t other = take_other(at);
+    while (other == 0 && (at->wait < count || at->wait == SIZE_MAX)) {
+        at->wait = request_above(rows, count, at->wait == SIZE_MAX ? 0 : rows[at->wait].session);
+        if (at->wait < count) note_others(rows, at->wait, at);
+        other = take_other(at);
+    }
+    return other;
+}
+
 pelgaisti_dumping pelgaisti_dump_begin(void) {
-    pelgaisti_dumping at = {0, SIZE_MAX, 0};
+    pelgaisti_dumping at = {0, SIZE_MAX, {0}};
     return at;
 }
 
@@ -75,9 +80,10 @@ uint32_t pelgaisti_dump_line(const pelgaisti_claim *rows, size_t count, pelgaist
         put_row(&out, &rows[at->row++]);
         return (uint32_t)end_text(&out);
     }
-    if (!next_wait(rows, count, at)) return 0;
+    const uint32_t other = next_wait(rows, count, at);
+    if (other == 0) return 0;
     put_words_and_number(&out, "waits,", rows[at->wait].session);
-    put_words_and_number(&out, ",,,,,", at->other);
+    put_words_and_number(&out, ",,,,,", other);
     put(&out, '\n');
     return (uint32_t)end_text(&out);
 }

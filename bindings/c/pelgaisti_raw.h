@@ -48,8 +48,8 @@ uint32_t pelgaisti_raw_book_reserve(pelgaisti_book **book, size_t resources, siz
 uint32_t pelgaisti_raw_book_shrink(pelgaisti_book **book);
 uint32_t pelgaisti_raw_book_idle_cells(pelgaisti_book **book, size_t **cells);
 uint32_t pelgaisti_raw_book_keep_deadlocks(pelgaisti_book **book, size_t most);
-uint32_t pelgaisti_raw_book_deadlocks(pelgaisti_book **book, pelgaisti_raw_list *list, size_t **count, pelgaisti_raw_list *members,
-                                      size_t **member_count);
+uint32_t pelgaisti_raw_book_deadlocks(pelgaisti_book **book, size_t most, pelgaisti_raw_list *list, size_t **count,
+                                      pelgaisti_raw_list *members, size_t **member_count);
 uint32_t pelgaisti_raw_book_blockers(pelgaisti_book **book, uint32_t session, pelgaisti_raw_list *list, size_t **count);
 uint32_t pelgaisti_raw_book_lock_path(pelgaisti_book **book, uint32_t session, const pelgaisti_resource **resource,
                                       uint32_t mode, uint32_t **level, pelgaisti_reply **reply, pelgaisti_raw_list *list,
@@ -107,7 +107,7 @@ uint32_t pelgaisti_raw_session_blockers(pelgaisti_session **session, uint32_t wh
                                         uint64_t **seen);
 uint32_t pelgaisti_raw_session_locks(pelgaisti_session **session, size_t first, pelgaisti_raw_list *list, size_t **count,
                                      uint64_t **seen);
-uint32_t pelgaisti_raw_session_deadlocks(pelgaisti_session **session, pelgaisti_raw_list *list, size_t **count,
+uint32_t pelgaisti_raw_session_deadlocks(pelgaisti_session **session, size_t most, pelgaisti_raw_list *list, size_t **count,
                                          pelgaisti_raw_list *members, size_t **member_count, uint64_t **seen);
 uint32_t pelgaisti_raw_session_locks_held(pelgaisti_session **session, uint32_t whose, size_t **count, uint64_t **seen);
 uint32_t pelgaisti_raw_session_locks_of(pelgaisti_session **session, uint32_t whose, const pelgaisti_resource **after,

@@ -84,8 +84,7 @@ impl Book {
     }
 
     /// Serves calls of sessions in order, and returns the entry of each that was served: fewer than there are calls if memory was
-    /// refused for the next one. If a session of one of them isn't there, none is served. Locks of several sessions on one resource
-    /// that follow one another are granted together where their modes allow.
+    /// refused for the next one. If a session of one of them isn't there, none is served.
     ///
     ///     # use pelgaisti::{Book, Call, Reply};
     ///     let mut book = Book::open(2)?;

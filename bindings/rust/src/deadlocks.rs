@@ -84,18 +84,21 @@ fn deadlocks_of(list: &[RawDeadlock], mut members: &[RawMember]) -> Result<Vec<D
     Ok(deadlocks)
 }
 
-/// All deadlocks that a call writes, with how many they and their members are in all: asks again with more room until all fit.
+/// The newest `most` deadlocks, of which a call writes as many as there is room for, with how many are kept, and the number of their
+/// members: asks again with more room until all fit.
 fn whole_deadlocks(
+    most: usize,
     mut ask: impl FnMut((&mut [RawDeadlock], &mut usize), (&mut [RawMember], &mut usize)) -> Result<(), Error>,
 ) -> Result<Vec<Deadlock>, Error> {
-    let (mut list, mut members) = (blank::<RawDeadlock>(8)?, blank::<RawMember>(8)?);
+    let (mut list, mut members) = (blank::<RawDeadlock>(most.min(8))?, blank::<RawMember>(8)?);
     loop {
         let (mut count, mut member_count) = (0, 0);
         ask((&mut list, &mut count), (&mut members, &mut member_count))?;
+        count = count.min(most);
         if let (Some(list), Some(members)) = (list.get(..count), members.get(..member_count)) {
             return deadlocks_of(list, members);
         }
-        (list, members) = (blank(count)?, blank(member_count)?);
+        (list, members) = (blank(count)?, blank(member_count.max(members.len()))?);
     }
 }
 
@@ -141,12 +144,21 @@ impl Book {
     ///     );
     ///     # Ok::<(), pelgaisti::Error>(())
     pub fn deadlocks(&self) -> Result<Vec<Deadlock>, Error> {
-        whole_deadlocks(|(list, count), (members, member_count)| {
+        self.newest_deadlocks(usize::MAX)
+    }
+
+    /// The newest `most` of the deadlocks that [`Book::deadlocks`] tells, oldest first. Its cost grows with these alone.
+    ///
+    ///     # use pelgaisti::{Book, Error};
+    ///     assert!(Book::open(2)?.newest_deadlocks(1)?.is_empty());
+    ///     # Ok::<(), Error>(())
+    pub fn newest_deadlocks(&self, most: usize) -> Result<Vec<Deadlock>, Error> {
+        whole_deadlocks(most, |(list, count), (members, member_count)| {
             let (to, room) = (list.as_mut_ptr(), list.len());
             let (members, member_room) = (members.as_mut_ptr(), members.len());
             // SAFETY: the handle is this book's; the lists have so much room, and the counts are locals
             done(unsafe {
-                ffi::pelgaisti_book_deadlocks(self.raw(), to, room, count, members, member_room, member_count)
+                ffi::pelgaisti_book_newest_deadlocks(self.raw(), to, room, count, members, member_room, member_count)
             })
         })
     }
@@ -161,13 +173,21 @@ impl Session {
     ///     assert!(pelgaisti::Office::open_telling(2, u64::MAX, 16)?[0].deadlocks()?.found.is_empty());
     ///     # Ok::<(), pelgaisti::Error>(())
     pub fn deadlocks(&mut self) -> Result<Seen<Vec<Deadlock>>, Error> {
+        self.newest_deadlocks(usize::MAX)
+    }
+
+    /// The newest `most` of the deadlocks that [`Session::deadlocks`] tells, oldest first. Its cost grows with these alone.
+    ///
+    ///     assert!(pelgaisti::Office::open_telling(2, u64::MAX, 16)?[0].newest_deadlocks(1)?.found.is_empty());
+    ///     # Ok::<(), pelgaisti::Error>(())
+    pub fn newest_deadlocks(&mut self, most: usize) -> Result<Seen<Vec<Deadlock>>, Error> {
         let (handle, mut length) = (self.raw(), 0);
-        let found = whole_deadlocks(|(list, count), (members, member_count)| {
+        let found = whole_deadlocks(most, |(list, count), (members, member_count)| {
             let (to, room) = (list.as_mut_ptr(), list.len());
             let (members, member_room) = (members.as_mut_ptr(), members.len());
             // SAFETY: the handle is this session's, used by `&mut`; the lists have so much room, the others are locals of their types
             done(unsafe {
-                ffi::pelgaisti_session_deadlocks(handle, to, room, count, members, member_room, member_count, &mut length)
+                ffi::pelgaisti_session_newest_deadlocks(handle, to, room, count, members, member_room, member_count, &mut length)
             })
         })?;
         Ok(Seen { length, found })

@@ -64,7 +64,7 @@ pub(crate) struct RawEntry {
 pub(crate) struct RawDumping {
     pub(crate) row: usize,
     pub(crate) wait: usize,
-    pub(crate) other: u32,
+    pub(crate) others: [u64; MAX_SESSIONS / 64],
 }
 
 #[repr(C)]
@@ -332,7 +332,7 @@ extern "C" {
         count: *mut usize,
     ) -> u32;
     pub(crate) fn pelgaisti_book_keep_deadlocks(book: *mut RawHandle, most: usize) -> u32;
-    pub(crate) fn pelgaisti_book_deadlocks(
+    pub(crate) fn pelgaisti_book_newest_deadlocks(
         book: *mut RawHandle,
         list: *mut RawDeadlock,
         room: usize,
@@ -440,7 +440,7 @@ extern "C" {
         count: *mut usize,
         seen: *mut u64,
     ) -> u32;
-    pub(crate) fn pelgaisti_session_deadlocks(
+    pub(crate) fn pelgaisti_session_newest_deadlocks(
         session: *mut RawHandle,
         list: *mut RawDeadlock,
         room: usize,

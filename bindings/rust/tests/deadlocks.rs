@@ -62,6 +62,9 @@ fn the_newest_are_told() {
         for (round, deadlock) in (20 - told.len() as u64..).zip(&told) {
             want_cross(deadlock, 8 * round + 5, [2 * round + 1, 2 * round + 2]);
         }
+        for asked in [0, 1, 12, 40] {
+            assert_eq!(book.newest_deadlocks(asked).unwrap(), told[told.len() - told.len().min(asked)..]);
+        }
     }
     let mut unasked = Book::open(2).unwrap();
     cross(&mut unasked, [1, 2]);

@@ -12,6 +12,8 @@ use std::sync::Arc;
 thread_local! {
     /// The largest block, in bytes, that this thread gets.
     static LIMIT: Cell<usize> = const { Cell::new(usize::MAX) };
+    /// How many blocks this thread gets before one is refused.
+    static LEFT: Cell<usize> = const { Cell::new(usize::MAX) };
 }
 
 struct Limited;
@@ -19,7 +21,8 @@ struct Limited;
 // SAFETY: what it gives is of the system's allocator, to which it goes back
 unsafe impl GlobalAlloc for Limited {
     unsafe fn alloc(&self, layout: Layout) -> *mut u8 {
-        if layout.size() > LIMIT.with(Cell::get) {
+        let is_refused = LEFT.with(|it| it.replace(it.get().wrapping_sub(1)) == 0);
+        if is_refused || layout.size() > LIMIT.with(Cell::get) {
             return null_mut();
         }
         // SAFETY: the caller keeps the rules of both
@@ -40,6 +43,19 @@ fn refused<T>(call: impl FnOnce() -> T) -> T {
     let made = call();
     LIMIT.with(|it| it.set(usize::MAX));
     made
+}
+
+/// Makes a call with its first allocation refused, then with its second one, and so on, until none is: each tells `NoMemory`. Returns how
+/// many allocations the call makes.
+fn each_refused<T>(mut call: impl FnMut() -> Result<T, Error>) -> usize {
+    (0..)
+        .find(|at| {
+            LEFT.with(|it| it.set(*at));
+            let made = call();
+            LEFT.with(|it| it.set(usize::MAX));
+            made.map_err(|error| assert_eq!(error, Error::NoMemory)).is_ok()
+        })
+        .unwrap()
 }
 
 fn database() -> Resource {
@@ -164,4 +180,34 @@ fn an_office_goes_on_where_memory_is_refused() {
     assert_eq!(session.blockers(300).unwrap().found, (1..300).collect::<Vec<_>>());
     let (first, entries) = session.take_history(usize::MAX).unwrap();
     assert_eq!((first, entries.len()), (0, 600));
+}
+
+#[test]
+fn each_refused_allocation_is_told() {
+    let mut book = Book::open(2).unwrap();
+    for session in 1..=2 {
+        let _ = book.serve(session, &Call::Begin).unwrap();
+        let _ = book.serve(session, &Call::Lock(database(), Mode::X)).unwrap();
+    }
+    let _ = book.serve(1, &Call::Commit).unwrap();
+    assert_eq!((each_refused(|| book.ended()), book.ended()), (1, Ok(vec![2])));
+
+    let mut sessions = Office::open(3).unwrap();
+    drop(sessions.pop());
+    assert_eq!(each_refused(|| Office::orphans(&sessions[0])), 1);
+    let orphans = Office::orphans(&sessions[0]).unwrap();
+    assert_eq!((orphans.len(), orphans[0].number()), (1, 3));
+
+    let owned = Arc::new(());
+    let waker = || {
+        let owner = owned.clone();
+        move |_| drop(owner.clone())
+    };
+    assert!(each_refused(|| Office::open(2)) > 0);
+    assert!(each_refused(|| Office::open_keeping(2, 9)) > 0);
+    assert!(each_refused(|| Office::open_seeded(2, u64::MAX, 7)) > 0);
+    assert!(each_refused(|| Office::open_waking(2, u64::MAX, waker())) > 0);
+    assert!(each_refused(|| Office::open_telling(2, u64::MAX, 4)) > 0);
+    assert!(each_refused(|| Office::open_waking_telling(2, u64::MAX, 4, waker())) > 0);
+    assert_eq!(Arc::strong_count(&owned), 1);
 }

@@ -194,18 +194,7 @@ module _ {C R : Type 0} {ends : List (Entry C R) → Entry C R → ℕ → Type 
       nowhere : (p : ℕ) → Contains {X = ℕ} [] p → ⊥
       nowhere p h = let few = h.1 in omega (arith, few)
 
-  -- Behind a step that told nobody more.
-  pub told-from : (n : ℕ) (f known : List (Entry C R)) (places old mid new : List ℕ) → HasAddedTold ends n f [] old mid → HasAddedTold ends n known places mid new → HasAddedTold ends n known places old new
-  told-from n f known places old mid new none t = record {
-    members = λ u. (
-      λ h. ⊎_elim (λ m. ⊎_elim (λ o. inl o) (λ e. absurd (at-none f u e.2)) ((none.members u).0 m)) (λ e. inr e) ((t.members u).0 h),
-      λ h. (t.members u).1 (⊎_elim (λ o. inl ((none.members u).1 (inl o))) (λ e. inr e) h),
-    );
-    once = λ o. t.once (none.once o);
-    within = t.within;
-  }
-
-  -- The same, of a longer history.
+  -- What was told is told of a longer history.
   pub told-later : (n : ℕ) (f g : List (Entry C R)) (places old new : List ℕ) → IsPrefix f g → HasAddedTold ends n f places old new → HasAddedTold ends n g places old new
   told-later n f g places old new longer t = record {
     members = λ u. let there = at-later f g places u longer t.within in (

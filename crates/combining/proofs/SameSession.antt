@@ -16,10 +16,6 @@ module _ {C R : Type 0} where
     wide = later.wide ∙ first.wide;
   }
 
-  -- Nothing is answered yet.
-  pub none-answered : (t : TicketView C R) → HasAnswered t t 0
-  none-answered t = record { same = refl; wide = refl; count = omega arith; entered = sym (append-nil t.entered) }
-
   -- One more record is answered.
   pub one-answered : (t u v : TicketView C R) (served : ℕ) (front : List (Entry C R)) → HasAnswered t u served → v ≡ record u { front = front; opened = v.opened; entered = u.entered ++ length u.front ∷ [] } → length v.opened ≡ length u.opened
       → length front ≡ length u.front + 1 → HasAnswered t v (served + 1)

@@ -29,11 +29,11 @@ use Rattle.sequential.specs.declared.object.Sequential.{Ghosts}
 
 module _ {C R : Type 0} where
   -- A session of which nothing else changed than a turn may change is as `later` has it.
-  pub fits : (t u : TicketView C R) (q : Option (Pending C)) (cs : List (Answered C R)) (f : List (Entry C R)) (h : List ℕ) (l : Bool) (n p : ℕ) (m : List ℕ)
-      → u ≡ record t { pending = q; collected = cs; front = f; heard = h; listed = l; tries = n; put_backs = p; entered = m } → u ≡ later t q cs u
-  fits t u q cs f h l n p m is = is ∙ ap
-      (λ (k : List (Entry C R) × (List ℕ × (Bool × (ℕ × (ℕ × List ℕ))))). record t { pending = q; collected = cs; front = k.0; heard = k.1.0; listed = k.1.1.0; tries = k.1.1.1.0; put_backs = k.1.1.1.1.0; entered = k.1.1.1.1.1 })
-      (sym (ap (λ (x : TicketView C R). (x.front, (x.heard, (x.listed, (x.tries, (x.put_backs, x.entered)))))) is))
+  pub fits : (t u : TicketView C R) (q : Option (Pending C)) (cs : List (Answered C R)) (f : List (Entry C R)) (h : List ℕ) (l : Bool) (n p : ℕ) (m : List ℕ) (b : Bool)
+      → u ≡ record t { pending = q; collected = cs; front = f; heard = h; listed = l; tries = n; put_backs = p; entered = m; looks = b } → u ≡ later t q cs u
+  fits t u q cs f h l n p m b is = is ∙ ap
+      (λ (k : List (Entry C R) × (List ℕ × (Bool × (ℕ × (ℕ × (List ℕ × Bool)))))). record t { pending = q; collected = cs; front = k.0; heard = k.1.0; listed = k.1.1.0; tries = k.1.1.1.0; put_backs = k.1.1.1.1.0; entered = k.1.1.1.1.1.0; looks = k.1.1.1.1.1.1 })
+      (sym (ap (λ (x : TicketView C R). (x.front, (x.heard, (x.listed, (x.tries, (x.put_backs, (x.entered, x.looks))))))) is))
 
   -- A front that stays begins itself.
   stays : (t u : TicketView C R) (f : List (Entry C R)) → u.front ≡ f → IsPrefix t.front f → IsPrefix t.front u.front
@@ -42,9 +42,6 @@ module _ {C R : Type 0} where
   -- So do places that stay.
   keeps : (t u : TicketView C R) → u.entered ≡ t.entered → IsPrefix t.entered u.entered
   keeps t u is = subst (λ (l : List ℕ). IsPrefix t.entered l) (sym is) (prefix_self t.entered)
-
-  pub waiting-self : (t : TicketView C R) → IsWaitingOn t t
-  waiting-self t = record { session = refl; longer = prefix_self t.front; entered = prefix_self t.entered }
 
   -- A session that tried once more to have its call listed goes on waiting.
   pub waiting-tried : (t u : TicketView C R) → HasTriedToList t u → IsWaitingOn t u
@@ -58,18 +55,20 @@ module _ {C R : Type 0} where
     where
       from : (h : List ℕ) (l : Bool) (n : ℕ) → u ≡ record t { heard = h; listed = l; tries = n } → IsWaitingOn t u
       from h l n is = record {
-        session = fits t u t.pending t.collected t.front h l n t.put_backs t.entered is;
+        session = fits t u t.pending t.collected t.front h l n t.put_backs t.entered t.looks is;
         longer = stays t u t.front (ap (λ (x : TicketView C R). x.front) is) (prefix_self t.front);
         entered = keeps t u (ap (λ (x : TicketView C R). x.entered) is);
+        looks = λ e. ap (λ (x : TicketView C R). x.looks) is ∙ e;
       }
 
   -- Waiting goes on.
   pub waiting-trans : (t u v : TicketView C R) → IsWaitingOn t u → IsWaitingOn u v → IsWaitingOn t v
   waiting-trans t u v first last = record {
-    session = fits t v t.pending t.collected v.front v.heard v.listed v.tries v.put_backs v.entered
+    session = fits t v t.pending t.collected v.front v.heard v.listed v.tries v.put_backs v.entered v.looks
         (last.session ∙ ap (λ (x : TicketView C R). later x x.pending x.collected v) first.session);
     longer = prefix_trans t.front u.front v.front first.longer last.longer;
     entered = prefix_trans t.entered u.entered v.entered first.entered last.entered;
+    looks = λ e. last.looks (first.looks e);
   }
 
 module _ {O C R : Type 0} {obj : Ghosts O C R} where
@@ -78,10 +77,11 @@ module _ {O C R : Type 0} {obj : Ghosts O C R} where
   waiting-passed t u served p =
       let first = waiting-tried t p.between p.is_tried in
       record {
-        session = fits t u t.pending t.collected u.front p.between.heard p.between.listed p.between.tries u.put_backs u.entered
-            (p.session ∙ ap (λ (x : TicketView C R). record x { front = u.front; put_backs = u.put_backs; entered = u.entered }) first.session);
+        session = fits t u t.pending t.collected u.front p.between.heard p.between.listed p.between.tries u.put_backs u.entered true
+            (p.session ∙ ap (λ (x : TicketView C R). record x { front = u.front; put_backs = u.put_backs; entered = u.entered; looks = true }) first.session);
         longer = (p.others ++ p.own, sym (p.front ∙ append_assoc t.front p.others p.own));
         entered = (range_with_len (length (t.front ++ p.others)) served, sym p.entered);
+        looks = λ _. ap (λ (x : TicketView C R). x.looks) p.session;
       }
 
   -- A session that waited collects its answer.
@@ -94,11 +94,12 @@ module _ {O C R : Type 0} {obj : Ghosts O C R} where
         c.floor,
         sym pending ∙ c.pending,
         record {
-          session = fits t v None (t.collected ++ answer place c.call reply ∷ []) v.front u.heard u.listed u.tries u.put_backs u.entered
+          session = fits t v None (t.collected ++ answer place c.call reply ∷ []) v.front u.heard u.listed u.tries u.put_backs u.entered u.looks
               (c.session ∙ (ap (λ (x : TicketView C R). record x { front = v.front; pending = None; collected = u.collected ++ answer place c.call reply ∷ [] }) w.session
               ∙ ap (λ (l : List (Answered C R)). record (later t t.pending t.collected u) { front = v.front; pending = None; collected = l ++ answer place c.call reply ∷ [] }) collected));
           longer = prefix_trans t.front u.front v.front w.longer c.longer;
           entered = subst (λ (l : List ℕ). IsPrefix t.entered l) (sym (ap (λ (x : TicketView C R). x.entered) c.session)) w.entered;
+          looks = λ e. ap (λ (x : TicketView C R). x.looks) c.session ∙ w.looks e;
           legal = c.legal;
           stands = subst (λ (n : ℕ). get_elem? v.front place ≡ opt.some (entry n c.call reply)) number c.stands;
           late = c.late;
@@ -119,27 +120,29 @@ module _ {C R : Type 0} where
 
       from : (h : List ℕ) (l : Bool) (n : ℕ) → u ≡ record p { heard = h; listed = l; tries = n } → IsWaitingOn p u
       from h l n is = record {
-        session = fits p u p.pending p.collected p.front h l n p.put_backs p.entered is;
+        session = fits p u p.pending p.collected p.front h l n p.put_backs p.entered p.looks is;
         longer = stays p u p.front (ap (λ (x : TicketView C R). x.front) is) (prefix_self p.front);
         entered = keeps p u (ap (λ (x : TicketView C R). x.entered) is);
+        looks = λ e. ap (λ (x : TicketView C R). x.looks) is ∙ e;
       }
 
 module _ {O C R : Type 0} {obj : Ghosts O C R} where
   -- The call that an idle session published waits for its answer.
   pub published : (s t v : TicketView C R) (call : C) → IsRefused obj s t ⊎ (t ≡ s) → IsWaitingOn (publishing t call) v → IsCalling s v call
-  published s t v call before w = ⊎_elim (λ r. from t.front t.put_backs t.entered r.session r.longer (range_with_len (length (s.front ++ r.others)) (length r.own), sym r.entered))
-      (λ is. from s.front s.put_backs s.entered is (prefix_self s.front) (prefix_self s.entered)) before
+  published s t v call before w = ⊎_elim (λ r. from t.front t.put_backs t.entered true r.session r.longer (range_with_len (length (s.front ++ r.others)) (length r.own), sym r.entered) (λ _. refl))
+      (λ is. from s.front s.put_backs s.entered s.looks is (prefix_self s.front) (prefix_self s.entered) (λ e. e)) before
     where
-      from : (f : List (Entry C R)) (n : ℕ) (m : List ℕ) → t ≡ record s { front = f; put_backs = n; entered = m } → IsPrefix s.front f → IsPrefix s.entered m → IsCalling s v call
-      from f n m is longer more =
+      from : (f : List (Entry C R)) (n : ℕ) (m : List ℕ) (b : Bool) → t ≡ record s { front = f; put_backs = n; entered = m; looks = b } → IsPrefix s.front f → IsPrefix s.entered m → (s.looks ≡ true → b ≡ true) → IsCalling s v call
+      from f n m b is longer more rises =
           let front : t.front ≡ f = ap (λ (x : TicketView C R). x.front) is in
           let grown : IsPrefix s.front t.front = subst (λ (l : List (Entry C R)). IsPrefix s.front l) (sym front) longer in
           record {
             floor = length t.front;
-            session = fits s v (Some (asks call (length t.front))) s.collected v.front v.heard v.listed v.tries v.put_backs v.entered
-                (w.session ∙ ap (λ (x : TicketView C R). record x { pending = Some (asks call (length t.front)); front = v.front; heard = v.heard; listed = v.listed; tries = v.tries; put_backs = v.put_backs; entered = v.entered }) is);
+            session = fits s v (Some (asks call (length t.front))) s.collected v.front v.heard v.listed v.tries v.put_backs v.entered v.looks
+                (w.session ∙ ap (λ (x : TicketView C R). record x { pending = Some (asks call (length t.front)); front = v.front; heard = v.heard; listed = v.listed; tries = v.tries; put_backs = v.put_backs; entered = v.entered; looks = v.looks }) is);
             longer = prefix_trans s.front t.front v.front grown w.longer;
             entered = prefix_trans s.entered t.entered v.entered (subst (λ (l : List ℕ). IsPrefix s.entered l) (sym (ap (λ (x : TicketView C R). x.entered) is)) more) w.entered;
+            looks = λ e. w.looks (ap (λ (x : TicketView C R). x.looks) is ∙ rises e);
             late = omega (arith, ap (λ (l : List (Entry C R)). length l) grown.1, length-append s.front grown.0);
           }
 
@@ -149,10 +152,11 @@ module _ {O C R : Type 0} {obj : Ghosts O C R} where
   performed-called first t u call place reply served idle p =
       let ahead : List (Entry C R) = t.front ++ p.others ++ p.ahead in
       let e : Entry C R = entry t.number call reply in record {
-        session = fits t u None (t.collected ++ answer place call reply ∷ []) u.front t.heard t.listed t.tries u.put_backs u.entered
-            (p.session ∙ ap (λ (q : Option (Pending C)). record t { pending = q; collected = t.collected ++ answer place call reply ∷ []; front = u.front; put_backs = u.put_backs; entered = u.entered }) idle);
+        session = fits t u None (t.collected ++ answer place call reply ∷ []) u.front t.heard t.listed t.tries u.put_backs u.entered true
+            (p.session ∙ ap (λ (q : Option (Pending C)). record t { pending = q; collected = t.collected ++ answer place call reply ∷ []; front = u.front; put_backs = u.put_backs; entered = u.entered; looks = true }) idle);
         longer = (p.others ++ p.ahead ++ e ∷ p.behind, whole);
         entered = (range_with_len (length (t.front ++ p.others)) (served + 1), sym p.entered);
+        looks = λ _. ap (λ (x : TicketView C R). x.looks) p.session;
         legal = p.legal;
         stands = subst (λ (l : List (Entry C R)). get_elem? l place ≡ opt.some e) (sym p.front) (subst (λ (n : ℕ). get_elem? (ahead ++ e ∷ p.behind) n ≡ opt.some e) (sym p.place_is) (elem-seam ahead e p.behind));
         late = omega (arith, p.place_is, length-append (t.front ++ p.others) p.ahead, length-append t.front p.others);
@@ -175,11 +179,12 @@ module _ {O C R : Type 0} {obj : Ghosts O C R} where
       let same : known ≡ call = ap (λ (q : Pending C). q.call) both in
       let from : floor ≡ length t.front = ap (λ (q : Pending C). q.floor) both in
       record {
-        session = fits t v None (t.collected ++ answer place call reply ∷ []) v.front v.heard v.listed v.tries v.put_backs v.entered
+        session = fits t v None (t.collected ++ answer place call reply ∷ []) v.front v.heard v.listed v.tries v.put_backs v.entered v.looks
             (at.session ∙ (ap (λ (x : TicketView C R). later x None (x.collected ++ answer place known reply ∷ []) v) w.session
             ∙ ap (λ (x : C). later t None (t.collected ++ answer place x reply ∷ []) v) same));
         longer = prefix_trans t.front u.front v.front w.longer at.longer;
         entered = prefix_trans t.entered u.entered v.entered w.entered at.entered;
+        looks = λ e. at.looks (w.looks e);
         legal = at.legal;
         stands = subst (λ (x : C). get_elem? v.front place ≡ opt.some (entry t.number x reply)) same (subst (λ (n : ℕ). get_elem? v.front place ≡ opt.some (entry n known reply)) number at.stands);
         late = omega (arith, at.late, from);
@@ -225,10 +230,11 @@ module _ {C R : Type 0} where
   pub calling-on : (t u v : TicketView C R) (call : C) → IsCalling t u call → IsWaitingOn u v → IsCalling t v call
   calling-on t u v call k w = record {
     floor = k.floor;
-    session = fits t v (Some (asks call k.floor)) t.collected v.front v.heard v.listed v.tries v.put_backs v.entered
+    session = fits t v (Some (asks call k.floor)) t.collected v.front v.heard v.listed v.tries v.put_backs v.entered v.looks
         (w.session ∙ ap (λ (x : TicketView C R). later x x.pending x.collected v) k.session);
     longer = prefix_trans t.front u.front v.front k.longer w.longer;
     entered = prefix_trans t.entered u.entered v.entered k.entered w.entered;
+    looks = λ e. w.looks (k.looks e);
     late = k.late;
   }
 
@@ -248,11 +254,12 @@ module _ {O C R : Type 0} {obj : Ghosts O C R} where
       let same : known ≡ call = ap (λ (q : Pending C). q.call) both in
       let from : floor ≡ k.floor = ap (λ (q : Pending C). q.floor) both in
       record {
-        session = fits t v None (t.collected ++ answer place call reply ∷ []) v.front v.heard v.listed v.tries v.put_backs v.entered
+        session = fits t v None (t.collected ++ answer place call reply ∷ []) v.front v.heard v.listed v.tries v.put_backs v.entered v.looks
             (at.session ∙ (ap (λ (x : TicketView C R). later x None (x.collected ++ answer place known reply ∷ []) v) k.session
             ∙ ap (λ (x : C). later t None (t.collected ++ answer place x reply ∷ []) v) same));
         longer = prefix_trans t.front u.front v.front k.longer at.longer;
         entered = prefix_trans t.entered u.entered v.entered k.entered at.entered;
+        looks = λ e. at.looks (k.looks e);
         legal = at.legal;
         stands = subst (λ (x : C). get_elem? v.front place ≡ opt.some (entry t.number x reply)) same (subst (λ (n : ℕ). get_elem? v.front place ≡ opt.some (entry n known reply)) number at.stands);
         late = omega (arith, at.late, from, k.late);
@@ -338,19 +345,11 @@ fit-more tries looks due fit = let q = div_mod looks in omega (arith, due, fit, 
     div_mod : (n : ℕ) → n ≡ 8 * (n / 8) + n % 8
     div_mod n = omega arith
 
--- Tries that fit into looks fit into one look more.
-pub fit-same : (tries looks : ℕ) → FitIntoLooks tries looks → FitIntoLooks tries (looks + 1)
-fit-same tries looks fit = omega (arith, fit)
-
 -- In one look more the session tries once more at most, at every `LOOKS_PER_TRY`th look.
 pub fit-next : (first before after looks : ℕ) → FitIntoLooks (before - first) looks → after ≤ before + 1 → (looks % LOOKS_PER_TRY ≢ 0 → after ≡ before) → FitIntoLooks (after - first) (looks + 1)
 fit-next first before after looks fit few same = dite (ℕ_discrete (looks % LOOKS_PER_TRY) 0)
     (λ due. let more = fit-more (before - first) looks due fit in omega (arith, few, more))
     (λ between. let n = same between in omega (arith, fit, n))
-
--- Fewer tries fit too.
-pub fit-fewer : (few many looks : ℕ) → few ≤ many → FitIntoLooks many looks → FitIntoLooks few looks
-fit-fewer few many looks le fit = omega (arith, le, fit)
 
 -- Tries that fit into looks fit into more.
 pub fit-longer : (tries looks more : ℕ) → looks ≤ more → FitIntoLooks tries looks → FitIntoLooks tries more

@@ -13,7 +13,7 @@
 //! back.
 //!
 //! Proved: one legal history with each session's calls in its order, in which each reply is determined by the calls before it
-//! ([`laws`]). Every call but `sleep` returns without waiting for another thread. Only tested: the order within a pass, and that a clean-up
+//! ([`laws`]). Every call returns without waiting for another thread. Only tested: the order within a pass, and that a clean-up
 //! takes off what it may. Nothing is claimed of progress, fairness or speed.
 #![tactic(auto)]
 

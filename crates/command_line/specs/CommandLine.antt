@@ -5,6 +5,7 @@ use Rattle.clap.specs.Simple.{App, new_app, new_rule, on_top, subcommand_of, wit
 use Rattle.clap.specs.Kinds.{IsAmong, Kinds}
 use Rattle.clap.specs.Faults.{fault_of}
 use Rattle.clap.specs.declared.builder.action.ArgAction.TheVariants.{SetTrue}
+use Rattle.clap.specs.declared.builder.value_parser.ValueParser.{ValueParser}
 use Rattle.clap.specs.declared.builder.value_parser.ValueParser.TheVariants as parser
 use Rattle.clap.specs.declared.error.kind.ErrorKind.TheVariants.{DisplayHelp, DisplayVersion}
 use Rattle.lock_rules.specs.declared.calls.TheConstants.{MAX_SESSIONS}
@@ -17,31 +18,25 @@ use Rattle.command_line.specs.declared.args.Form.TheVariants as form
 use Rattle.command_line.specs.declared.args.CommandRequest.{CommandRequest}
 use Rattle.command_line.specs.declared.args.CommandRequest.TheVariants as request
 
+-- an option with this name, whose value the parser checks, with no default
+abbrev pub valued_option : Text → ValueParser → Rule
+valued_option name checked = record (new_rule name) {
+  long = Some name;
+  value_names = 1;
+  parser = Some checked;
+}
+
 -- the option `--sessions N`: 1 to MAX_SESSIONS, by default 256
 abbrev pub sessions_option : Rule
-sessions_option = record (new_rule (codes "sessions")) {
-  long = Some (codes "sessions");
-  value_names = 1;
-  parser = Some (parser.Signed (pos 1) (pos MAX_SESSIONS));
-  defaults = codes "256" ∷ [];
-}
+sessions_option = record (valued_option (codes "sessions") (parser.Signed (pos 1) (pos MAX_SESSIONS))) { defaults = codes "256" ∷ [] }
 
 -- the option `--turns T`: 1 to MAX_TURNS, 1000000000 by default
 abbrev pub turns_option : Rule
-turns_option = record (new_rule (codes "turns")) {
-  long = Some (codes "turns");
-  value_names = 1;
-  parser = Some (parser.Signed (pos 1) (pos MAX_TURNS));
-  defaults = codes "1000000000" ∷ [];
-}
+turns_option = record (valued_option (codes "turns") (parser.Signed (pos 1) (pos MAX_TURNS))) { defaults = codes "1000000000" ∷ [] }
 
 -- the option `--name P`: a place, with no default
 abbrev pub place_option : Text → Rule
-place_option name = record (new_rule name) {
-  long = Some name;
-  value_names = 1;
-  parser = Some (parser.Signed (pos 0) (pos MAX_PLACE));
-}
+place_option name = valued_option name (parser.Signed (pos 0) (pos MAX_PLACE))
 
 -- a flag with this name
 abbrev pub flag_named : Text → Rule

@@ -1,9 +1,10 @@
 //! The command-line arguments: the parser's commands and options, and what a request is.
 
 ghost use Rattle.std.specs.Prelude.{◌≡◌, true, false, codes, IfOk};
-ghost use Rattle.clap.specs.Simple.{app_of, with_rule};
+ghost use Rattle.clap.specs.Simple.{App, app_of, with_rule, with_subcommand};
+ghost use Rattle.clap.specs.Walk.{Rule, rule_of};
 ghost use Rattle.clap.specs.declared.builder.command.Command.TheViews.{out-Command as fields_of};
-ghost use Rattle.command_line.specs.CommandLine.{app_with_forms, command_for_sessions, glm_command, shell_app, show_app, stats_app, stream_flag, timeline_app, turns_option, with_flags, with_forms, with_streams};
+ghost use Rattle.command_line.specs.CommandLine.{app_with_forms, command_for_sessions, glm_command, shell_app, show_app, stats_app, stream_flag, timeline_app, turns_option, with_forms, with_streams};
 
 use crate::options::{
     comments_arg, file_arg, flag_arg, hints_arg, output_arg, place_arg, sessions_arg, stream_arg,
@@ -13,7 +14,7 @@ use crate::texts::{
     ABOUT_CHECK, ABOUT_EXPLAIN, ABOUT_REPLAY, ABOUT_RUN, ABOUT_SHELL, ABOUT_SHOW, ABOUT_STATS,
     ABOUT_TIMELINE, STATUSES, VERSION,
 };
-use clap::Command;
+use clap::{Arg, Command};
 use lock_rules::MAX_SESSIONS;
 use std::alloc::{AllocError, Global};
 
@@ -27,7 +28,7 @@ pub const MAX_STREAMED_SESSIONS: u16 = MAX_SESSIONS - 1;
 pub const MAX_PLACE: u32 = u32::MAX;
 
 /// How much of a history a command keeps in memory.
-#[derive(Clone, Copy, Debug, Drop, PartialEq, Eq)]
+#[derive(Clone, Copy, Drop)]
 pub enum Delivery {
     /// All of it: a replay or a run makes the whole text before it writes the first byte, and a check reads all rows before it
     /// compares the first reply.
@@ -38,7 +39,7 @@ pub enum Delivery {
 }
 
 /// In which form `show` writes the state of the lock table, `explain` what calls did and why, and `stats` counters.
-#[derive(Clone, Copy, Debug, Drop, PartialEq, Eq)]
+#[derive(Clone, Copy, Drop, PartialEq, Eq)]
 pub enum Form {
     /// Lines for people.
     Lines,
@@ -53,7 +54,7 @@ pub enum Form {
 }
 
 /// A command that the words ask for, with its numbers.
-#[derive(Clone, Copy, Debug, Drop, PartialEq, Eq)]
+#[derive(Clone, Copy, Drop)]
 pub enum CommandRequest {
     /// Replay a trace; holds the number of sessions, and how the history is written.
     Replay(u16, Delivery),
@@ -80,7 +81,7 @@ pub enum CommandRequest {
 }
 
 /// A command that the words ask for, with the files that it reads and writes.
-#[derive(Clone, Copy, Debug, Drop, PartialEq, Eq)]
+#[derive(Clone, Copy, Drop)]
 pub struct Request<'a> {
     /// The command, with its numbers.
     pub command: CommandRequest,
@@ -94,26 +95,40 @@ pub struct Request<'a> {
     pub wants_hints: bool,
 }
 
-/// Adds the flags that every command but `shell` has. Fails if memory is refused.
-fn with_flags<'a>(alloc: Global, command: Command<'a>) -> Result<Command<'a>, AllocError>
-    requires own { (fields_of command).has_globals ≡ false }
-    ensures app { IfOk result (λ made. app_of made ≡ with_flags (app_of command.entry)) }
-    ensures own { IfOk result (λ made. (fields_of made).has_globals ≡ false) }
+/// Adds an argument to a command. Fails as the command did, or if memory is refused.
+fn with_arg<'a>(
+    command: Result<Command<'a>, AllocError>,
+    arg: Arg<'a>,
+) -> Result<Command<'a>, AllocError>
+    requires own { arg.global ≡ false }
+    ensures app { (before : App) (rule : Rule) → rule_of arg.entry ≡ rule → IfOk command.entry (λ old. app_of old ≡ before) → IfOk result (λ made. app_of made ≡ with_rule before rule) }
+    ensures own { IfOk command.entry (λ old. (fields_of old).has_globals ≡ false) → IfOk result (λ made. (fields_of made).has_globals ≡ false) }
 {
-    command.arg(comments_arg(alloc))?.arg(hints_arg(alloc))
+    command?.arg(arg)
 }
 
-/// Adds the argument and the options that every command but `shell` has. Fails if memory is refused.
+/// Adds a subcommand to a command. Fails as one of them did, or if memory is refused.
+fn with_command<'a>(
+    command: Result<Command<'a>, AllocError>,
+    subcommand: Result<Command<'a>, AllocError>,
+) -> Result<Command<'a>, AllocError>
+    ensures { (before sub : App) → IfOk command.entry (λ old. app_of old ≡ before) → IfOk subcommand.entry (λ own. app_of own ≡ sub) → IfOk subcommand.entry (λ own. (fields_of own).has_globals ≡ false)
+        → IfOk result (λ made. app_of made ≡ with_subcommand before sub.top) }
+{
+    command?.subcommand(subcommand?)
+}
+
+/// Adds the argument, the options and the flags that every command but `shell` has. Fails if memory is refused.
 fn with_streams<'a>(alloc: Global, command: Command<'a>) -> Result<Command<'a>, AllocError>
     requires own { (fields_of command).has_globals ≡ false }
     ensures app { IfOk result (λ made. app_of made ≡ with_streams (app_of command.entry)) }
     ensures own { IfOk result (λ made. (fields_of made).has_globals ≡ false) }
 {
-    let command = command
-        .arg(file_arg(alloc))?
-        .arg(sessions_arg(alloc))?
-        .arg(output_arg(alloc))?;
-    with_flags(alloc, command)
+    let command = with_arg(Ok(command), file_arg(alloc));
+    let command = with_arg(command, sessions_arg(alloc));
+    let command = with_arg(command, output_arg(alloc));
+    let command = with_arg(command, comments_arg(alloc));
+    with_arg(command, hints_arg(alloc))
 }
 
 /// Defines a command with the argument and the options that every command but `shell` has. `about` is its line in the list of commands, and
@@ -144,8 +159,8 @@ fn replay_command<'a>(alloc: Global) -> Result<Command<'a>, AllocError>
         "replay",
         "Serves a trace on one thread and writes its history",
         ABOUT_REPLAY,
-    )?;
-    replay.arg(stream_arg(alloc))
+    );
+    with_arg(replay, stream_arg(alloc))
 }
 
 /// Defines the command `run`. Fails if memory is refused.
@@ -158,8 +173,9 @@ fn run_command<'a>(alloc: Global) -> Result<Command<'a>, AllocError>
         "run",
         "Performs a trace on threads, one for each session, and writes the history",
         ABOUT_RUN,
-    )?;
-    run.arg(turns_arg(alloc))?.arg(stream_arg(alloc))
+    );
+    let run = with_arg(run, turns_arg(alloc));
+    with_arg(run, stream_arg(alloc))
 }
 
 /// Defines the command `check`. Fails if memory is refused.
@@ -172,12 +188,13 @@ fn check_command<'a>(alloc: Global) -> Result<Command<'a>, AllocError>
         "check",
         "Says whether a history is legal",
         ABOUT_CHECK,
-    )?;
-    check.arg(flag_arg(
+    );
+    let stream = flag_arg(
         alloc,
         "stream",
         "Compares each reply as its row is read, and keeps no rows in memory",
-    ))
+    );
+    with_arg(check, stream)
 }
 
 /// Adds the option `--at` and the flags `--csv` and `--dot` to a command. `at_help` and `dot_help` are the help of `--at` and of
@@ -192,10 +209,9 @@ fn with_forms<'a>(
     ensures app { IfOk result (λ made. app_of made ≡ with_forms (app_of command.entry)) }
     ensures own { IfOk result (λ made. (fields_of made).has_globals ≡ false) }
 {
-    command
-        .arg(place_arg(alloc, "at", "P", at_help))?
-        .arg(flag_arg(alloc, "csv", "Writes the same as rows"))?
-        .arg(flag_arg(alloc, "dot", dot_help))
+    let command = with_arg(Ok(command), place_arg(alloc, "at", "P", at_help));
+    let command = with_arg(command, flag_arg(alloc, "csv", "Writes the same as rows"));
+    with_arg(command, flag_arg(alloc, "dot", dot_help))
 }
 
 /// Defines the command `show`. Fails if memory is refused.
@@ -214,17 +230,19 @@ fn show_command<'a>(alloc: Global) -> Result<Command<'a>, AllocError>
         show,
         "The place of the history in front of which the state is shown, by default its end",
         "Writes the resources waited for, and each session's first blocker, as a graph for Graphviz",
-    )?;
-    let made = made.arg(flag_arg(
+    );
+    let waits = flag_arg(
         alloc,
         "waits",
         "Writes who waits for whom as a graph for Graphviz",
-    ))?;
-    made.arg(flag_arg(
+    );
+    let made = with_arg(made, waits);
+    let state = flag_arg(
         alloc,
         "state",
         "Shows the state that a dump is, the rows of 'show --csv', in place of a history",
-    ))
+    );
+    with_arg(made, state)
 }
 
 /// Defines the command `explain`. Fails if memory is refused.
@@ -256,20 +274,21 @@ fn timeline_command<'a>(alloc: Global) -> Result<Command<'a>, AllocError>
         "timeline",
         "Draws a history as a timeline: when each session held, and when it waited",
         ABOUT_TIMELINE,
-    )?;
-    timeline
-        .arg(place_arg(
-            alloc,
-            "from",
-            "P",
-            "The first place of the history that is drawn, by default its beginning",
-        ))?
-        .arg(place_arg(
-            alloc,
-            "to",
-            "Q",
-            "The last place of the history that is drawn, by default its end",
-        ))
+    );
+    let from = place_arg(
+        alloc,
+        "from",
+        "P",
+        "The first place of the history that is drawn, by default its beginning",
+    );
+    let timeline = with_arg(timeline, from);
+    let to = place_arg(
+        alloc,
+        "to",
+        "Q",
+        "The last place of the history that is drawn, by default its end",
+    );
+    with_arg(timeline, to)
 }
 
 /// Defines the command `stats`. Fails if memory is refused.
@@ -282,8 +301,8 @@ fn stats_command<'a>(alloc: Global) -> Result<Command<'a>, AllocError>
         "stats",
         "Counts the calls of a history, and how its waits ended",
         ABOUT_STATS,
-    )?;
-    stats.arg(flag_arg(alloc, "csv", "Writes the same as rows"))
+    );
+    with_arg(stats, flag_arg(alloc, "csv", "Writes the same as rows"))
 }
 
 /// Defines the command `shell`. Fails if memory is refused.
@@ -302,25 +321,17 @@ fn shell_command<'a>(alloc: Global) -> Result<Command<'a>, AllocError>
 pub(crate) fn commands<'a>(alloc: Global) -> Result<Command<'a>, AllocError>
     ensures { IfOk result (λ command. app_of command ≡ glm_command) }
 {
-    let replay = replay_command(alloc)?;
-    let run = run_command(alloc)?;
-    let check = check_command(alloc)?;
-    let show = show_command(alloc)?;
-    let explain = explain_command(alloc)?;
-    let timeline = timeline_command(alloc)?;
-    let stats = stats_command(alloc)?;
-    let shell = shell_command(alloc)?;
-    Command::new(alloc, "glm")
+    let glm = Command::new(alloc, "glm")
         .about("Granular locks for databases")
         .version(VERSION)
         .after_help(STATUSES)
-        .subcommand_required(true)
-        .subcommand(replay)?
-        .subcommand(run)?
-        .subcommand(check)?
-        .subcommand(show)?
-        .subcommand(explain)?
-        .subcommand(timeline)?
-        .subcommand(stats)?
-        .subcommand(shell)
+        .subcommand_required(true);
+    let glm = with_command(Ok(glm), replay_command(alloc));
+    let glm = with_command(glm, run_command(alloc));
+    let glm = with_command(glm, check_command(alloc));
+    let glm = with_command(glm, show_command(alloc));
+    let glm = with_command(glm, explain_command(alloc));
+    let glm = with_command(glm, timeline_command(alloc));
+    let glm = with_command(glm, stats_command(alloc));
+    with_command(glm, shell_command(alloc))
 }

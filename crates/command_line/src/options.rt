@@ -2,9 +2,10 @@
 
 ghost use Rattle.std.specs.Prelude.{◌≡◌, false};
 ghost use Rattle.clap.specs.Walk.{rule_of};
-ghost use Rattle.command_line.specs.CommandLine.{comments_flag, file_argument, flag_named, hints_flag, output_option, place_option, sessions_option, stream_flag, turns_option};
+ghost use Rattle.command_line.specs.CommandLine.{comments_flag, file_argument, flag_named, hints_flag, output_option, place_option, sessions_option, stream_flag, turns_option, valued_option};
 
 use crate::args::{MAX_PLACE, MAX_TURNS};
+use clap::builder::ValueParser;
 use clap::{Arg, ArgAction, value_parser};
 use lock_rules::MAX_SESSIONS;
 use std::alloc::Global;
@@ -33,17 +34,38 @@ pub(crate) fn output_arg<'a>(alloc: Global) -> Arg<'a>
         )
 }
 
+/// Defines an option whose value `parser` checks. `value` stands for the value in the help.
+fn valued_arg<'a>(
+    alloc: Global,
+    name: &'a str,
+    value: &'a str,
+    help: &'a str,
+    parser: ValueParser<'a>,
+) -> Arg<'a>
+    ensures rule { rule_of result ≡ valued_option name.now parser.entry }
+    ensures own { result.global ≡ false }
+{
+    Arg::new(alloc, name)
+        .long(name)
+        .value_name(value)
+        .help(help)
+        .value_parser(parser)
+}
+
 /// Defines the option `--sessions N`, which every command has.
 pub(crate) fn sessions_arg<'a>(alloc: Global) -> Arg<'a>
     ensures rule { rule_of result ≡ sessions_option }
     ensures own { result.global ≡ false }
 {
-    Arg::new(alloc, "sessions")
-        .long("sessions")
-        .value_name("N")
-        .help("How many sessions there are, 1 to 1024")
-        .value_parser(value_parser!(u32).range(1..=i64::from(MAX_SESSIONS)))
-        .default_value("256")
+    let parser = value_parser!(u32).range(1..=i64::from(MAX_SESSIONS));
+    valued_arg(
+        alloc,
+        "sessions",
+        "N",
+        "How many sessions there are, 1 to 1024",
+        parser,
+    )
+    .default_value("256")
 }
 
 /// Defines the option `--turns T`, which `run` has.
@@ -51,12 +73,15 @@ pub(crate) fn turns_arg<'a>(alloc: Global) -> Arg<'a>
     ensures rule { rule_of result ≡ turns_option }
     ensures own { result.global ≡ false }
 {
-    Arg::new(alloc, "turns")
-        .long("turns")
-        .value_name("T")
-        .help("How often a session tries for one answer at most, 1 to 1000000000")
-        .value_parser(value_parser!(u32).range(1..=i64::from(MAX_TURNS)))
-        .default_value("1000000000")
+    let parser = value_parser!(u32).range(1..=i64::from(MAX_TURNS));
+    valued_arg(
+        alloc,
+        "turns",
+        "T",
+        "How often a session tries for one answer at most, 1 to 1000000000",
+        parser,
+    )
+    .default_value("1000000000")
 }
 
 /// Defines a flag.
@@ -88,11 +113,8 @@ pub(crate) fn place_arg<'a>(alloc: Global, name: &'a str, value: &'a str, help: 
     ensures rule { rule_of result ≡ place_option name.now }
     ensures own { result.global ≡ false }
 {
-    Arg::new(alloc, name)
-        .long(name)
-        .value_name(value)
-        .help(help)
-        .value_parser(value_parser!(u32).range(0..=i64::from(MAX_PLACE)))
+    let parser = value_parser!(u32).range(0..=i64::from(MAX_PLACE));
+    valued_arg(alloc, name, value, help, parser)
 }
 
 /// Defines the flag `--comments`, which every command but `shell` has.

@@ -1,5 +1,5 @@
 -- An explanation as lines for people. The format is this project's own choice.
-use Rattle.std.specs.Prelude.{ℕ, Bool, ◌&&◌, ◌==◌, if◌then◌else◌, List, [], ◌∷◌, ◌++◌, length, Option, Some, None, is_none, codes, decimal}
+use Rattle.std.specs.Prelude.{ℕ, Bool, ◌&&◌, ◌==◌, if◌then◌else◌, List, [], ◌∷◌, ◌++◌, length, nat_lt, Option, Some, None, is_none, codes, decimal}
 use Rattle.std.specs.List.{flat_map}
 use Rattle.lock_modes.specs.declared.Mode.{Mode}
 use Rattle.lock_modes.specs.Codes.{name_of}
@@ -167,6 +167,10 @@ wait_part (Some w) = lines_of_wait w
 abbrev pub line_of_victim : Party → List ℕ
 line_of_victim p = codes "  victim: " ++ words_of_party p ++ codes ", the youngest on a cycle\n"
 
+-- the line of how many victims there are, nothing for one or none
+abbrev pub count_of_victims : List Party → List ℕ
+count_of_victims victims = if nat_lt 1 (length victims) then codes "  victims: " ++ decimal (length victims) ++ codes "\n" else []
+
 -- a request with its session and transaction
 abbrev pub words_of_owned : Claim → List ℕ
 words_of_owned c =
@@ -182,10 +186,10 @@ abbrev pub own_part : Option Wait → List ℕ
 own_part None = []
 own_part (Some w) = if w.granted then codes "  then its own request is granted, since victims made room\n" else []
 
--- what the call did: the refusal, the wait, the victims, the requests of others granted, and its own request granted after all
+-- what the call did: the refusal, the wait, the victims with their number, the requests of others granted, and its own request granted after all
 abbrev pub lines_of_explanation : Explanation → List ℕ
 lines_of_explanation e =
-    refusal_part e.refusal ++ wait_part e.wait ++ flat_map line_of_victim e.victims.items
+    refusal_part e.refusal ++ wait_part e.wait ++ count_of_victims e.victims.items ++ flat_map line_of_victim e.victims.items
     ++ flat_map line_of_granted e.granted.items ++ own_part e.wait
 
 -- the explanation as lines, one line if there is nothing to tell

@@ -3,7 +3,7 @@
 ghost use Rattle.std.specs.Prelude.{◌≡◌, ◌++◌, IfOk, OnOk, string_bytes};
 ghost use Rattle.std.specs.List.{flat_map};
 ghost use Rattle.lock_modes.specs.Codes.{name_of};
-ghost use Rattle.explain_report.specs.ExplanationText.{has_nothing_to_tell, words_of_why, line_of_why, words_of_parent_held, line_of_parent, lines_of_missed, line_of_lock_below, lines_of_refusal, refusal_part, lines_of_asked, lines_if_asked, line_of_member, line_of_edge, lines_of_members, words_of_edge, lines_of_edges, lines_of_cycle, lines_of_wait, wait_part, line_of_victim, words_of_owned, line_of_granted, own_part, lines_of_explanation, text_of_explanation};
+ghost use Rattle.explain_report.specs.ExplanationText.{has_nothing_to_tell, words_of_why, line_of_why, words_of_parent_held, line_of_parent, lines_of_missed, line_of_lock_below, lines_of_refusal, refusal_part, lines_of_asked, lines_if_asked, line_of_member, line_of_edge, lines_of_members, words_of_edge, lines_of_edges, lines_of_cycle, lines_of_wait, wait_part, line_of_victim, count_of_victims, words_of_owned, line_of_granted, own_part, lines_of_explanation, text_of_explanation};
 
 use crate::request_text::{
     put_blockers, put_line_of_request, put_party, put_request, put_words_and_mode,
@@ -258,6 +258,17 @@ fn put_victims(out: &mut String, victims: &[Party]) -> Result<(), NoMemory>
     Ok(())
 }
 
+/// Writes the line of how many victims there are, if there are several.
+fn put_count_of_victims(out: &mut String, victims: &[Party]) -> Result<(), NoMemory>
+    ensures { OnOk result (string_bytes out.new ≡ string_bytes out.old ++ count_of_victims victims.now) }
+{
+    if 1 < victims.len() {
+        write!(out, "  victims: {}\n", victims.len())
+    } else {
+        Ok(())
+    }
+}
+
 /// Writes a request with its session and transaction.
 fn put_owned(out: &mut String, request: &Claim) -> Result<(), NoMemory>
     ensures { OnOk result (string_bytes out.new ≡ string_bytes out.old ++ words_of_owned request.now) }
@@ -314,6 +325,7 @@ fn put_lines(out: &mut String, explanation: &Explanation) -> Result<(), NoMemory
 {
     put_refusal_part(out, &explanation.refusal)?;
     put_wait_part(out, &explanation.wait)?;
+    put_count_of_victims(out, &explanation.victims)?;
     put_victims(out, &explanation.victims)?;
     put_all_granted(out, &explanation.granted)?;
     put_own_part(out, &explanation.wait)

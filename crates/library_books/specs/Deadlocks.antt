@@ -2,7 +2,7 @@
 use Rattle.std.specs.Prelude.{◌≡◌, ℕ, List, [], ◌∷◌, ◌++◌, length}
 use Rattle.lock_modes.specs.Codes.{code_of}
 use Rattle.lock_rules.specs.State.{mode_or_nothing}
-use Rattle.lock_desk.specs.Deadlocks.{Moment, AreDeadlocksTold}
+use Rattle.lock_desk.specs.Deadlocks.{Moment, AreDeadlocksTold, newest}
 use Rattle.lock_desk.specs.declared.deadlock_log.Deadlock.{Deadlock}
 use Rattle.lock_desk.specs.declared.deadlock_log.Member.{Member}
 use Rattle.library_books.specs.declared.deadlock_numbers.DeadlockNumbers.{DeadlockNumbers}
@@ -24,9 +24,9 @@ abbrev pub members_of : List Deadlock → List Member
 members_of [] = []
 members_of (d ∷ ds) = d.cycle.items ++ members_of ds
 
--- the deadlocks of these moments are told: to one array the deadlocks, as many as there is room for, to another one the members of their
--- cycles, as many as there is room for, and how many there are of each in all
-abbrev pub AreDeadlocksWritten : List Moment → List DeadlockNumbers → List DeadlockNumbers → ℕ → List MemberNumbers → List MemberNumbers → ℕ → Type 0
-AreDeadlocksWritten moments places written count member_places members member_count = (ds : List Deadlock) × AreDeadlocksTold moments ds
-    × (written ≡ are_written numbers_of_deadlock ds places) × (count ≡ length ds)
+-- the newest deadlocks of these moments are told, `most` at most: to one array the deadlocks, as many as there is room for, to another one the
+-- members of their cycles, as many as there is room for, and how many moments and how many members there are in all
+abbrev pub AreDeadlocksWritten : ℕ → List Moment → List DeadlockNumbers → List DeadlockNumbers → ℕ → List MemberNumbers → List MemberNumbers → ℕ → Type 0
+AreDeadlocksWritten most moments places written count member_places members member_count = (ds : List Deadlock) × AreDeadlocksTold (newest most moments) ds
+    × (written ≡ are_written numbers_of_deadlock ds places) × (count ≡ length moments)
     × (members ≡ are_written numbers_of_member (members_of ds) member_places) × (member_count ≡ length (members_of ds))

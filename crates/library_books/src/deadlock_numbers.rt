@@ -102,28 +102,25 @@ fn all_members(alloc: Global, deadlocks: &[Deadlock]) -> Result<Vec<Member>, All
     Ok(members)
 }
 
-/// Writes the first deadlocks, as many as `list` has room for, and the number of all deadlocks to `count`; and the first members of their
-/// cycles, one deadlock's behind another's, as many as `places` has room for, and the number of all members to `member_count`.
+/// Writes the first of these deadlocks, as many as `list` has room for, and the first members of their cycles, one deadlock's behind
+/// another's, as many as `places` has room for, and the number of all these members to `member_count`.
 pub fn write_told(
     alloc: Global,
     deadlocks: &[Deadlock],
     list: &mut [DeadlockNumbers],
-    count: &mut usize,
     places: &mut [MemberNumbers],
     member_count: &mut usize,
 ) -> u32
     ensures list { result ≡ OK → list.new ≡ are_written numbers_of_deadlock deadlocks.now list.old }
-    ensures count { result ≡ OK → count.new ≡ length deadlocks.now }
     ensures members { result ≡ OK → places.new ≡ are_written numbers_of_member (members_of deadlocks.now) places.old }
     ensures member_count { result ≡ OK → member_count.new ≡ length (members_of deadlocks.now) }
-    ensures failed { result ≢ OK → (list.new ≡ list.old) × (count.new ≡ count.old) × (places.new ≡ places.old) × (member_count.new ≡ member_count.old) }
+    ensures failed { result ≢ OK → (list.new ≡ list.old) × (places.new ≡ places.old) × (member_count.new ≡ member_count.old) }
     ensures statuses { (result ≡ OK) ⊎ (result ≡ NO_MEMORY) }
 {
     let Ok(members) = all_members(alloc, deadlocks) else {
         return NO_MEMORY;
     };
     write_deadlocks(deadlocks, list);
-    *count = deadlocks.len();
     write_members(members.as_slice(), places);
     *member_count = members.len();
     OK

@@ -28,35 +28,42 @@ pub fn keep(alloc: Global, book: &mut Book, most: usize) -> u32
     }
 }
 
-/// Writes the deadlocks that the book tells, as many as `list` has room for, and the members of their cycles, as many as `members` has room
-/// for, with the numbers of all.
+/// Writes the newest `most` deadlocks that the book tells, as many as `list` has room for, and the members of their cycles, as many as
+/// `members` has room for; how many the book tells in all, and how many members the newest `most` have.
 pub fn told(
     alloc: Global,
     book: &Book,
+    most: usize,
     list: &mut [DeadlockNumbers],
     count: &mut usize,
     members: &mut [MemberNumbers],
     member_count: &mut usize,
 ) -> u32
-    ensures ok { result ≡ OK → AreDeadlocksWritten (newest book.now.deadlocks (deadlocks_in book.now.history)) list.old list.new count.new members.old members.new member_count.new }
+    ensures ok { result ≡ OK → AreDeadlocksWritten most (newest book.now.deadlocks (deadlocks_in book.now.history)) list.old list.new count.new members.old members.new member_count.new }
     ensures failed { result ≢ OK → (list.new ≡ list.old) × (count.new ≡ count.old) × (members.new ≡ members.old) × (member_count.new ≡ member_count.old) }
     ensures statuses { (result ≡ OK) ⊎ (result ≡ NO_MEMORY) }
 {
-    let deadlocks = book.deadlocks();
-    write_told(alloc, deadlocks, list, count, members, member_count)
+    let told = book.newest_deadlocks(most);
+    let status = write_told(alloc, told, list, members, member_count);
+    if status != OK {
+        return status;
+    }
+    *count = book.deadlock_count();
+    OK
 }
 
 /// Writes the deadlocks that the lock table of the office tells, as `told` does, and how many calls the history had then.
 pub fn told_in_office(
     alloc: Global,
     share: &mut SessionShare,
+    most: usize,
     list: &mut [DeadlockNumbers],
     count: &mut usize,
     members: &mut [MemberNumbers],
     member_count: &mut usize,
     seen: &mut u64,
 ) -> u32
-    ensures ok { result ≡ OK → AreDeadlocksSeen share.old share.new list.old list.new count.new members.old members.new member_count.new seen.new }
+    ensures ok { result ≡ OK → AreDeadlocksSeen most share.old share.new list.old list.new count.new members.old members.new member_count.new seen.new }
     ensures failed { result ≢ OK → (list.new ≡ list.old) × (count.new ≡ count.old) × (members.new ≡ members.old) × (member_count.new ≡ member_count.old) × (seen.new ≡ seen.old) }
     ensures same { result ≢ OK → result ≢ NO_MEMORY → share.new ≡ share.old }
     ensures memory { result ≡ NO_MEMORY → HasSeen share.old share.new }
@@ -64,16 +71,20 @@ pub fn told_in_office(
     ensures statuses { (result ≡ OK) ⊎ ((result ≡ NO_MEMORY) ⊎ (result ≡ ELSEWHERE)) }
 {
     let mut found = Vec::new(alloc);
-    let Ok(asked) = share.session.deadlocks(&share.office, alloc, &mut found) else {
+    let Ok(asked) = share
+        .session
+        .deadlocks(&share.office, alloc, most, &mut found)
+    else {
         return NO_MEMORY;
     };
     let Some(answer) = asked else {
         return ELSEWHERE;
     };
-    let status = write_told(alloc, found.as_slice(), list, count, members, member_count);
+    let status = write_told(alloc, found.as_slice(), list, members, member_count);
     if status != OK {
         return status;
     }
+    *count = answer.found.count;
     *seen = answer.length;
     OK
 }

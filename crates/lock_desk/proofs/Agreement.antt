@@ -16,7 +16,7 @@ use Rattle.lock_desk.specs.inner.Cells.{View, view_after_giving_up, queue_with, 
 use Rattle.lock_holders.specs.SessionModes.{with_holder, has_session}
 use Rattle.session_locks.specs.Resources.{has_path, AreApart}
 use Rattle.lock_desk.specs.inner.Lockers.{Standing, no_standing, standing_of, standings_of, standing_at, is_wanted, standing_after_asking, IsSameOrGranted, AreSameOrGranted, DoAgree}
-use Rattle.lock_desk.specs.inner.Changes.{view_at, standings, DoesKeep}
+use Rattle.lock_desk.specs.inner.Changes.{view_at, standings, DoesKeep, IsSameSeen}
 use Rattle.lock_holders.proofs.SessionModes.{has_session-with_holder, has_session-without}
 use Rattle.lock_desk.proofs.WaitQueues.{has_session-queued}
 use Rattle.lock_desk.proofs.LockerStandings.{IsPositionOf, has_path-with, has_path-with_other}
@@ -24,6 +24,10 @@ use Rattle.lock_desk.proofs.LockerStandings.{IsPositionOf, has_path-with, has_pa
 -- two operations, one after the other, keep what each keeps
 pub keeps-on : {d e f : LockTable} → DoesKeep d e → DoesKeep e f → DoesKeep d f
 keeps-on h k = record { whole = k.whole; lockers = k.lockers ∙ h.lockers; ready = k.ready }
+
+-- two changes that leave count, standings and views unchanged are one such change
+pub same-on : {d e f : LockTable} → IsSameSeen d e → IsSameSeen e f → IsSameSeen d f
+same-on h k = record { count = k.count ∙ h.count; standings_same = k.standings_same ∙ h.standings_same; views = λ q. k.views q ∙ h.views q; ended = k.ended ∙ h.ended }
 
 -- the standing of one session is written
 

@@ -13,7 +13,7 @@ use Rattle.lock_desk.specs.Batches.{Item, entries_from, has_ended_in, ended_wait
 use Rattle.lock_desk.specs.BookView.{BookView}
 use Rattle.sequential.specs.Batches.{item_of}
 use Rattle.session_sets.specs.Ended.{EndedView, is_ended, ended_in}
-use Rattle.lock_desk.specs.inner.Runs.{AreServed}
+use Rattle.lock_desk.specs.inner.Served.{AreServed}
 use Rattle.session_sets.proofs.FilteredNumbers.{same-tests, same-numbers, no-numbers}
 
 -- the entries of the first k items
@@ -72,12 +72,6 @@ length-after st (suc k) (x ∷ xs) = ap suc (length-after (step st x.session x.c
 -- the waits that a call ends, beside those that the calls before it have ended
 abbrev pub ended_also : ℕ → State → List Item → State → Item → List ℕ
 ended_also n start items st i = filter (λ u. has_ended_in start items u || item_ends st i u) (range_with_len 1 n)
-
--- what ends no wait adds none
-pub ends-none : (n : ℕ) (start : State) (items : List Item) (st : State) (i : Item) → ((u : ℕ) → item_ends st i u ≡ false) → ended_waits_in n start items ≡ ended_also n start items st i
-ends-none n start items st i h =
-    same-numbers (has_ended_in start items) (λ u. has_ended_in start items u || item_ends st i u) 1 n
-    (λ u l k. sym (ap (λ (b : Bool). has_ended_in start items u || b) (h u) ∙ or-false (has_ended_in start items u)))
 
 -- what a list has in addition to one with the waits that have ended before
 pub ends-also : (n : ℕ) (start : State) (items : List Item) (st : State) (i : Item) (old new : ℕ → Bool) → filter old (range_with_len 1 n) ≡ ended_waits_in n start items → ((u : ℕ) → new u ≡ (old u || item_ends st i u))

@@ -18,7 +18,7 @@ use Rattle.session_sets.specs.Ended.{EndedView, is_ended, ended_in}
 use Rattle.lock_desk.specs.declared.lock_table.LockTable.{LockTable}
 use Rattle.lock_desk.specs.inner.Ready.{IsReadyTable}
 use Rattle.lock_desk.specs.inner.Shows.{Shows}
-use Rattle.lock_desk.specs.inner.Runs.{AreKept}
+use Rattle.lock_desk.specs.inner.Served.{AreKept}
 use Rattle.lock_desk.specs.BookView.{BookView}
 use Rattle.lock_desk.specs.Deadlocks.{AreDeadlocksTold, deadlocks_in, newest}
 use Rattle.lock_desk.specs.inner.Counting.{AreCallsCounted, AreWaitsCounted}
@@ -91,10 +91,10 @@ kept-of a k = record {
   counted = k.counted;
 }
 
-pub of-kept : (a : Inside) → 1 ≤ a.sessions → a.sessions ≤ MAX_SESSIONS → AreKept a.lock_table.value a.history.items → vec_len a.lock_table.value.lockers ≡ a.sessions → a.marks.sessions ≡ a.sessions
+pub of-kept : (a : Inside) → 1 ≤ a.sessions → a.sessions ≤ MAX_SESSIONS → AreKept a.lock_table.value a.history.items → vec_len a.lock_table.value.lockers ≡ a.sessions
     → IsLogFor (vec_len a.lock_table.value.lockers) a.notes.log → AreDeadlocksTold (newest a.notes.log.most (deadlocks_in a.history.items)) a.notes.log.told
     → AreCallsCounted a.history.items a.notes.counts → AreWaitsCounted a.history.items a.notes.log.counts → IsKept a
-of-kept a some few k lockers marked log told calls waits = record {
+of-kept a some few k lockers log told calls waits = record {
   some = some;
   few = few;
   legal = k.legal;
@@ -104,7 +104,6 @@ of-kept a some few k lockers marked log told calls waits = record {
   ready = k.ready;
   lockers = lockers;
   counted = k.counted;
-  marked = marked;
   log = log;
   told = told;
   calls = calls;
@@ -149,10 +148,10 @@ pub view-behind : (a : Inside) (d : LockTable) (b : BookView) → d ≡ a.lock_t
 view-behind a d b is seen = subst (λ (x : LockTable). book_view_of (read_as x a) ≡ b) (sym is) seen
 
 -- the invariant, when as many sessions are listed as `n`
-pub relisted-kept : (a : Inside) (n : ℕ) (e : LockTable) → e ≡ with_ended_count n a.lock_table.value → IsKept a → IsKept (record { sessions = a.sessions; lock_table = record a.lock_table { value = e }; history = a.history; marks = a.marks; notes = a.notes })
+pub relisted-kept : (a : Inside) (n : ℕ) (e : LockTable) → e ≡ with_ended_count n a.lock_table.value → IsKept a → IsKept (record { sessions = a.sessions; lock_table = record a.lock_table { value = e }; history = a.history; notes = a.notes })
 relisted-kept a n e is k =
-    subst (λ (d : LockTable). IsKept (record { sessions = a.sessions; lock_table = record a.lock_table { value = d }; history = a.history; marks = a.marks; notes = a.notes })) (sym is)
-    (of-kept _ k.some k.few (kept-relisted a.lock_table.value _ a.history.items refl (kept-of a k)) k.lockers k.marked k.log k.told k.calls k.waits)
+    subst (λ (d : LockTable). IsKept (record { sessions = a.sessions; lock_table = record a.lock_table { value = d }; history = a.history; notes = a.notes })) (sym is)
+    (of-kept _ k.some k.few (kept-relisted a.lock_table.value _ a.history.items refl (kept-of a k)) k.lockers k.log k.told k.calls k.waits)
 
 -- what contracts see of a book after a call, when these sessions are listed
 pub listed-view : (a : Inside) (b : BookView) → book_view_of a ≡ b → (e : Entry) (es : List Entry) (cut bound : ℕ) (ended told : List ℕ) (deadlocks : ℕ)

@@ -1,6 +1,6 @@
 -- The calls of a history are counted, and one call more; and the waits that a session gives up.
-use Rattle.std.proofs.Common.{◌≡◌, ℕ, zero, suc, ◌+◌, ◌-◌, ◌<◌, ◌≤◌, ◌%◌, ◌^◌, Bool, true, false, cond, not, eqb, ◌&&◌, List, [], ◌∷◌, ◌++◌, length, map, get_or, Option, Some, None, is_some, refl, sym, ◌∙◌, ap, subst, arith, length-append}
-use Rattle.std.proofs.lemmas.Bool.{cases_Bool, true≢false}
+use Rattle.std.proofs.Common.{◌≡◌, ℕ, ◌+◌, ◌-◌, ◌<◌, ◌%◌, ◌^◌, Bool, true, false, cond, not, eqb, ◌&&◌, List, [], ◌∷◌, ◌++◌, length, map, get_or, Option, Some, None, is_some, refl, sym, ◌∙◌, ap, subst, arith, length-append}
+use Rattle.std.proofs.lemmas.Bool.{true≢false}
 use Rattle.lock_modes.specs.declared.Mode.{Mode}
 use Rattle.lock_rules.specs.declared.calls.Call.{Call}
 use Rattle.lock_rules.specs.declared.calls.Call.TheVariants.{Begin, Lock, Convert, Poll, Release, Commit, Abort, Try, Withdraw, Restart}
@@ -13,7 +13,7 @@ use Rattle.lock_rules.specs.Kinds.{op_of_call, kind_of_reply, number_of_op, numb
 use Rattle.lock_rules.specs.Entries.{Entry}
 use Rattle.lock_rules.specs.State.{Claim, State, request_of, is_open, is_waiting, claims_of, claims_but}
 use Rattle.lock_rules.specs.Waits.{resource_of_request}
-use Rattle.lock_rules.specs.Step.{tests, first_failing, without_claims, after_end, act, outcome_of, step}
+use Rattle.lock_rules.specs.Step.{first_failing, without_claims, after_end, outcome_of, step}
 use Rattle.lock_rules.specs.Legal.{state_of, IsLegal}
 use Rattle.lock_rules.specs.Sound.{IsNumbered}
 use Rattle.lock_rules.proofs.Histories.{legal-push}
@@ -161,23 +161,6 @@ waits-counted h now s c reply served old new is legal told numbered at few has a
           ∙ sym (total-push (λ x y z. one_if (gives_up op.Restart x y z)) h e));
     })
 
--- a lock that makes no victim ends no wait of its session
-pub waits-same : (h : List Entry) (s : ℕ) (c : Call) (reply : Reply) (w : WaitCounts) (r : List ℕ) (m : Mode) → c ≡ Lock r m
-    → deadlocks_in (h ++ record { session = s; call = c; reply = reply } ∷ []) ≡ deadlocks_in h → AreWaitsCounted h w → AreWaitsCounted (h ++ record { session = s; call = c; reply = reply } ∷ []) w
-waits-same h s c reply w r m is same a =
-    let e : Entry = record { session = s; call = c; reply = reply } in
-    let none : (o : Op) → eqb (number_of_op op.Lock) (number_of_op o) ≡ false → one_if (gives_up o (state_of h) e (step (state_of h) s c).state) ≡ 0 =
-    λ o f. ap (λ (b : Bool). one_if (b && (is_waiting (state_of h) s && not (is_waiting (step (state_of h) s c).state s)))) (ap (λ (x : Call). eqb (number_of_op (op_of_call x)) (number_of_op o)) is ∙ f) in
-    record {
-      victims = subst (λ (ms : List Moment). AreVictimsCounted ms w) (sym same) a.victims;
-      aborted = omega (arith, a.aborted, total-push (λ x y z. one_if (gives_up op.Abort x y z)) h e, none op.Abort refl);
-      restarted = omega (arith, a.restarted, total-push (λ x y z. one_if (gives_up op.Restart x y z)) h e, none op.Restart refl);
-    }
-
 -- of no calls, none are counted
 pub none-counted : AreWaitsCounted [] no_waits
 none-counted = record { victims = record { victims = refl; closing = refl; last = refl }; aborted = refl; restarted = refl }
-
--- nor are any where there are none
-pub waits-none : (h : List Entry) (c : WaitCounts) → h ≡ [] → c ≡ no_waits → AreWaitsCounted h c
-waits-none h c none is = subst (λ (es : List Entry). AreWaitsCounted es c) (sym none) (subst (AreWaitsCounted []) (sym is) none-counted)

@@ -1,12 +1,11 @@
 -- The cycle that is told of a deadlock is one of the state.
-use Rattle.std.proofs.Common.{◌≡◌, ◌≢◌, ℕ, suc, ◌+◌, ◌-◌, ◌<◌, ◌≤◌, inl, inr, Bool, true, false, cond, eqb, ltb, List, [], ◌∷◌, ◌++◌, length, length-append, get_or, map, take, drop, Option, Some, None, refl, sym, ◌∙◌, ap, arith, subst}
+use Rattle.std.proofs.Common.{◌≡◌, ◌≢◌, ℕ, ◌+◌, ◌-◌, ◌<◌, ◌≤◌, inl, inr, Bool, true, cond, eqb, ltb, List, [], ◌∷◌, ◌++◌, length, length-append, get_or, map, take, drop, Option, Some, None, refl, sym, ◌∙◌, ap, arith, subst}
 use Rattle.std.specs.List.{IsDistinct}
-use Rattle.std.proofs.lemmas.Bool.{cases_lt, cases_Bool, lt-ltb, le-ltb, eqb-true, eq-eqb, ne_eqb, eqb-false}
+use Rattle.std.proofs.lemmas.Bool.{cases_lt, lt-ltb, le-ltb, ne_eqb, eqb-false}
 use Rattle.std.proofs.lemmas.List.{map-append, take_more, get_or-map, drop-append-le, drop-drop, length-drop, length-map}
 use Rattle.std.proofs.lemmas.Map.Keys.{IsDistinct-from_apart, apart_from_distinct}
 use Rattle.waits_for.specs.Pairs.{pairs_of}
 use Rattle.wait_cycles.specs.Cycles.{IsCycle}
-use Rattle.wait_cycles.proofs.Cycles.{cycle-within}
 use Rattle.lock_rules.specs.State as rules
 use Rattle.lock_rules.specs.Waits.{waits_for, victim_of}
 use Rattle.lock_rules.specs.Listing.{listed_as, kind_of_request, listed_request, waiting_line}
@@ -21,7 +20,7 @@ use Rattle.lock_desk.specs.declared.wait_counts.WaitCounts.{WaitCounts}
 use Rattle.lock_desk.specs.inner.Noting.{LogView, HasTold}
 use Rattle.lock_desk.specs.declared.deadlock_log.Member.{Member}
 use Rattle.lock_desk.specs.declared.lock_table.LockTable.{LockTable}
-use Rattle.lock_desk.specs.inner.Changes.{standings, IsWhole}
+use Rattle.lock_desk.specs.inner.Changes.{IsWhole}
 use Rattle.lock_desk.specs.inner.Ready.{IsReadyTable}
 use Rattle.lock_desk.specs.inner.Shows.{Shows}
 use Rattle.lock_desk.proofs.WaitsOfTheState.{pairs-shown}

@@ -4,7 +4,7 @@ use Rattle.std.proofs.lemmas.Bool.{cases_Bool}
 use Rattle.lock_modes.specs.declared.Mode.{Mode}
 use Rattle.lock_rules.specs.State as rules
 use Rattle.lock_rules.specs.declared.calls.Call.{Call}
-use Rattle.lock_rules.specs.declared.calls.Call.TheVariants.{Lock, Convert, Try}
+use Rattle.lock_rules.specs.declared.calls.Call.TheVariants.{Lock}
 use Rattle.lock_rules.specs.declared.calls.Reply.{Reply}
 use Rattle.lock_rules.specs.declared.calls.Why.{Why}
 use Rattle.lock_rules.specs.Entries.{Entry}
@@ -19,10 +19,8 @@ use Rattle.lock_desk.specs.declared.lock_table.LockTable.{LockTable}
 use Rattle.lock_desk.specs.inner.Changes.{mode_held, call_tests, IsWhole, HasAsked}
 use Rattle.lock_desk.specs.inner.Noting.{LogView, HasNoted}
 use Rattle.lock_desk.specs.inner.Shows.{Shows}
-use Rattle.lock_desk.specs.inner.Runs.{CanJoin, AreKept}
 use Rattle.lock_desk.proofs.AfterStep.{first_state}
 use Rattle.lock_desk.proofs.Simulation.{mode-shown, tests-shown, same-target, granted-is}
-use Rattle.lock_desk.proofs.Granting.{entry_of_grant}
 use Rattle.lock_desk.proofs.DeadlocksTold.{noted-none}
 use Rattle.lock_desk.proofs.DeadlockRounds.{deadlocked-enough}
 
@@ -91,20 +89,6 @@ pub deadlocks-push : (es : List Entry) (e : Entry) → deadlocks_in (es ++ e ∷
 deadlocks-push es e =
     let same : 0 + length es ≡ length es = omega arith in
     deadlocks-push-from 0 rules.empty es e ∙ ap (λ (n : ℕ). deadlocks_in es ++ moments_at n e.session (deadlocks_of (state_of es) e.session e.call)) same
-
--- a call that makes none adds none
-pub deadlocks-same : (es : List Entry) (e : Entry) → deadlocks_of (state_of es) e.session e.call ≡ [] → deadlocks_in (es ++ e ∷ []) ≡ deadlocks_in es
-deadlocks-same es e none = deadlocks-push es e ∙ (ap (λ (sts : List rules.State). deadlocks_in es ++ moments_at (length es) e.session sts) none ∙ append-nil (deadlocks_in es))
-
--- the lock of an item of a run that is granted makes none
-pub granted-none : (d e : LockTable) (h : List Entry) (i : Item) (r : List ℕ) (m : Mode) → AreKept d h → CanJoin d r i → i.call ≡ Lock r m → HasAsked i.session r m true d e → deadlocks_in (h ++ entry_of_grant i m ∷ []) ≡ deadlocks_in h
-granted-none d e h i r m kept can call asked = deadlocks-same h (entry_of_grant i m) (ap (deadlocks_of (state_of h) i.session) call ∙ (those-if-passed _ (state_of h) i.session r m passed ∙ none-if-granted d e (state_of h) i.session r m m kept.shows target (λ n. asked)))
-  where
-    passed : None ≡ first_failing (tests (state_of h) i.session (Lock r m))
-    passed = sym (sym (ap (λ (c : Call). first_failing (call_tests d i.session c)) call) ∙ can.passed) ∙ ap first_failing (tests-shown d (state_of h) i.session kept.whole (state-lawful h).sound kept.shows (Lock r m))
-
-    target : m ≡ target_of (mode_held d i.session r) m
-    target = sym (ap (λ (o : Option Mode). target_of o m) can.fresh)
 
 -- after one more call, the log tells the newest of all
 pub told-more : (es now : List Entry) (e : Entry) (served : ℕ) (a b : LogView) → now ≡ es ++ e ∷ [] → served ≡ length es → HasNoted (moments_at served e.session (deadlocks_of (state_of es) e.session e.call)) a b

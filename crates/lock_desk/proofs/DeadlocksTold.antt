@@ -1,5 +1,5 @@
 -- What a log tells: the newest deadlocks, and one more.
-use Rattle.std.proofs.Common.{◌≡◌, ℕ, suc, ◌+◌, ◌-◌, ◌<◌, ◌≤◌, List, [], ◌∷◌, ◌++◌, length, drop, refl, sym, ◌∙◌, ap, arith, subst, append_assoc, append-nil, length-append, length-drop}
+use Rattle.std.proofs.Common.{◌≡◌, ℕ, zero, suc, ◌+◌, ◌-◌, ◌<◌, ◌≤◌, List, [], ◌∷◌, ◌++◌, length, drop, refl, sym, ◌∙◌, ap, arith, subst, append_assoc, append-nil, length-append, length-drop}
 use Rattle.std.proofs.lemmas.List.{drop-append-le, drop-drop}
 use Rattle.lock_desk.specs.Deadlocks.{Moment, IsCycleTold, IsDeadlockTold, AreDeadlocksTold, newest}
 use Rattle.lock_desk.specs.declared.deadlock_log.Deadlock.{Deadlock}
@@ -22,12 +22,16 @@ told-push [] (x ∷ ds) m d h t = absurd h
 told-push (x ∷ ms) [] m d h t = absurd h
 told-push (x ∷ ms) (y ∷ ds) m d h t = (h.0, told-push ms ds m d h.1 t)
 
--- the oldest is told no more
-pub told-rest : (ms : List Moment) (ds : List Deadlock) → AreDeadlocksTold ms ds → AreDeadlocksTold (drop 1 ms) (drop 1 ds)
-told-rest [] [] h = tt
-told-rest [] (d ∷ ds) h = absurd h
-told-rest (m ∷ ms) [] h = absurd h
-told-rest (m ∷ ms) (d ∷ ds) h = h.1
+-- the oldest are told no more
+pub told-drop : (k : ℕ) (ms : List Moment) (ds : List Deadlock) → AreDeadlocksTold ms ds → AreDeadlocksTold (drop k ms) (drop k ds)
+told-drop zero ms ds h = h
+told-drop (suc k) [] [] h = tt
+told-drop (suc k) [] (d ∷ ds) h = absurd h
+told-drop (suc k) (m ∷ ms) [] h = absurd h
+told-drop (suc k) (m ∷ ms) (d ∷ ds) h = told-drop k ms ds h.1
+
+pub told-newest : (n : ℕ) (ms : List Moment) (ds : List Deadlock) → AreDeadlocksTold ms ds → AreDeadlocksTold (newest n ms) (newest n ds)
+told-newest n ms ds h = subst (λ (k : ℕ). AreDeadlocksTold (drop (k - n) ms) (newest n ds)) (sym (told-length ms ds h)) (told-drop (length ds - n) ms ds h)
 
 -- the newest of a list
 
@@ -100,24 +104,6 @@ ahead-on m n a b c ms ns le h k more d few last =
 pub ahead-none : (n : ℕ) (a b : LogView) (ms : List Moment) → n ≤ 0 → HasNotedAhead n ms a b → HasNoted ms a b
 ahead-none n a b ms none h = subst (λ (xs : List Moment). HasNoted xs a b) (append-nil ms) (h [] b none (noted-none b))
 
--- nothing is kept
-pub told-nowhere : (a : LogView) (ms : List Moment) → a.most ≡ 0 → a.told ≡ [] → HasTold ms a a
-told-nowhere a ms none empty = record {
-  most = refl;
-  told = λ before h. subst (λ (n : ℕ). AreDeadlocksTold (newest n (before ++ ms)) a.told) (sym none) (subst (AreDeadlocksTold (newest 0 (before ++ ms))) (sym empty) (at (before ++ ms)));
-}
-  where
-    -- the newest 0 are none
-    gone : (ms : List Moment) → newest 0 ms ≡ []
-    gone ms = ap (λ (k : ℕ). drop k ms) (omega arith) ∙ all ms
-      where
-        all : (xs : List Moment) → drop (length xs) xs ≡ []
-        all [] = refl
-        all (x ∷ xs) = all xs
-
-    at : (ms : List Moment) → AreDeadlocksTold (newest 0 ms) []
-    at ms = subst (λ (xs : List Moment). AreDeadlocksTold xs []) (sym (gone ms)) tt
-
 -- one deadlock, while there is room
 pub told-in_room : (a b : LogView) (m : Moment) (d : Deadlock) → IsDeadlockTold m d → b.most ≡ a.most → length a.told < a.most → b.told ≡ a.told ++ d ∷ [] → HasTold (m ∷ []) a b
 told-in_room a b m d t same room more = record {
@@ -138,7 +124,7 @@ told-instead a b m d t same some full more = record {
       let many : a.most ≤ length before = omega (arith, newest-length a.most before, told-length (newest a.most before) a.told h, full) in
       subst (AreDeadlocksTold (newest a.most (before ++ m ∷ []))) (sym more)
       (subst (λ (ms : List Moment). AreDeadlocksTold ms (drop 1 a.told ++ d ∷ [])) (sym (newest-push a.most before m some many))
-      (told-push (drop 1 (newest a.most before)) (drop 1 a.told) m d (told-rest (newest a.most before) a.told h) t));
+      (told-push (drop 1 (newest a.most before)) (drop 1 a.told) m d (told-drop 1 (newest a.most before) a.told h) t));
 }
 
 -- copies

@@ -9,8 +9,6 @@ pub mod CellTable
 pub mod CellEntries
 -- places: the index of the cell of a resource
 pub mod Places
--- mode codes and masks of several modes in one byte
-pub mod Codes
 -- a lock or a request is given up in its cell
 pub mod CellGivesUp
 -- lockers
@@ -93,10 +91,6 @@ pub mod SeveralPages
 -- the book
 -- the invariant of a book
 pub mod BookInvariant
--- runs of locks on one resource: when their items can be granted
-pub mod RunItems
--- one lock of a run is granted: the others can still be granted, and the lock table represents the next state
-pub mod Granting
 -- the deadlocks of a call, and those of a history with one more entry
 pub mod DeadlocksOfCalls
 -- a lock or a try, by its tests

@@ -6,7 +6,6 @@ use Rattle.std.proofs.lemmas.Bool.Decides.{nat_tests, Decides-eqb}
 use Rattle.std.proofs.Math.Bool.{and-true, and-false, or-false}
 use Rattle.waits_for.specs.Pairs.{pairs_of}
 use Rattle.lock_modes.specs.declared.Mode.{Mode}
-use Rattle.lock_rules.specs.Sound.{after}
 use Rattle.lock_holders.specs.declared.session_mode.SessionMode.{SessionMode}
 use Rattle.lock_desk.specs.declared.waits.Waits.{Waits}
 use Rattle.lock_desk.specs.declared.cells.GivenUp.{GivenUp}

@@ -14,10 +14,10 @@ use Rattle.lock_tree.specs.Paths.{same_path}
 use Rattle.lock_rules.proofs.Lists.{same_path-refl, same_path-true}
 use Rattle.session_locks.proofs.ResourceLists.{same_path-equivalence}
 use Rattle.lock_desk.specs.declared.cells.Cell.{Cell}
-use Rattle.lock_desk.specs.inner.Cells.{View, no_view, view_of, Cells, cell_at, CellsBecame, AreKeptCells, IsKeptCell, IsCellAt, IsPlace, HasRoomFor, HasRoomAt}
+use Rattle.lock_desk.specs.inner.Cells.{View, no_view, view_of, Cells, cell_at, CellsBecame, AreKeptCells, IsKeptCell, IsCellAt, IsPlace}
 use Rattle.lock_desk.specs.inner.Tables.{in_use, AreIdleFrom}
 use Rattle.lock_desk.proofs.CellTable.{became, became-view}
-use Rattle.lock_desk.proofs.CellEntries.{set-there, same-cell, keys-beside, resource-at, cell-at, beside-written, beside-pushed, beside-set, entry-last, length-beside, beside-cut, cell-pushed, one, cell-gone, cell-set}
+use Rattle.lock_desk.proofs.CellEntries.{set-there, same-cell, keys-beside, resource-at, cell-at, beside-written, beside-pushed, beside-set, entry-last, length-beside, beside-cut, cell-pushed, cell-gone, cell-set}
 
 -- the cells behind those in use
 
@@ -286,10 +286,6 @@ module _ (rs : List (List ℕ)) (xs : List Cell) (cs : Cells) (e : zip rs xs ≡
     pub there : Some x ≡ cell_at r cs
     there = ap Some (sym same-read) ∙ sym at.found
 
-    -- the cell there has the room that is stated for the place
-    pub room-there : (n : ℕ) → HasRoomAt cs i n → HasRoomFor n x
-    room-there n h = subst (HasRoomFor n) same-read (h r at.cell at.entry)
-
     module _ (c : Cell) where
       -- the entry at the place has the cell that is written
       pub written-entry : slice_get (zip rs (set xs i c)) i ≡ Some (r, c)
@@ -310,15 +306,3 @@ module _ (rs : List (List ℕ)) (xs : List Cell) (cs : Cells) (e : zip rs xs ≡
         -- so the view of the resource is that of the cell written there, and the others are unchanged
         pub wrote-kept : (v : View) → AreKeptCells cs → IsKeptCell c → view_of c ≡ v → CellsBecame r v cs (zip rs (set xs i c))
         wrote-kept v k kept h = became-view r (view_of c) v cs _ h (became same_path (λ a b. refl) r (Some c) cs _ k kept wrote)
-
-        -- the place of the resource is unchanged
-        pub still-at : IsCellAt r (zip rs (set xs i c)) i
-        still-at = record {
-          cell = c;
-          entry = written-entry;
-          found = wrote r ∙ ap (λ (b : Bool). cond b (Some c) (cell_at r cs)) (same_path-refl r);
-        }
-
-      -- the place has the room of the cell that is written
-      pub room-written : (n : ℕ) → HasRoomFor n c → HasRoomAt (zip rs (set xs i c)) i n
-      room-written n h = λ q y f. subst (HasRoomFor n) (written-cell q y f) h

@@ -8,11 +8,6 @@ pub to-ok : {T E : Type 0} (r : Result T E) (P Q : Type 0) → OnOk r P → (P �
 to-ok (Ok x) P Q h f = f h
 to-ok (Err e) P Q h f = tt
 
--- a fact of a failure gives one that follows from it
-pub on-err : {T E : Type 0} (r : Result T E) (P Q : Type 0) → OnErr r P → (P → Q) → OnErr r Q
-on-err (Ok x) P Q h f = tt
-on-err (Err e) P Q h f = f h
-
 -- a fact that holds anyway holds on a failure
 pub on-err-from : {T E P : Type 0} (r : Result T E) → P → OnErr r P
 on-err-from (Ok x) p = tt

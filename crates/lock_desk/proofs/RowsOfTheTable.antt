@@ -144,15 +144,6 @@ nobody-waits : (s : ℕ) (qs : List SessionMode) → is_nobody qs ≡ true → h
 nobody-waits s [] h = refl
 nobody-waits s (q ∷ qs) h = absurd (cc)
 
--- rows that are unchanged follow a change of a view in which nobody waits, before and after
-pub quiet-follow : (before after : View) (old new : Waits) → new ≡ old → is_nobody before.waiting ≡ true → is_nobody after.waiting ≡ true → DoFollow before after old new
-quiet-follow before after old new same f g = subst (λ (w : Waits). DoFollow before after old w) (sym same) (record {
-  sessions = refl;
-  pairs = λ a b. let p = pairs_of old.rows a b in sym (ap (λ (o : Bool). (p && not o) || view_blocks (a + 1) (b + 1) after) (nobody-waits (a + 1) before.waiting f)
-      ∙ (ap (λ (o : Bool). (p && true) || o) (blocks-none (a + 1) (b + 1) after (nobody-waits (a + 1) after.waiting g)) ∙ (or-false (p && true) ∙ and-true p)));
-  numbers = refl;
-})
-
 -- changes that leave all queues as they are
 
 -- if count, standings and views are unchanged, the graph stays current

@@ -1,16 +1,16 @@
 -- Victims that are chosen on a copy of the waits-for graph, without the grants that the end of their waits brings about, are as many as
 -- those of the state.
-use Rattle.std.proofs.Common.{◌≡◌, ℕ, zero, suc, ◌+◌, ◌-◌, ◌<◌, ◌≤◌, Bool, true, false, cond, not, eqb, ◌&&◌, ◌||◌, inl, inr, List, [], ◌∷◌, ◌++◌, length, Option, Some, None, refl, sym, ◌∙◌, ap, arith, subst}
+use Rattle.std.proofs.Common.{◌≡◌, ℕ, zero, suc, ◌+◌, ◌-◌, ◌≤◌, Bool, true, false, cond, not, eqb, ◌&&◌, ◌||◌, inl, inr, List, [], ◌∷◌, ◌++◌, length, Option, Some, None, refl, sym, ◌∙◌, ap, arith, subst}
 use Rattle.std.specs.Prelude.{slice_index}
-use Rattle.std.proofs.lemmas.Bool.{cases_Bool, and_parts, and_from}
+use Rattle.std.proofs.lemmas.Bool.{cases_Bool}
 use Rattle.std.proofs.lemmas.Bool.Decides.{Decides-eqb}
 use Rattle.std.proofs.Math.Bool.{and-true, and-false}
 use Rattle.lock_tree.specs.Paths.{same_path}
-use Rattle.waits_for.specs.Walks.{IsWalk, Reaches, AreOnCircle, IsYoungestOnCircle}
+use Rattle.waits_for.specs.Walks.{IsWalk, AreOnCircle, IsYoungestOnCircle}
 use Rattle.waits_for.proofs.Walks.{walk-append}
 use Rattle.lock_rules.specs.State as rules
 use Rattle.lock_rules.specs.Queue.{queue, fits, after_grant, granted_while_fitting, after_promotions}
-use Rattle.lock_rules.specs.Waits.{conflicts, stands_before, keeps_waiting, waits_for, reaches, victim_of, resource_of_request, without_request, after_cancel, after_victim}
+use Rattle.lock_rules.specs.Waits.{stands_before, keeps_waiting, waits_for, victim_of, resource_of_request, without_request, after_cancel, after_victim}
 use Rattle.lock_rules.specs.Sound.{IsNumbered, IsSound}
 use Rattle.lock_rules.proofs.Alters.{Alters, true≢false, waits_for-alters, waits_for-gone}
 use Rattle.lock_rules.proofs.Cuts.{cancelled-follows}

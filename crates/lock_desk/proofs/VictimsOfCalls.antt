@@ -1,9 +1,8 @@
 -- The victims that are counted are those of the history.
-use Rattle.std.proofs.Common.{◌≡◌, ℕ, zero, suc, ◌+◌, ◌<◌, ◌≤◌, Bool, true, false, cond, not, eqb, ◌&&◌, inl, inr, List, [], ◌∷◌, ◌++◌, length, map, Option, Some, None, is_some, length-append, append_assoc, ◌⊎◌, refl, sym, ◌∙◌, ap, subst, arith}
+use Rattle.std.proofs.Common.{◌≡◌, ℕ, zero, suc, ◌+◌, ◌≤◌, Bool, true, false, cond, not, eqb, ◌&&◌, inl, inr, List, [], ◌∷◌, ◌++◌, length, Option, Some, None, is_some, length-append, ◌⊎◌, refl, sym, ◌∙◌, ap, subst, arith}
 use Rattle.std.proofs.lemmas.Bool.Decides.{Decides-eqb}
 use Rattle.std.proofs.lemmas.Bool.{cases_Bool, true≢false, not-false, and_right}
 use Rattle.lock_modes.specs.declared.Mode.{Mode}
-use Rattle.sequential.proofs.Members.{Member}
 use Rattle.lock_rules.specs.declared.calls.Call.{Call}
 use Rattle.lock_rules.specs.declared.calls.Call.TheVariants.{Begin, Lock, Convert, Poll, Release, Commit, Abort, Try, Withdraw, Restart}
 use Rattle.lock_rules.specs.declared.calls.Reply.{Reply}
@@ -20,7 +19,7 @@ use Rattle.lock_rules.specs.Ended.{has_ended}
 use Rattle.lock_rules.specs.Laws.{DoDoomedWaitForNothing}
 use Rattle.lock_rules.specs.Legal.{state_of, IsLegalFrom, IsLegal}
 use Rattle.lock_rules.specs.Sound.{IsOnce, IsSound, IsNumbered, times}
-use Rattle.lock_rules.proofs.Lists.{eqb-refl, other, times-none}
+use Rattle.lock_rules.proofs.Lists.{eqb-refl, other}
 use Rattle.lock_rules.proofs.Begins.{new, once-push, begins-sound}
 use Rattle.lock_rules.proofs.Doomed.{doom-dooms}
 use Rattle.lock_rules.proofs.Cuts.{IsQuiescent, cancelled-follows}

@@ -12,6 +12,6 @@ pub mod Changes
 pub mod Listing
 pub mod Pages
 pub mod Shows
-pub mod Runs
+pub mod Served
 pub mod Paths
 pub mod Invariant

@@ -41,7 +41,6 @@ pub use paths::{PathLocked, grants, lock_of_level};
 use std::alloc::{AllocError as NoMemory, Global};
 use std::marker::Model;
 use trimmed_list::{MOST_DROPPED, NO_BOUND, TrimmedList};
-use waits_for::Marks;
 
 /// A lock table with the history of the calls that it has served.
 ///
@@ -57,8 +56,6 @@ pub struct Book {
     lock_table: Box<LockTable>,
     /// All served calls with their replies, oldest first. Only those that are kept can be read from memory.
     history: TrimmedList<Entry>,
-    /// Scratch space of `serve_batch`: a mark for each session, to find a session that occurs twice.
-    marks: Marks,
     /// What is noted of the served calls.
     notes: Notes,
 }
@@ -97,7 +94,7 @@ impl Book {
     /// Creates an empty lock table for sessions 1 to `sessions`.
     ///
     /// `sessions` is from 1 to `MAX_SESSIONS`, which is this project's own limit. Fails with `NoMemory` if memory is
-    /// refused for the table or for its marks.
+    /// refused for the table.
     ///
     /// Resources are hashed with the seed 0: who knows that, and chooses the names of resources, can choose names that collide, and
     /// calls on them are dear. Where strangers choose names, use `with_seed`.
@@ -128,13 +125,11 @@ impl Book {
         ensures deadlocks { IfOk result (λ book. book.deadlocks ≡ 0) }
     {
         let lock_table = boxed_table(alloc, sessions, seed)?;
-        let marks = Marks::new(alloc, sessions)?;
         let log = DeadlockLog::none(alloc)?;
         Ok(Book {
             sessions,
             lock_table,
             history: TrimmedList::new(alloc),
-            marks,
             notes: Notes {
                 log,
                 counts: CallCounts::new(),

@@ -1,7 +1,7 @@
 //! Counters of calls, by their operation and the kind of their reply, and of refusals, by their reason.
 
 ghost use Rattle.std.specs.Prelude.{◌≡◌, ℕ, ◌+◌, ◌-◌, ◌%◌, ◌^◌, ◌<◌, ◌&&◌, ◌==◌, if◌then◌else◌, List, [], ◌∷◌, ◌++◌, length, slice_index_or};
-ghost use Rattle.lock_rules.specs.Kinds.{number_of_kind, op_of_call, kind_of_reply};
+ghost use Rattle.lock_rules.specs.Kinds.{number_of_kind, op_of_call};
 ghost use Rattle.lock_rules.specs.Entries.{Entry as EntryValue};
 ghost use Rattle.lock_rules.specs.declared.calls.Call.{Call as CallValue};
 ghost use Rattle.lock_counts.specs.Counts.{count_if, is_kind, is_request, is_refusal_numbered, calls, replies, refusals};

@@ -13,7 +13,6 @@ ghost use Rattle.lock_desk.specs.inner.Lockers.{standings_of, AreSameOrGranted, 
 ghost use Rattle.lock_desk.specs.inner.Ended.{DoNoteEnded};
 ghost use Rattle.lock_desk.specs.inner.Blocking.{IsOfSessions, AreWritten, IsWritten, DoFollow};
 
-mod grants;
 mod resource_keys;
 
 use crate::cells::{Cell, GivenUp, RequestStatus};

@@ -3,7 +3,7 @@
 ghost use Rattle.std.specs.Prelude.{◌≡◌, ℕ, ◌+◌, ◌<◌, ◌≤◌, insert, drop, true, false, not, [], ◌∷◌, ◌++◌, take, map, ◌&&◌, ◌||◌, ◌==◌, Some, IfOk, IfSome, OnOk, OnErr, length, vec_len, vec_capacity};
 ghost use Rattle.waits_for.specs.Pairs.{pairs_of};
 ghost use Rattle.lock_holders.specs.declared.session_mode.SessionMode.{SessionMode as SessionModeValue};
-ghost use Rattle.lock_desk.specs.inner.Cells.{no_view, view_of, view_after_giving_up, next_grant, can_grant, is_granted, behind_conversions, queue_with, view_after_asking, view_with_holder, codes_unless_waited, HasRoom, HasRoomFor, IsKeptCell, is_busy};
+ghost use Rattle.lock_desk.specs.inner.Cells.{no_view, view_of, view_after_giving_up, next_grant, can_grant, is_granted, behind_conversions, queue_with, view_after_asking, view_with_holder, HasRoom, IsKeptCell, is_busy};
 ghost use Rattle.lock_holders.specs.SessionModes.{has_session, mode_of, pair_of, with_holder, fits_among, go_with, Ascends, is_nobody, holder_blocks, AreOfSessions};
 ghost use Rattle.lock_holders.specs.Holders.{IsPlaceOf};
 
@@ -321,39 +321,5 @@ impl Cell {
     {
         self.holders
             .write_edges(rows, request.session, request.mode);
-    }
-
-    /// The bitwise or of the mode codes of the holders, or `None` if a request waits.
-    pub(crate) fn codes_unless_waited(&self) -> Option<u8>
-        ensures { result ≡ codes_unless_waited (view_of self.now) }
-    {
-        if !self.waiting.is_empty() {
-            return None;
-        }
-        Some(self.holders.codes())
-    }
-
-    /// Reserves room for `more` further holders. No request may wait.
-    pub(crate) fn make_room(&mut self, more: usize) -> Result<(), AllocError>
-        requires kept { IsKeptCell self.old }
-        requires quiet { is_nobody (view_of self.old).waiting ≡ true }
-        ensures view { view_of self.new ≡ view_of self.old }
-        ensures room { OnOk result (HasRoomFor more self.new) }
-        ensures kept { IsKeptCell self.new }
-    {
-        self.holders.reserve(more)
-    }
-
-    /// Makes `holder` a holder, or changes the mode that it holds. Room must be reserved.
-    pub(crate) fn grant(&mut self, holder: SessionMode)
-        requires some { 1 ≤ holder.session }
-        requires kept { IsKeptCell self.old }
-        requires room { HasRoomFor 1 self.old }
-        ensures view { view_of self.new ≡ view_with_holder holder (view_of self.old) }
-        ensures room { (n : ℕ) → HasRoomFor (n + 1) self.old → HasRoomFor n self.new }
-        ensures kept { IsKeptCell self.new }
-    {
-        let place = self.holders.place_of(holder.session);
-        self.holders.put(place, holder);
     }
 }

@@ -8,7 +8,7 @@ ghost use Rattle.wait_cycles.specs.Cycles.{IsCycle};
 ghost use Rattle.lock_rules.specs.State.{State};
 ghost use Rattle.lock_rules.specs.Waits.{victim_of, waits_for};
 ghost use Rattle.lock_rules.specs.Sound.{IsSound};
-ghost use Rattle.lock_desk.specs.Deadlocks.{IsMember, IsCycleTold, IsDeadlockTold, moments_at};
+ghost use Rattle.lock_desk.specs.Deadlocks.{IsMember, IsCycleTold, IsDeadlockTold, moments_at, newest};
 ghost use Rattle.lock_desk.specs.declared.deadlock_log.Deadlock.{Deadlock as DeadlockValue};
 ghost use Rattle.lock_desk.specs.declared.deadlock_log.Member.{Member as MemberValue};
 ghost use Rattle.lock_desk.specs.inner.Changes.{IsWhole, MayServe};
@@ -308,6 +308,13 @@ impl DeadlockLog {
         refill(&mut self.slots, table, self.search.cycle(), place, session);
         self.count = one_more(self.count, self.slots.len());
     }
+}
+
+/// The newest `most` of these deadlocks.
+pub(crate) fn newest_of(deadlocks: &[Deadlock], most: usize) -> &[Deadlock]
+    ensures { result.now ≡ newest most deadlocks.now }
+{
+    &deadlocks[deadlocks.len().saturating_sub(most)..]
 }
 
 /// Copies of these deadlocks. Fails if memory is refused.

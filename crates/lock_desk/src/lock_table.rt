@@ -18,7 +18,6 @@ ghost use Rattle.lock_desk.specs.inner.Shows.{Shows};
 mod calls;
 mod deadlocks;
 mod gauges;
-mod grants;
 mod listing;
 mod memory;
 mod pages;
@@ -26,7 +25,6 @@ mod queues;
 mod refusals;
 mod requests;
 mod restarts;
-pub(crate) mod runs;
 
 use crate::cell_table::{CellTable, GivenUpClaim};
 use crate::cells::GivenUp;

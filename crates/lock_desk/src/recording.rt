@@ -8,7 +8,7 @@ ghost use Rattle.lock_desk.specs.Deadlocks.{AreDeadlocksTold, deadlocks_in, newe
 ghost use Rattle.session_sets.specs.Ended.{is_ended};
 ghost use Rattle.lock_desk.specs.inner.Counting.{AreCallsCounted, AreWaitsCounted};
 ghost use Rattle.lock_desk.specs.inner.Noting.{IsLogFor};
-ghost use Rattle.lock_desk.specs.inner.Runs.{AreKept};
+ghost use Rattle.lock_desk.specs.inner.Served.{AreKept};
 
 use crate::lock_table::LockTable;
 use crate::notes::Notes;

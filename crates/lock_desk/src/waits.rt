@@ -4,7 +4,7 @@ ghost use Rattle.std.specs.Prelude.{◌≡◌, ℕ, ◌+◌, ◌-◌, ◌<◌, �
 ghost use Rattle.waits_for.specs.Pairs.{pairs_of};
 ghost use Rattle.waits_for.specs.Walks.{Reaches, IsYoungestOnCircle};
 ghost use Rattle.lock_holders.specs.declared.session_mode.SessionMode.{SessionMode as SessionModeValue};
-ghost use Rattle.lock_desk.specs.inner.Cells.{View, view_of, view_after_giving_up, is_request, is_granted, IsOnce};
+ghost use Rattle.lock_desk.specs.inner.Cells.{view_of, view_after_giving_up, is_request, is_granted, IsOnce};
 ghost use Rattle.lock_holders.specs.SessionModes.{has_session, times, AreOfSessions};
 ghost use Rattle.lock_desk.specs.inner.Noting.{AreChosen, IsCopyFor};
 ghost use Rattle.lock_desk.specs.inner.Blocking.{cell_blocks, fits_beside, has_fitting, has_fitting_beside, has_conflicting, IsOfSessions, IsSizedFor, AreWritten, HasRequestedAt, DoFollow};

@@ -46,9 +46,9 @@ pub fn orders_end()
     ensures numbers { (history : List EntryValue) (n : ℕ) → All (λ e. e.session < n) history → AreOpenBelow n (state_of history) }
 {}
 
-/// From every state that a history leads to, waits end: in whatever order sessions that don't wait end their transactions,
-/// once nobody else can end, nobody waits. By then every session has ended that had a transaction, and each that waited held
-/// what it had asked for when it ended.
+/// From every state that a history leads to, waits end if sessions do no more than end their transactions: in whatever order
+/// those do that don't wait, once nobody else can end, nobody waits. By then every session has ended that had a transaction,
+/// and each that waited held what it had asked for when it ended.
 pub fn waits_end()
     ensures waits { (history : List EntryValue) → DoWaitsEnd (state_of history) }
     ensures everybody { (history : List EntryValue) → DoesEverybodyEnd (state_of history) }

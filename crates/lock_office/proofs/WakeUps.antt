@@ -1,22 +1,23 @@
--- Who tells a session that waits that its wait has ended, where programs are published.
-use Rattle.std.proofs.Common.{◌≡◌, ◌∙◌, ◌⊎◌, ⊎_elim, ℕ, zero, suc, ◌+◌, ◌-◌, ◌<◌, ◌≤◌, List, [], ◌∷◌, length, get_or, take, Contains, refl, sym, ap, subst, arith}
+-- Who has ended the wait of a session, where programs are published, and who was told of it.
+use Rattle.std.proofs.Common.{◌≡◌, ◌∙◌, ◌⊎◌, inl, inr, ⊎_elim, ℕ, zero, suc, ◌+◌, ◌-◌, ◌<◌, ◌≤◌, List, [], ◌∷◌, length, get_or, take, Contains, refl, sym, ap, subst, arith}
 use Rattle.std.proofs.lemmas.List.{get_or_default}
-use mathlib.Core.Logic.{dite}
-use native.Mathlib.Decide.{ℕ_discrete}
-use Rattle.sequential.specs.EndedWaits.{HasEndedIn}
+use Rattle.std.proofs.lemmas.List.Elements.{Contains-append_left, Contains-append_right, Contains-append_cases}
+use mathlib.Core.List.{IsPrefix}
+use Rattle.sequential.specs.EndedWaits.{HasEndedIn, HasEndedAt}
+use Rattle.sequential.proofs.Members.{contains-member}
 use Rattle.lock_desk.specs.Batches.{ends_wait}
 use Rattle.programs.specs.Views.{place_of}
 use Rattle.lock_programs.specs.Answers.{program_form}
-use Rattle.publication.specs.Rule.{word}
 use Rattle.publication.specs.Entered.{AreEnteredOnce}
-use Rattle.combining.proofs.EndedWaits.{in-range}
+use Rattle.combining.specs.Ended.{HasAddedTold}
+use Rattle.combining.proofs.EndedWaits.{in-range, told-later}
 use Rattle.lock_office.specs.by_calls.WakeUps.{WasToldToWait}
 use Rattle.lock_office.proofs.by_calls.WakeUps.{told_so, waits-or-ended, ended-behind}
 use Rattle.lock_office.specs.ProgramBoards.{ProgramEntry, BoardState, IsLegal, flat_history, history_of, program_object}
-use Rattle.lock_office.specs.Ended.{places_within}
-use Rattle.lock_office.specs.WakeUps.{HasEndedWait, IsNotForgotten, waits, was_told, combiner_tells, is_listed}
+use Rattle.lock_office.specs.Ended.{EndsWait, AreToldBy, places_within}
+use Rattle.lock_office.specs.WakeUps.{HasEndedWait, WaitsOrEnded, HaveTold, nothing, behind}
 use Rattle.lock_office.proofs.Sessions.{compared}
-use Rattle.lock_office.proofs.Places.{take-past}
+use Rattle.lock_office.proofs.Places.{take-past, ended-by-calls}
 
 no-front : (h : List ProgramEntry) → length (flat_history (take 0 h)) ≡ 0
 no-front [] = refl
@@ -43,8 +44,8 @@ module _ (h : List ProgramEntry) (q : ℕ) where
 pub in-program : (h : List ProgramEntry) (q : ℕ) → q < length (flat_history h) → (p : ℕ) × (p < length h) × Contains (places_within h p) q
 in-program h q few = program-from h q (length h) (omega arith) (subst (λ (l : List ProgramEntry). q < length (flat_history l)) (sym (take-past h (length h) (omega arith))) few)
 
--- A session that was told to wait is not forgotten.
-module _ (s : BoardState) (once : AreEnteredOnce program_object s) (legal : IsLegal (history_of s)) (told : ℕ → ℕ) (u : ℕ) (w : WasToldToWait (flat_history (history_of s)) u) where
+-- A session that was told to wait waits, or its wait was ended.
+module _ (s : BoardState) (once : AreEnteredOnce program_object s) (legal : IsLegal (history_of s)) (u : ℕ) (w : WasToldToWait (flat_history (history_of s)) u) where
   abbrev h : List ProgramEntry
   h = history_of s
 
@@ -71,10 +72,37 @@ module _ (s : BoardState) (once : AreEnteredOnce program_object s) (legal : IsLe
         },
       )
 
-  pub not-forgotten : IsNotForgotten s told (length w.front) u
-  not-forgotten = ⊎_elim (λ request. waits request) (λ ended. let t = ends-here ended in tells t.0 t.1 t.2) (waits-or-ended (flat_history h) legal.0 u w)
+  pub waits-or-ended-here : WaitsOrEnded s (length w.front) u
+  waits-or-ended-here = ⊎_elim (λ request. inl request) (λ ended. inr (ends-here ended)) (waits-or-ended (flat_history h) legal.0 u w)
+
+-- What calls have told.
+
+-- A wait that a program at the only place of a list has ended, at any list that has this place.
+at-place : (h : List ProgramEntry) (p u : ℕ) (places : List ℕ) → Contains places p → HasEndedAt EndsWait h (p ∷ []) u → HasEndedAt EndsWait h places u
+at-place h p u places among e = record { place = e.place; among = subst (Contains places) (sym (only e.place e.among)) among; entry = e.entry; stands = e.stands; ended = e.ended }
+  where
+    only : (q : ℕ) → Contains (p ∷ []) q → q ≡ p
+    only q has = ⊎_elim (λ is. sym is) (λ none. absurd none) (contains-member q (p ∷ []) has)
+
+module _ (n : ℕ) (s : BoardState) (since u k index : ℕ) (e : HasEndedWait s since u k index) (some : 1 ≤ u) (few : u ≤ n) where
+  abbrev at : ℕ
+  at = get_or e.places index 0
+
+  ended-there : HasEndedAt EndsWait (history_of s) (at ∷ []) u
+  ended-there = (ended-by-calls program_form ends_wait (history_of s) (at ∷ []) u).1
+      (record { place = e.place; among = Contains-append_left (places_within (history_of s) at) [] e.place e.within; entry = e.entry; stands = e.stands; ended = e.ended })
+
+  -- The call that told of the place has listed the session.
+  pub listed-there : {places listed : List ℕ} → HaveTold n (history_of s) places listed → Contains places at → Contains listed u
+  listed-there nothing has = absurd (contains-member at [] has)
+  listed-there (behind places listed before known own list longer within told) has = ⊎_elim
+      (λ early. Contains-append_left listed list u (listed-there before early))
+      (λ now. Contains-append_right listed list u ((later.members u).1 (inr (some, few, at-place (history_of s) at u own now ended-there))))
+      (Contains-append_cases places own at has)
     where
-      tells : (k index : ℕ) → HasEndedWait s (length w.front) u k index → IsNotForgotten s told (length w.front) u
-      tells k index ended = ⊎_elim (λ lt. was_told k index ended lt)
-          (λ le. dite (ℕ_discrete (word s 0) k) (λ is. combiner_tells k index ended le is) (λ isnt. is_listed k index ended le isnt))
-          (compared index (told k))
+      later : HasAddedTold EndsWait n (history_of s) own [] list
+      later = told-later n known (history_of s) own [] list longer record {
+        members = λ v. ((λ has. inr ((told.members v).0 has)), ⊎_elim (λ none. absurd (contains-member v [] none)) (λ t. (told.members v).1 t));
+        once = λ _. told.once;
+        within = within;
+      }

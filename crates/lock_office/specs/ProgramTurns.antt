@@ -7,8 +7,6 @@ use Rattle.publication.specs.Views.{asks}
 use Rattle.combining.specs.Calls as any
 use Rattle.lock_office.specs.ProgramBoards.{TicketView, program_object}
 
--- What the calls of `combining` say of a whole call, of a program.
-
 abbrev pub IsCalled : TicketView → TicketView → Program → ℕ → ProgramAnswer → Type 0
 IsCalled = any.IsCalled program_object
 

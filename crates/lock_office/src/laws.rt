@@ -3,7 +3,7 @@
 //! The history of calls is that of the office's programs laid end to end (`flat_history`). `IsRuled s` says that the rule of the board
 //! holds in state `s`, as `atomic_table` promises it of the running board between any two atomic steps.
 
-ghost use Rattle.std.specs.Prelude.{◌≡◌, ◌≢◌, ◌⊎◌, ◌↔◌, ℕ, ◌+◌, ◌<◌, ◌≤◌, true, List, [], ◌∷◌, ◌++◌, length, Option, Some, None, slice_get};
+ghost use Rattle.std.specs.Prelude.{◌≡◌, ◌≢◌, ◌⊎◌, ◌↔◌, ℕ, ◌+◌, ◌<◌, ◌≤◌, true, List, [], ◌∷◌, ◌++◌, length, Option, Some, None, Contains, slice_get, slice_index};
 ghost use Rattle.std.specs.Global.{Box};
 ghost use Rattle.lock_modes.specs.declared.Mode.{Mode};
 ghost use Rattle.lock_rules.specs.declared.calls.Call.{Call};
@@ -28,7 +28,7 @@ ghost use Rattle.lock_office.specs.ProgramBoards.{ProgramsView, ProgramEntry, An
 ghost use Rattle.lock_office.specs.Closed.{IsClosed, IsOneHistory};
 ghost use Rattle.lock_office.specs.HoldsAsTold.{KeepsLock, KeptLock, HoldsAsTold, ReadsAsTold, WritesAsTold, ToldModesGoTogether, IsToldExclusive, IsToldAccessCompatible};
 ghost use Rattle.lock_office.specs.Ended.{AreToldBy, places_of_calls};
-ghost use Rattle.lock_office.specs.WakeUps.{IsNotForgotten};
+ghost use Rattle.lock_office.specs.WakeUps.{HasEndedWait, WaitsOrEnded, HaveTold};
 ghost use Rattle.lock_office.specs.InTime.{DoProgramsRespectTime};
 
 use combining::laws::closed_offices_have_one_history as one_history_of_any_object;
@@ -116,14 +116,16 @@ pub fn no_wake_up_is_lost()
     laws::ended_waits_are_told_by_polls();
 }
 
-/// No session that waits is forgotten, in any state that a run of a board from its opening reaches, whatever programs are published,
-/// opened or served at that moment. Take a session whose last call was answered Waiting, whether or not it has collected the answer
-/// (clause `told_to_wait` says when it has). Either it has a waiting request; or a call behind that answer has ended its wait, of a
-/// program that stands among the places that exactly one session has entered. It holds for every `told`, which only splits cases, so it
-/// says nothing of telling: `no_wake_up_is_lost` does, of calls that tell.
-pub fn nobody_who_waits_is_forgotten()
-    ensures not_forgotten { (n : ℕ) (load : Box Load) (s : BoardState) (told : ℕ → ℕ) (u : ℕ) → IsHome [] (n + 1) load.value → load.value.pieces.items ≡ [] →
-        IsRun (new_board n load) s → (wait : WasToldToWait (flat_history (history_of s)) u) → IsNotForgotten s told (length wait.front) u }
+/// Who waits has a waiting request, or a session has entered the program of which a call ended its wait, in any state that a run of a board
+/// from its opening reaches, whatever programs are published, opened or served at that moment. This is said of a session whose last call
+/// was answered Waiting, whether or not it has collected the answer (clause `told_to_wait` says when it has). If calls of the session that
+/// entered the program have told of its place (`HaveTold`), one of them has listed the session that waited (`listed`). A call that tells
+/// nobody has told of no place.
+pub fn ended_waits_are_listed()
+    ensures waits_or_ended { (n : ℕ) (load : Box Load) (s : BoardState) (u : ℕ) → IsHome [] (n + 1) load.value → load.value.pieces.items ≡ [] →
+        IsRun (new_board n load) s → (wait : WasToldToWait (flat_history (history_of s)) u) → WaitsOrEnded s (length wait.front) u }
+    ensures listed { (n : ℕ) (s : BoardState) (since u k index : ℕ) (places list : List ℕ) → (end : HasEndedWait s since u k index) → 1 ≤ u → u ≤ n →
+        HaveTold n (history_of s) places list → Contains places (slice_index end.places index) → Contains list u }
     ensures told_to_wait { (s : BoardState) (u : ℕ) (answers : List AnsweredProgram) (place : ℕ) (before : List Answered) (call : Call) → IsRuled s →
         HasCollected s u answers None → calls_answered answers ≡ before ++ answer place call Waiting ∷ [] → WasToldToWait (flat_history (history_of s)) u }
 {

@@ -288,41 +288,60 @@ pub fn locks<O: HasBook>(
     }
 }
 
-/// Replaces the contents of `list` by the deadlocks that the book tells, and returns how many it keeps at most. Fails with `NoMemory` if
-/// memory is refused; the contents of `list` are unchanged then.
-fn copy_deadlocks(book: &Book, alloc: Global, list: &mut Vec<Deadlock>) -> Result<usize, NoMemory>
-    ensures ok { IfOk result (λ most. AreDeadlocksTold (newest most (deadlocks_in book.now.history)) list.new.items) }
-    ensures most { IfOk result (λ most. most ≡ book.now.deadlocks) }
-    ensures err { IfErr result (λ _. list.new.items ≡ list.old.items) }
-{
-    book.copy_deadlocks(alloc, list)?;
-    Ok(book.deadlocks_kept())
+/// How many deadlocks a lock table keeps.
+#[derive(Clone, Copy, Debug, PartialEq, Eq)]
+pub struct Kept {
+    /// How many it keeps at most.
+    pub most: usize,
+    /// How many there are: if fewer, they are all deadlocks of the history.
+    pub count: usize,
 }
 
-/// Replaces the contents of `list` by the newest deadlocks, oldest first, as `Book::copy_deadlocks` does. The answer is how many the lock
-/// table keeps at most: if `list` has fewer, it has all deadlocks of the history. `None` in place of an answer is as with `held`.
+/// Replaces the contents of `list` by the newest `most` deadlocks that the book tells, and returns how many it keeps. Fails with `NoMemory`
+/// if memory is refused; the contents of `list` are unchanged then.
+fn copy_deadlocks(
+    book: &Book,
+    alloc: Global,
+    most: usize,
+    list: &mut Vec<Deadlock>,
+) -> Result<Kept, NoMemory>
+    ensures ok { IfOk result (λ kept. AreDeadlocksTold (newest most (newest kept.most (deadlocks_in book.now.history))) list.new.items) }
+    ensures most { IfOk result (λ kept. kept.most ≡ book.now.deadlocks) }
+    ensures count { IfOk result (λ kept. kept.count ≡ length (newest kept.most (deadlocks_in book.now.history))) }
+    ensures err { IfErr result (λ _. list.new.items ≡ list.old.items) }
+{
+    book.copy_deadlocks(alloc, most, list)?;
+    Ok(Kept {
+        most: book.deadlocks_kept(),
+        count: book.deadlock_count(),
+    })
+}
+
+/// Replaces the contents of `list` by the newest `most` of the deadlocks that are kept, oldest first, as `Book::copy_deadlocks` does. The
+/// answer is how many are kept. `None` in place of an answer is as with `held`.
 ///
 /// Says how many calls the history had also where memory is refused: the contents of `list` are unchanged then. While it copies the
-/// deadlocks, no other session can become the combiner. Its cost grows with the number of deadlocks kept and of sessions on their
-/// cycles.
+/// deadlocks, no other session can become the combiner. Its cost grows with those and the sessions on their cycles.
 pub fn deadlocks<O: HasBook>(
     office: &Office<O>,
     alloc: Global,
     session: &mut Ticket<O>,
+    most: usize,
     list: &mut Vec<Deadlock>,
-) -> Option<Snapshot<Result<usize, NoMemory>>>
+) -> Option<Snapshot<Result<Kept, NoMemory>>>
     requires ours { IsSessionOf office.now session.old }
     ensures ours { IsSessionOf office.now session.new }
     ensures looked { IfSome result (λ _. HasLooked O.Sequential session.old session.new) }
     ensures length { IfSome result (λ seen. seen.length ≡ length (O.calls session.new.front)) }
-    ensures found { IfSome result (λ seen. IfOk seen.found (λ most. AreDeadlocksTold (newest most (deadlocks_in (O.calls session.new.front))) list.new.items)) }
-    ensures most { IfSome result (λ seen. IfOk seen.found (λ most. most ≡ office.now.bound.notes)) }
+    ensures found { IfSome result (λ seen. IfOk seen.found (λ kept. AreDeadlocksTold (newest most (newest kept.most (deadlocks_in (O.calls session.new.front)))) list.new.items)) }
+    ensures most { IfSome result (λ seen. IfOk seen.found (λ kept. kept.most ≡ office.now.bound.notes)) }
+    ensures count { IfSome result (λ seen. IfOk seen.found (λ kept. kept.count ≡ length (newest kept.most (deadlocks_in (O.calls session.new.front))))) }
     ensures err { IfSome result (λ seen. IfErr seen.found (λ _. list.new.items ≡ list.old.items)) }
     ensures none { IfNone result ((session.new ≡ session.old) × (list.new.items ≡ list.old.items) × (1 < office.now.sessions)) }
     ensures calls { HasCallsOf session.new.front session.new }
 {
     let load = office.look(session)?;
-    let found = copy_deadlocks(load.object.book(), alloc, list);
+    let found = copy_deadlocks(load.object.book(), alloc, most, list);
     let length = end_look(office, session, load);
     Some(Snapshot { length, found })
 }

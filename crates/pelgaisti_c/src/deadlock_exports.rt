@@ -43,13 +43,14 @@ pub extern "C" fn pelgaisti_raw_book_keep_deadlocks(
     status
 }
 
-/// Writes the deadlocks that the book keeps, oldest first, as many as `list` has room for, and the number of all of them to `count`; and the
-/// members of their cycles, one deadlock's behind another's, as many as `members` has room for, and the number of all members to
-/// `member_count`. It takes memory for all members meanwhile.
+/// Writes the newest `most` deadlocks that the book keeps, oldest first, as many as `list` has room for, and the number of all that it keeps
+/// to `count`; and the members of these `most`, one deadlock's behind another's, as many as `members` has room for, and their number to
+/// `member_count`. It takes memory for these members meanwhile.
 #[unsafe(no_mangle)]
 pub extern "C" fn pelgaisti_raw_book_deadlocks(
     alloc: Global,
     book: &mut BookPointer,
+    most: usize,
     list: &mut DeadlockList,
     count: &mut SizePointer,
     members: &mut MemberList,
@@ -57,7 +58,7 @@ pub extern "C" fn pelgaisti_raw_book_deadlocks(
 ) -> u32
     ensures null { result ≡ NULL_POINTER ↔ ((book.old.at ≡ null_ptr) ⊎ (IsNullList list.old.at list.old.room ⊎ ((count.old.at ≡ null_ptr) ⊎ (IsNullList members.old.at members.old.room ⊎ (member_count.old.at ≡ null_ptr))))) }
     ensures ok { result ≡ OK → (view : BookView) × (book.old.behind.held.book ≡ Some view)
-        × AreDeadlocksWritten (newest view.deadlocks (deadlocks_in view.history)) list.old.behind list.new.behind count.new.behind members.old.behind members.new.behind member_count.new.behind }
+        × AreDeadlocksWritten most (newest view.deadlocks (deadlocks_in view.history)) list.old.behind list.new.behind count.new.behind members.old.behind members.new.behind member_count.new.behind }
     ensures failed { result ≢ OK → (list.new.behind ≡ list.old.behind) × (count.new.behind ≡ count.old.behind) × (members.new.behind ≡ members.old.behind) × (member_count.new.behind ≡ member_count.old.behind) }
     ensures same { (book.new.behind.is_open ≡ book.old.behind.is_open) × (book.new.behind.held.book ≡ book.old.behind.held.book) }
     ensures closed { result ≢ NULL_POINTER → (result ≡ CLOSED ↔ (book.old.behind.is_open ≢ 1)) }
@@ -83,7 +84,7 @@ pub extern "C" fn pelgaisti_raw_book_deadlocks(
     let Some(boxed) = book.take(alloc) else {
         return CLOSED;
     };
-    let status = deadlocks::told(alloc, &boxed, list, count, members, member_count);
+    let status = deadlocks::told(alloc, &boxed, most, list, count, members, member_count);
     book.put(boxed);
     status
 }
@@ -94,6 +95,7 @@ pub extern "C" fn pelgaisti_raw_book_deadlocks(
 pub extern "C" fn pelgaisti_raw_session_deadlocks(
     alloc: Global,
     session: &mut SessionPointer,
+    most: usize,
     list: &mut DeadlockList,
     count: &mut SizePointer,
     members: &mut MemberList,
@@ -102,7 +104,7 @@ pub extern "C" fn pelgaisti_raw_session_deadlocks(
 ) -> u32
     ensures null { result ≡ NULL_POINTER ↔ ((session.old.at ≡ null_ptr) ⊎ (IsNullList list.old.at list.old.room ⊎ ((count.old.at ≡ null_ptr) ⊎ (IsNullList members.old.at members.old.room ⊎ ((member_count.old.at ≡ null_ptr) ⊎ (seen.old.at ≡ null_ptr)))))) }
     ensures ok { result ≡ OK → (before after : SessionShare) × (session.old.behind.held.share ≡ Some before) × (session.new.behind.held.share ≡ Some after)
-        × AreDeadlocksSeen before after list.old.behind list.new.behind count.new.behind members.old.behind members.new.behind member_count.new.behind seen.new.behind }
+        × AreDeadlocksSeen most before after list.old.behind list.new.behind count.new.behind members.old.behind members.new.behind member_count.new.behind seen.new.behind }
     ensures failed { result ≢ OK → (list.new.behind ≡ list.old.behind) × (count.new.behind ≡ count.old.behind) × (members.new.behind ≡ members.old.behind) × (member_count.new.behind ≡ member_count.old.behind) × (seen.new.behind ≡ seen.old.behind) }
     ensures same { result ≢ OK → result ≢ NO_MEMORY → session.new.behind.held.share ≡ session.old.behind.held.share }
     ensures open { session.new.behind.is_open ≡ session.old.behind.is_open }
@@ -138,6 +140,7 @@ pub extern "C" fn pelgaisti_raw_session_deadlocks(
     let status = deadlocks::told_in_office(
         alloc,
         &mut share,
+        most,
         list,
         count,
         members,

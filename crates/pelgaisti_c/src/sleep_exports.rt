@@ -2,8 +2,8 @@
 
 ghost use Rattle.std.specs.Prelude.{◌≡◌, ◌≢◌, ◌<◌, ◌≤◌, ◌⊎◌, ◌↔◌, ℕ, List, Some, length};
 ghost use denote.RawPtr.{null_ptr};
-ghost use Rattle.publication.specs.Sleep.{AreWritten};
 ghost use Rattle.library_sessions.specs.declared.session_share.SessionShare.{SessionShare};
+ghost use Rattle.library_sessions.specs.Sessions.{HasBegunSleep, HasAsked, HasRoused};
 
 use library_books::status::{CLOSED, NO_ROOM, NULL_POINTER, OK};
 use library_sessions::pointers::SessionPointer;
@@ -22,10 +22,10 @@ pub extern "C" fn pelgaisti_raw_session_begin_sleep(
     may_sleep: &mut u32,
 ) -> u32
     ensures null { result ≡ NULL_POINTER ↔ (session.old.at ≡ null_ptr) }
-    ensures ok { result ≡ OK → (share : SessionShare) × (session.old.behind.held.share ≡ Some share) × (number.new ≡ share.session.number) }
-    ensures flag { result ≡ OK → may_sleep.new ≤ 1 }
-    ensures failed { result ≢ OK → (number.new ≡ number.old) × (may_sleep.new ≡ may_sleep.old) }
-    ensures same { (session.new.behind.is_open ≡ session.old.behind.is_open) × (session.new.behind.held.share ≡ session.old.behind.held.share) }
+    ensures ok { result ≡ OK → (before after : SessionShare) × (session.old.behind.held.share ≡ Some before) × (session.new.behind.held.share ≡ Some after)
+        × (number.new ≡ before.session.number) × HasBegunSleep before after may_sleep.new }
+    ensures failed { result ≢ OK → (number.new ≡ number.old) × (may_sleep.new ≡ may_sleep.old) × (session.new.behind.held.share ≡ session.old.behind.held.share) }
+    ensures open { session.new.behind.is_open ≡ session.old.behind.is_open }
     ensures closed { result ≢ NULL_POINTER → (result ≡ CLOSED ↔ (session.old.behind.is_open ≢ 1)) }
     ensures statuses { (result ≡ NULL_POINTER) ⊎ ((result ≡ OK) ⊎ (result ≡ CLOSED)) }
 {
@@ -40,7 +40,7 @@ pub extern "C" fn pelgaisti_raw_session_begin_sleep(
     OK
 }
 
-/// Writes 1 to `is_roused` if the session's sleep is ended, else 0.
+/// Looks whether the session's sleep is ended, and writes 1 to `is_roused` if it is, else 0.
 #[unsafe(no_mangle)]
 pub extern "C" fn pelgaisti_raw_session_is_roused(
     alloc: Global,
@@ -48,9 +48,10 @@ pub extern "C" fn pelgaisti_raw_session_is_roused(
     is_roused: &mut u32,
 ) -> u32
     ensures null { result ≡ NULL_POINTER ↔ (session.old.at ≡ null_ptr) }
-    ensures flag { result ≡ OK → is_roused.new ≤ 1 }
-    ensures failed { result ≢ OK → is_roused.new ≡ is_roused.old }
-    ensures same { (session.new.behind.is_open ≡ session.old.behind.is_open) × (session.new.behind.held.share ≡ session.old.behind.held.share) }
+    ensures ok { result ≡ OK → (before after : SessionShare) × (session.old.behind.held.share ≡ Some before) × (session.new.behind.held.share ≡ Some after)
+        × HasAsked before after is_roused.new }
+    ensures failed { result ≢ OK → (is_roused.new ≡ is_roused.old) × (session.new.behind.held.share ≡ session.old.behind.held.share) }
+    ensures open { session.new.behind.is_open ≡ session.old.behind.is_open }
     ensures closed { result ≢ NULL_POINTER → (result ≡ CLOSED ↔ (session.old.behind.is_open ≢ 1)) }
     ensures statuses { (result ≡ NULL_POINTER) ⊎ ((result ≡ OK) ⊎ (result ≡ CLOSED)) }
 {
@@ -76,11 +77,11 @@ pub extern "C" fn pelgaisti_raw_session_rouse(
     count: &mut usize,
 ) -> u32
     ensures null { result ≡ NULL_POINTER ↔ (session.old.at ≡ null_ptr) }
-    ensures ok { result ≡ OK → (share : SessionShare) × (session.old.behind.held.share ≡ Some share)
-        × ((told : List ℕ) × AreWritten share.sessions 0 told list.old list.new count.new) }
-    ensures failed { result ≢ OK → (list.new ≡ list.old) × (count.new ≡ count.old) }
+    ensures ok { result ≡ OK → (before after : SessionShare) × (session.old.behind.held.share ≡ Some before) × (session.new.behind.held.share ≡ Some after)
+        × HasRoused before after list.old list.new count.new }
+    ensures failed { result ≢ OK → (list.new ≡ list.old) × (count.new ≡ count.old) × (session.new.behind.held.share ≡ session.old.behind.held.share) }
     ensures room { result ≢ NULL_POINTER → (result ≡ NO_ROOM ↔ ((share : SessionShare) × (session.old.behind.held.share ≡ Some share) × (length list.old < share.sessions))) }
-    ensures same { (session.new.behind.is_open ≡ session.old.behind.is_open) × (session.new.behind.held.share ≡ session.old.behind.held.share) }
+    ensures open { session.new.behind.is_open ≡ session.old.behind.is_open }
     ensures closed { result ≢ NULL_POINTER → (result ≡ CLOSED ↔ (session.old.behind.is_open ≢ 1)) }
     ensures statuses { (result ≡ NULL_POINTER) ⊎ ((result ≡ OK) ⊎ ((result ≡ CLOSED) ⊎ (result ≡ NO_ROOM))) }
 {

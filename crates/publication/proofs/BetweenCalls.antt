@@ -1,8 +1,8 @@
 -- A combiner's seat between two calls, after it opened or answered a record, entered a call or took a record off the list.
-use Rattle.std.proofs.Common.{◌≡◌, inl, ℕ, ◌+◌, Bool, true, false, Option, Some, None, IfSome, IfNone, [], ◌∷◌, length, refl, sym, subst, arith, length-append}
+use Rattle.std.proofs.Common.{◌≡◌, inl, ℕ, ◌+◌, ◌≤◌, Bool, true, false, Option, Some, None, IfSome, IfNone, [], ◌∷◌, length, refl, sym, subst, arith, length-append}
 use Rattle.sequential.specs.Histories.{calls_of}
 use Rattle.publication.specs.Views.{IsAccountedIn, entry, answer}
-use Rattle.publication.specs.Sleep.{Sleep, HasNoDebts}
+use Rattle.publication.specs.Sleep.{Sleep}
 use Rattle.publication.specs.Kinds.{Seated, with_sleep, opening, in_hand, bypassing, none_unlinked, answering, entering}
 use Rattle.publication.specs.inner.Tickets.{IsBetweenCalls}
 
@@ -30,7 +30,6 @@ module _ {O C R : Type 0} (m m' : Seated O C R) (number seen : ℕ) (b p l r : B
     routed = t.routed;
     unknown = t.unknown;
     sweeps = t.sweeps;
-    owes = t.owes;
     carried = t.carried;
   }
 
@@ -56,7 +55,6 @@ module _ {O C R : Type 0} (m m' : Seated O C R) (number seen : ℕ) (b p l r : B
     routed = λ lacks. absurd (cc (has, lacks));
     unknown = t.unknown;
     sweeps = t.sweeps;
-    owes = t.owes;
     carried = t.carried;
   }
   unlinked-between before false out kept = subst (λ (x : Seated O C R). IsBetweenCalls x number seen b p l r) (sym (kept refl)) record {
@@ -79,7 +77,6 @@ module _ {O C R : Type 0} (m m' : Seated O C R) (number seen : ℕ) (b p l r : B
     routed = t.routed;
     unknown = t.unknown;
     sweeps = t.sweeps;
-    owes = t.owes;
     carried = t.carried;
   }
 
@@ -105,7 +102,6 @@ module _ {O C R : Type 0} (m m' : Seated O C R) (number seen : ℕ) (b p l r : B
     routed = t.routed;
     unknown = t.unknown;
     sweeps = t.sweeps;
-    owes = t.owes;
     carried = t.carried;
   }
 
@@ -131,14 +127,13 @@ module _ {O C R : Type 0} (m m' : Seated O C R) (number seen : ℕ) (b p l r : B
     routed = t.routed;
     unknown = t.unknown;
     sweeps = t.sweeps;
-    owes = t.owes;
     carried = t.carried;
   }
 
 module _ {O C R : Type 0} (m m' : Seated O C R) (number seen : ℕ) (b p l r : Bool) (t : IsBetweenCalls m number seen b p l r) where
-  -- After a step of sleep, behind which the seat has neither a record to look at nor a wake-up to make.
-  pub slept-between : (z : Sleep) → HasNoDebts z → m' ≡ (with_sleep m.0 z, m.1) → IsBetweenCalls m' number seen b p l r
-  slept-between z none is = subst (λ (x : Seated O C R). IsBetweenCalls x number seen b p l r) (sym is) record {
+  -- After a step of sleep, behind which the seat has no record to look at.
+  pub slept-between : (z : Sleep) → z.sweeps ≤ 1 → m' ≡ (with_sleep m.0 z, m.1) → IsBetweenCalls m' number seen b p l r
+  slept-between z swept is = subst (λ (x : Seated O C R). IsBetweenCalls x number seen b p l r) (sym is) record {
     number_is = t.number_is;
     some_number = t.some_number;
     seen_is = t.seen_is;
@@ -157,7 +152,6 @@ module _ {O C R : Type 0} (m m' : Seated O C R) (number seen : ℕ) (b p l r : B
     whole = t.whole;
     routed = t.routed;
     unknown = t.unknown;
-    sweeps = none.sweeps;
-    owes = none.owes;
+    sweeps = swept;
     carried = t.carried;
   }

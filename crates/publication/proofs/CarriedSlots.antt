@@ -169,9 +169,6 @@ module _ {O C R : Type 0} where
 
   -- It carries its first slot no more.
   module _ (hs : Homes O C R) (j : ℕ) (y : SlotValue O C R) (c : Carried O C R) (a : Act (SlotValue O C R)) (valid : Valid hs ((j, y) ∷ c) a) (less : carried_after ((j, y) ∷ c) a ≡ c) where
-    abbrev laid-hs : Homes O C R
-    laid-hs = set hs j (opt.some y)
-
     left-laid : (k : ℕ) → IsLeft (set hs j (opt.some y)) (homes_after hs ((j, y) ∷ c) a) k
     left-laid k =
         let q = act-of hs ((j, y) ∷ c) a valid in

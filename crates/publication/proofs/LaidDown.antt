@@ -67,7 +67,7 @@ module _ {O C R : Type 0} where
 
 module _ {O C R : Type 0} {obj : Ghosts O C R} {bound : Bounds} where
   -- A split or a join of seats moves no value. The seat that is split knows the same of sleep, and the new one nothing; the one that is
-  -- joined in owes nothing to sleepers, or the other takes over what it owes.
+  -- joined in knows nothing of sleep, or the other takes over its looks.
 
   pub splits_bounded : {id : ℕ} {v left right : View C R} → left.sleep ≡ v.sleep → right.sleep ≡ awake → Splits (IsRuled obj) id v left right → Splits (IsBounded obj bound) id v left right
   splits_bounded {id} {v} {left} {right} same none t s b me = record { ruled = t s b.ruled me; within = b.within; sleepers = sleepers_split s id v left right me same none b.sleepers }

@@ -73,31 +73,6 @@ module _ {C R : Type 0} where
       let none = none-noted (0 + length E) t.0 (λ i. nothing-more (noted_by i E) (noted_from i (0 + length E) t.0) (sym (noted-append i 0 E t.0) ∙ (ap (noted_by i) (sym t.1) ∙ h i))) in
       t.1 ∙ (ap (λ (l : List (Event C R)). E ++ l) none ∙ append-nil E)
 
-  -- One event that one session has noted.
-  one : (at n : ℕ) (x : ℕ × Event C R) (rs : List (Event C R)) → ((i : ℕ) → i ≢ n → noted_from i at rs ≡ []) → noted_from n at rs ≡ x ∷ [] → (x.0 ≡ at) × (rs ≡ x.1 ∷ [])
-  one at n x [] others is = absurd (cc is)
-  one at n x (r ∷ []) others is = dite (ℕ_discrete (session_of r) n)
-      (λ e. let y : (at, r) ≡ x = (let z = sym (here n at r [] e) ∙ is in cc z) in (ap (λ (p : ℕ × Event C R). p.0) (sym y), ap {B = List (Event C R)} (λ (p : ℕ × Event C R). p.1 ∷ []) y))
-      (λ ne. absurd (let z = sym (else n at r [] ne) ∙ is in cc z))
-  one at n x (r ∷ q ∷ rs) others is = dite (ℕ_discrete (session_of r) n)
-      (λ e. dite (ℕ_discrete (session_of q) n)
-      (λ f. absurd (let z = sym (here n at r (q ∷ rs) e ∙ ap (λ (l : List (ℕ × Event C R)). (at, r) ∷ l) (here n (at + 1) q rs f)) ∙ is in cc z))
-      (λ ne. absurd (let z = sym (else (session_of q) at r (q ∷ rs) (λ z. ne (sym z ∙ e)) ∙ here (session_of q) (at + 1) q rs refl) ∙ others (session_of q) ne in cc z)))
-      (λ ne. absurd (let z = sym (here (session_of r) at r (q ∷ rs) refl) ∙ others (session_of r) ne in cc z))
-
-  -- If one session has noted one event more, that event comes last.
-  pub one-last : (n : ℕ) (x : ℕ × Event C R) (E F : List (Event C R)) → ((i : ℕ) → i ≢ n → noted_by i F ≡ noted_by i E) → noted_by n F ≡ noted_by n E ++ x ∷ [] → (x.0 ≡ length E) × (F ≡ E ++ x.1 ∷ [])
-  one-last n x E F others mine =
-      let t = begins 0 E F (λ i. dite (ℕ_discrete i n)
-      (λ e. (x ∷ [], subst (λ (j : ℕ). noted_by j F ≡ noted_by j E ++ x ∷ []) (sym e) mine))
-      (λ ne. ([], others i ne ∙ sym (append-nil (noted_by i E))))) in
-      let split = λ (i : ℕ). sym (noted-append i 0 E t.0) ∙ ap (noted_by i) (sym t.1) in
-      let r = one (0 + length E) n x t.0
-      (λ i ne. nothing-more (noted_by i E) (noted_from i (0 + length E) t.0) (sym (noted-append i 0 E t.0) ∙ (ap (noted_by i) (sym t.1) ∙ others i ne)))
-      (same-rest (noted_by n E) (noted_from n (0 + length E) t.0) (x ∷ []) (sym (noted-append n 0 E t.0) ∙ (ap (noted_by n) (sym t.1) ∙ mine))) in
-      let z : 0 + length E ≡ length E = omega arith in
-      (r.0 ∙ z, t.1 ∙ ap (λ (l : List (Event C R)). E ++ l) r.1)
-
 module _ {A : Type 0} where
   -- What is noted of one list of events but not of the other is told by nobody.
   pub told-so : (l m : List A) → (l ≢ [] → l ≡ m) → (m ≢ [] → m ≡ l) → l ≡ m

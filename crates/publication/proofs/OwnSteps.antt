@@ -147,10 +147,6 @@ module _ {O C R : Type 0} {obj : Ghosts O C R} where
           (λ e. subst (λ (i : ℕ). (seat t i).combiner ≡ (seat s i).combiner) (sym e) (ap (λ (v : View C R). v.combiner) after_is ∙ (combiner ∙ ap (λ (v : View C R). v.combiner) (sym before_is))))
           (λ ne. ap (λ (v : View C R). v.combiner) (other_seat name s t c k (λ e. ne (sym e ∙ here))))
 
-      -- A record that is opened before is BUSY afterwards.
-      busy_after : (call : C) → opened_in (seat s (word s 0)) j ≡ Some call → word t j ≡ BUSY
-      busy_after call is = (q.records.opens (word s 0) j call (there_at (seat t (word s 0)).combiner.opened j call (ap (λ (b : Combiner C). get_or b.opened j None) (combiners (word s 0)) ∙ is))).is_busy
-
       -- One that is opened afterwards was opened before, with this call.
       opened_before : (call : C) → opened_in (seat t (word t 0)) j ≡ Some call → (word s j ≡ BUSY) × ((floor : ℕ) × ((own_at r.records.owns j).pending ≡ Some (asks call floor)))
       opened_before call is =

@@ -64,10 +64,6 @@ module _ (k : ℕ) (before after : List Piece) (t : HasAdded k before after) whe
   within_added slots n some small few all = subst (All (IsOfSession slots n)) (sym t.after_is)
       (All-append (IsOfSession slots n) before t.more all (weaker (λ p. p.session ≡ k) (IsOfSession slots n) t.more (λ p is. (omega (arith, is), omega (arith, is), omega (arith, is))) t.own))
 
--- If nothing was added, nothing was.
-pub nothing_added : (k : ℕ) (before : List Piece) → HasAdded k before before
-nothing_added k before = record { more = []; after_is = sym (append-nil before); own = λ i d few. absurd (omega arith) }
-
 module _ {C R : Type 0} where
   -- seats
 

@@ -10,18 +10,18 @@ use lib.ListN.{get_elem?}
 use Rattle.atomic_table.specs.Table.{keeps, step, Allows}
 use Rattle.atomic_table.proofs.Lists.{exchanged}
 use Rattle.publication.specs.Words.{word_of, link_of, sleep_of, session_of_word, FREE, AWAKE, ASLEEP}
-use Rattle.publication.specs.Sleep.{Sleep, lain, having_told, having_seen, risen, having_looked, sweeping, passing, rousing, waking}
-use Rattle.publication.specs.Sleep.SleepStep.{lie_down, tell_sleepers, look_if_held, look_if_roused, get_up, look_for_sleepers, sweep, rouse, wake}
+use Rattle.publication.specs.Sleep.{Sleep, lain, having_told, having_seen, having_asked, risen, having_looked, sweeping, passing, rousing}
+use Rattle.publication.specs.Sleep.SleepStep.{lie_down, tell_sleepers, look_if_held, look_if_roused, get_up, look_for_sleepers, sweep, rouse}
 use Rattle.publication.specs.Rule.{blank, BoardState, word, seat, AreTrue, IsOrderly}
 use Rattle.publication.specs.Sleepers.{sleep_word, sleep_at, AreHeeded, HasHeededSleepers}
 use Rattle.publication.specs.List.{link, belongs, IsLinked, IsRuled, IsBounded}
-use Rattle.publication.specs.Kinds.{Seated, with_sleep, sleeps_so, drowses}
+use Rattle.publication.specs.Kinds.{with_sleep, sleeps_so, drowses}
 use Rattle.publication.specs.declared.view.View.{View}
 use Rattle.publication.specs.declared.slot.SlotValue.{SlotValue}
 use Rattle.publication.proofs.Lists.{at_there, each_set}
 use Rattle.publication.proofs.SeatViews.{front_of, heard_few, whole_of, pieces_of_seat}
 use Rattle.publication.proofs.Others.{StaysGone}
-use Rattle.publication.proofs.Sleepers.{lies_down, tells_so, sees_held, is_up, has_looked, sweeps_all, passes_by, rouses, wakes_one, knows_same}
+use Rattle.publication.proofs.Sleepers.{lies_down, tells_so, sees_held, is_up, has_looked, sweeps_all, passes_by, rouses, has_asked, knows_same}
 use Rattle.publication.proofs.SleepRule.{was_here, is_here, elsewhere}
 use Rattle.publication.proofs.UnchangedList.{aside, same_walk}
 use Rattle.publication.proofs.SessionKinds.{named}
@@ -29,11 +29,6 @@ use Rattle.publication.proofs.ListKinds.{reworded}
 use Rattle.publication.proofs.ChangedViews.{viewed, sits-others}
 use Rattle.publication.proofs.SplitsAndJoins.{learned}
 use Rattle.sequential.specs.declared.object.Sequential.{Ghosts}
-
-module _ {O C R : Type 0} where
-  -- Two steps of sleep change what the seat knows of sleep alone.
-  pub slept_twice : (m x y : Seated O C R) (a b : Sleep) → x ≡ (with_sleep m.0 a, m.1) → y ≡ (with_sleep x.0 b, x.1) → y ≡ (with_sleep m.0 b, m.1)
-  slept_twice m x y a b first second = second ∙ ap (λ (z : Seated O C R). (with_sleep z.0 b, z.1)) first
 
 -- No two sleep words are one.
 pub session_of_its_sleep : (number : ℕ) → session_of_word (sleep_of number) ≡ number
@@ -146,12 +141,18 @@ module _ {O C R : Type 0} {obj : Ghosts O C R} where
 
     roused_goes : (slots : ℕ) → SleepGoes obj s (sleep_of i) i v (λ n y. sleeps_so look_if_roused slots (sleep_of i) v.sleep n y) (sleep_word s i)
     roused_goes slots = dite (ℕ_discrete (sleep_word s i) ASLEEP)
-        (λ still. (v.sleep, looked_ruled (sleep_of i) v.sleep, nothing_learned (sleep_of i), ((λ up. absurd (up still)), λ _. refl)))
-        (λ up. let z = risen v.sleep in let t = looked (sleep_of i) z in let ws = set s.words (sleep_of i) (sleep_word s i) in (
+        (λ still. let z = having_asked v.sleep in let t = looked (sleep_of i) z in let ws = set s.words (sleep_of i) (sleep_word s i) in (
+          z,
+          looked_ruled (sleep_of i) z,
+          as_heeded (sleep_of i) (sleep_word s i) z (word_read (sleep_of i) (word_of 0)) (has_asked (word s 0) (length s.homes) (sleep_word s) (sleep_word t) (sleep_at s) (sleep_at t) i v.sleep (was_here s i v (with_sleep v z) ws s.homes me)
+              (elsewhere s i v (with_sleep v z) ws s.homes me) (is_here s i v (with_sleep v z) ws s.homes me) (λ j. word_read (sleep_of i) (sleep_of j)) h.heeded),
+          ((λ up. absurd (up still)), λ _. refl),
+        ))
+        (λ up. let z = risen (having_asked v.sleep) in let t = looked (sleep_of i) z in let ws = set s.words (sleep_of i) (sleep_word s i) in (
           z,
           looked_ruled (sleep_of i) z,
           as_heeded (sleep_of i) (sleep_word s i) z (word_read (sleep_of i) (word_of 0)) (is_up (word s 0) (length s.homes) (sleep_word s) (sleep_word t) (sleep_at s) (sleep_at t) i v.sleep (was_here s i v (with_sleep v z) ws s.homes me)
-              (elsewhere s i v (with_sleep v z) ws s.homes me) (is_here s i v (with_sleep v z) ws s.homes me) some_number (λ j _. word_read (sleep_of i) (sleep_of j)) h.heeded),
+              (elsewhere s i v (with_sleep v z) ws s.homes me) z (is_here s i v (with_sleep v z) ws s.homes me) refl record { looks = refl; sweeps = refl; ended = refl } some_number (λ j _. word_read (sleep_of i) (sleep_of j)) h.heeded),
           ((λ _. refl), λ still. absurd (up still)),
         ))
 
@@ -160,7 +161,7 @@ module _ {O C R : Type 0} {obj : Ghosts O C R} where
       z,
       slept_ruled i AWAKE z,
       as_heeded (sleep_of i) AWAKE z (same_lock i AWAKE) (is_up (word s 0) (length s.homes) (sleep_word s) (sleep_word t) (sleep_at s) (sleep_at t) i v.sleep (was_here s i v (with_sleep v z) ws s.homes me)
-          (elsewhere s i v (with_sleep v z) ws s.homes me) (is_here s i v (with_sleep v z) ws s.homes me) some_number (elsewhere_word i AWAKE) h.heeded),
+          (elsewhere s i v (with_sleep v z) ws s.homes me) z (is_here s i v (with_sleep v z) ws s.homes me) refl record { looks = refl; sweeps = refl; ended = refl } some_number (elsewhere_word i AWAKE) h.heeded),
       refl,
     )
 
@@ -182,15 +183,6 @@ module _ {O C R : Type 0} {obj : Ghosts O C R} where
       as_heeded (sleep_of 0) AWAKE z (same_lock 0 AWAKE) (sweeps_all (word s 0) (length s.homes) (sleep_word s) (sleep_word t) (sleep_at s) (sleep_at t) i v.sleep (was_here s i v (with_sleep v z) ws s.homes me)
           (elsewhere s i v (with_sleep v z) ws s.homes me) (is_here s i v (with_sleep v z) ws s.homes me) (elsewhere_word 0 AWAKE) h.heeded),
       ap (λ (n : ℕ). sweeping n v.sleep) wide,
-    )
-
-    wake_goes : SleepGoes obj s 0 i v (λ _ y. y ≡ waking v.sleep) (word s 0)
-    wake_goes = let z = waking v.sleep in let t = looked 0 z in let ws = set s.words 0 (word s 0) in (
-      z,
-      looked_ruled 0 z,
-      as_heeded 0 (word s 0) z (word_read 0 (word_of 0)) (wakes_one (word s 0) (length s.homes) (sleep_word s) (sleep_word t) (sleep_at s) (sleep_at t) i v.sleep (was_here s i v (with_sleep v z) ws s.homes me)
-          (elsewhere s i v (with_sleep v z) ws s.homes me) (is_here s i v (with_sleep v z) ws s.homes me) (λ j. word_read 0 (sleep_of j)) h.heeded),
-      refl,
     )
 
     -- Rouse, at record q.
@@ -257,7 +249,3 @@ module _ {O C R : Type 0} where
           → Allows (IsBounded obj bound) slots id (v, more) (sleep_of q) (λ n. either (eqb n ASLEEP) AWAKE n) (drowses rouse (step slots (sleep_of q) ASLEEP AWAKE opt.none) (v, more))
       rouse_kept q some_record few above = drowses_at slots id i (sleep_of q) v more (λ n. either (eqb n ASLEEP) AWAKE n) (λ n y. sleeps_so rouse slots (sleep_of q) v.sleep n y) is some_number
           (λ s b me small wide. rouse_goes i v some_number s b.ruled.records b.ruled.list b.sleepers me small q some_record (omega (arith, few, wide)) above slots)
-
-      pub wake_kept : Allows (IsBounded obj bound) slots id (v, more) 0 (λ n. n) (drowses wake (step slots 0 0 0 opt.none) (v, more))
-      wake_kept = drowses_at slots id i 0 v more (λ n. n) (λ _ y. y ≡ waking v.sleep) is some_number
-          (λ s b me small wide. wake_goes i v some_number s b.ruled.records b.ruled.list b.sleepers me small)

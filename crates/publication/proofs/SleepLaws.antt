@@ -3,7 +3,7 @@ use Rattle.sequential.specs.Bounds.{Bounds}
 use Rattle.std.proofs.Common.{◌≡◌, inl, inr, ⊎_elim, ℕ, true, length, ap, subst, arith}
 use mathlib.Core.Option as opt
 use lib.ListN.{get_elem?}
-use Rattle.publication.specs.Sleep.{Sleep, IsAmong}
+use Rattle.publication.specs.Sleep.{Sleep, HasEnded}
 use Rattle.publication.specs.Rule.{blank, BoardState, word}
 use Rattle.publication.specs.Sleepers.{SomeSeat, IsDown, sleep_word, sleep_at, IsHeeded, IsQuiet}
 use Rattle.publication.specs.List.{IsBounded}
@@ -20,9 +20,9 @@ module _ {O C R : Type 0} {obj : Ghosts O C R} {bound : Bounds} (s : BoardState 
       (λ asleep. inl (asleep, ⊎_elim (λ held. inl (word s 0, (b.ruled.records.taken held).0)) (λ some. inr some) (is_down.awaited asleep saw)))
       (λ ended. inr ended) is_down.asleep
 
-  pub is_woken : IsQuiet s → SomeSeat (λ y. IsAmong j v.sleep.sleeps y.woken) (sleep_at s)
-  is_woken q = ⊎_elim
+  pub is_ended : IsQuiet s → SomeSeat (HasEnded j v.sleep.sleeps) (sleep_at s)
+  is_ended q = ⊎_elim
       (λ h. ⊎_elim (λ taken. absurd (q.none taken))
-      (λ t. ⊎_elim (λ looks. absurd (let z = (q.rest t.0).looks in cc (looks, z))) (λ few. absurd (let z = (q.rest t.0).debts.sweeps in omega (arith, few, z, is_down.some))) t.1) h.1)
-      (λ t. (t.0, ⊎_elim (λ owed. absurd (subst (IsAmong j v.sleep.sleeps) (q.rest t.0).debts.owes owed)) (λ woken. woken) t.1))
+      (λ t. ⊎_elim (λ looks. absurd (let z = (q.rest t.0).looks in cc (looks, z))) (λ few. absurd (let z = (q.rest t.0).sweeps in omega (arith, few, z, is_down.some))) t.1) h.1)
+      (λ t. t)
       is_heeded

@@ -72,7 +72,7 @@ module _ {O C R : Type 0} where
       (each_set s.views id left blank (λ k x. x.sleep ≡ sleep_at s k) sits (same ∙ ap (λ (x : View C R). x.sleep) (sym (at_there s.views id v blank me).0)) (λ k ne. refl)) in
       record { heeded = knows_same (word s 0) (length s.homes) (sleep_word s) (sleep_word t) (sleep_at s) (sleep_at t) id (sleep_at s id) refl (λ k ne. each k) (word t 0) (length s.homes) refl (each id) (λ j. refl) (λ held. held) h.heeded }
 
-  -- A seat is joined into another, which owes afterwards what either owed.
+  -- A seat is joined into another, which has to make afterwards the looks of both.
   module _ (s : BoardState O C R) (id : ℕ) (v : View C R) (other : ℕ) (w both : View C R) (me : get_elem? s.views id ≡ opt.some v) (apart : ¬ (other ≡ id)) (beside : get_elem? (set s.views id both) other ≡ opt.some w) where
     abbrev joint : BoardState O C R
     joint = record { words = s.words; homes = s.homes; views = set (set s.views id both) other blank }
@@ -92,12 +92,12 @@ module _ {O C R : Type 0} where
     the_others : (j : ℕ) → j ≢ id → j ≢ other → sleep_at joint j ≡ sleep_at s j
     the_others j a b = ap (λ (x : View C R). x.sleep) (get_or-set_other (set s.views id both) other j blank blank b ∙ get_or-set_other s.views id j both blank a)
 
-    -- The seat that is taken in owes nothing.
+    -- The seat that is taken in has no look to make.
     pub sleepers_joined : both.sleep ≡ v.sleep → w.sleep ≡ awake → HasHeededSleepers s → HasHeededSleepers joint
     sleepers_joined same none h = record {
       heeded = joined_on (word s 0) (length s.homes) (sleep_word s) (sleep_at s) (sleep_at joint) id other v.sleep awake v.sleep (was_here s id v both s.words s.homes me) (its_sleep ∙ none) (took_here ∙ same) it_ends the_others
           (record {
-            own = (refl, refl, refl, refl);
+            own = record { down = refl; told = refl; saw = refl; sleeps = refl; asked = refl };
             ended = takes_none v.sleep;
             sweeps = λ j. ⊎_elim (λ few. few) (λ few. absurd (omega (arith, few)));
             looks = ⊎_elim (λ e. e) (λ e. absurd (cc e));
@@ -105,12 +105,12 @@ module _ {O C R : Type 0} where
           h.heeded;
     }
 
-    -- What the seat that is taken in owes is taken over.
+    -- The looks of the seat that is taken in are taken over.
     pub sleepers_gathered : both.sleep ≡ taking_over v.sleep w.sleep → HasHeededSleepers s → HasHeededSleepers joint
     sleepers_gathered same h = record {
       heeded = joined_on (word s 0) (length s.homes) (sleep_word s) (sleep_at s) (sleep_at joint) id other v.sleep w.sleep (taking_over v.sleep w.sleep) (was_here s id v both s.words s.homes me) its_sleep (took_here ∙ same) it_ends the_others
           (record {
-            own = (refl, refl, refl, refl);
+            own = record { down = refl; told = refl; saw = refl; sleeps = refl; asked = refl };
             ended = takes_ended v.sleep w.sleep;
             sweeps = λ j. ⊎_elim (λ few. omega (arith, few)) (λ few. omega (arith, few));
             looks = takes_looks v.sleep.looks w.sleep.looks;

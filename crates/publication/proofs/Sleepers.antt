@@ -3,7 +3,7 @@ use Rattle.std.proofs.Common.{◌≡◌, ◌≢◌, ◌⊎◌, inl, inr, ⊎_eli
 use mathlib.Core.Logic.{dite}
 use native.Mathlib.Decide.{ℕ_discrete}
 use Rattle.publication.specs.Words.{FREE, ASLEEP}
-use Rattle.publication.specs.Sleep.{Sleep, awake, IsAmong, HasEnded, IsSameSleep, but_latest, with_latest, lain, having_told, having_seen, risen, having_freed, having_looked, sweeping, passing, rousing, waking, taking_over}
+use Rattle.publication.specs.Sleep.{Sleep, awake, IsAmong, HasEnded, IsSameSleep, IsSameLooks, lain, having_told, having_seen, having_asked, having_freed, having_looked, sweeping, passing, rousing, taking_over}
 use Rattle.publication.specs.Sleepers.{SomeSeat, IsNoted, IsAwaited, IsDown, AreHeeded}
 
 -- lists of sleeps
@@ -11,10 +11,6 @@ use Rattle.publication.specs.Sleepers.{SomeSeat, IsNoted, IsAwaited, IsDown, Are
 among_left : (j n : ℕ) (xs ys : List (ℕ × ℕ)) → IsAmong j n xs → IsAmong j n (xs ++ ys)
 among_left j n [] ys there = absurd there
 among_left j n (x ∷ xs) ys there = ⊎_elim (λ here. inl here) (λ later. inr (among_left j n xs ys later)) there
-
-among_woken : (j n : ℕ) (xs ys : List (ℕ × ℕ)) → IsAmong j n xs ⊎ IsAmong j n ys → IsAmong j n (but_latest xs) ⊎ IsAmong j n (with_latest xs ys)
-among_woken j n [] ys there = there
-among_woken j n (x ∷ xs) ys there = ⊎_elim (⊎_elim (λ here. inr (inl here)) (λ later. inl later)) (λ woken. inr (inr woken)) there
 
 among_right : (j n : ℕ) (xs ys : List (ℕ × ℕ)) → IsAmong j n ys → IsAmong j n (xs ++ ys)
 among_right j n [] ys there = there
@@ -72,30 +68,30 @@ module _ (lock lock' slots slots' : ℕ) (words words' : ℕ → ℕ) (zs zs' : 
     all_on same own stays = each_on same (λ j ne some small. stays j (zs j) refl some small)
         (λ down was. let d = was (sym own.down ∙ down) in as_before i z u own (stays_down same i z (stays i z (sym me) d.some d.small) d))
 
-    -- What seat i owes doesn't become less.
-    pub record OwesOn : Type 0 where
+    -- Seat i has no fewer looks to make, and has ended no fewer sleeps.
+    pub record LooksOn : Type 0 where
       pub ended : (j n : ℕ) → HasEnded j n z → HasEnded j n u
       pub sweeps : (j : ℕ) → j < z.sweeps → j < u.sweeps
       pub looks : z.looks ≡ true → u.looks ≡ true
 
     -- A step that changes no sleep word but one to ASLEEP, and doesn't free the lock word.
-    stays_plain : OwesOn → (words 0 ≡ ASLEEP → words' 0 ≡ ASLEEP) → (lock ≢ FREE → lock' ≢ FREE) → (j : ℕ) (y : Sleep) → words' j ≡ words j → StaysDown j y
-    stays_plain owes board held j y word = record {
+    stays_plain : LooksOn → (words 0 ≡ ASLEEP → words' 0 ≡ ASLEEP) → (lock ≢ FREE → lock' ≢ FREE) → (j : ℕ) (y : Sleep) → words' j ≡ words j → StaysDown j y
+    stays_plain on board held j y word = record {
       asleep = λ e. inl (word ∙ e);
-      ended = some_kept (HasEnded j y.sleeps) (owes.ended j y.sleeps);
+      ended = some_kept (HasEnded j y.sleeps) (on.ended j y.sleeps);
       was = λ e. sym word ∙ e;
-      noted = λ _. ⊎_elim (λ e. inl (board e)) (λ t. inr (some_kept (λ (x : Sleep). j < x.sweeps) (owes.sweeps j) t));
-      awaited = λ _ _. ⊎_elim (λ e. inl (held e)) (λ t. inr (some_kept (λ (x : Sleep). (x.looks ≡ true) ⊎ (j < x.sweeps)) (⊎_elim (λ e. inl (owes.looks e)) (λ few. inr (owes.sweeps j few))) t));
+      noted = λ _. ⊎_elim (λ e. inl (board e)) (λ t. inr (some_kept (λ (x : Sleep). j < x.sweeps) (on.sweeps j) t));
+      awaited = λ _ _. ⊎_elim (λ e. inl (held e)) (λ t. inr (some_kept (λ (x : Sleep). (x.looks ≡ true) ⊎ (j < x.sweeps)) (⊎_elim (λ e. inl (on.looks e)) (λ few. inr (on.sweeps j few))) t));
     }
 
     -- The sleep words are the same, and the lock word isn't freed.
-    pub same_words : slots' ≡ slots → IsSameSleep z u → OwesOn → ((j : ℕ) → words' j ≡ words j) → (lock ≢ FREE → lock' ≢ FREE) → AreHeeded lock slots words zs → AreHeeded lock' slots' words' zs'
-    same_words same own owes word held = all_on same own (λ j y _ _ _. stays_plain owes (λ e. word 0 ∙ e) held j y (word j))
+    pub same_words : slots' ≡ slots → IsSameSleep z u → LooksOn → ((j : ℕ) → words' j ≡ words j) → (lock ≢ FREE → lock' ≢ FREE) → AreHeeded lock slots words zs → AreHeeded lock' slots' words' zs'
+    same_words same own on word held = all_on same own (λ j y _ _ _. stays_plain on (λ e. word 0 ∙ e) held j y (word j))
 
-    -- Only session i's sleep word changes; what it owes doesn't.
-    own_word : slots' ≡ slots → OwesOn → 0 < i → ((j : ℕ) → j ≢ i → words' j ≡ words j) → (lock ≢ FREE → lock' ≢ FREE) → (u.down ≡ true → (z.down ≡ true → IsDown lock slots words zs i z) → IsDown lock' slots' words' zs' i u)
+    -- Only session i's sleep word changes; its looks and the sleeps that it has ended don't.
+    own_word : slots' ≡ slots → LooksOn → 0 < i → ((j : ℕ) → j ≢ i → words' j ≡ words j) → (lock ≢ FREE → lock' ≢ FREE) → (u.down ≡ true → (z.down ≡ true → IsDown lock slots words zs i z) → IsDown lock' slots' words' zs' i u)
         → AreHeeded lock slots words zs → AreHeeded lock' slots' words' zs'
-    own_word same owes some word held mine = each_on same (λ j ne _ _. stays_plain owes (λ e. word 0 (λ z. omega (arith, z, some)) ∙ e) held j (zs j) (word j ne)) mine
+    own_word same on some word held mine = each_on same (λ j ne _ _. stays_plain on (λ e. word 0 (λ z. omega (arith, z, some)) ∙ e) held j (zs j) (word j ne)) mine
 
 -- The steps of sleep. Seat i knows z of sleep before.
 module _ (lock slots : ℕ) (words words' : ℕ → ℕ) (zs zs' : ℕ → Sleep) (i : ℕ) (z : Sleep) (me : zs i ≡ z) (else : (k : ℕ) → k ≢ i → zs' k ≡ zs k) where
@@ -108,9 +104,9 @@ module _ (lock slots : ℕ) (words words' : ℕ → ℕ) (zs zs' : ℕ → Sleep
   -- It tells so.
   pub tells_so : zs' i ≡ having_told z → words' 0 ≡ ASLEEP → ((j : ℕ) → j ≢ 0 → words' j ≡ words j) → AreHeeded lock slots words zs → AreHeeded lock slots words' zs'
   tells_so now board others =
-      let owes : OwesOn lock lock slots slots words words' zs zs' i z (having_told z) me now else = record { ended = λ j n e. e; sweeps = λ j e. e; looks = λ e. e } in
+      let on : LooksOn lock lock slots slots words words' zs zs' i z (having_told z) me now else = record { ended = λ j n e. e; sweeps = λ j e. e; looks = λ e. e } in
       let stays : (j : ℕ) (y : Sleep) → 0 < j → StaysDown lock lock slots slots words words' zs zs' j y = λ j y some.
-      stays_plain lock lock slots slots words words' zs zs' i z (having_told z) me now else owes (λ _. board) (λ held. held) j y (others j (λ e. omega (arith, e, some))) in
+      stays_plain lock lock slots slots words words' zs zs' i z (having_told z) me now else on (λ _. board) (λ held. held) j y (others j (λ e. omega (arith, e, some))) in
       each_on lock lock slots slots words words' zs zs' i z (having_told z) me now else refl (λ j ne some small. stays j (zs j) some)
       (λ down was. let d = was down in let t = stays_down lock lock slots slots words words' zs zs' refl i z (stays i z d.some) d in
       record { some = t.some; small = t.small; asleep = t.asleep; noted = λ _ _. inl board; awaited = t.awaited; in_order = λ _. refl })
@@ -118,23 +114,33 @@ module _ (lock slots : ℕ) (words words' : ℕ → ℕ) (zs zs' : ℕ → Sleep
   -- It saw the lock word held, once it had told.
   pub sees_held : zs' i ≡ having_seen z → z.told ≡ true → lock ≢ FREE → ((j : ℕ) → words' j ≡ words j) → AreHeeded lock slots words zs → AreHeeded lock slots words' zs'
   sees_held now told held word =
-      let owes : OwesOn lock lock slots slots words words' zs zs' i z (having_seen z) me now else = record { ended = λ j n e. e; sweeps = λ j e. e; looks = λ e. e } in
+      let on : LooksOn lock lock slots slots words words' zs zs' i z (having_seen z) me now else = record { ended = λ j n e. e; sweeps = λ j e. e; looks = λ e. e } in
       let stays : (j : ℕ) (y : Sleep) → StaysDown lock lock slots slots words words' zs zs' j y = λ j y.
-      stays_plain lock lock slots slots words words' zs zs' i z (having_seen z) me now else owes (λ e. word 0 ∙ e) (λ h. h) j y (word j) in
+      stays_plain lock lock slots slots words words' zs zs' i z (having_seen z) me now else on (λ e. word 0 ∙ e) (λ h. h) j y (word j) in
       each_on lock lock slots slots words words' zs zs' i z (having_seen z) me now else refl (λ j ne some small. stays j (zs j))
       (λ down was. let t = stays_down lock lock slots slots words words' zs zs' refl i z (stays i z) (was down) in
       record { some = t.some; small = t.small; asleep = t.asleep; noted = t.noted; awaited = λ _ _. inl held; in_order = λ _. told })
 
   -- The session is up, whatever its sleep word is.
-  pub is_up : zs' i ≡ risen z → 0 < i → ((j : ℕ) → j ≢ i → words' j ≡ words j) → AreHeeded lock slots words zs → AreHeeded lock slots words' zs'
-  is_up now some others = own_word lock lock slots slots words words' zs zs' i z (risen z) me now else refl
-      (record { ended = λ j n e. e; sweeps = λ j e. e; looks = λ e. e }) some others (λ held. held) (λ down _. absurd (cc down))
+  pub is_up : (u : Sleep) → zs' i ≡ u → u.down ≡ false → IsSameLooks z u → 0 < i → ((j : ℕ) → j ≢ i → words' j ≡ words j) → AreHeeded lock slots words zs → AreHeeded lock slots words' zs'
+  is_up u now up same some others = own_word lock lock slots slots words words' zs zs' i z u me now else refl
+      (record { ended = λ j n. subst (IsAmong j n) (sym same.ended); sweeps = λ j few. omega (arith, few, same.sweeps); looks = λ e. same.looks ∙ e }) some others (λ held. held) (λ down _. absurd (cc (down, up)))
+
+  -- The session has looked whether its sleep was ended.
+  pub has_asked : zs' i ≡ having_asked z → ((j : ℕ) → words' j ≡ words j) → AreHeeded lock slots words zs → AreHeeded lock slots words' zs'
+  has_asked now word =
+      let on : LooksOn lock lock slots slots words words' zs zs' i z (having_asked z) me now else = record { ended = λ j n e. e; sweeps = λ j e. e; looks = λ e. e } in
+      let stays : (j : ℕ) (y : Sleep) → StaysDown lock lock slots slots words words' zs zs' j y = λ j y.
+      stays_plain lock lock slots slots words words' zs zs' i z (having_asked z) me now else on (λ e. word 0 ∙ e) (λ h. h) j y (word j) in
+      each_on lock lock slots slots words words' zs zs' i z (having_asked z) me now else refl (λ j ne some small. stays j (zs j))
+      (λ down was. let t = stays_down lock lock slots slots words words' zs zs' refl i z (stays i z) (was down) in
+      record { some = t.some; small = t.small; asleep = t.asleep; noted = t.noted; awaited = t.awaited; in_order = t.in_order })
 
   -- The seat found the board's sleep word AWAKE: all that told are heeded by seats that sweep.
   pub has_looked : zs' i ≡ having_looked z → words 0 ≢ ASLEEP → ((j : ℕ) → words' j ≡ words j) → AreHeeded lock slots words zs → AreHeeded lock slots words' zs'
   has_looked now none word =
       let kept = some_kept lock lock slots slots words words' zs zs' i z (having_looked z) me now else in
-      all_on lock lock slots slots words words' zs zs' i z (having_looked z) me now else refl (record { down = refl; told = refl; saw = refl; sleeps = refl })
+      all_on lock lock slots slots words words' zs zs' i z (having_looked z) me now else refl (record { down = refl; told = refl; saw = refl; sleeps = refl; asked = refl })
       (λ j y _ _ _. record {
         asleep = λ e. inl (word j ∙ e);
         ended = kept (HasEnded j y.sleeps) (λ e. e);
@@ -148,7 +154,7 @@ module _ (lock slots : ℕ) (words words' : ℕ → ℕ) (zs zs' : ℕ → Sleep
   sweeps_all now others =
       let kept = some_kept lock lock slots slots words words' zs zs' i z (sweeping slots z) me now else in
       let here : (j : ℕ) → j < slots → SomeSeat (λ (x : Sleep). j < x.sweeps) zs' = λ j small. (i, subst (λ (x : Sleep). j < x.sweeps) (sym now) small) in
-      all_on lock lock slots slots words words' zs zs' i z (sweeping slots z) me now else refl (record { down = refl; told = refl; saw = refl; sleeps = refl })
+      all_on lock lock slots slots words words' zs zs' i z (sweeping slots z) me now else refl (record { down = refl; told = refl; saw = refl; sleeps = refl; asked = refl })
       (λ j y _ some small. let word : words' j ≡ words j = others j (λ e. omega (arith, e, some)) in record {
         asleep = λ e. inl (word ∙ e);
         ended = kept (HasEnded j y.sleeps) (λ e. e);
@@ -162,7 +168,7 @@ module _ (lock slots : ℕ) (words words' : ℕ → ℕ) (zs zs' : ℕ → Sleep
   passes_by q now above up word =
       let kept = some_kept lock lock slots slots words words' zs zs' i z (passing q z) me now else in
       let fewer : (j : ℕ) → words' j ≡ ASLEEP → j < z.sweeps → j < min z.sweeps q = λ j e few. let ne : j ≢ q = λ same. up (ap words (sym same) ∙ (sym (word j) ∙ e)) in omega (arith, few, above, ne) in
-      all_on lock lock slots slots words words' zs zs' i z (passing q z) me now else refl (record { down = refl; told = refl; saw = refl; sleeps = refl })
+      all_on lock lock slots slots words words' zs zs' i z (passing q z) me now else refl (record { down = refl; told = refl; saw = refl; sleeps = refl; asked = refl })
       (λ j y _ _ _. record {
         asleep = λ e. inl (word j ∙ e);
         ended = kept (HasEnded j y.sleeps) (λ e. e);
@@ -177,27 +183,22 @@ module _ (lock slots : ℕ) (words words' : ℕ → ℕ) (zs zs' : ℕ → Sleep
       let kept = some_kept lock lock slots slots words words' zs zs' i z (rousing q n z) me now else in
       let not_it : (j : ℕ) → words' j ≡ ASLEEP → j ≢ q = λ j e same. up (ap words' (sym same) ∙ e) in
       let fewer : (j : ℕ) → words' j ≡ ASLEEP → j < z.sweeps → j < min z.sweeps q = λ j e few. let ne = not_it j e in omega (arith, few, above, ne) in
-      all_on lock lock slots slots words words' zs zs' i z (rousing q n z) me now else refl (record { down = refl; told = refl; saw = refl; sleeps = refl })
+      all_on lock lock slots slots words words' zs zs' i z (rousing q n z) me now else refl (record { down = refl; told = refl; saw = refl; sleeps = refl; asked = refl })
       (λ j y is _ _. record {
         asleep = λ e. dite (ℕ_discrete j q)
-            (λ same. inr (i, subst (HasEnded j y.sleeps) (sym now) (inl (inl (sym same, which ∙ (ap (λ (k : ℕ). (zs k).sleeps) (sym same) ∙ ap (λ (x : Sleep). x.sleeps) (sym is)))))))
+            (λ same. inr (i, subst (HasEnded j y.sleeps) (sym now) (inl (sym same, which ∙ (ap (λ (k : ℕ). (zs k).sleeps) (sym same) ∙ ap (λ (x : Sleep). x.sleeps) (sym is))))))
             (λ ne. inl (others j ne ∙ e));
-        ended = kept (HasEnded j y.sleeps) (⊎_elim (λ e. inl (inr e)) (λ e. inr e));
+        ended = kept (HasEnded j y.sleeps) (λ e. inr e);
         was = λ e. sym (others j (not_it j e)) ∙ e;
         noted = λ e. ⊎_elim (λ board. inl (others 0 (λ same. omega (arith, same, some)) ∙ board)) (λ t. inr (kept (λ (x : Sleep). j < x.sweeps) (fewer j e) t));
         awaited = λ e _. ⊎_elim (λ held. inl held) (λ t. inr (kept (λ (x : Sleep). (x.looks ≡ true) ⊎ (j < x.sweeps)) (⊎_elim (λ l. inl l) (λ few. inr (fewer j e few))) t));
       })
 
-  -- The seat makes the latest wake-up that it owes.
-  pub wakes_one : zs' i ≡ waking z → ((j : ℕ) → words' j ≡ words j) → AreHeeded lock slots words zs → AreHeeded lock slots words' zs'
-  wakes_one now word = same_words lock lock slots slots words words' zs zs' i z (waking z) me now else refl (record { down = refl; told = refl; saw = refl; sleeps = refl })
-      (record { ended = λ j n. among_woken j n z.owes z.woken; sweeps = λ j e. e; looks = λ e. e }) word (λ held. held)
-
   -- The seat frees the lock word, and is to look whether a session may sleep.
   pub has_freed : (lock' slots' : ℕ) → slots' ≡ slots → zs' i ≡ having_freed z → ((j : ℕ) → words' j ≡ words j) → AreHeeded lock slots words zs → AreHeeded lock' slots' words' zs'
   has_freed lock' slots' same now word =
       let kept = some_kept lock lock' slots slots' words words' zs zs' i z (having_freed z) me now else in
-      all_on lock lock' slots slots' words words' zs zs' i z (having_freed z) me now else same (record { down = refl; told = refl; saw = refl; sleeps = refl })
+      all_on lock lock' slots slots' words words' zs zs' i z (having_freed z) me now else same (record { down = refl; told = refl; saw = refl; sleeps = refl; asked = refl })
       (λ j y _ _ _. record {
         asleep = λ e. inl (word j ∙ e);
         ended = kept (HasEnded j y.sleeps) (λ e. e);
@@ -208,10 +209,10 @@ module _ (lock slots : ℕ) (words words' : ℕ → ℕ) (zs zs' : ℕ → Sleep
 
   -- The seat knows the same, and the lock word isn't freed.
   pub knows_same : (lock' slots' : ℕ) → slots' ≡ slots → zs' i ≡ z → ((j : ℕ) → words' j ≡ words j) → (lock ≢ FREE → lock' ≢ FREE) → AreHeeded lock slots words zs → AreHeeded lock' slots' words' zs'
-  knows_same lock' slots' same now word held = same_words lock lock' slots slots' words words' zs zs' i z z me now else same (record { down = refl; told = refl; saw = refl; sleeps = refl })
+  knows_same lock' slots' same now word held = same_words lock lock' slots slots' words words' zs zs' i z z me now else same (record { down = refl; told = refl; saw = refl; sleeps = refl; asked = refl })
       (record { ended = λ j n e. e; sweeps = λ j e. e; looks = λ e. e }) word held
 
--- What a seat that takes another in owes afterwards.
+-- What a seat that takes another in has to look at afterwards.
 
 either_left : (a b : Bool) → a ≡ true → a || b ≡ true
 either_left true b e = refl
@@ -221,11 +222,11 @@ either_right : (a b : Bool) → b ≡ true → a || b ≡ true
 either_right true b e = refl
 either_right false b e = e
 
--- Seat k is joined into seat i and ends. Seat i knows u then, and nobody is joined but who owes nothing or whose debts are taken over.
+-- Seat k is joined into seat i and ends. Seat i knows u then.
 module _ (lock slots : ℕ) (words : ℕ → ℕ) (zs zs' : ℕ → Sleep) (i k : ℕ) (z y u : Sleep) (me : zs i ≡ z) (other : zs k ≡ y) (now : zs' i ≡ u) (ends : zs' k ≡ awake) (else : (j : ℕ) → j ≢ i → j ≢ k → zs' j ≡ zs j) where
   -- What the seat takes over.
   pub record TakesOver : Type 0 where
-    pub own : (u.down ≡ z.down) × (u.told ≡ z.told) × (u.saw ≡ z.saw) × (u.sleeps ≡ z.sleeps)
+    pub own : IsSameSleep z u
     pub ended : (j n : ℕ) → HasEnded j n z ⊎ HasEnded j n y → HasEnded j n u
     pub sweeps : (j : ℕ) → (j < z.sweeps) ⊎ (j < y.sweeps) → j < u.sweeps
     pub looks : (z.looks ≡ true) ⊎ (y.looks ≡ true) → u.looks ≡ true
@@ -254,21 +255,19 @@ module _ (lock slots : ℕ) (words : ℕ → ℕ) (zs zs' : ℕ → Sleep) (i k 
       (λ no. dite (ℕ_discrete j i)
       (λ e. subst (λ (n : ℕ). (zs' n).down ≡ true → IsDown lock slots words zs' n (zs' n)) (sym e)
       (subst (λ (x : Sleep). x.down ≡ true → IsDown lock slots words zs' i x) (sym now)
-      (λ down. let d : IsDown lock slots words zs i z = subst (λ (x : Sleep). x.down ≡ true → IsDown lock slots words zs i x) me (all i) (sym t.own.0 ∙ down) in
-      as_before lock lock slots slots words words zs zs' i z u (record { down = t.own.0; told = t.own.1; saw = t.own.2; sleeps = t.own.3 })
+      (λ down. let d : IsDown lock slots words zs i z = subst (λ (x : Sleep). x.down ≡ true → IsDown lock slots words zs i x) me (all i) (sym t.own.down ∙ down) in
+      as_before lock lock slots slots words words zs zs' i z u t.own
       (stays_down lock lock slots slots words words zs zs' refl i z (stays_joined t i z) d))))
       (λ ne. subst (λ (x : Sleep). x.down ≡ true → IsDown lock slots words zs' j x) (sym (else j ne no))
       (λ down. stays_down lock lock slots slots words words zs zs' refl j (zs j) (stays_joined t j (zs j)) (all j down))))
 
--- A seat that owes nothing is taken in.
+-- A seat that has ended no sleep is taken in.
 pub takes_none : (z : Sleep) (j n : ℕ) → HasEnded j n z ⊎ HasEnded j n awake → HasEnded j n z
-takes_none z j n = ⊎_elim (λ e. e) (⊎_elim (λ e. absurd e) (λ e. absurd e))
+takes_none z j n = ⊎_elim (λ e. e) (λ e. absurd e)
 
 -- What another seat has ended is taken over.
 pub takes_ended : (z y : Sleep) (j n : ℕ) → HasEnded j n z ⊎ HasEnded j n y → HasEnded j n (taking_over z y)
-takes_ended z y j n = ⊎_elim
-    (⊎_elim (λ e. inl (among_left j n z.owes y.owes e)) (λ e. inr (among_left j n z.woken y.woken e)))
-    (⊎_elim (λ e. inl (among_right j n z.owes y.owes e)) (λ e. inr (among_right j n z.woken y.woken e)))
+takes_ended z y j n = ⊎_elim (among_left j n z.ended y.ended) (among_right j n z.ended y.ended)
 
 -- What another seat is to look at, too.
 pub takes_looks : (a b : Bool) → (a ≡ true) ⊎ (b ≡ true) → a || b ≡ true

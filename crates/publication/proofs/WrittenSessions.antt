@@ -1,6 +1,6 @@
 -- Sessions whose sleep is ended, written one behind another to the front of an array.
-use Rattle.std.proofs.Common.{◌≡◌, ◌<◌, ◌≤◌, ℕ, zero, suc, ◌+◌, ◌-◌, List, [], ◌∷◌, ◌++◌, length, drop, set, refl, sym, ap, ◌∙◌, subst, arith, length-append}
-use Rattle.publication.specs.Sleep.{Sleep, sessions_of, AreFalling, AreWritten, AreRoused}
+use Rattle.std.proofs.Common.{◌≡◌, ◌<◌, ◌≤◌, ℕ, zero, suc, ◌+◌, ◌-◌, List, [], ◌∷◌, ◌++◌, length, drop, set, refl, ap, ◌∙◌, subst, arith, length-append}
+use Rattle.publication.specs.Sleep.{sessions_of, AreFalling, AreRoused}
 
 -- One more session is written behind those at the front.
 pub next_behind : (told places : List ℕ) (n j : ℕ) → n ≡ length told → n < length places
@@ -28,8 +28,8 @@ sessions-length [] = refl
 sessions-length (x ∷ xs) = length-append (sessions_of xs) (x.0 ∷ []) ∙ omega (arith, sessions-length xs)
 
 -- A further sleep is ended, and its session is written.
-pub roused_on : (most w : ℕ) (z y x : Sleep) (places written : List ℕ) (count n : ℕ) → 0 < w → w ≤ most → count < length places
-    → x.woken ≡ (w, n) ∷ y.woken → AreRoused most w z y places written count → AreRoused most (w - 1) z x places (set written count w) (count + 1)
+pub roused_on : (most w : ℕ) (z y x : List (ℕ × ℕ)) (places written : List ℕ) (count n : ℕ) → 0 < w → w ≤ most → count < length places
+    → x ≡ (w, n) ∷ y → AreRoused most w z y places written count → AreRoused most (w - 1) z x places (set written count w) (count + 1)
 roused_on most w z y x places written count n some within room is r =
     let told : List ℕ = sessions_of r.0 in
     let whole : written ≡ told ++ drop count places = r.2.1 in
@@ -45,6 +45,6 @@ roused_on most w z y x places written count n some within room is r =
     )
 
 -- A record is passed, whose session doesn't sleep.
-pub roused_past : (most w : ℕ) (z y x : Sleep) (places written : List ℕ) (count : ℕ)
-    → x.woken ≡ y.woken → AreRoused most w z y places written count → AreRoused most (w - 1) z x places written count
+pub roused_past : (most w : ℕ) (z y x : List (ℕ × ℕ)) (places written : List ℕ) (count : ℕ)
+    → x ≡ y → AreRoused most w z y places written count → AreRoused most (w - 1) z x places written count
 roused_past most w z y x places written count is r = (r.0, is ∙ r.1, (falls_past (sessions_of r.0) most w r.2.0, r.2.1, r.2.2))

@@ -43,7 +43,6 @@
 --   look for sleepers  the session's   the board's sleep word is read, behind a release
 --   sweep              the session's   the board's sleep word, to AWAKE; then it looks at all records
 --   rouse              the session's   a record's sleep word, ASLEEP to AWAKE, by compare-exchange
---   wake               the session's   a word is read; the wake-ups that it owes are made
 use Rattle.std.specs.Prelude.{◌≡◌, ◌≢◌, ℕ, ◌+◌, ◌^◌, ◌<◌, ◌≤◌, max, nat_lt, ◌==◌, ◌||◌, cond, Bool, true, false, Option, Some, None, List, [], ◌∷◌, ◌++◌, length, slice_set, slice_index_or}
 use Rattle.sequential.specs.Bounds.{Bounds}
 use mathlib.Core.Option as opt
@@ -56,8 +55,8 @@ use Rattle.sequential.specs.Histories.{Answered, calls_of}
 use Rattle.sequential.specs.Linearizable.{Event, invocation, response}
 use Rattle.publication.specs.Words.{session_of_word, END, FREE, POSTED, SERVED, CLOSED, EMPTY, ASLEEP}
 use Rattle.publication.specs.Pieces.{pieces_of, added}
-use Rattle.publication.specs.Sleep.{Sleep, SleepStep, awake, lain, having_told, having_seen, risen, having_freed, having_looked, sweeping, passing, rousing, waking, taking_over}
-use Rattle.publication.specs.Sleep.SleepStep.{lie_down, tell_sleepers, look_if_held, look_if_roused, get_up, look_for_sleepers, sweep, rouse, wake}
+use Rattle.publication.specs.Sleep.{Sleep, SleepStep, awake, lain, having_told, having_seen, having_asked, risen, having_freed, having_looked, sweeping, passing, rousing, taking_over}
+use Rattle.publication.specs.Sleep.SleepStep.{lie_down, tell_sleepers, look_if_held, look_if_roused, get_up, look_for_sleepers, sweep, rouse}
 use Rattle.publication.specs.Views.{Pending, Own, Combiner, Listing, Handed, Others, Taken, IsAccountedIn, entry, answer, asks}
 use Rattle.publication.specs.Rule.{fresh, no_combiner, no_pieces, unwalked, apart, pieces_in, IsHome, announced, heard_of}
 use Rattle.publication.specs.List.{IsOn, AreApart, head_of, behind, without, with_behind}
@@ -629,12 +628,11 @@ abbrev pub sleeps_so : SleepStep → ℕ → ℕ → Sleep → ℕ → Sleep →
 sleeps_so lie_down slots at z found y = y ≡ lain z
 sleeps_so tell_sleepers slots at z found y = y ≡ having_told z
 sleeps_so look_if_held slots at z found y = (found ≢ FREE → y ≡ having_seen z) × (found ≡ FREE → y ≡ z)
-sleeps_so look_if_roused slots at z found y = (found ≢ ASLEEP → y ≡ risen z) × (found ≡ ASLEEP → y ≡ z)
+sleeps_so look_if_roused slots at z found y = (found ≢ ASLEEP → y ≡ risen (having_asked z)) × (found ≡ ASLEEP → y ≡ having_asked z)
 sleeps_so get_up slots at z found y = y ≡ risen z
 sleeps_so look_for_sleepers slots at z found y = (found ≢ ASLEEP → y ≡ having_looked z) × (found ≡ ASLEEP → y ≡ z)
 sleeps_so sweep slots at z found y = y ≡ sweeping slots z
 sleeps_so rouse slots at z found y = (found ≡ ASLEEP → (n : ℕ) × (y ≡ rousing (session_of_word at) n z)) × (found ≢ ASLEEP → y ≡ passing (session_of_word at) z)
-sleeps_so wake slots at z found y = y ≡ waking z
 
 module _ {O C R : Type 0} where
   -- A step of sleep: the seat knows nothing else than before.

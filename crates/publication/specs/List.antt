@@ -117,7 +117,7 @@ module _ {O C R : Type 0} (obj : Ghosts O C R) where
     pub list : IsLinked s
 
 module _ {O C R : Type 0} (obj : Ghosts O C R) (bound : Bounds) where
-  -- The rule of a board whose object keeps so much at most, whenever it is at home. No session that may sleep is forgotten.
+  -- The rule of a board whose object keeps so much at most, whenever it is at home. Each session that is down is heeded.
   pub record IsBounded (s : BoardState O C R) : Type 0 where
     pub ruled : IsRuled obj s
     pub within : (load : Box (Load O C R)) → home s 0 ≡ opt.some (ObjectLoad load) → obj.bound load.value.object ≡ bound

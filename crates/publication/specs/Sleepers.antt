@@ -1,4 +1,4 @@
--- What holds of sessions that may sleep, between any two atomic steps: none of them is forgotten.
+-- What holds of sessions that may sleep, between any two atomic steps: each that is down is heeded.
 use Rattle.std.specs.Prelude.{◌≡◌, ◌≢◌, ◌⊎◌, ℕ, ◌<◌, true, length, slice_index}
 use Rattle.publication.specs.Words.{sleep_of, FREE, ASLEEP}
 use Rattle.publication.specs.Sleep.{Sleep, HasEnded, IsAtRest}
@@ -52,14 +52,14 @@ module _ {O C R : Type 0} where
   abbrev pub IsObjectTaken : BoardState O C R → Type 0
   IsObjectTaken s = (k : ℕ) × ((seat s k).combiner.has_object ≡ true)
 
-  -- Session j, which knows z of its sleep, is heeded: its sleep word is ASLEEP while some seat has the object, or is about to look whether a
-  -- session may sleep, or to look at this record; or some seat has ended this very sleep, and owes the wake-up for it or has made it.
+  -- Session j, which knows z of its sleep, is heeded: its sleep word is ASLEEP while some seat has the object, or has to look whether a
+  -- session may sleep, or to look at this record; or some seat has ended this very sleep.
   abbrev pub IsHeeded : BoardState O C R → ℕ → Sleep → Type 0
   IsHeeded s j z =
       ((sleep_word s j ≡ ASLEEP) × (IsObjectTaken s ⊎ SomeSeat (λ y. (y.looks ≡ true) ⊎ (j < y.sweeps)) (sleep_at s)))
       ⊎ SomeSeat (HasEnded j z.sleeps) (sleep_at s)
 
-  -- Nobody has the object, and no seat has a look or a wake-up to make.
+  -- Nobody has the object, and no seat has a look to make.
   pub record IsQuiet (s : BoardState O C R) : Type 0 where
     pub none : IsObjectTaken s → ⊥
     pub rest : (k : ℕ) → IsAtRest (sleep_at s k)

@@ -8,7 +8,7 @@
 //!
 //! `board.rt` has what a session calls, `board/combiner.rt` what the combiner does, `board/knowledge.rt` what a session
 //! knows as a value, `board/gathering.rt` the board's end. Below them, `steps.rt` makes the atomic steps, `list_steps.rt` those on the
-//! publication list, `sleep_steps.rt` and `rouse_steps.rt` those of sleep; `kinds.rt` and `sleep_kinds.rt` name their kinds, `slot.rt`, `view.rt`
+//! publication list, `sleep_steps.rt` those of sleep; `kinds.rt` and `sleep_kinds.rt` name their kinds, `slot.rt`, `view.rt`
 //! and `words.rt` have what slots, seats and words hold; `new_board.rt`, `closing.rt`, `roll.rt` and `piece.rt` open a
 //! board, close it and note pieces of the history. The `laws` modules say what follows.
 //!
@@ -31,7 +31,6 @@ mod new_board;
 mod piece;
 pub mod piece_laws;
 mod roll;
-mod rouse_steps;
 mod sleep_kinds;
 pub mod sleep_laws;
 mod sleep_steps;

@@ -85,13 +85,3 @@ impl<O: Sequential> Play<SlotValue<O>, View<O::Call, O::Reply>> for Rouse {
 
     ghost then = { drowses rouse };
 }
-
-/// A seat has made the wake-ups that it owed.
-pub struct WakeUp;
-
-impl<O: Sequential> Play<SlotValue<O>, View<O::Call, O::Reply>> for WakeUp {
-    ghost use Rattle.publication.specs.Sleep.SleepStep.{wake};
-    ghost use Rattle.publication.specs.Kinds.{drowses};
-
-    ghost then = { drowses wake };
-}

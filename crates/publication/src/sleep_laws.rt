@@ -8,20 +8,19 @@ ghost use Rattle.sequential.specs.Bounds.{Bounds};
 ghost use mathlib.Core.Option as opt;
 ghost use lib.ListN.{get_elem?};
 ghost use Rattle.publication.specs.Rule.{BoardState};
-ghost use Rattle.publication.specs.Sleep.{IsAmong};
+ghost use Rattle.publication.specs.Sleep.{HasEnded};
 ghost use Rattle.publication.specs.Sleepers.{SomeSeat, IsHeeded, IsQuiet, sleep_at};
 ghost use Rattle.publication.specs.List.{IsBounded};
 ghost use Rattle.publication.specs.declared.view.View.{View};
 
 use sequential::Sequential;
 
-/// What the rule notes of sleeps. At every instant, a session that has begun a sleep and has seen the lock word held since is heeded
-/// (`IsHeeded`). If then nobody has the object, and no seat has a look or a wake-up to make, a wake-up for this very sleep is noted as
-/// made. That it was made, or is left to the caller (`rouse_sleepers`), and that it reaches the thread, is said by no contract.
+/// Who has begun a sleep and has seen the lock word held since is heeded at every instant (`IsHeeded`). If then nobody has the object, and
+/// no seat has a look to make, some seat has ended this very sleep (and by the contract of `Board::rouse_sleepers` told its caller of it).
 pub fn no_wake_up_is_lost<O: Sequential>()
     ensures heeded { (bound : Bounds) (s : BoardState O O.Call O.Reply) (j : ℕ) (v : View O.Call O.Reply) →
         IsBounded O.Sequential bound s → get_elem? s.views j ≡ opt.some v → v.sleep.down ≡ true → v.sleep.saw ≡ true → IsHeeded s j v.sleep }
-    ensures woken { (bound : Bounds) (s : BoardState O O.Call O.Reply) (j : ℕ) (v : View O.Call O.Reply) →
+    ensures ended { (bound : Bounds) (s : BoardState O O.Call O.Reply) (j : ℕ) (v : View O.Call O.Reply) →
         IsBounded O.Sequential bound s → get_elem? s.views j ≡ opt.some v → v.sleep.down ≡ true → v.sleep.saw ≡ true → IsQuiet s →
-        SomeSeat (λ y. IsAmong j v.sleep.sleeps y.woken) (sleep_at s) }
+        SomeSeat (HasEnded j v.sleep.sleeps) (sleep_at s) }
 {}

@@ -1,4 +1,4 @@
-//! A storage engine that locks its files and pages in a book; docs/EMBEDDING.md begins with this code.
+//! A storage engine that locks its files and pages in a book; docs/EMBEDDING.md shows parts of this code under "In Rattle".
 
 ghost use Rattle.std.specs.Prelude.{◌≡◌, ◌≤◌};
 

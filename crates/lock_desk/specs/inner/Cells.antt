@@ -4,7 +4,7 @@ use Rattle.std.specs.Prelude.{◌≡◌, ℕ, ◌+◌, ◌≤◌, Bool, true, fa
 use Rattle.std.specs.Map.{lookup}
 use Rattle.lock_tree.specs.Paths.{same_path}
 use Rattle.lock_holders.specs.declared.session_mode.SessionMode.{SessionMode}
-use Rattle.lock_holders.specs.SessionModes.{has_session, times, with_holder, without, is_nobody, fits_among, codes_among, Ascends}
+use Rattle.lock_holders.specs.SessionModes.{has_session, times, with_holder, without, is_nobody, fits_among, Ascends}
 use Rattle.lock_desk.specs.declared.cells.GivenUp.{GivenUp}
 use Rattle.lock_desk.specs.declared.cells.GivenUp.TheVariants as claim
 use Rattle.lock_desk.specs.declared.cells.RequestStatus.{RequestStatus}
@@ -48,10 +48,6 @@ is_request claim.Request = true
 abbrev pub view_after_freeing : GivenUp → ℕ → View → View
 view_after_freeing p s v = view_after_promotion (view_after_giving_up p s v)
 
--- the bitwise or of the mode codes of the holders, or `None` if a request waits
-abbrev pub codes_unless_waited : View → Option ℕ
-codes_unless_waited v = if is_nobody v.waiting then Some (codes_among v.holders) else None
-
 -- the request is granted at once: it fits, and it is a conversion or nobody waits
 abbrev pub can_grant : SessionMode → View → Bool
 can_grant c v = fits_among c v.holders && (has_session c.session v.holders || is_nobody v.waiting)
@@ -87,10 +83,6 @@ view_of c = record { holders = c.holders.items; waiting = c.waiting.items }
 -- the list of holders has room for all waiting sessions too
 abbrev pub HasRoom : Cell → Type 0
 HasRoom c = length c.holders.items + vec_len c.waiting ≤ c.holders.capacity
-
--- the list of holders has room for all waiting sessions and `n` further holders
-abbrev pub HasRoomFor : ℕ → Cell → Type 0
-HasRoomFor n c = length c.holders.items + vec_len c.waiting + n ≤ c.holders.capacity
 
 -- holders are in order of session number, each session has at most one request in the queue, and no session has number
 -- 0
@@ -154,10 +146,6 @@ pub record IsCellAt (r : List ℕ) (cs : Cells) (i : ℕ) : Type 0 where
 abbrev pub IsPlace : List ℕ → Cells → Option ℕ → Type 0
 IsPlace r cs None = cell_at r cs ≡ None
 IsPlace r cs (Some i) = IsCellAt r cs i
-
--- the cell at index `i` has room for `n` further holders
-abbrev pub HasRoomAt : Cells → ℕ → ℕ → Type 0
-HasRoomAt cs i n = (r : List ℕ) (c : Cell) → slice_get cs i ≡ Some (r, c) → HasRoomFor n c
 
 -- what contracts see of the table of cells: the cells in use
 pub record Table : Type 0 where

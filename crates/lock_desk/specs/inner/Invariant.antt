@@ -26,7 +26,7 @@ book_view_of a = record {
   deadlocks = a.notes.log.most;
 }
 
--- the history is legal, the lock table represents the state that the history leads to, there is a locker and a mark for each
+-- the history is legal, the lock table represents the state that the history leads to, there is a locker for each
 -- session, the log tells the newest deadlocks, and the counters are those of the history
 pub record IsKept (a : Inside) : Type 0 where
   pub some : 1 ≤ a.sessions
@@ -38,7 +38,6 @@ pub record IsKept (a : Inside) : Type 0 where
   pub ready : IsReadyTable a.lock_table.value
   pub lockers : vec_len a.lock_table.value.lockers ≡ a.sessions
   pub counted : a.lock_table.value.count ≤ length a.history.items
-  pub marked : a.marks.sessions ≡ a.sessions
   pub log : IsLogFor (vec_len a.lock_table.value.lockers) a.notes.log
   pub told : AreDeadlocksTold (newest a.notes.log.most (deadlocks_in a.history.items)) a.notes.log.told
   pub calls : AreCallsCounted a.history.items a.notes.counts

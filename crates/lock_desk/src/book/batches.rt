@@ -1,4 +1,4 @@
-//! Batches of a book: calls that are served one after another, runs of locks on one resource together.
+//! Batches of a book: calls that are served one after another, and tell together whose wait they have ended.
 
 ghost use Rattle.std.specs.Prelude.{◌≡◌, false, ◌+◌, ◌<◌, ◌≤◌, List, [], ◌++◌, if◌then◌else◌, length, map, take, drop};
 ghost use Rattle.std.specs.List.{All};
@@ -6,28 +6,17 @@ ghost use Rattle.lock_rules.specs.Entries.{Entry as EntryValue};
 ghost use Rattle.lock_rules.specs.Legal.{state_of};
 ghost use Rattle.lock_desk.specs.Batches.{entries_from, ended_waits_in, Item as ItemValue};
 ghost use Rattle.sequential.specs.Batches.{IsItemWithin, item_of};
-ghost use Rattle.lock_desk.specs.inner.Runs.{AreServed};
+ghost use Rattle.lock_desk.specs.inner.Served.{AreServed};
 
 use crate::book::{Book, Item};
-use crate::lock_table::runs::{grant_run, resource_shared};
 use crate::recording::serve_recorded;
-use lock_tree::Resource;
-
-/// How far a batch has been served.
-#[derive(Clone, Copy)]
-struct Progress {
-    /// The index of the first item that is not served yet.
-    served: usize,
-    /// Whether memory was refused for that item.
-    out_of_memory: bool,
-}
 
 impl Book {
     /// Serves the calls of `items` in order, and writes each reply into its item. Returns how many items it served.
     ///
-    /// Replies and history are those of serving the calls one after another; locks on one resource that follow one
-    /// another are granted together where possible. The session of each item is from 1 to `sessions()`. Stops at the
-    /// first item for which memory is refused: this item and the later ones are unchanged, and may be served again.
+    /// Replies and history are those of serving the calls one after another. The session of each item is from 1 to
+    /// `sessions()`. Stops at the first item for which memory is refused: this item and the later ones are unchanged, and
+    /// may be served again.
     pub fn serve_batch(&mut self, items: &mut [Item]) -> usize
         requires within { All (IsItemWithin self.old.sessions) items.old }
         ensures count { result ≤ length items.old }
@@ -38,18 +27,11 @@ impl Book {
         ensures items { items.new ≡ map item_of (entries_from (state_of self.old.history) (take result items.old)) ++ drop result items.old }
     {
         self.forget_ended();
-        if items.len() == 1 {
-            return if self.serve_item(items, 0) { 1 } else { 0 };
-        }
-        self.serve_several(items)
+        self.serve_items(items)
     }
 
-    /// Serves the items in order, run by run, and returns how many it served.
-    ///
-    /// A run is looked for only if an item and the next one lock the same resource.
-    // Out of line, so that a batch of one call is as quick as the call by itself.
-    #[inline(never)]
-    fn serve_several(&mut self, items: &mut [Item]) -> usize
+    /// Serves the items in order, and returns how many it served.
+    fn serve_items(&mut self, items: &mut [Item]) -> usize
         requires within { All (IsItemWithin self.old.sessions) items.old }
         requires none { self.old.ended ≡ [] }
         ensures sessions { self.new.sessions ≡ self.old.sessions }
@@ -58,25 +40,12 @@ impl Book {
         ensures deadlocks { self.new.deadlocks ≡ self.old.deadlocks }
         ensures served { AreServed self.old.sessions result items.old self.old.history self.new.ended self.new.history items.new }
     {
-        let mut served = 0;
-        while served + 1 < items.len() {
-            let Some(resource) = resource_shared(items, served) else {
-                if !self.serve_item(items, served) {
-                    return served;
-                }
-                served += 1;
-                continue;
-            };
-            let progress = self.serve_run(items, served, resource);
-            served = progress.served;
-            if progress.out_of_memory {
+        for served in 0..items.len() {
+            if !self.serve_item(items, served) {
                 return served;
             }
         }
-        if served < items.len() && self.serve_item(items, served) {
-            served += 1;
-        }
-        served
+        items.len()
     }
 
     /// Serves `items[at]` and writes its reply. Returns false if memory is refused.
@@ -105,73 +74,5 @@ impl Book {
         };
         items[at].reply = Some(reply);
         true
-    }
-
-    /// Serves `items[from..upto]` in order, up to the first item for which memory is refused.
-    fn serve_each(&mut self, items: &mut [Item], from: usize, upto: usize) -> Progress
-        requires within { All (IsItemWithin self.old.sessions) items.old }
-        requires some { from < upto }
-        requires few { upto ≤ length items.old }
-        ensures sessions { self.new.sessions ≡ self.old.sessions }
-        ensures cut { self.new.cut ≡ self.old.cut }
-        ensures bound { self.new.bound ≡ self.old.bound }
-        ensures deadlocks { self.new.deadlocks ≡ self.old.deadlocks }
-        ensures within { All (IsItemWithin self.new.sessions) items.new }
-        ensures further { result.out_of_memory ≡ false → from < result.served }
-        ensures served { (batch : List ItemValue) (start : List EntryValue) → AreServed self.old.sessions from batch start self.old.ended self.old.history items.old
-            → AreServed self.old.sessions result.served batch start self.new.ended self.new.history items.new }
-    {
-        for served in from..upto {
-            if !self.serve_item(items, served) {
-                return Progress {
-                    served,
-                    out_of_memory: true,
-                };
-            }
-        }
-        Progress {
-            served: upto,
-            out_of_memory: false,
-        }
-    }
-
-    /// Serves the run of locks on `resource` that begins at `items[from]`.
-    ///
-    /// Grants the run together if its modes are compatible and memory suffices, and else serves its items one after
-    /// another. Serves `items[from]` alone if no run begins there.
-    #[inline(never)]
-    fn serve_run(&mut self, items: &mut [Item], from: usize, resource: Resource) -> Progress
-        requires within { All (IsItemWithin self.old.sessions) items.old }
-        requires some { from < length items.old }
-        ensures sessions { self.new.sessions ≡ self.old.sessions }
-        ensures cut { self.new.cut ≡ self.old.cut }
-        ensures bound { self.new.bound ≡ self.old.bound }
-        ensures deadlocks { self.new.deadlocks ≡ self.old.deadlocks }
-        ensures within { All (IsItemWithin self.new.sessions) items.new }
-        ensures further { result.out_of_memory ≡ false → from < result.served }
-        ensures served { (batch : List ItemValue) (start : List EntryValue) → AreServed self.old.sessions from batch start self.old.ended self.old.history items.old
-            → AreServed self.old.sessions result.served batch start self.new.ended self.new.history items.new }
-    {
-        let Some(run) = self
-            .lock_table
-            .run_at(items, from, resource, &mut self.marks)
-        else {
-            return self.serve_each(items, from, from + 1);
-        };
-        let upto = run.upto;
-        if grant_run(
-            &mut *self.lock_table,
-            &mut self.history,
-            &mut self.notes.counts,
-            items,
-            from,
-            &run,
-        ) {
-            return Progress {
-                served: upto,
-                out_of_memory: false,
-            };
-        }
-        self.serve_each(items, from, upto)
     }
 }

@@ -1,10 +1,10 @@
 //! The deadlocks that a book tells.
 
-ghost use Rattle.std.specs.Prelude.{◌≡◌, [], OnOk, OnErr};
+ghost use Rattle.std.specs.Prelude.{◌≡◌, [], length, OnOk, OnErr};
 ghost use Rattle.lock_desk.specs.Deadlocks.{AreDeadlocksTold, deadlocks_in, newest};
 
 use crate::book::Book;
-use crate::deadlock_log::{Deadlock, DeadlockLog, copies_of};
+use crate::deadlock_log::{Deadlock, DeadlockLog, copies_of, newest_of};
 use std::alloc::{AllocError as NoMemory, Global};
 
 impl Book {
@@ -41,13 +41,33 @@ impl Book {
         self.notes.log.told()
     }
 
-    /// Replaces the contents of `list` by copies of the deadlocks that `deadlocks` tells. (Its clause is met by another cycle through the
-    /// same victim, too.) Fails with `NoMemory` if memory is refused; the contents of `list` are unchanged then.
-    pub fn copy_deadlocks(&self, alloc: Global, list: &mut Vec<Deadlock>) -> Result<(), NoMemory>
-        ensures ok { OnOk result (AreDeadlocksTold (newest self.now.deadlocks (deadlocks_in self.now.history)) list.new.items) }
+    /// How many deadlocks `deadlocks` tells.
+    pub fn deadlock_count(&self) -> usize
+        ensures { result ≡ length (newest self.now.deadlocks (deadlocks_in self.now.history)) }
+    {
+        self.deadlocks().len()
+    }
+
+    /// The newest `most` of the deadlocks that `deadlocks` tells, in the same order: all of them if they aren't more.
+    pub fn newest_deadlocks(&self, most: usize) -> &[Deadlock]
+        ensures { AreDeadlocksTold (newest most (newest self.now.deadlocks (deadlocks_in self.now.history))) result.now }
+    {
+        newest_of(self.deadlocks(), most)
+    }
+
+    /// Replaces the contents of `list` by copies of the deadlocks that `newest_deadlocks` tells. (Its clause is met by another cycle through
+    /// the same victim, too.) Its cost grows with those, however many are kept. Fails with `NoMemory` if memory is refused; the contents of
+    /// `list` are unchanged then.
+    pub fn copy_deadlocks(
+        &self,
+        alloc: Global,
+        most: usize,
+        list: &mut Vec<Deadlock>,
+    ) -> Result<(), NoMemory>
+        ensures ok { OnOk result (AreDeadlocksTold (newest most (newest self.now.deadlocks (deadlocks_in self.now.history))) list.new.items) }
         ensures err { OnErr result (list.new.items ≡ list.old.items) }
     {
-        *list = copies_of(alloc, self.deadlocks())?;
+        *list = copies_of(alloc, self.newest_deadlocks(most))?;
         Ok(())
     }
 }

@@ -11,7 +11,6 @@ use crate::cells::Cell;
 use crate::lock_table::LockTable;
 use crate::lockers::Locker;
 use lock_holders::SessionMode;
-use lock_modes::Mode;
 use lock_rules::{Claim, ClaimKind, Transaction};
 use lock_tree::Resource;
 use std::alloc::{AllocError, Global};

@@ -12,7 +12,7 @@ ghost use Rattle.publication.specs.Boards.{HasCallsOf};
 ghost use Rattle.lock_office.specs.ProgramBoards.{flat_history};
 ghost use Rattle.lock_office.specs.Sessions.{IsSessionOf, HasLooked};
 
-use crate::queries::Snapshot;
+use crate::queries::{Kept, Snapshot};
 use crate::session::Session;
 use crate::{Office, memory, queries};
 use lock_desk::{Book, Claim, Deadlock, Mode, NoMemory, Resource, Transaction};
@@ -165,25 +165,27 @@ impl Session {
         }
     }
 
-    /// Replaces the contents of `list` by the newest deadlocks, oldest first, as `queries::deadlocks` does. Returns how many calls the history
-    /// had, and how many deadlocks the lock table keeps at most.
+    /// Replaces the contents of `list` by the newest `most` deadlocks, oldest first, as `queries::deadlocks` does. Returns how many calls the
+    /// history had, and how many deadlocks the lock table keeps.
     pub fn deadlocks(
         &mut self,
         office: &Office,
         alloc: Global,
+        most: usize,
         list: &mut Vec<Deadlock>,
-    ) -> Result<Option<Snapshot<usize>>, NoMemory>
+    ) -> Result<Option<Snapshot<Kept>>, NoMemory>
         requires ours { IsSessionOf office.now self.old }
         ensures ours { IsSessionOf office.now self.new }
         ensures looked { (seen : _) → result ≡ Ok (Some seen) → HasLooked self.old self.new }
         ensures length { (seen : _) → result ≡ Ok (Some seen) → seen.length ≡ length (flat_history self.new.front) }
-        ensures found { (seen : _) → result ≡ Ok (Some seen) → AreDeadlocksTold (newest seen.found (deadlocks_in (flat_history self.new.front))) list.new.items }
-        ensures most { (seen : _) → result ≡ Ok (Some seen) → seen.found ≡ office.now.bound.notes }
+        ensures found { (seen : _) → result ≡ Ok (Some seen) → AreDeadlocksTold (newest most (newest seen.found.most (deadlocks_in (flat_history self.new.front)))) list.new.items }
+        ensures most { (seen : _) → result ≡ Ok (Some seen) → seen.found.most ≡ office.now.bound.notes }
+        ensures count { (seen : _) → result ≡ Ok (Some seen) → seen.found.count ≡ length (newest seen.found.most (deadlocks_in (flat_history self.new.front))) }
         ensures none { result ≡ Ok None → (self.new ≡ self.old) × (list.new.items ≡ list.old.items) × (1 < office.now.sessions) }
         ensures err { IfErr result (λ _. HasLooked self.old self.new × (list.new.items ≡ list.old.items)) }
         ensures calls { HasCallsOf self.new.front self.new }
     {
-        let Some(told) = queries::deadlocks(office, alloc, &mut self.session, list) else {
+        let Some(told) = queries::deadlocks(office, alloc, &mut self.session, most, list) else {
             return Ok(None);
         };
         let length = told.length;

@@ -1,7 +1,7 @@
 //! Sleep of a session, as `combining` has it, for a caller whose threads park by themselves.
 
-ghost use Rattle.std.specs.Prelude.{◌≡◌, ◌≤◌, ℕ, List, length};
-ghost use Rattle.publication.specs.Sleep.{AreWritten};
+ghost use Rattle.std.specs.Prelude.{◌≡◌, ◌+◌, ◌≤◌, true, false, length};
+ghost use Rattle.publication.specs.Sleep.{AreRoused};
 ghost use Rattle.lock_office.specs.Sessions.{IsSessionOf};
 
 use crate::Office;
@@ -13,7 +13,8 @@ impl Session {
     pub fn begin_sleep(&mut self, office: &Office) -> bool
         requires ours { IsSessionOf office.now self.old }
         ensures ours { IsSessionOf office.now self.new }
-        ensures same { self.new ≡ self.old }
+        ensures held { result ≡ true → self.new ≡ record self.old { down = true; saw = true; sleeps = self.old.sleeps + 1 } }
+        ensures free { result ≡ false → self.new ≡ record self.old { down = false; saw = false; sleeps = self.old.sleeps + 1 } }
     {
         if office.begin_sleep(&mut self.session) {
             return true;
@@ -22,11 +23,12 @@ impl Session {
         false
     }
 
-    /// Whether the session's sleep is ended, as `Office::is_roused` tells.
+    /// Looks whether the session's sleep is ended, as `Office::is_roused` does.
     pub fn is_roused(&mut self, office: &Office) -> bool
         requires ours { IsSessionOf office.now self.old }
         ensures ours { IsSessionOf office.now self.new }
-        ensures same { self.new ≡ self.old }
+        ensures up { result ≡ true → self.new ≡ record self.old { down = false; asked = self.old.asked + 1 } }
+        ensures down { result ≡ false → self.new ≡ record self.old { asked = self.old.asked + 1 } }
     {
         office.is_roused(&mut self.session)
     }
@@ -37,8 +39,8 @@ impl Session {
         requires ours { IsSessionOf office.now self.old }
         requires room { office.now.sessions ≤ length list.old }
         ensures ours { IsSessionOf office.now self.new }
-        ensures same { self.new ≡ self.old }
-        ensures told { (told : List ℕ) × AreWritten office.now.sessions 0 told list.old list.new result }
+        ensures looked { self.new ≡ record self.old { looks = false; ended = self.new.ended } }
+        ensures told { AreRoused office.now.sessions 0 self.old.ended self.new.ended list.old list.new result }
         ensures few { result ≤ office.now.sessions }
     {
         office.rouse_sleepers(&mut self.session, list)

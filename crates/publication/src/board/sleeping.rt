@@ -1,24 +1,23 @@
-//! Sleep: a session that has waited for long sleeps until its sleep is ended or the lock word is free; who has released the object looks
-//! for sessions that sleep, and wakes them.
+//! Sleep: a session that has waited for long begins a sleep, which lasts until it is ended; who has released the object looks for sessions
+//! that sleep, ends their sleeps, and is told whose they were. Threads are parked and woken by the caller.
 //!
-//! What a seat owes to sleepers is no part of what contracts see of a ticket. `specs/Sleepers.antt` has the rule, and
-//! `laws::no_wake_up_is_lost` says what follows.
-ghost use Rattle.std.specs.Prelude.{◌≡◌, ◌≤◌, ℕ, List, length};
+//! `specs/Sleepers.antt` has the rule, and `sleep_laws::no_wake_up_is_lost` says what follows.
+ghost use Rattle.std.specs.Prelude.{◌≡◌, ◌+◌, ◌≤◌, true, false, length};
 ghost use Rattle.publication.specs.Boards.{IsOf};
-ghost use Rattle.publication.specs.Sleep.{AreWritten};
+ghost use Rattle.publication.specs.Sleep.{AreRoused};
 
 use crate::board::{Board, Ticket};
-use crate::{rouse_steps, sleep_steps};
+use crate::sleep_steps;
 use sequential::Sequential;
-use std::sync::Wait;
 
 impl<O: Sequential> Board<O> {
     /// Begins a sleep of the ticket's session, and returns whether its thread may sleep: another session had the object since the sleep
     /// began. Some seat then ends the sleep, or the session by `get_up`. If it may not sleep, the lock word was free, and the
-    /// session tries `seize`. The session may have a call pending or not. Behind a `release`, it calls `wake_sleepers` first.
+    /// session gets up and tries `seize`. The session may have a call pending or not. Behind a `release`, it calls `rouse_sleepers` first.
     pub fn begin_sleep(&self, ticket: &mut Ticket<O>) -> bool
         requires ours { IsOf self.now ticket.old }
-        ensures same { ticket.new ≡ ticket.old }
+        ensures held { result ≡ true → ticket.new ≡ record ticket.old { down = true; saw = true; sleeps = ticket.old.sleeps + 1 } }
+        ensures free { result ≡ false → ticket.new ≡ record ticket.old { down = true; saw = false; sleeps = ticket.old.sleeps + 1 } }
     {
         sleep_steps::begin_sleep(
             &self.table.shared,
@@ -27,10 +26,11 @@ impl<O: Sequential> Board<O> {
         )
     }
 
-    /// Whether the sleep of the ticket's session is ended.
+    /// Looks whether the sleep of the ticket's session is ended. If it is, the session is up.
     pub fn is_roused(&self, ticket: &mut Ticket<O>) -> bool
         requires ours { IsOf self.now ticket.old }
-        ensures same { ticket.new ≡ ticket.old }
+        ensures up { result ≡ true → ticket.new ≡ record ticket.old { down = false; asked = ticket.old.asked + 1 } }
+        ensures down { result ≡ false → ticket.new ≡ record ticket.old { asked = ticket.old.asked + 1 } }
     {
         sleep_steps::is_roused(
             &self.table.shared,
@@ -42,7 +42,7 @@ impl<O: Sequential> Board<O> {
     /// Ends the sleep of the ticket's session, whether or not it has begun one.
     pub fn get_up(&self, ticket: &mut Ticket<O>)
         requires ours { IsOf self.now ticket.old }
-        ensures same { ticket.new ≡ ticket.old }
+        ensures up { ticket.new ≡ record ticket.old { down = false } }
     {
         sleep_steps::get_up(
             &self.table.shared,
@@ -51,42 +51,16 @@ impl<O: Sequential> Board<O> {
         );
     }
 
-    /// Sleeps, as the thread of the ticket's session, until who has released the object ends the sleep by `wake_sleepers`, or the lock
-    /// word is free. Returns at once if it is free. First it makes the look of `wake_sleepers`, so that no other session waits for a
-    /// thread that sleeps. That a wake-up reaches the thread is the system's.
-    pub fn sleep<R: Wait>(&self, rt: &R, ticket: &mut Ticket<O>)
-        requires ours { IsOf self.now ticket.old }
-        ensures same { ticket.new ≡ ticket.old }
-    {
-        sleep_steps::sleep(
-            rt,
-            &self.table.shared,
-            &mut ticket.seat,
-            ticket.number,
-            self.sessions,
-        );
-    }
-
-    /// Ends the sleeps of all sessions that sleep, and wakes their threads. To be called behind each `release` on a board on which
-    /// sessions sleep. Reads one word if none does, else a word of each record. Returns how many threads it woke.
-    pub fn wake_sleepers(&self, ticket: &mut Ticket<O>) -> u16
-        requires ours { IsOf self.now ticket.old }
-        ensures same { ticket.new ≡ ticket.old }
-        ensures few { result ≤ self.now.sessions }
-    {
-        sleep_steps::wake_sleepers(&self.table.shared, &mut ticket.seat, self.sessions)
-    }
-
-    /// Ends the sleeps of all sessions that sleep, as `wake_sleepers` does, and wakes no thread: it writes these sessions to the front of
-    /// `list`, from the last to the first, and returns how many they are. The caller wakes their threads, before anything else. For a
-    /// caller whose threads don't park by `sleep`. `list` has room for all sessions.
+    /// Ends the sleeps of all sessions that sleep, and writes these sessions to the front of `list`, from the last to the first. Returns how
+    /// many they are. The caller wakes their threads, before anything else. To be called behind each `release` on a board on which
+    /// sessions sleep. Reads one word if none does, else a word of each record. `list` has room for all sessions.
     pub fn rouse_sleepers(&self, ticket: &mut Ticket<O>, list: &mut [u32]) -> u16
         requires ours { IsOf self.now ticket.old }
         requires room { self.now.sessions ≤ length list.old }
-        ensures same { ticket.new ≡ ticket.old }
-        ensures told { (told : List ℕ) × AreWritten self.now.sessions 0 told list.old list.new result }
+        ensures looked { ticket.new ≡ record ticket.old { looks = false; ended = ticket.new.ended } }
+        ensures told { AreRoused self.now.sessions 0 ticket.old.ended ticket.new.ended list.old list.new result }
         ensures few { result ≤ self.now.sessions }
     {
-        rouse_steps::rouse_sleepers(&self.table.shared, &mut ticket.seat, self.sessions, list)
+        sleep_steps::rouse_sleepers(&self.table.shared, &mut ticket.seat, self.sessions, list)
     }
 }

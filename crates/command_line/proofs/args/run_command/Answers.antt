@@ -1,9 +1,9 @@
-use Rattle.std.proofs.Common.{ap₂, ◌∙◌}
-use Rattle.std.proofs.lemmas.Result.{IfOk-weaker}
-use Rattle.clap.specs.Simple.{with_rule}
 use Rattle.command_line.proofs.args.run_command.Goals as goal
 
 pub returns-clause-app : goal.returns-clause-app
 returns-clause-app c =
-    let tries = c.in_ok-arg.ensures.shape c.turns_arg.ensures.own ∙ ap₂ with_rule c.in_ok-run.ensures.app c.turns_arg.ensures.rule in
-    IfOk-weaker c.arg-2.result _ _ (λ command h. h.shape c.stream_arg.ensures.own ∙ ap₂ with_rule tries c.stream_arg.ensures.rule) c.arg-2.ensures
+    let tries = c.with_arg-run.ensures.app _ _ c.turns_arg.ensures.rule c.command_of-run.ensures.app in
+    c.with_arg.ensures.app _ _ c.stream_arg.ensures.rule tries
+
+pub returns-clause-own : goal.returns-clause-own
+returns-clause-own c = c.with_arg.ensures.own (c.with_arg-run.ensures.own c.command_of-run.ensures.own)

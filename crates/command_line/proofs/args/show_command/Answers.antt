@@ -1,11 +1,13 @@
-use Rattle.std.proofs.Common.{ap, ap₂, ◌∙◌}
+use Rattle.std.proofs.Common.{ap, ◌∙◌}
 use Rattle.std.proofs.lemmas.Result.{IfOk-weaker}
-use Rattle.clap.specs.Simple.{with_rule}
 use Rattle.command_line.specs.CommandLine.{with_forms}
 use Rattle.command_line.proofs.args.show_command.Goals as goal
 
 pub returns-clause-app : goal.returns-clause-app
 returns-clause-app c =
-    let forms = c.in_ok-made.ensures.app ∙ ap with_forms c.in_ok-show.ensures.app in
-    let waits = c.in_ok-made-2.ensures.shape c.flag_arg.ensures.own ∙ ap₂ with_rule forms c.flag_arg.ensures.rule in
-    IfOk-weaker c.arg-2.result _ _ (λ command h. h.shape c.flag_arg-2.ensures.own ∙ ap₂ with_rule waits c.flag_arg-2.ensures.rule) c.arg-2.ensures
+    let forms = IfOk-weaker c.with_forms-made.result _ _ (λ command h. h ∙ ap with_forms c.in_ok-show.ensures.app) c.with_forms-made.ensures.app in
+    let waits = c.with_arg-made.ensures.app _ _ c.flag_arg-waits.ensures.rule forms in
+    c.with_arg.ensures.app _ _ c.flag_arg-state.ensures.rule waits
+
+pub returns-clause-own : goal.returns-clause-own
+returns-clause-own c = c.with_arg.ensures.own (c.with_arg-made.ensures.own c.with_forms-made.ensures.own)

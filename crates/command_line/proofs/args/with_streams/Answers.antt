@@ -1,12 +1,13 @@
-use Rattle.std.proofs.Common.{ap, ap₂, ◌∙◌}
-use Rattle.std.proofs.lemmas.Result.{IfOk-weaker}
-use Rattle.clap.specs.Simple.{app_of, with_rule}
-use Rattle.command_line.specs.CommandLine.{with_flags}
+use Rattle.std.proofs.Common.{refl}
 use Rattle.command_line.proofs.args.with_streams.Goals as goal
 
 pub returns-clause-app : goal.returns-clause-app
 returns-clause-app c =
-    let file = c.in_ok-arg.ensures.shape c.file_arg.ensures.own ∙ ap (with_rule (app_of c.args.command)) c.file_arg.ensures.rule in
-    let sessions = c.in_ok-arg-2.ensures.shape c.sessions_arg.ensures.own ∙ ap₂ with_rule file c.sessions_arg.ensures.rule in
-    let output = c.in_ok-command.ensures.shape c.output_arg.ensures.own ∙ ap₂ with_rule sessions c.output_arg.ensures.rule in
-    IfOk-weaker c.with_flags.result _ _ (λ command h. h ∙ ap with_flags output) c.with_flags.ensures.app
+    let file = c.with_arg-command.ensures.app _ _ c.file_arg.ensures.rule refl in
+    let sessions = c.with_arg-command-2.ensures.app _ _ c.sessions_arg.ensures.rule file in
+    let output = c.with_arg-command-3.ensures.app _ _ c.output_arg.ensures.rule sessions in
+    let comments = c.with_arg-command-4.ensures.app _ _ c.comments_arg.ensures.rule output in
+    c.with_arg.ensures.app _ _ c.hints_arg.ensures.rule comments
+
+pub returns-clause-own : goal.returns-clause-own
+returns-clause-own c = c.with_arg.ensures.own (c.with_arg-command-4.ensures.own (c.with_arg-command-3.ensures.own (c.with_arg-command-2.ensures.own (c.with_arg-command.ensures.own c.requires.own))))

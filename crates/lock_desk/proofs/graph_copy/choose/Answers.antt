@@ -1,6 +1,5 @@
-use Rattle.std.proofs.Common.{◌≡◌, ◌+◌, ◌<◌, ◌≤◌, ℕ, Bool, List, [], ◌∷◌, length, sym, ap, ◌∙◌, refl, arith, subst}
+use Rattle.std.proofs.Common.{◌≡◌, ℕ, Bool, [], ◌∷◌, ap, ◌∙◌, refl, arith, subst}
 use Rattle.waits_for.specs.Pairs.{Pairs, pairs_of}
-use Rattle.waits_for.specs.Walks.{IsYoungestOnCircle}
 use Rattle.waits_for.proofs.Walks.{reaches-within}
 use Rattle.lock_desk.specs.inner.Noting.{cut, AreChosen}
 use Rattle.lock_desk.proofs.graph_copy.choose.Goals as goal

@@ -14,8 +14,8 @@ returns-clause-ok c = λ e.
       n.share,
       was,
       c.put.ensures.1,
-      subst (λ (places : List DeadlockNumbers). AreDeadlocksSeen c.deref_mut.result.now n.share places n.list n.count c.args.members.now.behind n.members n.member_count n.seen) at
-          (subst (λ (places : List MemberNumbers). AreDeadlocksSeen c.deref_mut.result.now n.share c.items-list.result.now n.list n.count places n.members n.member_count n.seen) members_at
+      subst (λ (places : List DeadlockNumbers). AreDeadlocksSeen c.args.most c.deref_mut.result.now n.share places n.list n.count c.args.members.now.behind n.members n.member_count n.seen) at
+          (subst (λ (places : List MemberNumbers). AreDeadlocksSeen c.args.most c.deref_mut.result.now n.share c.items-list.result.now n.list n.count places n.members n.member_count n.seen) members_at
           (c.told_in_office-status.ensures.ok e)),
     )
 

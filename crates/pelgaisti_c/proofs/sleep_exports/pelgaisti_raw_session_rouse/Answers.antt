@@ -3,7 +3,7 @@ use Rattle.library_sessions.specs.declared.session_share.SessionShare.{SessionSh
 use Rattle.pelgaisti_c.proofs.sleep_exports.pelgaisti_raw_session_rouse.Goals as goal
 
 pub returns-clause-ok : goal.returns-clause-ok
-returns-clause-ok c = λ e. let was : c.args.session.now.behind.held.share ≡ Some c.deref_mut.result.now = search rules in (c.deref_mut.result.now, was, c.rouse-status.ensures.ok e)
+returns-clause-ok c = λ e. let was : c.args.session.now.behind.held.share ≡ Some c.deref_mut.result.now = search rules in (c.deref_mut.result.now, c.rouse-status.new.share, was, c.put.ensures.1, c.rouse-status.ensures.ok e)
 
 pub returns-clause-room : goal.returns-clause-room
 returns-clause-room c = λ here.

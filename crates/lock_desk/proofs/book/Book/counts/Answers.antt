@@ -6,7 +6,6 @@ use Rattle.lock_rules.proofs.Steps.{state-lawful}
 use Rattle.lock_counts.proofs.Ends.{requests-within}
 use Rattle.lock_desk.specs.BookView.{BookView}
 use Rattle.lock_desk.specs.Counts.{counts_of}
-use Rattle.lock_desk.specs.declared.wait_counts.WaitCounts.{WaitCounts}
 use Rattle.lock_desk.specs.inner.Counting.{AreWaitsCounted}
 use Rattle.lock_desk.proofs.WaitersCounted.{waiting-counted}
 use Rattle.lock_desk.proofs.BookInvariant.{behind}

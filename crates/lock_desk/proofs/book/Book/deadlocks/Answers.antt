@@ -1,7 +1,6 @@
-use Rattle.std.proofs.Common.{List, sym, subst}
+use Rattle.std.proofs.Common.{sym, subst}
 use Rattle.lock_desk.specs.BookView.{BookView}
 use Rattle.lock_desk.specs.Deadlocks.{AreDeadlocksTold, deadlocks_in, newest}
-use Rattle.lock_desk.specs.declared.deadlock_log.Deadlock.{Deadlock}
 use Rattle.lock_desk.proofs.book.Book.deadlocks.Goals as goal
 
 pub returns : goal.returns

@@ -1,7 +1,6 @@
-use Rattle.std.proofs.Common.{◌≡◌, Some, None, ◌∙◌, ap, sym, length}
+use Rattle.std.proofs.Common.{◌∙◌, ap, sym, length}
 use Rattle.lock_rules.specs.State.{request_of}
 use Rattle.lock_rules.specs.Legal.{state_of}
-use Rattle.lock_rules.specs.Listing.{waiting_line}
 use Rattle.lock_rules.proofs.Steps.{state-lawful}
 use Rattle.lock_desk.specs.BookView.{BookView}
 use Rattle.lock_desk.specs.declared.lock_table.LockTable.{LockTable}

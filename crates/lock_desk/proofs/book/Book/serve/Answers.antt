@@ -3,7 +3,7 @@ use Rattle.lock_rules.specs.Step.{step}
 use Rattle.lock_rules.specs.Legal.{state_of}
 use Rattle.lock_desk.specs.BookView.{BookView}
 use Rattle.lock_desk.specs.declared.lock_table.LockTable.{LockTable}
-use Rattle.lock_desk.specs.inner.Runs.{AreKept}
+use Rattle.lock_desk.specs.inner.Served.{AreKept}
 use Rattle.lock_desk.specs.inner.Invariant.{IsKept}
 use Rattle.lock_desk.proofs.BookInvariant.{behind, kept-of, of-kept, kept-relisted, read_as, view-behind, waits_ended-alone, entry-view}
 use Rattle.lock_desk.specs.inner.Changes.{with_ended_count}
@@ -52,5 +52,5 @@ invariant_of-self-in-Err c =
     let e = c.serve_recorded.new.table in
     let f = c.deref_mut-in-Err.result.now in
     let done = c.in-Err.ensures in
-    subst (λ (t : LockTable). IsKept (record { sessions = c.self.inside.sessions; lock_table = record c.self.inside.lock_table { value = t }; history = c.serve_recorded.new.history; marks = c.self.inside.marks; notes = c.serve_recorded.new.notes })) (sym (c.restore_ended.ensures ∙ ap (λ (t : LockTable). with_ended_count c.clear_ended-waits_ended.result t) c.deref_mut-in-Err.ensures.value))
-    (of-kept _ k.some k.few (kept-relisted e _ c.serve_recorded.new.history.items refl done.kept) (done.lockers ∙ (ap (λ (t : LockTable). vec_len t.lockers) cleared ∙ k.lockers)) k.marked done.log done.told done.calls done.waits)
+    subst (λ (t : LockTable). IsKept (record { sessions = c.self.inside.sessions; lock_table = record c.self.inside.lock_table { value = t }; history = c.serve_recorded.new.history; notes = c.serve_recorded.new.notes })) (sym (c.restore_ended.ensures ∙ ap (λ (t : LockTable). with_ended_count c.clear_ended-waits_ended.result t) c.deref_mut-in-Err.ensures.value))
+    (of-kept _ k.some k.few (kept-relisted e _ c.serve_recorded.new.history.items refl done.kept) (done.lockers ∙ (ap (λ (t : LockTable). vec_len t.lockers) cleared ∙ k.lockers)) done.log done.told done.calls done.waits)

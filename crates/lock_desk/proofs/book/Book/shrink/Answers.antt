@@ -16,7 +16,7 @@ invariant_of-self c =
     of-kept _ k.some k.few
     (kept-same d c.shrink.new.self a.history.items c.shrink-2.new.self.items c.shrink-2.ensures.items (kept-of (read_as d a) k)
     (same-shown d c.shrink.new.self (state_of a.history.items) c.shrink.ensures.same k.shows) kept.whole kept.ready kept.lockers)
-    (kept.lockers ∙ k.lockers) k.marked (λ some. k.log some ∙ sym kept.lockers)
+    (kept.lockers ∙ k.lockers) (λ some. k.log some ∙ sym kept.lockers)
     (subst (λ (es : List Entry). AreDeadlocksTold (newest a.notes.log.most (deadlocks_in es)) a.notes.log.told) (sym c.shrink-2.ensures.items) k.told)
     (subst (λ (es : List Entry). AreCallsCounted es a.notes.counts) (sym c.shrink-2.ensures.items) k.calls)
     (subst (λ (es : List Entry). AreWaitsCounted es a.notes.log.counts) (sym c.shrink-2.ensures.items) k.waits)

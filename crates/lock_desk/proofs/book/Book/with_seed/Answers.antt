@@ -13,8 +13,7 @@ use Rattle.lock_desk.proofs.book.Book.with_seed.Goals as goal
 pub invariant_of-result : goal.invariant_of-result
 invariant_of-result c =
     let lock_table = c.in_ok-lock_table.ensures in
-    let marks = c.in_ok-marks.ensures in
-    let none = sym c.new-2.ensures.items in
+    let none = sym c.new.ensures.items in
     record {
       some = c.requires.some;
       few = c.requires.few;
@@ -25,11 +24,10 @@ invariant_of-result c =
       ready = lock_table.ready;
       lockers = lock_table.lockers;
       counted = subst (λ (es : List Entry). c.in_ok-lock_table.lock_table.value.count ≤ length es) none (omega (arith, lock_table.shows.count));
-      marked = marks.sessions;
       log = λ some. absurd (omega (arith, some, c.in_ok-log.ensures.most));
       told = subst (λ (es : List Entry). AreDeadlocksTold (newest c.in_ok-log.log.most (deadlocks_in es)) c.in_ok-log.log.told) none
           (subst (AreDeadlocksTold (newest c.in_ok-log.log.most [])) (sym c.in_ok-log.ensures.told) (subst (λ (n : ℕ). AreDeadlocksTold (newest n []) []) (sym c.in_ok-log.ensures.most) tt));
-      calls = subst (λ (es : List Entry). AreCallsCounted es c.new-3.result) none c.new-3.ensures;
+      calls = subst (λ (es : List Entry). AreCallsCounted es c.new-2.result) none c.new-2.ensures;
       waits = subst (λ (es : List Entry). AreWaitsCounted es c.in_ok-log.log.counts) none
           (subst (AreWaitsCounted []) (sym c.in_ok-log.ensures.counts) none-counted);
     }

@@ -1,4 +1,4 @@
-use Rattle.std.proofs.Common.{ap, rules, refl, arith}
+use Rattle.std.proofs.Common.{ap, rules, refl}
 use Rattle.std.specs.Vec.{with_item}
 use Rattle.lock_desk.specs.declared.lockers.Locker.{Locker}
 use Rattle.lock_desk.specs.declared.lock_table.LockTable.{LockTable}

@@ -1,6 +1,5 @@
 use Rattle.std.proofs.Common.{refl}
-use Rattle.lock_desk.proofs.Agreement.{keeps-on}
-use Rattle.lock_desk.proofs.RunItems.{same-on}
+use Rattle.lock_desk.proofs.Agreement.{keeps-on, same-on}
 use Rattle.lock_desk.proofs.lock_table.LockTable.shrink_lockers.Goals as goal
 
 pub loop-session-init : goal.loop-session-init

@@ -1,6 +1,6 @@
 use Rattle.std.proofs.Common.{rules, refl}
 use Rattle.publication.specs.Sleep.{Sleep, lain, having_told, having_seen}
-use Rattle.publication.proofs.AtRest.{same_either, none_still}
+use Rattle.publication.proofs.AtRest.{same_either, swept_still}
 use Rattle.publication.proofs.BetweenCalls.{slept-between}
 use Rattle.publication.proofs.board.Board.begin_sleep.Goals as goal
 
@@ -14,8 +14,8 @@ invariant_of-ticket g c =
     let told : Sleep = having_told (lain was) in record {
       small = search rules;
       settled = slept-between a.seat.me m a.number a.seen a.has_object a.is_pending a.is_listed a.is_retired t m.0.sleep
-          (none_still was m.0.sleep
-          (same_either c.begin_sleep.result was m.0.sleep (having_seen told) told e.held e.free record { looks = refl; sweeps = refl; owes = refl; woken = refl } record { looks = refl; sweeps = refl; owes = refl; woken = refl })
-          record { sweeps = t.sweeps; owes = t.owes })
+          (swept_still was m.0.sleep
+          (same_either c.begin_sleep.result was m.0.sleep (having_seen told) told e.held e.free record { looks = refl; sweeps = refl; ended = refl } record { looks = refl; sweeps = refl; ended = refl })
+          t.sweeps)
           e.step;
     }

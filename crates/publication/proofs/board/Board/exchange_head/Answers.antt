@@ -32,7 +32,6 @@ module _ {O C R : Type 0} where
         routed = t.routed;
         unknown = t.unknown;
         sweeps = t.sweeps;
-        owes = t.owes;
         carried = t.carried;
       }
 
@@ -58,7 +57,6 @@ module _ {O C R : Type 0} where
     routed = t.routed;
     unknown = t.unknown;
     sweeps = t.sweeps;
-    owes = t.owes;
     carried = t.carried;
   }
 

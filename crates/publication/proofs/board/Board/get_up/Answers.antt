@@ -1,5 +1,5 @@
-use Rattle.std.proofs.Common.{rules, sym, subst}
-use Rattle.publication.specs.Sleep.{HasNoDebts}
+use Rattle.std.proofs.Common.{rules, ◌≤◌, sym, subst}
+use Rattle.publication.specs.Sleep.{Sleep}
 use Rattle.publication.proofs.BetweenCalls.{slept-between}
 use Rattle.publication.proofs.board.Board.get_up.Goals as goal
 
@@ -11,6 +11,6 @@ invariant_of-ticket g c =
     let m = c.get_up.new.seat.me in record {
       small = search rules;
       settled = slept-between a.seat.me m a.number a.seen a.has_object a.is_pending a.is_listed a.is_retired t m.0.sleep
-          (subst HasNoDebts (sym e.sleep) record { sweeps = t.sweeps; owes = t.owes })
+          (subst (λ (z : Sleep). z.sweeps ≤ 1) (sym e.sleep) t.sweeps)
           e.step;
     }

@@ -33,7 +33,6 @@ invariant_of-ticket g c = let a = c.ticket.inside in let b = c.knowledge.inside 
             accounted = c.heed_seat.ensures.learned.accounted t.accounted;
             unknown = t.unknown;
             sweeps = t.sweeps;
-            owes = t.owes;
             carried = t.carried;
           };
     }

@@ -1,6 +1,6 @@
 use Rattle.std.proofs.Common.{rules, refl}
-use Rattle.publication.specs.Sleep.{Sleep, risen}
-use Rattle.publication.proofs.AtRest.{same_either, none_still}
+use Rattle.publication.specs.Sleep.{Sleep, having_asked, risen}
+use Rattle.publication.proofs.AtRest.{same_either, swept_still}
 use Rattle.publication.proofs.BetweenCalls.{slept-between}
 use Rattle.publication.proofs.board.Board.is_roused.Goals as goal
 
@@ -13,8 +13,8 @@ invariant_of-ticket g c =
     let was : Sleep = a.seat.me.0.sleep in record {
       small = search rules;
       settled = slept-between a.seat.me m a.number a.seen a.has_object a.is_pending a.is_listed a.is_retired t m.0.sleep
-          (none_still was m.0.sleep
-          (same_either c.is_roused.result was m.0.sleep (risen was) was e.up e.down record { looks = refl; sweeps = refl; owes = refl; woken = refl } record { looks = refl; sweeps = refl; owes = refl; woken = refl })
-          record { sweeps = t.sweeps; owes = t.owes })
+          (swept_still was m.0.sleep
+          (same_either c.is_roused.result was m.0.sleep (risen (having_asked was)) (having_asked was) e.up e.down record { looks = refl; sweeps = refl; ended = refl } record { looks = refl; sweeps = refl; ended = refl })
+          t.sweeps)
           e.step;
     }
