@@ -1,4 +1,5 @@
-use Rattle.std.proofs.Common.{◌∙◌, ℕ, Bool, sym, refl}
+use Rattle.std.proofs.Common.{◌≡◌, ◌∙◌, ℕ, Bool, false, subst, sym, refl}
+use Rattle.combining.specs.declared.office.perform.Performed.{Performed}
 use Rattle.lock_office.specs.SingleCalls.{CallAnswer as Answer, IsPerformed}
 use Rattle.lock_office.proofs.Sessions.{performed-reply, read-performed}
 use Rattle.lock_office.proofs.session.Session.perform.Goals as goal
@@ -25,3 +26,9 @@ returns-in-Answered-clause-answered g c = λ answer served starved is.
     } in
     read-performed (λ (a : Answer) (k : ℕ) (b : Bool). IsPerformed c.args.self.now c.perform_program.new.self c.args.call a.place a.reply k)
     read answer n served c.in-Answered.starved starved is done
+
+pub returns-in-Answered-clause-heard : goal.returns-in-Answered-clause-heard
+returns-in-Answered-clause-heard g c = λ answer served j unmet is some few.
+    let unstarved : c.in-Answered.starved ≡ false = cc is in
+    let whole = subst (λ (b : Bool). c.perform_program.result ≡ Performed.Answered c.in-Answered.found c.in-Answered.served b) unstarved c.in-Answered.is in
+    c.perform_program.ensures.heard c.in-Answered.found c.in-Answered.served j unmet whole some few
