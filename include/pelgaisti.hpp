@@ -276,8 +276,8 @@ public:
     // The newest `most` of the deadlocks that are kept, oldest first.
     std::vector<deadlock> deadlocks(size_t most = SIZE_MAX) {
         std::vector<deadlock> told;
-        static_cast<void>(tell_deadlocks(told, most, [&](auto *at, size_t room, auto *n, auto *members, size_t members_room, auto *all) {
-            return check(pelgaisti_book_deadlocks(&handle_, at, room, n, members, members_room, all)), true; }));
+        static_cast<void>(tell_deadlocks(told, most, [&](auto *at, size_t room, auto *n, auto *members, size_t members_room, auto *m) {
+            return check(pelgaisti_book_deadlocks(&handle_, at, room, n, members, members_room, m)), true; }));
         return told;
     }
     // How many locks the session holds; and a page of them, up to `most`: the first ones, those on resources behind `after`, or those behind the
@@ -409,8 +409,8 @@ public:
     // The newest `most` deadlocks, oldest first, of those that the office was told to keep.
     std::optional<seen<std::vector<deadlock>>> deadlocks(size_t most = SIZE_MAX) {
         seen<std::vector<deadlock>> made{{}, 0};
-        const bool is_told = tell_deadlocks(made.found, most, [&](auto *at, size_t room, auto *n, auto *members, size_t member_room, auto *all) {
-            return !elsewhere(pelgaisti_session_deadlocks(&handle_, at, room, n, members, member_room, all, &made.length)); });
+        const bool is_told = tell_deadlocks(made.found, most, [&](auto *at, size_t room, auto *n, auto *members, size_t members_room, auto *m) {
+            return !elsewhere(pelgaisti_session_deadlocks(&handle_, at, room, n, members, members_room, m, &made.length)); });
         return is_told ? std::optional(std::move(made)) : std::nullopt;
     }
     std::optional<seen<size_t>> locks_held(uint32_t whose) {
