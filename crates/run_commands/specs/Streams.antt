@@ -18,9 +18,9 @@ use Rattle.replay_commands.specs.Pieces.{IsFaultOfPiece}
 use Rattle.run_commands.specs.Runs.{HasWrittenFront, HasWrittenPart}
 use Rattle.run_commands.specs.Workers.{IsNewSession}
 
--- a session without what taking the history changes of it: the front of the history that it knows, and its pieces
+-- a session without what taking the history changes of it: the front of the history that it knows, its pieces, and the look that it has to make
 abbrev pub bare : TicketView → TicketView
-bare session = record session { front = []; pieces = [] }
+bare session = record session { front = []; pieces = []; looks = false }
 
 -- the history that begins with this front is legal, and the output, which held `old` before, grew by the text of its first
 -- `next` entries
