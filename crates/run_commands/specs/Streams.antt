@@ -1,5 +1,5 @@
 -- A run whose history is taken and written in pieces; cited by private contracts only.
-use Rattle.std.specs.Prelude.{◌≡◌, ◌⊎◌, ℕ, ◌+◌, ◌≤◌, List, [], length, take, drop, Option, All}
+use Rattle.std.specs.Prelude.{false, ◌≡◌, ◌⊎◌, ℕ, ◌+◌, ◌≤◌, List, [], length, take, drop, Option, All}
 use Rattle.std.specs.Io.KnownBytes.{Appends, Keeps}
 use Rattle.lock_rules.specs.Entries.{Entry}
 use Rattle.lock_rules.specs.Legal.{IsLegal}
