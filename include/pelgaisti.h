@@ -762,13 +762,13 @@ pelgaisti_status pelgaisti_office_open_keeping(pelgaisti_session *sessions, size
 
    Why no wake-up is lost. (1) A session whose last answer is WAITING, collected or not, has a waiting request, or an entry of the
    history behind that answer has ended its wait, which exactly one session has entered in a pass [proved: waits_or_ended of
-   lock_office::laws::ended_waits_are_listed, and publication::laws::each_place_is_entered_once]. (2) The call that made this pass lists exactly the sessions whose waits its
-   entries have ended, also if the wait began in the same pass, and also if memory was refused [proved: listed of the
-   same law, none_lost of lock_office::laws::no_wake_up_is_lost, and told of the exports]. (3) The call reads its list [proved: ok of
-   pelgaisti_raw_session_told] and calls the waker for each [tested, and that nothing of this takes memory]. (4) A semaphore counts, so
-   that a post before the thread sleeps wakes it as well [that is the system's]. (5) The next poll of a session that was told of, and
-   has made no call since its wait ended, replies CLEAR or DEADLOCK, whatever others call before it [proved: none_idle of
-   lock_office::laws::no_wake_up_is_lost]. */
+   lock_office::laws::ended_waits_are_listed, and publication::laws::each_place_is_entered_once]. (2) The call that made this
+   pass lists exactly the sessions whose waits its entries have ended, also if the wait began in the same pass, and also if
+   memory was refused [proved: listed of the same law, none_lost of lock_office::laws::no_wake_up_is_lost, and told of the
+   exports]. (3) The call reads its list [proved: ok of pelgaisti_raw_session_told] and calls the waker for each [tested, and
+   that nothing of this takes memory]. (4) A semaphore counts, so that a post before the thread sleeps wakes it as well [that
+   is the system's]. (5) The next poll of a session that was told of, and has made no call since its wait ended, replies CLEAR
+   or DEADLOCK, whatever others call before it [proved: none_idle of lock_office::laws::no_wake_up_is_lost]. */
 pelgaisti_status pelgaisti_office_open_waking(pelgaisti_session *sessions, size_t count, uint64_t bound,
                                               const pelgaisti_waker *waker);
 
