@@ -386,10 +386,8 @@ class Threads(Section):
         return self.rows(head, columns, cell, self.SHOWN)
 
     def short_tables(self, found):
-        columns, short = self.columns({load: "" for load in self.LOADS}), found.medians()
-        lines = self.shown("NORM, threads", columns, found, ("norm", 2))[1:]
-        del columns[str(self.THREADS[0])]
-        return lines + self.shown("99th of 100/processors, µs", columns, short, ("99th", 0), ("processor", 1))
+        columns = self.columns({load: "" for load in self.LOADS})
+        return self.shown("NORM, threads", columns, found, ("norm", 2))[1:]
 
 
 class Loads(Threads):
