@@ -221,8 +221,10 @@ class Growth(Section):
 class Waiting(Section):
     name, heading, needs = "waiting", "How threads wait for locks: `bench/waiting.c`", (LIBRARY,)
     how = "Processor time and calls are those of a transaction; the time to the grant is that of requests that wait."
-    # what bench/README.md has of the numbers
-    SHOWN = ("transactions", "processors", "99th")
+    short_how = "Transactions a second; µs of processors for one; the 99th of 100 µs to a grant."
+    WAYS = ("sleep", "poll", "yield")
+    # what bench/README.md has of the numbers, with the digits behind the point
+    SHOWN = {"transactions": 0, "processors": 1, "99th": 0}
     # threads, records, microseconds held; and the transactions of a thread by each way, which take half a second to two
     CASES = {
         ("64", "16", "20"): {"sleep": 1000, "poll": 500, "yield": 1000},
@@ -241,23 +243,26 @@ class Waiting(Section):
         numbers = re.findall(r"[\d.]+", output_of(words))
         return {name: float(numbers[at]) for name, at in self.NUMBERS.items()}
 
+    def named(self, case):
+        threads, records, held = case
+        return f"{threads}, {records}, " + (f"{held} µs" if held != "0" else "not held")
+
     def tables(self, found):
-        return self.rows_of(self.NUMBERS, found)
-
-    def short_tables(self, found):
-        return self.rows_of(self.SHOWN, found.medians())
-
-    def rows_of(self, names, found):
         told = {"transactions": "transactions a second", "processors": "µs of processors", "median": "median µs to the grant"}
         told["99th"] = "99th of 100, µs to the grant"
         digits = {"processors": 1, "calls": 1}
         rows = []
-        for threads, records, held in self.CASES:
-            for way in ("sleep", "poll", "yield"):
-                key = (threads, records, held), way
-                named = f"{threads}, {records}, " + (f"{held} µs" if held != "0" else "not held")
-                rows.append([named, way, *(found.text(key, name, digits.get(name, 0)) for name in names)])
-        return table(["threads, records, held", "way", *(told.get(name, name) for name in names)], rows)
+        for case in self.CASES:
+            for way in self.WAYS:
+                rows.append([self.named(case), way, *(found.text((case, way), name, digits.get(name, 0)) for name in self.NUMBERS)])
+        return table(["threads, records, held", "way", *(told.get(name, name) for name in self.NUMBERS)], rows)
+
+    def short_tables(self, found):
+        def cell(key):
+            return "; ".join(found.medians().text(key, name, digits) for name, digits in self.SHOWN.items())
+
+        rows = [[self.named(case), *(cell((case, way)) for way in self.WAYS)] for case in self.CASES]
+        return table(["threads, records, held", *self.WAYS], rows)
 
 
 def own(session, turn):
