@@ -226,7 +226,7 @@ static void by_books(worker *w) {
     if (asked.last.op == PELGAISTI_LOCK) w->book = asked.last.resource.numbers[2] * 0x9E3779B9u >> 7 & (BOOKS - 1);
     for (uint32_t k = 0; is_end(asked.start) && k < BOOKS; k++)
         if (w->books >> k & 1 && !(asked.last.op && k == w->book)) {
-            w->program = (pelgaisti_program){end, 1, 0, {0, 0, {0, {0}}}};
+            w->program = (pelgaisti_program){end, 0, 0, {0, 0, {0, {0}}}};
             run_behind(&books[k], w);
             w->books &= ~(1u << k);
         }
@@ -234,7 +234,7 @@ static void by_books(worker *w) {
     if (!asked.last.op) return;
     if (!(w->books >> w->book & 1)) {
         w->program.start = PELGAISTI_BEGINS;
-        w->program.from = 1;
+        w->program.level = 0;
         w->books |= 1u << w->book;
     }
     run_behind(&books[w->book], w);
@@ -272,7 +272,7 @@ static void by_calls(worker *w) {
     if (is_end(p->start)) *reply++ = call(w, p->start % 2 == 0 ? PELGAISTI_COMMIT : PELGAISTI_ABORT, NULL, 0);
     if (p->start == PELGAISTI_BEGINS || p->start >= PELGAISTI_COMMITS_AND_BEGINS) *reply++ = call(w, PELGAISTI_BEGIN, NULL, 0);
     if (p->last.op == PELGAISTI_POLL) *reply++ = call(w, PELGAISTI_POLL, NULL, 0);
-    for (uint32_t level = p->from; p->last.op == PELGAISTI_LOCK && level <= whole->level; level++) {
+    for (uint32_t level = p->level + 1; p->last.op == PELGAISTI_LOCK && level <= whole->level; level++) {
         pelgaisti_resource at = {level, {0}};
         memcpy(at.numbers, whole->numbers, level * sizeof *at.numbers);
         *reply = call(w, PELGAISTI_LOCK, &at, level < whole->level ? p->above : p->last.mode);
@@ -345,7 +345,7 @@ static void by_berkeley(worker *w) {
         if (environment->lock_vec(environment, w->locker, 0, &all, 1, NULL) || environment->lock_id_free(environment, w->locker))
             fail("Berkeley DB takes no lock back");
     if (p->start == PELGAISTI_BEGINS || p->start >= PELGAISTI_COMMITS_AND_BEGINS) failed = environment->lock_id(environment, &w->locker);
-    for (uint32_t level = p->from; p->last.op && !failed && level <= p->last.resource.level; level++) {
+    for (uint32_t level = p->level + 1; p->last.op && !failed && level <= p->last.resource.level; level++) {
         db_lockmode_t mode = modes[level < p->last.resource.level ? p->above : p->last.mode];
         object.size = 4 * level;
         failed = environment->lock_get(environment, w->locker, 0, &object, mode, &lock);
@@ -385,28 +385,28 @@ static int finish(worker *w) {
         if (w->answer.starved || !w->answer.served || reply.kind == PELGAISTI_REFUSED) fail("a program is refused");
         if (reply.kind != PELGAISTI_WAITING) return reply.kind != PELGAISTI_DEADLOCK;
         asked = w->program;
-        asked.from += w->answer.served - (asked.start == PELGAISTI_NOTHING ? 0 : asked.start < PELGAISTI_COMMITS_AND_BEGINS ? 1 : 2);
+        asked.level += w->answer.served - (asked.start == PELGAISTI_NOTHING ? 0 : asked.start < PELGAISTI_COMMITS_AND_BEGINS ? 1 : 2);
         asked.start = PELGAISTI_NOTHING;
         do {
             while (sem_wait(&woken[w->session]) != 0) continue;
-            w->program = (pelgaisti_program){PELGAISTI_NOTHING, 1, 0, {PELGAISTI_POLL, 0, {0, {0}}}};
+            w->program = (pelgaisti_program){PELGAISTI_NOTHING, 0, 0, {PELGAISTI_POLL, 0, {0, {0}}}};
             how->make(w);
             reply = w->answer.replies[0];
         } while (reply.kind == PELGAISTI_WAITING);
         if (reply.kind != PELGAISTI_CLEAR) return 0;
-        if (asked.from > asked.last.resource.level) return 1;
+        if (asked.level >= asked.last.resource.level) return 1;
         w->program = asked;
     }
 }
 
-/* Works, and locks a path of four levels in a mode, from a level on: from 1 in the program that begins the transaction. */
-static int lock(worker *w, uint32_t from, uint32_t mode, uint32_t file, uint32_t page, uint32_t record) {
+/* Works, and locks a path of four levels in a mode, so many of which are locked: none in the program that begins the transaction. */
+static int lock(worker *w, uint32_t level, uint32_t mode, uint32_t file, uint32_t page, uint32_t record) {
     static const uint32_t starts[] = {PELGAISTI_BEGINS, PELGAISTI_COMMITS_AND_BEGINS, PELGAISTI_ABORTS_AND_BEGINS};
     if (work_ns)
         for (uint64_t until = now(CLOCK_MONOTONIC) + work_ns; now(CLOCK_MONOTONIC) < until;) continue;
-    w->program = (pelgaisti_program){PELGAISTI_NOTHING, from, mode == PELGAISTI_S ? PELGAISTI_IS : PELGAISTI_IX,
+    w->program = (pelgaisti_program){PELGAISTI_NOTHING, level, mode == PELGAISTI_S ? PELGAISTI_IS : PELGAISTI_IX,
                                      {PELGAISTI_LOCK, mode, {4, {1, file, page, record}}}};
-    if (from == 1) w->program.start = starts[w->is_open];
+    if (level == 0) w->program.start = starts[w->is_open];
     w->is_open = 1;
     return finish(w);
 }
@@ -419,9 +419,9 @@ static uint32_t draw(worker *w, uint32_t below) {
 /* Each makes a transaction, which the next one commits. 0: it was a deadlock's victim, has undone what it did, and is to be made again. */
 
 static int transfer(worker *w, uint32_t from, uint32_t to) {
-    if (!lock(w, 1, PELGAISTI_X, 1, from / PAGE, from)) return 0;
+    if (!lock(w, 0, PELGAISTI_X, 1, from / PAGE, from)) return 0;
     accounts[from] -= 1;
-    if (!lock(w, to / PAGE == from / PAGE ? 4 : 3, PELGAISTI_X, 1, to / PAGE, to)) {
+    if (!lock(w, to / PAGE == from / PAGE ? 3 : 2, PELGAISTI_X, 1, to / PAGE, to)) {
         accounts[from] += 1;
         return 0;
     }
@@ -443,13 +443,13 @@ static int hot(worker *w) {
 
 static int reads(worker *w) {
     uint32_t page = draw(w, 16);
-    for (uint32_t k = 0; k < 4; k++) lock(w, k ? 4 : 1, PELGAISTI_S, 1, page, draw(w, 100));
+    for (uint32_t k = 0; k < 4; k++) lock(w, k ? 3 : 0, PELGAISTI_S, 1, page, draw(w, 100));
     return 1;
 }
 
 static int own(worker *w) {
     uint32_t page = draw(w, 64), record = draw(w, 1000);
-    for (uint32_t k = 0; k < 10; k++) lock(w, k ? 4 : 1, PELGAISTI_X, w->session, page, record + k);
+    for (uint32_t k = 0; k < 10; k++) lock(w, k ? 3 : 0, PELGAISTI_X, w->session, page, record + k);
     return 1;
 }
 
@@ -487,7 +487,7 @@ static void *work(void *argument) {
         atomic_store_explicit(&w->made, w->made + 1, memory_order_relaxed);
     }
     if (w->is_open) {
-        w->program = (pelgaisti_program){PELGAISTI_COMMITS, 1, 0, {0, 0, {0, {0}}}};
+        w->program = (pelgaisti_program){PELGAISTI_COMMITS, 0, 0, {0, 0, {0, {0}}}};
         how->make(w);
     }
     return NULL;

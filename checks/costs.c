@@ -229,7 +229,7 @@ static void request_between(void) {
 static void call_withdraw(void) { serve(CALLER, call_on(PELGAISTI_WITHDRAW, 0, 1), PELGAISTI_WITHDRAWN); }
 
 static void call_run(void) {
-    pelgaisti_program program = {PELGAISTI_COMMITS_AND_BEGINS, 1, PELGAISTI_IX, {PELGAISTI_LOCK, PELGAISTI_X, field}};
+    pelgaisti_program program = {PELGAISTI_COMMITS_AND_BEGINS, 0, PELGAISTI_IX, {PELGAISTI_LOCK, PELGAISTI_X, field}};
     pelgaisti_program_answer answer;
     size_t count;
     check(pelgaisti_book_run(&book, CALLER, &program, &answer, list, PELGAISTI_MAX_SESSIONS, &count));

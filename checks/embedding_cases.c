@@ -23,9 +23,9 @@
      1 stays                          goes on with the published call for no turn: it stays pending
      1 runs begins lock 7/2 X: 0 began 1, granted IX, granted X      makes the program in one turn, and gets these replies, the first at
                                       place 0. The start of a program is one of begins, commits, aborts, restarts, commits-begins and
-                                      aborts-begins, or there is none, and so it is with the last call. `.. from 2 above SIX` says from
-                                      which level on the path is locked, and in which mode above the resource; it is the whole path for a
-                                      lock or a try, and else the resource alone, in the least mode above
+                                      aborts-begins, or there is none, and so it is with the last call. `.. level 1 above SIX` says how
+                                      many levels are locked already, and in which mode the ancestors are locked; it is the whole path for
+                                      a lock or a try, and else the resource alone, in the least mode above
      1 posts begins lock 7/2 X        publishes the program
      1 finishes 0 began 1, granted IX, granted X      goes on with the published program for one turn, and gets these replies
      1 bounds 10 4 2                  serves from then on in the passes of whole calls and programs at most ten calls a round, none once
@@ -126,13 +126,13 @@ static pelgaisti_call call_of(char *text) {
     return call;
 }
 
-/* A program, as `commits-begins lock 7/2/5 X from 2 above IX`. */
+/* A program, as `commits-begins lock 7/2/5 X level 1 above IX`. */
 static pelgaisti_program program_of(char *text) {
     static const name starts[] = {{"begins", PELGAISTI_BEGINS}, {"commits", PELGAISTI_COMMITS}, {"aborts", PELGAISTI_ABORTS},
                                   {"restarts", PELGAISTI_RESTARTS}, {"commits-begins", PELGAISTI_COMMITS_AND_BEGINS},
                                   {"aborts-begins", PELGAISTI_ABORTS_AND_BEGINS}};
     pelgaisti_program program = {PELGAISTI_NOTHING, 0, 0, {0, 0, {0, {0}}}};
-    char *above = cut(text, " above "), *from = cut(text, " from "), *last = text;
+    char *above = cut(text, " above "), *level = cut(text, " level "), *last = text;
     const name *start;
     char word[LONGEST];
     strcpy(word, text);
@@ -142,8 +142,8 @@ static pelgaisti_program program_of(char *text) {
     else last = text;
     if (!*last) return program;
     program.last = call_of(last);
-    program.from = program.last.op == PELGAISTI_LOCK || program.last.op == PELGAISTI_TRY ? 1 : program.last.resource.level;
-    if (*from) program.from = (uint32_t)number_of(from);
+    program.level = program.last.op == PELGAISTI_LOCK || program.last.op == PELGAISTI_TRY ? 0 : program.last.resource.level - 1;
+    if (*level) program.level = (uint32_t)number_of(level);
     program.above = *above ? mode_of(above) : pelgaisti_parent_mode(program.last.mode);
     return program;
 }
@@ -177,7 +177,7 @@ static void ask_call(const session *own, const pelgaisti_call *call) {
     for (size_t k = 0; k < COUNT(starts); k++)
         if (call->op == starts[k][0]) program->start = starts[k][1];
     if (program->start == PELGAISTI_NOTHING) program->last = *call;
-    program->from = program->last.resource.level;
+    program->level = program->last.resource.level - 1;
 }
 
 /* Notes the reply to a call of the session at this place, where no other may be noted. */
@@ -338,7 +338,7 @@ static pelgaisti_program rest_of(pelgaisti_program program, uint32_t served) {
     uint32_t starts = program.start == PELGAISTI_NOTHING ? 0 : program.start >= PELGAISTI_COMMITS_AND_BEGINS && program.start != PELGAISTI_RESTARTS ? 2 : 1;
     if (served == 0) return program;
     program.start = served < starts ? PELGAISTI_BEGINS : PELGAISTI_NOTHING;
-    if (served > starts) program.from += served - starts;
+    if (served > starts) program.level += served - starts;
     return program;
 }
 

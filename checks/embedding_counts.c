@@ -282,7 +282,7 @@ static void count_several(void) {
     now = counts_of_book(&book);
     MUST(now.of.calls[PELGAISTI_LOCK] == 5 && now.of.granted_at_once == 5);
     /* commit, begin, and a path whose database is granted; the second session then waits for the page */
-    pelgaisti_program program = {PELGAISTI_COMMITS_AND_BEGINS, 1, PELGAISTI_IX, {PELGAISTI_LOCK, PELGAISTI_X, page}};
+    pelgaisti_program program = {PELGAISTI_COMMITS_AND_BEGINS, 0, PELGAISTI_IX, {PELGAISTI_LOCK, PELGAISTI_X, page}};
     MUST(pelgaisti_book_run(&book, 2, &program, &answer, list, 2, &count) == PELGAISTI_OK && answer.served == 5);
     now = counts_of_book(&book);
     MUST(now.of.calls[PELGAISTI_COMMIT] == 1 && now.of.calls[PELGAISTI_BEGIN] == 3 && now.of.calls[PELGAISTI_LOCK] == 8);

@@ -302,7 +302,7 @@ static void paths(void) {
 
 /* Runs a program of one lock on a new database, again if memory is refused: then nothing has changed. */
 static void run_lock(pelgaisti_book *book, uint32_t session, uint32_t number) {
-    pelgaisti_program program = {PELGAISTI_NOTHING, 1, PELGAISTI_NL, {PELGAISTI_LOCK, PELGAISTI_IX, {1, {number}}}};
+    pelgaisti_program program = {PELGAISTI_NOTHING, 0, PELGAISTI_NL, {PELGAISTI_LOCK, PELGAISTI_IX, {1, {number}}}};
     pelgaisti_program_answer answer = {77, 77, 77, 77, {{77, 88}}};
     uint32_t list[3] = {77, 77, 77};
     uint64_t length = length_of(book);
@@ -320,7 +320,7 @@ static void programs(void) {
     while (is_lacking(BOOK_OPEN, pelgaisti_book_open(&book, 3))) continue;
     for (uint32_t s = 1; s <= 3; s++) serve_surely(&book, s, begin, PELGAISTI_BEGAN);
     for (uint32_t round = 0; round < 24; round++) {
-        pelgaisti_program program = {PELGAISTI_COMMITS_AND_BEGINS, 1, PELGAISTI_IX, {PELGAISTI_LOCK, PELGAISTI_X, {5, {7, round, 1, 1, 1}}}};
+        pelgaisti_program program = {PELGAISTI_COMMITS_AND_BEGINS, 0, PELGAISTI_IX, {PELGAISTI_LOCK, PELGAISTI_X, {5, {7, round, 1, 1, 1}}}};
         uint32_t left = PELGAISTI_CALLS, told_of = 0;
         run_lock(&book, 3, 100 + round);
         serve_surely(&book, 1, call_of(PELGAISTI_LOCK, PELGAISTI_X, 8), PELGAISTI_GRANTED);
@@ -341,7 +341,7 @@ static void programs(void) {
             run_short += answer.starved;
             left -= answer.served;
             program.start = left == 6 ? PELGAISTI_BEGINS : PELGAISTI_NOTHING;
-            program.from = left < 6 ? 6 - left : 1;
+            program.level = left < 6 ? 5 - left : 0;
         }
         CHECK(told_of == 1);
         serve_surely(&book, 2, call_of(PELGAISTI_POLL, 0, 0), PELGAISTI_CLEAR);
@@ -699,7 +699,7 @@ static void session_programs(void) {
     while (is_lacking(OPEN_WAKING, pelgaisti_office_open_waking(sessions, CLERKS, UINT64_MAX, &waker))) continue;
     for (int k = 0; k < CLERKS; k++) perform_surely(&sessions[k], begin, PELGAISTI_BEGAN);
     for (uint32_t round = 0; round < 24; round++) {
-        pelgaisti_program program = {PELGAISTI_COMMITS_AND_BEGINS, 1, PELGAISTI_IX, {PELGAISTI_LOCK, PELGAISTI_X, {5, {7, round, 1, 1, 1}}}};
+        pelgaisti_program program = {PELGAISTI_COMMITS_AND_BEGINS, 0, PELGAISTI_IX, {PELGAISTI_LOCK, PELGAISTI_X, {5, {7, round, 1, 1, 1}}}};
         pelgaisti_call lock = call_of(PELGAISTI_LOCK, PELGAISTI_IX, 300 + round);
         uint32_t left = PELGAISTI_CALLS;
         memset(wakes, 0, sizeof wakes);
@@ -712,13 +712,13 @@ static void session_programs(void) {
             session_short += made.starved;
             left -= made.served;
             program.start = left == 6 ? PELGAISTI_BEGINS : PELGAISTI_NOTHING;
-            program.from = left < 6 ? 6 - left : 1;
+            program.level = left < 6 ? 5 - left : 0;
         }
         while (pelgaisti_session_perform(&sessions[2], NULL, 9, &answer) == PELGAISTI_NO_MEMORY) continue;
         CHECK(answer.reply.kind == PELGAISTI_GRANTED && wakes[2] == 1);
         /* a program of one call, to which memory may be refused: it is pending then */
         program.start = PELGAISTI_NOTHING;
-        program.from = 1;
+        program.level = 0;
         program.last = call_of(PELGAISTI_LOCK, PELGAISTI_IX, 500 + round);
         CHECK(run_whole(&sessions[2], &program).replies[0].kind == PELGAISTI_GRANTED);
         perform_surely(&sessions[1], call_of(PELGAISTI_POLL, 0, 0), PELGAISTI_CLEAR);

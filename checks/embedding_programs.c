@@ -38,7 +38,7 @@ static pelgaisti_call call_of(uint32_t op, uint32_t mode, uint32_t level, uint32
 static pelgaisti_program program_of(uint32_t start, pelgaisti_call last) {
     pelgaisti_program program;
     program.start = start;
-    program.from = last.resource.level;
+    program.level = last.resource.level - 1;
     program.above = PELGAISTI_NL;
     program.last = last;
     return program;
@@ -49,7 +49,7 @@ static pelgaisti_program start_of(uint32_t start) { return program_of(start, cal
 
 static pelgaisti_program path_of(uint32_t start, pelgaisti_call last) {
     pelgaisti_program program = program_of(start, last);
-    program.from = 1;
+    program.level = 0;
     program.above = pelgaisti_parent_mode(last.mode);
     return program;
 }
@@ -92,7 +92,7 @@ static void bad_programs(pelgaisti_session *session) {
     static const uint32_t off_starts[] = {7, 8, 255, 256, UINT32_MAX}, off_ops[] = {11, 256, UINT32_MAX};
     static const uint32_t ends[] = {PELGAISTI_BEGIN, PELGAISTI_COMMIT, PELGAISTI_ABORT, PELGAISTI_RESTART}, off_levels[] = {0, 6, 256, UINT32_MAX};
     static const uint32_t on_resources[] = {PELGAISTI_LOCK, PELGAISTI_CONVERT, PELGAISTI_TRY, PELGAISTI_RELEASE};
-    static const uint32_t off_path[] = {0, 3, 6, 258, UINT32_MAX}, off_modes[] = {2, 4, 8, 16, UINT32_MAX};
+    static const uint32_t off_path[] = {2, 3, 5, 256, UINT32_MAX}, off_modes[] = {2, 4, 8, 16, UINT32_MAX};
     pelgaisti_program program = program_of(PELGAISTI_BEGINS, call_of(11, 2, 6, 1, 2)), none = start_of(PELGAISTI_NOTHING);
     for (size_t k = 0; k < COUNT(off_starts); k++) {
         program.start = off_starts[k];
@@ -117,16 +117,16 @@ static void bad_programs(pelgaisti_session *session) {
         }
         for (size_t k = 0; n < 3 && k < COUNT(off_modes); k++) {
             program = program_of(PELGAISTI_BEGINS, call_of(on_resources[n], off_modes[k], 2, 1, 2));
-            program.from = 0;
+            program.level = 2;
             CHECK(is_unrun(session, &program, 9, PELGAISTI_NO_SUCH_MODE));
         }
         program = program_of(PELGAISTI_BEGINS, call_of(on_resources[n], PELGAISTI_X, 2, 1, 2));
         program.above = 2;
         for (size_t k = 0; k < COUNT(off_path); k++) {
-            program.from = off_path[k];
+            program.level = off_path[k];
             CHECK(is_unrun(session, &program, 9, PELGAISTI_NOT_ON_PATH));
         }
-        for (program.from = 1; program.from <= 2; program.from++)
+        for (program.level = 0; program.level < 2; program.level++)
             for (size_t k = 0; k < COUNT(off_modes); k++) {
                 program.above = off_modes[k];
                 CHECK(is_unrun(session, &program, 9, PELGAISTI_NO_SUCH_ABOVE));
@@ -282,7 +282,7 @@ static void programs_stop(int is_published) {
     made = run(&three[1], program_of(PELGAISTI_BEGINS, poll), 1, PELGAISTI_REFUSED);
     CHECK(made.replies[0].value == PELGAISTI_ALREADY_OPEN);
     program = program_of(PELGAISTI_NOTHING, call_of(PELGAISTI_LOCK, PELGAISTI_X, 4, 7, 3));
-    program.from = 3;
+    program.level = 2;
     program.above = PELGAISTI_IX;
     CHECK(run(&three[1], program, 1, PELGAISTI_REFUSED).replies[0].value == PELGAISTI_PARENT_NOT_HELD);
     /* sessions 1 and 2 wait crosswise: session 1 is the younger, and the victim */
@@ -340,8 +340,8 @@ static pelgaisti_program random_program(clerk *c) {
     if (draw(c, 8) == 0) last = draw(c, 2) ? poll : call_of(PELGAISTI_WITHDRAW, 0, 0, 0, 0);
     if (program.start && draw(c, 6) == 0) return program;
     program.last = last;
-    program.from = last.resource.level ? 1 + draw(c, last.resource.level) : 0;
-    if (draw(c, 2)) program.from = last.resource.level ? 1 : 0;
+    program.level = last.resource.level ? draw(c, last.resource.level) : 7;
+    if (draw(c, 2)) program.level = 0;
     program.above = draw(c, 4) ? pelgaisti_parent_mode(last.mode) : modes[draw(c, COUNT(modes))];
     return program;
 }

@@ -62,7 +62,7 @@ static pelgaisti_resource row_of(const worker *w, uint32_t row) {
 
 /* Commits, begins, and locks the first row. */
 static void begin(worker *w) {
-    pelgaisti_program program = {PELGAISTI_COMMITS_AND_BEGINS, 1, PELGAISTI_IX, {PELGAISTI_LOCK, PELGAISTI_X, {0, {0}}}};
+    pelgaisti_program program = {PELGAISTI_COMMITS_AND_BEGINS, 0, PELGAISTI_IX, {PELGAISTI_LOCK, PELGAISTI_X, {0, {0}}}};
     pelgaisti_program_answer answer;
     program.last.resource = row_of(w, 0);
     expect(w, pelgaisti_session_run(w->session, &program, UINT64_MAX, &answer) == PELGAISTI_OK && answer.stop == 0);

@@ -1449,7 +1449,7 @@ static void paths_tell(void) {
 static pelgaisti_program program_of(uint32_t start, pelgaisti_call last) {
     pelgaisti_program program;
     program.start = start;
-    program.from = last.resource.level;
+    program.level = last.resource.level - 1;
     program.above = PELGAISTI_NL;
     program.last = last;
     return program;
@@ -1509,17 +1509,17 @@ static void programs_refuse(void) {
         }
         for (size_t k = 0; n < 3 && k < COUNT(off_modes); k++) {
             program = program_of(PELGAISTI_BEGINS, call_of(on_resources[n], off_modes[k], 2, 1, 2));
-            program.from = 0;
+            program.level = 2;
             CHECK(is_unrun(&book, 1, program, 3, PELGAISTI_NO_SUCH_MODE));
         }
         program = program_of(PELGAISTI_BEGINS, call_of(on_resources[n], PELGAISTI_X, 2, 1, 2));
         program.above = 2;
-        static const uint32_t off_path[] = {0, 3, 6, 258, UINT32_MAX};
+        static const uint32_t off_path[] = {2, 3, 5, 256, UINT32_MAX};
         for (size_t k = 0; k < COUNT(off_path); k++) {
-            program.from = off_path[k];
+            program.level = off_path[k];
             CHECK(is_unrun(&book, 1, program, 3, PELGAISTI_NOT_ON_PATH));
         }
-        for (program.from = 1; program.from <= 2; program.from++)
+        for (program.level = 0; program.level < 2; program.level++)
             for (size_t k = 0; k < COUNT(off_modes); k++) {
                 program.above = off_modes[k];
                 CHECK(is_unrun(&book, 1, program, 3, PELGAISTI_NO_SUCH_ABOVE));
@@ -1567,7 +1567,7 @@ static void programs_are_run(void) {
     CHECK(run(&book, 1, program_of(PELGAISTI_RESTARTS, write_7), 2, PELGAISTI_GRANTED).replies[0].kind == PELGAISTI_RESTARTED);
     CHECK(run(&book, 1, program_of(PELGAISTI_RESTARTS, none), 1, PELGAISTI_RESTARTED).replies[0].value == 1);
     /* seven calls: a commit, a begin and a path of five */
-    longest.from = 1;
+    longest.level = 0;
     longest.above = PELGAISTI_IX;
     answer = run(&book, 1, longest, PELGAISTI_CALLS, PELGAISTI_GRANTED);
     CHECK(answer.replies[0].kind == PELGAISTI_COMMITTED && answer.replies[1].kind == PELGAISTI_BEGAN && answer.replies[1].value == 5);
@@ -1580,12 +1580,12 @@ static void programs_are_run(void) {
     CHECK(pelgaisti_book_held(&book, 1, &longest.last.resource, &mode) == PELGAISTI_OK && mode == PELGAISTI_X);
     /* the rest of a path, and each other last call */
     longest.start = PELGAISTI_NOTHING;
-    longest.from = 4;
+    longest.level = 3;
     longest.last.op = PELGAISTI_TRY;
     longest.last.resource.numbers[4] = 9;
     run(&book, 1, longest, 2, PELGAISTI_GRANTED);
     longest.last.op = PELGAISTI_CONVERT;
-    longest.from = 5;
+    longest.level = 4;
     run(&book, 1, longest, 1, PELGAISTI_GRANTED);
     longest.last.op = PELGAISTI_RELEASE;
     run(&book, 1, longest, 1, PELGAISTI_RELEASED);
@@ -1594,7 +1594,7 @@ static void programs_are_run(void) {
           PELGAISTI_NOT_WAITING);
     /* it waits at its second call, and makes no further one */
     longest = program_of(PELGAISTI_BEGINS, call_of(PELGAISTI_LOCK, PELGAISTI_S, 2, 7, 1));
-    longest.from = 1;
+    longest.level = 0;
     longest.above = PELGAISTI_SIX;
     run(&book, 2, longest, 2, PELGAISTI_WAITING);
     run(&book, 2, program_of(PELGAISTI_NOTHING, poll), 1, PELGAISTI_WAITING);

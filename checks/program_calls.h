@@ -17,7 +17,7 @@ static size_t calls_of(const pelgaisti_program *program, pelgaisti_call calls[PE
     memset(calls, 0, PELGAISTI_CALLS * sizeof *calls);
     for (size_t k = 0; k < 2; k++)
         if (starts[program->start][k]) calls[count++].op = starts[program->start][k];
-    for (uint32_t level = program->from; 0 < level && level < on->level; level++, count++) {
+    for (uint32_t level = program->level + 1; 0 < level && level < on->level; level++, count++) {
         calls[count].op = PELGAISTI_LOCK;
         calls[count].mode = program->above;
         calls[count].resource.level = level;

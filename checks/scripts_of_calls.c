@@ -688,7 +688,7 @@ static pelgaisti_program random_program(void) {
     pelgaisti_program program = {draw(7), 0, 0, {0, 0, {0, {0}}}};
     int has_resource = has_mode(op) || op == PELGAISTI_RELEASE;
     program.last = entry_of(0, op, has_mode(op) ? drawn[draw(6)] : 0, path(has_resource ? level : 0, 1 + draw(2), 1 + draw(2)), 0, 0).call;
-    if (has_resource) program.from = 1 + draw(level);
+    if (has_resource) program.level = draw(level);
     program.above = draw(4) ? pelgaisti_parent_mode(program.last.mode) : PELGAISTI_IS;
     return program;
 }

@@ -124,8 +124,8 @@ static pelgaisti_program_answer run(worker *w, const pelgaisti_program *program)
    became a victim, or if a request wasn't granted within the limit. */
 static int lock_record(worker *w, uint32_t start, uint32_t table, uint32_t record, unsigned limit) {
     static const uint32_t calls_of_start[] = {0, 1, 1, 1, 2, 2};
-    pelgaisti_program program = {start, 1, PELGAISTI_IX, {PELGAISTI_LOCK, PELGAISTI_X, record_of(table, record)}};
-    while (program.from <= program.last.resource.level) {
+    pelgaisti_program program = {start, 0, PELGAISTI_IX, {PELGAISTI_LOCK, PELGAISTI_X, record_of(table, record)}};
+    while (program.level < program.last.resource.level) {
         pelgaisti_program_answer answer = run(w, &program);
         pelgaisti_reply reply = answer.replies[answer.served - 1];
         w->waits += reply.kind == PELGAISTI_WAITING;
@@ -134,7 +134,7 @@ static int lock_record(worker *w, uint32_t start, uint32_t table, uint32_t recor
         if (reply.kind == PELGAISTI_DEADLOCK || reply.kind == PELGAISTI_WITHDRAWN) return 0;
         if (reply.kind == PELGAISTI_REFUSED) stop("lock was refused", pelgaisti_refusal_name(reply.value));
         /* the level at which it has waited is locked, too */
-        program.from += answer.served - calls_of_start[program.start];
+        program.level += answer.served - calls_of_start[program.start];
         program.start = PELGAISTI_NOTHING;
     }
     return 1;

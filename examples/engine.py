@@ -58,9 +58,9 @@ class Answer(Structure):
 
 
 class Program(Structure):
-    """What `start` says, then locks in the mode `above` from a level of the last call's resource on, counted from 1, and the last call."""
+    """What `start` says, then locks in the mode `above` below the first `level` levels of the last call's path, and the last call."""
 
-    _fields_ = [("start", c_uint32), ("from_", c_uint32), ("above", c_uint32), ("last", Call)]
+    _fields_ = [("start", c_uint32), ("level", c_uint32), ("above", c_uint32), ("last", Call)]
 
 
 class ProgramAnswer(Structure):
@@ -142,7 +142,7 @@ class Worker:
         last = Call(N["LOCK"], N["X"], Resource(2, (c_uint32 * 5)(1, account)))
         level = 0  # how many levels of the path are locked
         while level < last.resource.level:
-            program, answer = Program(N[start], level + 1, N["IX"], last), ProgramAnswer()
+            program, answer = Program(N[start], level, N["IX"], last), ProgramAnswer()
             expect(run(self.handle, byref(program), NO_LIMIT, byref(answer)), "run")
             kind = self.sleep() if answer.stop == N["WAITING"] else answer.stop
             if kind == N["DEADLOCK"]:

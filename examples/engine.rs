@@ -64,11 +64,11 @@ struct Answer {
     reply: Reply,
 }
 
-/// What `start` says, then locks in the mode `above` from a level of the last call's resource on, and the last call.
+/// What `start` says, then locks in the mode `above` below the first `level` levels of the path, and the last call.
 #[repr(C)]
 struct Program {
     start: u32,
-    from: u32,
+    level: u32,
     above: u32,
     last: Call,
 }
@@ -226,8 +226,8 @@ impl Worker<'_> {
         let mut last = Call { op: LOCK, mode: X, ..Call::default() };
         last.resource.level = 3;
         last.resource.numbers[..3].copy_from_slice(&[1, table as u32, record as u32]);
-        let mut program = Program { start, from: 1, above: IX, last };
-        while program.from <= last.resource.level {
+        let mut program = Program { start, level: 0, above: IX, last };
+        while program.level < last.resource.level {
             let mut answer = ProgramAnswer::default();
             assert_eq!(pelgaisti_session_run(self.session, &program, u64::MAX, &mut answer), OK);
             let mut kind = answer.stop;
@@ -240,7 +240,7 @@ impl Worker<'_> {
                 return false;
             }
             // the level at which it has waited is locked, too
-            program.from += answer.served - u32::from(program.start == BEGINS);
+            program.level += answer.served - u32::from(program.start == BEGINS);
             program.start = NOTHING;
         }
         true

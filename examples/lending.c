@@ -72,8 +72,8 @@ static uint32_t ask(unsigned lent, uint32_t op) {
 /* Does what `start` says, and locks an account exclusively, under an intention lock on database 1, by one program. Sleeps while it waits,
    and then goes on with the rest. Returns 0 if it became a victim. */
 static int lock_account(unsigned lent, uint32_t start, uint32_t account) {
-    pelgaisti_program program = {start, 1, PELGAISTI_IX, {PELGAISTI_LOCK, PELGAISTI_X, {2, {1, account}}}};
-    while (program.from <= program.last.resource.level) {
+    pelgaisti_program program = {start, 0, PELGAISTI_IX, {PELGAISTI_LOCK, PELGAISTI_X, {2, {1, account}}}};
+    while (program.level < program.last.resource.level) {
         pelgaisti_program_answer answer;
         pelgaisti_status status = pelgaisti_session_run(&sessions[lent], &program, UINT64_MAX, &answer);
         must(status == PELGAISTI_OK && !answer.starved, "run", pelgaisti_status_name(status));
@@ -85,7 +85,7 @@ static int lock_account(unsigned lent, uint32_t start, uint32_t account) {
         }
         if (last.kind == PELGAISTI_DEADLOCK) return 0;
         must(last.kind != PELGAISTI_REFUSED, "lock", pelgaisti_refusal_name(last.value));
-        program.from += answer.served - (program.start == PELGAISTI_BEGINS); /* the level at which it has waited is locked, too */
+        program.level += answer.served - (program.start == PELGAISTI_BEGINS); /* the level at which it has waited is locked, too */
         program.start = PELGAISTI_NOTHING;
     }
     return 1;

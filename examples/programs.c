@@ -45,9 +45,9 @@ static uint32_t run(uint32_t session, const pelgaisti_program *program) {
     return last.kind;
 }
 
-/* Locks an account exclusively, behind what `start` says, and from this level of the path of database and account on. */
-static void lock_account(uint32_t session, uint32_t start, uint32_t from, uint32_t account) {
-    const pelgaisti_program program = {start, from, PELGAISTI_IX, {PELGAISTI_LOCK, PELGAISTI_X, {2, {1, account}}}};
+/* Locks an account exclusively, behind what `start` says, of whose path so many levels are locked already. */
+static void lock_account(uint32_t session, uint32_t start, uint32_t level, uint32_t account) {
+    const pelgaisti_program program = {start, level, PELGAISTI_IX, {PELGAISTI_LOCK, PELGAISTI_X, {2, {1, account}}}};
     uint32_t kind = run(session, &program);
     must(kind == PELGAISTI_GRANTED || kind == PELGAISTI_CLEAR, "lock", pelgaisti_reply_name(kind));
 }
@@ -60,8 +60,8 @@ static void *work(void *own) {
     for (unsigned k = 0; k < transfers; k++) {
         uint32_t from = (k * 5 + session) % ACCOUNTS, to = (from + 1 + k % (ACCOUNTS - 1)) % ACCOUNTS;
         /* the begin and the lock of the database are granted at once: nobody holds more than IX there */
-        lock_account(session, start, 1, from < to ? from : to);
-        lock_account(session, PELGAISTI_NOTHING, 2, from < to ? to : from);
+        lock_account(session, start, 0, from < to ? from : to);
+        lock_account(session, PELGAISTI_NOTHING, 1, from < to ? to : from);
         accounts[from]--;
         accounts[to]++;
         start = PELGAISTI_COMMITS_AND_BEGINS;

@@ -168,7 +168,7 @@ static void come_back(void *argument) {
 /* Is lost with what it has written, and the program that commits it, begins the next transaction and locks the account again: it has
    published it, and heard of none of its calls. */
 static void get_lost_paying(client *it) {
-    const pelgaisti_program next = {PELGAISTI_COMMITS_AND_BEGINS, 1, PELGAISTI_IX, {PELGAISTI_LOCK, PELGAISTI_X, {2, {1, 0}}}};
+    const pelgaisti_program next = {PELGAISTI_COMMITS_AND_BEGINS, 0, PELGAISTI_IX, {PELGAISTI_LOCK, PELGAISTI_X, {2, {1, 0}}}};
     pelgaisti_program_answer answer;
     must(lock_account(it, 0), "lock", "nobody has it yet");
     add(it, 0, 20);

@@ -131,7 +131,7 @@ typedef enum pelgaisti_status {
     PELGAISTI_LET_GO = 19,         /* the entry at this place of the history was let go [let_go, exactly then] */
     PELGAISTI_NO_ROOM = 20,        /* the array has room for fewer sessions than the office, or the book, has [room, exactly then] */
     PELGAISTI_NO_SUCH_START = 21,  /* the program's `start` is not a pelgaisti_start [program] */
-    PELGAISTI_NOT_ON_PATH = 22,    /* the program's `from` is not in 1 to the level of its last call's resource [program] */
+    PELGAISTI_NOT_ON_PATH = 22,    /* the program's `level` isn't less than that of its last call's resource [program] */
     PELGAISTI_NO_SUCH_ABOVE = 23,  /* the program's `above` is not a pelgaisti_mode [program] */
     PELGAISTI_SERVED = 24          /* calls were served already [called, exactly then] */
 } pelgaisti_status;
@@ -317,13 +317,14 @@ typedef struct pelgaisti_pass {
 } pelgaisti_pass;
 
 /* A program: several calls of a session that are made as one. It does what `start` says, then locks the ancestors of the last call's
-   resource in the mode `above`, from the level `from` on, each by a LOCK of its own, and then makes the last call. The last call's op is
-   LOCK, CONVERT, TRY or RELEASE, which are on a resource; POLL or WITHDRAW, with which `from` and `above` are not read; or 0 for no call
-   but what `start` says. With the resource's own level for `from` no ancestor is locked, so that each single call is a program, too.
+   resource in the mode `above`, each by a LOCK of its own, and then makes the last call. `level` levels of the path are locked already,
+   0 at first, and aren't locked again. The last call's op is LOCK, CONVERT, TRY or RELEASE, which are on a resource; POLL or WITHDRAW,
+   with which `level` and `above` are not read; or 0 for no call but what `start` says. With a `level` of 1 less than the resource's no
+   ancestor is locked, so that each single call is a program, too.
    PELGAISTI_CALLS are the most: a commit, a begin, and a path of PELGAISTI_LEVELS. */
 typedef struct pelgaisti_program {
     uint32_t start; /* a pelgaisti_start */
-    uint32_t from;  /* 1 to the level of the resource */
+    uint32_t level; /* less than the resource's */
     uint32_t above; /* a pelgaisti_mode, such as pelgaisti_parent_mode of the last call's */
     pelgaisti_call last;
 } pelgaisti_program;

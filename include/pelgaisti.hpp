@@ -144,12 +144,12 @@ struct program : pelgaisti_program {
     // What `first` says, and no other call.
     explicit program(pelgaisti::start first) : pelgaisti_program{static_cast<uint32_t>(first), 0, 0, {}} {}
     // One call behind it, which doesn't begin, end or restart a transaction, as `first` does: else run fails with NO_SUCH_OP.
-    program(pelgaisti::start first, const call &one) : pelgaisti_program{static_cast<uint32_t>(first), one.resource.level, 0, one} {}
+    program(pelgaisti::start first, const call &one) : pelgaisti_program{static_cast<uint32_t>(first), one.resource.level - 1, 0, one} {}
     // A path of which `level` levels are locked already: the other ancestors of the resource in the mode that `in` needs of a parent, and
     // the resource in `in`. If all are, run fails with NOT_ON_PATH.
     static program locks(pelgaisti::start first, const resource &on, mode in, uint32_t level = 0) {
         program made(first, {op::lock, in, on});
-        made.from = level < on.level ? level + 1 : on.level + 1;
+        made.level = level;
         made.above = pelgaisti_parent_mode(static_cast<uint32_t>(in));
         return made;
     }

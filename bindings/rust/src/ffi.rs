@@ -163,7 +163,7 @@ pub(crate) struct RawAnswer {
 #[derive(Clone, Copy, Default)]
 pub(crate) struct RawProgram {
     pub(crate) start: u32,
-    pub(crate) from: u32,
+    pub(crate) level: u32,
     pub(crate) above: u32,
     pub(crate) last: RawCall,
 }

@@ -80,7 +80,7 @@ impl Program {
         Program {
             raw: RawProgram {
                 start: first.number(),
-                from: last.resource.level,
+                level: last.resource.level.saturating_sub(1),
                 above: 0,
                 last,
             },
@@ -107,10 +107,10 @@ impl Program {
     ///     assert!(of(0, Call::Try(record, Mode::X)) && !of(4, Call::Try(record, Mode::X)) && !of(0, Call::Poll));
     pub fn path(first: Start, level: usize, above: Mode, last: &Call) -> Option<Program> {
         let mut program = Program::behind(first, last.raw());
-        if level >= program.raw.from as usize {
+        if level >= program.raw.last.resource.level as usize {
             return None;
         }
-        program.raw.from = level_code(level) + 1;
+        program.raw.level = level_code(level);
         program.raw.above = above.code();
         Some(program)
     }

@@ -41,20 +41,20 @@ last_fault n fault s some h = record {
   op = λ e. (some, inl (h.op e));
   level = h.level;
   mode = h.mode;
-  from = λ e. absurd (omega (arith, e, h.known.1));
+  path = λ e. absurd (omega (arith, e, h.known.1));
   above = λ e. absurd (omega (arith, e, h.known.1));
 }
 
 -- the path's numbers encode none
 pub path_fault : (n : ProgramNumbers) (r : List ℕ) (fault : ℕ) → IsStart n.start → LeadsTo n r
-    → ((fault ≡ NOT_ON_PATH) × ¬ (IsOnPath n.from r)) ⊎ ((fault ≡ NO_SUCH_ABOVE) × IsOnPath n.from r × ¬ (IsModeCode n.above)) → IsProgramFault n fault
+    → ((fault ≡ NOT_ON_PATH) × ¬ (IsOnPath n.level r)) ⊎ ((fault ≡ NO_SUCH_ABOVE) × IsOnPath n.level r × ¬ (IsModeCode n.above)) → IsProgramFault n fault
 path_fault n r fault s to (inl h) = record {
   known = inr (omega (arith, h.0), omega (arith, h.0));
   start = (λ e. absurd (omega (arith, e, h.0)), λ _. s);
   op = λ e. absurd (omega (arith, e, h.0));
   level = λ e. absurd (omega (arith, e, h.0));
   mode = λ e. absurd (omega (arith, e, h.0));
-  from = λ e. (r, to, h.1);
+  path = λ e. (r, to, h.1);
   above = λ e. absurd (omega (arith, e, h.0));
 }
 path_fault n r fault s to (inr h) = record {
@@ -63,7 +63,7 @@ path_fault n r fault s to (inr h) = record {
   op = λ e. absurd (omega (arith, e, h.0));
   level = λ e. absurd (omega (arith, e, h.0));
   mode = λ e. absurd (omega (arith, e, h.0));
-  from = λ e. absurd (omega (arith, e, h.0));
+  path = λ e. absurd (omega (arith, e, h.0));
   above = λ e. (r, to, h.1, h.2);
 }
 

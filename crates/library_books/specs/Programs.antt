@@ -1,5 +1,5 @@
 -- Programs of calls and their answers as the numbers of C's structs, and the outcome of a program on a book.
-use Rattle.std.specs.Prelude.{◌≡◌, ◌≢◌, ℕ, ◌+◌, ◌-◌, ◌≤◌, ◌⊎◌, if◌then◌else◌, List, [], ◌∷◌, ◌++◌, length, replicate}
+use Rattle.std.specs.Prelude.{◌≡◌, ◌≢◌, ℕ, ◌+◌, ◌-◌, ◌<◌, ◌≤◌, ◌⊎◌, if◌then◌else◌, List, [], ◌∷◌, ◌++◌, length, replicate}
 use Rattle.lock_modes.specs.declared.Mode.{Mode}
 use Rattle.lock_modes.specs.Codes.{code_of}
 use Rattle.lock_rules.specs.declared.calls.Call.{Call}
@@ -45,13 +45,13 @@ number_of_start Restarts = 6
 abbrev pub IsStart : ℕ → Type 0
 IsStart number = (s : Start) × (number ≡ number_of_start s)
 
--- the level is one of those on the path to resource r
+-- behind so many levels of the path to resource r another one follows
 abbrev pub IsOnPath : ℕ → List ℕ → Type 0
-IsOnPath level r = (1 ≤ level) × (level ≤ length r)
+IsOnPath level r = level < length r
 
--- the calls of the path to resource r, of which the numbers give the first level and the mode above the resource
+-- the calls of the path to resource r, of which the numbers say how many levels are locked already, and the mode above the resource
 abbrev pub IsPathTo : ProgramNumbers → List ℕ → Last → List Call → Type 0
-IsPathTo n r last path = IsOnPath n.from r × ((above : Mode) × (n.above ≡ code_of above) × (path ≡ path_calls r above last n.from (length r + 1 - n.from)))
+IsPathTo n r last path = IsOnPath n.level r × ((above : Mode) × (n.above ≡ code_of above) × (path ≡ path_calls r above last (n.level + 1) (length r - n.level)))
 
 -- the calls of the path that has this call at its end: the numbers of the path are read if the call has a resource. A call that begins,
 -- ends or restarts a transaction is at the end of none
@@ -94,8 +94,8 @@ pub record IsProgramFault (n : ProgramNumbers) (fault : ℕ) : Type 0 where
   pub op : fault ≡ NO_SUCH_OP → (n.last.op ≢ NO_CALL) × (¬ (IsOp n.last.op) ⊎ IsOneOf ops_of_start n.last.op)
   pub level : fault ≡ NO_SUCH_LEVEL → IsOneOf ops_with_resource n.last.op × ¬ (IsLevel n.last.resource.level)
   pub mode : fault ≡ NO_SUCH_MODE → IsOneOf ops_with_mode n.last.op × IsLevel n.last.resource.level × ¬ (IsModeCode n.last.mode)
-  pub from : fault ≡ NOT_ON_PATH → (r : List ℕ) × LeadsTo n r × ¬ (IsOnPath n.from r)
-  pub above : fault ≡ NO_SUCH_ABOVE → (r : List ℕ) × LeadsTo n r × IsOnPath n.from r × ¬ (IsModeCode n.above)
+  pub path : fault ≡ NOT_ON_PATH → (r : List ℕ) × LeadsTo n r × ¬ (IsOnPath n.level r)
+  pub above : fault ≡ NO_SUCH_ABOVE → (r : List ℕ) × LeadsTo n r × IsOnPath n.level r × ¬ (IsModeCode n.above)
 
 -- the kind of a reply at which a program stops, otherwise 0
 abbrev pub stop_number : Reply → ℕ

@@ -23,13 +23,13 @@ pub const NO_CALL: u32 = 0;
 /// What stands in an answer where there is no reply.
 const NO_REPLY: ReplyNumbers = ReplyNumbers { kind: 0, value: 0 };
 
-/// A program: what `start` says, then a lock in the mode `above` on each ancestor of the last call's resource, from the level `from`
-/// on, and then the last call. `from` and `above` matter only if the last call has a resource.
+/// A program: what `start` says, then a lock in the mode `above` on each ancestor of the last call's resource below the first `level`,
+/// which are locked already, and then the last call. `level` and `above` matter only if the last call has a resource.
 #[repr(C)]
 #[derive(Clone, Copy)]
 pub struct ProgramNumbers {
     pub start: u32,
-    pub from: u32,
+    pub level: u32,
     pub above: u32,
     pub last: CallNumbers,
 }
@@ -73,16 +73,16 @@ fn read_path(
     last: Last,
 ) -> Result<Program, u32>
     ensures ok { IfOk result (λ program. (path : List CallValue) × IsPathTo asked.now resource.now last path × (calls_of program ≡ start_calls start ++ path)) }
-    ensures err { IfErr result (λ fault. ((fault ≡ NOT_ON_PATH) × ¬ (IsOnPath asked.now.from resource.now))
-        ⊎ ((fault ≡ NO_SUCH_ABOVE) × IsOnPath asked.now.from resource.now × ¬ (IsModeCode asked.now.above))) }
+    ensures err { IfErr result (λ fault. ((fault ≡ NOT_ON_PATH) × ¬ (IsOnPath asked.now.level resource.now))
+        ⊎ ((fault ≡ NO_SUCH_ABOVE) × IsOnPath asked.now.level resource.now × ¬ (IsModeCode asked.now.above))) }
 {
-    if asked.from == 0 || asked.from > u32::from(resource.level()) {
+    if asked.level >= u32::from(resource.level()) {
         return Err(NOT_ON_PATH);
     }
     let Some(above) = read_mode(asked.above) else {
         return Err(NO_SUCH_ABOVE);
     };
-    Ok(Program::path(start, resource, asked.from as u8, above, last))
+    Ok(Program::path(start, resource, asked.level as u8 + 1, above, last))
 }
 
 /// The program of one call that names no resource, behind what `start` says.
@@ -95,7 +95,7 @@ fn read_plain(start: Start, last: Last) -> Program
     }
 }
 
-/// The program that the numbers encode. Tests `start`, then the last call as `read_call` does, then `from`, then `above`, and returns
+/// The program that the numbers encode. Tests `start`, then the last call as `read_call` does, then `level`, then `above`, and returns
 /// the status of the first test that fails.
 pub fn read_program(asked: &ProgramNumbers) -> Result<Program, u32>
     ensures ok { IfOk result (λ program. IsProgram asked.now program) }
