@@ -236,14 +236,6 @@ static void call_run(void) {
     if (answer.served != 7) exit(6);
 }
 
-static void call_lock_path(void) {
-    pelgaisti_reply reply;
-    uint32_t level = 0;
-    size_t count;
-    check(pelgaisti_book_lock_path(&book, CALLER, &field, PELGAISTI_X, &level, &reply, list, PELGAISTI_MAX_SESSIONS, &count));
-    if (level != 5) exit(7);
-}
-
 /* `n` locks of new resources. */
 static void batch_of_new(void) {
     for (uint32_t k = 0; k < quantity("n"); k++) {
@@ -481,7 +473,6 @@ static const struct row {
     {"restart", request_between, call_restart, 0},
     {"withdraw", request_between, call_withdraw, 0},
     {"run", nothing, call_run, 0},
-    {"lock_path", nothing, call_lock_path, 0},
     {"serve_batch", batch_of_new, call_batch, 0},
     {"held", reader_and_readers, call_held, 0},
     {"holders", readers, call_holders, 0},

@@ -93,7 +93,6 @@ ROWS = [
     Row("restart", BOTH, grows=["queue", "own"], words=["holders", "sessions"]),
     Row("serve_batch", grows=["n"], n=100),
     Row("run", grows=["own"]),
-    Row("lock_path"),
     Row("held", ["holders"]),
     Row("waits_for", BOTH),
     Row("transaction"),

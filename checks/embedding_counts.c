@@ -262,7 +262,7 @@ static void count_several(void) {
     pelgaisti_entry batch[2];
     pelgaisti_reply reply;
     pelgaisti_program_answer answer;
-    uint32_t list[2], level = 0;
+    uint32_t list[2];
     size_t count;
     counters now;
     memset(batch, 0, sizeof batch);
@@ -278,7 +278,8 @@ static void count_several(void) {
     MUST(pelgaisti_book_serve_batch(&book, batch, 2, &count) == PELGAISTI_OK && count == 2);
     now = counts_of_book(&book);
     MUST(now.of.calls[PELGAISTI_LOCK] == 2 && now.of.granted_at_once == 2);
-    MUST(pelgaisti_book_lock_path(&book, 1, &page, PELGAISTI_X, &level, &reply, list, 2, &count) == PELGAISTI_OK && level == 3);
+    pelgaisti_program path = {PELGAISTI_NOTHING, 0, PELGAISTI_IX, {PELGAISTI_LOCK, PELGAISTI_X, page}};
+    MUST(pelgaisti_book_run(&book, 1, &path, &answer, list, 2, &count) == PELGAISTI_OK && answer.served == 3 && answer.stop == 0);
     now = counts_of_book(&book);
     MUST(now.of.calls[PELGAISTI_LOCK] == 5 && now.of.granted_at_once == 5);
     /* commit, begin, and a path whose database is granted; the second session then waits for the page */

@@ -7,7 +7,6 @@ void ignore([[maybe_unused]] pelgaisti::book &book, [[maybe_unused]] pelgaisti::
             [[maybe_unused]] pelgaisti::office &office) {
     [[maybe_unused]] std::vector<pelgaisti::entry> entries;
     [[maybe_unused]] std::vector<std::uint32_t> ended;
-    [[maybe_unused]] std::uint32_t level = 0;
     [[maybe_unused]] std::uint64_t first = 0;
     IGNORED;
 }

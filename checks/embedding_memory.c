@@ -75,18 +75,18 @@ static void try_meanwhile(void) {
     } while (0)
 
 /* The calls that may lack memory, and how often memory was refused to each. */
-enum { BOOK_OPEN, BOOK_SERVE, BOOK_SERVE_BATCH, BOOK_LOCK_PATH, BOOK_RUN, BOOK_HOLDERS, BOOK_LOCKS, OFFICE_OPEN, SESSION_SERVE, AT_ONCE, TELLING,
+enum { BOOK_OPEN, BOOK_SERVE, BOOK_SERVE_BATCH, BOOK_RUN, BOOK_HOLDERS, BOOK_LOCKS, OFFICE_OPEN, SESSION_SERVE, AT_ONCE, TELLING,
        SESSION_HOLDERS, SESSION_BLOCKERS, SESSION_LOCKS, HAND_IN, OFFICE_CLOSE, OPEN_WAKING, WAKING_SERVE, WAKING_SERVE_TELLING,
-       WAKING_AT_ONCE, WAKING_TELLING, WAKING_PERFORM, WAKING_PATH, SESSION_RUN, BOOK_RESERVE, SESSION_RESERVE,
+       WAKING_AT_ONCE, WAKING_TELLING, WAKING_PERFORM, WAKING_LOCK, WAKING_WAIT, SESSION_RUN, BOOK_RESERVE, SESSION_RESERVE,
        KEEP_DEADLOCKS, BOOK_DEADLOCKS, OPEN_TELLING, SESSION_DEADLOCKS, BOOK_LOCKS_OF, SESSION_LOCKS_OF, BOOK_DUMP, SESSION_DUMP,
        LACKING };
-static const char *const lacking[LACKING] = {"book_open", "book_serve", "book_serve_batch", "book_lock_path", "book_run",
-                                             "book_holders", "book_locks", "office_open", "session_serve", "session_perform_at_once",
+static const char *const lacking[LACKING] = {"book_open", "book_serve", "book_serve_batch", "book_run", "book_holders",
+                                             "book_locks", "office_open", "session_serve", "session_perform_at_once",
                                              "session_perform_telling", "session_holders", "session_blockers", "session_locks",
                                              "session_hand_in", "office_close", "office_open_waking", "session_serve, which wakes",
                                              "session_serve_telling, which wakes", "session_perform_at_once, which wakes",
                                              "session_perform_telling, which wakes", "session_perform, which wakes",
-                                             "session_lock_path, which wakes", "session_run", "book_reserve", "session_reserve",
+                                             "session_lock, which wakes", "session_wait, which wakes", "session_run", "book_reserve", "session_reserve",
                                              "book_keep_deadlocks", "book_deadlocks", "office_open_telling", "session_deadlocks",
                                              "book_locks_of", "session_locks_of", "book_dump", "session_dump"};
 static long lacked[LACKING];
@@ -257,47 +257,11 @@ static void books(void) {
     is_ample = 0;
 }
 
-/* How many paths were refused memory behind a call that had ended a wait. */
-static long told_before;
-
 /* Serves a call of the book, again if memory is refused. */
 static void serve_surely(pelgaisti_book *book, uint32_t session, pelgaisti_call call, uint32_t kind) {
     pelgaisti_reply reply = {77, 88};
     while (is_lacking(BOOK_SERVE, pelgaisti_book_serve(book, session, &call, &reply))) continue;
     CHECK(reply.kind == kind);
-}
-
-/* Session 1 locks a path whose first call makes 3 a victim, as 1 would wait for 3, which waits for 2, which waits for 1. If memory is
-   refused, the path tells of 3 exactly if that call was served, and the same path tells of it else. From round to round session 4 has
-   one lock more, so that a path's later calls meet a table that is full. */
-static void paths(void) {
-    pelgaisti_book book = PELGAISTI_EMPTY;
-    while (is_lacking(BOOK_OPEN, pelgaisti_book_open(&book, 4))) continue;
-    for (uint32_t round = 0; round < 12; round++) {
-        pelgaisti_resource path = {PELGAISTI_LEVELS, {7, round, 1, 1, 1}};
-        uint32_t level = 0, list[4] = {77, 77, 77, 77}, status, told_of = 0;
-        size_t count = 99;
-        for (uint32_t s = 1; s <= 3 + (round == 0); s++) serve_surely(&book, s, begin, PELGAISTI_BEGAN);
-        serve_surely(&book, 4, call_of(PELGAISTI_LOCK, PELGAISTI_IX, 100 + round), PELGAISTI_GRANTED);
-        serve_surely(&book, 1, call_of(PELGAISTI_LOCK, PELGAISTI_X, 8), PELGAISTI_GRANTED);
-        serve_surely(&book, 2, call_of(PELGAISTI_LOCK, PELGAISTI_IX, 7), PELGAISTI_GRANTED);
-        serve_surely(&book, 2, call_of(PELGAISTI_LOCK, PELGAISTI_S, 8), PELGAISTI_WAITING);
-        serve_surely(&book, 3, call_of(PELGAISTI_LOCK, PELGAISTI_X, 7), PELGAISTI_WAITING);
-        do {
-            uint32_t before = level;
-            pelgaisti_reply reply = {77, 88};
-            status = pelgaisti_book_lock_path(&book, 1, &path, PELGAISTI_S, &level, &reply, list, 4, &count);
-            CHECK(status == PELGAISTI_OK || is_lacking(BOOK_LOCK_PATH, status));
-            CHECK(count == (before == 0 && level > 0) && (count == 0 || list[0] == 3) && list[1] == 77);
-            CHECK(reply.kind == (level > before ? (uint32_t)PELGAISTI_GRANTED : 77));
-            told_of += (uint32_t)count;
-            told_before += status == PELGAISTI_NO_MEMORY && count > 0;
-        } while (status == PELGAISTI_NO_MEMORY);
-        CHECK(level == PELGAISTI_LEVELS && told_of == 1);
-        serve_surely(&book, 3, call_of(PELGAISTI_POLL, 0, 0), PELGAISTI_DEADLOCK);
-        for (uint32_t s = 1; s <= 3; s++) serve_surely(&book, s, call_of(PELGAISTI_ABORT, 0, 0), PELGAISTI_ABORTED);
-    }
-    CHECK(pelgaisti_book_close(&book) == PELGAISTI_OK);
 }
 
 /* Runs a program of one lock on a new database, again if memory is refused: then nothing has changed. */
@@ -600,26 +564,38 @@ static void perform_awake(pelgaisti_session *sessions, pelgaisti_call lock, int 
     CHECK(status == PELGAISTI_OK && answer.reply.kind == PELGAISTI_GRANTED);
 }
 
-/* Clerk 3 performs the lock, or locks a path, and finishes what is left pending. */
-static void whole_call_awake(pelgaisti_session *sessions, pelgaisti_call lock, int is_path) {
-    int call = is_path ? WAKING_PATH : WAKING_PERFORM;
-    pelgaisti_resource path = {3, {lock.resource.numbers[0], 2, 3}};
+/* Clerk 3 performs the lock, and finishes it where it is left pending. */
+static void whole_call_awake(pelgaisti_session *sessions, pelgaisti_call lock) {
+    const pelgaisti_call *next = &lock;
     pelgaisti_answer answer = {99, {77, 88}};
-    uint32_t status, level = 0;
+    uint32_t status, before;
     do {
-        uint32_t before = wakes[2];
-        status = is_path ? pelgaisti_session_lock_path(&sessions[2], &path, PELGAISTI_X, &level, 9, &answer)
-                         : pelgaisti_session_perform(&sessions[2], &lock, 9, &answer);
+        before = wakes[2];
+        status = pelgaisti_session_perform(&sessions[2], next, 9, &answer);
+        next = NULL;
         CHECK(are_woken(sessions));
-        if (!is_lacking_awake(call, status, before)) break;
+    } while (is_lacking_awake(WAKING_PERFORM, status, before));
+    CHECK(status == PELGAISTI_OK && answer.reply.kind == PELGAISTI_GRANTED);
+}
+
+/* Clerk 3 locks a path on which nothing waits. Behind a refusal what is pending is finished, and the path is locked from the beginning. */
+static void lock_awake(pelgaisti_session *sessions, uint32_t database, uint32_t level) {
+    const pelgaisti_resource path = {level, {database, 2, 3, 4}};
+    pelgaisti_lock_answer told = {77, 77, 77};
+    uint32_t status, before;
+    for (;;) {
+        before = wakes[2];
+        status = pelgaisti_session_lock(&sessions[2], &path, PELGAISTI_X, PELGAISTI_FOREVER, &told);
+        CHECK(are_woken(sessions));
+        if (!is_lacking_awake(WAKING_LOCK, status, before)) break;
         do {
             before = wakes[2];
-            status = pelgaisti_session_perform(&sessions[2], NULL, 9, &answer);
+            status = pelgaisti_session_wait(&sessions[2], PELGAISTI_FOREVER, &told);
             CHECK(are_woken(sessions));
-        } while (is_lacking_awake(call, status, before));
-        CHECK(status == PELGAISTI_OK && answer.reply.kind == PELGAISTI_GRANTED);
-    } while (is_path);
-    CHECK(status == PELGAISTI_OK && answer.reply.kind == PELGAISTI_GRANTED && (!is_path || level == 3));
+        } while (is_lacking_awake(WAKING_WAIT, status, before));
+        CHECK(status == PELGAISTI_OK && told.level == 0 && told.why == 0);
+    }
+    CHECK(status == PELGAISTI_OK && told.level == level && told.why == 0);
 }
 
 /* Performs a call whose memory is refused as often as it is. */
@@ -659,7 +635,8 @@ static void wakers(void) {
         case 1: serve_awake(sessions, lock, round % 6 == 1); break;
         case 2:
         case 3: perform_awake(sessions, lock, round % 6 == 3); break;
-        default: whole_call_awake(sessions, lock, round % 6 == 5);
+        case 4: whole_call_awake(sessions, lock); break;
+        default: lock_awake(sessions, lock.resource.numbers[0], 1 + round / 6 % 4);
         }
         CHECK(wakes[2] == 1);
         CHECK(pelgaisti_session_collect(&sessions[0], &answer) == PELGAISTI_OK && answer.reply.kind == PELGAISTI_COMMITTED);
@@ -853,12 +830,11 @@ static void each_in_turn(const char *name, void (*play)(void), long row) {
 
 int main(void) {
     each_in_turn("books", books, 1);
-    each_in_turn("paths", paths, 1);
     each_in_turn("programs", programs, 1);
     each_in_turn("rooms", rooms, 1);
     each_in_turn("offices", offices, 1);
     each_in_turn("wakers", wakers, 1);
-    each_in_turn("wakers, two in a row", wakers, 2); /* a path tries once more before its call is left pending */
+    each_in_turn("wakers, two in a row", wakers, 2); /* a wait lacks memory, too, for what it finishes */
     each_in_turn("programs of sessions", session_programs, 1);
     each_in_turn("deadlocks", deadlocks, 1);
     for (int call = 0; call < LACKING; call++)
@@ -866,8 +842,8 @@ int main(void) {
             failed++;
             printf("memory was never refused to %s\n", lacking[call]);
         }
-    CHECK(cut_short > 0 && run_short > 0 && session_short > 0 && told_before > 0);
-    for (int call = WAKING_SERVE; call <= WAKING_PATH; call++)
+    CHECK(cut_short > 0 && run_short > 0 && session_short > 0);
+    for (int call = WAKING_SERVE; call <= WAKING_LOCK; call++)
         if (!woken_then[call]) {
             failed++;
             printf("nobody was woken by a call that lacked memory: %s\n", lacking[call]);

@@ -141,7 +141,8 @@ static void want_pending(pelgaisti_session *session, pelgaisti_session *other) {
     pelgaisti_resource path = {2, {3, 4}};
     pelgaisti_book book = PELGAISTI_EMPTY;
     pelgaisti_answer answer = {99, {77, 88}};
-    uint32_t level = 0, list[3] = {77, 77, 77};
+    pelgaisti_lock_answer locked;
+    uint32_t list[3] = {77, 77, 77};
     uint64_t before = seen_by(session);
     size_t count = 99;
     bad_programs(session);
@@ -149,7 +150,7 @@ static void want_pending(pelgaisti_session *session, pelgaisti_session *other) {
         CHECK(is_unrun(session, &next, turns, PELGAISTI_PENDING));
         CHECK(pelgaisti_session_perform(session, &poll, turns, &answer) == PELGAISTI_PENDING);
         CHECK(pelgaisti_session_perform(session, NULL, turns, &answer) == PELGAISTI_PENDING);
-        CHECK(pelgaisti_session_lock_path(session, &path, PELGAISTI_X, &level, turns, &answer) == PELGAISTI_PENDING);
+        CHECK(pelgaisti_session_lock(session, &path, PELGAISTI_X, turns, &locked) == PELGAISTI_PENDING);
     }
     CHECK(pelgaisti_session_collect(session, &answer) == PELGAISTI_PENDING);
     CHECK(pelgaisti_session_publish(session, &poll, NULL) == PELGAISTI_PENDING);
@@ -159,7 +160,7 @@ static void want_pending(pelgaisti_session *session, pelgaisti_session *other) {
     CHECK(pelgaisti_session_hand_in(session, other) == PELGAISTI_PENDING);
     CHECK(pelgaisti_office_close(session, &book) == PELGAISTI_MISSING);
     CHECK(is_unrun(session, NULL, 0, PELGAISTI_NOT_SERVED));
-    CHECK(answer.place == 99 && answer.reply.kind == 77 && level == 0 && list[0] == 77 && count == 99 && seen_by(session) == before);
+    CHECK(answer.place == 99 && answer.reply.kind == 77 && list[0] == 77 && count == 99 && seen_by(session) == before);
 }
 
 static void programs_refuse(void) {

@@ -38,7 +38,7 @@ static void pause_for(long nanoseconds) {
 
 /* Counts sleeps and wake-ups, and holds up every eighth thread that is about to sleep. */
 long __wrap_syscall(long number, long a, long b, long c, long d, long e, long f) {
-    if (number == SYS_futex && b == FUTEX_WAIT_PRIVATE && __atomic_add_fetch(&sleeps, 1, __ATOMIC_RELAXED) % 8 == 0) pause_for(50000);
+    if (number == SYS_futex && b == FUTEX_WAIT_BITSET_PRIVATE && __atomic_add_fetch(&sleeps, 1, __ATOMIC_RELAXED) % 8 == 0) pause_for(50000);
     if (number == SYS_futex && b == FUTEX_WAKE_PRIVATE) __atomic_add_fetch(&wakes, 1, __ATOMIC_RELAXED);
     return __real_syscall(number, a, b, c, d, e, f);
 }
@@ -71,12 +71,12 @@ static void begin(worker *w) {
 /* Locks further rows, by paths and by single calls. */
 static void lock_rows(worker *w, uint32_t rows) {
     pelgaisti_call lock = {PELGAISTI_LOCK, PELGAISTI_X, {0, {0}}};
+    pelgaisti_lock_answer locked;
     pelgaisti_answer answer;
-    uint32_t row, level;
+    uint32_t row;
     for (row = 1; row < rows; row++) {
-        level = 0;
         lock.resource = row_of(w, row);
-        if (row % 2) expect(w, pelgaisti_session_lock_path(w->session, &lock.resource, PELGAISTI_X, &level, UINT64_MAX, &answer) == PELGAISTI_OK && level == 3);
+        if (row % 2) expect(w, pelgaisti_session_lock(w->session, &lock.resource, PELGAISTI_X, PELGAISTI_FOREVER, &locked) == PELGAISTI_OK && locked.level == 3);
         else expect(w, pelgaisti_session_perform(w->session, &lock, UINT64_MAX, &answer) == PELGAISTI_OK && answer.reply.kind == PELGAISTI_GRANTED);
     }
 }

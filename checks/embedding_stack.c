@@ -21,7 +21,6 @@ static pelgaisti_reply reply;
 static const pelgaisti_program program = {PELGAISTI_ABORTS, 0, 0, {PELGAISTI_POLL, 0, {0, {0}}}};
 static const pelgaisti_program starts = {PELGAISTI_BEGINS, 0, 0, {PELGAISTI_POLL, 0, {0, {0}}}};
 static pelgaisti_program_answer made;
-static uint32_t level;
 static size_t count, member_count;
 static uint64_t place;
 
@@ -39,19 +38,21 @@ static void perform(int session, uint32_t op, uint32_t mode, uint32_t database) 
 }
 
 static void *work(void *unused) {
-    static pelgaisti_resource path = {5, {1, 2, 3, 4, 5}}, last = {1, {0}};
+    static pelgaisti_resource path = {5, {1, 2, 3, 4, 5}}, last = {1, {10}};
+    static pelgaisti_lock_answer locked;
     int k, n;
     MUST(pelgaisti_office_open_telling(sessions, SESSIONS, 1000, NULL, 2) == PELGAISTI_OK);
     for (k = 0; k < SESSIONS; k++) {
         MUST(pelgaisti_session_run(&sessions[k], &starts, UINT64_MAX, &made) == PELGAISTI_OK && made.served == 2);
         for (n = 0; n < LOCKS; n++) perform(k, PELGAISTI_LOCK, PELGAISTI_X, 10 + (uint32_t)(k * LOCKS + n));
-        level = 0;
         path.numbers[4] = (uint32_t)k;
-        MUST(pelgaisti_session_lock_path(&sessions[k], &path, PELGAISTI_X, &level, UINT64_MAX, &answer) == PELGAISTI_OK && level == 5);
+        MUST(pelgaisti_session_lock(&sessions[k], &path, PELGAISTI_X, PELGAISTI_FOREVER, &locked) == PELGAISTI_OK && locked.level == 5);
+        MUST(pelgaisti_session_lock(&sessions[k], &path, PELGAISTI_X, 0, &locked) == PELGAISTI_OK);
+        MUST(k == 0 || pelgaisti_session_lock(&sessions[k], &last, PELGAISTI_X, 1, &locked) == PELGAISTI_TIMED_OUT);
+        MUST(pelgaisti_session_wait(&sessions[k], PELGAISTI_FOREVER, &locked) == PELGAISTI_OK);
     }
     /* each waits for the next one, and the last closes a cycle of all */
     for (k = 0; k < SESSIONS; k++) perform(k, PELGAISTI_LOCK, PELGAISTI_X, 10 + (uint32_t)((k + 1) % SESSIONS * LOCKS));
-    last.numbers[0] = 10;
     MUST(pelgaisti_session_holders(&sessions[0], &last, holders, SESSIONS, &count, &place) == PELGAISTI_OK && count == 1);
     MUST(pelgaisti_session_blockers(&sessions[0], 1, list, SESSIONS, &count, &place) == PELGAISTI_OK);
     MUST(pelgaisti_session_locks(&sessions[0], 0, claims, SESSIONS * LOCKS, &count, &place) == PELGAISTI_OK);
@@ -75,8 +76,6 @@ static void *work(void *unused) {
     MUST(pelgaisti_book_serve_batch(&book, entries, SESSIONS, &count) == PELGAISTI_OK && count == SESSIONS);
     entries[0].call.op = PELGAISTI_BEGIN;
     MUST(pelgaisti_book_serve(&book, 1, &entries[0].call, &reply) == PELGAISTI_OK);
-    level = 0;
-    MUST(pelgaisti_book_lock_path(&book, 1, &path, PELGAISTI_S, &level, &reply, list, PELGAISTI_MAX_SESSIONS, &count) == PELGAISTI_OK);
     MUST(pelgaisti_book_run(&book, 1, &program, &made, list, PELGAISTI_MAX_SESSIONS, &count) == PELGAISTI_OK && made.served == 2);
     MUST(pelgaisti_book_reserve(&book, 100, 100) == PELGAISTI_OK && pelgaisti_book_shrink(&book) == PELGAISTI_OK);
     MUST(pelgaisti_book_idle_cells(&book, &count) == PELGAISTI_OK && count == 0);

@@ -59,14 +59,14 @@ static const struct {
     {ANY(book_locks_held), "pnp"}, {ANY(book_locks_of), "pnplrp"}, {ANY(session_locks_held), "pnpp"}, {ANY(session_locks_of), "pnplrpp"},
     {ANY(book_dump), "plrpp"}, {ANY(session_dump), "plrpp"}, {ANY(book_counts), "pp"}, {ANY(session_counts), "ppp"}, {ANY(book_gauges), "pp"}, {ANY(session_gauges), "ppp"}, {ANY(session_passes), "ppp"}, {ANY(session_bound_passes), "pnnn"},
     {ANY(book_history), "pnlrp"}, {ANY(book_first_kept), "pp"}, {ANY(book_keep_at_most), "pn"}, {ANY(book_take_history), "pplrp"},
-    {ANY(book_lock_path), "pnpnpplrp"}, {ANY(book_run), "pnpplrp"}, {ANY(office_open), "pn"}, {ANY(office_open_keeping), "pnn"}, {ANY(office_open_waking), "pnnp"},
+    {ANY(book_run), "pnpplrp"}, {ANY(office_open), "pn"}, {ANY(office_open_keeping), "pnn"}, {ANY(office_open_waking), "pnnp"},
     {ANY(session_publish), "ppo"}, {ANY(session_serve), "po"}, {ANY(session_serve_telling), "polrp"},
     {ANY(session_perform_at_once), "ppop"}, {ANY(session_perform_telling), "ppoplrp"}, {ANY(session_collect), "pp"},
     {ANY(session_take_history), "pplrp"}, {ANY(session_held), "pnppp"}, {ANY(session_transaction), "pnpp"},
     {ANY(session_request), "pnpp"}, {ANY(session_waits_for), "pnnpp"}, {ANY(session_holders), "pplrpp"},
     {ANY(session_blockers), "pnlrpp"}, {ANY(session_locks), "pnlrpp"}, {ANY(session_seen), "pp"}, {ANY(session_mark), "pp"},
     {ANY(session_hear), "pp"}, {ANY(session_retire), "p"}, {ANY(session_hand_in), "pp"}, {ANY(office_close), "pp"},
-    {ANY(session_perform), "ponp"}, {ANY(session_run), "ponp"}, {ANY(session_lock_path), "ppnpnp"}};
+    {ANY(session_perform), "ponp"}, {ANY(session_run), "ponp"}, {ANY(session_lock), "ppnnp"}, {ANY(session_wait), "pnp"}};
 
 /* What the pointers point to: handles are closed, and else nothing is a number that a call takes. */
 static unsigned char pointed_to[9][64];
@@ -160,8 +160,8 @@ static void books_refuse(void) {
     pelgaisti_reply reply = {77, 88};
     pelgaisti_holder list[2] = {{5, 6}, {7, 8}};
     pelgaisti_entry entry;
-    uint32_t mode = 99, level = 0, told[3] = {77, 77, 77};
-    size_t count = 99, ended = 99;
+    uint32_t mode = 99;
+    size_t count = 99;
     uint64_t length = 99;
 
     memset(&entry, 0x55, sizeof entry);
@@ -176,8 +176,6 @@ static void books_refuse(void) {
     CHECK(pelgaisti_book_serve_batch(&book, &entry, 1, &count) == PELGAISTI_CLOSED);
     CHECK(pelgaisti_book_waits_for(&book, 1, 2, &mode) == PELGAISTI_CLOSED);
     CHECK(pelgaisti_book_blockers(&book, 1, NULL, 0, &count) == PELGAISTI_CLOSED);
-    CHECK(pelgaisti_book_lock_path(&book, 1, &lock.resource, PELGAISTI_S, &level, &reply, told, 3, &ended) == PELGAISTI_CLOSED);
-    CHECK(level == 0);
     CHECK(pelgaisti_book_held(&book, 1, &lock.resource, &mode) == PELGAISTI_CLOSED);
     CHECK(pelgaisti_book_holders(&book, &lock.resource, list, 2, &count) == PELGAISTI_CLOSED);
     CHECK(pelgaisti_book_length(&book, &length) == PELGAISTI_CLOSED);
@@ -200,8 +198,6 @@ static void books_refuse(void) {
         CHECK(pelgaisti_book_held(&book, off_sessions[k], &lock.resource, &mode) == PELGAISTI_NO_SUCH_SESSION);
         CHECK(pelgaisti_book_waits_for(&book, off_sessions[k], 1, &mode) == PELGAISTI_NO_SUCH_SESSION);
         CHECK(pelgaisti_book_waits_for(&book, 1, off_sessions[k], &mode) == PELGAISTI_NO_SUCH_SESSION);
-        CHECK(pelgaisti_book_lock_path(&book, off_sessions[k], &lock.resource, 5, &level, &reply, told, 3, &ended) ==
-              PELGAISTI_NO_SUCH_SESSION);
     }
     for (size_t k = 0; k < COUNT(off_ops); k++) {
         pelgaisti_call off = call_of(off_ops[k], PELGAISTI_S, 1, 1, 0);
@@ -219,8 +215,6 @@ static void books_refuse(void) {
         CHECK(pelgaisti_book_serve(&book, 1, &try_off, &reply) == PELGAISTI_NO_SUCH_LEVEL);
         CHECK(pelgaisti_book_held(&book, 1, &lock_off.resource, &mode) == PELGAISTI_NO_SUCH_LEVEL);
         CHECK(pelgaisti_book_holders(&book, &lock_off.resource, list, 2, &count) == PELGAISTI_NO_SUCH_LEVEL);
-        CHECK(pelgaisti_book_lock_path(&book, 1, &lock_off.resource, PELGAISTI_S, &level, &reply, told, 3, &ended) ==
-              PELGAISTI_NO_SUCH_LEVEL);
     }
     for (size_t k = 0; k < COUNT(off_modes); k++) {
         pelgaisti_call lock_off = call_of(PELGAISTI_LOCK, off_modes[k], 1, 1, 0);
@@ -229,8 +223,6 @@ static void books_refuse(void) {
         CHECK(pelgaisti_book_serve(&book, 1, &lock_off, &reply) == PELGAISTI_NO_SUCH_MODE);
         CHECK(pelgaisti_book_serve(&book, 1, &convert_off, &reply) == PELGAISTI_NO_SUCH_MODE);
         CHECK(pelgaisti_book_serve(&book, 1, &try_off, &reply) == PELGAISTI_NO_SUCH_MODE);
-        CHECK(pelgaisti_book_lock_path(&book, 1, &convert_off.resource, off_modes[k], &level, &reply, told, 3, &ended) ==
-              PELGAISTI_NO_SUCH_MODE);
     }
     CHECK(pelgaisti_book_serve(NULL, 1, &begin, &reply) == PELGAISTI_NULL);
     CHECK(pelgaisti_book_serve(&book, 1, NULL, &reply) == PELGAISTI_NULL);
@@ -242,23 +234,6 @@ static void books_refuse(void) {
     CHECK(pelgaisti_book_holders(&book, NULL, list, 2, &count) == PELGAISTI_NULL);
     CHECK(pelgaisti_book_holders(&book, &lock.resource, NULL, 2, &count) == PELGAISTI_NULL);
     CHECK(pelgaisti_book_holders(&book, &lock.resource, list, 2, NULL) == PELGAISTI_NULL);
-    level = 1;
-    CHECK(pelgaisti_book_lock_path(&book, 1, &lock.resource, PELGAISTI_S, &level, &reply, told, 3, &ended) == PELGAISTI_NO_SUCH_LEVEL);
-    CHECK(level == 1);
-    level = 0;
-    CHECK(pelgaisti_book_lock_path(NULL, 1, &lock.resource, PELGAISTI_S, &level, &reply, told, 3, &ended) == PELGAISTI_NULL);
-    CHECK(pelgaisti_book_lock_path(&book, 1, NULL, PELGAISTI_S, &level, &reply, told, 3, &ended) == PELGAISTI_NULL);
-    CHECK(pelgaisti_book_lock_path(&book, 1, &lock.resource, PELGAISTI_S, NULL, &reply, told, 3, &ended) == PELGAISTI_NULL);
-    CHECK(pelgaisti_book_lock_path(&book, 1, &lock.resource, PELGAISTI_S, &level, NULL, told, 3, &ended) == PELGAISTI_NULL);
-    ended = 99;
-    CHECK(pelgaisti_book_lock_path(&book, 1, &lock.resource, PELGAISTI_S, &level, &reply, NULL, 3, &ended) == PELGAISTI_NULL);
-    CHECK(ended == 99);
-    CHECK(pelgaisti_book_lock_path(&book, 1, &lock.resource, PELGAISTI_S, &level, &reply, told, 3, NULL) == PELGAISTI_NULL);
-    for (size_t room = 0; room < 3; room++) {
-        ended = 99;
-        CHECK(pelgaisti_book_lock_path(&book, 9, &lock.resource, 2, &level, &reply, told, room, &ended) == PELGAISTI_NO_ROOM);
-        CHECK(ended == 0);
-    }
     CHECK(pelgaisti_book_serve_batch(NULL, &entry, 1, &count) == PELGAISTI_NULL);
     CHECK(pelgaisti_book_serve_batch(&book, NULL, 1, &count) == PELGAISTI_NULL);
     CHECK(pelgaisti_book_serve_batch(&book, &entry, 1, NULL) == PELGAISTI_NULL);
@@ -453,7 +428,8 @@ static void numbers_have_names(void) {
     static const char *const statuses[] = {"OK", "NO_MEMORY", "CLOSED", "NO_SUCH_SESSION", "NO_SUCH_OP", "NO_SUCH_LEVEL",
                                            "NO_SUCH_MODE", "OPEN", "NO_SUCH_COUNT", "PENDING", "NOTHING_PENDING", "NOT_SERVED",
                                            "RETIRED", "ELSEWHERE", "OTHER_OFFICE", "MISSING", "COPIED", "NULL", "SAME", "LET_GO",
-                                           "NO_ROOM", "NO_SUCH_START", "NOT_ON_PATH", "NO_SUCH_ABOVE", "SERVED"};
+                                           "NO_ROOM", "NO_SUCH_START", "NOT_ON_PATH", "NO_SUCH_ABOVE", "SERVED", "VICTIM", "TIMED_OUT",
+                                           "DENIED"};
     static const char *const modes[] = {"NL", "IS", "unknown", "IX", "unknown", "S", "unknown", "SIX", "unknown", "unknown",
                                         "unknown", "unknown", "unknown", "U", "unknown", "X", "unknown"};
     static const char *const ops[] = {"unknown", "begin", "lock", "convert", "poll", "release", "commit", "abort", "try", "withdraw",
@@ -463,7 +439,7 @@ static void numbers_have_names(void) {
     static const char *const refusals[] = {"unknown", "AlreadyOpen", "NoTransaction", "IsWaiting", "IsDoomed", "NothingAsked",
                                            "NotHeld", "ParentNotHeld", "ChildHeld", "TooManyLocks", "unknown", "WouldWait",
                                            "NotWaiting", "unknown"};
-    static const uint64_t off[] = {25, 255, 256, 65536, UINT32_MAX, (uint64_t)1 << 32, ((uint64_t)1 << 32) + 1, UINT64_MAX};
+    static const uint64_t off[] = {28, 255, 256, 65536, UINT32_MAX, (uint64_t)1 << 32, ((uint64_t)1 << 32) + 1, UINT64_MAX};
 
     for (size_t k = 0; k < COUNT(statuses); k++) CHECK(!strcmp(pelgaisti_status_name(k), statuses[k]));
     for (size_t k = 0; k < COUNT(modes); k++) CHECK(!strcmp(pelgaisti_mode_name(k), modes[k]));
@@ -542,19 +518,29 @@ static void batches_are_served(void) {
     CHECK(pelgaisti_book_close(&book) == PELGAISTI_OK);
 }
 
+/* Locks a path by a program, from behind `level` levels on, which it raises by 1 for each that is granted. Returns the last reply. */
+static pelgaisti_reply lock_path(pelgaisti_book *book, uint32_t session, const pelgaisti_resource *path, uint32_t mode, uint32_t *level) {
+    const pelgaisti_program program = {PELGAISTI_NOTHING, *level, pelgaisti_parent_mode(mode), {PELGAISTI_LOCK, mode, *path}};
+    pelgaisti_program_answer answer;
+    uint32_t told[3];
+    size_t ended;
+    CHECK(pelgaisti_book_run(book, session, &program, &answer, told, 3, &ended) == PELGAISTI_OK && answer.served > 0);
+    *level += answer.served - (answer.stop != 0);
+    return answer.replies[answer.served - 1];
+}
+
 /* A path in each mode: the modes held on it afterwards; where it stops, and how it goes on. */
 static void paths_are_locked(void) {
     static const uint32_t modes[6][2] = {{PELGAISTI_IS, PELGAISTI_IS}, {PELGAISTI_S, PELGAISTI_IS},   {PELGAISTI_IX, PELGAISTI_IX},
                                          {PELGAISTI_U, PELGAISTI_IX},  {PELGAISTI_SIX, PELGAISTI_IX}, {PELGAISTI_X, PELGAISTI_IX}};
     pelgaisti_call begin = call_of(PELGAISTI_BEGIN, 0, 0, 0, 0), commit = call_of(PELGAISTI_COMMIT, 0, 0, 0, 0);
-    pelgaisti_call poll = call_of(PELGAISTI_POLL, 0, 0, 0, 0), read = call_of(PELGAISTI_LOCK, PELGAISTI_S, 2, 1, 2);
+    pelgaisti_call poll = call_of(PELGAISTI_POLL, 0, 0, 0, 0);
     pelgaisti_session two[2] = {PELGAISTI_EMPTY, PELGAISTI_EMPTY};
     pelgaisti_book book = PELGAISTI_EMPTY;
     pelgaisti_answer answer;
     pelgaisti_reply reply;
-    uint32_t mode = 99, level, told[3];
+    uint32_t mode = 99, level;
     uint64_t length = 0;
-    size_t ended;
 
     CHECK(pelgaisti_book_open(&book, 2) == PELGAISTI_OK);
     for (size_t m = 0; m < COUNT(modes); m++)
@@ -563,7 +549,7 @@ static void paths_are_locked(void) {
             level = 0;
             CHECK(pelgaisti_parent_mode(modes[m][0]) == modes[m][1]);
             CHECK(pelgaisti_book_serve(&book, 1, &begin, &reply) == PELGAISTI_OK);
-            CHECK(pelgaisti_book_lock_path(&book, 1, &path, modes[m][0], &level, &reply, told, 3, &ended) == PELGAISTI_OK);
+            reply = lock_path(&book, 1, &path, modes[m][0], &level);
             CHECK(level == depth);
             CHECK(reply.kind == PELGAISTI_GRANTED && reply.value == modes[m][0]);
             for (path.level = 1; path.level <= depth; path.level++)
@@ -574,23 +560,29 @@ static void paths_are_locked(void) {
     /* NL is refused at once, and so is a path without a transaction */
     pelgaisti_resource path = {3, {1, 2, 3, 0, 0}};
     level = 0;
-    CHECK(pelgaisti_book_lock_path(&book, 1, &path, PELGAISTI_X, &level, &reply, told, 3, &ended) == PELGAISTI_OK && level == 0);
+    reply = lock_path(&book, 1, &path, PELGAISTI_X, &level);
+    CHECK(level == 0);
     CHECK(reply.kind == PELGAISTI_REFUSED && reply.value == PELGAISTI_NO_TRANSACTION);
     for (uint32_t s = 1; s <= 2; s++) CHECK(pelgaisti_book_serve(&book, s, &begin, &reply) == PELGAISTI_OK);
-    CHECK(pelgaisti_book_lock_path(&book, 1, &path, PELGAISTI_NL, &level, &reply, told, 3, &ended) == PELGAISTI_OK && level == 0);
+    reply = lock_path(&book, 1, &path, PELGAISTI_NL, &level);
+    CHECK(level == 0);
     CHECK(reply.kind == PELGAISTI_REFUSED && reply.value == PELGAISTI_NOTHING_ASKED);
     /* session 1 reads the file, so that the path of session 2 waits there, and goes on once it is granted */
     path.level = 2;
-    CHECK(pelgaisti_book_lock_path(&book, 1, &path, PELGAISTI_S, &level, &reply, told, 3, &ended) == PELGAISTI_OK && level == 2);
+    reply = lock_path(&book, 1, &path, PELGAISTI_S, &level);
+    CHECK(level == 2);
     path.level = 3;
     level = 0;
-    CHECK(pelgaisti_book_lock_path(&book, 2, &path, PELGAISTI_X, &level, &reply, told, 3, &ended) == PELGAISTI_OK && level == 1);
+    reply = lock_path(&book, 2, &path, PELGAISTI_X, &level);
+    CHECK(level == 1);
     CHECK(reply.kind == PELGAISTI_WAITING);
-    CHECK(pelgaisti_book_lock_path(&book, 2, &path, PELGAISTI_X, &level, &reply, told, 3, &ended) == PELGAISTI_OK && level == 1);
+    reply = lock_path(&book, 2, &path, PELGAISTI_X, &level);
+    CHECK(level == 1);
     CHECK(reply.kind == PELGAISTI_REFUSED && reply.value == PELGAISTI_IS_WAITING);
     CHECK(pelgaisti_book_serve(&book, 1, &commit, &reply) == PELGAISTI_OK);
     CHECK(pelgaisti_book_serve(&book, 2, &poll, &reply) == PELGAISTI_OK && reply.kind == PELGAISTI_CLEAR);
-    CHECK(pelgaisti_book_lock_path(&book, 2, &path, PELGAISTI_X, &level, &reply, told, 3, &ended) == PELGAISTI_OK && level == 3);
+    reply = lock_path(&book, 2, &path, PELGAISTI_X, &level);
+    CHECK(level == 3);
     CHECK(reply.kind == PELGAISTI_GRANTED && reply.value == PELGAISTI_X);
     CHECK(pelgaisti_book_serve(&book, 2, &commit, &reply) == PELGAISTI_OK && reply.value == 3);
     /* what is held after a conversion that waited is told by the same lock again */
@@ -617,113 +609,6 @@ static void paths_are_locked(void) {
     CHECK(pelgaisti_office_close(&two[0], &book) == PELGAISTI_OK);
     CHECK(pelgaisti_book_length(&book, &length) == PELGAISTI_OK && length == 9);
     CHECK(pelgaisti_book_first_kept(&book, &length) == PELGAISTI_OK && length == 7);
-    CHECK(pelgaisti_book_close(&book) == PELGAISTI_OK);
-
-    /* the same in an office */
-    CHECK(pelgaisti_office_open(two, 2) == PELGAISTI_OK);
-    for (size_t k = 0; k < 2; k++) CHECK(pelgaisti_session_perform(&two[k], &begin, 9, &answer) == PELGAISTI_OK && answer.place == k);
-    level = 0;
-    path.level = 2;
-    CHECK(pelgaisti_session_lock_path(&two[0], &path, PELGAISTI_S, &level, 1, &answer) == PELGAISTI_OK && level == 2);
-    CHECK(answer.place == 3 && answer.reply.kind == PELGAISTI_GRANTED && answer.reply.value == PELGAISTI_S);
-    level = 0;
-    path.level = 3;
-    CHECK(pelgaisti_session_lock_path(&two[1], &path, PELGAISTI_X, &level, 1, &answer) == PELGAISTI_OK && level == 1);
-    CHECK(answer.reply.kind == PELGAISTI_WAITING);
-    CHECK(pelgaisti_session_perform(&two[0], &commit, 1, &answer) == PELGAISTI_OK);
-    CHECK(pelgaisti_session_perform(&two[1], &poll, 1, &answer) == PELGAISTI_OK && answer.reply.kind == PELGAISTI_CLEAR);
-    CHECK(pelgaisti_session_lock_path(&two[1], &path, PELGAISTI_X, &level, 1, &answer) == PELGAISTI_OK && level == 3);
-    CHECK(answer.reply.kind == PELGAISTI_GRANTED && answer.reply.value == PELGAISTI_X);
-    CHECK(pelgaisti_session_hand_in(&two[1], &two[0]) == PELGAISTI_OK && pelgaisti_office_close(&two[0], &book) == PELGAISTI_OK);
-    CHECK(pelgaisti_book_length(&book, &length) == PELGAISTI_OK && length == 10);
-    CHECK(pelgaisti_book_held(&book, 2, &read.resource, &mode) == PELGAISTI_OK && mode == PELGAISTI_IX);
-    CHECK(pelgaisti_book_close(&book) == PELGAISTI_OK);
-}
-
-/* A path takes no pending call for its own: PENDING, and nothing has changed, whether the call is served or not. */
-static void paths_and_pending_calls(void) {
-    pelgaisti_call begin = call_of(PELGAISTI_BEGIN, 0, 0, 0, 0), lock = call_of(PELGAISTI_LOCK, PELGAISTI_X, 1, 1, 0);
-    pelgaisti_session two[2] = {PELGAISTI_EMPTY, PELGAISTI_EMPTY};
-    pelgaisti_book book = PELGAISTI_EMPTY;
-    pelgaisti_resource other = {1, {2}};
-    pelgaisti_answer answer;
-    uint32_t mode = 99, level = 0;
-    uint64_t seen = 99, before = 0;
-
-    CHECK(pelgaisti_office_open(two, 2) == PELGAISTI_OK);
-    CHECK(pelgaisti_session_perform(&two[0], &begin, 9, &answer) == PELGAISTI_OK);
-    CHECK(pelgaisti_session_perform(&two[0], &lock, 0, &answer) == PELGAISTI_NOT_SERVED);
-    answer.place = 99;
-    for (int is_served = 0; is_served <= 1; is_served++) {
-        CHECK(pelgaisti_session_seen(&two[0], &before) == PELGAISTI_OK);
-        for (uint64_t turns = 0; turns <= 40; turns += 20)
-            CHECK(pelgaisti_session_lock_path(&two[0], &other, PELGAISTI_X, &level, turns, &answer) == PELGAISTI_PENDING);
-        CHECK(level == 0 && answer.place == 99 && pelgaisti_session_seen(&two[0], &seen) == PELGAISTI_OK && seen == before);
-        if (!is_served) CHECK(pelgaisti_session_serve(&two[1], NULL) == PELGAISTI_OK);
-    }
-    CHECK(pelgaisti_session_held(&two[1], 1, &lock.resource, &mode, &seen) == PELGAISTI_OK && mode == PELGAISTI_X && seen == 2);
-    CHECK(pelgaisti_session_held(&two[1], 1, &other, &mode, &seen) == PELGAISTI_OK && mode == PELGAISTI_NL && seen == 2);
-    CHECK(pelgaisti_session_collect(&two[0], &answer) == PELGAISTI_OK && answer.place == 1);
-    CHECK(pelgaisti_session_lock_path(&two[0], &other, PELGAISTI_X, &level, 9, &answer) == PELGAISTI_OK);
-    CHECK(level == 1 && answer.place == 2);
-    CHECK(pelgaisti_session_held(&two[1], 1, &other, &mode, &seen) == PELGAISTI_OK && mode == PELGAISTI_X && seen == 3);
-    CHECK(pelgaisti_session_hand_in(&two[1], &two[0]) == PELGAISTI_OK && pelgaisti_office_close(&two[0], &book) == PELGAISTI_OK);
-    CHECK(pelgaisti_book_close(&book) == PELGAISTI_OK);
-}
-
-/* A path that ran out of turns leaves a call of its own pending, which is finished by itself. Then the same call goes on, with the
-   level that it was left, whether that call was granted, had to wait or was refused. */
-static void paths_without_turns(void) {
-    pelgaisti_call begin = call_of(PELGAISTI_BEGIN, 0, 0, 0, 0), commit = call_of(PELGAISTI_COMMIT, 0, 0, 0, 0);
-    pelgaisti_call poll = call_of(PELGAISTI_POLL, 0, 0, 0, 0);
-    pelgaisti_session two[2] = {PELGAISTI_EMPTY, PELGAISTI_EMPTY}, *s = &two[1];
-    pelgaisti_book book = PELGAISTI_EMPTY;
-    pelgaisti_resource path = {3, {1, 2, 3}};
-    pelgaisti_answer answer;
-    uint32_t level = 0, mode = 99;
-    uint64_t length = 0;
-
-    CHECK(pelgaisti_office_open(two, 2) == PELGAISTI_OK);
-    /* refused, as there is no transaction */
-    CHECK(pelgaisti_session_lock_path(s, &path, PELGAISTI_X, &level, 0, &answer) == PELGAISTI_NOT_SERVED && level == 0);
-    CHECK(pelgaisti_session_perform(s, NULL, 9, &answer) == PELGAISTI_OK && answer.place == 0);
-    CHECK(answer.reply.kind == PELGAISTI_REFUSED && answer.reply.value == PELGAISTI_NO_TRANSACTION);
-    CHECK(pelgaisti_session_lock_path(s, &path, PELGAISTI_X, &level, 9, &answer) == PELGAISTI_OK && level == 0 && answer.place == 1);
-    CHECK(answer.reply.kind == PELGAISTI_REFUSED && answer.reply.value == PELGAISTI_NO_TRANSACTION);
-    /* granted, at the first level and at the next one */
-    CHECK(pelgaisti_session_perform(s, &begin, 9, &answer) == PELGAISTI_OK);
-    CHECK(pelgaisti_session_lock_path(s, &path, PELGAISTI_X, &level, 0, &answer) == PELGAISTI_NOT_SERVED && level == 0);
-    CHECK(pelgaisti_session_lock_path(s, &path, PELGAISTI_X, &level, 9, &answer) == PELGAISTI_PENDING && level == 0);
-    CHECK(pelgaisti_session_perform(s, NULL, 9, &answer) == PELGAISTI_OK && answer.place == 3);
-    CHECK(answer.reply.kind == PELGAISTI_GRANTED && answer.reply.value == PELGAISTI_IX);
-    path.level = 1;
-    CHECK(pelgaisti_session_lock_path(s, &path, PELGAISTI_IX, &level, 9, &answer) == PELGAISTI_OK && level == 1 && answer.place == 4);
-    path.level = 3;
-    CHECK(pelgaisti_session_lock_path(s, &path, PELGAISTI_X, &level, 0, &answer) == PELGAISTI_NOT_SERVED && level == 1);
-    CHECK(pelgaisti_session_perform(s, NULL, 9, &answer) == PELGAISTI_OK && answer.place == 5);
-    CHECK(answer.reply.kind == PELGAISTI_GRANTED && answer.reply.value == PELGAISTI_IX);
-    CHECK(pelgaisti_session_lock_path(s, &path, PELGAISTI_X, &level, 9, &answer) == PELGAISTI_OK && level == 3 && answer.place == 7);
-    CHECK(answer.reply.kind == PELGAISTI_GRANTED && answer.reply.value == PELGAISTI_X);
-    /* a wait for session 2, which has the database in IX */
-    s = &two[0];
-    path.level = 2;
-    path.numbers[1] = 9;
-    level = 0;
-    CHECK(pelgaisti_session_perform(s, &begin, 9, &answer) == PELGAISTI_OK);
-    CHECK(pelgaisti_session_lock_path(s, &path, PELGAISTI_S, &level, 9, &answer) == PELGAISTI_OK && level == 2);
-    path.level = 1;
-    level = 0;
-    CHECK(pelgaisti_session_lock_path(s, &path, PELGAISTI_S, &level, 0, &answer) == PELGAISTI_NOT_SERVED && level == 0);
-    CHECK(pelgaisti_session_perform(s, NULL, 9, &answer) == PELGAISTI_OK && answer.reply.kind == PELGAISTI_WAITING);
-    CHECK(pelgaisti_session_lock_path(s, &path, PELGAISTI_S, &level, 9, &answer) == PELGAISTI_OK && level == 0);
-    CHECK(answer.reply.kind == PELGAISTI_REFUSED && answer.reply.value == PELGAISTI_IS_WAITING);
-    CHECK(pelgaisti_session_perform(&two[1], &commit, 9, &answer) == PELGAISTI_OK && answer.reply.value == 3);
-    CHECK(pelgaisti_session_perform(s, &poll, 9, &answer) == PELGAISTI_OK && answer.reply.kind == PELGAISTI_CLEAR);
-    CHECK(pelgaisti_session_lock_path(s, &path, PELGAISTI_S, &level, 9, &answer) == PELGAISTI_OK && level == 1);
-    CHECK(answer.reply.kind == PELGAISTI_GRANTED && answer.reply.value == PELGAISTI_S);
-    CHECK(pelgaisti_session_hand_in(&two[1], &two[0]) == PELGAISTI_OK && pelgaisti_office_close(&two[0], &book) == PELGAISTI_OK);
-    CHECK(pelgaisti_book_length(&book, &length) == PELGAISTI_OK && length == 16);
-    CHECK(pelgaisti_book_held(&book, 1, &path, &mode) == PELGAISTI_OK && mode == PELGAISTI_S);
     CHECK(pelgaisti_book_close(&book) == PELGAISTI_OK);
 }
 
@@ -771,8 +656,7 @@ static void sessions_refuse(void) {
     pelgaisti_call begin = call_of(PELGAISTI_BEGIN, 0, 0, 0, 0);
     pelgaisti_answer answer = {99, {77, 88}};
     pelgaisti_pass pass = {99, 99};
-    pelgaisti_resource path = {3, {1, 2, 3}};
-    uint32_t posted = 99, level = 0;
+    uint32_t posted = 99;
     uint64_t seen = 99, length = 0, mark = 0;
     pelgaisti_entry entry;
     size_t count = 99;
@@ -788,7 +672,6 @@ static void sessions_refuse(void) {
     CHECK(pelgaisti_session_mark(&two[0], &seen) == PELGAISTI_CLOSED);
     CHECK(pelgaisti_session_perform(&two[0], &begin, 9, &answer) == PELGAISTI_CLOSED);
     CHECK(pelgaisti_session_perform(&two[0], NULL, 9, &answer) == PELGAISTI_CLOSED);
-    CHECK(pelgaisti_session_lock_path(&two[0], &path, PELGAISTI_X, &level, 9, &answer) == PELGAISTI_CLOSED);
     CHECK(pelgaisti_session_hear(&two[0], &two[1]) == PELGAISTI_CLOSED);
     CHECK(pelgaisti_session_retire(&two[0]) == PELGAISTI_CLOSED);
     CHECK(pelgaisti_session_hand_in(&two[1], &two[0]) == PELGAISTI_CLOSED);
@@ -814,17 +697,6 @@ static void sessions_refuse(void) {
     CHECK(pelgaisti_session_perform(NULL, &begin, 9, &answer) == PELGAISTI_NULL);
     CHECK(pelgaisti_session_perform(&two[0], &begin, 9, NULL) == PELGAISTI_NULL);
     CHECK(pelgaisti_session_perform(&two[0], NULL, 9, &answer) == PELGAISTI_NOTHING_PENDING);
-    CHECK(pelgaisti_session_lock_path(NULL, &path, PELGAISTI_X, &level, 9, &answer) == PELGAISTI_NULL);
-    CHECK(pelgaisti_session_lock_path(&two[0], NULL, PELGAISTI_X, &level, 9, &answer) == PELGAISTI_NULL);
-    CHECK(pelgaisti_session_lock_path(&two[0], &path, PELGAISTI_X, NULL, 9, &answer) == PELGAISTI_NULL);
-    CHECK(pelgaisti_session_lock_path(&two[0], &path, PELGAISTI_X, &level, 9, NULL) == PELGAISTI_NULL);
-    level = 3;
-    CHECK(pelgaisti_session_lock_path(&two[0], &path, PELGAISTI_X, &level, 9, &answer) == PELGAISTI_NO_SUCH_LEVEL && level == 3);
-    level = 0;
-    path.level = 6;
-    CHECK(pelgaisti_session_lock_path(&two[0], &path, PELGAISTI_X, &level, 9, &answer) == PELGAISTI_NO_SUCH_LEVEL);
-    path.level = 3;
-    CHECK(pelgaisti_session_lock_path(&two[0], &path, 2, &level, 9, &answer) == PELGAISTI_NO_SUCH_MODE && level == 0);
     CHECK(pelgaisti_session_hear(NULL, &two[0]) == PELGAISTI_NULL);
     CHECK(pelgaisti_session_hear(&two[0], NULL) == PELGAISTI_NULL);
     CHECK(pelgaisti_session_hear(&two[0], &two[0]) == PELGAISTI_SAME);
@@ -1405,19 +1277,19 @@ static void cross(pelgaisti_book *book, uint32_t first, uint32_t second) {
 /* A path tells whose wait each of its calls has ended, also where a later one ends nobody's, waits, is refused, or makes its own session
    a victim. The first call of the path makes 3 a victim. */
 static void paths_tell(void) {
-    static const struct { uint32_t first, second, record, kind, level, ended; } ways[] = {
-        {1, 2, 2, PELGAISTI_GRANTED, 2, 1},  /* the second call ends nobody's wait */
-        {1, 2, 1, PELGAISTI_WAITING, 1, 2},  /* it waits for 2, which becomes a victim, too */
-        {2, 1, 1, PELGAISTI_DEADLOCK, 1, 1}, /* it waits for 2, which began before 1 */
-        {1, 2, 3, PELGAISTI_REFUSED, 1, 1},  /* it is one lock too many */
+    static const struct { uint32_t first, second, record, kind, ended; } ways[] = {
+        {1, 2, 2, PELGAISTI_GRANTED, 1},  /* the second call ends nobody's wait */
+        {1, 2, 1, PELGAISTI_WAITING, 2},  /* it waits for 2, which becomes a victim, too */
+        {2, 1, 1, PELGAISTI_DEADLOCK, 1}, /* it waits for 2, which began before 1 */
+        {1, 2, 3, PELGAISTI_REFUSED, 1},  /* it is one lock too many */
     };
     pelgaisti_call poll = call_of(PELGAISTI_POLL, 0, 0, 0, 0);
     for (size_t k = 0; k < COUNT(ways); k++) {
         pelgaisti_book book = PELGAISTI_EMPTY;
-        pelgaisti_resource path = {2, {7, ways[k].record}};
-        pelgaisti_reply reply = {77, 88};
+        pelgaisti_program path = {PELGAISTI_NOTHING, 0, PELGAISTI_IS, {PELGAISTI_LOCK, PELGAISTI_S, {2, {7, ways[k].record}}}};
+        pelgaisti_program_answer answer = {77, 77, 77, 77, {{77, 88}}};
         static uint32_t wide[PELGAISTI_MAX_SESSIONS + 1];
-        uint32_t level = 0, list[3] = {77, 77, 77};
+        uint32_t list[3] = {77, 77, 77};
         uint64_t before = 0, after = 0;
         size_t count = 99;
         cross(&book, ways[k].first, ways[k].second);
@@ -1425,21 +1297,21 @@ static void paths_tell(void) {
             CHECK(replies(&book, 1, call_of(PELGAISTI_LOCK, PELGAISTI_S, 1, 100 + n, 0), PELGAISTI_GRANTED, PELGAISTI_S));
         /* without room for all sessions no call is made */
         CHECK(pelgaisti_book_length(&book, &before) == PELGAISTI_OK);
-        CHECK(pelgaisti_book_lock_path(&book, 1, &path, PELGAISTI_S, &level, &reply, list, 2, &count) == PELGAISTI_NO_ROOM);
-        CHECK(level == 0 && reply.kind == 77 && list[0] == 77 && count == 0);
+        CHECK(pelgaisti_book_run(&book, 1, &path, &answer, list, 2, &count) == PELGAISTI_NO_ROOM);
+        CHECK(answer.served == 77 && list[0] == 77 && count == 0);
         CHECK(pelgaisti_book_length(&book, &after) == PELGAISTI_OK && after == before);
         count = 99;
-        CHECK(pelgaisti_book_lock_path(&book, 1, &path, PELGAISTI_S, &level, &reply, list, 3, &count) == PELGAISTI_OK);
-        CHECK(level == ways[k].level && reply.kind == ways[k].kind);
+        CHECK(pelgaisti_book_run(&book, 1, &path, &answer, list, 3, &count) == PELGAISTI_OK);
+        CHECK(answer.served == 2 && answer.replies[1].kind == ways[k].kind);
         CHECK(count == ways[k].ended && list[0] == 3 && list[1] == (count == 2 ? 2u : 77u) && list[2] == 77);
         CHECK(pelgaisti_book_ended(&book, wide, 3, &count) == PELGAISTI_OK && count == ways[k].ended);
         CHECK(!memcmp(wide, list, count * sizeof *list));
         CHECK(replies(&book, 3, poll, PELGAISTI_DEADLOCK, 0));
         /* the next path tells of none of them again, and has room enough with more than there are sessions */
-        level = 0;
-        path.level = 1;
+        path.last.resource.level = 1;
+        path.last.mode = PELGAISTI_IS;
         count = 99;
-        CHECK(pelgaisti_book_lock_path(&book, 1, &path, PELGAISTI_IS, &level, &reply, wide, COUNT(wide), &count) == PELGAISTI_OK);
+        CHECK(pelgaisti_book_run(&book, 1, &path, &answer, wide, COUNT(wide), &count) == PELGAISTI_OK);
         CHECK(count == 0 && pelgaisti_book_ended(&book, list, 3, &count) == PELGAISTI_OK && count == 0);
         CHECK(pelgaisti_book_close(&book) == PELGAISTI_OK);
     }
@@ -2966,17 +2838,18 @@ static void wakers_are_registered(void) {
 }
 
 /* The calls that make a pass. */
-enum { SERVE, SERVE_TELLING, AT_ONCE, TELLING, PERFORM, RESUME, PATH, WAYS };
+enum { SERVE, SERVE_TELLING, AT_ONCE, TELLING, PERFORM, RESUME, LOCKING, WAITS, WAYS };
 
-/* Session 1 gives up its lock in such a call, or, on a path, closes a cycle whose victim session 2 is. A pass of session 3 serves the
-   call if it is published. */
+/* Session 1 gives up its lock in such a call, or, by one that waits for a lock, closes a cycle whose victim session 2 is. A pass of session 3
+   serves the call if it is published. */
 static void end_wait_by(int way, pelgaisti_session *sessions) {
     pelgaisti_call commit = call_of(PELGAISTI_COMMIT, 0, 0, 0, 0);
-    pelgaisti_resource path = {1, {2}};
+    const pelgaisti_resource second = {1, {2}};
+    pelgaisti_lock_answer told;
     pelgaisti_answer answer = {99, {77, 88}};
-    uint32_t list[4] = {77, 77, 77, 77}, level = 0;
+    uint32_t list[4] = {77, 77, 77, 77};
     size_t count = 0;
-    if (way == SERVE || way == SERVE_TELLING || way == RESUME)
+    if (way == SERVE || way == SERVE_TELLING || way == RESUME || way == WAITS)
         CHECK(pelgaisti_session_publish(&sessions[0], &commit, NULL) == PELGAISTI_OK);
     switch (way) {
     case SERVE: CHECK(pelgaisti_session_serve(&sessions[2], NULL) == PELGAISTI_OK); break;
@@ -2990,12 +2863,11 @@ static void end_wait_by(int way, pelgaisti_session *sessions) {
         break;
     case PERFORM: CHECK(pelgaisti_session_perform(&sessions[0], &commit, 9, &answer) == PELGAISTI_OK); break;
     case RESUME: CHECK(pelgaisti_session_perform(&sessions[0], NULL, 9, &answer) == PELGAISTI_OK); break;
-    default:
-        CHECK(pelgaisti_session_lock_path(&sessions[0], &path, PELGAISTI_X, &level, 9, &answer) == PELGAISTI_OK && level == 0);
-        CHECK(answer.reply.kind == PELGAISTI_WAITING);
+    case WAITS: CHECK(pelgaisti_session_wait(&sessions[0], 0, &told) == PELGAISTI_OK); break;
+    default: CHECK(pelgaisti_session_lock(&sessions[0], &second, PELGAISTI_X, 1, &told) == PELGAISTI_TIMED_OUT && told.level == 0);
     }
     if (way == SERVE || way == SERVE_TELLING) CHECK(pelgaisti_session_collect(&sessions[0], &answer) == PELGAISTI_OK);
-    if (way != PATH) CHECK(answer.reply.kind == PELGAISTI_COMMITTED);
+    if (way != LOCKING && way != WAITS) CHECK(answer.reply.kind == PELGAISTI_COMMITTED);
 }
 
 /* Each call that makes a pass wakes the session whose wait it has ended, once, in an office with a waker; and nobody in one without. A
@@ -3016,7 +2888,7 @@ static void each_pass_wakes(void) {
             end_wait_by(way, sessions);
             calling = NULL;
             CHECK(was_woken(3, has_waker ? 2 : 0));
-            CHECK(kind_of(&sessions[1], poll) == (uint32_t)(way == PATH ? PELGAISTI_DEADLOCK : PELGAISTI_CLEAR) && was_woken(3, 0));
+            CHECK(kind_of(&sessions[1], poll) == (uint32_t)(way == LOCKING ? PELGAISTI_DEADLOCK : PELGAISTI_CLEAR) && was_woken(3, 0));
             close_all(sessions, 3, &book);
             CHECK(pelgaisti_book_close(&book) == PELGAISTI_OK);
         }
@@ -3176,8 +3048,6 @@ int main(int argc, char **argv) {
     numbers_have_names();
     batches_are_served();
     paths_are_locked();
-    paths_and_pending_calls();
-    paths_without_turns();
     paths_tell();
     programs_refuse();
     programs_are_run();

@@ -4,6 +4,7 @@
 
 #include <array>
 #include <atomic>
+#include <chrono>
 #include <condition_variable>
 #include <cstdio>
 #include <cstdlib>
@@ -75,9 +76,9 @@ static void books() {
     reply = book.serve(1, {op::commit});
     CHECK(reply.kind == kind::refused && reply.value == static_cast<std::uint64_t>(pelgaisti::refusal::no_transaction));
     CHECK(book.serve(1, {op::begin}).kind == kind::began);
-    std::uint32_t level = 0;
+    using pelgaisti::program, pelgaisti::start;
     std::vector<std::uint32_t> ended{9};
-    CHECK(book.lock_path(1, {1, 2, 3}, mode::X, level, ended).kind == kind::granted && level == 3);
+    CHECK(book.run(1, program::locks(start::nothing, {1, 2, 3}, mode::X), ended).size() == 3);
     CHECK(book.held(1, {1, 2}) == mode::IX && book.held(1, {1, 2, 3}) == mode::X && book.held(2, {1}) == mode::NL);
     const std::vector<std::uint32_t> path{1, 2, 3, 4, 5, 6, 7};
     CHECK(book.held(1, {path.data(), 3}) == mode::X && book.held(1, {path.data(), 2}) == mode::IX);
@@ -89,9 +90,8 @@ static void books() {
     CHECK(throws(PELGAISTI_NO_SUCH_LEVEL, [&] { book.held(1, path); }));
     CHECK(throws(PELGAISTI_NO_SUCH_LEVEL, [&] { book.held(1, std::vector<std::uint32_t>{}); }));
     CHECK(throws(PELGAISTI_NO_SUCH_LEVEL, [&] { static_cast<void>(book.serve(1, {op::lock, mode::S, path})); }));
-    level = 0;
-    CHECK(book.lock_path(2, {1, 2}, mode::S, level, ended).kind == kind::waiting && level == 1);
-    CHECK(throws(PELGAISTI_NO_SUCH_LEVEL, [&] { static_cast<void>(book.lock_path(1, {1}, mode::S, level, ended)); }) && level == 1);
+    const auto waiting = book.run(2, program::locks(start::nothing, {1, 2}, mode::S), ended);
+    CHECK(waiting.size() == 2 && waiting.stopped() && waiting[1].kind == kind::waiting);
     CHECK(ended == std::vector<std::uint32_t>{9});
     CHECK(book.waits_for(2, 1) && !book.waits_for(1, 2));
     CHECK(book.blockers(2) == std::vector<std::uint32_t>{1} && book.blockers(3).empty());
@@ -175,10 +175,9 @@ static void paths_tell() {
         CHECK(book.serve(2, {op::lock, mode::X, {7, 1}}).kind == kind::granted);
         CHECK(book.serve(2, {op::lock, mode::S, {8}}).kind == kind::waiting);
         CHECK(book.serve(3, {op::lock, mode::X, {7}}).kind == kind::waiting);
-        std::uint32_t level = 0;
         std::vector<std::uint32_t> ended;
-        const auto reply = book.lock_path(1, {7, waits ? 1u : 2u}, mode::S, level, ended);
-        CHECK(reply.kind == (waits ? kind::waiting : kind::granted) && level == (waits ? 1 : 2));
+        const auto answer = book.run(1, pelgaisti::program::locks(pelgaisti::start::nothing, {7, waits ? 1u : 2u}, mode::S), ended);
+        CHECK(answer.size() == 2 && answer[1].kind == (waits ? kind::waiting : kind::granted));
         CHECK(ended == (waits ? std::vector<std::uint32_t>{3, 2} : std::vector<std::uint32_t>{3}));
         CHECK(book.serve(3, {op::poll}).kind == kind::deadlock && book.ended().empty());
     }
@@ -264,15 +263,13 @@ static void offices() {
     CHECK(throws(PELGAISTI_NOTHING_PENDING, [&] { static_cast<void>(office[1].resume()); }));
     office[0].publish({op::lock, mode::S, {7}});
     CHECK(!office[0].collect() && office[1].serve()->served == 1 && office[0].collect()->reply.kind == kind::granted);
-    std::uint32_t level = 0;
-    // the path's own call is left without turns, and finished by itself; a path takes no pending call for its own
-    CHECK(!office[1].lock_path({7, 8}, mode::X, level, 0) && level == 0);
-    CHECK(throws(PELGAISTI_PENDING, [&] { static_cast<void>(office[1].lock_path({7, 8}, mode::X, level)); }) && level == 0);
-    CHECK(throws(PELGAISTI_PENDING, [&] { static_cast<void>(office[1].lock_path({9}, mode::X, level)); }) && level == 0);
+    // a call that is left without turns; a lock takes no pending call for its own
+    CHECK(!office[1].perform({op::lock, mode::IX, {7}}, 0));
+    CHECK(throws(PELGAISTI_PENDING, [&] { static_cast<void>(office[1].lock({9}, mode::X)); }));
     CHECK(office[0].held(2, {9})->found == mode::NL);
     CHECK(office[1].resume()->reply.kind == kind::waiting);
     CHECK(office[0].perform({op::commit})->reply.kind == kind::committed);
-    CHECK(office[1].perform({op::poll})->reply.kind == kind::clear);
+    CHECK(office[1].wait().place == 6);
     const auto held = office[0].held(2, {7});
     CHECK(held && held->found == mode::IX && held->length == 7 && !office[0].waits_for(2, 1)->found);
     CHECK(office[0].transaction(2)->found.number == 2 && office[0].request(2)->found.kind == 0);
@@ -290,8 +287,8 @@ static void offices() {
     CHECK(office[0].locks_of(2, 8)->found.at(0).mode == PELGAISTI_IX && office[0].locks_of(2, {7}, 8)->found.empty());
     CHECK(office[0].locks_behind(office[0].locks_of(2, 1)->found.at(0), 8)->found.empty());
     CHECK(throws(PELGAISTI_NO_SUCH_SESSION, [&] { office[0].blockers(3); }));
-    CHECK(office[1].lock_path({7, 8}, mode::X, level)->reply.kind == kind::granted && level == 2);
-    CHECK(throws(PELGAISTI_NO_SUCH_LEVEL, [&] { static_cast<void>(office[1].lock_path({7, 8}, mode::X, level)); }) && level == 2);
+    CHECK(office[1].lock({7, 8}, mode::X).level == 2);
+    CHECK(throws(PELGAISTI_NO_SUCH_LEVEL, [&] { static_cast<void>(office[1].lock(std::vector<std::uint32_t>{}, mode::X)); }));
     office[0].hear(office[1]);
     office[0].retire();
     CHECK(throws(PELGAISTI_RETIRED, [&] { office[0].publish({op::begin}); }));
@@ -425,18 +422,37 @@ static void wakers() {
             CHECK(office[k].perform({op::lock, mode::X, {k + 1}})->reply.kind == kind::granted);
         }
         CHECK(office[1].perform({op::lock, mode::X, {1}})->reply.kind == kind::waiting && woken.empty());
-        std::uint32_t level = 0;
         if (way == 0) CHECK(office[0].perform({op::commit})->reply.kind == kind::committed);
         if (way == 1 || way == 2) office[0].publish({op::commit});
         if (way == 1) CHECK(office[0].resume()->reply.kind == kind::committed);
         if (way == 2) CHECK(office[2].serve()->served == 1);
-        if (way == 3) CHECK(office[0].lock_path({2}, mode::S, level)->reply.kind == kind::waiting);  // 2 is the victim
+        if (way == 3) CHECK(!office[0].lock({2}, mode::S, std::chrono::milliseconds(1)));  // 2 is the victim
         if (way == 4) office[0].publish({op::commit});  // served when the office is destroyed
         CHECK(woken == (way == 4 ? std::vector<std::uint32_t>{} : std::vector<std::uint32_t>{2}));
         if (way < 4) woken.clear();
         if (way == 0) CHECK(office.close()->first_kept() == 5);
     }
     CHECK(woken == std::vector<std::uint32_t>{2});
+}
+
+// Each outcome of a lock that is waited for, of times in several units.
+static void locks_end() {
+    using namespace std::chrono_literals;
+    using pelgaisti::outcome;
+    pelgaisti::office office{3};
+    CHECK(office[0].lock({1, 2}, mode::X).outcome == outcome::denied);
+    CHECK(office[0].lock({1, 2}, mode::X, 1s).why == pelgaisti::refusal::no_transaction);
+    for (std::uint32_t k = 0; k < 3; ++k) CHECK(office[k].perform({op::begin})->reply.kind == kind::began);
+    const auto granted = office[0].lock({1, 2}, mode::X, std::chrono::hours::max());
+    CHECK(granted && granted.outcome == outcome::granted && granted.level == 2 && granted.place == 6);
+    for (const auto &late : {office[1].lock({1, 2}, mode::S, 1us), office[1].lock({1, 2}, mode::S, 0s), office[1].lock({1, 2}, mode::S, -1h)})
+        CHECK(!late && late.outcome == outcome::timed_out && late.level == 1);
+    // the first of the three has waited, and taken its request back; the others have tried
+    CHECK(office[0].counts()->found.of(op::withdraw) == 1 && office[0].counts()->found.of(op::try_lock) == 4);
+    CHECK(office[1].lock({3}, mode::X) && office[0].perform({op::lock, mode::S, {3}})->reply.kind == kind::waiting);
+    CHECK(office[1].lock({1, 2}, mode::S, 1.5min).outcome == outcome::victim);
+    CHECK(office[0].wait(0.5ms).outcome == outcome::timed_out && office[0].perform({op::lock, mode::S, {3}})->reply.kind == kind::waiting);
+    CHECK(office[1].perform({op::restart})->reply.kind == kind::restarted && office[0].wait(1h).outcome == outcome::granted);
 }
 
 // A task that throws leaves its session in the office. Whoever has seen its end goes on with the session: finishes its pending call,
@@ -759,7 +775,7 @@ static void names() {
 }
 
 int main() {
-    for (const auto test : {books, seeds_and_memory, paths_tell, programs, session_programs, tries, offices, books_tell_deadlocks, offices_tell_deadlocks, wakers, a_task_throws,
+    for (const auto test : {books, seeds_and_memory, paths_tell, programs, session_programs, tries, offices, locks_end, books_tell_deadlocks, offices_tell_deadlocks, wakers, a_task_throws,
                             sessions_have_owners, orphans_wait, threads_share_the_orphans, marks_are_of_transactions, asked_sessions_obey, offices_are_left, sizes, refused_lists, names}) {
         try {
             test();

@@ -145,18 +145,22 @@ static int settle(worker *w, pelgaisti_reply reply) {
     return reply.kind != PELGAISTI_DEADLOCK;
 }
 
-/* Locks a page and its database by the call that locks paths. Whether both were granted. */
+/* Locks a page and its database by programs. Whether both were granted. */
 static int lock_path(worker *w, const pelgaisti_resource *page, uint32_t mode) {
-    uint32_t level = 0;
+    pelgaisti_program path = {PELGAISTI_NOTHING, 0, 0, {PELGAISTI_LOCK, 0, {0, {0}}}};
+    path.above = pelgaisti_parent_mode(mode);
+    path.last.mode = mode;
+    path.last.resource = *page;
     w->paths++;
-    while (level < page->level) {
-        pelgaisti_answer answer = {0, {0, 0}};
-        pelgaisti_status status = pelgaisti_session_lock_path(w->session, page, mode, &level, UINT64_MAX, &answer);
-        /* the path's next call is pending, and its answer is one of the path */
-        while (is_to_be_finished(w, status)) status = pelgaisti_session_perform(w->session, NULL, UINT64_MAX, &answer);
+    while (path.level < page->level) {
+        pelgaisti_program_answer answer = {0, 0, 0, 0, {{0, 0}}};
+        pelgaisti_status status = pelgaisti_session_run(w->session, &path, UINT64_MAX, &answer);
+        while (is_to_be_finished(w, status)) status = pelgaisti_session_run(w->session, NULL, UINT64_MAX, &answer);
         __atomic_fetch_add(&answered, 1, __ATOMIC_RELAXED);
-        w->bad += status != PELGAISTI_OK;
-        if (!settle(w, answer.reply)) return 0;
+        w->starved += answer.starved;
+        w->bad += status != PELGAISTI_OK || answer.served == 0;
+        if (status != PELGAISTI_OK || answer.served == 0 || !settle(w, answer.replies[answer.served - 1])) return 0;
+        path.level += answer.served; /* the level that waited is locked, too */
     }
     return 1;
 }

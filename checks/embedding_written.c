@@ -26,7 +26,7 @@ static void of_a_book(void) {
     char text[100]; /* less than the deadlock's */
     pelgaisti_program program = {PELGAISTI_NOTHING, 0, 0, {PELGAISTI_POLL, 0, {0}}};
     pelgaisti_program_answer answer;
-    pelgaisti_reply reply, path_reply;
+    pelgaisti_reply reply;
     pelgaisti_entry batch[1], history[2], taken[2];
     pelgaisti_holder holders[1];
     pelgaisti_transaction open;
@@ -35,7 +35,7 @@ static void of_a_book(void) {
     pelgaisti_gauges gauges;
     pelgaisti_deadlock deadlocks[1];
     pelgaisti_member members[2];
-    uint32_t mode, edge, level = 0, blockers[1], told[2];
+    uint32_t mode, edge, blockers[1], told[2];
     uint64_t length, first_kept, first;
     size_t count, member_count;
     OK(pelgaisti_book_open(&book, 2));
@@ -60,7 +60,6 @@ static void of_a_book(void) {
     WRITES_1(counts, pelgaisti_book_counts(&book, &counts));
     WRITES_1(gauges, pelgaisti_book_gauges(&book, &gauges));
     WRITES_1(count, pelgaisti_book_ended(&book, told, 2, &count));
-    WRITES_2(path_reply, count, pelgaisti_book_lock_path(&book, 1, &page, PELGAISTI_S, &level, &path_reply, told, 2, &count));
     WRITES_2(answer, count, pelgaisti_book_run(&book, 1, &program, &answer, told, 2, &count));
     WRITES_1(length, pelgaisti_book_length(&book, &length));
     WRITES_2(count, history, pelgaisti_book_history(&book, 0, history, 2, &count));
@@ -86,7 +85,8 @@ static void of_an_office(void) {
     pelgaisti_session sessions[2] = {PELGAISTI_EMPTY, PELGAISTI_EMPTY};
     pelgaisti_book book = PELGAISTI_EMPTY;
     pelgaisti_call begin = {PELGAISTI_BEGIN, 0, {0}}, lock = {PELGAISTI_LOCK, PELGAISTI_X, {1, {9}}};
-    pelgaisti_answer performed, made, told_of, collected, locked;
+    pelgaisti_answer performed, made, told_of, collected;
+    pelgaisti_lock_answer locked, waited;
     pelgaisti_program program = {PELGAISTI_NOTHING, 0, 0, {PELGAISTI_POLL, 0, {0}}};
     pelgaisti_program_answer run;
     pelgaisti_pass served, at_once, telling, serving;
@@ -99,7 +99,7 @@ static void of_an_office(void) {
     pelgaisti_pass_counts passes;
     pelgaisti_deadlock deadlocks[1];
     pelgaisti_member members[1];
-    uint32_t mode, edge, posted, level = 0, blockers[1], told[2];
+    uint32_t mode, edge, posted, blockers[1], told[2];
     uint64_t seen, mark, first;
     size_t count, member_count;
     OK(pelgaisti_office_open_telling(sessions, 2, UINT64_MAX, NULL, 1));
@@ -110,7 +110,8 @@ static void of_an_office(void) {
     WRITES_1(served, pelgaisti_session_serve(&sessions[0], &served));
     WRITES_1(collected, pelgaisti_session_collect(&sessions[1], &collected));
     WRITES_2(serving, count, pelgaisti_session_serve_telling(&sessions[0], &serving, told, 2, &count));
-    WRITES_1(locked, pelgaisti_session_lock_path(&sessions[0], &page, PELGAISTI_S, &level, 1, &locked));
+    WRITES_1(locked, pelgaisti_session_lock(&sessions[0], &page, PELGAISTI_S, 0, &locked));
+    WRITES_1(waited, pelgaisti_session_wait(&sessions[0], 0, &waited));
     WRITES_1(run, pelgaisti_session_run(&sessions[0], &program, 1, &run));
     WRITES_2(mode, seen, pelgaisti_session_held(&sessions[0], 1, &lock.resource, &mode, &seen));
     WRITES_2(open, seen, pelgaisti_session_transaction(&sessions[0], 1, &open, &seen));

@@ -15,7 +15,7 @@
     } while (0)
 
 /* A number below `below`, drawn by this generator. */
-static uint32_t drawn(uint64_t *state, uint32_t below) {
+static inline uint32_t drawn(uint64_t *state, uint32_t below) {
     *state = *state * 6364136223846793005u + 1442695040888963407u;
     return (uint32_t)((*state >> 33) % below);
 }

@@ -1,7 +1,7 @@
 #!/usr/bin/env python3
 """A small engine in Python, by ctypes over the shared library: accounts, and four threads that move money between them. Each move locks
-the two accounts that it changes, sleeps while it waits for a lock, and starts again if it is chosen as a deadlock's victim. Whoever ends
-a wait wakes the thread that waits. Between two moves a thread runs one program: it commits, begins, and locks the next account.
+the two accounts that it changes, sleeps while it waits for a lock, and starts again if it is chosen as a deadlock's victim. While a thread
+is in a call of the library, other threads run.
 
     ./embed && python3 examples/engine.py
 
@@ -15,7 +15,7 @@ import random
 import re
 import sys
 import threading
-from ctypes import CFUNCTYPE, POINTER, Structure, byref, c_size_t, c_uint32, c_uint64, c_void_p
+from ctypes import POINTER, Structure, byref, c_size_t, c_uint32, c_uint64, c_void_p
 from pathlib import Path
 
 
@@ -57,14 +57,8 @@ class Answer(Structure):
     _fields_ = [("place", c_uint64), ("reply", Reply)]
 
 
-class Program(Structure):
-    """What `start` says, then locks in the mode `above` below the first `level` levels of the last call's path, and the last call."""
-
-    _fields_ = [("start", c_uint32), ("level", c_uint32), ("above", c_uint32), ("last", Call)]
-
-
-class ProgramAnswer(Structure):
-    _fields_ = [("place", c_uint64), ("served", c_uint32), ("starved", c_uint32), ("stop", c_uint32), ("replies", Reply * 7)]
+class LockAnswer(Structure):
+    _fields_ = [("level", c_uint32), ("why", c_uint32), ("place", c_uint64)]
 
 
 class Handle(Structure):
@@ -86,25 +80,14 @@ def declared(name, *arguments):
     return function
 
 
-Wake = CFUNCTYPE(None, c_void_p, c_uint32)
-
-
-class Waker(Structure):
-    """What wakes the threads of an office: a function, and its first argument."""
-
-    _fields_ = [("wake", Wake), ("engine", c_void_p)]
-
-
-open_office = declared("pelgaisti_office_open_waking", POINTER(Handle), c_size_t, c_uint64, POINTER(Waker))
+open_office = declared("pelgaisti_office_open_keeping", POINTER(Handle), c_size_t, c_uint64)
 perform = declared("pelgaisti_session_perform", POINTER(Handle), POINTER(Call), c_uint64, POINTER(Answer))
-run = declared("pelgaisti_session_run", POINTER(Handle), POINTER(Program), c_uint64, POINTER(ProgramAnswer))
+lock = declared("pelgaisti_session_lock", POINTER(Handle), POINTER(Resource), c_uint32, c_uint64, POINTER(LockAnswer))
 hand_in = declared("pelgaisti_session_hand_in", POINTER(Handle), POINTER(Handle))
 close_office = declared("pelgaisti_office_close", POINTER(Handle), POINTER(Handle))
 close_book = declared("pelgaisti_book_close", POINTER(Handle))
-# how many turns a call makes until it is answered
-NO_LIMIT = 2**64 - 1
-# how many calls a program begins with
-CALLS = {"NOTHING": 0, "BEGINS": 1, "COMMITS_AND_BEGINS": 2, "ABORTS_AND_BEGINS": 2}
+# how many turns a call makes until it is answered, and how many milliseconds a lock is waited for
+NO_LIMIT, MINUTE = 2**64 - 1, 60_000
 
 
 def expect(status, what):
@@ -116,74 +99,50 @@ class Worker:
     """A session that one thread uses."""
 
     def __init__(self, handle, number):
-        self.handle, self.number = handle, number
-        self.waits = self.victims = 0
-        self.start = "BEGINS"
+        self.handle, self.number, self.victims = handle, number, 0
 
-    def call(self, op, mode="NL", *path):
-        """Makes a call. Returns the kind of the reply."""
-        asked, answer = Call(N[op], N[mode], Resource(len(path), (c_uint32 * 5)(*path))), Answer()
+    def call(self, op):
+        """Makes a call without a resource."""
+        asked, answer = Call(N[op], N["NL"], Resource()), Answer()
         expect(perform(self.handle, byref(asked), NO_LIMIT, byref(answer)), op)
-        return answer.reply.kind
+        if answer.reply.kind == N["REFUSED"]:
+            raise RuntimeError(f"{op} was refused")
 
-    def sleep(self):
-        """Sleeps while a request waits. Returns the kind of the reply that ends the wait."""
-        kind = N["WAITING"]
-        while kind == N["WAITING"]:
-            self.waits += 1
-            if not WOKEN[self.number].acquire(timeout=60):
-                raise RuntimeError("a wake-up is lost")
-            kind = self.call("POLL")
-        return kind
-
-    def lock(self, start, account):
-        """Does what `start` says, and locks an account of database 1, by one program, and another for what is left behind a wait.
-        Returns whether it is held: if it isn't, the transaction is a victim."""
-        last = Call(N["LOCK"], N["X"], Resource(2, (c_uint32 * 5)(1, account)))
-        level = 0  # how many levels of the path are locked
-        while level < last.resource.level:
-            program, answer = Program(N[start], level, N["IX"], last), ProgramAnswer()
-            expect(run(self.handle, byref(program), NO_LIMIT, byref(answer)), "run")
-            kind = self.sleep() if answer.stop == N["WAITING"] else answer.stop
-            if kind == N["DEADLOCK"]:
-                return False
-            if kind not in (0, N["CLEAR"]):
-                raise RuntimeError(f"a program stopped at kind {kind}")
-            level += answer.served - CALLS[start]
-            start = "NOTHING"
-        return True
+    def lock(self, account):
+        """Locks an account of database 1, and sleeps while the lock waits. Returns whether it is held: else the transaction is a victim."""
+        resource, answer = Resource(2, (c_uint32 * 5)(1, account)), LockAnswer()
+        status = lock(self.handle, byref(resource), N["X"], MINUTE, byref(answer))
+        if status != N["VICTIM"]:
+            expect(status, "lock")
+        return status == N["OK"]
 
     def move(self, source, target, amount):
-        """Moves an amount from one account to another, in as many transactions as it takes. The next program commits it."""
+        """Moves an amount from one account to another, in a transaction that restarts as often as it is a victim."""
+        self.call("BEGIN")
         while True:
-            if self.lock(self.start, source):
+            if self.lock(source):
                 ACCOUNT[source] -= amount
-                if self.lock("NOTHING", target):
+                if self.lock(target):
                     ACCOUNT[target] += amount
-                    self.start = "COMMITS_AND_BEGINS"
+                    self.call("COMMIT")
                     return
                 ACCOUNT[source] += amount  # undone before the locks are given back
             self.victims += 1
-            self.start = "ABORTS_AND_BEGINS"
+            self.call("RESTART")
 
     def work(self):
         chosen = random.Random(self.number)
         for _ in range(MOVES):
             source, target = chosen.sample(range(ACCOUNTS), 2)
             self.move(source, target, chosen.randrange(10))
-        self.call("COMMIT")
 
 
 ACCOUNT = [BALANCE] * ACCOUNTS
-# for each session, by its number, what its thread sleeps on
-WOKEN = [threading.Semaphore(0) for _ in range(THREADS + 1)]
-# a name of its own, since it has to stay as long as the office
-WAKER = Waker(Wake(lambda engine, session: WOKEN[session].release()), None)
 
 
 def main():
     sessions = (Handle * THREADS)()
-    expect(open_office(sessions, THREADS, KEPT, byref(WAKER)), "open")
+    expect(open_office(sessions, THREADS, KEPT), "open")
     workers = [Worker(sessions[at], at + 1) for at in range(THREADS)]
     threads = [threading.Thread(target=worker.work) for worker in workers]
     for thread in threads:
@@ -195,7 +154,7 @@ def main():
     book = Handle()
     expect(close_office(sessions[0], book), "close")
     expect(close_book(book), "close")
-    print(f"{THREADS * MOVES} moves, {sum(worker.waits for worker in workers)} waits, {sum(worker.victims for worker in workers)} victims")
+    print(f"{THREADS * MOVES} moves, {sum(worker.victims for worker in workers)} victims")
     if sum(ACCOUNT) != ACCOUNTS * BALANCE:
         sys.exit("engine.py: money was made or lost")
 

@@ -10,7 +10,6 @@
 #define _XOPEN_SOURCE 600 /* for barriers under -std=c99 */
 #include "pelgaisti.h"
 #include <pthread.h>
-#include <semaphore.h>
 #include <stdio.h>
 #include <stdlib.h>
 
@@ -21,9 +20,8 @@ static long accounts[ACCOUNTS];
 static unsigned transfers = 20;
 static pthread_barrier_t both_hold_one;
 
-/* The sessions. For each a semaphore, on which its borrower sleeps while it waits for a lock: wake-ups are a session's, not a thread's. */
+/* The sessions. In a call that waits for a lock the borrower sleeps, until its session is woken. */
 static pelgaisti_session sessions[SESSIONS];
-static sem_t woken[SESSIONS];
 
 /* The pool: the indices of the sessions that nobody has borrowed. Its mutex hands a session's handle from one thread to the next. */
 static pthread_mutex_t guard = PTHREAD_MUTEX_INITIALIZER;
@@ -56,10 +54,6 @@ static void give_back(unsigned lent) {
     pthread_mutex_unlock(&guard);
 }
 
-/* The office's waker: wakes whoever has borrowed the session. */
-static void wake(void *engine, uint32_t session) { sem_post((sem_t *)engine + session - 1); }
-static const pelgaisti_waker waker = {wake, woken};
-
 /* Performs a call without a resource and a mode. Returns the kind of its reply. */
 static uint32_t ask(unsigned lent, uint32_t op) {
     const pelgaisti_call call = {op, 0, {0, {0}}};
@@ -69,33 +63,21 @@ static uint32_t ask(unsigned lent, uint32_t op) {
     return answer.reply.kind;
 }
 
-/* Does what `start` says, and locks an account exclusively, under an intention lock on database 1, by one program. Sleeps while it waits,
-   and then goes on with the rest. Returns 0 if it became a victim. */
-static int lock_account(unsigned lent, uint32_t start, uint32_t account) {
-    pelgaisti_program program = {start, 0, PELGAISTI_IX, {PELGAISTI_LOCK, PELGAISTI_X, {2, {1, account}}}};
-    while (program.level < program.last.resource.level) {
-        pelgaisti_program_answer answer;
-        pelgaisti_status status = pelgaisti_session_run(&sessions[lent], &program, UINT64_MAX, &answer);
-        must(status == PELGAISTI_OK && !answer.starved, "run", pelgaisti_status_name(status));
-        must(answer.served > (program.start == PELGAISTI_BEGINS), "begin", "an earlier client's transaction is open");
-        pelgaisti_reply last = answer.replies[answer.served - 1];
-        while (last.kind == PELGAISTI_WAITING) {
-            while (sem_wait(&woken[lent]) != 0) continue; /* a signal may end the sleep early */
-            last.kind = ask(lent, PELGAISTI_POLL);
-        }
-        if (last.kind == PELGAISTI_DEADLOCK) return 0;
-        must(last.kind != PELGAISTI_REFUSED, "lock", pelgaisti_refusal_name(last.value));
-        program.level += answer.served - (program.start == PELGAISTI_BEGINS); /* the level at which it has waited is locked, too */
-        program.start = PELGAISTI_NOTHING;
-    }
-    return 1;
+/* Locks an account exclusively, under an intention lock on database 1. Returns 0 if it became a victim. */
+static int lock_account(unsigned lent, uint32_t account) {
+    const pelgaisti_resource resource = {2, {1, account}};
+    pelgaisti_lock_answer answer;
+    pelgaisti_status status = pelgaisti_session_lock(&sessions[lent], &resource, PELGAISTI_X, PELGAISTI_FOREVER, &answer);
+    must(status == PELGAISTI_OK || status == PELGAISTI_VICTIM, "lock", pelgaisti_status_name(status));
+    return status == PELGAISTI_OK;
 }
 
 /* One transaction on a borrowed session. Returns 0 if it became a victim. It writes once it has both locks, so it has nothing to undo. */
 static int transfer(unsigned lent, uint32_t from, uint32_t to, int meet) {
-    int taken = lock_account(lent, PELGAISTI_BEGINS, from);
+    must(ask(lent, PELGAISTI_BEGIN) == PELGAISTI_BEGAN, "begin", "an earlier client's transaction is open");
+    int taken = lock_account(lent, from);
     if (meet) pthread_barrier_wait(&both_hold_one); /* the two clients hold what the other one asks for next */
-    taken = taken && lock_account(lent, PELGAISTI_NOTHING, to);
+    taken = taken && lock_account(lent, to);
     if (taken) accounts[from] -= 1, accounts[to] += 1;
     must(ask(lent, taken ? PELGAISTI_COMMIT : PELGAISTI_ABORT) != PELGAISTI_REFUSED, "commit or abort", "it was refused");
     return taken;
@@ -129,9 +111,9 @@ int main(int argc, char **argv) {
 
     if (argc > 1) transfers = (unsigned)strtoul(argv[1], NULL, 10);
     pthread_barrier_init(&both_hold_one, NULL, 2);
-    pelgaisti_status status = pelgaisti_office_open_waking(sessions, SESSIONS, KEPT, &waker);
+    pelgaisti_status status = pelgaisti_office_open_keeping(sessions, SESSIONS, KEPT);
     must(status == PELGAISTI_OK, "open", pelgaisti_status_name(status));
-    for (unsigned s = 0; s < SESSIONS; s++) sem_init(&woken[s], 0, 0), give_back(s);
+    for (unsigned s = 0; s < SESSIONS; s++) give_back(s);
     for (unsigned c = 0; c < CLIENTS; c++) {
         clients[c].number = c;
         must(pthread_create(&threads[c], NULL, work, &clients[c]) == 0, "start", "there is no thread for a client");

@@ -8,10 +8,8 @@
  *
  *     ./embed && cc examples/names.c -Iout -Lout -lpelgaisti -lpthread -o names && ./names
  */
-#define _XOPEN_SOURCE 600
 #include "pelgaisti.h"
 #include <pthread.h>
-#include <semaphore.h>
 #include <stdio.h>
 #include <stdlib.h>
 #include <string.h>
@@ -20,7 +18,6 @@ enum { THREADS = 4, ROUNDS = 500, WORDS = 5, KEPT = 1024 };
 
 static uint64_t secret[2];
 static pelgaisti_session sessions[THREADS];
-static sem_t woken[THREADS];
 static const char *const words[WORDS] = {"", "lock", "a lock", "a longer name than eight bytes", "\xc3\xa9"};
 static long met[WORDS]; /* plain memory, each under the lock of its word */
 
@@ -78,14 +75,12 @@ static uint32_t ask(pelgaisti_session *session, uint32_t op, const pelgaisti_res
 }
 
 /* Locks a record in X with its ancestors, as far as it is granted. Returns the kind of the last reply. */
-static uint32_t lock(pelgaisti_session *session, const pelgaisti_resource *record, uint32_t *level) {
-    pelgaisti_answer answer;
-    must(pelgaisti_session_lock_path(session, record, PELGAISTI_X, level, UINT64_MAX, &answer) == PELGAISTI_OK, "lock");
-    return answer.reply.kind;
+static uint32_t lock(pelgaisti_session *session, const pelgaisti_resource *record) {
+    const pelgaisti_program path = {PELGAISTI_NOTHING, 0, PELGAISTI_IX, {PELGAISTI_LOCK, PELGAISTI_X, *record}};
+    pelgaisti_program_answer answer;
+    must(pelgaisti_session_run(session, &path, UINT64_MAX, &answer) == PELGAISTI_OK && !answer.starved, "lock");
+    return answer.replies[answer.served - 1].kind;
 }
-
-static void wake(void *engine, uint32_t session) { sem_post((sem_t *)engine + session - 1); }
-static const pelgaisti_waker waker = {wake, woken};
 
 /* Meets words in an order of its own, each in a transaction. */
 static void *count_words(void *argument) {
@@ -94,15 +89,9 @@ static void *count_words(void *argument) {
     for (size_t k = 0; k < ROUNDS; k++) {
         const size_t word = (k * (number + 1) + number) % WORDS;
         const pelgaisti_resource record = record_of(7, words[word], strlen(words[word]));
+        pelgaisti_lock_answer answer;
         must(ask(own, PELGAISTI_BEGIN, NULL) == PELGAISTI_BEGAN, "begin");
-        for (uint32_t level = 0; level < record.level;) {
-            uint32_t kind = lock(own, &record, &level);
-            while (kind == PELGAISTI_WAITING) {
-                while (sem_wait(&woken[number]) != 0) continue;
-                kind = ask(own, PELGAISTI_POLL, NULL);
-            }
-            must(kind == PELGAISTI_GRANTED || kind == PELGAISTI_CLEAR, "a word"); /* one lock closes no cycle */
-        }
+        must(pelgaisti_session_lock(own, &record, PELGAISTI_X, PELGAISTI_FOREVER, &answer) == PELGAISTI_OK, "a word"); /* one lock closes no cycle */
         met[word]++;
         must(ask(own, PELGAISTI_COMMIT, NULL) == PELGAISTI_COMMITTED, "commit");
     }
@@ -113,17 +102,15 @@ static void *count_words(void *argument) {
 static void keys_collide(void) {
     const pelgaisti_resource ab = of_hash(8, 1), ba = of_hash(8, 1), cd = of_hash(8, 2), dc = of_hash(8, 2), e = of_hash(8, 3);
     pelgaisti_session *one = &sessions[0], *two = &sessions[1];
-    uint32_t levels[6] = {0, 0, 0, 0, 0, 0};
     for (int k = 0; k < 2; k++) must(ask(&sessions[k], PELGAISTI_BEGIN, NULL) == PELGAISTI_BEGAN, "begin");
-    must(lock(one, &ab, &levels[0]) == PELGAISTI_GRANTED && lock(one, &ba, &levels[1]) == PELGAISTI_GRANTED, "both keys");
-    must(lock(two, &cd, &levels[2]) == PELGAISTI_GRANTED && lock(two, &ba, &levels[3]) == PELGAISTI_WAITING, "a wait for another key");
+    must(lock(one, &ab) == PELGAISTI_GRANTED && lock(one, &ba) == PELGAISTI_GRANTED, "both keys");
+    must(lock(two, &cd) == PELGAISTI_GRANTED && lock(two, &ba) == PELGAISTI_WAITING, "a wait for another key");
     /* both are given back by one release: an engine counts, or keeps its locks to the end */
     must(ask(one, PELGAISTI_RELEASE, &ab) == PELGAISTI_RELEASED && ask(one, PELGAISTI_RELEASE, &ba) == PELGAISTI_REFUSED, "one release");
     must(ask(two, PELGAISTI_POLL, NULL) == PELGAISTI_CLEAR, "what was given back");
     /* one waits for "dc", which nobody has by its name: so the two close a cycle, and the younger is its victim */
-    must(lock(one, &e, &levels[4]) == PELGAISTI_GRANTED && lock(one, &dc, &levels[5]) == PELGAISTI_WAITING, "a second wait");
-    uint32_t level = 0;
-    must(lock(two, &e, &level) == PELGAISTI_DEADLOCK && ask(two, PELGAISTI_ABORT, NULL) == PELGAISTI_ABORTED, "a deadlock");
+    must(lock(one, &e) == PELGAISTI_GRANTED && lock(one, &dc) == PELGAISTI_WAITING, "a second wait");
+    must(lock(two, &e) == PELGAISTI_DEADLOCK && ask(two, PELGAISTI_ABORT, NULL) == PELGAISTI_ABORTED, "a deadlock");
     must(ask(one, PELGAISTI_POLL, NULL) == PELGAISTI_CLEAR && ask(one, PELGAISTI_COMMIT, NULL) == PELGAISTI_COMMITTED, "the end");
 }
 
@@ -136,8 +123,7 @@ int main(void) {
     FILE *random = fopen("/dev/urandom", "rb");
     must(random != NULL && fread(secret, sizeof secret, 1, random) == 1 && fclose(random) == 0, "no secret is drawn");
     must(hash(known, bytes, sizeof bytes) == UINT64_C(0xa129ca6149be45e5), "the hash isn't that of its paper");
-    must(pelgaisti_office_open_waking(sessions, THREADS, KEPT, &waker) == PELGAISTI_OK, "open");
-    for (int k = 0; k < THREADS; k++) must(sem_init(&woken[k], 0, 0) == 0, "a semaphore");
+    must(pelgaisti_office_open_keeping(sessions, THREADS, KEPT) == PELGAISTI_OK, "open");
     for (int k = 0; k < THREADS; k++) must(pthread_create(&threads[k], NULL, count_words, &sessions[k]) == 0, "a thread");
     for (int k = 0; k < THREADS; k++) pthread_join(threads[k], NULL);
     keys_collide();

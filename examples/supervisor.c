@@ -47,7 +47,7 @@ static void sleep_on(sem_t *it) {
     while (sem_wait(it) != 0) continue; /* a signal may end the sleep early */
 }
 
-/* The office's waker. */
+/* The office's waker. A call that waits for a lock sleeps until the lock is granted; here a thread sleeps until it is asked to end, too. */
 static void wake(void *engine, uint32_t session) { sem_post(&((client *)engine)[session].woken); }
 static const pelgaisti_waker waker = {wake, clients};
 
@@ -81,20 +81,21 @@ static void begin(client *it) {
 /* Locks an account exclusively, under an intention lock on database 1. Returns 0 if the transaction has to end: it became a victim, or
    somebody has asked for it. Then its request may wait still. */
 static int lock_account(const client *it, uint32_t account) {
-    const pelgaisti_resource resource = {2, {1, account}};
-    for (uint32_t level = 0; level < resource.level;) {
-        pelgaisti_answer answer;
+    pelgaisti_program path = {PELGAISTI_NOTHING, 0, PELGAISTI_IX, {PELGAISTI_LOCK, PELGAISTI_X, {2, {1, account}}}};
+    while (path.level < path.last.resource.level) {
+        pelgaisti_program_answer answer;
         if (is_asked(it)) return 0;
-        pelgaisti_status status =
-            pelgaisti_session_lock_path(&sessions[it->number - 1], &resource, PELGAISTI_X, &level, UINT64_MAX, &answer);
-        must(status == PELGAISTI_OK, "lock", pelgaisti_status_name(status));
-        while (answer.reply.kind == PELGAISTI_WAITING) {
+        pelgaisti_status status = pelgaisti_session_run(&sessions[it->number - 1], &path, UINT64_MAX, &answer);
+        must(status == PELGAISTI_OK && !answer.starved, "lock", pelgaisti_status_name(status));
+        pelgaisti_reply last = answer.replies[answer.served - 1];
+        while (last.kind == PELGAISTI_WAITING) {
             sleep_on(&clients[it->number].woken);
             if (is_asked(it)) return 0;
-            answer.reply = ask(it, PELGAISTI_POLL);
+            last = ask(it, PELGAISTI_POLL);
         }
-        if (answer.reply.kind == PELGAISTI_DEADLOCK) return 0;
-        must(answer.reply.kind != PELGAISTI_REFUSED, "lock", pelgaisti_refusal_name(answer.reply.value));
+        if (last.kind == PELGAISTI_DEADLOCK) return 0;
+        must(last.kind != PELGAISTI_REFUSED, "lock", pelgaisti_refusal_name(last.value));
+        path.level += answer.served; /* the level at which it has waited is locked, too */
     }
     return 1;
 }

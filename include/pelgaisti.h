@@ -24,8 +24,9 @@
  * A lock table comes in two forms. A BOOK is a lock table for one thread, or for an engine that guards it by a mutex of its own:
  * each call is answered at once. An OFFICE is a lock table that threads share. Each thread has a session. Where the lock table is
  * free, it performs a call at once. Else it publishes the call, then serves and collects in turn until it has the answer.
- * pelgaisti_session_perform, pelgaisti_session_run and pelgaisti_session_lock_path do so, as often as they are told, and pause between
- * their turns, or sleep until the thread that has the lock table gives it back. No other call waits for another thread.
+ * pelgaisti_session_perform and pelgaisti_session_run do so, as often as they are told, and pause between their turns, or sleep until
+ * the thread that has the lock table gives it back. pelgaisti_session_lock and pelgaisti_session_wait sleep until a lock is granted, too.
+ * No other call waits for another thread.
  *
  * RULES FOR THE CALLER. The library is proved, but no proof covers the C code that calls it. Some calls have further rules, in
  * their comments after "Requires".
@@ -71,10 +72,10 @@
  * for a call that was to be performed at once, a pass was made that may have served other calls, and the waker was
  * called for whom it has told of; and where memory was refused for the answer to a question of a session, or for the room that it
  * reserves, the session may know more of the history. The calls that make several turns say for themselves what they leave
- * (pelgaisti_session_perform, .._run, .._lock_path).
+ * (pelgaisti_session_perform, .._run, .._lock, .._wait).
  *
  * WHAT IS PROVED. Each call leads to an export of crates/pelgaisti_c, which states and proves its contract: what PELGAISTI_OK means,
- * which other statuses the call can return, and what each of these implies. What stands between is in bindings/c, some 600 lines of C,
+ * which other statuses the call can return, and what each of these implies. What stands between is in bindings/c, some 1,000 lines of C,
  * and is tested: that calls are made and turns follow as their comments say, that SAME and COPIED are returned, that threads pause
  * and are woken, names. So are three sentences:
  * - NOT_SERVED. Proved: the session has a pending call, and that call is not in the part of the history that the session knows
@@ -133,7 +134,10 @@ typedef enum pelgaisti_status {
     PELGAISTI_NO_SUCH_START = 21,  /* the program's `start` is not a pelgaisti_start [program] */
     PELGAISTI_NOT_ON_PATH = 22,    /* the program's `level` isn't less than that of its last call's resource [program] */
     PELGAISTI_NO_SUCH_ABOVE = 23,  /* the program's `above` is not a pelgaisti_mode [program] */
-    PELGAISTI_SERVED = 24          /* calls were served already [called, exactly then] */
+    PELGAISTI_SERVED = 24,         /* calls were served already [called, exactly then] */
+    PELGAISTI_VICTIM = 25,         /* the transaction is a deadlock's victim: undo, then abort or restart [tested] */
+    PELGAISTI_TIMED_OUT = 26,      /* the lock wasn't granted in time, and is waited for no more [tested] */
+    PELGAISTI_DENIED = 27          /* the request was refused; the answer has the pelgaisti_why [tested] */
 } pelgaisti_status;
 
 /* The lock modes of Gray, Lorie, Putzolu and Traiger (1976), and U. The or of two codes is their least upper bound's code. */
@@ -339,6 +343,13 @@ typedef struct pelgaisti_program_answer {
     pelgaisti_reply replies[PELGAISTI_CALLS]; /* the reply to each call that was served; behind them 0 */
 } pelgaisti_program_answer;
 
+/* What pelgaisti_session_lock and .._wait tell beside their status. */
+typedef struct pelgaisti_lock_answer {
+    uint32_t level; /* how many levels of the path the session holds as it was asked for, from the database down; of .._wait 0 */
+    uint32_t why;   /* with DENIED a pelgaisti_why; else 0 */
+    uint64_t place; /* the index in the history of the last call that was answered, from 0 */
+} pelgaisti_lock_answer;
+
 /* The counters of a history: all calls from its beginning, also those whose entries were let go. All but `waiting` only grow. A call of
    a program or of a path counts by itself, and one that is refused counts, too. Each request was granted at once, began a wait or was
    refused:
@@ -448,6 +459,7 @@ PELGAISTI_ASSERT_(answer, sizeof(pelgaisti_answer) == 24 && offsetof(pelgaisti_a
 PELGAISTI_ASSERT_(pass, sizeof(pelgaisti_pass) == 8 && offsetof(pelgaisti_pass, starved) == 4);
 PELGAISTI_ASSERT_(program, sizeof(pelgaisti_program) == 44 && offsetof(pelgaisti_program, last) == 12);
 PELGAISTI_ASSERT_(program_answer, sizeof(pelgaisti_program_answer) == 136 && offsetof(pelgaisti_program_answer, replies) == 24);
+PELGAISTI_ASSERT_(lock_answer, sizeof(pelgaisti_lock_answer) == 16 && offsetof(pelgaisti_lock_answer, place) == 8);
 PELGAISTI_ASSERT_(counts, sizeof(pelgaisti_counts) == 280 && offsetof(pelgaisti_counts, refusals) == 88);
 PELGAISTI_ASSERT_(gauges, sizeof(pelgaisti_gauges) == 32 && offsetof(pelgaisti_gauges, longest_queue) == 24);
 PELGAISTI_ASSERT_(pass_counts, sizeof(pelgaisti_pass_counts) == 24 && offsetof(pelgaisti_pass_counts, starved) == 16);
@@ -688,22 +700,6 @@ uint32_t pelgaisti_parent_mode(uint32_t mode);
    locks the level without waiting. */
 pelgaisti_call pelgaisti_path_call(const pelgaisti_resource *resource, uint32_t mode, uint32_t level);
 
-/* Locks a path: the ancestors of the resource, from the database down, each in pelgaisti_parent_mode(mode), and then the resource
-   in `mode`. `level` says how many levels of the path are locked already, 0 at first; the call locks the rest, each by a call of
-   its own in the history, and raises `level` by 1 for each that is granted. It stops at the first reply other than GRANTED, or when
-   `level` is that of the resource, and writes the last reply to `reply`. After a WAITING that ended with CLEAR the caller makes the
-   same call again, with the `level` that it was left: what is held already is granted once more and changes nothing.
-   Writes the sessions whose wait one of these calls has ended to `list`, each once, in no particular order, and how many they are to
-   `count`, as pelgaisti_book_ended does. Where threads sleep, the caller wakes these, whatever the status is: each
-   status but NULL writes `count`, 0 if nobody's wait has ended. `room` is at least the book's number of sessions, which
-   PELGAISTI_MAX_SESSIONS always is. With NO_ROOM no call was made.
-   With a status other than OK, `level`, `reply`, `list` and `count` tell of the calls that were served before it.
-   Requires `room` elements at `list`.
-   NULL, NO_SUCH_LEVEL (the resource's, or `level` isn't less than it), CLOSED, NO_ROOM, NO_SUCH_SESSION, NO_SUCH_MODE, NO_MEMORY. */
-pelgaisti_status pelgaisti_book_lock_path(pelgaisti_book *book, uint32_t session, const pelgaisti_resource *resource,
-                                          uint32_t mode, uint32_t *level, pelgaisti_reply *reply, uint32_t *list, size_t room,
-                                          size_t *count);
-
 /* Runs a program of the session: makes its calls one after another, each with an entry of its own in the history, up to the first reply
    at which it stops, and writes the answer. So an engine that guards the book by a mutex acquires it once for a whole program.
    Writes the sessions whose wait these calls have ended to `list`, each once, in no particular order, and how many they are to `count`;
@@ -729,11 +725,12 @@ pelgaisti_status pelgaisti_office_open(pelgaisti_session *sessions, size_t count
    follows what is held and waited for [tested, for an office]. UINT64_MAX is no bound. */
 pelgaisti_status pelgaisti_office_open_keeping(pelgaisti_session *sessions, size_t count, uint64_t bound);
 
-/* Opens an office as pelgaisti_office_open_keeping does, whose threads sleep while they wait for a lock. From then on each call on one
+/* Opens an office as pelgaisti_office_open_keeping does, for an engine whose threads sleep by its own means while they wait for a lock;
+   those in pelgaisti_session_lock and .._wait sleep in the library, in each office. From then on each call on one
    of its sessions that makes a pass calls `wake` of the waker for each session whose wait the pass has ended, once, in no
    particular order: whose waiting request a call of another session in this pass granted, or whose transaction it made a deadlock's
-   victim. Passes are made by pelgaisti_session_serve, .._serve_telling, .._perform_at_once, .._perform_telling, .._perform, .._run
-   and .._lock_path. They wake after the pass, before they return, whatever status they return.
+   victim. Passes are made by pelgaisti_session_serve, .._serve_telling, .._perform_at_once, .._perform_telling, .._perform, .._run,
+   .._lock and .._wait. They wake after the pass, before they return, whatever status they return.
    The office takes the memory for whom a pass tells when it is opened, so that none of these calls lacks it later [proved: statuses of
    the export of .._serve, and memory of that of .._perform_at_once, by which NO_MEMORY comes of the call alone, behind a pass], but
    for the lists of .._serve_telling and .._perform_telling.
@@ -759,7 +756,7 @@ pelgaisti_status pelgaisti_office_open_keeping(pelgaisti_session *sessions, size
    A thread that waits only for some time sleeps by sem_timedwait. When the time is over it makes the call WITHDRAW. The reply
    WITHDRAWN means that no pass has ended the wait: the semaphore isn't posted for it, and the transaction goes on, or aborts. If the
    call is refused with NOT_WAITING or IS_DOOMED, a pass has ended the wait meanwhile, and the semaphore is posted or will be: the
-   thread sleeps on it by sem_wait and polls, as if there were no limit. examples/engine.c does so.
+   thread sleeps on it by sem_wait and polls, as if there were no limit. pelgaisti_session_lock and .._wait do the like.
 
    Why no wake-up is lost. (1) A session whose last answer is WAITING, collected or not, has a waiting request, or an entry of the
    history behind that answer has ended its wait, which exactly one session has entered in a pass [proved: waits_or_ended of
@@ -922,7 +919,7 @@ pelgaisti_status pelgaisti_session_gauges(pelgaisti_session *session, pelgaisti_
    NULL, CLOSED, ELSEWHERE. */
 pelgaisti_status pelgaisti_session_passes(pelgaisti_session *session, pelgaisti_pass_counts *passes, uint64_t *seen);
 
-/* How much a pass in the session's whole calls (perform, run, lock_path) serves from now on: in a round at most `calls` published calls and
+/* How much a pass in the session's whole calls (perform, run, lock, wait) serves from now on: in a round at most `calls` published calls and
    programs (1 to 65,535), and none once those that it has taken give back `locks` locks (from 1 on): all locks of a session whose call or
    program begins with a commit, an abort or a restart. Then the thread has the lock table for `rounds` rounds at most (1 to 65,535), and
    fewer if one finds no call. What a pass leaves stays published, and the next one of any session finds it. An office begins with 64
@@ -959,7 +956,7 @@ pelgaisti_status pelgaisti_session_mark(pelgaisti_session *session, uint64_t *ma
 /* Makes all that `other` knows of the history known to `session`: what `session` publishes from then on is entered into the
    history after every entry that `other` has seen. `other` learns nothing. The call uses both handles.
    Requires that sessions with the same mark belong to the same office, as they do: the offices of two copies of the library have
-   different marks, too, at least the first 2^31 of each copy [tested].
+   different marks, too, those of the first 2^35 sessions of each copy [tested].
    NULL, SAME, CLOSED (one of the handles), OTHER_OFFICE. */
 pelgaisti_status pelgaisti_session_hear(pelgaisti_session *session, pelgaisti_session *other);
 
@@ -989,9 +986,8 @@ pelgaisti_status pelgaisti_office_close(pelgaisti_session *session, pelgaisti_bo
    so a call of at most 128 turns never sleeps. Each call that may have had the lock table wakes who sleeps, before it calls the waker.
    Behind the last turn the call is published, if it isn't yet. With 0 turns it is published and nothing else. With NULL for `call` all
    turns look for the answer to the call that is pending; with 0 turns none does.
-   The answer may be WAITING: this call waits for an answer, not for a lock. Whoever waits for a lock sleeps until the office's waker
-   wakes it, and then polls. In an office without a waker it polls, and sleeps between two polls: 10 microseconds at first, and twice
-   as long each time up to a millisecond.
+   The answer may be WAITING: this call waits for an answer, not for a lock. Whoever waits for the lock calls pelgaisti_session_wait; or
+   sleeps until the office's waker wakes it, and then polls.
    NOT_SERVED: after so many turns there is no answer. NO_MEMORY: memory was refused, for the call or in a pass of this session, and
    there is no answer yet. With both the call is pending, and NULL for `call` goes on with it.
    [proved of each turn; tested: that they follow one another, and what is done between them]
@@ -1018,17 +1014,43 @@ pelgaisti_status pelgaisti_session_perform(pelgaisti_session *session, const pel
 pelgaisti_status pelgaisti_session_run(pelgaisti_session *session, const pelgaisti_program *program, uint64_t turns,
                                        pelgaisti_program_answer *answer);
 
-/* Like pelgaisti_book_lock_path, for a session of an office: makes turns as pelgaisti_session_perform does, at most `turns` for each time
-   that a level is locked, and writes the last answer. A turn that takes the lock table performs all the calls that are left.
-   PENDING: the session has a pending call, be it one that an earlier call of this function has left. Nothing has changed, and
-   nothing was written.
-   NOT_SERVED, NO_MEMORY: the path's next call, which locks level `level` + 1, is pending, and `level` and `answer` tell of the calls
-   that were answered before it. The caller finishes it by pelgaisti_session_perform with NULL for `call`, or by serve and collect,
-   and goes by its answer as by one of this function: after GRANTED, or a WAITING that ended with CLEAR, it makes the same call
-   again, with the `level` that it was left. That begins with this level again, which is granted once more and changes nothing.
-   NULL, NO_SUCH_LEVEL, and the statuses of pelgaisti_session_perform with a call. */
-pelgaisti_status pelgaisti_session_lock_path(pelgaisti_session *session, const pelgaisti_resource *resource, uint32_t mode,
-                                             uint32_t *level, uint64_t turns, pelgaisti_answer *answer);
+/* ---- Locks that are waited for. ---- */
+
+/* A time-out without an end. */
+#define PELGAISTI_FOREVER UINT64_MAX
+
+/* Locks a resource in a mode, and waits for the lock: first its ancestors, from the database down, each in pelgaisti_parent_mode(mode),
+   then the resource. While a request waits, the thread sleeps, until it is granted, or the transaction becomes a deadlock's victim, or the
+   time is over. It ends in one of five ways, and writes the answer in each; with any other status nothing has changed, and nothing was
+   written:
+       OK          the session holds the resource in the mode at least, and its ancestors.
+       VICTIM      the transaction is a deadlock's victim. It keeps its locks: undo, then PELGAISTI_ABORT or PELGAISTI_RESTART.
+       TIMED_OUT   the request of level `level` + 1 wasn't granted in time, and was taken back. The transaction goes on, and holds the
+                   `level` levels above. The same call may be made again.
+       DENIED      the request of level `level` + 1 was refused for `why`, such as NO_TRANSACTION or TOO_MANY_LOCKS.
+       NO_MEMORY   memory was refused, and a program or call may be pending: requests, a question, or a withdrawal. pelgaisti_session_wait
+                   goes on with it, whatever it is; behind its OK this call may be made again, from the beginning.
+   `timeout_ms` is in milliseconds, from the first request of the path that has to wait on, for the whole path: by a clock that nobody sets,
+   which stands still while the machine is suspended. The thread may wake later than that, by what the system needs. With 0 no
+   request waits: each is a PELGAISTI_TRY, and nobody becomes a victim. PELGAISTI_FOREVER has no end. A time-out bounds the wait for
+   locks, not for the lock table: that the call waits for as pelgaisti_session_run does without a limit of turns.
+   If the time is over at the moment at which the request is granted, or the transaction doomed, the status says so: OK, VICTIM. It is
+   TIMED_OUT only if the request was taken back ungranted.
+   A signal doesn't end the sleep. The call is no cancellation point: a thread that is cancelled meanwhile goes on, with the outcome, to
+   its next one. An office that has a waker may be used so, too: then the waker is called besides.
+   [tested]
+   NULL, CLOSED, NO_SUCH_LEVEL, NO_SUCH_MODE, RETIRED, PENDING; NO_MEMORY, VICTIM, TIMED_OUT, DENIED. */
+pelgaisti_status pelgaisti_session_lock(pelgaisti_session *session, const pelgaisti_resource *resource, uint32_t mode,
+                                        uint64_t timeout_ms, pelgaisti_lock_answer *answer);
+
+/* Waits as pelgaisti_session_lock does, for the request by which the session waits: of pelgaisti_session_perform or .._run, if it was
+   answered WAITING. If a call or a program is pending, finishes it first, and goes by its last reply. Polls first, so that a request that
+   is granted already ends the call at once. With 0 for `timeout_ms` takes a request that still waits back.
+       OK          the session waits for nothing: the request was granted, if it had one.
+       VICTIM, TIMED_OUT, DENIED, NO_MEMORY as above; behind NO_MEMORY the same call goes on. `level` is 0.
+   [tested]
+   NULL, CLOSED, RETIRED; NO_MEMORY, VICTIM, TIMED_OUT, DENIED. */
+pelgaisti_status pelgaisti_session_wait(pelgaisti_session *session, uint64_t timeout_ms, pelgaisti_lock_answer *answer);
 
 #undef PELGAISTI_NOEXCEPT_TYPE_
 

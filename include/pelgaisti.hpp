@@ -21,6 +21,8 @@
 #include "pelgaisti.h"
 #include <algorithm>
 #include <atomic>
+#include <chrono>
+#include <cmath>
 #include <cstdint>
 #include <cstdlib>
 #include <exception>
@@ -117,6 +119,18 @@ struct [[nodiscard]] reply {
     explicit reply(const pelgaisti_reply &it) : kind(static_cast<pelgaisti::kind>(it.kind)), value(it.value) {}
 };
 struct [[nodiscard]] answer { uint64_t place; pelgaisti::reply reply; };
+// How a lock that was waited for has ended: how many levels of the path are held as asked for, why it was denied, and the place of the last
+// call. A victim undoes, and aborts or restarts.
+enum class outcome : uint32_t { granted = PELGAISTI_OK, victim = PELGAISTI_VICTIM, timed_out = PELGAISTI_TIMED_OUT,
+                                denied = PELGAISTI_DENIED };
+struct [[nodiscard]] locked {
+    pelgaisti::outcome outcome; uint32_t level; refusal why; uint64_t place;
+    explicit operator bool() const { return outcome == pelgaisti::outcome::granted; }
+};
+template <class Rep, class Period> uint64_t milliseconds_of(const std::chrono::duration<Rep, Period> &within) {
+    const auto all = std::ceil(std::chrono::duration<double, std::milli>(within).count());
+    return !(all > 0) ? 0 : all < 1.8e19 ? static_cast<uint64_t>(all) : PELGAISTI_FOREVER;
+}
 // What a program does with the session's transaction first.
 enum class start : uint32_t { nothing = 0, begins, commits, aborts, commits_and_begins, aborts_and_begins, restarts };
 // The whole state of a lock table at one moment: its place in the history, and its rows, as pelgaisti_book_dump writes them.
@@ -212,20 +226,6 @@ public:
     // Serves the calls in order and makes each its entry of the history; how many were served: fewer if memory was refused.
     [[nodiscard]] size_t serve_batch(std::vector<entry> &calls) {
         return made_by<size_t>([&](auto *n) { return pelgaisti_book_serve_batch(&handle_, calls.data(), calls.size(), n); });
-    }
-    // Locks a path of which `level` levels are locked already: the other ancestors of the resource in the mode that it needs there, and the
-    // resource. `level` is raised by 1 for each that is granted, and it stops at the first reply other than granted. NO_SUCH_LEVEL: all
-    // levels are locked already. Adds the sessions whose wait one of these calls has ended to `ended`, each once, also if a later one of
-    // them throws.
-    pelgaisti::reply lock_path(uint32_t session, const pelgaisti::resource &on, mode in, uint32_t &level,
-                               std::vector<uint32_t> &ended) {
-        uint32_t list[all];
-        size_t count = 0;
-        pelgaisti_reply made{};
-        ended.reserve(ended.size() + all);  // before any call, so that none of them is lost for want of memory
-        const auto status = pelgaisti_book_lock_path(&handle_, session, &on, static_cast<uint32_t>(in), &level, &made, list, all, &count);
-        ended.insert(ended.end(), list, list + count);
-        return check(status), reply(made);
     }
     // Runs a program: its calls one after another, up to the first reply at which it stops. Adds the sessions whose wait one of them has
     // ended to `ended`, each once.
@@ -353,17 +353,21 @@ public:
     [[nodiscard]] std::optional<answer> resume(uint64_t turns = UINT64_MAX) {
         return told([&](auto *found) { return pelgaisti_session_perform(&handle_, nullptr, turns, found); });
     }
-    // Like book::lock_path, each call in at most `turns` turns. PENDING: the session has a pending call already, and nothing has
-    // changed. Nothing, or NO_MEMORY: the call that locks level `level` + 1 is pending. resume() gives its answer. If that is granted,
-    // or waiting and then clear, the same call goes on, with the `level` that it was left.
-    [[nodiscard]] std::optional<answer> lock_path(const resource &on, mode in, uint32_t &level, uint64_t turns = UINT64_MAX) {
-        const auto how = static_cast<uint32_t>(in);
-        return told([&](auto *it) { return pelgaisti_session_lock_path(&handle_, &on, how, &level, turns, it); });
-    }
     // Runs a program at once, or publishes, serves and collects, at most `turns` times: no other session's call comes between its calls.
     // Nothing, or NO_MEMORY: resume_program() goes on. So it does with a pending call, which is a program of one.
     [[nodiscard]] std::optional<program_answer> run(const program &calls, uint64_t turns = UINT64_MAX) { return run_by(&calls, turns); }
     [[nodiscard]] std::optional<program_answer> resume_program(uint64_t turns = UINT64_MAX) { return run_by(nullptr, turns); }
+    // Locks a resource, and its ancestors before it, and waits for each lock: without end; or at most `within` in all, rounded up to
+    // milliseconds, and with 0 or less not at all. NO_MEMORY: wait() goes on, and behind its granted the same call is made again.
+    locked lock(const resource &on, mode in) { return lock_for(on, in, PELGAISTI_FOREVER); }
+    template <class Rep, class Period> locked lock(const resource &on, mode in, const std::chrono::duration<Rep, Period> &within) {
+        return lock_for(on, in, milliseconds_of(within));
+    }
+    // Waits so for the request by which the session waits: of a call or a program that was answered waiting, or is pending still.
+    locked wait() { return wait_for(PELGAISTI_FOREVER); }
+    template <class Rep, class Period> locked wait(const std::chrono::duration<Rep, Period> &within) {
+        return wait_for(milliseconds_of(within));
+    }
     // Takes up to `room` of the oldest entries that are kept, from the place `first` on; nothing if another session has the table.
     [[nodiscard]] std::optional<std::vector<entry>> take_history(size_t room, uint64_t &first) {
         if (room > 256) {  // no more room than for what is kept: takes nothing, which tells where it begins and ends
@@ -483,6 +487,20 @@ private:
         made.found.resize(most);
         return std::optional(std::move(made));
     }
+    static locked waited(pelgaisti_status status, const pelgaisti_lock_answer &it) {
+        if (status < PELGAISTI_VICTIM) check(status);
+        return {static_cast<outcome>(status), it.level, static_cast<refusal>(it.why), it.place};
+    }
+    locked lock_for(const resource &on, mode in, uint64_t timeout_ms) {
+        pelgaisti_lock_answer made{};
+        const auto status = pelgaisti_session_lock(&handle_, &on, static_cast<uint32_t>(in), timeout_ms, &made);
+        return waited(status, made);
+    }
+    locked wait_for(uint64_t timeout_ms) {
+        pelgaisti_lock_answer made{};
+        const auto status = pelgaisti_session_wait(&handle_, timeout_ms, &made);
+        return waited(status, made);
+    }
     template <class Call> static std::optional<answer> told(Call call) {
         pelgaisti_answer found{};
         const pelgaisti_status status = call(&found);
@@ -527,8 +545,8 @@ public:
     explicit office(size_t sessions, uint64_t bound = UINT64_MAX) : sessions_(closed(sessions)), count_(sessions) {
         check(pelgaisti_office_open_keeping(&sessions_[0].handle_, sessions, bound));
     }
-    // An office whose threads sleep while they wait for a lock: each call of its sessions that makes a pass calls the waker, of which
-    // the office keeps a copy, for each session whose wait the pass has ended. ask_to_end calls it, too.
+    // An office whose engine sleeps by its own means while it waits for a lock: each call of its sessions that makes a pass calls the
+    // waker, of which the office keeps a copy, for each session whose wait the pass has ended. ask_to_end calls it, too.
     office(size_t sessions, const pelgaisti::waker &wakes, uint64_t bound = UINT64_MAX)
         : waker_(wakes), sessions_(closed(sessions)), count_(sessions) {
         check(pelgaisti_office_open_waking(&sessions_[0].handle_, sessions, bound, &waker_));

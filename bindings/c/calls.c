@@ -34,14 +34,15 @@ __attribute__((weak)) void AnnotateIgnoreReadsEnd(const char *file, int line);
 #define IS_WATCHED __builtin_expect(__tsan_acquire != NULL, 0)
 
 /* What a call of a session orders: behind a call that acquires, and returns OK, a thread sees what others wrote before their calls that
-   release; so it does behind one that is answered in parts, if it returns NOT_SERVED. */
-enum { ORDERS_NOTHING = 0, RELEASES = 1, ACQUIRES = 2, IN_PARTS = 4 };
+   release. */
+enum { ORDERS_NOTHING = 0, RELEASES = 1, ACQUIRES = 2 };
 
 /* What stands for the words of the session's office: an address for its mark. Nothing is written there. */
 static void *words_of(pelgaisti_session *session) {
     static uint64_t words[1024];
     uint64_t mark = 0, *at = &mark;
-    pelgaisti_raw_session_mark(&session, &at);
+    uint32_t number;
+    pelgaisti_raw_session_mark(&session, &at, &number);
     return &words[mark % 1024];
 }
 
@@ -58,8 +59,7 @@ static COLD void begin_use(void *handle, int order) {
 }
 
 static COLD pelgaisti_status end_use(void *handle, int order, uint32_t status) {
-    int is_answered = status == PELGAISTI_OK || ((order & IN_PARTS) && status == PELGAISTI_NOT_SERVED);
-    if ((order & ACQUIRES) && is_answered) __tsan_acquire(words_of(handle));
+    if ((order & ACQUIRES) && status == PELGAISTI_OK) __tsan_acquire(words_of(handle));
     AnnotateIgnoreReadsEnd("pelgaisti", 0);
     return (pelgaisti_status)status;
 }
@@ -247,13 +247,6 @@ pelgaisti_status pelgaisti_book_idle_cells(pelgaisti_book *book, size_t *cells) 
     return WRITING(cells, CALL(book, pelgaisti_raw_book_idle_cells(&book, &cells)));
 }
 
-pelgaisti_status pelgaisti_book_lock_path(pelgaisti_book *book, uint32_t session, const pelgaisti_resource *resource, uint32_t mode,
-                                          uint32_t *level, pelgaisti_reply *reply, uint32_t *list, size_t room, size_t *count) {
-    return WRITING(reply, LISTING(list, room, count,
-                   CALL(book, pelgaisti_raw_book_lock_path(&book, session, &resource, mode, &level, &reply, LIST(list, room),
-                        &count))));
-}
-
 pelgaisti_status pelgaisti_book_run(pelgaisti_book *book, uint32_t session, const pelgaisti_program *program,
                                     pelgaisti_program_answer *answer, uint32_t *list, size_t room, size_t *count) {
     return WRITING(answer, LISTING(list, room, count,
@@ -262,15 +255,18 @@ pelgaisti_status pelgaisti_book_run(pelgaisti_book *book, uint32_t session, cons
 
 /* ---- Offices: how they are opened, and how they wake. ---- */
 
+/* That of an office which the engine has given none: the library wakes who sleeps in it. */
+static const pelgaisti_waker no_waker = {NULL, NULL};
+
 /* Opens an office with a mark of its own. */
 static pelgaisti_status open_office(pelgaisti_session *sessions, size_t count, uint64_t bound, const pelgaisti_waker *waker,
                                     uint64_t seed, size_t deadlocks) {
-    const uint64_t at = (uint64_t)(uintptr_t)waker;
+    const uint64_t at = (uint64_t)(uintptr_t)(waker ? waker : &no_waker);
     pelgaisti_status status;
     size_t k;
     for (k = 1; sessions && k < count && count <= PELGAISTI_MAX_SESSIONS; k++)
         if (use_too(&sessions[k])) return PELGAISTI_COPIED;
-    status = CALL(sessions, pelgaisti_raw_office_open(LIST(sessions, count), draw_mark(), bound, at, seed, deadlocks));
+    status = CALL(sessions, pelgaisti_raw_office_open(LIST(sessions, count), draw_mark(count), bound, at, seed, deadlocks));
     for (k = 1; k < count && status == PELGAISTI_OK; k++) noting(&sessions[k], status);
     return status;
 }
@@ -298,37 +294,43 @@ pelgaisti_status pelgaisti_office_open_telling(pelgaisti_session *sessions, size
     return !waker || waker->wake ? open_office(sessions, count, bound, waker, draw_seed(), deadlocks) : PELGAISTI_NULL;
 }
 
-/* The waker of the session's office, or NULL. */
+/* The waker of the session's office. */
 static const pelgaisti_waker *waker_of(pelgaisti_session *session) {
     uint64_t at = 0;
     CALL(session, pelgaisti_raw_session_waker(&session, &at));
     return (const pelgaisti_waker *)(uintptr_t)at;
 }
 
-/* Calls the waker for each session of a list. Meanwhile the handle of the session whose call made the pass is closed, so that a waker which
-   uses it, against the rules, gets CLOSED, and changes nothing of the call that goes on behind it. */
-static void wake_all(pelgaisti_session *session, const pelgaisti_waker *waker, const uint32_t *list, size_t count) {
+pelgaisti_status place_of(pelgaisti_session *session, uint64_t *mark, uint32_t *number) {
+    return CALL(session, pelgaisti_raw_session_mark(&session, &mark, number));
+}
+
+static uint64_t mark_of(pelgaisti_session *session) {
+    uint64_t mark = 0;
+    uint32_t number;
+    place_of(session, &mark, &number);
+    return mark;
+}
+
+/* Wakes the sessions of a list. Meanwhile the handle of the session whose call made the pass is closed, so that a waker which uses it,
+   against the rules, gets CLOSED, and changes nothing of the call that goes on behind it. */
+static COLD void wake_all(pelgaisti_session *session, const uint32_t *list, size_t count) {
+    const pelgaisti_waker *waker = waker_of(session);
+    const uint64_t mark = mark_of(session);
     const pelgaisti_session open = *session;
     *session = pelgaisti_empty_session();
-    wake_each(waker, list, count);
+    wake_each(waker, mark, list, count);
     *session = open;
 }
 
 /* Wakes the sessions that the session's last pass has told of, so many. */
 static COLD void wake_told(pelgaisti_session *session, size_t told) {
-    const pelgaisti_waker *waker = waker_of(session);
     uint32_t list[16];
     size_t first, count = 0;
-    for (first = 0; waker && first < told; first += 16) {
+    for (first = 0; first < told; first += 16) {
         CALL(session, pelgaisti_raw_session_told(&session, first, list, 16, &count));
-        wake_all(session, waker, list, told - first < 16 ? told - first : 16);
+        wake_all(session, list, told - first < 16 ? told - first : 16);
     }
-}
-
-/* Wakes the sessions of a list, if the session's office has a waker. */
-static COLD void wake_listed(pelgaisti_session *session, const uint32_t *list, size_t count) {
-    const pelgaisti_waker *waker = waker_of(session);
-    if (waker) wake_all(session, waker, list, count);
 }
 
 /* ---- Sleep: a session that has waited for long in a whole call sleeps, and whoever had the lock table wakes it. The archive says who may
@@ -341,11 +343,11 @@ enum { TURNS_AWAKE = 128, TURNS_BETWEEN_SLEEPS = 8 };
 /* Ends the sleeps of all sessions of the office, and wakes their threads. */
 static COLD void rouse_all(pelgaisti_session *session) {
     uint32_t list[PELGAISTI_MAX_SESSIONS];
-    uint64_t mark = 0, *at = &mark;
+    uint64_t mark;
     size_t k, count = 0;
     CALL(session, pelgaisti_raw_session_rouse(&session, list, PELGAISTI_MAX_SESSIONS, &count));
     if (count == 0) return;
-    CALL(session, pelgaisti_raw_session_mark(&session, &at));
+    mark = mark_of(session);
     for (k = 0; k < count; k++) wake_thread(mark, list[k]);
 }
 
@@ -368,15 +370,14 @@ static inline pelgaisti_status behind_hold(pelgaisti_session *session, pelgaisti
 /* Sleeps until another session's thread has ended the sleep. Returns at once if the lock table is free. The count of wake-ups is read
    before the look whether the sleep is ended: a wake-up behind the look changes it, and the thread doesn't sleep past it. */
 static COLD void sleep_until_roused(pelgaisti_session *session) {
-    uint64_t mark = 0, *at = &mark;
+    const uint64_t mark = mark_of(session);
     uint32_t number = 0, may_sleep = 0, is_roused = 0, seen;
-    CALL(session, pelgaisti_raw_session_mark(&session, &at));
     __atomic_add_fetch(&sleepers, 1, __ATOMIC_SEQ_CST);
     CALL(session, pelgaisti_raw_session_begin_sleep(&session, &number, &may_sleep));
     while (may_sleep && !is_roused) {
         seen = wake_ups_so_far(mark, number);
         CALL(session, pelgaisti_raw_session_is_roused(&session, &is_roused));
-        if (!is_roused) sleep_since(mark, number, seen);
+        if (!is_roused) sleep_since(mark, number, seen, NULL);
     }
     __atomic_sub_fetch(&sleepers, 1, __ATOMIC_SEQ_CST);
 }
@@ -409,7 +410,7 @@ pelgaisti_status pelgaisti_session_serve_telling(pelgaisti_session *session, pel
     pelgaisti_pass unread, *made = pass ? pass : &unread;
     pelgaisti_status status;
     status = HOLDING(session, pelgaisti_raw_session_serve_telling(&session, &made, LIST(list, room), &count));
-    if (status == PELGAISTI_OK && *count > 0) wake_listed(session, list, *count);
+    if (status == PELGAISTI_OK && *count > 0) wake_all(session, list, *count);
     return WRITING(made, LISTING(list, room, count, status));
 }
 
@@ -430,7 +431,7 @@ pelgaisti_status pelgaisti_session_perform_telling(pelgaisti_session *session, c
     pelgaisti_status status;
     status = ORDERING_HOLD(session, RELEASES | ACQUIRES,
                            pelgaisti_raw_session_perform_telling(&session, &call, &made, &answer, LIST(list, room), &count));
-    if ((status == PELGAISTI_OK || status == PELGAISTI_NO_MEMORY) && *count > 0) wake_listed(session, list, *count);
+    if ((status == PELGAISTI_OK || status == PELGAISTI_NO_MEMORY) && *count > 0) wake_all(session, list, *count);
     return WRITING(made, WRITING(answer, LISTING(list, room, count, status)));
 }
 
@@ -480,22 +481,6 @@ pelgaisti_status pelgaisti_session_perform(pelgaisti_session *session, const pel
     it.answer = answer;
     status = make_turn(&it, 0);
     return WRITING(answer, status == PELGAISTI_OK && it.told == 0 ? status : go_on(&it, status));
-}
-
-pelgaisti_status pelgaisti_session_lock_path(pelgaisti_session *session, const pelgaisti_resource *resource, uint32_t mode,
-                                             uint32_t *level, uint64_t turns, pelgaisti_answer *answer) {
-    pelgaisti_status status;
-    uint64_t made = 0;
-    uint32_t wait = 0;
-    size_t told = 0;
-    for (;;) {
-        status = ORDERING_HOLD(session, RELEASES | ACQUIRES | IN_PARTS,
-                               pelgaisti_raw_session_path_turn(&session, &resource, mode, &level, &made, turns, &answer, &wait,
-                                                               &told));
-        if (told > 0) wake_told(session, told);
-        if (status != PELGAISTI_NOT_SERVED || wait == 0) return WRITING(answer, status);
-        wait_or_sleep(session, wait, made, turns);
-    }
 }
 
 /* Makes one turn of the program, or with NULL of what is pending, behind `made` turns. */
@@ -621,7 +606,8 @@ pelgaisti_status pelgaisti_session_seen(pelgaisti_session *session, uint64_t *se
 }
 
 pelgaisti_status pelgaisti_session_mark(pelgaisti_session *session, uint64_t *mark) {
-    return WRITING(mark, CALL(session, pelgaisti_raw_session_mark(&session, &mark)));
+    uint32_t number;
+    return WRITING(mark, place_of(session, mark, &number));
 }
 
 pelgaisti_status pelgaisti_session_retire(pelgaisti_session *session) {

@@ -51,9 +51,6 @@ uint32_t pelgaisti_raw_book_keep_deadlocks(pelgaisti_book **book, size_t most);
 uint32_t pelgaisti_raw_book_deadlocks(pelgaisti_book **book, size_t most, pelgaisti_raw_list *list, size_t **count,
                                       pelgaisti_raw_list *members, size_t **member_count);
 uint32_t pelgaisti_raw_book_blockers(pelgaisti_book **book, uint32_t session, pelgaisti_raw_list *list, size_t **count);
-uint32_t pelgaisti_raw_book_lock_path(pelgaisti_book **book, uint32_t session, const pelgaisti_resource **resource,
-                                      uint32_t mode, uint32_t **level, pelgaisti_reply **reply, pelgaisti_raw_list *list,
-                                      size_t **count);
 uint32_t pelgaisti_raw_book_run(pelgaisti_book **book, uint32_t session, const pelgaisti_program **program,
                                 pelgaisti_program_answer **answer, pelgaisti_raw_list *list, size_t **count);
 /* `mark` is the number by which pelgaisti_raw_session_hear and pelgaisti_raw_session_hand_in tell offices apart: one that no other
@@ -80,11 +77,6 @@ uint32_t pelgaisti_raw_session_turn(pelgaisti_session **session, const pelgaisti
 /* The same of the call that is pending, behind `looked` turns. */
 uint32_t pelgaisti_raw_session_look(pelgaisti_session **session, uint64_t looked, uint64_t turns, pelgaisti_answer **answer,
                                     uint32_t *wait, size_t *told);
-/* One turn on the way down a path, of which `level` levels are locked, behind `made` turns for the next level, of at most `turns`. It writes
-   as pelgaisti_raw_session_turn does; with NOT_SERVED it may have locked levels, and then `made` is 0 and `wait` is 1. */
-uint32_t pelgaisti_raw_session_path_turn(pelgaisti_session **session, const pelgaisti_resource **resource, uint32_t mode,
-                                         uint32_t **level, uint64_t *made, uint64_t turns, pelgaisti_answer **answer,
-                                         uint32_t *wait, size_t *told);
 /* One turn of a program, behind `made` turns, of at most `turns`. It writes as pelgaisti_raw_session_turn does. */
 uint32_t pelgaisti_raw_session_run_turn(pelgaisti_session **session, const pelgaisti_program **program, uint64_t made,
                                         uint64_t turns, pelgaisti_program_answer **answer, uint32_t *wait, size_t *told);
@@ -121,7 +113,8 @@ uint32_t pelgaisti_raw_session_reserve(pelgaisti_session **session, size_t resou
 uint32_t pelgaisti_raw_session_shrink(pelgaisti_session **session, uint64_t **seen);
 uint32_t pelgaisti_raw_session_idle_cells(pelgaisti_session **session, size_t **cells, uint64_t **seen);
 uint32_t pelgaisti_raw_session_seen(pelgaisti_session **session, uint64_t **seen);
-uint32_t pelgaisti_raw_session_mark(pelgaisti_session **session, uint64_t **mark);
+/* Writes the mark of the session's office, and the session's number. */
+uint32_t pelgaisti_raw_session_mark(pelgaisti_session **session, uint64_t **mark, uint32_t *number);
 uint32_t pelgaisti_raw_session_waker(pelgaisti_session **session, uint64_t *waker);
 uint32_t pelgaisti_raw_session_told(pelgaisti_session **session, size_t first, uint32_t *list, size_t room, size_t *count);
 /* Begins a sleep, and writes the session's number. `may_sleep` is 1 if its thread may sleep until `.._is_roused` writes 1: some session had

@@ -107,12 +107,13 @@ fn account(number: u32) -> Resource {
 /// Locks an account. Returns false if the transaction has to end: it became a victim, or somebody has asked for it. Then its request may
 /// wait still.
 fn lock(engine: &Engine, session: &mut Session, transaction: u64, number: u32) -> bool {
-    let (account, mut level) = (account(number), 0);
-    while level < account.level() {
+    let mut level = 0; // how many levels of the path are locked
+    while let Some(path) = Program::locks(Start::Nothing, account(number), Mode::X, level) {
         if session.is_asked_to_end(transaction) {
             return false;
         }
-        let mut reply = session.lock_path(account, Mode::X, &mut level, u64::MAX).expect("memory for a call").reply;
+        let answer = session.run(&path, u64::MAX).expect("memory for a program");
+        let mut reply = answer.replies().last().expect("a call was made");
         while reply == Reply::Waiting {
             engine.sleep(session.number());
             if session.is_asked_to_end(transaction) {
@@ -123,7 +124,7 @@ fn lock(engine: &Engine, session: &mut Session, transaction: u64, number: u32) -
         match reply {
             Reply::Deadlock => return false,
             Reply::Refused(why) => panic!("a lock was refused: {why}"),
-            _ => (), // Granted, and the path is locked; or Clear, and the same call goes on
+            _ => level += answer.replies().len(), // the level at which it has waited is locked, too
         }
     }
     true

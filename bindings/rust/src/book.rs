@@ -1,6 +1,6 @@
 //! The lock table for one thread.
 
-use crate::calls::{level_code, Call, Mode, Reply, Resource};
+use crate::calls::{Call, Mode, Reply, Resource};
 use crate::claims::{Claim, Holder, Transaction};
 use crate::error::{done, same_version, Error};
 use crate::ffi::{self, RawClaim, RawEntry, RawHandle, RawHolder, RawProgramAnswer, RawReply, RawTransaction, MAX_SESSIONS};
@@ -102,57 +102,6 @@ impl Book {
         entries_by(items, |list, count| unsafe {
             ffi::pelgaisti_book_serve_batch(self.raw(), list.as_mut_ptr(), list.len(), count)
         })
-    }
-
-    /// Locks a path: the ancestors of the resource, from the database down, each in the mode that `mode` needs of a parent, and
-    /// then the resource in `mode`. `level` says how many levels are locked already, 0 at first, and is raised by 1 for each that
-    /// is granted. Stops at the first reply other than `Granted`, and returns the last reply. After a wait that ended with `Clear` the
-    /// same call goes on: it begins with the level at which it has waited. The path is locked once `level` is that of the resource.
-    /// [`Error::NoSuchLevel`]: it was before.
-    ///
-    /// Adds the sessions whose wait one of these calls has ended to `ended`, each once: those that [`Book::ended`] would tell of
-    /// after each call. Where threads sleep, the caller wakes these, also after an error. After an error `level` and `ended` tell of
-    /// the calls that were served before it.
-    ///
-    ///     # use pelgaisti::{Book, Call, Mode, Reply, Resource};
-    ///     let mut book = Book::open(1)?;
-    ///     let _ = book.serve(1, &Call::Begin)?;
-    ///     let (mut level, mut ended) = (0, Vec::new());
-    ///     let page = Resource::new(&[7, 2, 40]).unwrap();
-    ///     assert_eq!(book.lock_path(1, page, Mode::X, &mut level, &mut ended)?, Reply::Granted(Mode::X));
-    ///     assert_eq!((level, book.held(1, Resource::new(&[7]).unwrap())?, ended), (3, Mode::IX, vec![]));
-    ///     # Ok::<(), pelgaisti::Error>(())
-    pub fn lock_path(
-        &mut self,
-        session: u32,
-        resource: Resource,
-        mode: Mode,
-        level: &mut usize,
-        ended: &mut Vec<u32>,
-    ) -> Result<Reply, Error> {
-        // before any call, so that none of them is lost for want of memory
-        ended.try_reserve(MAX_SESSIONS).map_err(|_| Error::NoMemory)?;
-        let begun = level_code(*level);
-        let (mut reached, mut reply) = (begun, RawReply::default());
-        let (mut list, mut count) = ([0; MAX_SESSIONS], 0);
-        // SAFETY: the handle is this book's; the list has room for the sessions of any book, the others are locals of their types
-        let status = unsafe {
-            ffi::pelgaisti_book_lock_path(
-                self.raw(),
-                session,
-                &resource.raw(),
-                mode.code(),
-                &mut reached,
-                &mut reply,
-                list.as_mut_ptr(),
-                list.len(),
-                &mut count,
-            )
-        };
-        *level += (reached - begun) as usize;
-        ended.extend_from_slice(&list[..count]);
-        done(status)?;
-        Ok(Reply::of(&reply))
     }
 
     /// Runs a program of the session: makes its calls one after another, each with an entry of its own in the history, up to the first

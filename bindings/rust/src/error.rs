@@ -5,15 +5,13 @@ use std::fmt;
 
 /// Why a call made nothing. Nothing has changed then, but for [`Error::Elsewhere`], after which a pending call that wasn't listed
 /// may be; for [`Error::NoMemory`] of a session's question or of [`crate::Session::reserve`], after which the session may know more of the
-/// history; and for the calls that are made of several: `perform`, `resume`, `run`, `resume_program` and `lock_path` say what they leave.
+/// history; and for the calls that are made of several: `perform`, `resume`, `run`, `resume_program`, `lock` and `wait` say what they leave.
 #[derive(Clone, Copy, Debug, PartialEq, Eq, Hash)]
 pub enum Error {
     /// Memory was refused. The same call may be made again.
     NoMemory,
     /// The book, or the office, has no session with this number.
     NoSuchSession,
-    /// All levels of the path are locked already.
-    NoSuchLevel,
     /// The program makes no call, so that a session has nothing to publish.
     NoCalls,
     /// The number of sessions isn't from 1 to 1024, or a bound has a number that is 0 or too large.
@@ -45,7 +43,6 @@ impl fmt::Display for Error {
         f.write_str(match self {
             Error::NoMemory => "memory was refused",
             Error::NoSuchSession => "no session has this number",
-            Error::NoSuchLevel => "all levels of the path are locked already",
             Error::NoCalls => "the program makes no call",
             Error::NoSuchCount => "the number of sessions isn't from 1 to 1024, or a bound has a number that is 0 or too large",
             Error::Pending => "the session has a pending call",
@@ -70,7 +67,6 @@ pub(crate) fn done(status: u32) -> Result<(), Error> {
         ffi::OK => return Ok(()),
         ffi::NO_MEMORY => Error::NoMemory,
         ffi::NO_SUCH_SESSION => Error::NoSuchSession,
-        ffi::NO_SUCH_LEVEL => Error::NoSuchLevel,
         ffi::NO_SUCH_OP => Error::NoCalls,
         ffi::NO_SUCH_COUNT => Error::NoSuchCount,
         ffi::PENDING => Error::Pending,

@@ -161,6 +161,14 @@ pub(crate) struct RawAnswer {
 
 #[repr(C)]
 #[derive(Clone, Copy, Default)]
+pub(crate) struct RawLockAnswer {
+    pub(crate) level: u32,
+    pub(crate) why: u32,
+    pub(crate) place: u64,
+}
+
+#[repr(C)]
+#[derive(Clone, Copy, Default)]
 pub(crate) struct RawProgram {
     pub(crate) start: u32,
     pub(crate) level: u32,
@@ -212,7 +220,7 @@ const _: () = assert!(size_of::<RawResource>() == 24 && size_of::<RawCall>() == 
 const _: () = assert!(size_of::<RawHolder>() == 8 && size_of::<RawTransaction>() == 16 && size_of::<RawClaim>() == 48);
 const _: () = assert!(size_of::<RawMember>() == 56 && size_of::<RawDeadlock>() == 24);
 const _: () = assert!(size_of::<RawEntry>() == 56 && size_of::<RawAnswer>() == 24 && size_of::<RawPass>() == 8);
-const _: () = assert!(size_of::<RawProgram>() == 44 && size_of::<RawProgramAnswer>() == 136);
+const _: () = assert!(size_of::<RawProgram>() == 44 && size_of::<RawProgramAnswer>() == 136 && size_of::<RawLockAnswer>() == 16);
 const _: () = assert!(size_of::<RawCounts>() == 280 && size_of::<Gauges>() == 32 && size_of::<PassCounts>() == 24);
 
 // The statuses that a call may return.
@@ -220,7 +228,6 @@ pub(crate) const OK: u32 = 0;
 pub(crate) const NO_MEMORY: u32 = 1;
 pub(crate) const CLOSED: u32 = 2;
 pub(crate) const NO_SUCH_SESSION: u32 = 3;
-pub(crate) const NO_SUCH_LEVEL: u32 = 5;
 pub(crate) const NO_SUCH_OP: u32 = 4;
 pub(crate) const NO_SUCH_COUNT: u32 = 8;
 pub(crate) const PENDING: u32 = 9;
@@ -232,6 +239,12 @@ pub(crate) const OTHER_OFFICE: u32 = 14;
 pub(crate) const MISSING: u32 = 15;
 pub(crate) const LET_GO: u32 = 19;
 pub(crate) const SERVED: u32 = 24;
+pub(crate) const VICTIM: u32 = 25;
+pub(crate) const TIMED_OUT: u32 = 26;
+pub(crate) const DENIED: u32 = 27;
+
+/// A time-out without an end.
+pub(crate) const FOREVER: u64 = u64::MAX;
 
 extern "C" {
     pub(crate) fn pelgaisti_version() -> u32;
@@ -242,17 +255,6 @@ extern "C" {
     pub(crate) fn pelgaisti_book_close(book: *mut RawHandle) -> u32;
     pub(crate) fn pelgaisti_book_serve(book: *mut RawHandle, session: u32, call: *const RawCall, reply: *mut RawReply) -> u32;
     pub(crate) fn pelgaisti_book_serve_batch(book: *mut RawHandle, calls: *mut RawEntry, length: usize, count: *mut usize) -> u32;
-    pub(crate) fn pelgaisti_book_lock_path(
-        book: *mut RawHandle,
-        session: u32,
-        resource: *const RawResource,
-        mode: u32,
-        level: *mut u32,
-        reply: *mut RawReply,
-        list: *mut u32,
-        room: usize,
-        count: *mut usize,
-    ) -> u32;
     pub(crate) fn pelgaisti_book_run(
         book: *mut RawHandle,
         session: u32,
@@ -374,14 +376,14 @@ extern "C" {
         turns: u64,
         answer: *mut RawAnswer,
     ) -> u32;
-    pub(crate) fn pelgaisti_session_lock_path(
+    pub(crate) fn pelgaisti_session_lock(
         session: *mut RawHandle,
         resource: *const RawResource,
         mode: u32,
-        level: *mut u32,
-        turns: u64,
-        answer: *mut RawAnswer,
+        timeout_ms: u64,
+        answer: *mut RawLockAnswer,
     ) -> u32;
+    pub(crate) fn pelgaisti_session_wait(session: *mut RawHandle, timeout_ms: u64, answer: *mut RawLockAnswer) -> u32;
     pub(crate) fn pelgaisti_session_run(
         session: *mut RawHandle,
         program: *const RawProgram,

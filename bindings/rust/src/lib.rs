@@ -4,8 +4,8 @@
 //! are two: it makes no call in a signal handler or in the forked child of a process with threads, and ends no thread inside a call.
 //!
 //! A [`Book`] is a lock table for one thread at a time. An [`Office`] is one that threads share, each by a [`Session`] of its
-//! own. No call waits for a lock: a thread that was told [`Reply::Waiting`] sleeps until the office's waker is called for its session
-//! ([`Office::open_waking`]), or polls.
+//! own. [`Session::lock`] waits for a lock. No other call but [`Session::wait`] does: a thread that was told [`Reply::Waiting`] makes that,
+//! or sleeps until the office's waker is called for its session ([`Office::open_waking`]), and polls.
 //!
 //!     use pelgaisti::{Book, Call, Mode, Reply, Resource};
 //!
@@ -20,7 +20,7 @@
 //!     # Ok::<(), pelgaisti::Error>(())
 //!
 //! **Statuses that can't come.** A handle is open as long as its value lives, a call is one of [`Call`], and each value has
-//! handles of its own that never move: so the library's statuses CLOSED, OPEN, NO_SUCH_MODE, NULL, SAME, COPIED,
+//! handles of its own that never move: so the library's statuses CLOSED, OPEN, NO_SUCH_LEVEL, NO_SUCH_MODE, NULL, SAME, COPIED,
 //! NO_ROOM, NO_SUCH_START, NOT_ON_PATH and NO_SUCH_ABOVE have no counterpart in [`Error`], and NO_SUCH_OP comes of a program of no calls
 //! alone. If the library gives another one all the same, the call panics.
 #![deny(missing_docs, unsafe_op_in_unsafe_fn, clippy::undocumented_unsafe_blocks)]
@@ -35,6 +35,7 @@ mod error;
 mod ffi;
 mod handles;
 mod lists;
+mod locking;
 mod looks;
 mod memory;
 mod office;
@@ -53,6 +54,7 @@ pub use deadlocks::{Deadlock, Member};
 pub use dump::Dump;
 pub use error::Error;
 pub use ffi::{Gauges, PassCounts};
+pub use locking::{Locked, Outcome};
 pub use looks::Seen;
 pub use office::{Answer, NotClosed, Office, Pass, Posted, Session};
 pub use operator::Operator;

@@ -1,7 +1,7 @@
 //! The lock table that threads share.
 
 use crate::book::{entries_by, Book, Entry};
-use crate::calls::{level_code, Call, Mode, Reply, Resource};
+use crate::calls::{Call, Reply};
 use crate::error::{done, same_version, Error};
 use crate::ffi::{self, RawAnswer, RawHandle, RawPass, RawProgramAnswer};
 use crate::handles::{Handles, Opening};
@@ -110,11 +110,12 @@ impl Office {
         Office::open_by(sessions, bound, None, Opening::Telling(deadlocks))
     }
 
-    /// Opens an office as [`Office::open_keeping`] does, whose threads sleep while they wait for a lock. A thread that was told
-    /// [`Reply::Waiting`] sleeps until `wake` is called for its session, and then polls once.
+    /// Opens an office as [`Office::open_keeping`] does, for an engine whose threads sleep by its own means while they wait for a lock; in
+    /// [`Session::lock`] and [`Session::wait`] they sleep in the library. A thread that was told [`Reply::Waiting`] sleeps until `wake` is
+    /// called for its session, and then polls once.
     ///
     /// Each call of one of the sessions that makes a pass ([`Session::serve`], [`Session::perform`], [`Session::resume`],
-    /// [`Session::lock_path`]) calls `wake` with the number of each session whose wait the pass has ended, once: a waiting request
+    /// [`Session::run`], [`Session::lock`]) calls `wake` with the number of each session whose wait the pass has ended, once: a waiting request
     /// of the session was granted, or its transaction became a deadlock's victim. It does so after the pass, before it returns,
     /// whatever it returns. No call lacks memory for whom to wake: this one takes it. [`crate::Operator::ask_to_end`] calls `wake`, too.
     ///
@@ -391,34 +392,6 @@ impl Session {
         // SAFETY: the handle is this session's, used by `&mut`; the program may be null, and the answer is a local
         done(unsafe { ffi::pelgaisti_session_run(self.raw(), ptr::null(), turns, &mut answer) })?;
         Ok(ProgramAnswer::of(answer))
-    }
-
-    /// Like [`Book::lock_path`], for a session of an office: performs the calls one after another, each in at most `turns` turns,
-    /// and returns the last answer.
-    ///
-    /// [`Error::Pending`]: the session has a pending call, be it one that an earlier call of this function has left. Nothing has
-    /// changed. [`Error::NotServed`], [`Error::NoMemory`]: the path's next call, which locks level `level` + 1, is pending, and
-    /// `level` tells of the calls that were answered before it. [`Session::resume`] finishes it. After the answer `Granted`, or
-    /// `Waiting` and then `Clear`, the same call goes on, with the `level` that it was left: it begins with this level again, which
-    /// is granted once more and changes nothing.
-    ///
-    ///     # use pelgaisti::{Call, Mode, Office, Reply, Resource};
-    ///     let mut sessions = Office::open(2)?;
-    ///     let _ = sessions[0].perform(&Call::Begin, u64::MAX)?;
-    ///     let mut level = 0;
-    ///     let page = Resource::new(&[7, 2, 40]).unwrap();
-    ///     let answer = sessions[0].lock_path(page, Mode::S, &mut level, u64::MAX)?;
-    ///     assert_eq!((answer.reply, answer.place, level), (Reply::Granted(Mode::S), 3, 3));
-    ///     # Ok::<(), pelgaisti::Error>(())
-    pub fn lock_path(&mut self, resource: Resource, mode: Mode, level: &mut usize, turns: u64) -> Result<Answer, Error> {
-        let begun = level_code(*level);
-        let (mut reached, mut answer) = (begun, RawAnswer::default());
-        let (path, mode) = (resource.raw(), mode.code());
-        // SAFETY: the handle is this session's, used by `&mut`; the others are locals of their types
-        let status = unsafe { ffi::pelgaisti_session_lock_path(self.raw(), &path, mode, &mut reached, turns, &mut answer) };
-        *level += (reached - begun) as usize;
-        done(status)?;
-        Ok(Answer::of(&answer))
     }
 
     /// Takes up to `room` of the oldest entries of the history that are kept, which leave the lock table's memory. Returns the place

@@ -3,7 +3,7 @@
 
 #![deny(unsafe_op_in_unsafe_fn)]
 
-use pelgaisti::{Book, Call, Error, Mode, Office, Reply, Resource, Session};
+use pelgaisti::{Book, Call, Error, Mode, Office, Program, Reply, Resource, Session, Start};
 use std::alloc::{GlobalAlloc, Layout, System};
 use std::cell::Cell;
 use std::ptr::null_mut;
@@ -109,9 +109,9 @@ fn a_book_goes_on_where_memory_is_refused() {
     let mut book = book_of_readers();
     let calls = vec![(1, Call::Poll); 100];
     assert_eq!(refused(|| book.serve_batch(&calls)), Err(Error::NoMemory));
-    let (mut level, mut ended) = (0, vec![]);
-    assert_eq!(refused(|| book.lock_path(1, database(), Mode::S, &mut level, &mut ended)), Err(Error::NoMemory));
-    assert_eq!((level, ended.len(), book.length()), (0, 0, 600));
+    let (program, mut ended) = (Program::locks(Start::Nothing, database(), Mode::S, 0).unwrap(), vec![]);
+    assert_eq!(refused(|| book.run(1, &program, &mut ended)).err(), Some(Error::NoMemory));
+    assert_eq!((ended.len(), book.length()), (0, 600));
     assert_eq!(refused(|| book.holders(database())), Err(Error::NoMemory));
     assert_eq!(refused(|| book.locks()), Err(Error::NoMemory));
     assert_eq!(refused(|| book.dump()).err(), Some(Error::NoMemory));
@@ -121,8 +121,8 @@ fn a_book_goes_on_where_memory_is_refused() {
     assert_eq!(book.first_kept(), 0);
 
     assert_eq!(book.serve_batch(&calls).unwrap().len(), 100);
-    assert_eq!(book.lock_path(1, database(), Mode::S, &mut level, &mut ended), Ok(Reply::Granted(Mode::S)));
-    assert_eq!((level, book.holders(database()).unwrap().len(), book.locks().unwrap().len()), (1, 299, 300));
+    assert!(book.run(1, &program, &mut ended).unwrap().replies().eq([Reply::Granted(Mode::S)]));
+    assert_eq!((book.holders(database()).unwrap().len(), book.locks().unwrap().len()), (299, 300));
     assert_eq!(book.blockers(300).unwrap(), (1..300).collect::<Vec<_>>());
     let dump = book.dump().unwrap();
     assert_eq!((dump.place(), dump.transactions().count(), dump.claims().count()), (book.length(), 300, 300));

@@ -1,10 +1,11 @@
 //! Offices whose threads are woken: by each call that makes a pass, and also if the waker panics for one of them.
 
-use pelgaisti::{Call, Error, Mode, Office, Reply, Resource, Session};
+use pelgaisti::{Call, Error, Mode, Office, Outcome, Reply, Resource, Session};
 use std::panic;
 use std::sync::atomic::{AtomicUsize, Ordering};
 use std::sync::{Arc, Condvar, Mutex};
 use std::thread;
+use std::time::Duration;
 
 fn lock(number: u32, mode: Mode) -> Call {
     Call::Lock(Resource::new(&[number]).unwrap(), mode)
@@ -52,8 +53,8 @@ fn each_pass_wakes() {
             }
             // 2 becomes a victim
             3 => {
-                let answer = one.lock_path(Resource::new(&[2]).unwrap(), Mode::S, &mut 0, 9).unwrap();
-                assert_eq!(answer.reply, Reply::Waiting);
+                let locked = one.lock(Resource::new(&[2]).unwrap(), Mode::S, Some(Duration::from_millis(1))).unwrap();
+                assert_eq!(locked.outcome, Outcome::TimedOut);
             }
             // its own pass ends its wait
             _ => {

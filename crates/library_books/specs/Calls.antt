@@ -13,6 +13,10 @@ use Rattle.library_books.specs.Numbers.{IsCall, numbers_of_reply}
 abbrev pub IsSession : BookView → ℕ → Type 0
 IsSession book session = (1 ≤ session) × (session ≤ book.sessions)
 
+-- the array has room for all sessions of the book
+abbrev pub HasRoom : {X : Type 0} → BookView → List X → Type 0
+HasRoom book places = book.sessions ≤ length places
+
 -- the call that the numbers encode was served: the reply is that of the sequential lock manager, the history has one more entry, and the
 -- book tells whose wait the call has ended
 abbrev pub IsServed : BookView → BookView → ℕ → CallNumbers → ReplyNumbers → Type 0

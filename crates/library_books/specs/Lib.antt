@@ -1,6 +1,5 @@
 -- what contracts speak of
 pub mod Numbers
-pub mod Paths
 pub mod Calls
 pub mod Claims
 pub mod Batches

@@ -1,5 +1,5 @@
 -- Calls, replies and entries as the numbers of C's structs.
-use Rattle.std.specs.Prelude.{◌≡◌, ℕ, ◌-◌, ◌≤◌, ◌⊎◌, List, [], ◌∷◌, ◌++◌, length, take, replicate}
+use Rattle.std.specs.Prelude.{◌≡◌, ℕ, ◌-◌, ◌<◌, ◌≤◌, ◌⊎◌, List, [], ◌∷◌, ◌++◌, length, take, replicate}
 use Rattle.lock_modes.specs.declared.Mode.{Mode}
 use Rattle.lock_modes.specs.Codes.{code_of}
 use Rattle.lock_tree.specs.declared.levels.TheConstants.{LEVELS}
@@ -31,6 +31,10 @@ IsOneOf (o ∷ os) number = (number ≡ number_of_op o) ⊎ IsOneOf os number
 abbrev pub IsLevel : ℕ → Type 0
 IsLevel level = (1 ≤ level) × (level ≤ LEVELS)
 
+-- the numbers are those of a resource, and its path has a level behind these
+abbrev pub HasLevelBehind : ResourceNumbers → ℕ → Type 0
+HasLevelBehind place level = IsLevel place.level × (level < place.level)
+
 -- the code of a mode
 abbrev pub IsModeCode : ℕ → Type 0
 IsModeCode code = (mode : Mode) × (code ≡ code_of mode)
@@ -39,6 +43,10 @@ IsModeCode code = (mode : Mode) × (code ≡ code_of mode)
 pub record IsPath (p : ResourceNumbers) (r : List ℕ) : Type 0 where
   pub level : IsLevel p.level
   pub front : r ≡ take p.level p.numbers
+
+-- the numbers encode the path to resource r, which has levels behind this one
+abbrev pub IsRestOf : ResourceNumbers → ℕ → List ℕ → Type 0
+IsRestOf path level r = IsPath path r × (level < length r)
 
 -- the call that the numbers encode
 abbrev pub IsCall : CallNumbers → Call → Type 0

@@ -4,7 +4,7 @@
 //! Pointers of C and what lies behind them: `pointers.rt` and the files in `pointers/`. Numbers of C's structs: `numbers.rt`,
 //! `program_numbers.rt`, `claims.rt`, `count_numbers.rt`, `deadlock_numbers.rt`, `status.rt`. The handle: `book_handle.rt`, and what is
 //! in it, `held_book.rt` over `raw_box.rt`. The calls, on the book that a handle holds: `book_calls.rt`, `batch.rt`, `listing.rt`,
-//! `path_calls.rt`, `program_calls.rt`.
+//! `program_calls.rt`.
 #![tactic(auto)]
 
 pub mod batch;
@@ -16,7 +16,6 @@ pub mod deadlock_numbers;
 pub mod held_book;
 pub mod listing;
 pub mod numbers;
-pub mod path_calls;
 pub mod pointers;
 pub mod program_calls;
 pub mod program_numbers;

@@ -1,9 +1,9 @@
 //! Calls and replies in numbers: reading them from C's structs, and writing them there.
 
-ghost use Rattle.std.specs.Prelude.{◌≡◌, ◌≢◌, IfSome, IfNone, IfOk, IfErr};
+ghost use Rattle.std.specs.Prelude.{◌≡◌, ◌≢◌, ◌<◌, IfSome, IfNone, IfOk, IfErr, length};
 ghost use Rattle.lock_modes.specs.Codes.{code_of};
 ghost use Rattle.lock_rules.specs.Kinds.{number_of_op};
-ghost use Rattle.library_books.specs.Numbers.{IsOp, IsLevel, IsModeCode, IsPath, IsCall, IsCallFault, value_of, place_of, numbers_of_call, numbers_of_reply, numbers_of_entry, numbers_of_holder};
+ghost use Rattle.library_books.specs.Numbers.{IsOp, IsLevel, HasLevelBehind, IsModeCode, IsPath, IsCall, IsCallFault, value_of, place_of, numbers_of_call, numbers_of_reply, numbers_of_entry, numbers_of_holder};
 
 use crate::status::{NO_SUCH_LEVEL, NO_SUCH_MODE, NO_SUCH_OP};
 use lock_modes::Mode;
@@ -80,6 +80,18 @@ pub fn read_resource(path: &ResourceNumbers) -> Option<Resource>
     ensures none { IfNone result (¬ (IsLevel path.now.level)) }
 {
     Resource::from_prefix(&path.numbers, path.level as usize)
+}
+
+/// The resource that the numbers encode. Returns `None` if no resource has this level, or its path has none behind `level`.
+pub fn read_path(place: &ResourceNumbers, level: u32) -> Option<Resource>
+    ensures some { IfSome result (λ r. IsPath place.now r × (level < length r)) }
+    ensures none { IfNone result (¬ (HasLevelBehind place.now level)) }
+{
+    let resource = read_resource(place)?;
+    if level >= u32::from(resource.level()) {
+        return None;
+    }
+    Some(resource)
 }
 
 /// The mode with this code. Returns `None` if no mode has it.

@@ -2,8 +2,7 @@
 
 ghost use Rattle.std.specs.Prelude.{◌≡◌, ◌≢◌, ◌≤◌, ◌⊎◌, IfOk, OnErr};
 ghost use Rattle.lock_programs.specs.declared.program.Program.{Program as ProgramValue};
-ghost use Rattle.library_books.specs.Calls.{IsSession};
-ghost use Rattle.library_books.specs.Paths.{HasRoom};
+ghost use Rattle.library_books.specs.Calls.{HasRoom, IsSession};
 ghost use Rattle.library_books.specs.Programs.{HasRun, IsProgram, IsProgramFault, IsProgramRun};
 
 use crate::book_calls::{ended, session_of};

@@ -1,7 +1,6 @@
 pub mod Handles
 pub mod Starved
 pub mod SameOffice
-pub mod PathTurns
 pub mod ListKinds
 pub mod ServedWithin
 pub mod Turns

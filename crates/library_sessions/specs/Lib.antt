@@ -2,7 +2,6 @@
 pub mod Sessions
 pub mod Bounds
 pub mod Turns
-pub mod PathTurns
 pub mod ProgramTurns
 pub mod Queries
 pub mod Deadlocks

@@ -2,7 +2,7 @@
 //!
 //! The handle: `session_handle.rt`, and what is in it: `held_share.rt`, `session_share.rt`, `ended_list.rt`. Pointers of C to handles:
 //! `pointers.rt`. Opening and closing: `opening.rt`, `hand_in.rt`. The calls, on the share that a handle holds: `session_calls.rt`,
-//! `perform_calls.rt`, `turn_calls.rt`, `path_turn_calls.rt`, `program_turn_calls.rt`, `queries.rt`, `deadlocks.rt`, `pages.rt`, `dump.rt`,
+//! `perform_calls.rt`, `turn_calls.rt`, `program_turn_calls.rt`, `queries.rt`, `deadlocks.rt`, `pages.rt`, `dump.rt`,
 //! `counts.rt`, `memory_calls.rt`, `bounds.rt`, `sleep_calls.rt`. Of these `deadlocks.rt`, `pages.rt` and `dump.rt` have a book's too.
 #![tactic(auto)]
 
@@ -17,7 +17,6 @@ pub mod memory_calls;
 pub mod opening;
 pub mod pages;
 pub mod pass_count_numbers;
-pub mod path_turn_calls;
 pub mod perform_calls;
 pub mod pointers;
 pub mod program_turn_calls;

@@ -131,7 +131,7 @@ fn make_look(share: &mut SessionShare, looked: u64) -> Next<Reply>
 
 /// Publishes the call of a session that has none pending, and may make one.
 #[inline(never)]
-pub fn publish_last(share: &mut SessionShare, call: Call)
+fn publish_last(share: &mut SessionShare, call: Call)
     requires live { share.old.session.retired ≡ false }
     ensures published { share.old.session.pending ≡ None → IsCalling share.old.session share.new.session call }
     ensures same { share.old.session.pending ≢ None → share.new.session ≡ share.old.session }

@@ -1,9 +1,7 @@
 -- What sessions that make single calls know of their programs.
-use Rattle.std.proofs.Common.{◌≡◌, ◌≢◌, ◌∙◌, ◌⊎◌, inl, inr, ⊎_elim, ℕ, zero, suc, ◌+◌, ◌<◌, ◌≤◌, Bool, Option, Some, None, List, [], ◌∷◌, ◌++◌, append_assoc, length, map, take, ◌-◌, ◌^◌, min, refl, sym, ap, subst, arith, length-append}
+use Rattle.std.proofs.Common.{◌≡◌, ◌∙◌, ◌⊎◌, inl, inr, ⊎_elim, ℕ, zero, suc, ◌+◌, ◌<◌, ◌≤◌, Bool, Option, Some, None, List, [], ◌∷◌, ◌++◌, append_assoc, length, take, ◌-◌, ◌^◌, min, refl, sym, ap, subst, arith, length-append}
 use mathlib.Core.Option as opt
 use lib.ListN.{get_elem?}
-use Rattle.std.specs.List.{range_with_len}
-use Rattle.lock_modes.specs.declared.Mode.{Mode}
 use Rattle.programs.specs.Flat.{entry, IsAnswer}
 use Rattle.programs.specs.Fronts.{fronts_are_legal}
 use Rattle.programs.specs.Determined.{last-run}
@@ -15,7 +13,6 @@ use Rattle.lock_programs.specs.declared.program.Program.{Program}
 use Rattle.lock_programs.specs.declared.answer.Answer.{Answer as ProgramAnswer}
 use Rattle.lock_programs.specs.Calls.{calls_of}
 use Rattle.lock_programs.specs.Answers.{replies_of, program_form}
-use Rattle.lock_desk.specs.Paths.{lock_of_level}
 use Rattle.publication.specs.Views.{asks}
 use Rattle.publication.specs.Boards.{publishing, enlisted, tried}
 use Rattle.publication.specs.declared.board.Posted.{Posted}
@@ -23,9 +20,7 @@ use Rattle.combining.specs.Calls as any
 use Rattle.combining.specs.declared.office.perform.Performed.{Performed}
 use Rattle.combining.specs.declared.calling.Next.{Next}
 use Rattle.combining.proofs.EndedWaits.{split-at}
-use Rattle.lock_office.specs.Paths.{rest_of_path}
 use Rattle.lock_office.specs.declared.session.Session.TheInside.{Inside}
-use Rattle.lock_office.specs.declared.session.descending.NextOfPath.{NextOfPath}
 use Rattle.lock_office.specs.inner.Sessions.{MakesACall, IsReadable}
 use Rattle.lock_office.specs.ProgramBoards.{TicketView, Pending, ProgramEntry, program_object, IsLegal}
 use Rattle.lock_office.specs.Sessions.{IsPerformed}
@@ -155,9 +150,6 @@ read-performed P x y n m b d is h =
 pub read-next : (P : Answer → Type 0) (x y : Answer) → Next.Answered x ≡ Next.Answered y → P x → P y
 read-next P x y is h = let e : x ≡ y = cc in subst P e h
 
-pub read-path : (P : ℕ → Answer → Type 0) (n m : ℕ) (x y : Answer) → NextOfPath.Performed n x ≡ NextOfPath.Performed m y → P n x → P m y
-read-path P n m x y is h = let e : n ≡ m = cc in let f : x ≡ y = cc in subst (λ (k : ℕ). P k y) e (subst (λ (a : Answer). P n a) f h)
-
 -- a call that was published is pending
 pub published : {Y : Type 0} (s t : TicketView) (p : Program) (posted : Posted) → (posted ≡ Posted.Listed → (t ≡ enlisted (publishing s p)) ⊎ (t ≡ tried (enlisted (publishing s p))))
     → (posted ≡ Posted.Unlisted → (t ≡ tried (publishing s p)) × Y) → t.pending ≡ (publishing s p).pending
@@ -178,14 +170,3 @@ pub compared : (a b : ℕ) → (a < b) ⊎ (b ≤ a)
 compared a zero = inr (omega arith)
 compared zero (suc b) = inl (omega arith)
 compared (suc a) (suc b) = ⊎_elim (λ h. inl (omega (arith, h))) (λ h. inr (omega (arith, h))) (compared a b)
-
--- a path has a call for each level that isn't locked
-rest-some : (r : List ℕ) (m : Mode) (from n : ℕ) → 0 < n → 0 < length (map (lock_of_level r m) (range_with_len from n))
-rest-some r m from zero some = absurd (omega (arith, some))
-rest-some r m from (suc n) some = omega arith
-
--- so the answer to it has a reply
-pub path-reply : (s t : TicketView) (p : Program) (at : ℕ) (a : ProgramAnswer) (n : ℕ) (r : List ℕ) (m : Mode) (locked : ℕ) → locked < length r → calls_of p ≡ rest_of_path r m locked
-    → IsPerformed s t p at a n → 0 < length (replies_of p a)
-path-reply s t p at a n r m locked few calls h =
-    some-replies p a (subst (λ (l : List Call). 0 < length l) (sym calls) (rest-some r m (locked + 1) (length r - locked) (omega (arith, few)))) (performed-answered s t p at a n h)

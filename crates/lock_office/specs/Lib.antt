@@ -9,12 +9,10 @@ pub mod Exclusion
 pub mod Ended
 pub mod WakeUps
 pub mod InTime
-pub mod Paths
 pub mod Dump
 pub mod Seen
 pub mod Weights
 pub mod SingleCalls
 pub mod ProgramTurns
-pub mod PathTurns
 -- what only private items speak of
 pub mod inner

@@ -23,7 +23,6 @@ ghost use Rattle.publication.specs.Collected.{HasCollected};
 ghost use Rattle.lock_office.specs.by_calls.HoldsAsTold.{HoldsAsTold as HoldsAsToldByCalls};
 ghost use Rattle.lock_office.specs.by_calls.WakeUps.{WasToldToWait};
 ghost use Rattle.lock_office.specs.by_calls.Ended.{AreWakesTold};
-ghost use Rattle.lock_office.specs.Paths.{rest_of_path, granted_among, IsGrantedFirst};
 ghost use Rattle.lock_office.specs.ProgramBoards.{ProgramsView, ProgramEntry, AnsweredProgram, Pending, TicketView, Load, BoardState, IsHome, IsLegal, IsRuled, IsRun, history_of, flat_history, calls_answered};
 ghost use Rattle.lock_office.specs.Closed.{IsClosed, IsOneHistory};
 ghost use Rattle.lock_office.specs.HoldsAsTold.{KeepsLock, KeptLock, HoldsAsTold, ReadsAsTold, WritesAsTold, ToldModesGoTogether, IsToldExclusive, IsToldAccessCompatible};
@@ -33,7 +32,6 @@ ghost use Rattle.lock_office.specs.InTime.{DoProgramsRespectTime};
 
 use combining::laws::closed_offices_have_one_history as one_history_of_any_object;
 use lock_desk::Book;
-use lock_programs::laws::replies_fit;
 use lock_rules::laws;
 use programs::Programs;
 use programs::laws::{
@@ -153,17 +151,4 @@ pub fn single_calls_stand_where_told()
         slice_get (flat_history history) program.reply.first ≡ Some (entry program.session call reply) }
 {
     programs_stand_side_by_side::<Book>();
-}
-
-/// A path of locks is one program. `path_program` has the calls of the rest of a path, one for each level (`rest_of_path`). As many
-/// levels of the rest are locked as locks were granted (`levels_granted`): those, from the uppermost on, have a reply that grants them,
-/// and behind them the path is locked, or the next reply grants nothing and is the last, or the answer
-/// says that memory was refused.
-pub fn paths_are_programs()
-    ensures { (history : List ProgramEntry) (place : ℕ) (program : ProgramEntry) (resource : List ℕ) (mode : Mode) (locked : ℕ) → IsLegal history →
-        slice_get history place ≡ Some program → calls_of program.call ≡ rest_of_path resource mode locked →
-        IsGrantedFirst program (granted_among (replies_of program.call program.reply)) }
-{
-    programs_stand_side_by_side::<Book>();
-    replies_fit();
 }

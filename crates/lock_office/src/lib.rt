@@ -5,9 +5,9 @@
 //! of a path; its calls are served one after another, up to the first that isn't granted or done. Its answer has the place of the first
 //! call in the history of calls, and all replies follow from it.
 //!
-//! `opening.rt` opens an office that lets go of its history, `single.rt` reads the answer to a program of one call, `paths.rt` counts the
-//! levels of a path that a program locked. `queries.rt`, `pages.rt`, `counts.rt`, `dump.rt` and `memory.rt` look at the lock table of an open
-//! office, of any object with a book (`has_book.rt`). `laws.rt` says what holds of locks, `told_laws.rt` what answers to calls tell.
+//! `opening.rt` opens an office that lets go of its history, `single.rt` reads the answer to a program of one call. `queries.rt`,
+//! `pages.rt`, `counts.rt`, `dump.rt` and `memory.rt` look at the lock table of an open office, of any object with a book (`has_book.rt`).
+//! `laws.rt` says what holds of locks, `told_laws.rt` what answers to calls tell.
 //!
 //! Proved, beside what `combining` proves of any object and `programs` of programs: in the history of calls, in which the calls of each
 //! program stand side by side, each reply is the one that the sequential lock manager gives at its place, no two transactions ever have
@@ -21,7 +21,6 @@ pub mod laws;
 pub mod memory;
 mod opening;
 pub mod pages;
-mod paths;
 pub mod queries;
 mod session;
 mod single;
@@ -36,9 +35,8 @@ pub use has_book::HasBook;
 use lock_desk::{Book, Entry, Reply};
 pub use lock_programs::{Answer as ProgramAnswer, CALLS, Last, Program, Start, Stop};
 pub use opening::{open_keeping, open_telling};
-pub use paths::{levels_granted, path_program};
 use programs::Programs;
-pub use session::{Counted, Knowledge, NextOfPath, Session};
+pub use session::{Counted, Knowledge, Session};
 pub use single::reply_of_one;
 
 /// A lock table that threads share by reference, each with sessions of its own, which make programs.

@@ -1,8 +1,7 @@
 //! A session that makes single calls and programs at an office of programs: each single call is a program of one call.
 //!
 //! Its single calls are those of `combining`, in its files `performing.rt`, `turning.rt`, `calling.rt` and `looking.rt`, and are answered with
-//! the place of the call in the history of calls, and the reply. `running.rt` makes a whole program, turn by turn. `descending.rt` goes down a
-//! path, by a program of several calls. `dumping.rt` copies the lock table, `counters.rt` tells its counters, its gauges and the office's
+//! the place of the call in the history of calls, and the reply. `running.rt` makes a whole program, turn by turn. `dumping.rt` copies the lock table, `counters.rt` tells its counters, its gauges and the office's
 //! passes. `sleeping.rt` is for callers whose threads park by themselves.
 //!
 //! What is pending may be a program of several calls. A call that takes its answer as that of a single call tells the last reply and its place.
@@ -27,7 +26,6 @@ ghost use Rattle.lock_office.specs.SingleCalls.{MakesOneCall, IsCollected};
 mod calling;
 mod counters;
 mod counting;
-mod descending;
 mod dumping;
 mod knowing;
 mod looking;
@@ -41,7 +39,6 @@ use crate::{CallAnswer as Answer, HistoryPiece, Office, Ticket};
 use combining::{PassBound, Posted, Told, Turn};
 pub use counting::Counted;
 use counting::seen_behind;
-pub use descending::NextOfPath;
 pub use knowing::Knowledge;
 use lock_desk::{Book, Call, Reply};
 use lock_programs::{Answer as ProgramAnswer, Program};

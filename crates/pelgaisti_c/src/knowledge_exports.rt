@@ -41,16 +41,18 @@ pub extern "C" fn pelgaisti_raw_session_seen(
     OK
 }
 
-/// Writes the mark of the session's office: the number that was given when it was opened.
+/// Writes the mark of the session's office: the number that was given when it was opened; and the session's number in it.
 #[unsafe(no_mangle)]
 pub extern "C" fn pelgaisti_raw_session_mark(
     alloc: Global,
     session: &mut SessionPointer,
     mark: &mut U64Pointer,
+    number: &mut u32,
 ) -> u32
     ensures null { result ≡ NULL_POINTER ↔ ((session.old.at ≡ null_ptr) ⊎ (mark.old.at ≡ null_ptr)) }
-    ensures ok { result ≡ OK → (share : SessionShare) × (session.old.behind.held.share ≡ Some share) × (mark.new.behind ≡ share.mark) }
-    ensures failed { result ≢ OK → mark.new.behind ≡ mark.old.behind }
+    ensures ok { result ≡ OK → (share : SessionShare) × (session.old.behind.held.share ≡ Some share) × (mark.new.behind ≡ share.mark)
+        × (number.new ≡ share.session.number) }
+    ensures failed { result ≢ OK → (mark.new.behind ≡ mark.old.behind) × (number.new ≡ number.old) }
     ensures same { (session.new.behind.is_open ≡ session.old.behind.is_open) × (session.new.behind.held.share ≡ session.old.behind.held.share) }
     ensures closed { result ≢ NULL_POINTER → (result ≡ CLOSED ↔ (session.old.behind.is_open ≢ 1)) }
     ensures statuses { (result ≡ NULL_POINTER) ⊎ ((result ≡ OK) ⊎ (result ≡ CLOSED)) }
@@ -65,6 +67,7 @@ pub extern "C" fn pelgaisti_raw_session_mark(
         return CLOSED;
     };
     *mark = share.mark;
+    *number = u32::from(share.session.number());
     session.put(share);
     OK
 }

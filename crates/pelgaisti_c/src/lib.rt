@@ -1,10 +1,10 @@
 //! The lock manager for C: exports over books and over the sessions of offices, which C holds by handles in its own
 //! memory.
 //!
-//! Over a book: `book.rt`, `history_exports.rt`, `listing_exports.rt`, `path_exports.rt`, `path_step_exports.rt`, `program_exports.rt`. Over
-//! sessions: `office.rt`, `session.rt`, `knowledge_exports.rt`, `turn_exports.rt`, `path_turn_exports.rt`, `program_turn_exports.rt`,
-//! `bound_exports.rt`, `sleep_exports.rt`, `close_exports.rt`. Over both: `query_exports.rt`, `deadlock_exports.rt`, `page_exports.rt`,
-//! `dump_exports.rt`, `count_exports.rt`, `gauge_exports.rt`, `pass_count_exports.rt`, `memory_exports.rt`. And `version.rt`.
+//! Over a book: `book.rt`, `history_exports.rt`, `listing_exports.rt`, `path_step_exports.rt`, `program_exports.rt`. Over sessions:
+//! `office.rt`, `session.rt`, `knowledge_exports.rt`, `turn_exports.rt`, `program_turn_exports.rt`, `bound_exports.rt`,
+//! `sleep_exports.rt`, `close_exports.rt`. Over both: `query_exports.rt`, `deadlock_exports.rt`, `page_exports.rt`, `dump_exports.rt`,
+//! `count_exports.rt`, `gauge_exports.rt`, `pass_count_exports.rt`, `memory_exports.rt`. And `version.rt`.
 //!
 //! An export tests the caller's pointers for null, which C gives by their addresses, takes the value out of the handle, makes one call of
 //! `library_books` or `library_sessions`, puts the value back, and returns a status. Of what it is given by reference C says that it isn't
@@ -29,9 +29,7 @@ mod memory_exports;
 mod office;
 mod page_exports;
 mod pass_count_exports;
-mod path_exports;
 mod path_step_exports;
-mod path_turn_exports;
 mod program_exports;
 mod program_turn_exports;
 mod query_exports;

@@ -1,17 +1,18 @@
-//! The exports that tell what a book's sessions hold and wait for.
+//! The exports that tell what a book's sessions hold and wait for, and whom they wait for.
 
 ghost use Rattle.std.specs.Prelude.{◌≡◌, ◌≢◌, ◌↔◌, ◌⊎◌, Some, length, drop};
 ghost use denote.RawPtr.{null_ptr};
 ghost use Rattle.lock_rules.specs.Legal.{state_of};
 ghost use Rattle.lock_rules.specs.Listing.{listing_of, waiting_line};
 ghost use Rattle.lock_desk.specs.BookView.{BookView};
+ghost use Rattle.lock_desk.specs.Queries.{blockers_among};
 ghost use Rattle.library_books.specs.Behind.{IsNullList};
 ghost use Rattle.library_books.specs.Calls.{IsSession, are_written};
 ghost use Rattle.library_books.specs.Claims.{numbers_of_claim, numbers_of_request, numbers_of_transaction};
 
 use library_books::listing;
 use library_books::pointers::{
-    BookPointer, ClaimList, ClaimPointer, SizePointer, TransactionPointer,
+    BookPointer, ClaimList, ClaimPointer, SessionList, SizePointer, TransactionPointer,
 };
 use library_books::status::{CLOSED, NO_MEMORY, NO_SUCH_SESSION, NULL_POINTER, OK};
 use std::alloc::Global;
@@ -110,6 +111,44 @@ pub extern "C" fn pelgaisti_raw_book_locks(
         return CLOSED;
     };
     let status = listing::locks(alloc, &boxed, first, list, count);
+    book.put(boxed);
+    status
+}
+
+/// Writes the sessions for which `session` waits directly in the order of their numbers, as many as `list` has room for, and the
+/// number of all of them to `count`.
+#[unsafe(no_mangle)]
+pub extern "C" fn pelgaisti_raw_book_blockers(
+    alloc: Global,
+    book: &mut BookPointer,
+    session: u32,
+    list: &mut SessionList,
+    count: &mut SizePointer,
+) -> u32
+    ensures null { result ≡ NULL_POINTER ↔ ((book.old.at ≡ null_ptr) ⊎ (IsNullList list.old.at list.old.room ⊎ (count.old.at ≡ null_ptr))) }
+    ensures ok { result ≡ OK → (view : BookView) × (book.old.behind.held.book ≡ Some view) × IsSession view session
+        × (let all = blockers_among view.sessions (state_of view.history).table session in
+        (list.new.behind ≡ are_written (λ u. u) all list.old.behind) × (count.new.behind ≡ length all)) }
+    ensures failed { result ≢ OK → (list.new.behind ≡ list.old.behind) × (count.new.behind ≡ count.old.behind) }
+    ensures same { (book.new.behind.is_open ≡ book.old.behind.is_open) × (book.new.behind.held.book ≡ book.old.behind.held.book) }
+    ensures closed { result ≢ NULL_POINTER → (result ≡ CLOSED ↔ (book.old.behind.is_open ≢ 1)) }
+    ensures session { result ≡ NO_SUCH_SESSION → (view : BookView) × (book.old.behind.held.book ≡ Some view) × ¬ (IsSession view session) }
+    ensures statuses { (result ≡ NULL_POINTER) ⊎ ((result ≡ OK) ⊎ ((result ≡ CLOSED) ⊎ (result ≡ NO_SUCH_SESSION))) }
+{
+    let Some(book) = book.get() else {
+        return NULL_POINTER;
+    };
+    if list.is_null() {
+        return NULL_POINTER;
+    }
+    let Some(count) = count.get() else {
+        return NULL_POINTER;
+    };
+    let list = list.items();
+    let Some(boxed) = book.take(alloc) else {
+        return CLOSED;
+    };
+    let status = listing::blockers(&boxed, session, list, count);
     book.put(boxed);
     status
 }

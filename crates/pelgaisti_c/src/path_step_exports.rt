@@ -5,12 +5,9 @@ ghost use Rattle.lock_modes.specs.Codes.{code_of};
 ghost use Rattle.lock_modes.specs.Order.{need_of};
 ghost use Rattle.lock_modes.specs.declared.Mode.{Mode};
 ghost use Rattle.lock_desk.specs.Paths.{lock_of_level};
-ghost use Rattle.library_books.specs.Numbers.{IsModeCode, numbers_of_call};
-ghost use Rattle.library_books.specs.Paths.{HasLevelBehind};
-ghost use Rattle.library_sessions.specs.PathTurns.{IsRestOf};
+ghost use Rattle.library_books.specs.Numbers.{HasLevelBehind, IsModeCode, IsRestOf, numbers_of_call};
 
-use library_books::numbers::{CallNumbers, ResourceNumbers, call_numbers, read_mode};
-use library_books::path_calls::read_path;
+use library_books::numbers::{CallNumbers, ResourceNumbers, call_numbers, read_mode, read_path};
 use library_books::status::{NO_SUCH_LEVEL, NO_SUCH_MODE, OK};
 use lock_desk::lock_of_level;
 

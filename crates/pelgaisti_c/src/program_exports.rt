@@ -5,8 +5,7 @@ ghost use denote.RawPtr.{null_ptr};
 ghost use Rattle.lock_desk.specs.BookView.{BookView};
 ghost use Rattle.lock_programs.specs.declared.program.Program.{Program};
 ghost use Rattle.library_books.specs.Behind.{IsNullList};
-ghost use Rattle.library_books.specs.Calls.{IsSession};
-ghost use Rattle.library_books.specs.Paths.{HasRoom};
+ghost use Rattle.library_books.specs.Calls.{HasRoom, IsSession};
 ghost use Rattle.library_books.specs.Programs.{IsProgram, IsProgramFault, IsProgramRun};
 
 use library_books::pointers::{

@@ -6,7 +6,7 @@ use Rattle.lock_rules.specs.Waits.{waits_for}
 use Rattle.lock_desk.specs.Queries.{blockers_among}
 use Rattle.library_books.specs.Calls.{are_written}
 use Rattle.library_books.proofs.Blockers.{few-listed, front-written}
-use Rattle.library_books.proofs.path_calls.blockers.Goals as goal
+use Rattle.library_books.proofs.listing.blockers.Goals as goal
 
 pub slice_bounds-found-end : goal.slice_bounds-found-end
 slice_bounds-found-end c =
