@@ -3,8 +3,6 @@
 #![tactic(auto)]
 
 #[cfg(test)]
-mod dumps;
-#[cfg(test)]
 mod hints;
 #[cfg(test)]
 mod lanes;

@@ -1,6 +1,5 @@
 pub mod Counted
 pub mod Firsts
-pub mod Granted
 pub mod Jammed
 pub mod Parts
 pub mod Walks

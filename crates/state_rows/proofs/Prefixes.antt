@@ -12,7 +12,7 @@ use Rattle.state_rows.specs.declared.row.StateRow.{StateRow}
 use Rattle.state_rows.specs.Rows.{IsRow, line_of_row}
 use Rattle.state_rows.specs.inner.Prefixes.{AreOnlyRows, IsKept}
 use Rattle.state_rows.specs.declared.reading.Reading.{Reading}
-use Rattle.state_rows.specs.States.{rows_in, rows_of, has_request, AreLists, AreLinesOfState, BeginNoState, IsFirstBad, IsLate}
+use Rattle.state_rows.specs.States.{rows_in, rows_of, has_request, has_transaction, AreLists, AreLinesOfState, BeginNoState, IsFirstBad, IsLate}
 
 -- No rows have no lines.
 no-others : (others : List StateRow) → map line_of_row others ≡ [] → others ≡ []
@@ -25,8 +25,10 @@ none-at-first n os cs ws o c w =
     subst (AreOnlyRows n []) (sym none) (record { valid = tt; lines_are = refl; only = λ others valid is. no-others others is })
 
 -- Nothing is kept of no rows.
-pub kept-at-first : (r : Reading) → r.asking.keys ≡ [] → r.lists.claims.items ≡ [] → r.lists.waits.items ≡ [] → IsKept r
-kept-at-first r keys claims waits = record {
+pub kept-at-first : (r : Reading) → r.opening.keys ≡ [] → r.asking.keys ≡ [] → r.lists.opens.items ≡ [] → r.lists.claims.items ≡ [] → r.lists.waits.items ≡ [] → IsKept r
+kept-at-first r begun keys opens claims waits = record {
+  opening = λ s. ap (list_any (λ k. s == k)) begun ∙ sym (ap (λ (os : List OpenTransaction). has_transaction os s) opens);
+  opened = subst (AllByRecursion (λ (c : Claim). has_transaction r.lists.opens.items c.session ≡ true)) (sym claims) tt;
   asking = λ s. ap (list_any (λ k. s == k)) keys ∙ sym (ap (λ (cs : List Claim). has_request cs s) claims);
   requested = subst (AllByRecursion (λ (w : Wait). has_request r.lists.claims.items w.session ≡ true)) (sym waits) tt;
 }
@@ -88,7 +90,10 @@ one-more n lines line rows new r read h is =
 lists-so-far : (n : ℕ) (lines : List (List ℕ)) (r : Reading) → AreOnlyRows n lines (rows_of r.lists) → IsKept r → AreLists n r.lists
 lists-so-far n lines r h kept = record {
   rows = All-from_recursion (IsRow n) (rows_of r.lists) h.valid;
-  requested = All-from_recursion (λ (w : Wait). has_request r.lists.claims.items w.session ≡ true) r.lists.waits.items kept.requested;
+  owned = record {
+    opened = All-from_recursion (λ (c : Claim). has_transaction r.lists.opens.items c.session ≡ true) r.lists.claims.items kept.opened;
+    requested = All-from_recursion (λ (w : Wait). has_request r.lists.claims.items w.session ≡ true) r.lists.waits.items kept.requested;
+  };
 }
 
 -- So the lines so far are.
@@ -110,7 +115,7 @@ late-row n lines line rows r read h late = λ os cs ws rest valid same.
     let front = h.only p.front p.front_valid p.front_lines in
     let one : Some r ≡ Some p.one = (read p.one).1 (p.one_valid, sym p.one_line) in
     let last : r ≡ p.one = cc in
-    late os cs ws p.back valid.requested (sym (p.rows_are ∙ λ i. front i ++ sym last i ∷ p.back))
+    late os cs ws p.back valid.owned (sym (p.rows_are ∙ λ i. front i ++ sym last i ∷ p.back))
 
 -- The line behind the first i of all lines.
 line-at : (xs : List (Bor (List ℕ))) (i : ℕ) (d : Bor (List ℕ)) → i < length xs

@@ -1,4 +1,5 @@
--- The rows of a state as they are read: in their order, line by line, with no wait of a session that has no request.
+-- The rows of a state as they are read: in their order, line by line, each lock and request of a session that has an open transaction, each
+-- wait of one that has a request.
 use Rattle.std.specs.Prelude.{◌≡◌, ◌≢◌, ◌<◌, ◌≤◌, ◌+◌, ◌-◌, ◌⊎◌, ◌&&◌, ℕ, Bool, true, ◌==◌, List, [], ◌∷◌, ◌++◌, length, map, take, All}
 use Rattle.std.specs.List.{list_any, slice_split}
 use Rattle.lock_rules.specs.declared.listing.Claim.{Claim}
@@ -23,10 +24,19 @@ rows_of lists = rows_in lists.opens.items lists.claims.items lists.waits.items
 abbrev pub has_request : List Claim → ℕ → Bool
 has_request claims s = list_any (λ c. is_request_kind c.kind && (c.session == s)) claims
 
--- as far as it is tested, these are the lists of a state of the sessions 1 to n: each wait is of a session that has a request
+-- session s has an open transaction among these
+abbrev pub has_transaction : List OpenTransaction → ℕ → Bool
+has_transaction opens s = list_any (λ o. o.session == s) opens
+
+-- each lock and request is of a session that has an open transaction, and each wait of one that has a request
+pub record AreOwned (opens : List OpenTransaction) (claims : List Claim) (waits : List Wait) : Type 0 where
+  pub opened : All (λ c. has_transaction opens c.session ≡ true) claims
+  pub requested : All (λ w. has_request claims w.session ≡ true) waits
+
+-- as far as it is tested, these are the lists of a state of the sessions 1 to n
 pub record IsState (n : ℕ) (opens : List OpenTransaction) (claims : List Claim) (waits : List Wait) : Type 0 where
   pub rows : All (IsRow n) (rows_in opens claims waits)
-  pub requested : All (λ w. has_request claims w.session ≡ true) waits
+  pub owned : AreOwned opens claims waits
 
 -- as far as it is tested, the lists are those of a state of the sessions 1 to n
 abbrev pub AreLists : ℕ → StateLists → Type 0
@@ -60,7 +70,7 @@ BeginNoState n lines = (opens : List OpenTransaction) (claims : List Claim) (wai
 
 -- the row can't come behind these rows in any state
 abbrev pub IsLate : StateRow → List StateRow → Type 0
-IsLate r rows = (opens : List OpenTransaction) (claims : List Claim) (waits : List Wait) (rest : List StateRow) → All (λ w. has_request claims w.session ≡ true) waits → rows ++ r ∷ rest ≢ rows_in opens claims waits
+IsLate r rows = (opens : List OpenTransaction) (claims : List Claim) (waits : List Wait) (rest : List StateRow) → AreOwned opens claims waits → rows ++ r ∷ rest ≢ rows_in opens claims waits
 
 -- line number k, counted from 1, is the first with which these lines aren't the beginning of the rows of any state
 pub record IsFirstBad (n : ℕ) (lines : List (List ℕ)) (k : ℕ) : Type 0 where

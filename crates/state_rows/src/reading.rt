@@ -40,24 +40,26 @@ pub enum StateFault {
 struct Reading {
     /// The rows.
     lists: StateLists,
+    /// The sessions of the open transactions.
+    opening: IndexSet<u16>,
     /// The sessions of the waiting requests.
     asking: IndexSet<u16>,
 }
 
 /// Adds the row of an open transaction. Returns false, with nothing added, if a lock, a request or a wait came before it.
-fn add_open(begun: OpenTransaction, lists: &mut StateLists) -> Result<bool, NoMemory>
-    ensures added { result ≡ Ok true → rows_of lists.new ≡ rows_of lists.old ++ variant.Transaction begun ∷ [] }
-    ensures late { result ≡ Ok false → IsLate (variant.Transaction begun) (rows_of lists.old) }
-    ensures claims { result ≡ Ok true → lists.new.claims.items ≡ lists.old.claims.items }
-    ensures waits { result ≡ Ok true → lists.new.waits.items ≡ lists.old.waits.items }
+fn add_open(begun: OpenTransaction, reading: &mut Reading) -> Result<bool, NoMemory>
+    ensures added { result ≡ Ok true → rows_of reading.new.lists ≡ rows_of reading.old.lists ++ variant.Transaction begun ∷ [] }
+    ensures late { result ≡ Ok false → IsLate (variant.Transaction begun) (rows_of reading.old.lists) }
+    ensures kept { result ≡ Ok true → IsKept reading.old → IsKept reading.new }
 {
-    if !lists.claims.is_empty() {
+    if !reading.lists.claims.is_empty() {
         return Ok(false);
     }
-    if !lists.waits.is_empty() {
+    if !reading.lists.waits.is_empty() {
         return Ok(false);
     }
-    lists.opens.push(begun)?;
+    reading.opening.insert(begun.session)?;
+    reading.lists.opens.push(begun)?;
     Ok(true)
 }
 
@@ -71,13 +73,16 @@ fn add_asking(claim: &Claim, asking: &mut IndexSet<u16>) -> Result<(), NoMemory>
     Ok(())
 }
 
-/// Adds the row of a lock or a request. Returns false, with nothing added, if a wait came before it.
+/// Adds the row of a lock or a request. Returns false, with nothing added, if a wait came before it, or its session has no open transaction.
 fn add_claim(claim: Claim, reading: &mut Reading) -> Result<bool, NoMemory>
     ensures added { result ≡ Ok true → rows_of reading.new.lists ≡ rows_of reading.old.lists ++ variant.Claim claim ∷ [] }
-    ensures late { result ≡ Ok false → IsLate (variant.Claim claim) (rows_of reading.old.lists) }
+    ensures late { result ≡ Ok false → IsKept reading.old → IsLate (variant.Claim claim) (rows_of reading.old.lists) }
     ensures kept { result ≡ Ok true → IsKept reading.old → IsKept reading.new }
 {
     if !reading.lists.waits.is_empty() {
+        return Ok(false);
+    }
+    if !reading.opening.contains(&claim.session) {
         return Ok(false);
     }
     add_asking(&claim, &mut reading.asking)?;
@@ -105,7 +110,7 @@ fn add_row(row: StateRow, reading: &mut Reading) -> Result<bool, NoMemory>
     ensures kept { result ≡ Ok true → IsKept reading.old → IsKept reading.new }
 {
     match row {
-        StateRow::Transaction(begun) => add_open(begun, &mut reading.lists),
+        StateRow::Transaction(begun) => add_open(begun, reading),
         StateRow::Claim(claim) => add_claim(claim, reading),
         StateRow::Wait(wait) => add_wait(wait, reading),
     }
@@ -141,6 +146,7 @@ fn rows_in_lines(alloc: Global, sessions: u16, lines: &[&[u8]]) -> Result<StateL
             claims: Vec::new(alloc),
             waits: Vec::new(alloc),
         },
+        opening: IndexSet::new(alloc),
         asking: IndexSet::new(alloc),
     };
     for index in 0..lines.len() {
@@ -162,8 +168,8 @@ fn lines_in<'a>(alloc: Global, text: &'a [u8]) -> Result<Vec<&'a [u8]>, NoMemory
 }
 
 /// Reads the rows of a state of the sessions 1 to `sessions`, as `lock_report::state_rows` writes them, and no other text. Fails with the
-/// first line that is no row, can't come behind the lines before it, or has no line feed, and with `NoMemory`. A row in mode NL is none,
-/// and a wait can't come if its session has no waiting request.
+/// first line that is no row, can't come behind the lines before it, or has no line feed, and with `NoMemory`. A row in mode NL is none; a
+/// lock or a request can't come if its session has no open transaction, nor a wait if its session has no waiting request.
 ///
 /// Its cost grows with the text. It keeps the lines and the rows in memory, 16 bytes a line and 64 a lock.
 pub fn read_state(alloc: Global, text: &[u8], sessions: u16) -> Result<StateLists, StateFault>

@@ -4,7 +4,7 @@ use Rattle.std.specs.List.{AllByRecursion, list_any}
 use Rattle.state_rows.specs.declared.reading.Reading.{Reading}
 use Rattle.state_rows.specs.declared.row.StateRow.{StateRow}
 use Rattle.state_rows.specs.Rows.{IsRow, line_of_row}
-use Rattle.state_rows.specs.States.{has_request}
+use Rattle.state_rows.specs.States.{has_request, has_transaction}
 
 -- these valid rows have these lines, and no other valid rows have
 pub record AreOnlyRows (n : ℕ) (lines : List (List ℕ)) (rows : List StateRow) : Type 0 where
@@ -12,7 +12,10 @@ pub record AreOnlyRows (n : ℕ) (lines : List (List ℕ)) (rows : List StateRow
   pub lines_are : map line_of_row rows ≡ lines
   pub only : (others : List StateRow) → AllByRecursion (IsRow n) others → map line_of_row others ≡ lines → others ≡ rows
 
--- the set has the sessions of the requests, and each wait is of one of them
+-- the sets have the sessions of the open transactions and of the requests; each lock and request is of one of the first, each wait of one of
+-- the second
 pub record IsKept (r : Reading) : Type 0 where
+  pub opening : (s : ℕ) → list_any (λ k. s == k) r.opening.keys ≡ has_transaction r.lists.opens.items s
+  pub opened : AllByRecursion (λ c. has_transaction r.lists.opens.items c.session ≡ true) r.lists.claims.items
   pub asking : (s : ℕ) → list_any (λ k. s == k) r.asking.keys ≡ has_request r.lists.claims.items s
   pub requested : AllByRecursion (λ w. has_request r.lists.claims.items w.session ≡ true) r.lists.waits.items

@@ -6,7 +6,7 @@ use Rattle.state_rows.proofs.reading.rows_in_lines.Goals as goal
 pub loop-index-init : goal.loop-index-init
 loop-index-init c = (
   none-at-first c.args.sessions c.new.result.items c.new-2.result.items c.new-3.result.items c.new.ensures.items c.new-2.ensures.items c.new-3.ensures.items,
-  kept-at-first _ (search rules) c.new-2.ensures.items c.new-3.ensures.items,
+  kept-at-first _ (search rules) (search rules) c.new.ensures.items c.new-2.ensures.items c.new-3.ensures.items,
 )
 
 pub returns-then-not-added-clause-bad : goal.returns-then-not-added-clause-bad
