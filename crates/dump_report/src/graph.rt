@@ -25,7 +25,7 @@ pub(crate) fn graph_of(alloc: Global, sessions: u16, waits: &[Wait]) -> Result<R
     Ok(rows)
 }
 
-/// Whether a walk of the graph leads from `session` to `other`.
+/// Whether a walk of the graph leads from `session` to `other`. It is searched for only if `session` doesn't wait for `other` directly.
 fn leads_to(rows: &mut Rows, waits: &[Wait], session: u16, other: u16) -> bool
     requires session_some { 1 ≤ session }
     requires session_within { session ≤ rows.old.sessions }
@@ -35,7 +35,12 @@ fn leads_to(rows: &mut Rows, waits: &[Wait], session: u16, other: u16) -> bool
     ensures walk { result ≡ is_blocked waits.now session other }
     ensures same { rows.new ≡ rows.old }
 {
-    rows.reaches((session - 1) as usize, (other - 1) as usize)
+    let here = (session - 1) as usize;
+    let there = (other - 1) as usize;
+    if rows.waits(here, there) {
+        return true;
+    }
+    rows.reaches(here, there)
 }
 
 /// How many sessions wait for `session`, directly or through others.

@@ -1,14 +1,11 @@
 -- Explanations of calls: what `explain` ensures of a text that was written in part, and the accounts of one entry more.
-use Rattle.std.proofs.Common.{◌≡◌, ◌∙◌, ◌↔◌, ℕ, ◌+◌, ◌<◌, Bool, true, false, List, [], ◌∷◌, ◌++◌, Option, Result, Ok, Err, Contains, length, take, get_or, refl, sym, ap, ap₂, subst, arith, rules, append_assoc, append-nil}
+use Rattle.std.proofs.Common.{◌≡◌, ◌∙◌, ℕ, ◌+◌, ◌<◌, Bool, true, false, List, [], ◌∷◌, ◌++◌, Option, Some, None, IfSome, IfNone, Result, Ok, Err, length, take, get_or, refl, sym, ap, ap₂, subst, append_assoc, append-nil}
 use Rattle.std.specs.List.{All}
 use Rattle.std.specs.Result.{IfOk}
-use Rattle.lock_rules.specs.declared.calls.Call.{Call}
 use Rattle.lock_rules.specs.Entries.{Entry}
-use Rattle.lock_rules.specs.declared.calls.Reply.{Reply}
 use Rattle.lock_rules.specs.Ended.{ended_waits}
 use Rattle.lock_rules.specs.Legal.{state_of}
 use Rattle.lock_rules.specs.Step.{step}
-use Rattle.lock_explain.specs.Explanations.{is_eventful}
 use Rattle.lock_trace.specs.Entries.{IsEntry}
 use Rattle.lock_trace.specs.ReadHistories.{history_of}
 use Rattle.history_commands.specs.Explaining.{AreAccounts, Explains, HasExplainedPart, IsAccount, IsAccountIfEventful, IsExplained, IsTextExplained, is_entry_eventful}
@@ -58,30 +55,12 @@ accounts_grow form n front (d ∷ es) e text added (first, rest, (own, others, i
       ),
     )
 
--- a call that ended the wait of some session is told
-ended_tells : (call : Call) (reply : Reply) (u : ℕ) (us : List ℕ) → is_eventful call reply (u ∷ us) ≡ true
-ended_tells call reply u us = search rules
+-- what is known of nothing, and of something
+pub of_none : {X : Type 0} (o : Option X) (P : Type 0) → o ≡ None → IfNone o P → P
+of_none o P is = subst (λ (p : Option _). IfNone p P) is
 
--- the empty list has no member
-nothing_there : (u : ℕ) → Contains [] u → ⊥
-nothing_there u (k, below, is) = absurd (omega (arith, below))
-
--- the list has its first member
-first_there : (u : ℕ) (us : List ℕ) → Contains (u ∷ us) u
-first_there u us = (0, omega arith, refl)
-
--- whether a call is told depends on whether there are ended waits, and not on their order
-pub eventful_alike : (call : Call) (reply : Reply) (us vs : List ℕ) → ((u : ℕ) → Contains us u ↔ Contains vs u) → is_eventful call reply us ≡ is_eventful call reply vs
-eventful_alike call reply [] [] same = refl
-eventful_alike call reply [] (v ∷ vs) same = absurd (nothing_there v ((same v).1 (first_there v vs)))
-eventful_alike call reply (u ∷ us) [] same = absurd (nothing_there u ((same u).0 (first_there u us)))
-eventful_alike call reply (u ∷ us) (v ∷ vs) same = ended_tells call reply u us ∙ sym (ended_tells call reply v vs)
-
--- an entry is told by what a book lists of the waits that it ended
-pub told_as_listed : (n : ℕ) (front : List Entry) (e : Entry) (listed ended : List ℕ)
-    → ended ≡ ended_waits n e.session (state_of front) (step (state_of front) e.session e.call).state
-    → ((u : ℕ) → Contains listed u ↔ Contains ended u) → is_eventful e.call e.reply listed ≡ is_entry_eventful n front e
-told_as_listed n front e listed ended is same = eventful_alike e.call e.reply listed ended same ∙ ap (is_eventful e.call e.reply) is
+pub of_some : {X : Type 0} (o : Option X) (x : X) (P : X → Type 0) → o ≡ Some x → IfSome o P → P x
+of_some o x P is = subst (λ (p : Option _). IfSome p P) is
 
 -- the account of an entry that is told
 pub account_told : (form : Form) (n : ℕ) (front : List Entry) (e : Entry) (account : List ℕ) → is_entry_eventful n front e ≡ true

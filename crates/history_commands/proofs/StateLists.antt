@@ -1,5 +1,5 @@
 -- What the lists of a state tell is what the definitions of its roots and waits say.
-use Rattle.std.proofs.Common.{◌≡◌, ℕ, suc, ◌+◌, ◌<◌, ◌≤◌, Bool, true, false, cond, not, eqb, ltb, ◌&&◌, List, [], ◌∷◌, ◌++◌, length, map, filter, Option, Some, None, is_some, append-nil, refl, sym, ◌∙◌, ap, subst, arith}
+use Rattle.std.proofs.Common.{◌≡◌, ℕ, suc, ◌≤◌, Bool, true, false, cond, not, eqb, ltb, ◌&&◌, List, [], ◌∷◌, ◌++◌, length, map, filter, Option, Some, None, is_some, append-nil, refl, sym, ◌∙◌, ap, subst, arith}
 use Rattle.std.specs.Prelude.{All}
 use Rattle.std.specs.List.{flat_map, list_any, range_with_len}
 use Rattle.std.proofs.Math.Bool.{and-false}
@@ -7,17 +7,16 @@ use Rattle.std.proofs.lemmas.List.Elements.{All-cons, All-nil}
 use Rattle.lock_rules.specs.declared.calls.Transaction.{Transaction}
 use Rattle.lock_rules.specs.declared.listing.Claim.{Claim as ListedClaim}
 use Rattle.lock_rules.specs.Entries.{Entry}
-use Rattle.lock_rules.specs.State.{Claim, State, Table, is_waiting, request_of}
+use Rattle.lock_rules.specs.State.{Claim, State, request_of}
 use Rattle.lock_rules.specs.Legal.{state_of}
-use Rattle.lock_rules.specs.Listing.{kind_of_request, listed_as, listed_request, listing_of}
-use Rattle.lock_rules.specs.Waits.{reaches, waits_for, walks_within}
+use Rattle.lock_rules.specs.Listing.{listed_request, listing_of}
+use Rattle.lock_rules.specs.Waits.{reaches, waits_for}
 use Rattle.lock_rules.proofs.Lists.{eqb-refl, request_of-session}
 use Rattle.lock_rules.proofs.Settle.{reached-walk, reaches-walk}
 use Rattle.lock_rules.proofs.Walks.{found, walk-found}
-use Rattle.waits_for.specs.Walks.{IsWalk, Reaches}
+use Rattle.waits_for.specs.Walks.{IsWalk}
 use Rattle.state_rows.specs.Rows.{IsSession, IsWait}
 use Rattle.lock_report.specs.declared.snapshot.OpenTransaction.{OpenTransaction}
-use Rattle.lock_report.specs.declared.snapshot.Root.{Root}
 use Rattle.lock_report.specs.declared.snapshot.ToldWait.{ToldWait}
 use Rattle.lock_report.specs.declared.snapshot.Wait.{Wait}
 use Rattle.dump_report.specs.Blockers.{first_blocker as first_listed, is_waited_for, other_wait as other_listed, request_of as request_listed, requests_among, told_behind, told_of, told_waits, waits_by as waits_among}
@@ -25,7 +24,7 @@ use Rattle.dump_report.specs.Jam.{does_wait, is_blocked, is_root as is_root_list
 use Rattle.dump_report.proofs.Walks.{all-listed}
 use Rattle.history_commands.specs.Roots.{is_root, root_of, roots_of}
 use Rattle.history_commands.specs.Showing.{open_of, opens_of, wait_of, waits_by, waits_of}
-use Rattle.history_commands.specs.Waits.{first_blocker, first_blocker_of, other_wait, waits_behind, waits_since, waits_told, with_since}
+use Rattle.history_commands.specs.Waits.{first_blocker_of, other_wait, waits_behind, waits_since, waits_told, with_since}
 use Rattle.history_commands.specs.Waits.{waits_of as waits_told_of}
 use Rattle.history_commands.proofs.Flats.{all-range, any-flat, any-one, any-some, both-ways, filter-flat, flat-flat, map-flat, none-any, none-flat, picked, picked-flat}
 use Rattle.history_commands.proofs.Requests.{first-told, request-told}

@@ -1,8 +1,10 @@
--- Since when a session waits, found from the last entry back.
-use Rattle.std.proofs.Common.{◌≡◌, ℕ, ◌+◌, ◌<◌, Bool, true, false, cond, List, [], ◌∷◌, ◌++◌, take, get_or, length, length-take, sym, ap, ◌∙◌, arith}
+-- Since when sessions wait, noted entry by entry.
+use Rattle.std.proofs.Common.{◌≡◌, ℕ, ◌+◌, ◌<◌, cond, List, [], ◌∷◌, ◌++◌, take, get_or, map, length, length-take, sym, ap, ap₂, ◌∙◌, arith}
+use Rattle.std.proofs.lemmas.List.{map-append, take_more}
 use Rattle.lock_rules.specs.Entries.{Entry}
 use Rattle.lock_report.proofs.Pieces.{with_next}
-use Rattle.history_commands.specs.Waits.{begins_wait, since_from, waits_since}
+use Rattle.lock_report.specs.declared.snapshot.ToldWait.{ToldWait}
+use Rattle.history_commands.specs.Waits.{AreSince, begins_wait, since_from, waits_since, with_since}
 
 -- the last of some entries tells, if a wait began with it
 pub since-push : (s last place : ℕ) (es : List Entry) (e : Entry) → since_from s last place (es ++ e ∷ []) ≡ cond (begins_wait s e) (place + length es) (since_from s last place es)
@@ -18,14 +20,16 @@ one-more s i es e lt is =
     let long : 0 + length (take i es) ≡ i = omega (arith, length-take i es) in
     ap (waits_since s) (with_next es i e lt is) ∙ (since-push s 0 0 (take i es) e ∙ ap (λ (k : ℕ). cond (begins_wait s e) k (waits_since s (take i es))) long)
 
--- if a wait began with this entry, and with none behind it, the session waits since its place
-pub since-found : (s i k : ℕ) (es : List Entry) (e : Entry) (b : Bool) → i < length es → i + 1 ≡ k → e ≡ get_or es i e → b ≡ begins_wait s e → b ≡ true → waits_since s (take k es) ≡ waits_since s es → i ≡ waits_since s es
-since-found s i k es e b lt next is told begun so_far =
-    sym (ap (λ (x : Bool). cond x i (waits_since s (take i es))) (sym told ∙ begun))
-    ∙ (sym (one-more s i es e lt is) ∙ (ap (λ (j : ℕ). waits_since s (take j es)) next ∙ so_far))
+-- the places behind one entry more
+pub since-more : (i : ℕ) (es : List Entry) (e : Entry) (old new : List ℕ) → i < length es → e ≡ get_or es i e → length new ≡ length old
+    → ((s : ℕ) → s < length old → get_or new s 0 ≡ cond (begins_wait s e) i (get_or old s 0)) → AreSince (take i es) old → AreSince (take (i + 1) es) new
+since-more i es e old new lt is same told so_far s below =
+    let there : s < length old = omega (arith, same, below) in
+    told s there ∙ (ap (λ (k : ℕ). cond (begins_wait s e) i k) (so_far s there) ∙ sym (one-more s i es e lt is))
 
--- if none began with it either, the entries before it tell
-pub since-before : (s i k : ℕ) (es : List Entry) (e : Entry) (b : Bool) → i < length es → i + 1 ≡ k → e ≡ get_or es i e → b ≡ begins_wait s e → b ≡ false → waits_since s (take k es) ≡ waits_since s es → waits_since s (take i es) ≡ waits_since s es
-since-before s i k es e b lt next is told not_begun so_far =
-    sym (ap (λ (x : Bool). cond x i (waits_since s (take i es))) (sym told ∙ not_begun))
-    ∙ (sym (one-more s i es e lt is) ∙ (ap (λ (j : ℕ). waits_since s (take j es)) next ∙ so_far))
+-- one wait more is told
+pub waits-more : (es : List Entry) (ws : List ToldWait) (i : ℕ) (d : ToldWait) (old new : List ToldWait) (x : ToldWait) → i < length ws → x ≡ with_since es (get_or ws i d)
+    → old ≡ map (with_since es) (take i ws) → new ≡ old ++ x ∷ [] → new ≡ map (with_since es) (take (i + 1) ws)
+waits-more es ws i d old new x lt is so_far more =
+    more ∙ (ap₂ (λ (l : List ToldWait) (y : ToldWait). l ++ y ∷ []) so_far is
+    ∙ sym (ap (map (with_since es)) (take_more ws i d lt) ∙ map-append (with_since es) (take i ws) (get_or ws i d ∷ [])))

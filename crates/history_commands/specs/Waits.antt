@@ -1,5 +1,5 @@
 -- The waits of a state, each session's first blocker first, with the place since when the session waits.
-use Rattle.std.specs.Prelude.{ℕ, ◌+◌, Bool, true, false, not, ◌&&◌, if◌then◌else◌, ◌==◌, List, [], ◌∷◌, ◌++◌, map, Option, Some, None}
+use Rattle.std.specs.Prelude.{◌≡◌, ℕ, ◌+◌, ◌<◌, Bool, true, false, not, ◌&&◌, if◌then◌else◌, ◌==◌, List, [], ◌∷◌, ◌++◌, length, map, slice_index_or, Option, Some, None}
 use Rattle.std.specs.List.{flat_map, range_with_len}
 use Rattle.lock_rules.specs.declared.calls.Call.{Call}
 use Rattle.lock_rules.specs.declared.calls.Call.TheVariants.{Lock, Convert}
@@ -35,6 +35,10 @@ since_from s last place (e ∷ es) = since_from s (if begins_wait s e then place
 -- the place of the last entry with which a request of the session began to wait, 0 if there is none
 abbrev pub waits_since : ℕ → List Entry → ℕ
 waits_since s history = since_from s 0 0 history
+
+-- for each session below their number these are the places of the last entries with which its request began to wait
+abbrev pub AreSince : List Entry → List ℕ → Type 0
+AreSince history places = (s : ℕ) → s < length places → slice_index_or places s 0 ≡ waits_since s history
 
 -- the sessions that have a claim on the resource, in the order of a listing: its holders by session number, then its queue
 abbrev pub claimants : Table → List ℕ → List ℕ

@@ -1,10 +1,9 @@
 //! The account of one call: what its reply says, and what it has brought about.
 
-ghost use Rattle.std.specs.Prelude.{◌≡◌, ℕ, ◌+◌, ◌<◌, ◌++◌, List, [], ◌∷◌, None, Some, length, All, Ok, IfOk, OnOk, string_bytes};
-ghost use Rattle.lock_rules.specs.Ended.{ended_waits};
+ghost use Rattle.std.specs.Prelude.{◌≡◌, ℕ, ◌+◌, ◌<◌, ◌++◌, List, [], ◌∷◌, None, Some, is_some, length, All, Ok, IfOk, IfSome, OnOk, string_bytes};
 ghost use Rattle.lock_rules.specs.Legal.{state_of};
-ghost use Rattle.lock_rules.specs.Step.{step};
 ghost use Rattle.sequential.specs.Histories.{IsEntryWithin};
+ghost use Rattle.lock_explain.specs.Explanations.{IsExplanation};
 ghost use Rattle.history_commands.specs.Waits.{waits_of};
 ghost use Rattle.history_commands.specs.Explaining.{IsAccount, IsAccountIfEventful, account_in, answer_in, answer_told, doom_answered, is_entry_eventful, is_poll};
 
@@ -15,12 +14,12 @@ use command_line::Form;
 use dump_report::told_waits;
 use explain_report::{explanation_dot, explanation_rows, explanation_text};
 use lock_desk::{Book, Call, Entry, NoMemory};
-use lock_explain::{Explanation, is_eventful};
+use lock_explain::Explanation;
 use lock_report::{Doom, ToldWait, answer_rows, answer_text};
 use lock_trace::piece_text;
 use std::alloc::Global;
 
-/// A served call, with the lock table before it and after it.
+/// A served call, with the lock table before it.
 #[derive(Clone, Copy)]
 pub struct ServedCall<'a> {
     /// The lock table before the call.
@@ -29,8 +28,6 @@ pub struct ServedCall<'a> {
     pub front: &'a [Entry],
     /// The entry of the call.
     pub entry: &'a Entry,
-    /// The lock table after the call.
-    pub after: &'a Book,
     /// The place of the entry in the history.
     pub place: u64,
 }
@@ -92,6 +89,9 @@ fn waits_of(
     requires front { book.now.history ≡ front.now }
     ensures { IfOk result (λ waits. waits.items ≡ waits_of book.now.sessions (state_of book.now.history).table book.now.history session) }
 {
+    if !book.is_waiting(session) {
+        return Ok(Vec::new(alloc));
+    }
     let mut opens = Vec::new(alloc);
     add_open(book, session, &mut opens)?;
     let own = waits_by(alloc, book, session)?;
@@ -160,41 +160,44 @@ fn add_answer(
     Ok(())
 }
 
-/// The account of the call, with what its answer tells if it is a poll. Fails if memory is refused.
-pub fn account(alloc: Global, call: &ServedCall<'_>, form: Form) -> Result<Vec<u8>, NoMemory>
+/// The account of the call, with what its answer tells if it is a poll. `explanation` is what the call did and why. Fails if memory is
+/// refused.
+pub fn account(
+    alloc: Global,
+    call: &ServedCall<'_>,
+    explanation: &Explanation,
+    form: Form,
+) -> Result<Vec<u8>, NoMemory>
     requires within { All (IsEntryWithin call.now.before.now.sessions) call.now.front.now }
     requires front { call.now.before.now.history ≡ call.now.front.now }
-    requires sessions { call.now.after.now.sessions ≡ call.now.before.now.sessions }
-    requires served { call.now.after.now.history ≡ call.now.before.now.history ++ call.now.entry.now ∷ [] }
+    requires explained { IsExplanation call.now.before.now.sessions (state_of call.now.before.now.history) call.now.entry.now.session call.now.entry.now.call explanation.now }
     requires place { call.now.place ≡ length call.now.before.now.history }
     ensures { IfOk result (λ text. IsAccount form call.now.before.now.sessions call.now.before.now.history call.now.entry.now text.items) }
 {
-    let explanation = lock_explain::explain(alloc, call.before, call.entry, call.after)?;
-    let mut text = account_text(alloc, call.place, call.entry, &explanation, form)?;
+    let mut text = account_text(alloc, call.place, call.entry, explanation, form)?;
     add_answer(alloc, call, form, &mut text)?;
     Ok(text)
 }
 
-/// Appends the account of the call to `text` if it is eventful. Fails if memory is refused.
+/// Appends the account of the call to `text` if it is explained, which an eventful call is. Fails if memory is refused.
 pub(crate) fn add_account_if_eventful(
     alloc: Global,
     call: &ServedCall<'_>,
+    told: &Option<Box<Explanation>>,
     form: Form,
     text: &mut Vec<u8>,
 ) -> Result<(), NoMemory>
     requires within { All (IsEntryWithin call.now.before.now.sessions) call.now.front.now }
     requires front { call.now.before.now.history ≡ call.now.front.now }
-    requires sessions { call.now.after.now.sessions ≡ call.now.before.now.sessions }
-    requires served { call.now.after.now.history ≡ call.now.before.now.history ++ call.now.entry.now ∷ [] }
-    requires ended { call.now.after.now.ended ≡ ended_waits call.now.before.now.sessions call.now.entry.now.session (state_of call.now.before.now.history) (step (state_of call.now.before.now.history) call.now.entry.now.session call.now.entry.now.call).state }
+    requires eventful { is_some told.now ≡ is_entry_eventful call.now.before.now.sessions call.now.before.now.history call.now.entry.now }
+    requires explained { IfSome told.now (λ x. IsExplanation call.now.before.now.sessions (state_of call.now.before.now.history) call.now.entry.now.session call.now.entry.now.call x.value) }
     requires place { call.now.place ≡ length call.now.before.now.history }
     ensures { OnOk result ((added : List ℕ) × (IsAccountIfEventful (is_entry_eventful call.now.before.now.sessions call.now.before.now.history call.now.entry.now) form call.now.before.now.sessions call.now.before.now.history call.now.entry.now added × (text.new.items ≡ text.old.items ++ added))) }
 {
-    let eventful = is_eventful(call.entry, call.after.ended());
-    if !eventful {
+    let Some(explanation) = told else {
         return Ok(());
-    }
-    let appended = account(alloc, call, form)?;
+    };
+    let appended = account(alloc, call, explanation, form)?;
     text.extend_from_slice(&appended)?;
     Ok(())
 }

@@ -13,7 +13,7 @@ use lock_report::Doom;
 use std::alloc::{AllocError as NoMemory, Global};
 
 /// Whether the open transaction of the session is a deadlock victim.
-fn is_doomed(book: &Book, session: u16) -> bool
+pub(crate) fn is_doomed(book: &Book, session: u16) -> bool
     ensures { result ≡ is_doomed (state_of book.now.history) session }
 {
     match book.transaction(session) {

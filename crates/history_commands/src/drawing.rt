@@ -1,189 +1,268 @@
 //! The command `timeline`: a history as a picture.
 
-ghost use Rattle.std.specs.Prelude.{◌≡◌, ◌≢◌, ℕ, ◌<◌, ◌≤◌, ◌++◌, List, [], ◌∷◌, Some, length, All, IfOk, IfErr, IfSome, IfNone, string_bytes};
+ghost use Rattle.std.specs.Prelude.{◌≡◌, ◌≢◌, ℕ, ◌+◌, ◌<◌, ◌≤◌, true, false, List, [], Some, length, take, All, IfOk, IfErr, IfSome, IfNone, string_bytes};
 ghost use Rattle.std.specs.Io.KnownBytes.{Keeps};
 ghost use Rattle.lock_rules.specs.declared.calls.TheConstants.{MAX_SESSIONS};
-ghost use Rattle.lock_rules.specs.Legal.{state_of};
-ghost use Rattle.lock_rules.specs.Step.{step};
+ghost use Rattle.lock_rules.specs.Legal.{IsLegal};
 ghost use Rattle.sequential.specs.Histories.{IsEntryWithin};
 ghost use Rattle.lock_trace.specs.Entries.{IsEntry};
 ghost use Rattle.history_commands.specs.Drawing.{Draws, HasDrawn, HasDrawnPart, HasRange, IsBefore, IsInOrder, IsMissing, IsTextDrawn};
-ghost use Rattle.history_commands.specs.Verdicts.{IsVerdict};
+ghost use Rattle.history_commands.specs.Verdicts.{IsFirstWrong, IsVerdict};
 
-use crate::checking::{Verdict, finding_on, fresh_book};
-use crate::explaining::place_missed;
-use crate::finding::Finding;
+use crate::checking::{Verdict, first_wrong, fresh_book};
+use crate::dooming::is_doomed;
+use crate::explaining::{explain_next, place_missed};
 use crate::show_fault::ShowFault;
 use crate::showing::{Shown, illegal_text};
-use lock_desk::{Book, Call, Entry, NoMemory, Reply};
-use lock_explain::is_eventful;
+use lock_desk::{Book, Entry, NoMemory};
+use lock_explain::blockers_ahead;
 use lock_trace::read_history;
 use replay_commands::write_text;
 use std::alloc::Global;
 use std::io::{Read, Write};
-use timeline_report::{MOST_PLACES, Timeline, timeline_svg};
+use timeline_report::{Deed, MOST_PLACES, Timeline, timeline_svg};
 
-/// Serves one call, as the lock table does. Fails if memory is refused.
-fn serve_call(book: &mut Book, session: u16, call: Call) -> Result<Reply, NoMemory>
-    requires some { 1 ≤ session }
-    requires within { session ≤ book.old.sessions }
-    ensures sessions { IfOk result (λ _. book.new.sessions ≡ book.old.sessions) }
-    ensures reply { IfOk result (λ reply. reply ≡ (step (state_of book.old.history) session call).reply) }
-    ensures served { IfOk result (λ reply. book.new.history ≡ book.old.history ++ record { session = session; call = call; reply = reply } ∷ []) }
-{
-    book.serve(session, call)
+/// The places `from` to `upto`, without `upto`, are drawn, of those that were asked for, which end in front of `asked`.
+#[derive(Clone, Copy)]
+struct Drawn {
+    from: usize,
+    upto: usize,
+    asked: usize,
 }
 
-/// The entry of a call with this reply.
-fn entry_of(session: u16, call: Call, reply: Reply) -> Entry
-    ensures { result ≡ record { session = session; call = call; reply = reply } }
-{
-    Entry {
-        session,
-        call,
-        reply,
-    }
-}
-
-/// Notes the call of the entry, with its explanation if it is eventful. `before` ends just ahead of the entry, and `after` with it.
-/// Fails if memory is refused.
-fn note_call(
+/// Notes the call of the entry, which the book has served last, without an explanation. Fails if memory is refused.
+fn note_unexplained(
     alloc: Global,
-    before: &Book,
+    book: &Book,
     entry: &Entry,
-    after: &Book,
+    timeline: &mut Timeline,
+) -> Result<(), NoMemory> {
+    for session in book.ended() {
+        let deed = if is_doomed(book, *session) {
+            Deed::Dooms(*session)
+        } else {
+            Deed::Grants(*session)
+        };
+        timeline.note_deed(deed)?;
+    }
+    timeline.note_unexplained(alloc, entry, book.request(entry.session))
+}
+
+/// Serves the entries in front of the first place that is drawn on the book, which has served none, and notes them without explanations, up
+/// to the first reply that isn't the book's. Fails if memory is refused.
+fn note_front(
+    alloc: Global,
+    book: &mut Book,
+    entries: &[Entry],
+    from: usize,
+    timeline: &mut Timeline,
+) -> Result<Option<u64>, NoMemory>
+    requires within { All (IsEntry book.old.sessions) entries.now }
+    requires few { from ≤ length entries.now }
+    requires empty { book.old.history ≡ [] }
+    ensures sessions { IfOk result (λ _. book.new.sessions ≡ book.old.sessions) }
+    ensures wrong { IfOk result (λ found. IfSome found (IsFirstWrong entries.now)) }
+    ensures legal { IfOk result (λ found. IfNone found (IsLegal (take from entries.now))) }
+    ensures served { IfOk result (λ found. IfNone found (book.new.history ≡ take from entries.now)) }
+{
+    for place in 0..from {
+        if let Some(first) = first_wrong(book, entries, place, place + 1)? {
+            return Ok(Some(first));
+        }
+        note_unexplained(alloc, book, &entries[place], timeline)?;
+    }
+    Ok(None)
+}
+
+/// Notes for whom the request of the entry waits, if it is still waiting at the first place that is drawn. The book has served the entries
+/// before it. Fails if memory is refused.
+fn note_blockers(
+    alloc: Global,
+    book: &Book,
+    entry: &Entry,
+    place: usize,
     timeline: &mut Timeline,
 ) -> Result<(), NoMemory>
-    requires sessions { after.now.sessions ≡ before.now.sessions }
-    requires served { after.now.history ≡ before.now.history ++ entry.now ∷ [] }
+    requires within { IsEntryWithin book.now.sessions entry.now }
 {
-    if !is_eventful(entry, after.ended()) {
-        return timeline.note(alloc, entry, &None);
+    if timeline.waits_since(entry.session, place as u64) {
+        let blockers = blockers_ahead(alloc, book, entry.session, entry.call)?;
+        timeline.note_blockers(entry.session, blockers);
     }
-    let told = lock_explain::explain(alloc, before, entry, after)?;
-    timeline.note(alloc, entry, &Some(told))
+    Ok(())
 }
 
-/// Serves the call of the entry on both books, which have the same history, and notes it. Fails if memory is refused.
+/// Serves the entries in front of the first place that is drawn on the book, which has served none, and notes for whom the requests wait
+/// that are still waiting there, up to the first reply that isn't the book's. Fails if memory is refused.
+fn note_waits(
+    alloc: Global,
+    book: &mut Book,
+    entries: &[Entry],
+    from: usize,
+    timeline: &mut Timeline,
+) -> Result<Option<u64>, NoMemory>
+    requires within { All (IsEntry book.old.sessions) entries.now }
+    requires few { from ≤ length entries.now }
+    requires empty { book.old.history ≡ [] }
+    ensures sessions { IfOk result (λ _. book.new.sessions ≡ book.old.sessions) }
+    ensures wrong { IfOk result (λ found. IfSome found (IsFirstWrong entries.now)) }
+    ensures served { IfOk result (λ found. IfNone found (book.new.history ≡ take from entries.now)) }
+{
+    for place in 0..from {
+        note_blockers(alloc, book, &entries[place], place, timeline)?;
+        if let Some(first) = first_wrong(book, entries, place, place + 1)? {
+            return Ok(Some(first));
+        }
+    }
+    Ok(None)
+}
+
+/// Serves the entry at `place` on both books, which have served those before it, and notes it. Returns whether the recorded reply is the
+/// books'; if it isn't, the history is illegal there. Fails if memory is refused.
 fn note_next(
     alloc: Global,
     before: &mut Book,
     after: &mut Book,
-    entry: &Entry,
+    entries: &[Entry],
+    place: usize,
     timeline: &mut Timeline,
-) -> Result<(), NoMemory>
-    requires within { IsEntryWithin before.old.sessions entry.now }
+) -> Result<bool, NoMemory>
+    requires within { All (IsEntry before.old.sessions) entries.now }
+    requires there { place < length entries.now }
     requires sessions { after.old.sessions ≡ before.old.sessions }
-    requires same { after.old.history ≡ before.old.history }
-    ensures sessions { IfOk result (λ _. before.new.sessions ≡ before.old.sessions) }
-    ensures others { IfOk result (λ _. after.new.sessions ≡ before.old.sessions) }
-    ensures same { IfOk result (λ _. after.new.history ≡ before.new.history) }
+    requires behind { before.old.history ≡ take place entries.now }
+    requires ahead { after.old.history ≡ take place entries.now }
+    requires legal { IsLegal (take place entries.now) }
+    ensures wrong { IfOk result (λ alike. alike ≡ false → IsFirstWrong entries.now place) }
+    ensures sessions { IfOk result (λ alike. alike ≡ true → before.new.sessions ≡ before.old.sessions) }
+    ensures others { IfOk result (λ alike. alike ≡ true → after.new.sessions ≡ before.old.sessions) }
+    ensures behind { IfOk result (λ alike. alike ≡ true → before.new.history ≡ take (place + 1) entries.now) }
+    ensures ahead { IfOk result (λ alike. alike ≡ true → after.new.history ≡ take (place + 1) entries.now) }
+    ensures legal { IfOk result (λ alike. alike ≡ true → IsLegal (take (place + 1) entries.now)) }
 {
-    let reply = serve_call(after, entry.session, entry.call)?;
-    let served = entry_of(entry.session, entry.call, reply);
-    note_call(alloc, before, &served, after, timeline)?;
-    serve_call(before, entry.session, entry.call)?;
-    Ok(())
+    let entry = &entries[place];
+    let Some(told) = explain_next(alloc, before, after, entry)? else {
+        return Ok(false);
+    };
+    timeline.note(alloc, entry, &told)?;
+    before.serve(entry.session, entry.call)?;
+    Ok(true)
 }
 
-/// Serves the calls of the entries on both books, which have the same history, `before` one behind `after`, and notes them. Fails if
-/// memory is refused.
+/// Serves the entries that are drawn on both books, which have served those before them, and notes them, up to the first reply that isn't
+/// the books'. Fails if memory is refused.
+fn note_drawn(
+    alloc: Global,
+    before: &mut Book,
+    after: &mut Book,
+    entries: &[Entry],
+    drawn: Drawn,
+    timeline: &mut Timeline,
+) -> Result<Option<u64>, NoMemory>
+    requires within { All (IsEntry before.old.sessions) entries.now }
+    requires order { drawn.from ≤ drawn.upto }
+    requires few { drawn.upto ≤ length entries.now }
+    requires sessions { after.old.sessions ≡ before.old.sessions }
+    requires behind { before.old.history ≡ take drawn.from entries.now }
+    requires ahead { after.old.history ≡ take drawn.from entries.now }
+    requires legal { IsLegal (take drawn.from entries.now) }
+    ensures sessions { IfOk result (λ found. IfNone found (after.new.sessions ≡ before.old.sessions)) }
+    ensures wrong { IfOk result (λ found. IfSome found (IsFirstWrong entries.now)) }
+    ensures legal { IfOk result (λ found. IfNone found (IsLegal (take drawn.upto entries.now))) }
+    ensures served { IfOk result (λ found. IfNone found (after.new.history ≡ take drawn.upto entries.now)) }
+{
+    for place in drawn.from..drawn.upto {
+        let alike = note_next(alloc, before, after, entries, place, timeline)?;
+        if !alike {
+            return Ok(Some(place as u64));
+        }
+    }
+    Ok(None)
+}
+
+/// The places that are drawn of those that were asked for: the first [`MOST_PLACES`].
+fn places_drawn(from: Option<u32>, to: Option<u32>, entries: &[Entry]) -> Drawn
+    ensures order { result.from ≤ result.upto }
+    ensures few { result.upto ≤ length entries.now }
+{
+    let count = entries.len();
+    let from = match from {
+        Some(place) => (place as usize).min(count),
+        None => 0,
+    };
+    let asked = match to {
+        Some(place) => (place as usize).saturating_add(1),
+        None => count,
+    };
+    let upto = from
+        .saturating_add(MOST_PLACES as usize)
+        .min(asked)
+        .min(count)
+        .max(from);
+    Drawn { from, upto, asked }
+}
+
+/// Serves all entries on `after`, and those that are drawn and those before them also on `before`, and notes what is drawn, up to the first
+/// wrong reply. The books have served no call. Fails if memory is refused.
 fn note_all(
     alloc: Global,
     before: &mut Book,
     after: &mut Book,
-    front: &[Entry],
+    entries: &[Entry],
+    drawn: Drawn,
     timeline: &mut Timeline,
-) -> Result<(), NoMemory>
-    requires within { All (IsEntryWithin before.old.sessions) front.now }
+) -> Result<Option<u64>, NoMemory>
+    requires within { All (IsEntry before.old.sessions) entries.now }
+    requires order { drawn.from ≤ drawn.upto }
+    requires few { drawn.upto ≤ length entries.now }
     requires sessions { after.old.sessions ≡ before.old.sessions }
-    requires same { after.old.history ≡ before.old.history }
+    requires behind { before.old.history ≡ [] }
+    requires ahead { after.old.history ≡ [] }
+    ensures wrong { IfOk result (λ found. IfSome found (IsFirstWrong entries.now)) }
+    ensures legal { IfOk result (λ found. IfNone found (IsLegal entries.now)) }
 {
-    for entry in front {
-        note_next(alloc, before, after, entry, timeline)?;
+    if let Some(first) = note_front(alloc, after, entries, drawn.from, timeline)? {
+        return Ok(Some(first));
     }
-    Ok(())
+    if let Some(first) = note_waits(alloc, before, entries, drawn.from, timeline)? {
+        return Ok(Some(first));
+    }
+    if let Some(first) = note_drawn(alloc, before, after, entries, drawn, timeline)? {
+        return Ok(Some(first));
+    }
+    first_wrong(after, entries, drawn.upto, entries.len())
 }
 
-/// Serves the calls of the entries on two fresh lock tables, and notes them. Fails if memory is refused.
-fn note_front(
-    alloc: Global,
-    front: &[Entry],
-    sessions: u16,
-    timeline: &mut Timeline,
-) -> Result<(), NoMemory>
+/// The picture of the entries if the history is legal, else the line of its verdict. Fails if memory is refused.
+fn picture(alloc: Global, entries: &[Entry], sessions: u16, drawn: Drawn) -> Result<Shown, NoMemory>
     requires some { 0 < sessions }
-    requires few { sessions ≤ MAX_SESSIONS }
-    requires within { All (IsEntryWithin sessions) front.now }
+    requires few_sessions { sessions ≤ MAX_SESSIONS }
+    requires within { All (IsEntry sessions) entries.now }
+    requires order { drawn.from ≤ drawn.upto }
+    requires few { drawn.upto ≤ length entries.now }
+    ensures verdict { IfOk result (λ shown. IsVerdict entries.now shown.verdict) }
+    ensures text { IfOk result (λ shown. IsTextDrawn shown.verdict (string_bytes shown.text)) }
 {
+    let mut timeline = Timeline::new(alloc, sessions, drawn.from as u64)?;
     let mut before = fresh_book(alloc, sessions)?;
     let mut after = fresh_book(alloc, sessions)?;
-    note_all(alloc, &mut before, &mut after, front, timeline)
-}
-
-/// The first place that is drawn.
-fn first_drawn(from: Option<u32>) -> usize {
-    match from {
-        Some(place) => place as usize,
-        None => 0,
+    if let Some(first) = note_all(
+        alloc,
+        &mut before,
+        &mut after,
+        entries,
+        drawn,
+        &mut timeline,
+    )? {
+        return illegal_text(alloc, first);
     }
-}
-
-/// The place behind the last that is asked for.
-fn behind_asked(to: Option<u32>, entries: &[Entry]) -> usize {
-    match to {
-        Some(place) => (place as usize).saturating_add(1),
-        None => entries.len(),
-    }
-}
-
-/// The place behind the last that is drawn: of the places from `from` up to and without `asked` a picture draws the first ones.
-fn behind_drawn(from: usize, asked: usize, entries: &[Entry]) -> usize
-    ensures { result ≤ length entries.now }
-{
-    from.saturating_add(MOST_PLACES as usize)
-        .min(asked)
-        .min(entries.len())
-}
-
-/// The picture of the entries of a legal history in front of `upto`, of which those in front of `asked` were asked for. No call was noted
-/// before. Fails if memory is refused.
-#[tactic(auto, using(crate::proofs::WithinFront::within_front))]
-fn picture_on(
-    alloc: Global,
-    timeline: &mut Timeline,
-    entries: &[Entry],
-    sessions: u16,
-    upto: usize,
-    asked: usize,
-) -> Result<String, NoMemory>
-    requires some { 0 < sessions }
-    requires few { sessions ≤ MAX_SESSIONS }
-    requires within { All (IsEntry sessions) entries.now }
-    requires there { upto ≤ length entries.now }
-{
-    note_front(alloc, &entries[..upto], sessions, timeline)?;
+    let count = entries.len() as u64;
     timeline.finish(alloc)?;
-    timeline_svg(alloc, timeline, asked as u64, entries.len() as u64)
-}
-
-/// The picture of the entries of a legal history from `from` to `to`. Fails if memory is refused.
-fn picture(
-    alloc: Global,
-    entries: &[Entry],
-    sessions: u16,
-    from: Option<u32>,
-    to: Option<u32>,
-) -> Result<String, NoMemory>
-    requires some { 0 < sessions }
-    requires few { sessions ≤ MAX_SESSIONS }
-    requires within { All (IsEntry sessions) entries.now }
-{
-    let first = first_drawn(from);
-    let asked = behind_asked(to, entries);
-    let upto = behind_drawn(first, asked, entries);
-    let mut timeline = Timeline::new(alloc, sessions, first as u64)?;
-    picture_on(alloc, &mut timeline, entries, sessions, upto, asked)
+    let text = timeline_svg(alloc, &timeline, drawn.asked as u64, count)?;
+    Ok(Shown {
+        verdict: Verdict::Legal(count),
+        text,
+    })
 }
 
 /// The picture of the entries from `from` to `to` if the history is legal, else the line of its verdict. Fails if memory is refused.
@@ -200,16 +279,8 @@ fn drawn_text(
     ensures verdict { IfOk result (λ shown. IsVerdict entries.now shown.verdict) }
     ensures text { IfOk result (λ shown. IsTextDrawn shown.verdict (string_bytes shown.text)) }
 {
-    match finding_on(alloc, entries, sessions)? {
-        Finding::Wrong(wrong) => illegal_text(alloc, wrong.place),
-        Finding::Legal(count) => {
-            let text = picture(alloc, entries, sessions, from, to)?;
-            Ok(Shown {
-                verdict: Verdict::Legal(count),
-                text,
-            })
-        }
-    }
+    let drawn = places_drawn(from, to, entries);
+    picture(alloc, entries, sessions, drawn)
 }
 
 /// The last place that is asked for, if it is before the first one.
@@ -251,7 +322,7 @@ fn range_missed(from: Option<u32>, to: Option<u32>, entries: &[Entry]) -> Option
 /// `Device` the beginning of the text may have been written, and nothing else. The fault `Trace` names the first faulty row and
 /// the first test that the row fails. `NoPlace` means that the history has no such places: it names `from` if the history has no entry
 /// there, and else `to`, if the history has no entry there or `to` is less than `from`. It costs a check of the history, whose calls
-/// up to `to` are served twice more, an explanation of each eventful call, and what is drawn.
+/// up to the last place that is drawn are served once more, and what is drawn.
 #[tactic(auto, using(crate::proofs::DrawnParts::drawn_part, crate::proofs::DrawnParts::drawn_part_known))]
 pub fn timeline<R: Read + Drop, W: Write>(
     alloc: Global,

@@ -1,12 +1,12 @@
 //! The command `explain`: what the calls of a history did and why, as text.
 
-ghost use Rattle.std.specs.Prelude.{◌≡◌, ◌≢◌, ℕ, ◌+◌, ◌<◌, ◌≤◌, ◌↔◌, ◌++◌, true, false, List, [], ◌∷◌, None, Some, length, take, All, Ok, IfOk, IfErr, IfSome, IfNone};
+ghost use Rattle.std.specs.Prelude.{◌≡◌, ◌≢◌, ℕ, ◌+◌, ◌<◌, ◌≤◌, ◌++◌, true, false, List, [], ◌∷◌, None, Some, length, take, All, Ok, IfOk, IfErr, IfSome, IfNone};
 ghost use Rattle.std.specs.Io.KnownBytes.{Keeps};
 ghost use Rattle.lock_rules.specs.declared.calls.TheConstants.{MAX_SESSIONS};
-ghost use Rattle.lock_rules.specs.Ended.{ended_waits};
 ghost use Rattle.lock_rules.specs.Legal.{IsLegal, state_of};
 ghost use Rattle.lock_rules.specs.Step.{step};
 ghost use Rattle.lock_trace.specs.Entries.{IsEntry};
+ghost use Rattle.lock_explain.specs.Explanations.{IsExplanation};
 ghost use Rattle.history_commands.specs.Explaining.{AreAccounts, Explains, HasExplained, HasExplainedPart, HasPlace, IsTextExplained};
 ghost use Rattle.history_commands.specs.Verdicts.{Finds, IsFirstWrong, IsVerdict, text_of_verdict, verdict_in, verdict_of};
 
@@ -16,6 +16,7 @@ use crate::finding::Finding;
 use crate::show_fault::ShowFault;
 use command_line::Form;
 use lock_desk::{Book, Entry, NoMemory};
+use lock_explain::{Explanation, serve_eventful, serve_explained};
 use lock_trace::read_history;
 use replay_commands::write_text;
 use std::alloc::Global;
@@ -39,18 +40,29 @@ struct ExplainedHistory<'a> {
     form: Form,
 }
 
-/// Serves the call of the entry, and returns whether the book's reply is the recorded one. Fails if the book finds no memory for
-/// the call.
-fn serve_alike(book: &mut Book, entry: &Entry) -> Result<bool, NoMemory>
+/// Serves the call of the entry on `after`, which has served what `before` has, and explains it. Returns `None` if the recorded reply isn't
+/// the book's. Fails if memory is refused.
+pub(crate) fn explain_next(
+    alloc: Global,
+    before: &Book,
+    after: &mut Book,
+    entry: &Entry,
+) -> Result<Option<Explanation>, NoMemory>
     requires some { 1 ≤ entry.now.session }
-    requires within { entry.now.session ≤ book.old.sessions }
-    ensures reply { IfOk result (λ alike. (alike ≡ true) ↔ ((step (state_of book.old.history) entry.now.session entry.now.call).reply ≡ entry.now.reply)) }
-    ensures sessions { IfOk result (λ alike. book.new.sessions ≡ book.old.sessions) }
-    ensures served { IfOk result (λ alike. alike ≡ true → book.new.history ≡ book.old.history ++ entry.now ∷ []) }
-    ensures ended { IfOk result (λ alike. book.new.ended ≡ ended_waits book.old.sessions entry.now.session (state_of book.old.history) (step (state_of book.old.history) entry.now.session entry.now.call).state) }
+    requires within { entry.now.session ≤ before.now.sessions }
+    requires sessions { after.old.sessions ≡ before.now.sessions }
+    requires same { after.old.history ≡ before.now.history }
+    ensures sessions { IfOk result (λ told. after.new.sessions ≡ before.now.sessions) }
+    ensures wrong { IfOk result (λ told. IfNone told ((step (state_of before.now.history) entry.now.session entry.now.call).reply ≢ entry.now.reply)) }
+    ensures reply { IfOk result (λ told. IfSome told (λ _. (step (state_of before.now.history) entry.now.session entry.now.call).reply ≡ entry.now.reply)) }
+    ensures served { IfOk result (λ told. IfSome told (λ _. after.new.history ≡ before.now.history ++ entry.now ∷ [])) }
+    ensures explained { IfOk result (λ told. IfSome told (IsExplanation before.now.sessions (state_of before.now.history) entry.now.session entry.now.call)) }
 {
-    let reply = book.serve(entry.session, entry.call)?;
-    Ok(is_same(reply, entry.reply))
+    let told = serve_explained(alloc, before, after, entry.session, &entry.call)?;
+    if !is_same(told.reply, entry.reply) {
+        return Ok(None);
+    }
+    Ok(Some(told.explanation))
 }
 
 /// The line of the verdict on a history whose first wrong entry is at the place `first`. Fails if memory is refused.
@@ -84,24 +96,24 @@ fn report_on_call(
     ensures verdict { IfOk result (λ report. IsVerdict entries.now report.verdict) }
     ensures text { IfOk result (λ report. IsTextExplained form before.old.sessions (Some place) entries.now report.verdict report.text.items) }
 {
-    let early = first_wrong(before, entries, 0, place)?;
-    if let Some(first) = early {
+    if let Some(first) = first_wrong(before, entries, 0, place)? {
         return illegal_report(alloc, first);
     }
-    let here = first_wrong(after, entries, 0, place + 1)?;
-    if let Some(first) = here {
+    if let Some(first) = first_wrong(after, entries, 0, place)? {
         return illegal_report(alloc, first);
     }
+    let entry = &entries[place];
+    let Some(told) = explain_next(alloc, before, after, entry)? else {
+        return illegal_report(alloc, place as u64);
+    };
     let call = ServedCall {
         before,
         front: &entries[..place],
-        entry: &entries[place],
-        after,
+        entry,
         place: place as u64,
     };
-    let text = account(alloc, &call, form)?;
-    let late = first_wrong(after, entries, place + 1, entries.len())?;
-    if let Some(first) = late {
+    let text = account(alloc, &call, &told, form)?;
+    if let Some(first) = first_wrong(after, entries, place + 1, entries.len())? {
         return illegal_report(alloc, first);
     }
     Ok(Report {
@@ -138,19 +150,18 @@ fn add_next_account(
 {
     let entries = history.entries;
     let entry = &entries[place];
-    let alike = serve_alike(after, entry)?;
-    if !alike {
+    let told = serve_eventful(alloc, before, after, entry.session, &entry.call)?;
+    if !is_same(told.reply, entry.reply) {
         return Ok(false);
     }
     let call = ServedCall {
         before,
         front: &entries[..place],
         entry,
-        after,
         place: place as u64,
     };
-    add_account_if_eventful(alloc, &call, history.form, text)?;
-    serve_alike(before, entry)?;
+    add_account_if_eventful(alloc, &call, &told.explanation, history.form, text)?;
+    before.serve(entry.session, entry.call)?;
     Ok(true)
 }
 

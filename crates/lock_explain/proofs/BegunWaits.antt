@@ -1,8 +1,9 @@
 -- The request with which a served call began to wait.
-use Rattle.std.proofs.Common.{◌≡◌, ◌≢◌, ℕ, ◌⊎◌, inl, inr, List, [], ◌∷◌, Option, Some, None, is_some, option_map, IfSome, refl, sym, ◌∙◌}
+use Rattle.std.proofs.Common.{◌≡◌, ◌≢◌, ℕ, ◌≤◌, ◌⊎◌, false, inl, inr, List, [], ◌∷◌, Option, Some, None, is_some, option_map, IfSome, refl, sym, ◌∙◌}
+use Rattle.lock_rules.specs.declared.calls.Call.{Call}
 use Rattle.lock_rules.specs.Entries.{Entry}
 use Rattle.lock_rules.specs.declared.calls.Reply.TheVariants.{Waiting}
-use Rattle.lock_rules.specs.State.{Claim, State, held_mode}
+use Rattle.lock_rules.specs.State.{Claim, State, held_mode, request_of}
 use Rattle.lock_rules.specs.Step.{step}
 use Rattle.lock_rules.specs.Legal.{state_of}
 use Rattle.sequential.proofs.Members.{Member, contains-member, member-contains}
@@ -18,6 +19,19 @@ use Rattle.lock_explain.proofs.Beginnings.{HasNewVictim, made-clear, made-sessio
 some-victim : (n : ℕ) (before after : State) (victims : List Party) → AreNewVictims n before after victims → victims ≢ [] → HasNewVictim n before after
 some-victim n before after [] new some = absurd (some refl)
 some-victim n before after (p ∷ ps) new some = let h = (new.listed p).0 (member-contains p (p ∷ ps) (inl refl)) in record { victim = p.session; some = h.0; within = h.1; new = h.2 }
+
+-- the request that a session would make that doesn't wait
+pub free-asked : (n : ℕ) (st : State) (s : ℕ) (call : Call) (o : Option Asked) → 1 ≤ s → s ≤ n → request_of s st.table.requests ≡ None → option_map claim_of o ≡ request_made st s call
+    → IfSome o (λ a. a.converts ≡ is_some (held_mode st.table a.session a.resource)) → IfSome o (IsAskedIn n st)
+free-asked n st s call None some within idle made converts = tt
+free-asked n st s call (Some a) some within idle made converts =
+    let own : a.session ≡ s = made-session st s call (claim_of a) (sym made) in
+    record { some = rw own some; within = rw own within; idle = rw own idle; converts = converts }
+
+-- nothing, if there isn't something
+pub nobody : (o : Option Claim) → is_some o ≡ false → o ≡ None
+nobody None e = refl
+nobody (Some q) e = absurd (cc)
 
 module _ (n : ℕ) (history : List Entry) (e : Entry) (victims : List Party) (served : IsServed n history e (step (state_of history) e.session e.call).state) (new : AreNewVictims n (state_of history) (step (state_of history) e.session e.call).state victims) where
   -- with another reply than Waiting, and no victim, no request began to wait
@@ -51,6 +65,5 @@ module _ (n : ℕ) (history : List Entry) (e : Entry) (victims : List Party) (se
   is-asked t None made converts = tt
   is-asked t (Some a) made converts =
       let b = begun t (claim_of a) (sym made) in
-      let own : a.session ≡ e.session = made-session (state_of history) e.session e.call (claim_of a) (sym made) in
       let clear = made-clear (state_of history) e.session e.call (claim_of a) (sym made) b.accepted in
-      record { some = rw own served.session.some; within = rw own served.session.within; idle = rw own clear.idle; converts = converts }
+      free-asked n (state_of history) e.session e.call (Some a) served.session.some served.session.within clear.idle made converts

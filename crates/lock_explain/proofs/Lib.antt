@@ -7,6 +7,8 @@ pub mod SessionsOfAHistory
 pub mod GraphRows
 pub mod OnCycle
 pub mod NewVictims
+pub mod EndedNone
+pub mod LocksBelow
 pub mod OpenWithin
 pub mod Beginnings
 pub mod BegunWaits

@@ -4,7 +4,7 @@ use Rattle.std.specs.List.{flat_map, range_with_len}
 use Rattle.lock_modes.specs.declared.Mode.{Mode}
 use Rattle.lock_rules.specs.declared.calls.Call.{Call}
 use Rattle.lock_rules.specs.declared.calls.Call.TheVariants.{Begin, Lock, Convert, Poll, Release, Commit, Abort, Try, Withdraw, Restart}
-use Rattle.lock_rules.specs.State.{Claim, Table, State, held_mode, request_of, number_of, with_table}
+use Rattle.lock_rules.specs.State.{Claim, Table, State, held_mode, is_waiting, request_of, number_of, with_table}
 use Rattle.lock_rules.specs.Queue.{queue, with_request}
 use Rattle.lock_rules.specs.Waits.{conflicts, stands_before, waits_for}
 use Rattle.lock_rules.specs.Step.{target_of}
@@ -32,6 +32,10 @@ request_made st s Abort = None
 request_made st s (Try r m) = Some (request s r (target_of (held_mode st.table s r) m))
 request_made st s Withdraw = None
 request_made st s Restart = None
+
+-- the request that a call of the session would make, None also if the session waits already
+abbrev pub request_if_free : State → ℕ → Call → Option Claim
+request_if_free st s call = if is_waiting st s then None else request_made st s call
 
 -- the call of the session makes this request, which isn't refused, isn't held already, and isn't free to be granted at once
 pub record BeginsToWait (st : State) (s : ℕ) (call : Call) (q : Claim) : Type 0 where

@@ -1,11 +1,11 @@
 //! A request that a call makes.
 
-ghost use Rattle.std.specs.Prelude.{◌≡◌, is_some, option_map, IfSome};
+ghost use Rattle.std.specs.Prelude.{◌≡◌, ◌≤◌, is_some, option_map, IfSome};
 ghost use Rattle.lock_rules.specs.State.{held_mode};
 ghost use Rattle.lock_rules.specs.Legal.{state_of};
 ghost use Rattle.lock_rules.specs.Listing.{kind_of_request, listed_as, transaction_of};
 ghost use Rattle.lock_rules.specs.Step.{target_of};
-ghost use Rattle.lock_explain.specs.Waiting.{request_made};
+ghost use Rattle.lock_explain.specs.Waiting.{request_if_free, request_made};
 ghost use Rattle.lock_explain.specs.inner.Asked.{IsAskedIn, claim_of};
 
 use lock_desk::Book;
@@ -53,6 +53,19 @@ pub(crate) fn asked_by(before: &Book, session: u16, call: &Call) -> Option<Asked
         }
         _ => None,
     }
+}
+
+/// The request that the call of the session would make, `None` if the session waits already, or if the call requests no lock.
+pub(crate) fn asked_if_free(before: &Book, session: u16, call: &Call) -> Option<Asked>
+    requires some { 1 ≤ session }
+    requires within { session ≤ before.now.sessions }
+    ensures made { option_map claim_of result ≡ request_if_free (state_of before.now.history) session call.now }
+    ensures asked { IfSome result (IsAskedIn before.now.sessions (state_of before.now.history)) }
+{
+    if before.is_waiting(session) {
+        return None;
+    }
+    asked_by(before, session, call)
 }
 
 /// The open transaction of the session, as a listing shows it.

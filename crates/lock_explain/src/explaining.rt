@@ -1,25 +1,26 @@
 //! The explanation of a served call.
 
-ghost use Rattle.std.specs.Prelude.{◌≡◌, ◌≢◌, ◌⊎◌, ◌++◌, ◌&&◌, not, true, false, List, [], ◌∷◌, IfOk, IfNone, IfSome};
+ghost use Rattle.std.specs.Prelude.{◌≡◌, ◌≢◌, ◌≤◌, ◌⊎◌, ◌++◌, ◌&&◌, not, true, false, List, [], ◌∷◌, is_some, IfOk, IfNone, IfSome};
 ghost use Rattle.lock_rules.specs.declared.calls.Reply.{Reply as ReplyValue};
 ghost use Rattle.lock_rules.specs.State.{Claim as ClaimValue, is_doomed, is_waiting};
 ghost use Rattle.lock_rules.specs.Effects.{IsNotRefused};
+ghost use Rattle.lock_rules.specs.Ended.{ended_waits};
 ghost use Rattle.lock_rules.specs.Legal.{state_of};
 ghost use Rattle.lock_rules.specs.Step.{step};
 ghost use Rattle.sequential.specs.Histories.{IsEntryWithin};
 ghost use Rattle.lock_explain.specs.Cycles.{cycle_of, edges_of};
 ghost use Rattle.lock_explain.specs.Endings.{AreNewVictims};
 ghost use Rattle.lock_explain.specs.Explanations.{IsExplanation, IsWaitOfCall, is_eventful};
-ghost use Rattle.lock_explain.specs.Refused.{IsRefusalOf};
-ghost use Rattle.lock_explain.specs.Waiting.{BeginsToWait, waiting_state};
+ghost use Rattle.lock_explain.specs.Refused.{IsRefusalOf, blockers_if_asked};
+ghost use Rattle.lock_explain.specs.Waiting.{BeginsToWait, request_if_free, waiting_state};
 ghost use Rattle.lock_explain.specs.inner.Asked.{IsAskedIn, claim_of};
-ghost use Rattle.lock_explain.specs.inner.Served.{IsServed};
+ghost use Rattle.lock_explain.specs.inner.Served.{AreEnded, IsServed};
 
-use crate::asked::{Asked, asked_by, request_line};
+use crate::asked::{Asked, asked_by, asked_if_free, request_line};
 use crate::cycles::{Cycle, cycle_of};
 use crate::endings::{granted_requests, is_doomed, new_victims};
-use crate::explanation::{Explanation, Party, Refusal, Wait};
-use crate::refusal::refusal_of;
+use crate::explanation::{Blocker, EventfulCall, ExplainedCall, Explanation, Party, Refusal, Wait};
+use crate::refusal::{blockers_if_asked, refusal_of};
 use crate::waiting::blockers_of;
 use lock_desk::Book;
 use lock_rules::{Call, Entry, Reply};
@@ -148,12 +149,8 @@ fn wait_of_entry(
     Ok(Some(wait))
 }
 
-/// Explains the call that `after` has served and `before` hasn't: why it was refused; for whom its request began to wait and
-/// through what, and the cycles that this closed; who became a victim; and whose requests it granted.
-///
-/// `after` has the history of `before` and one entry more, and both are of the same sessions. Fails with `NoMemory` if memory
-/// is refused. What an explanation tells, and in which order, is this project's own.
-pub fn explain(
+/// Explains the call of the entry, which `after` has served last, and `before` hasn't. Fails if memory is refused.
+fn explain(
     alloc: Global,
     before: &Book,
     entry: &Entry,
@@ -161,20 +158,128 @@ pub fn explain(
 ) -> Result<Explanation, NoMemory>
     requires sessions { after.now.sessions ≡ before.now.sessions }
     requires served { after.now.history ≡ before.now.history ++ entry.now ∷ [] }
+    requires ended { AreEnded before.now.sessions before.now.history entry.now after.now.ended }
     ensures { IfOk result (IsExplanation before.now.sessions (state_of before.now.history) entry.now.session entry.now.call) }
 {
     // called for its contract: the history is legal, so the entry has the reply of `step`
     let _history = after.history();
     let refusal = refusal_of_entry(alloc, before, entry)?;
-    let victims = new_victims(alloc, before, after)?;
+    let victims = new_victims(alloc, before, entry, after)?;
     let wait = wait_of_entry(alloc, before, entry, &victims, after)?;
-    let granted = granted_requests(alloc, before, entry.session, after)?;
+    let granted = granted_requests(alloc, before, entry, after)?;
     Ok(Explanation {
         refusal,
         wait,
         victims,
         granted,
     })
+}
+
+/// The entry of a call with this reply.
+fn entry_of(session: u16, call: Call, reply: Reply) -> Entry
+    ensures { result ≡ record { session = session; call = call; reply = reply } }
+{
+    Entry {
+        session,
+        call,
+        reply,
+    }
+}
+
+/// Serves a call of `session` on `after`, and explains it: why it was refused; for whom its request began to wait and through what, and
+/// the cycles that this closed; who became a victim; and whose requests it granted.
+///
+/// Both books have served the same calls, and are of the same sessions, 1 to `before.sessions()`; `before` doesn't serve this one. Fails
+/// with `NoMemory` if memory is refused; `after` may have served the call then. What an explanation tells, and in which order, is this
+/// project's own. A call costs a look at all sessions only if its request waits, or if it ends a wait or makes a victim.
+pub fn serve_explained(
+    alloc: Global,
+    before: &Book,
+    after: &mut Book,
+    session: u16,
+    call: &Call,
+) -> Result<ExplainedCall, NoMemory>
+    requires some { 1 ≤ session }
+    requires within { session ≤ before.now.sessions }
+    requires sessions { after.old.sessions ≡ before.now.sessions }
+    requires same { after.old.history ≡ before.now.history }
+    ensures reply { IfOk result (λ told. told.reply ≡ (step (state_of before.now.history) session call.now).reply) }
+    ensures book { IfOk result (λ told. after.new ≡ record after.old {
+      history = before.now.history ++ record { session = session; call = call.now; reply = told.reply } ∷ [];
+      ended = ended_waits before.now.sessions session (state_of before.now.history) (step (state_of before.now.history) session call.now).state;
+    }) }
+    ensures explanation { IfOk result (λ told. IsExplanation before.now.sessions (state_of before.now.history) session call.now told.explanation) }
+{
+    let reply = after.serve(session, *call)?;
+    let entry = entry_of(session, *call, reply);
+    let explanation = explain(alloc, before, &entry, after)?;
+    Ok(ExplainedCall { reply, explanation })
+}
+
+/// Explains the call of the entry as `explain` does, if it is eventful. Fails if memory is refused.
+fn explain_if_eventful(
+    alloc: Global,
+    before: &Book,
+    entry: &Entry,
+    after: &Book,
+) -> Result<Option<Box<Explanation>>, NoMemory>
+    requires sessions { after.now.sessions ≡ before.now.sessions }
+    requires served { after.now.history ≡ before.now.history ++ entry.now ∷ [] }
+    requires ended { AreEnded before.now.sessions before.now.history entry.now after.now.ended }
+    ensures eventful { IfOk result (λ told. is_some told ≡ is_eventful entry.now.call entry.now.reply after.now.ended) }
+    ensures explained { IfOk result (λ told. IfSome told (λ x. IsExplanation before.now.sessions (state_of before.now.history) entry.now.session entry.now.call x.value)) }
+{
+    if !is_eventful(entry, after.ended()) {
+        return Ok(None);
+    }
+    let explanation = explain(alloc, before, entry, after)?;
+    match Box::new(alloc, explanation) {
+        Ok(boxed) => Ok(Some(boxed)),
+        Err(_) => Err(NoMemory),
+    }
+}
+
+/// Serves a call of `session` on `after`, and explains it as `serve_explained` does if it is eventful, as `is_eventful` says: a call that
+/// isn't costs what it costs to serve it.
+pub fn serve_eventful(
+    alloc: Global,
+    before: &Book,
+    after: &mut Book,
+    session: u16,
+    call: &Call,
+) -> Result<EventfulCall, NoMemory>
+    requires some { 1 ≤ session }
+    requires within { session ≤ before.now.sessions }
+    requires sessions { after.old.sessions ≡ before.now.sessions }
+    requires same { after.old.history ≡ before.now.history }
+    ensures reply { IfOk result (λ told. told.reply ≡ (step (state_of before.now.history) session call.now).reply) }
+    ensures book { IfOk result (λ told. after.new ≡ record after.old {
+      history = before.now.history ++ record { session = session; call = call.now; reply = told.reply } ∷ [];
+      ended = ended_waits before.now.sessions session (state_of before.now.history) (step (state_of before.now.history) session call.now).state;
+    }) }
+    ensures eventful { IfOk result (λ told. is_some told.explanation ≡ is_eventful call.now told.reply (ended_waits before.now.sessions session (state_of before.now.history) (step (state_of before.now.history) session call.now).state)) }
+    ensures explained { IfOk result (λ told. IfSome told.explanation (λ x. IsExplanation before.now.sessions (state_of before.now.history) session call.now x.value)) }
+{
+    let reply = after.serve(session, *call)?;
+    let entry = entry_of(session, *call, reply);
+    let explanation = explain_if_eventful(alloc, before, &entry, after)?;
+    Ok(EventfulCall { reply, explanation })
+}
+
+/// The sessions that the request of a call would wait for, by session number: none if the session waits already, or if the call requests no
+/// lock. Fails if memory is refused.
+pub fn blockers_ahead(
+    alloc: Global,
+    before: &Book,
+    session: u16,
+    call: Call,
+) -> Result<Vec<Blocker>, NoMemory>
+    requires some { 1 ≤ session }
+    requires within { session ≤ before.now.sessions }
+    ensures { IfOk result (λ blockers. blockers.items ≡ blockers_if_asked before.now.sessions (state_of before.now.history) (request_if_free (state_of before.now.history) session call)) }
+{
+    let asked = asked_if_free(before, session, &call);
+    blockers_if_asked(alloc, before, &asked)
 }
 
 /// Whether a call is worth an explanation: it was refused, its own request waited, or it ended the wait of another session.

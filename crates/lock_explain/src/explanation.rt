@@ -1,7 +1,7 @@
 //! What an explanation is made of.
 
 use lock_modes::Mode;
-use lock_rules::{Claim, Why};
+use lock_rules::{Claim, Reply, Why};
 use lock_tree::Resource;
 
 /// A session with the number of its open transaction.
@@ -88,4 +88,22 @@ pub struct Explanation {
     pub victims: Vec<Party>,
     /// The waiting requests of other sessions that the call granted, by session number.
     pub granted: Vec<Claim>,
+}
+
+/// The reply of a call that was served, with what the call did and why.
+#[derive(Drop)]
+pub struct ExplainedCall {
+    /// Its reply.
+    pub reply: Reply,
+    /// What it did and why.
+    pub explanation: Explanation,
+}
+
+/// The reply of a call that was served, with what the call did and why if it is eventful, else `None`.
+#[derive(Drop)]
+pub struct EventfulCall {
+    /// Its reply.
+    pub reply: Reply,
+    /// What it did and why. Boxed, since most calls have none.
+    pub explanation: Option<Box<Explanation>>,
 }

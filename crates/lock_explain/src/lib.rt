@@ -5,8 +5,8 @@
 //! that a call makes, `refusal.rt`, `waiting.rt`, `cycles.rt` and `endings.rt` have the parts of an explanation, and
 //! `laws.rt` says what the definitions mean.
 //!
-//! [`explain`] compares two books, one before the call and one after it. Refusal and blockers are found in the book
-//! before, victims and grants by comparing both; cycles by a waits-for graph of its own, with the request in it.
+//! [`serve_explained`] serves a call on one of two books, and compares it with the other. Refusal and blockers are found in the book
+//! before the call, victims and grants by comparing both; cycles by a waits-for graph of its own, with the request in it.
 //!
 //! Proved: an explanation has exactly what the definitions in `specs/` say of the call. It says nothing of what the
 //! call didn't do, and gives cycles as one connected part, not one by one. The only error is that memory was refused.
@@ -21,6 +21,8 @@ pub mod laws;
 mod refusal;
 mod waiting;
 
-pub use explaining::{explain, is_eventful};
-pub use explanation::{Blocker, Edge, Explanation, MissedParent, Party, Refusal, Wait};
+pub use explaining::{blockers_ahead, is_eventful, serve_eventful, serve_explained};
+pub use explanation::{
+    Blocker, Edge, EventfulCall, ExplainedCall, Explanation, MissedParent, Party, Refusal, Wait,
+};
 pub use std::alloc::AllocError as NoMemory;

@@ -12,7 +12,7 @@ ghost use Rattle.lock_explain.specs.inner.Asked.{IsAskedIn, claim_of};
 use crate::asked::{Asked, asked_by, request_line, target_of};
 use crate::explanation::{Blocker, MissedParent, Refusal};
 use crate::waiting::blockers_of;
-use lock_desk::Book;
+use lock_desk::{Book, pages_tell_each_lock_once};
 use lock_modes::Mode;
 use lock_rules::{Call, Claim, ClaimKind, Reply, Why};
 use lock_tree::Resource;
@@ -83,10 +83,12 @@ fn locks_below_resource(
 ) -> Result<Vec<Claim>, NoMemory>
     ensures { IfOk result (λ below. below.items ≡ filter (is_lock_below session resource) (listing_of (state_of before.now.history))) }
 {
-    let mut listing = Vec::new(alloc);
-    before.locks(alloc, &mut listing)?;
+    pages_tell_each_lock_once();
+    let count = before.locks_held(session);
+    let mut held = Vec::new(alloc);
+    before.locks_of(alloc, session, None, count, &mut held)?;
     let mut below = Vec::new(alloc);
-    for line in &listing {
+    for line in &held {
         if is_lock_below(session, resource, line) {
             below.push(*line)?;
         }
@@ -140,7 +142,7 @@ fn line_if_asked(before: &Book, asked: &Option<Asked>) -> Option<Claim>
 }
 
 /// The sessions that the request would wait for, by session number, none if there is no request. Fails if memory is refused.
-fn blockers_if_asked(
+pub(crate) fn blockers_if_asked(
     alloc: Global,
     before: &Book,
     asked: &Option<Asked>,

@@ -36,17 +36,17 @@ mode_word Held = codes "in"
 mode_word Conversion = codes "to"
 mode_word Fresh = codes "in"
 
+-- the end of a claim's line
+abbrev pub mode_at_end : Claim → List ℕ
+mode_at_end c = codes " " ++ mode_word c.kind ++ codes " " ++ name_of c.mode ++ codes "\n"
+
 -- the line of a claim below its session
 abbrev pub line_of_session : Claim → List ℕ
-line_of_session c =
-    codes "  " ++ session_verb c.kind ++ codes " " ++ text_of c.resource
-    ++ codes " " ++ mode_word c.kind ++ codes " " ++ name_of c.mode ++ codes "\n"
+line_of_session c = codes "  " ++ session_verb c.kind ++ codes " " ++ text_of c.resource ++ mode_at_end c
 
 -- the line of a claim below its resource
 abbrev pub line_of_resource : Claim → List ℕ
-line_of_resource c =
-    codes "  session " ++ decimal c.session ++ codes " " ++ resource_verb c.kind
-    ++ codes " " ++ mode_word c.kind ++ codes " " ++ name_of c.mode ++ codes "\n"
+line_of_resource c = codes "  session " ++ decimal c.session ++ codes " " ++ resource_verb c.kind ++ mode_at_end c
 
 -- the claims of the session, in the order of the listing
 abbrev pub claims_of : ℕ → List Claim → List Claim

@@ -2,7 +2,7 @@
 
 ghost use Rattle.std.specs.Prelude.{◌≡◌, ◌++◌, IfOk, OnOk, None, string_bytes};
 ghost use Rattle.std.specs.List.{flat_map};
-ghost use Rattle.lock_report.specs.StateText.{session_verb, resource_verb, mode_word, line_of_session, session_lines, line_of_resource, resource_heading, resource_lines, transactions_section, resources_section, sections_of, state_heading, waits_section, text_of_state};
+ghost use Rattle.lock_report.specs.StateText.{session_verb, resource_verb, mode_word, mode_at_end, line_of_session, session_lines, line_of_resource, resource_heading, resource_lines, transactions_section, resources_section, sections_of, state_heading, waits_section, text_of_state};
 ghost use Rattle.lock_report.specs.inner.BySession.{Ascends};
 
 use crate::by_session::{claims_by_session, claims_of_session};
@@ -49,15 +49,25 @@ pub(crate) fn mode_word(kind: ClaimKind) -> &'static str
     }
 }
 
+/// Writes the end of a claim's line, with its mode. A line of each claim is written: pieces cost less than a format.
+fn put_mode(out: &mut String, claim: &Claim) -> Result<(), NoMemory>
+    ensures { OnOk result (string_bytes out.new ≡ string_bytes out.old ++ mode_at_end claim.now) }
+{
+    out.push_str(" ")?;
+    out.push_str(mode_word(claim.kind))?;
+    out.push_str(" ")?;
+    out.push_str(claim.mode.name())?;
+    out.push_str("\n")
+}
+
 /// Writes the line of a claim below its session.
 fn put_line_of_session(out: &mut String, claim: &Claim) -> Result<(), NoMemory>
     ensures { OnOk result (string_bytes out.new ≡ string_bytes out.old ++ line_of_session claim.now) }
 {
-    let resource = claim.resource;
-    let verb = session_verb(claim.kind);
-    let word = mode_word(claim.kind);
-    let mode = claim.mode.name();
-    writeln!(out, "  {verb} {resource} {word} {mode}")
+    out.push_str("  ")?;
+    out.push_str(session_verb(claim.kind))?;
+    write!(out, " {}", claim.resource)?;
+    put_mode(out, claim)
 }
 
 /// Writes the lines of claims of one session.
@@ -74,11 +84,9 @@ fn put_lines_of_session(out: &mut String, claims: &[Claim]) -> Result<(), NoMemo
 fn put_line_of_resource(out: &mut String, claim: &Claim) -> Result<(), NoMemory>
     ensures { OnOk result (string_bytes out.new ≡ string_bytes out.old ++ line_of_resource claim.now) }
 {
-    let session = claim.session;
-    let verb = resource_verb(claim.kind);
-    let word = mode_word(claim.kind);
-    let mode = claim.mode.name();
-    writeln!(out, "  session {session} {verb} {word} {mode}")
+    write!(out, "  session {} ", claim.session)?;
+    out.push_str(resource_verb(claim.kind))?;
+    put_mode(out, claim)
 }
 
 /// Writes the first line of a resource, unless it was shown last.

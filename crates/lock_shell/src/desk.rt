@@ -3,14 +3,15 @@
 ghost use Rattle.std.specs.Prelude.{◌≡◌, ◌≤◌, ◌++◌, [], ◌∷◌, length, take, All, IfOk, OnOk};
 ghost use Rattle.sequential.specs.Histories.{IsEntryWithin};
 ghost use Rattle.lock_rules.specs.declared.calls.TheConstants.{MAX_SESSIONS};
-ghost use Rattle.lock_rules.specs.Legal.{IsLegal, state_of};
-ghost use Rattle.lock_rules.specs.Step.{step};
+ghost use Rattle.lock_rules.specs.Legal.{IsLegal};
 ghost use Rattle.lock_trace.specs.Rows.{IsRow};
+ghost use Rattle.lock_shell.specs.Replies.{text_of_reply};
 ghost use Rattle.lock_shell.specs.Turns.{HasServed, HasServedPath, HasServedRows};
 ghost use Rattle.lock_shell.specs.inner.Desks.{AreAlike};
 
 use crate::reply_line::put_reply_text;
 use lock_desk::{Book, Entry, Mode, NO_BOUND, NoMemory, Reply, Resource, grants, lock_of_level};
+use lock_explain::{ExplainedCall, serve_explained};
 use lock_trace::TraceRow;
 use std::alloc::Global;
 
@@ -36,30 +37,23 @@ pub(crate) fn fresh_desk(alloc: Global, sessions: u16) -> Result<Desk, NoMemory>
     Ok(Desk { before, after })
 }
 
-/// Appends the line of the row's call with this reply, which `after` has served and `before` hasn't. Fails if memory is refused.
-#[tactic(auto, using(crate::proofs::Served::one_served))]
+/// Appends the line of the row's call, which `before` hasn't served. Fails if memory is refused.
 fn tell(
     alloc: Global,
     before: &Book,
-    after: &Book,
     row: &TraceRow,
-    reply: &Reply,
+    told: &ExplainedCall,
     text: &mut Vec<u8>,
 ) -> Result<(), NoMemory>
-    requires sessions { after.now.sessions ≡ before.now.sessions }
-    requires served { after.now.history ≡ before.now.history ++ record { session = row.now.session; call = row.now.call; reply = reply.now } ∷ [] }
-    requires given { reply.now ≡ (step (state_of before.now.history) row.now.session row.now.call).reply }
-    ensures { OnOk result (HasServed before.now.sessions before.now.history after.now.history (record { session = row.now.session; call = row.now.call; reply = reply.now } ∷ []) text.old.items text.new.items) }
+    ensures { OnOk result (text.new.items ≡ text.old.items ++ text_of_reply (length before.now.history) (record { session = row.now.session; call = row.now.call; reply = told.now.reply }) told.now.explanation) }
 {
-    let place = before.served();
     let entry = Entry {
         session: row.session,
         call: row.call,
-        reply: *reply,
+        reply: told.reply,
     };
-    let explanation = lock_explain::explain(alloc, before, &entry, after)?;
     let mut line = String::new(alloc);
-    put_reply_text(&mut line, place, &entry, &explanation)?;
+    put_reply_text(&mut line, before.served(), &entry, &told.explanation)?;
     text.extend_from_slice(line.as_bytes())
 }
 
@@ -78,10 +72,10 @@ pub(crate) fn serve_told(
     ensures alike { OnOk result (AreAlike after.old.sessions before.new after.new) }
     ensures served { IfOk result (λ reply. HasServed after.old.sessions after.old.history after.new.history (record { session = row.now.session; call = row.now.call; reply = reply } ∷ []) text.old.items text.new.items) }
 {
-    let reply = after.serve(row.session, row.call)?;
-    tell(alloc, before, after, row, &reply, text)?;
+    let told = serve_explained(alloc, before, after, row.session, &row.call)?;
+    tell(alloc, before, row, &told, text)?;
     before.serve(row.session, row.call)?;
-    Ok(reply)
+    Ok(told.reply)
 }
 
 /// Locks a path for a session, from the database down, as `Book::lock_path` does, and appends the lines of the calls to the text.

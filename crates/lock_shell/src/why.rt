@@ -10,6 +10,7 @@ use crate::texts::NO_CALL;
 use command_line::Form;
 use history_commands::{ServedCall, account, answer_of, doom_of};
 use lock_desk::{Book, Call, Entry, NO_BOUND, NoMemory};
+use lock_explain::serve_explained;
 use std::alloc::Global;
 
 /// Whether the session made this call, and it is no poll.
@@ -57,17 +58,23 @@ fn account_at(alloc: Global, after: &Book, place: usize) -> Result<Vec<u8>, NoMe
     requires there { place < length after.now.history }
     ensures { IfOk result (λ text. IsAccountAt after.now.sessions after.now.history (Some place) text.items) }
 {
-    let front = desk_again(alloc, after, place)?;
-    let back = desk_again(alloc, after, place + 1)?;
+    let mut desk = desk_again(alloc, after, place)?;
     let entries = after.history();
+    let entry = &entries[place];
+    let told = serve_explained(
+        alloc,
+        &desk.before,
+        &mut desk.after,
+        entry.session,
+        &entry.call,
+    )?;
     let call = ServedCall {
-        before: &front.after,
+        before: &desk.before,
         front: &entries[..place],
-        entry: &entries[place],
-        after: &back.after,
+        entry,
         place: place as u64,
     };
-    account(alloc, &call, Form::Lines)
+    account(alloc, &call, &told.explanation, Form::Lines)
 }
 
 /// What the call that is told did and why, or that there is none. Fails if memory is refused.

@@ -5,7 +5,7 @@
 //!
 //! Proved: every call is safe and returns. Only tested: what the pictures look like. The only error is that memory was refused. The
 //! collecting of a call costs a few look-ups, and the end of a transaction one step for each of its locks; a picture costs what it
-//! draws, and a sort. What is kept are the calls of the places drawn, and of the calls before them only what isn't over.
+//! draws, and a sort. Calls in front of what is drawn need no explanation. What is kept are the calls of the places drawn, and of the calls before them only what isn't over.
 #![tactic(auto)]
 
 mod drawing;
@@ -16,4 +16,4 @@ mod timeline;
 pub use drawing::timeline_svg;
 pub use layout::MOST_PLACES;
 pub use std::alloc::AllocError as NoMemory;
-pub use timeline::Timeline;
+pub use timeline::{Deed, Timeline};

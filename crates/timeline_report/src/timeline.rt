@@ -40,9 +40,9 @@ pub(crate) struct Hold {
     pub(crate) upto: u64,
 }
 
-/// What a call did to the request or the transaction of another session.
+/// What a call did to another session: it granted its request, or made its transaction a deadlock victim.
 #[derive(Clone, Copy)]
-pub(crate) enum Deed {
+pub enum Deed {
     Grants(u16),
     Dooms(u16),
 }
@@ -93,9 +93,8 @@ impl Timeline {
         })
     }
 
-    /// Notes the next call of the history. `told` is its explanation, which may be left out if the call was neither refused nor waited
-    /// nor ended the wait of another session. Fails only with `NoMemory`, after which the picture is of no use.
-    pub fn note(&mut self, alloc: Global, entry: &Entry, told: &Option<Explanation>) -> Written {
+    /// Notes the next call of the history, with its explanation. Fails only with `NoMemory`, after which the picture is of no use.
+    pub fn note(&mut self, alloc: Global, entry: &Entry, told: &Explanation) -> Written {
         self.note_reply(alloc, entry)?;
         let mut mark = Mark {
             place: self.noted,
@@ -103,14 +102,64 @@ impl Timeline {
             deeds: Vec::new(alloc),
             edges: Vec::new(alloc),
         };
-        if let Some(told) = told {
-            self.note_told(told, &mut mark)?;
-        }
+        self.note_told(told, &mut mark)?;
         if self.noted >= self.from {
             self.marks.push(mark)?;
         }
         self.noted = self.noted.saturating_add(1);
         Ok(())
+    }
+
+    /// Notes what the next call of the history did to another session, whose wait it ended.
+    pub fn note_deed(&mut self, deed: Deed) -> Written {
+        match deed {
+            Deed::Grants(session) => {
+                let request = self.waiting.get(&session).map(|wait| wait.request);
+                self.end_wait(session)?;
+                match request {
+                    Some(request) => self.hold(session, request.resource, Some(request.mode)),
+                    None => Ok(()),
+                }
+            }
+            Deed::Dooms(session) => {
+                self.doom(session);
+                self.end_wait(session)
+            }
+        }
+    }
+
+    /// Notes the next call of the history, which isn't drawn, behind the waits that it ended. `request` is the request of its session,
+    /// if one waits then.
+    pub fn note_unexplained(
+        &mut self,
+        alloc: Global,
+        entry: &Entry,
+        request: Option<Claim>,
+    ) -> Written {
+        self.note_reply(alloc, entry)?;
+        if let Call::Lock(_, _) | Call::Convert(_, _) = entry.call {
+            match (entry.reply, request) {
+                (Reply::Waiting, Some(request)) => self.begin_wait(request, Vec::new(alloc))?,
+                (Reply::Deadlock, _) => self.doom(entry.session),
+                _ => {}
+            }
+        }
+        self.noted = self.noted.saturating_add(1);
+        Ok(())
+    }
+
+    /// Whether the session waits, with a request that began to wait at this place.
+    pub fn waits_since(&self, session: u16, place: u64) -> bool {
+        self.waiting
+            .get(&session)
+            .is_some_and(|wait| wait.from == place)
+    }
+
+    /// Notes for whom the session's request waited when it began to wait, if the session waits.
+    pub fn note_blockers(&mut self, session: u16, blockers: Vec<Blocker>) {
+        if let Some(wait) = self.waiting.get_mut(&session) {
+            wait.blockers = blockers;
+        }
     }
 
     /// Ends all that isn't over at the end of the picture, and brings waits and locks into the order in which they began. Fails only
@@ -146,30 +195,42 @@ impl Timeline {
     fn note_told(&mut self, told: &Explanation, mark: &mut Mark) -> Written {
         if let Some(wait) = &told.wait {
             mark.edges.extend_from_slice(&wait.edges)?;
-            let waited = Waited {
-                request: wait.request,
-                blockers: wait.blockers.clone()?,
-                from: self.noted,
-                upto: self.noted,
-            };
-            self.waiting.insert(mark.entry.session, waited)?;
+            self.begin_wait(wait.request, wait.blockers.clone()?)?;
             if mark.entry.reply != Reply::Waiting {
                 self.end_wait(mark.entry.session)?;
             }
         }
         for victim in &told.victims {
-            mark.deeds.push(Deed::Dooms(victim.session))?;
-            self.end_wait(victim.session)?;
-            if let Some(bar) = self.open.get_mut(&victim.session) {
-                bar.doomed = Some(self.noted);
-            }
+            let deed = Deed::Dooms(victim.session);
+            mark.deeds.push(deed)?;
+            self.note_deed(deed)?;
         }
         for request in &told.granted {
-            mark.deeds.push(Deed::Grants(request.session))?;
-            self.end_wait(request.session)?;
-            self.hold(request.session, request.resource, Some(request.mode))?;
+            let deed = Deed::Grants(request.session);
+            mark.deeds.push(deed)?;
+            self.note_deed(deed)?;
         }
         Ok(())
+    }
+
+    /// Begins the wait of the request.
+    fn begin_wait(&mut self, request: Claim, blockers: Vec<Blocker>) -> Written {
+        let (session, place) = (request.session, self.noted);
+        let waited = Waited {
+            request,
+            blockers,
+            from: place,
+            upto: place,
+        };
+        self.waiting.insert(session, waited)?;
+        Ok(())
+    }
+
+    /// Makes the transaction of the session a victim.
+    fn doom(&mut self, session: u16) {
+        if let Some(bar) = self.open.get_mut(&session) {
+            bar.doomed = Some(self.noted);
+        }
     }
 
     /// Begins the bar of a transaction.

@@ -10,8 +10,14 @@ refusal_of_entry-requires c =
     let s = is-served c.args.before.now.sessions c.args.after.now.sessions c.args.before.now.history c.args.after.now.history c.args.entry.now c.requires.sessions c.requires.served c.history-history.ensures.legal c.history-history.ensures.within in
     record { session = s.session; reply = s.reply }
 
+pub new_victims-requires-clause-served : goal.new_victims-requires-clause-served
+new_victims-requires-clause-served c = is-served c.args.before.now.sessions c.args.after.now.sessions c.args.before.now.history c.args.after.now.history c.args.entry.now c.requires.sessions c.requires.served c.history-history.ensures.legal c.history-history.ensures.within
+
 pub wait_of_entry-requires-clause-served : goal.wait_of_entry-requires-clause-served
 wait_of_entry-requires-clause-served c = is-served c.args.before.now.sessions c.args.after.now.sessions c.args.before.now.history c.args.after.now.history c.args.entry.now c.requires.sessions c.requires.served c.history-history.ensures.legal c.history-history.ensures.within
+
+pub granted_requests-requires-clause-served : goal.granted_requests-requires-clause-served
+granted_requests-requires-clause-served c = is-served c.args.before.now.sessions c.args.after.now.sessions c.args.before.now.history c.args.after.now.history c.args.entry.now c.requires.sessions c.requires.served c.history-history.ensures.legal c.history-history.ensures.within
 
 pub returns : goal.returns
 returns c =

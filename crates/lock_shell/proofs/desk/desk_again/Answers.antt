@@ -1,4 +1,4 @@
-use Rattle.std.proofs.Common.{◌≡◌, ℕ, ◌∙◌, List, All, subst, sym}
+use Rattle.std.proofs.Common.{ℕ, ◌∙◌, List, All, subst, sym}
 use Rattle.lock_rules.specs.Entries.{Entry}
 use Rattle.sequential.specs.Histories.{IsEntryWithin}
 use Rattle.lock_shell.proofs.desk.desk_again.Goals as goal

@@ -1,7 +1,7 @@
 use Rattle.std.proofs.Common.{◌≡◌, ◌∙◌, ◌++◌, ℕ, List, Result, Ok, Err, OnOk, is_ok, if◌then◌else◌, ap, ap₂}
 use Rattle.std.proofs.lemmas.Result.{on_ok_weaker}
 use Rattle.lock_shell.specs.Replies.{text_of_reply}
-use Rattle.lock_shell.proofs.Served.{entry_of, one_served}
+use Rattle.lock_shell.proofs.Served.{entry_of}
 use Rattle.lock_shell.proofs.desk.tell.Goals as goal
 
 -- what a list is if it could be grown, and else
@@ -11,11 +11,10 @@ if_grown (Err e) x y z is = tt
 
 pub returns : goal.returns
 returns c =
-    let e = entry_of c.args.row.now.session c.args.row.now.call c.args.reply.now in
-    let x = c.in_ok-explanation.explanation in
+    let e = entry_of c.args.row.now.session c.args.row.now.call c.args.told.now.reply in
+    let x = c.args.told.now.explanation in
     let line = c.as_bytes.ensures.value ∙ c.in_ok-put_reply_text.ensures
-    ∙ ap₂ (λ (start : List ℕ) (place : ℕ). start ++ text_of_reply place e x) c.new-line.ensures.bytes c.served-place.ensures.count in
+    ∙ ap₂ (λ (start : List ℕ) (place : ℕ). start ++ text_of_reply place e x) c.new-line.ensures.bytes c.served.ensures.count in
     on_ok_weaker c.extend_from_slice.result
-    (λ told. one_served c.args.before.now.sessions c.args.before.now.history c.args.after.now.history e x c.args.text.now.items c.extend_from_slice.new.self.items
-    c.requires.served c.requires.given c.in_ok-explanation.ensures (told ∙ ap (λ (text : List ℕ). c.args.text.now.items ++ text) line))
+    (λ told. told ∙ ap (λ (text : List ℕ). c.args.text.now.items ++ text) line)
     (if_grown c.extend_from_slice.result _ _ _ c.extend_from_slice.ensures.items)
