@@ -177,15 +177,14 @@ static void dump_queue(void) {
         MUST(pelgaisti_dump_line(rows, count, &at, line, sizeof line) > 0 && strncmp(line, "waits", 5) != 0);
         fputs(line, stdout);
     }
-    /* a session of the second half came before all of the first half, and behind those of its own half with lower numbers */
-    for (uint32_t session = 1; session <= ALL; session++)
-        for (uint32_t other = 1; other <= ALL; other++) {
-            const int late = session <= ALL / 2, late_other = other <= ALL / 2;
-            if (late == late_other ? other >= session : late_other) continue;
-            snprintf(wanted, sizeof wanted, "waits,%" PRIu32 ",,,,,%" PRIu32 "\n", session, other);
-            MUST(pelgaisti_dump_line(rows, count, &at, line, sizeof line) > 0 && !strcmp(line, wanted));
-            fputs(line, stdout);
-        }
+    for (uint32_t session = 1; session <= ALL; session++) {
+        const uint32_t ahead = (session + ALL / 2 - 1) % ALL;
+        if (ahead == 0) continue;
+        snprintf(wanted, sizeof wanted, ahead > 1 ? "waits,%" PRIu32 ",,,,,%" PRIu32 "+%" PRIu32 "\n" : "waits,%" PRIu32 ",,,,,%" PRIu32 "\n", session,
+                 in_turn(0), ahead - 1);
+        MUST(pelgaisti_dump_line(rows, count, &at, line, sizeof line) > 0 && !strcmp(line, wanted));
+        fputs(line, stdout);
+    }
     MUST(pelgaisti_dump_line(rows, count, &at, line, sizeof line) == 0 && pelgaisti_book_close(&book) == PELGAISTI_OK);
 }
 

@@ -61,7 +61,7 @@ static void tell_cycle(pelgaisti_session *session, uint64_t transaction, char *t
 }
 
 /* Writes the state of the lock table as the rows of `glm show --csv`. Returns its place in the history: how many calls were made before. The
-   rows are made without the lock table. Of 1,000 requests that wait for one resource half a million rows tell who waits for whom. */
+   rows are made without the lock table. */
 static uint64_t write_state(pelgaisti_session *session, pelgaisti_claim *rows, size_t room, FILE *file) {
     pelgaisti_dumping at = pelgaisti_dump_begin();
     pelgaisti_status status;

@@ -594,18 +594,16 @@ pelgaisti_status pelgaisti_book_gauges(pelgaisti_book *book, pelgaisti_gauges *g
 typedef struct pelgaisti_dumping {
     size_t row;
     size_t wait;
-    uint64_t others[PELGAISTI_MAX_SESSIONS / 64];
 } pelgaisti_dumping;
 
 /* The place in front of a dump's first line. */
 pelgaisti_dumping pelgaisti_dump_begin(void);
 
 /* Writes the next line of a whole dump to `text`, as snprintf does: at most `room` bytes with the 0 at the end; 100 are enough. Returns
-   the length of the line without the 0, and 0 behind the last one. The lines are those of `glm show --csv` of the state: of the `count`
-   rows of the dump, one each, and then of who waits for whom, which follows from these rows: 523,776 lines where 1,023 requests wait for
-   one resource. The time grows with the lines, and each session that waits costs a look at all rows once. Who doesn't want these lines
-   stops behind `count` lines, and asks pelgaisti_session_blockers for whom one session waits; but `glm show --state` reads all of them or
-   none. No handle is needed. `rows` may be NULL if `count` is 0. Requires `count` elements at `rows`, all of one dump, and at `at` what
+   the length of the line without the 0, and 0 behind the last one. The lines are those of `glm show --csv` of the state, which
+   `glm show --state` reads: of the `count` rows of the dump, one each, and then of each session that waits, for whom first, and for how
+   many others, which follows from these rows. pelgaisti_session_blockers tells all of them. Each session that waits costs a look at all
+   rows. No handle is needed. `rows` may be NULL if `count` is 0. Requires `count` elements at `rows`, all of one dump, and at `at` what
    pelgaisti_dump_begin or an earlier call with these rows left there. */
 uint32_t pelgaisti_dump_line(const pelgaisti_claim *rows, size_t count, pelgaisti_dumping *at, char *text, size_t room);
 

@@ -137,7 +137,7 @@ enum class start : uint32_t { nothing = 0, begins, commits, aborts, commits_and_
 struct dump {
     uint64_t place;
     std::vector<pelgaisti_claim> rows;
-    // The rows of `glm show --csv`. Of a long queue they are many, as pelgaisti_dump_line says.
+    // The rows of `glm show --csv`, as pelgaisti_dump_line writes them.
     std::string text() const {
         std::string all;
         char line[128];

@@ -25,40 +25,41 @@ static size_t request_above(const pelgaisti_claim *rows, size_t count, uint32_t 
     return found;
 }
 
-/* Notes the sessions for which the request at this index waits: the holders that it conflicts with, and those ahead in its queue. */
-static void note_others(const pelgaisti_claim *rows, size_t request, pelgaisti_dumping *at) {
-    for (size_t k = request; k > 0 && is_on(&rows[k - 1], &rows[request]); k--) {
-        const pelgaisti_claim *row = &rows[k - 1];
+/* The first blocker of the request at this index, 0 if there is none, and for how many others the request waits: it waits for the holders
+   that it conflicts with, and for those ahead in its queue. The first is the first in the order of the rows. */
+static uint32_t first_blocker(const pelgaisti_claim *rows, size_t request, uint32_t *others) {
+    uint64_t blockers[PELGAISTI_MAX_SESSIONS / 64] = {0};
+    size_t first = request;
+    uint32_t count = 0;
+    for (; first > 0 && is_on(&rows[first - 1], &rows[request]); first--) {
+        const pelgaisti_claim *row = &rows[first - 1];
         const uint32_t bit = row->session - 1;
-        const int blocks = is_request(row) || conflicts(rows[request].mode, row->mode);
-        if (blocks && row->session != rows[request].session && bit < PELGAISTI_MAX_SESSIONS) at->others[bit / 64] |= (uint64_t)1 << bit % 64;
+        if (row->session == rows[request].session || bit >= PELGAISTI_MAX_SESSIONS) continue;
+        if (!is_request(row) && !conflicts(rows[request].mode, row->mode)) continue;
+        count += !(blockers[bit / 64] >> bit % 64 & 1);
+        blockers[bit / 64] |= (uint64_t)1 << bit % 64;
     }
-}
-
-/* The noted session with the least number, which is noted no more; 0 if there is none. */
-static uint32_t take_other(pelgaisti_dumping *at) {
-    for (uint32_t word = 0; word < PELGAISTI_MAX_SESSIONS / 64; word++) {
-        if (at->others[word] == 0) continue;
-        const uint32_t bit = (uint32_t)__builtin_ctzll(at->others[word]);
-        at->others[word] &= at->others[word] - 1;
-        return 64 * word + bit + 1;
+    *others = count - (count > 0);
+    for (; first < request; first++) {
+        const uint32_t bit = rows[first].session - 1;
+        if (bit < PELGAISTI_MAX_SESSIONS && blockers[bit / 64] >> bit % 64 & 1) return rows[first].session;
     }
     return 0;
 }
 
-/* Moves on to the next wait behind the rows: the request is at `wait`, and the number is for whom it waits. 0 if there is none. */
-static uint32_t next_wait(const pelgaisti_claim *rows, size_t count, pelgaisti_dumping *at) {
-    uint32_t other = take_other(at);
-    while (other == 0 && (at->wait < count || at->wait == SIZE_MAX)) {
+/* Moves on to the next request that waits for somebody, by its session: it is at `wait`. The number is its first blocker, 0 if there is no
+   such request. */
+static uint32_t next_wait(const pelgaisti_claim *rows, size_t count, pelgaisti_dumping *at, uint32_t *others) {
+    uint32_t first = 0;
+    while (first == 0 && (at->wait < count || at->wait == SIZE_MAX)) {
         at->wait = request_above(rows, count, at->wait == SIZE_MAX ? 0 : rows[at->wait].session);
-        if (at->wait < count) note_others(rows, at->wait, at);
-        other = take_other(at);
+        if (at->wait < count) first = first_blocker(rows, at->wait, others);
     }
-    return other;
+    return first;
 }
 
 pelgaisti_dumping pelgaisti_dump_begin(void) {
-    pelgaisti_dumping at = {0, SIZE_MAX, {0}};
+    pelgaisti_dumping at = {0, SIZE_MAX};
     return at;
 }
 
@@ -80,10 +81,12 @@ uint32_t pelgaisti_dump_line(const pelgaisti_claim *rows, size_t count, pelgaist
         put_row(&out, &rows[at->row++]);
         return (uint32_t)end_text(&out);
     }
-    const uint32_t other = next_wait(rows, count, at);
-    if (other == 0) return 0;
+    uint32_t others;
+    const uint32_t first = next_wait(rows, count, at, &others);
+    if (first == 0) return 0;
     put_words_and_number(&out, "waits,", rows[at->wait].session);
-    put_words_and_number(&out, ",,,,,", other);
+    put_words_and_number(&out, ",,,,,", first);
+    if (others > 0) put_words_and_number(&out, "+", others);
     put(&out, '\n');
     return (uint32_t)end_text(&out);
 }

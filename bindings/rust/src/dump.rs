@@ -8,8 +8,7 @@ use crate::lists::whole_list;
 use crate::office::Session;
 use std::fmt;
 
-/// The whole state of a lock table at one moment, with its place in the history. It is displayed as the rows of `glm show --csv`;
-/// of a long queue they are many: 523,776 rows of waits if 1,023 sessions wait for one resource.
+/// The whole state of a lock table at one moment, with its place in the history. It is displayed as the rows of `glm show --csv`.
 #[derive(Clone)]
 pub struct Dump {
     place: u64,

@@ -64,7 +64,6 @@ pub(crate) struct RawEntry {
 pub(crate) struct RawDumping {
     pub(crate) row: usize,
     pub(crate) wait: usize,
-    pub(crate) others: [u64; MAX_SESSIONS / 64],
 }
 
 #[repr(C)]

@@ -3,7 +3,8 @@
 
 use lock_modes::Mode;
 use lock_report::{
-    NoMemory, OpenTransaction, Root, ToldWait, Wait, locks_dot, state_rows, state_text, waits_dot,
+    FirstWait, NoMemory, OpenTransaction, Root, ToldWait, Wait, locks_dot, state_rows, state_text,
+    waits_dot,
 };
 use lock_rules::{Claim, ClaimKind, Transaction};
 use lock_tree::Resource;
@@ -92,7 +93,7 @@ session 12 waits also for session 3
 ";
 
 /// The lock table as rows.
-const ROWS: &str = "transaction,12,1,,,,\nheld,12,1,,1,IS,\nwaits,12,,,,,1\n";
+const ROWS: &str = "transaction,12,1,,,,\nheld,12,1,,1,IS,\nwaits,12,,,,,1\nwaits,12,,,,,1+1\n";
 
 /// The waits as a graph.
 const GRAPH: &str =
@@ -134,6 +135,11 @@ fn is_written(written: Result<String, NoMemory>, wanted: &str) -> bool {
     }
 }
 
+/// The row of the wait, with so many others.
+fn first_wait(others: u64) -> FirstWait {
+    FirstWait { wait: WAIT, others }
+}
+
 /// A lock table as a text, as rows and as a graph.
 #[test]
 fn a_lock_table_in_three_forms(rt: HostRuntime) -> Result<(), Fail> {
@@ -142,7 +148,8 @@ fn a_lock_table_in_three_forms(rt: HostRuntime) -> Result<(), Fail> {
     let told = [FIRST, OTHER];
     let text = state_text(rt.alloc(), Some(2), 4, &[ROOT], &opens, &claims, &told);
     let mut right = is_written(text, TEXT);
-    right &= is_written(state_rows(rt.alloc(), &[OPEN], &claims, &[WAIT]), ROWS);
+    let rows = [first_wait(0), first_wait(1)];
+    right &= is_written(state_rows(rt.alloc(), &[OPEN], &claims, &rows), ROWS);
     right &= is_written(waits_dot(rt.alloc(), &[OPEN], &[WAIT]), GRAPH);
     assert!(rt; right);
     Ok(())

@@ -1,8 +1,8 @@
 -- The claims on resources that somebody waits for: who waits is told of by them as by all claims.
-use Rattle.std.proofs.Common.{◌≡◌, ℕ, ◌+◌, ◌<◌, Bool, true, false, cond, eqb, ◌&&◌, ◌||◌, List, [], ◌∷◌, ◌++◌, Option, Some, None, filter, take, get_or, length, append-nil, refl, sym, ◌∙◌, ap, ap₂}
+use Rattle.std.proofs.Common.{◌≡◌, ℕ, ◌+◌, ◌<◌, Bool, true, false, cond, eqb, ◌&&◌, ◌||◌, List, [], ◌∷◌, ◌++◌, Option, Some, None, filter, map, take, get_or, length, append-nil, refl, sym, ◌∙◌, ap, ap₂}
 use Rattle.std.proofs.Math.Bool.{or-false}
 use Rattle.std.proofs.lemmas.List.Folds.{list_any-append}
-use Rattle.std.specs.List.{flat_map, list_any}
+use Rattle.std.specs.List.{flat_map, list_any, range_with_len}
 use Rattle.std.proofs.lemmas.Bool.{or_left, or_right}
 use Rattle.std.proofs.lemmas.List.{flat_map_more, take_more}
 use Rattle.std.proofs.lemmas.List.Elements.{filter-append}
@@ -11,9 +11,9 @@ use Rattle.lock_report.proofs.Pieces.{with_next}
 use Rattle.lock_rules.specs.declared.listing.Claim.{Claim}
 use Rattle.lock_rules.proofs.Lists.{same_path-refl, same_path-true}
 use Rattle.lock_report.specs.declared.snapshot.OpenTransaction.{OpenTransaction}
-use Rattle.lock_report.specs.declared.snapshot.ToldWait.{ToldWait}
 use Rattle.lock_report.specs.declared.snapshot.Wait.{Wait}
-use Rattle.dump_report.specs.Blockers.{first_blocker, is_waited_for, request_of, requests_among, told_behind, told_of, told_waits, waits_by}
+use Rattle.dump_report.specs.Blockers.{first_blocker, is_waited_for, request_of, requests_among, told_behind, told_of, waits_by}
+use Rattle.dump_report.specs.Blocking.{claims_on, is_ahead, waits_of}
 use Rattle.dump_report.specs.inner.Contended.{is_wanted}
 
 -- a set of resources
@@ -81,28 +81,47 @@ found-wanted s (x ∷ qs) q e = go (found-wanted s qs q) (eqb x.session s) e
     go next true h = let same : x ≡ q = cc in or_left (same_path q.resource x.resource) (is_wanted qs q.resource) (ap (same_path q.resource) (ap (λ (y : Claim). y.resource) same) ∙ same_path-refl q.resource)
     go next false h = or_right (same_path q.resource x.resource) (is_wanted qs q.resource) (next h)
 
--- the waits of a request that is found
-told-kept : (claims qs : List Claim) (waits : List Wait) (s : ℕ) (o : Option Claim) → request_of s qs ≡ o
-    → told_of (filter (λ (c : Claim). is_wanted qs c.resource) claims) waits o ≡ told_of claims waits o
-told-kept claims qs waits s None is = refl
-told-kept claims qs waits s (Some q) is =
-    let own = waits_by q.session waits in
-    ap (told_behind q.session own)
-    (blocker-kept own q.resource (λ (c : Claim). is_wanted qs c.resource)
-    (λ c on. let same : c.resource ≡ q.resource = same_path-true c.resource q.resource on in ap (is_wanted qs) same ∙ found-wanted s qs q is) claims)
+-- nor do other claims tell who stands ahead on it
+on-kept : (r : List ℕ) (p : Claim → Bool) → ((c : Claim) → same_path c.resource r ≡ true → p c ≡ true) → (cs : List Claim) → claims_on r (filter p cs) ≡ claims_on r cs
+on-kept r p on [] = refl
+on-kept r p on (c ∷ cs) = go (p c) (same_path c.resource r) (on c) (on-kept r p on cs) refl
+  where
+    go : (a b : Bool) → (b ≡ true → a ≡ true) → claims_on r (filter p cs) ≡ claims_on r cs → same_path c.resource r ≡ b → claims_on r (cond a (c ∷ filter p cs) (filter p cs)) ≡ cond b (c ∷ claims_on r cs) (claims_on r cs)
+    go true b on e is = ap (λ (k : Bool). cond k (c ∷ claims_on r (filter p cs)) (claims_on r (filter p cs))) is ∙ ap (λ (l : List Claim). cond b (c ∷ l) l) e
+    go false true on e is = let bad : false ≡ true = on refl in absurd (cc)
+    go false false on e is = e
 
--- with the waits of the next session, those of one session more are told; the requests are looked through in two places
-pub next_told : (claims kept qs rs : List Claim) (waits : List Wait) (opens : List OpenTransaction) (i : ℕ) (d : OpenTransaction) (r : Option Claim) (out out2 : List ToldWait)
+-- the claims on the resource of a request that is found are wanted
+wanted-on : (qs : List Claim) (s : ℕ) (q : Claim) → request_of s qs ≡ Some q → (c : Claim) → same_path c.resource q.resource ≡ true → is_wanted qs c.resource ≡ true
+wanted-on qs s q is c on = let same : c.resource ≡ q.resource = same_path-true c.resource q.resource on in ap (is_wanted qs) same ∙ found-wanted s qs q is
+
+-- the waits of a request that is found
+pub told-kept : (waits : List Wait) (claims qs : List Claim) (s : ℕ) (o : Option Claim) → request_of s qs ≡ o
+    → told_of (filter (λ (c : Claim). is_wanted qs c.resource) claims) waits o ≡ told_of claims waits o
+told-kept waits claims qs s None is = refl
+told-kept waits claims qs s (Some q) is =
+    let own = waits_by q.session waits in
+    ap (told_behind q.session own) (blocker-kept own q.resource (λ (c : Claim). is_wanted qs c.resource) (wanted-on qs s q is) claims)
+
+pub waits-kept : (n : ℕ) (claims qs : List Claim) (s : ℕ) (o : Option Claim) → request_of s qs ≡ o → waits_of n (filter (λ (c : Claim). is_wanted qs c.resource) claims) o ≡ waits_of n claims o
+waits-kept n claims qs s None is = refl
+waits-kept n claims qs s (Some q) is =
+    ap (λ (l : List Claim). filter (λ (w : Wait). is_ahead q w.other l) (map (λ u. record { session = q.session; other = u }) (range_with_len 1 n))) (on-kept q.resource (λ (c : Claim). is_wanted qs c.resource) (wanted-on qs s q is) claims)
+
+-- with what is listed of the next session, it is listed of one session more; the requests are looked through in two places
+pub next_listed : {X : Type 0} (f : List Claim → Option Claim → List X)
+    → ((claims qs : List Claim) (s : ℕ) (o : Option Claim) → request_of s qs ≡ o → f (filter (λ (c : Claim). is_wanted qs c.resource) claims) o ≡ f claims o)
+    → (claims kept qs rs : List Claim) (opens : List OpenTransaction) (i : ℕ) (d : OpenTransaction) (r : Option Claim) (out out2 : List X)
     → i < length opens → qs ≡ requests_among claims → rs ≡ requests_among claims → kept ≡ filter (λ (c : Claim). is_wanted qs c.resource) claims
     → r ≡ request_of (get_or opens i d).session rs
-    → out ≡ told_waits (take i opens) claims waits → out2 ≡ out ++ told_of kept waits r
-    → out2 ≡ told_waits (take (i + 1) opens) claims waits
-next_told claims kept qs rs waits opens i d r out out2 lt are all keeps asked so_far more =
+    → out ≡ flat_map (λ o. f claims (request_of o.session (requests_among claims))) (take i opens) → out2 ≡ out ++ f kept r
+    → out2 ≡ flat_map (λ o. f claims (request_of o.session (requests_among claims))) (take (i + 1) opens)
+next_listed {X} f alike claims kept qs rs opens i d r out out2 lt are all keeps asked so_far more =
     let o : OpenTransaction = get_or opens i d in
-    let row = λ (x : OpenTransaction). told_of claims waits (request_of x.session (requests_among claims)) in
+    let row = λ (x : OpenTransaction). f claims (request_of x.session (requests_among claims)) in
     more
-    ∙ ((λ j. so_far j ++ told_of (keeps j) waits (asked j))
-    ∙ ((λ j. told_waits (take i opens) claims waits ++ told_of (filter (λ (c : Claim). is_wanted (are j) c.resource) claims) waits (request_of o.session (all j)))
-    ∙ (ap (λ (t : List ToldWait). told_waits (take i opens) claims waits ++ t) (told-kept claims (requests_among claims) waits o.session (request_of o.session (requests_among claims)) refl)
+    ∙ ((λ j. so_far j ++ f (keeps j) (asked j))
+    ∙ ((λ j. flat_map row (take i opens) ++ f (filter (λ (c : Claim). is_wanted (are j) c.resource) claims) (request_of o.session (all j)))
+    ∙ (ap (λ (t : List X). flat_map row (take i opens) ++ t) (alike claims (requests_among claims) o.session (request_of o.session (requests_among claims)) refl)
     ∙ (flat_map_more row [] (take i opens) o
-    ∙ ap (λ (os : List OpenTransaction). told_waits os claims waits) (sym (take_more opens i d lt))))))
+    ∙ ap (flat_map row) (sym (take_more opens i d lt))))))

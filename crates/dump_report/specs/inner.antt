@@ -1,2 +1,3 @@
+pub mod Blocking
 pub mod Contended
 pub mod Graph

@@ -6,8 +6,8 @@ ghost use Rattle.state_rows.specs.Rows.{IsSession, IsWait};
 ghost use Rattle.dump_report.specs.Shown.{text_of_lists};
 
 use crate::roots::roots_of;
-use lock_report::{ToldWait, state_text};
-use state_rows::StateLists;
+use lock_report::{OpenTransaction, ToldWait, Wait, state_text};
+use lock_rules::Claim;
 use std::alloc::{AllocError as NoMemory, Global};
 
 /// What is said of a state beside its lists.
@@ -21,13 +21,24 @@ pub struct Moment {
     pub waiting: u64,
 }
 
+/// The lists of a state.
+#[derive(Debug, Drop)]
+pub struct Lists {
+    /// The open transactions.
+    pub opens: Vec<OpenTransaction>,
+    /// The locks and waiting requests.
+    pub claims: Vec<Claim>,
+    /// Who waits directly for whom.
+    pub waits: Vec<Wait>,
+}
+
 /// The text for people of a state: how many requests wait, who blocks others and the victims, which transactions are open, who holds what,
 /// who waits for what, and for whom, as `told` says. All sessions of the open transactions and of the waits are from 1 to the number of
 /// sessions. The claims are in the order of a listing: resource by resource. Fails only with `NoMemory`.
 pub fn lists_text(
     alloc: Global,
     moment: Moment,
-    lists: &StateLists,
+    lists: &Lists,
     told: &[ToldWait],
 ) -> Result<String, NoMemory>
     requires some { 0 < moment.sessions }

@@ -9,6 +9,7 @@ pub mod Requests
 pub mod RequestsSince
 pub mod StateLists
 pub mod StateTold
+pub mod WaitsFollow
 pub mod WaitsSince
 pub mod WithinFront
 pub mod WithoutRequest

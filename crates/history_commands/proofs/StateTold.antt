@@ -1,6 +1,7 @@
 -- The lists of a book's state in each form.
-use Rattle.std.proofs.Common.{◌≡◌, ℕ, ◌≤◌, true, leb, leb-true, List, length, map, Some, is_some, ◌∙◌, ap}
+use Rattle.std.proofs.Common.{◌≡◌, ℕ, ◌+◌, ◌≤◌, true, cond, not, leb, leb-true, List, [], ◌∷◌, ◌++◌, length, map, Some, is_some, refl, sym, ◌∙◌, ap}
 use Rattle.std.specs.Prelude.{All}
+use Rattle.std.specs.List.{position_or_len}
 use Rattle.std.proofs.lemmas.Bool.{and_parts}
 use Rattle.lock_rules.specs.declared.listing.Claim.{Claim as ListedClaim}
 use Rattle.lock_rules.specs.Entries.{Entry}
@@ -19,6 +20,7 @@ use Rattle.lock_report.specs.LocksDot.{dot_of_locks}
 use Rattle.lock_report.specs.StateRows.{rows_of_state}
 use Rattle.lock_report.specs.StateText.{text_of_state}
 use Rattle.dump_report.specs.Blockers.{told_waits}
+use Rattle.dump_report.specs.Blocking.{first_waits, rows_of_waits}
 use Rattle.dump_report.specs.Jam.{roots_of as roots_listed}
 use Rattle.command_line.specs.declared.args.Form.{Form}
 use Rattle.command_line.specs.declared.args.Form.TheVariants as form
@@ -28,6 +30,16 @@ use Rattle.history_commands.specs.Showing.{open_of, opens_of, text_in, waits_by,
 use Rattle.history_commands.specs.Waits.{waits_told, with_since}
 use Rattle.history_commands.specs.Waits.{waits_of as waits_told_of}
 use Rattle.history_commands.proofs.StateLists.{opens-within, roots-told, session-told, waits-told, waits-within}
+use Rattle.history_commands.proofs.WaitsFollow.{waits-follow}
+
+-- the places since when sessions wait are in no row
+others-told : (front : List Entry) (ws : List ToldWait) → position_or_len (λ (v : ToldWait). v.first) (map (with_since front) ws) ≡ position_or_len (λ (v : ToldWait). v.first) ws
+others-told front [] = refl
+others-told front (w ∷ ws) = ap (λ (k : ℕ). cond (not w.first) (1 + k) 0) (others-told front ws)
+
+rows-told : (front : List Entry) (ws : List ToldWait) → first_waits (map (with_since front) ws) ≡ first_waits ws
+rows-told front [] = refl
+rows-told front (w ∷ ws) = λ i. cond w.first (record { wait = w.wait; others = others-told front ws i } ∷ []) [] ++ rows-told front ws i
 
 module _ (n : ℕ) (es : List Entry) (inner : All (IsEntryWithin n) es) where
   -- a session that is inside is one of the sessions 1 to n
@@ -61,10 +73,19 @@ module _ (n : ℕ) (es : List Entry) (inner : All (IsEntryWithin n) es) where
       ∙ ((λ i. text_of_state (Some place) (length (state_of es).table.requests) (roots-told n es wait-within asker-within i) (opens_of n (state_of es)) (listing_of (state_of es)) (waits-told n es wait-within asker-within front i))
       ∙ ap (λ (h : List Entry). text_of_state (Some place) (length (state_of h).table.requests) (roots_of n (state_of h)) (opens_of n (state_of h)) (listing_of (state_of h)) (waits_told n (state_of h) front)) served)
   form-told form.Rows place waiting front opens claims waits served k o c w =
-      (λ i. rows_of_state (o i) (c i) (w i)) ∙ ap (λ (h : List Entry). rows_of_state (opens_of n (state_of h)) (listing_of (state_of h)) (waits_of n (state_of h))) served
+      (λ i. rows_of_state (o i) (c i) (first_waits (told_waits (o i) (c i) (w i))))
+      ∙ ((λ i. rows_of_state (opens_of n (state_of es)) (listing_of (state_of es)) (sym (rows-told front (told_waits (opens_of n (state_of es)) (listing_of (state_of es)) (waits_of n (state_of es)))) i))
+      ∙ ((λ i. rows_of_state (opens_of n (state_of es)) (listing_of (state_of es)) (first_waits (waits-told n es wait-within asker-within front i)))
+      ∙ ap (λ (h : List Entry). rows_of_state (opens_of n (state_of h)) (listing_of (state_of h)) (first_waits (waits_told n (state_of h) front))) served))
   form-told form.Graph place waiting front opens claims waits served k o c w =
       (λ i. dot_of_locks (o i) (c i) (map (with_since front) (told_waits (o i) (c i) (w i))))
       ∙ ((λ i. dot_of_locks (opens_of n (state_of es)) (listing_of (state_of es)) (waits-told n es wait-within asker-within front i))
       ∙ ap (λ (h : List Entry). dot_of_locks (opens_of n (state_of h)) (listing_of (state_of h)) (waits_told n (state_of h) front)) served)
   form-told form.Waits place waiting front opens claims waits served k o c w =
       (λ i. dot_of_waits (o i) (w i)) ∙ ap (λ (h : List Entry). dot_of_waits (opens_of n (state_of h)) (waits_of n (state_of h))) served
+
+  -- the rows of waits
+  pub rows-follow : rows_of_waits n (opens_of n (state_of es)) (listing_of (state_of es)) ≡ first_waits (waits_told n (state_of es) es)
+  rows-follow =
+      (λ i. first_waits (told_waits (opens_of n (state_of es)) (listing_of (state_of es)) (waits-follow es n (λ s q e. (asker-within s q e).1) i)))
+      ∙ (sym (rows-told es (told_waits (opens_of n (state_of es)) (listing_of (state_of es)) (waits_of n (state_of es)))) ∙ ap first_waits (waits-told n es wait-within asker-within es))

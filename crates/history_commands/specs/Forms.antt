@@ -10,6 +10,7 @@ use Rattle.lock_report.specs.LocksDot.{dot_of_locks}
 use Rattle.lock_report.specs.StateRows.{rows_of_state}
 use Rattle.dump_report.specs.declared.showing.Moment.{Moment}
 use Rattle.dump_report.specs.Blockers.{told_waits}
+use Rattle.dump_report.specs.Blocking.{first_waits}
 use Rattle.dump_report.specs.Shown.{text_of_lists}
 use Rattle.command_line.specs.declared.args.Form.{Form}
 use Rattle.command_line.specs.declared.args.Form.TheVariants as form
@@ -25,6 +26,6 @@ told_at (Some place) front waits = map (with_since front) waits
 abbrev pub form_of_lists : Form → Moment → List Entry → List OpenTransaction → List Claim → List Wait → List ℕ
 form_of_lists form.Lines m front opens claims waits =
     text_of_lists m.sessions m.place m.waiting opens claims waits (told_at m.place front (told_waits opens claims waits))
-form_of_lists form.Rows m front opens claims waits = rows_of_state opens claims waits
+form_of_lists form.Rows m front opens claims waits = rows_of_state opens claims (first_waits (told_waits opens claims waits))
 form_of_lists form.Graph m front opens claims waits = dot_of_locks opens claims (told_at m.place front (told_waits opens claims waits))
 form_of_lists form.Waits m front opens claims waits = dot_of_waits opens waits

@@ -16,6 +16,7 @@ use Rattle.lock_report.specs.StateText.{text_of_state}
 use Rattle.lock_report.specs.StateRows.{rows_of_state}
 use Rattle.lock_report.specs.Dot.{dot_of_waits}
 use Rattle.lock_report.specs.LocksDot.{dot_of_locks}
+use Rattle.dump_report.specs.Blocking.{first_waits}
 use Rattle.command_line.specs.declared.args.Form.{Form}
 use Rattle.command_line.specs.declared.args.Form.TheVariants as form
 use Rattle.history_commands.specs.declared.checking.Verdict.{Verdict}
@@ -63,7 +64,7 @@ boxes_in n front =
 -- the text of the state in front of a place, to which these entries have led
 abbrev pub text_in : Form → ℕ → ℕ → List Entry → List ℕ
 text_in form.Lines n place front = lines_in n place front
-text_in form.Rows n place front = rows_of_state (opens_of n (state_of front)) (listing_of (state_of front)) (waits_of n (state_of front))
+text_in form.Rows n place front = rows_of_state (opens_of n (state_of front)) (listing_of (state_of front)) (first_waits (waits_told n (state_of front) front))
 text_in form.Graph n place front = boxes_in n front
 text_in form.Waits n place front = dot_of_waits (opens_of n (state_of front)) (waits_of n (state_of front))
 

@@ -1,17 +1,18 @@
 //! The command `show --state`: a dump of a lock table in a form of `show`.
 
-ghost use Rattle.std.specs.Prelude.{◌≡◌, ◌≢◌, ◌⊎◌, ℕ, ◌<◌, ◌≤◌, List, Some, IfOk, IfErr, string_bytes};
+ghost use Rattle.std.specs.Prelude.{◌≡◌, ◌≢◌, ◌⊎◌, ℕ, ◌+◌, ◌<◌, ◌≤◌, List, Some, Err, IfSome, IfNone, IfOk, IfErr, take, string_bytes};
 ghost use Rattle.std.specs.Io.KnownBytes.{Keeps};
 ghost use Rattle.lock_rules.specs.declared.calls.TheConstants.{MAX_SESSIONS};
 ghost use Rattle.state_rows.specs.States.{AreLists};
 ghost use Rattle.history_commands.specs.declared.dump_fault.DumpFault.TheVariants as fault;
-ghost use Rattle.history_commands.specs.Dumps.{HasDump, HasDumpPart, ReadsDump, ShowsDump, text_of_dump};
+ghost use Rattle.dump_report.specs.Blocking.{rows_of_waits, waits_among};
+ghost use Rattle.history_commands.specs.Dumps.{HasDump, HasDumpPart, IsDump, IsMistold, ReadsDump, ShowsDump, text_of_dump};
 
 use crate::dump_fault::DumpFault;
 use crate::forms::form_text;
 use command_line::Form;
-use dump_report::{Moment, requests_among};
-use lock_desk::NoMemory;
+use dump_report::{Lists, Moment, first_waits, requests_among, told_waits, waits_among};
+use lock_report::FirstWait;
 use replay_commands::write_text;
 use state_rows::{StateFault, StateLists, read_state};
 use std::alloc::Global;
@@ -31,7 +32,7 @@ fn whole_text<R: Read + Drop>(alloc: Global, input: R) -> Result<Vec<u8>, DumpFa
     }
 }
 
-/// The dump that a text is. Fails with `Row` or `NoMemory`.
+/// The rows of a dump that a text is. Fails with `Row` or `NoMemory`.
 fn dump_in(alloc: Global, text: &[u8], sessions: u16) -> Result<StateLists, DumpFault>
     ensures { ReadsDump sessions text.now result }
 {
@@ -56,25 +57,77 @@ fn read_dump<R: Read + Drop>(
     dump_in(alloc, &text, sessions)
 }
 
-/// The text of a dump of the sessions 1 to `sessions`, at most `MAX_SESSIONS`, in this form. Fails if memory is refused.
+/// How many rows are as wanted in front of the first that isn't, or that is missing or too much; `None` if all are.
+fn first_difference(rows: &[FirstWait], wanted: &[FirstWait]) -> Option<usize>
+    ensures none { IfNone result (rows.now ≡ wanted.now) }
+    ensures some { IfSome result (λ k. (take k rows.now ≡ take k wanted.now) × (take (k + 1) rows.now ≢ take (k + 1) wanted.now)) }
+{
+    for index in 0..wanted.len() {
+        if index >= rows.len() || rows[index] != wanted[index] {
+            return Some(index);
+        }
+    }
+    if rows.len() > wanted.len() {
+        return Some(wanted.len());
+    }
+    None
+}
+
+/// The lists of a dump's rows, with who waits for whom. Fails with `NoMemory`, and with `Row` if the rows of waits don't follow from the
+/// others.
+fn lists_of(alloc: Global, rows: StateLists, sessions: u16) -> Result<Lists, DumpFault>
+    ensures lists { IfOk result (λ lists. (lists.opens.items ≡ rows.opens.items) × (lists.claims.items ≡ rows.claims.items) × (lists.waits.items ≡ waits_among sessions rows.opens.items rows.claims.items)) }
+    ensures told { IfOk result (λ _. rows.waits.items ≡ rows_of_waits sessions rows.opens.items rows.claims.items) }
+    ensures row { (k : ℕ) → result ≡ Err (fault.Row k) → IsMistold sessions rows k }
+    ensures faults { IfErr result (λ why. (why ≢ fault.Device) × (why ≢ fault.Unread)) }
+{
+    let Ok(waits) = waits_among(alloc, sessions, &rows.opens, &rows.claims) else {
+        return Err(DumpFault::NoMemory);
+    };
+    let Ok(told) = told_waits(alloc, &rows.opens, &rows.claims, &waits) else {
+        return Err(DumpFault::NoMemory);
+    };
+    let Ok(wanted) = first_waits(alloc, &told) else {
+        return Err(DumpFault::NoMemory);
+    };
+    if let Some(before) = first_difference(&rows.waits, &wanted) {
+        let ahead = rows.opens.len() as u64 + rows.claims.len() as u64;
+        return Err(DumpFault::Row(ahead + before as u64 + 1));
+    }
+    Ok(Lists {
+        opens: rows.opens,
+        claims: rows.claims,
+        waits,
+    })
+}
+
+/// The text of a dump of the sessions 1 to `sessions`, at most `MAX_SESSIONS`, in this form. Fails as `lists_of` does.
 fn dump_text(
     alloc: Global,
-    lists: &StateLists,
+    rows: StateLists,
     sessions: u16,
     form: Form,
-) -> Result<String, NoMemory>
+) -> Result<String, DumpFault>
     requires some { 0 < sessions }
     requires few { sessions ≤ MAX_SESSIONS }
-    requires lists { AreLists sessions lists.now }
-    ensures { IfOk result (λ text. string_bytes text ≡ text_of_dump form sessions lists.now) }
+    requires rows { AreLists sessions rows }
+    ensures text { IfOk result (λ text. IsDump sessions rows × (string_bytes text ≡ text_of_dump form sessions rows)) }
+    ensures row { (k : ℕ) → result ≡ Err (fault.Row k) → IsMistold sessions rows k }
+    ensures faults { IfErr result (λ why. (why ≢ fault.Device) × (why ≢ fault.Unread)) }
 {
-    let requests = requests_among(alloc, &lists.claims)?;
+    let lists = lists_of(alloc, rows, sessions)?;
+    let Ok(requests) = requests_among(alloc, &lists.claims) else {
+        return Err(DumpFault::NoMemory);
+    };
     let moment = Moment {
         sessions,
         place: None,
         waiting: requests.len() as u64,
     };
-    form_text(alloc, moment, &[], lists, form)
+    match form_text(alloc, moment, &[], &lists, form) {
+        Ok(text) => Ok(text),
+        Err(_) => Err(DumpFault::NoMemory),
+    }
 }
 
 /// Reads a dump of the sessions 1 to `sessions`, at most `MAX_SESSIONS`: the rows that `glm show --csv` writes of a state and
@@ -83,7 +136,7 @@ fn dump_text(
 ///
 /// The whole text is made before its first byte is written. After every fault except `Device` nothing was written; after `Device` the
 /// beginning of the text may have been written, and nothing else. The fault `Row` names the first row with which the rows don't begin those
-/// of any state that [`read_state`] reads.
+/// of any state that [`read_state`] reads; or else the first row of waits that doesn't follow from the locks and requests, or is missing.
 pub fn show_dump<R: Read + Drop, W: Write>(
     alloc: Global,
     input: R,
@@ -101,10 +154,8 @@ pub fn show_dump<R: Read + Drop, W: Write>(
     // holds for a reader whose bytes are known
     ensures shows { (bytes : List ℕ) → R.remaining input ≡ Some bytes → ShowsDump form sessions bytes (W.contents output.old) (W.contents output.new) result }
 {
-    let lists = read_dump(alloc, input, sessions)?;
-    let Ok(shown) = dump_text(alloc, &lists, sessions, form) else {
-        return Err(DumpFault::NoMemory);
-    };
+    let rows = read_dump(alloc, input, sessions)?;
+    let shown = dump_text(alloc, rows, sessions, form)?;
     if write_text(output, shown.as_bytes()).is_err() {
         return Err(DumpFault::Device);
     }

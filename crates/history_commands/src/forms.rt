@@ -8,10 +8,9 @@ ghost use Rattle.history_commands.specs.Forms.{form_of_lists, told_at};
 
 use crate::since::with_places;
 use command_line::Form;
-use dump_report::{Moment, lists_text, told_waits};
+use dump_report::{Lists, Moment, first_waits, lists_text, told_waits};
 use lock_desk::Entry;
 use lock_report::{ToldWait, locks_dot, state_rows, waits_dot};
-use state_rows::StateLists;
 use std::alloc::{AllocError as NoMemory, Global};
 
 /// The waits, of a state in front of a place with the places since when sessions wait. Fails if memory is refused.
@@ -19,7 +18,7 @@ fn told_at(
     alloc: Global,
     place: Option<u64>,
     front: &[Entry],
-    lists: &StateLists,
+    lists: &Lists,
 ) -> Result<Vec<ToldWait>, NoMemory>
     ensures { IfOk result (λ told. told.items ≡ told_at place front.now (told_waits lists.now.opens.items lists.now.claims.items lists.now.waits.items)) }
 {
@@ -36,7 +35,7 @@ pub(crate) fn form_text(
     alloc: Global,
     moment: Moment,
     front: &[Entry],
-    lists: &StateLists,
+    lists: &Lists,
     form: Form,
 ) -> Result<String, NoMemory>
     requires some { 0 < moment.sessions }
@@ -50,7 +49,11 @@ pub(crate) fn form_text(
             let told = told_at(alloc, moment.place, front, lists)?;
             lists_text(alloc, moment, lists, &told)
         }
-        Form::Rows => state_rows(alloc, &lists.opens, &lists.claims, &lists.waits),
+        Form::Rows => {
+            let told = told_waits(alloc, &lists.opens, &lists.claims, &lists.waits)?;
+            let rows = first_waits(alloc, &told)?;
+            state_rows(alloc, &lists.opens, &lists.claims, &rows)
+        }
         Form::Graph => {
             let told = told_at(alloc, moment.place, front, lists)?;
             locks_dot(alloc, &lists.opens, &lists.claims, &told)

@@ -5,9 +5,9 @@ ghost use Rattle.lock_rules.specs.Legal.{state_of};
 ghost use Rattle.lock_rules.specs.Listing.{listing_of};
 ghost use Rattle.history_commands.specs.Showing.{open_of, opens_of, wait_of, waits_by, waits_of};
 
+use dump_report::Lists;
 use lock_desk::{Book, NoMemory};
 use lock_report::{OpenTransaction, Wait};
-use state_rows::StateLists;
 use std::alloc::Global;
 
 /// Adds the open transaction of `session` to the list, if it has one. Fails if memory is refused.
@@ -78,7 +78,7 @@ fn all_waits(alloc: Global, book: &Book) -> Result<Vec<Wait>, NoMemory>
 }
 
 /// The lists of the book's state. Fails if memory is refused.
-pub(crate) fn lists_of(alloc: Global, book: &Book) -> Result<StateLists, NoMemory>
+pub(crate) fn lists_of(alloc: Global, book: &Book) -> Result<Lists, NoMemory>
     ensures opens { IfOk result (λ lists. lists.opens.items ≡ opens_of book.now.sessions (state_of book.now.history)) }
     ensures claims { IfOk result (λ lists. lists.claims.items ≡ listing_of (state_of book.now.history)) }
     ensures waits { IfOk result (λ lists. lists.waits.items ≡ waits_of book.now.sessions (state_of book.now.history)) }
@@ -87,7 +87,7 @@ pub(crate) fn lists_of(alloc: Global, book: &Book) -> Result<StateLists, NoMemor
     let mut claims = Vec::new(alloc);
     book.locks(alloc, &mut claims)?;
     let waits = all_waits(alloc, book)?;
-    Ok(StateLists {
+    Ok(Lists {
         opens,
         claims,
         waits,

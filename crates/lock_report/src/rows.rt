@@ -2,10 +2,10 @@
 
 ghost use Rattle.std.specs.Prelude.{◌≡◌, ◌++◌, IfOk, OnOk, string_bytes};
 ghost use Rattle.std.specs.List.{flat_map};
-ghost use Rattle.lock_report.specs.StateRows.{victim_field, row_of_transaction, row_of_claim, row_of_wait, rows_of_state};
+ghost use Rattle.lock_report.specs.StateRows.{others_text, victim_field, row_of_transaction, row_of_claim, row_of_wait, rows_of_state};
 
 use crate::claims::kind_word;
-use crate::snapshot::{OpenTransaction, Wait};
+use crate::snapshot::{FirstWait, OpenTransaction};
 use lock_rules::{Claim, Transaction};
 use std::alloc::{AllocError as NoMemory, Global};
 use std::fmt::Write;
@@ -43,11 +43,23 @@ fn put_claim(out: &mut String, claim: &Claim) -> Result<(), NoMemory>
     writeln!(out, "{},{},", claim.resource, claim.mode.name())
 }
 
-/// Writes the row of a wait.
-fn put_wait(out: &mut String, wait: &Wait) -> Result<(), NoMemory>
-    ensures { OnOk result (string_bytes out.new ≡ string_bytes out.old ++ row_of_wait wait.now) }
+/// Writes for how many others a session waits.
+fn put_others(out: &mut String, others: u64) -> Result<(), NoMemory>
+    ensures { OnOk result (string_bytes out.new ≡ string_bytes out.old ++ others_text others) }
 {
-    writeln!(out, "waits,{},,,,,{}", wait.session, wait.other)
+    if others == 0 {
+        return Ok(());
+    }
+    write!(out, "+{others}")
+}
+
+/// Writes the row of the waits of a session.
+fn put_wait(out: &mut String, first: &FirstWait) -> Result<(), NoMemory>
+    ensures { OnOk result (string_bytes out.new ≡ string_bytes out.old ++ row_of_wait first.now) }
+{
+    write!(out, "waits,{},,,,,{}", first.wait.session, first.wait.other)?;
+    put_others(out, first.others)?;
+    out.push_str("\n")
 }
 
 /// Writes the rows of the open transactions.
@@ -71,7 +83,7 @@ fn put_claims(out: &mut String, claims: &[Claim]) -> Result<(), NoMemory>
 }
 
 /// Writes the rows of the waits.
-fn put_waits(out: &mut String, waits: &[Wait]) -> Result<(), NoMemory>
+fn put_waits(out: &mut String, waits: &[FirstWait]) -> Result<(), NoMemory>
     ensures { OnOk result (string_bytes out.new ≡ string_bytes out.old ++ flat_map row_of_wait waits.now) }
 {
     for wait in waits {
@@ -81,13 +93,13 @@ fn put_waits(out: &mut String, waits: &[Wait]) -> Result<(), NoMemory>
 }
 
 /// The state as CSV rows of seven fields: row, session, transaction, victim, resource, mode, other. A row for each open
-/// transaction, then one for each claim, and then one for each wait, each in the order given. No field needs quotes. Fails
+/// transaction, then one for each claim, and then one for each session that waits, each in the order given. No field needs quotes. Fails
 /// only with `NoMemory`.
 pub fn state_rows(
     alloc: Global,
     opens: &[OpenTransaction],
     claims: &[Claim],
-    waits: &[Wait],
+    waits: &[FirstWait],
 ) -> Result<String, NoMemory>
     ensures { IfOk result (λ text. string_bytes text ≡ rows_of_state opens.now claims.now waits.now) }
 {

@@ -20,6 +20,15 @@ pub struct Wait {
     pub other: u16,
 }
 
+/// The waits of a session as a row tells them.
+#[derive(Clone, Copy, Debug, PartialEq, Eq, Hash)]
+pub struct FirstWait {
+    /// The wait for its first blocker.
+    pub wait: Wait,
+    /// For how many others the session waits.
+    pub others: u64,
+}
+
 /// A session that waits for none, and for which others wait.
 #[derive(Clone, Copy, Debug, PartialEq, Eq, Hash)]
 pub struct Root {

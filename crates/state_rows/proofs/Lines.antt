@@ -1,5 +1,5 @@
 -- Fields and lines have neither commas nor line feeds in them, so they are found again.
-use Rattle.std.proofs.Common.{◌≡◌, ℕ, ◌+◌, ◌<◌, ◌%◌, ◌^◌, Bool, true, false, not, ◌&&◌, List, [], ◌∷◌, ◌++◌, map, refl, sym, ap, ◌∙◌, arith, ne_eqb, append_assoc, append-nil}
+use Rattle.std.proofs.Common.{◌≡◌, ℕ, ◌+◌, ◌<◌, ◌%◌, ◌^◌, Bool, true, false, cond, not, ◌&&◌, List, [], ◌∷◌, ◌++◌, map, refl, sym, ap, ◌∙◌, arith, ne_eqb, append_assoc, append-nil}
 use Rattle.std.specs.Prelude.{◌==◌, decimal}
 use Rattle.std.specs.List.{AllByRecursion, list_all, flat_map, slice_split, join_with_byte}
 use Rattle.std.proofs.lemmas.Fmt.{decimal_by_steps}
@@ -18,13 +18,14 @@ use Rattle.lock_rules.specs.declared.listing.ClaimKind.{ClaimKind}
 use Rattle.lock_rules.specs.declared.listing.ClaimKind.TheVariants.{Held, Conversion, Fresh}
 use Rattle.lock_rules.specs.declared.listing.Claim.{Claim}
 use Rattle.lock_report.specs.declared.snapshot.OpenTransaction.{OpenTransaction}
-use Rattle.lock_report.specs.declared.snapshot.Wait.{Wait}
+use Rattle.lock_report.specs.declared.snapshot.FirstWait.{FirstWait}
 use Rattle.lock_report.specs.Claims.{word_of_kind}
-use Rattle.lock_report.specs.StateRows.{row_of_claim, row_of_transaction, row_of_wait, rows_of_state}
+use Rattle.lock_report.specs.StateRows.{others_text, row_of_claim, row_of_transaction, row_of_wait, rows_of_state}
 use Rattle.state_rows.specs.declared.row.StateRow.{StateRow}
 use Rattle.state_rows.specs.declared.row.StateRow.TheVariants as row
 use Rattle.state_rows.specs.Rows.{IsRow, fields_of_row, is_comma, line_of_row, victim_text}
 use Rattle.state_rows.specs.States.{is_line_feed, rows_in}
+use Rattle.state_rows.specs.inner.Fields.{is_plus}
 
 -- The byte is neither a comma nor a line feed.
 abbrev is_plain : ℕ → Bool
@@ -69,6 +70,20 @@ victim-plain : (doomed : Bool) → plain (victim_text doomed) ≡ true
 victim-plain true = refl
 victim-plain false = refl
 
+-- So is what tells of others.
+others-plain : (n : ℕ) → n < 18446744073709551616 → plain (others_text n) ≡ true
+others-plain n lt = go (n == 0)
+  where
+    go : (b : Bool) → plain (cond b [] (43 ∷ decimal n)) ≡ true
+    go true = refl
+    go false = number-plain n lt
+
+-- A number has no plus.
+pub number-plusless : (n : ℕ) → n < 18446744073709551616 → list_all (λ b. not (is_plus b)) (decimal n) ≡ true
+number-plusless n lt =
+    decimal_by_steps (λ n bs. list_all (λ b. not (is_plus b)) bs ≡ true) (λ m small. rw (ne_eqb (48 + m) 43 (λ e. omega (arith, e))) refl)
+    (λ m ds big so_far. list_all-append (λ b. not (is_plus b)) ds ((48 + m % 10) ∷ []) ∙ and_from (list_all (λ b. not (is_plus b)) ds) (list_all (λ b. not (is_plus b)) ((48 + m % 10) ∷ [])) so_far (rw (ne_eqb (48 + m % 10) 43 (λ e. omega (arith, e))) refl)) n lt
+
 -- The text of a resource is plain.
 numbers-plain : (r : List ℕ) → AllByRecursion (λ n. n < 2 ^ 32) r → plain (text_of r) ≡ true
 numbers-plain [] small = refl
@@ -90,7 +105,7 @@ row-plain n (row.Transaction o) lt h =
 row-plain n (row.Claim c) lt h =
     (kind-plain c.kind, (number-plain c.session (omega (arith, lt, h.0.1)), (number-plain c.transaction.number h.1, (victim-plain c.transaction.doomed, (resource-plain c.resource h.2, (mode-plain c.mode, (refl, tt)))))))
 row-plain n (row.Wait w) lt h =
-    (refl, (number-plain w.session (omega (arith, lt, h.0.1)), (refl, (refl, (refl, (refl, (number-plain w.other (omega (arith, lt, h.1.1)), tt)))))))
+    (refl, (number-plain w.wait.session (omega (arith, lt, h.0.0.1)), (refl, (refl, (refl, (refl, (plain-both (decimal w.wait.other) (others_text w.others) (number-plain w.wait.other (omega (arith, lt, h.0.1.1))) (others-plain w.others h.1), tt)))))))
 
 -- A plain text has no comma.
 no-commas : (bs : List ℕ) → plain bs ≡ true → AllByRecursion (λ b. is_comma b ≡ false) bs
@@ -169,14 +184,14 @@ claims-text : (cs : List Claim) → flat_map with_feed (map line_of_row (map row
 claims-text [] = refl
 claims-text (c ∷ cs) = ap (λ (rest : List ℕ). row_of_claim c ++ rest) (claims-text cs)
 
-waits-text : (ws : List Wait) → flat_map with_feed (map line_of_row (map row.Wait ws)) ≡ flat_map row_of_wait ws
+waits-text : (ws : List FirstWait) → flat_map with_feed (map line_of_row (map row.Wait ws)) ≡ flat_map row_of_wait ws
 waits-text [] = refl
 waits-text (w ∷ ws) = ap (λ (rest : List ℕ). row_of_wait w ++ rest) (waits-text ws)
 
 both-texts : (xs ys : List StateRow) → flat_map with_feed (map line_of_row (xs ++ ys)) ≡ flat_map with_feed (map line_of_row xs) ++ flat_map with_feed (map line_of_row ys)
 both-texts xs ys = ap (flat_map with_feed) (map-append line_of_row xs ys) ∙ flat_map-append with_feed (map line_of_row xs) (map line_of_row ys)
 
-pub rows-text : (os : List OpenTransaction) (cs : List Claim) (ws : List Wait) → flat_map with_feed (map line_of_row (rows_in os cs ws)) ≡ rows_of_state os cs ws
+pub rows-text : (os : List OpenTransaction) (cs : List Claim) (ws : List FirstWait) → flat_map with_feed (map line_of_row (rows_in os cs ws)) ≡ rows_of_state os cs ws
 rows-text os cs ws =
     both-texts (map row.Transaction os) (map row.Claim cs ++ map row.Wait ws)
     ∙ ((λ i. opens-text os i ++ both-texts (map row.Claim cs) (map row.Wait ws) i)

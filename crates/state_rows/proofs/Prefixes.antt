@@ -7,7 +7,7 @@ use Rattle.std.proofs.lemmas.List.Elements.{All-from_recursion, recursion_from_A
 use Rattle.lock_rules.specs.declared.listing.Claim.{Claim}
 use Rattle.lock_report.proofs.Pieces.{with_next}
 use Rattle.lock_report.specs.declared.snapshot.OpenTransaction.{OpenTransaction}
-use Rattle.lock_report.specs.declared.snapshot.Wait.{Wait}
+use Rattle.lock_report.specs.declared.snapshot.FirstWait.{FirstWait}
 use Rattle.state_rows.specs.declared.row.StateRow.{StateRow}
 use Rattle.state_rows.specs.Rows.{IsRow, line_of_row}
 use Rattle.state_rows.specs.inner.Prefixes.{AreOnlyRows, IsKept}
@@ -19,7 +19,7 @@ no-others : (others : List StateRow) → map line_of_row others ≡ [] → other
 no-others [] e = refl
 no-others (r ∷ rs) e = absurd cc
 
-pub none-at-first : (n : ℕ) (os : List OpenTransaction) (cs : List Claim) (ws : List Wait) → os ≡ [] → cs ≡ [] → ws ≡ [] → AreOnlyRows n [] (rows_in os cs ws)
+pub none-at-first : (n : ℕ) (os : List OpenTransaction) (cs : List Claim) (ws : List FirstWait) → os ≡ [] → cs ≡ [] → ws ≡ [] → AreOnlyRows n [] (rows_in os cs ws)
 none-at-first n os cs ws o c w =
     let none : rows_in os cs ws ≡ [] = λ i. rows_in (o i) (c i) (w i) in
     subst (AreOnlyRows n []) (sym none) (record { valid = tt; lines_are = refl; only = λ others valid is. no-others others is })
@@ -30,7 +30,7 @@ kept-at-first r begun keys opens claims waits = record {
   opening = λ s. ap (list_any (λ k. s == k)) begun ∙ sym (ap (λ (os : List OpenTransaction). has_transaction os s) opens);
   opened = subst (AllByRecursion (λ (c : Claim). has_transaction r.lists.opens.items c.session ≡ true)) (sym claims) tt;
   asking = λ s. ap (list_any (λ k. s == k)) keys ∙ sym (ap (λ (cs : List Claim). has_request cs s) claims);
-  requested = subst (AllByRecursion (λ (w : Wait). has_request r.lists.claims.items w.session ≡ true)) (sym waits) tt;
+  requested = subst (AllByRecursion (λ (w : FirstWait). has_request r.lists.claims.items w.wait.session ≡ true)) (sym waits) tt;
 }
 
 -- Rows whose lines are some lines, one more and others: they are rows of each part.
@@ -92,7 +92,7 @@ lists-so-far n lines r h kept = record {
   rows = All-from_recursion (IsRow n) (rows_of r.lists) h.valid;
   owned = record {
     opened = All-from_recursion (λ (c : Claim). has_transaction r.lists.opens.items c.session ≡ true) r.lists.claims.items kept.opened;
-    requested = All-from_recursion (λ (w : Wait). has_request r.lists.claims.items w.session ≡ true) r.lists.waits.items kept.requested;
+    requested = All-from_recursion (λ (w : FirstWait). has_request r.lists.claims.items w.wait.session ≡ true) r.lists.waits.items kept.requested;
   };
 }
 

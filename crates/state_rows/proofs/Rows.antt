@@ -1,6 +1,10 @@
 -- A row is read from its fields exactly if each of its parts is.
-use Rattle.std.proofs.Common.{◌≡◌, ◌≢◌, ◌↔◌, ℕ, List, [], ◌∷◌, length, map, get_or, Option, Some, None, subst, refl, sym, ap, ◌∙◌, arith}
-use Rattle.std.specs.Prelude.{codes, decimal}
+use Rattle.std.proofs.Common.{◌≡◌, ◌≢◌, ◌↔◌, ℕ, ◌+◌, ◌<◌, ◌^◌, Bool, true, false, cond, not, List, [], ◌∷◌, ◌++◌, length, map, take, drop, get_or, Option, Some, None, subst, refl, sym, ap, ◌∙◌, arith}
+use Rattle.std.proofs.Math.Seq.{take-append_seam, drop-append_seam}
+use Rattle.std.proofs.lemmas.Bool.{and_parts}
+use Rattle.std.proofs.lemmas.List.{take-append-drop}
+use Rattle.std.specs.Prelude.{◌==◌, codes, decimal}
+use Rattle.std.specs.List.{list_all, position_or_len}
 use Rattle.lock_modes.specs.declared.Mode.{Mode}
 use Rattle.lock_modes.specs.declared.Mode.TheVariants.{NL}
 use Rattle.lock_modes.specs.Codes.{name_of}
@@ -10,13 +14,15 @@ use Rattle.lock_rules.specs.declared.calls.Transaction.{Transaction}
 use Rattle.lock_rules.specs.declared.listing.Claim.{Claim}
 use Rattle.lock_rules.specs.declared.listing.ClaimKind.{ClaimKind}
 use Rattle.lock_report.specs.declared.snapshot.OpenTransaction.{OpenTransaction}
-use Rattle.lock_report.specs.declared.snapshot.Wait.{Wait}
+use Rattle.lock_report.specs.declared.snapshot.FirstWait.{FirstWait}
 use Rattle.lock_rules.specs.declared.listing.ClaimKind.TheVariants.{Held, Conversion, Fresh}
 use Rattle.lock_report.specs.Claims.{word_of_kind}
-use Rattle.lock_report.specs.StateRows.{fields_of_transaction, fields_of_wait, victim_field}
+use Rattle.lock_report.specs.StateRows.{fields_of_transaction, fields_of_wait, others_text, victim_field}
 use Rattle.state_rows.specs.declared.row.StateRow.{StateRow}
 use Rattle.state_rows.specs.declared.row.StateRow.TheVariants as row
-use Rattle.state_rows.specs.Rows.{IsClaim, IsNumbered, IsOpen, IsRow, IsSession, IsWait, fields_of_row}
+use Rattle.state_rows.specs.Rows.{IsClaim, IsFirstWait, IsNumbered, IsOpen, IsRow, IsSession, fields_of_row}
+use Rattle.state_rows.specs.inner.Fields.{is_plus}
+use Rattle.state_rows.proofs.Lines.{number-plusless}
 
 -- What is read of a text is one thing.
 pub only : {X : Type 0} (o : Option X) (x y : X) → o ≡ Some x → o ≡ Some y → x ≡ y
@@ -43,23 +49,53 @@ open-iff n session number victim so to s t sessions transactions is also o = (
       λ i. Some (record { session = a i; transaction = b i }),
 )
 
--- A wait is read exactly if its sessions are.
-pub wait-iff : (n : ℕ) (session other : List ℕ) (so uo : Option ℕ) (s u : ℕ)
-    → ((k : ℕ) → (so ≡ Some k) ↔ (IsSession n k × (session ≡ decimal k)))
-    → ((k : ℕ) → (uo ≡ Some k) ↔ (IsSession n k × (other ≡ decimal k)))
-    → so ≡ Some s → uo ≡ Some u
-    → (w : Wait) → (Some (record { session = s; other = u }) ≡ Some w) ↔ (IsWait n w × (session ≡ decimal w.session) × (other ≡ decimal w.other))
-wait-iff n session other so uo s u sessions others is also w = (
+-- The first plus behind a number without one is that of what tells of others.
+front-first : (ds ms : List ℕ) → list_all (λ b. not (is_plus b)) ds ≡ true → position_or_len is_plus ms ≡ 0 → position_or_len is_plus (ds ++ ms) ≡ length ds
+front-first [] ms all none = none
+front-first (d ∷ ds) ms all none =
+    let both = and_parts (not (is_plus d)) (list_all (λ b. not (is_plus b)) ds) all in
+    let next = front-first ds ms both.1 none in
+    ap (λ (b : Bool). cond b (1 + position_or_len is_plus (ds ++ ms)) 0) both.0 ∙ omega (arith, next)
+
+others-first : (k : ℕ) → position_or_len is_plus (others_text k) ≡ 0
+others-first k = go (k == 0)
+  where
+    go : (b : Bool) → position_or_len is_plus (cond b [] (43 ∷ decimal k)) ≡ 0
+    go true = refl
+    go false = refl
+
+-- A field of waits is parted at its first plus.
+pub parted-at : (n : ℕ) (other : List ℕ) (p : ℕ) (w : FirstWait) → n < 2 ^ 16 → p ≡ position_or_len is_plus other → IsFirstWait n w → other ≡ decimal w.wait.other ++ others_text w.others
+    → (take p other ≡ decimal w.wait.other) × (drop p other ≡ others_text w.others)
+parted-at n other p w lt front h is =
+    let ds = decimal w.wait.other in
+    let ms = others_text w.others in
+    let at : p ≡ length ds = front ∙ (ap (position_or_len is_plus) is ∙ front-first ds ms (number-plusless w.wait.other (omega (arith, lt, h.0.1.1))) (others-first w.others)) in
+    ((λ i. take (at i) (is i)) ∙ take-append_seam ds ms, (λ i. drop (at i) (is i)) ∙ drop-append_seam ds ms)
+
+-- The waits of a session are read exactly if their sessions and their number are.
+pub wait-iff : (n : ℕ) (session other : List ℕ) (p : ℕ) (so uo ko : Option ℕ) (s u k : ℕ)
+    → ((x : ℕ) → (so ≡ Some x) ↔ (IsSession n x × (session ≡ decimal x)))
+    → ((x : ℕ) → (uo ≡ Some x) ↔ (IsSession n x × (take p other ≡ decimal x)))
+    → ((x : ℕ) → (ko ≡ Some x) ↔ ((x < 2 ^ 64) × (drop p other ≡ others_text x)))
+    → n < 2 ^ 16 → p ≡ position_or_len is_plus other → so ≡ Some s → uo ≡ Some u → ko ≡ Some k
+    → (w : FirstWait) → (Some (record { wait = record { session = s; other = u }; others = k }) ≡ Some w)
+    ↔ (IsFirstWait n w × (session ≡ decimal w.wait.session) × (other ≡ decimal w.wait.other ++ others_text w.others))
+wait-iff n session other p so uo ko s u k sessions firsts others lt front is also last w = (
   λ e.
-      let made : Wait = record { session = s; other = u } in
+      let made : FirstWait = record { wait = record { session = s; other = u }; others = k } in
       let same : made ≡ w = cc in
       let a = (sessions s).0 is in
-      let b = (others u).0 also in
-      subst (λ (x : Wait). IsWait n x × (session ≡ decimal x.session) × (other ≡ decimal x.other)) same ((a.0, b.0), a.1, b.1),
+      let b = (firsts u).0 also in
+      let c = (others k).0 last in
+      subst (λ (x : FirstWait). IsFirstWait n x × (session ≡ decimal x.wait.session) × (other ≡ decimal x.wait.other ++ others_text x.others)) same
+      (((a.0, b.0), c.0), a.1, sym (take-append-drop p other) ∙ (λ i. b.1 i ++ c.1 i)),
   λ h.
-      let a = only so s w.session is ((sessions w.session).1 (h.0.0, h.1)) in
-      let b = only uo u w.other also ((others w.other).1 (h.0.1, h.2)) in
-      λ i. Some (record { session = a i; other = b i }),
+      let parts = parted-at n other p w lt front h.0 h.2 in
+      let a = only so s w.wait.session is ((sessions w.wait.session).1 (h.0.0.0, h.1)) in
+      let b = only uo u w.wait.other also ((firsts w.wait.other).1 (h.0.0.1, parts.0)) in
+      let c = only ko k w.others last ((others w.others).1 (h.0.1, parts.1)) in
+      λ i. Some (record { wait = record { session = a i; other = b i }; others = c i }),
 )
 
 -- A lock or a request is read exactly if its parts are.
@@ -145,9 +181,9 @@ row-of-open n fields oo o opens is r = (
     go (row.Wait w) h = let bad : codes "transaction" ≡ codes "waits" = (seven (sym ((opens o).0 is).1 ∙ h.1)).0 in absurd cc
 
 -- Fields that are those of a wait, and of no open transaction, are read as its row.
-pub row-of-wait : (n : ℕ) (fields : List (List ℕ)) (oo : Option OpenTransaction) (wo : Option Wait) (w : Wait)
+pub row-of-wait : (n : ℕ) (fields : List (List ℕ)) (oo : Option OpenTransaction) (wo : Option FirstWait) (w : FirstWait)
     → ((x : OpenTransaction) → (oo ≡ Some x) ↔ (IsOpen n x × (fields ≡ fields_of_transaction x)))
-    → ((x : Wait) → (wo ≡ Some x) ↔ (IsWait n x × (fields ≡ fields_of_wait x)))
+    → ((x : FirstWait) → (wo ≡ Some x) ↔ (IsFirstWait n x × (fields ≡ fields_of_wait x)))
     → oo ≡ None → wo ≡ Some w → (r : StateRow) → (Some (row.Wait w) ≡ Some r) ↔ (IsRow n r × (fields ≡ fields_of_row r))
 row-of-wait n fields oo wo w opens waits none is r = (
   λ e. let same : row.Wait w ≡ r = cc in subst (λ (x : StateRow). IsRow n x × (fields ≡ fields_of_row x)) same ((waits w).0 is),

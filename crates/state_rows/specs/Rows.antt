@@ -5,6 +5,7 @@ use Rattle.lock_modes.specs.declared.Mode.TheVariants as mode
 use Rattle.lock_tree.specs.Paths.{IsResource}
 use Rattle.lock_rules.specs.declared.calls.Transaction.{Transaction}
 use Rattle.lock_rules.specs.declared.listing.Claim.{Claim}
+use Rattle.lock_report.specs.declared.snapshot.FirstWait.{FirstWait}
 use Rattle.lock_report.specs.declared.snapshot.OpenTransaction.{OpenTransaction}
 use Rattle.lock_report.specs.declared.snapshot.Wait.{Wait}
 use Rattle.lock_report.specs.StateRows.{fields_of_claim, fields_of_transaction, fields_of_wait}
@@ -31,11 +32,15 @@ IsClaim n c = IsSession n c.session × IsNumbered c.transaction × IsResource c.
 abbrev pub IsWait : ℕ → Wait → Type 0
 IsWait n w = IsSession n w.session × IsSession n w.other
 
+-- likewise, and the number of others has 64 bits
+abbrev pub IsFirstWait : ℕ → FirstWait → Type 0
+IsFirstWait n w = IsWait n w.wait × (w.others < 2 ^ 64)
+
 -- the row is one for the sessions 1 to n
 abbrev pub IsRow : ℕ → StateRow → Type 0
 IsRow n (row.Transaction o) = IsOpen n o
 IsRow n (row.Claim c) = IsClaim n c
-IsRow n (row.Wait w) = IsWait n w
+IsRow n (row.Wait w) = IsFirstWait n w
 
 -- the victim field of a transaction: `victim`, or empty
 abbrev pub victim_text : Bool → List ℕ

@@ -1,6 +1,7 @@
 //! Reads single fields of a row of a state. Each reader takes exactly the texts that the writer makes.
 
-ghost use Rattle.std.specs.Prelude.{◌≡◌, ◌≢◌, ◌<◌, ◌↔◌, ◌^◌, ℕ, Bool, true, false, List, Some, IfSome, IfNone, decimal};
+ghost use Rattle.std.specs.Prelude.{◌≡◌, ◌≢◌, ◌<◌, ◌≤◌, ◌↔◌, ◌^◌, ℕ, Bool, true, false, List, Some, IfSome, IfNone, length, decimal};
+ghost use Rattle.std.specs.List.{position_or_len};
 ghost use Rattle.std.specs.Str.{is_utf8};
 ghost use Rattle.lock_modes.specs.declared.Mode.{Mode as ModeValue};
 ghost use Rattle.lock_modes.specs.Codes.{name_of};
@@ -8,7 +9,9 @@ ghost use Rattle.lock_tree.specs.Paths.{IsResource};
 ghost use Rattle.lock_tree.specs.Text.{text_of};
 ghost use Rattle.lock_rules.specs.declared.listing.ClaimKind.{ClaimKind as KindValue};
 ghost use Rattle.lock_report.specs.Claims.{word_of_kind};
+ghost use Rattle.lock_report.specs.StateRows.{others_text};
 ghost use Rattle.state_rows.specs.Rows.{IsSession, victim_text};
+ghost use Rattle.state_rows.specs.inner.Fields.{is_plus};
 
 use lock_modes::Mode;
 use lock_rules::ClaimKind;
@@ -32,6 +35,35 @@ pub(crate) fn number_of(field: &[u8]) -> Option<u64>
 {
     numerals_are_decimals();
     parse_numeral(field, u64::MAX).ok()
+}
+
+/// How many bytes of a field are in front of its first `+`: all, if it has none.
+pub(crate) fn front_of_plus(field: &[u8]) -> usize
+    ensures front { result ≡ position_or_len is_plus field.now }
+    ensures within { result ≤ length field.now }
+{
+    for index in 0..field.len() {
+        if field[index] == b'+' {
+            return index;
+        }
+    }
+    field.len()
+}
+
+/// The number of others behind the first blocker: 0 of nothing, else a number behind `+`.
+pub(crate) fn others_of(field: &[u8]) -> Option<u64>
+    ensures { (n : ℕ) → (result ≡ Some n) ↔ ((n < 2 ^ 64) × (field.now ≡ others_text n)) }
+{
+    if field.is_empty() {
+        return Some(0);
+    }
+    if field[0] != b'+' {
+        return None;
+    }
+    match number_of(&field[1..]) {
+        Some(others) if others != 0 => Some(others),
+        _ => None,
+    }
 }
 
 /// Whether a field is the mark of a victim, `None` if it is neither the mark nor empty.

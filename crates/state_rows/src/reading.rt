@@ -11,7 +11,7 @@ ghost use Rattle.state_rows.specs.States.{AreLists, BeginNoState, IsFaulty, IsFi
 
 use crate::row::{StateRow, is_blank, row_of};
 use indexmap::IndexSet;
-use lock_report::{OpenTransaction, Wait};
+use lock_report::{FirstWait, OpenTransaction};
 use lock_rules::{Claim, ClaimKind};
 use std::alloc::{AllocError as NoMemory, Global};
 
@@ -22,8 +22,8 @@ pub struct StateLists {
     pub opens: Vec<OpenTransaction>,
     /// The locks and waiting requests.
     pub claims: Vec<Claim>,
-    /// Who waits directly for whom.
-    pub waits: Vec<Wait>,
+    /// The waits of each session.
+    pub waits: Vec<FirstWait>,
 }
 
 /// Why a text isn't read.
@@ -90,13 +90,13 @@ fn add_claim(claim: Claim, reading: &mut Reading) -> Result<bool, NoMemory>
     Ok(true)
 }
 
-/// Adds the row of a wait. Returns false, with nothing added, if its session has no waiting request.
-fn add_wait(wait: Wait, reading: &mut Reading) -> Result<bool, NoMemory>
+/// Adds the row of a session's waits. Returns false, with nothing added, if the session has no waiting request.
+fn add_wait(wait: FirstWait, reading: &mut Reading) -> Result<bool, NoMemory>
     ensures added { result ≡ Ok true → rows_of reading.new.lists ≡ rows_of reading.old.lists ++ variant.Wait wait ∷ [] }
     ensures late { result ≡ Ok false → IsKept reading.old → IsLate (variant.Wait wait) (rows_of reading.old.lists) }
     ensures kept { result ≡ Ok true → IsKept reading.old → IsKept reading.new }
 {
-    if !reading.asking.contains(&wait.session) {
+    if !reading.asking.contains(&wait.wait.session) {
         return Ok(false);
     }
     reading.lists.waits.push(wait)?;

@@ -1,21 +1,23 @@
 //! A row of a state, read from its line.
 
-ghost use Rattle.std.specs.Prelude.{◌≡◌, ◌↔◌, true, [], Some, IfOk, map, decimal};
+ghost use Rattle.std.specs.Prelude.{◌≡◌, ◌↔◌, ◌++◌, true, [], Some, IfOk, map, decimal};
 ghost use Rattle.std.specs.List.{slice_split};
 ghost use Rattle.lock_modes.specs.Codes.{name_of};
 ghost use Rattle.lock_tree.specs.Text.{text_of};
 ghost use Rattle.lock_rules.specs.declared.calls.Transaction.{Transaction as TransactionValue};
 ghost use Rattle.lock_rules.specs.declared.listing.Claim.{Claim as ClaimValue};
+ghost use Rattle.lock_report.specs.declared.snapshot.FirstWait.{FirstWait as WaitValue};
 ghost use Rattle.lock_report.specs.declared.snapshot.OpenTransaction.{OpenTransaction as OpenValue};
-ghost use Rattle.lock_report.specs.declared.snapshot.Wait.{Wait as WaitValue};
 ghost use Rattle.lock_report.specs.Claims.{word_of_kind};
-ghost use Rattle.lock_report.specs.StateRows.{fields_of_claim, fields_of_transaction, fields_of_wait, victim_field};
+ghost use Rattle.lock_report.specs.StateRows.{fields_of_claim, fields_of_transaction, fields_of_wait, others_text, victim_field};
 ghost use Rattle.state_rows.specs.declared.row.StateRow.{StateRow as RowValue};
 ghost use Rattle.state_rows.specs.inner.Fields.{texts_of};
-ghost use Rattle.state_rows.specs.Rows.{IsClaim, IsNumbered, IsOpen, IsRow, IsWait, fields_of_row, is_comma, line_of_row};
+ghost use Rattle.state_rows.specs.Rows.{IsClaim, IsFirstWait, IsNumbered, IsOpen, IsRow, fields_of_row, is_comma, line_of_row};
 
-use crate::fields::{kind_of, mode_of, number_of, resource_of, session_of, victim_of};
-use lock_report::{OpenTransaction, Wait};
+use crate::fields::{
+    front_of_plus, kind_of, mode_of, number_of, others_of, resource_of, session_of, victim_of,
+};
+use lock_report::{FirstWait, OpenTransaction, Wait};
 use lock_rules::{Claim, Transaction};
 use std::alloc::{AllocError as NoMemory, Global};
 
@@ -26,14 +28,14 @@ pub enum StateRow {
     Transaction(OpenTransaction),
     /// A lock or a waiting request.
     Claim(Claim),
-    /// Who waits directly for whom.
-    Wait(Wait),
+    /// The waits of a session.
+    Wait(FirstWait),
 }
 
 /// The seven fields of a row, none of which has a meaning yet.
 #[derive(Clone, Copy)]
 struct RowFields<'a> {
-    /// What the row tells: of a transaction, of a lock or a request, or of a wait.
+    /// What the row tells: of a transaction, of a lock or a request, or of waits.
     word: &'a [u8],
     /// The session.
     session: &'a [u8],
@@ -45,7 +47,7 @@ struct RowFields<'a> {
     resource: &'a [u8],
     /// The mode of a lock or a request.
     mode: &'a [u8],
-    /// The session that is waited for.
+    /// The first blocker, and how many others are waited for.
     other: &'a [u8],
 }
 
@@ -88,13 +90,19 @@ fn claim_of(sessions: u16, fields: RowFields<'_>) -> Option<Claim>
     })
 }
 
-/// The wait of these fields.
-fn wait_of(sessions: u16, session: &[u8], other: &[u8]) -> Option<Wait>
-    ensures { (w : WaitValue) → (result ≡ Some w) ↔ (IsWait sessions w × (session.now ≡ decimal w.session) × (other.now ≡ decimal w.other)) }
+/// The waits of these fields.
+fn wait_of(sessions: u16, session: &[u8], other: &[u8]) -> Option<FirstWait>
+    ensures { (w : WaitValue) → (result ≡ Some w) ↔ (IsFirstWait sessions w × (session.now ≡ decimal w.wait.session) × (other.now ≡ decimal w.wait.other ++ others_text w.others)) }
 {
     let session = session_of(session, sessions)?;
-    let other = session_of(other, sessions)?;
-    Some(Wait { session, other })
+    let front = front_of_plus(other);
+    let first = session_of(&other[..front], sessions)?;
+    let others = others_of(&other[front..])?;
+    let wait = Wait {
+        session,
+        other: first,
+    };
+    Some(FirstWait { wait, others })
 }
 
 /// Whether the field is empty.
@@ -134,9 +142,9 @@ fn claim_in(sessions: u16, fields: RowFields<'_>) -> Option<Claim>
     claim_of(sessions, fields)
 }
 
-/// The wait of the seven fields of a row.
-fn wait_in(sessions: u16, fields: RowFields<'_>) -> Option<Wait>
-    ensures { (w : WaitValue) → (result ≡ Some w) ↔ (IsWait sessions w × (texts_of fields.entry ≡ fields_of_wait w)) }
+/// The waits of the seven fields of a row.
+fn wait_in(sessions: u16, fields: RowFields<'_>) -> Option<FirstWait>
+    ensures { (w : WaitValue) → (result ≡ Some w) ↔ (IsFirstWait sessions w × (texts_of fields.entry ≡ fields_of_wait w)) }
 {
     if fields.word != b"waits".as_slice() {
         return None;

@@ -18,4 +18,4 @@ pub record IsKept (r : Reading) : Type 0 where
   pub opening : (s : ℕ) → list_any (λ k. s == k) r.opening.keys ≡ has_transaction r.lists.opens.items s
   pub opened : AllByRecursion (λ c. has_transaction r.lists.opens.items c.session ≡ true) r.lists.claims.items
   pub asking : (s : ℕ) → list_any (λ k. s == k) r.asking.keys ≡ has_request r.lists.claims.items s
-  pub requested : AllByRecursion (λ w. has_request r.lists.claims.items w.session ≡ true) r.lists.waits.items
+  pub requested : AllByRecursion (λ w. has_request r.lists.claims.items w.wait.session ≡ true) r.lists.waits.items

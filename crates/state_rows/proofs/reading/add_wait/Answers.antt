@@ -6,4 +6,4 @@ pub returns-then-not-contains-clause-late : goal.returns-then-not-contains-claus
 returns-then-not-contains-clause-late c = λ e kept.
     let lists = c.args.reading.now.lists in
     let none : c.contains.result ≡ false = search (rules, tests) in
-    late-wait lists.opens.items lists.claims.items lists.waits.items c.args.wait (sym (kept.asking c.args.wait.session) ∙ (sym c.contains.ensures ∙ none))
+    late-wait lists.opens.items lists.claims.items lists.waits.items c.args.wait (sym (kept.asking c.args.wait.wait.session) ∙ (sym c.contains.ensures ∙ none))
