@@ -162,7 +162,7 @@ fn try_at_once<O: Batching, T: Told<O>>(
     ensures notes_starved { result ≡ Next.Starved → T.notes told.old session.old.front → T.notes told.new session.new.front }
     ensures notes_waits { (w : _) → result ≡ Next.Wait w → T.notes told.old session.old.front → T.notes told.new session.new.front }
 {
-    match office.perform_adding(session, *call, bound.at_least_one(), told) {
+    match office.perform_adding(session, call, bound.at_least_one(), told) {
         Performed::Answered { answer, .. } => Next::Answered(answer),
         Performed::Elsewhere => Next::Wait(after_try()),
         Performed::Starved => {

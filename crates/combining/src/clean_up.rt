@@ -1,5 +1,4 @@
-//! The ages of publication records, and the clean-up: a record that no pass has served for a while is taken off the
-//! publication list.
+//! The ages of publication records, and the clean-up: a record that no pass has served for a while is taken off the publication list.
 
 ghost use Rattle.std.specs.Prelude.{◌≡◌, ◌≢◌, ◌≤◌, ◌<◌, ◌+◌, ◌%◌, ◌⊎◌, ◌↔◌, true, false, Some, IsTrue, length, vec_len, All};
 ghost use Rattle.sequential.specs.Batches.{IsItemWithin};
@@ -11,8 +10,7 @@ ghost use Rattle.combining.specs.inner.Ages.{sessions_of, noted, IsUnused, IsCle
 use publication::{Board, Ticket};
 use sequential::{Batching, Item};
 
-/// The clean-up runs every `PASSES_KEPT` passes, and takes off the records that were last served more than
-/// `PASSES_KEPT` passes ago.
+/// The clean-up runs every `PASSES_KEPT` passes, and takes off the records that were last served more than `PASSES_KEPT` passes ago.
 const PASSES_KEPT: u64 = 64;
 
 /// Sets the age of each session that a pass served to the number of that pass. The other ages stay.
@@ -86,8 +84,7 @@ fn unlink_unused<O: Batching>(
     }
 }
 
-/// Every `PASSES_KEPT` passes, walks the publication list once and takes off each unused record except the first,
-/// which can't be taken off.
+/// Every `PASSES_KEPT` passes, walks the publication list once and takes off each unused record but the first, which can't be taken off.
 pub(crate) fn clean_up<O: Batching>(
     board: &Board<O>,
     session: &mut Ticket<O>,

@@ -20,23 +20,22 @@ fn perform_own<O: Batching>(
     board: &Board<O>,
     session: &mut Ticket<O>,
     load: &mut Load<O>,
-    call: O::Call,
+    call: &O::Call,
 ) -> Option<(u64, O::Reply)>
     requires work { IsAtWork O.Sequential board.now session.old load.old }
     requires idle { IsIdle session.old }
-    ensures some { IfSome result (λ r. IsOwnEntered session.old session.new call r.0 r.1) }
+    ensures some { IfSome result (λ r. IsOwnEntered session.old session.new call.now r.0 r.1) }
     ensures none { IfNone result (session.new ≡ session.old) }
     ensures work { IsAtWork O.Sequential board.now session.new load.new }
     ensures taken { load.new.pieces.items ≡ load.old.pieces.items }
     ensures tells { IfSome result (λ _. O.tells_from load.new.object (length session.old.front)) }
 {
-    let asked = call;
-    let Ok(reply) = load.object.serve(session.number(), call) else {
+    let Ok(reply) = load.object.serve(session.number(), *call) else {
         return None;
     };
     // the history is legal, and its length fits into 64 bits, so there is room for this entry
     let _served = load.object.served();
-    let place = board.enter(session, asked, reply);
+    let place = board.enter(session, *call, reply);
     Some((place, reply))
 }
 
@@ -46,13 +45,13 @@ pub(crate) fn perform_own_telling<O: Batching, T: Told<O>>(
     board: &Board<O>,
     session: &mut Ticket<O>,
     load: &mut Load<O>,
-    call: O::Call,
+    call: &O::Call,
     told: &mut T,
 ) -> Option<(u64, O::Reply)>
     requires work { IsAtWork O.Sequential board.now session.old load.old }
     requires idle { IsIdle session.old }
     requires room { HasRoom (T.room told.old) board.now.sessions }
-    ensures some { IfSome result (λ r. IsOwnEntered session.old session.new call r.0 r.1) }
+    ensures some { IfSome result (λ r. IsOwnEntered session.old session.new call.now r.0 r.1) }
     ensures none { IfNone result (session.new ≡ session.old) }
     ensures work { IsAtWork O.Sequential board.now session.new load.new }
     ensures taken { load.new.pieces.items ≡ load.old.pieces.items }
@@ -66,12 +65,12 @@ pub(crate) fn perform_own_telling<O: Batching, T: Told<O>>(
 }
 
 /// Performs a call of the combiner's own and then runs a pass.
-#[inline(always)]
+#[inline(never)]
 fn serve_own_first<O: Batching, T: Told<O>>(
     board: &Board<O>,
     session: &mut Ticket<O>,
     load: &mut Load<O>,
-    call: O::Call,
+    call: &O::Call,
     bound: PassBound,
     told: &mut T,
 ) -> (Pass, Option<(u64, O::Reply)>)
@@ -79,7 +78,7 @@ fn serve_own_first<O: Batching, T: Told<O>>(
     requires work { IsAtWork O.Sequential board.now session.old load.old }
     requires idle { IsIdle session.old }
     requires room { HasRoom (T.room told.old) board.now.sessions }
-    ensures performed { IfSome result.1 (λ r. IsPassWithOwn true session.old session.new call r.0 r.1 result.0.served) }
+    ensures performed { IfSome result.1 (λ r. IsPassWithOwn true session.old session.new call.now r.0 r.1 result.0.served) }
     ensures refused { IfNone result.1 (HasPassed session.old session.new result.0.served) }
     ensures work { IsAtWork O.Sequential board.now session.new load.new }
     ensures served { HasServed board.now.sessions session.old session.new load.old load.new result.0.starved result.0.left }
@@ -99,7 +98,7 @@ fn serve_own_last<O: Batching, T: Told<O>>(
     board: &Board<O>,
     session: &mut Ticket<O>,
     load: &mut Load<O>,
-    call: O::Call,
+    call: &O::Call,
     bound: PassBound,
     told: &mut T,
 ) -> (Pass, Option<(u64, O::Reply)>)
@@ -107,7 +106,7 @@ fn serve_own_last<O: Batching, T: Told<O>>(
     requires work { IsAtWork O.Sequential board.now session.old load.old }
     requires idle { IsIdle session.old }
     requires room { HasRoom (T.room told.old) board.now.sessions }
-    ensures performed { IfSome result.1 (λ r. IsPassWithOwn false session.old session.new call r.0 r.1 result.0.served) }
+    ensures performed { IfSome result.1 (λ r. IsPassWithOwn false session.old session.new call.now r.0 r.1 result.0.served) }
     ensures refused { IfNone result.1 (HasPassed session.old session.new result.0.served) }
     ensures work { IsAtWork O.Sequential board.now session.new load.new }
     ensures served { HasServed board.now.sessions session.old session.new load.old load.new result.0.starved result.0.left }
@@ -122,14 +121,14 @@ fn serve_own_last<O: Batching, T: Told<O>>(
     (pass, answer)
 }
 
-/// Runs a pass within the bound, in which the combiner performs a call of its own, which it has not
-/// published: ahead of the others if the call goes first, else behind them. Returns the pass, and of the own call its place and reply; `None` if memory is
-/// refused for it. Tells whose waits the pass and the call have ended.
+/// Runs a pass within the bound, in which the combiner performs a call of its own, which it has not published: ahead of the others if the
+/// call goes first, else behind them. Returns the pass, and of the own call what `perform_own` does. Tells whose waits they have ended.
+#[inline(always)]
 pub(crate) fn serve_with_own<O: Batching, T: Told<O>>(
     board: &Board<O>,
     session: &mut Ticket<O>,
     load: &mut Load<O>,
-    call: O::Call,
+    call: &O::Call,
     bound: PassBound,
     told: &mut T,
 ) -> (Pass, Option<(u64, O::Reply)>)
@@ -137,7 +136,7 @@ pub(crate) fn serve_with_own<O: Batching, T: Told<O>>(
     requires work { IsAtWork O.Sequential board.now session.old load.old }
     requires idle { IsIdle session.old }
     requires room { HasRoom (T.room told.old) board.now.sessions }
-    ensures performed { IfSome result.1 (λ r. IsPassWithOwn (O.goes_first call) session.old session.new call r.0 r.1 result.0.served) }
+    ensures performed { IfSome result.1 (λ r. IsPassWithOwn (O.goes_first call.now) session.old session.new call.now r.0 r.1 result.0.served) }
     ensures refused { IfNone result.1 (HasPassed session.old session.new result.0.served) }
     ensures work { IsAtWork O.Sequential board.now session.new load.new }
     ensures served { HasServed board.now.sessions session.old session.new load.old load.new result.0.starved result.0.left }
@@ -147,7 +146,7 @@ pub(crate) fn serve_with_own<O: Batching, T: Told<O>>(
     ensures room { T.room told.new ≡ T.room told.old }
     ensures noted { T.notes told.new session.new.front }
 {
-    if O::goes_first(&call) {
+    if O::goes_first(call) {
         serve_own_first(board, session, load, call, bound, told)
     } else {
         serve_own_last(board, session, load, call, bound, told)

@@ -195,6 +195,7 @@ pub fn call_numbers(call: &Call) -> CallNumbers
 }
 
 /// The value of a reply, 0 if its kind has none.
+#[inline(always)]
 fn value_of(reply: &Reply) -> u64
     ensures { result ≡ value_of reply.now }
 {

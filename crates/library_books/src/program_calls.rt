@@ -6,7 +6,7 @@ ghost use Rattle.library_books.specs.Calls.{HasRoom, IsSession};
 ghost use Rattle.library_books.specs.Programs.{HasRun, IsProgram, IsProgramFault, IsProgramRun};
 
 use crate::book_calls::{ended, session_of};
-use crate::program_numbers::{ProgramAnswerNumbers, ProgramNumbers, answer_numbers, read_program};
+use crate::program_numbers::{ProgramAnswerNumbers, ProgramNumbers, read_program, write_answer};
 use crate::status::{
     NO_MEMORY, NO_ROOM, NO_SUCH_ABOVE, NO_SUCH_MODE, NO_SUCH_OP, NO_SUCH_SESSION, NO_SUCH_START, OK,
 };
@@ -59,7 +59,7 @@ pub fn run_program(
     let Ok(made) = run(book, number, &program) else {
         return NO_MEMORY;
     };
-    *answer = answer_numbers(&program, &made);
+    write_answer(&program, &made, answer);
     ended(book, list, count);
     OK
 }

@@ -1,6 +1,6 @@
 //! Programs and their answers in numbers: reading them from C's structs, and writing them there.
 
-ghost use Rattle.std.specs.Prelude.{◌≡◌, ◌↔◌, ◌⊎◌, ℕ, List, [], ◌∷◌, ◌++◌, Some, IfOk, IfErr, length};
+ghost use Rattle.std.specs.Prelude.{◌≡◌, ◌≤◌, ◌↔◌, ◌⊎◌, ℕ, List, [], ◌∷◌, ◌++◌, Some, IfOk, IfErr, length};
 ghost use Rattle.lock_rules.specs.declared.calls.Call.{Call as CallValue};
 ghost use Rattle.lock_programs.specs.declared.program.Start.{Start as StartValue};
 ghost use Rattle.lock_programs.specs.Answers.{replies_of};
@@ -97,6 +97,7 @@ fn read_plain(start: Start, last: Last) -> Program
 
 /// The program that the numbers encode. Tests `start`, then the last call as `read_call` does, then `level`, then `above`, and returns
 /// the status of the first test that fails.
+#[inline(always)]
 pub fn read_program(asked: &ProgramNumbers) -> Result<Program, u32>
     ensures ok { IfOk result (λ program. IsProgram asked.now program) }
     ensures err { IfErr result (λ fault. IsProgramFault asked.now fault) }
@@ -133,42 +134,41 @@ fn stop_number(reply: &Reply) -> u32
     reply.kind().number()
 }
 
-/// The kind of the last reply of the answer if the program stopped at it, otherwise 0.
+/// The kind of the last of an answer's `served` replies if the program stopped at it, otherwise 0.
 #[inline(always)]
-fn stop_of(program: &Program, answer: &Answer) -> u32
+fn stop_of(program: &Program, answer: &Answer, served: usize) -> u32
+    requires { served ≡ length (replies_of program.now answer.now) }
     ensures { result ≡ stop_of (replies_of program.now answer.now) }
 {
-    let served = answer.served(program);
     if served == 0 {
         return 0;
     }
     stop_number(&answer.reply(program, served - 1))
 }
 
-/// Writes the numbers of the answer's replies, from the first place on.
+/// Writes the numbers of an answer's `served` replies, from the first place on.
 #[inline(always)]
-fn write_replies(program: &Program, answer: &Answer, places: &mut [ReplyNumbers])
-    requires { length places.old ≡ CALLS }
+fn write_replies(program: &Program, answer: &Answer, served: usize, places: &mut [ReplyNumbers])
+    requires served { served ≡ length (replies_of program.now answer.now) }
+    requires few { served ≤ CALLS }
+    requires places { length places.old ≡ CALLS }
     ensures { places.new ≡ are_written numbers_of_reply (replies_of program.now answer.now) places.old }
 {
-    let served = answer.served(program);
     for k in 0..served {
         places[k] = reply_numbers(answer.reply(program, k));
     }
 }
 
-/// The numbers of the answer to a program.
+/// Writes the numbers of the answer to a program.
 #[inline(always)]
-pub fn answer_numbers(program: &Program, answer: &Answer) -> ProgramAnswerNumbers
-    ensures { result ≡ numbers_of_answer program.now answer.now }
+pub fn write_answer(program: &Program, answer: &Answer, numbers: &mut ProgramAnswerNumbers)
+    ensures { numbers.new ≡ numbers_of_answer program.now answer.now }
 {
-    let mut replies = [NO_REPLY; CALLS];
-    write_replies(program, answer, &mut replies);
-    ProgramAnswerNumbers {
-        place: answer.first(),
-        served: answer.served(program) as u32,
-        starved: u32::from(answer.is_refused()),
-        stop: stop_of(program, answer),
-        replies,
-    }
+    let served = answer.served(program);
+    numbers.place = answer.first();
+    numbers.served = served as u32;
+    numbers.starved = u32::from(answer.is_refused());
+    numbers.stop = stop_of(program, answer, served);
+    numbers.replies = [NO_REPLY; CALLS];
+    write_replies(program, answer, served, &mut numbers.replies);
 }

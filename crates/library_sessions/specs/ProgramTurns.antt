@@ -11,8 +11,9 @@ use Rattle.combining.specs.Calls.{IsAnsweredAt, IsCalling}
 use Rattle.library_books.specs.declared.program_numbers.ProgramNumbers.{ProgramNumbers}
 use Rattle.library_books.specs.declared.program_numbers.ProgramAnswerNumbers.{ProgramAnswerNumbers}
 use Rattle.library_sessions.specs.declared.session_share.SessionShare.{SessionShare}
-use Rattle.library_books.specs.declared.status.TheConstants.{NO_SUCH_OP}
+use Rattle.library_books.specs.declared.status.TheConstants.{OK, NO_MEMORY, NOT_SERVED, NO_SUCH_OP}
 use Rattle.library_books.specs.Programs.{IsProgram, IsProgramFault, numbers_of_answer}
+use Rattle.library_sessions.specs.Bounds.{HasServedWithin}
 use Rattle.library_sessions.specs.Sessions.{IsSameOffice}
 use Rattle.library_sessions.specs.Turns.{IsTurnStarvedOf, IsTurnLateOf}
 
@@ -51,6 +52,16 @@ IsProgramStarved before after program = IsTurnStarvedOf (IsCalling before.sessio
 
 abbrev pub IsProgramLate : SessionShare → SessionShare → Program → ℕ → ℕ → ℕ → Type 0
 IsProgramLate before after program = IsTurnLateOf (IsCalling before.session after.session program) before after
+
+-- a turn of the program has ended with this status, behind `made` turns of at most `turns`, and has written the answer and the wait
+pub record HasMadeTurn (before after : SessionShare) (program : Program) (made turns : ℕ) (unanswered answer : ProgramAnswerNumbers) (unread wait status : ℕ) : Type 0 where
+  pub ok : status ≡ OK → IsProgramAnswered before after program answer
+  pub memory : status ≡ NO_MEMORY → IsProgramStarved before after program
+  pub late : status ≡ NOT_SERVED → IsProgramLate before after program made turns wait
+  pub few : HasServedWithin 1 before after
+  pub failed : status ≢ OK → answer ≡ unanswered
+  pub waits : status ≢ NOT_SERVED → wait ≡ unread
+  pub statuses : (status ≡ OK) ⊎ ((status ≡ NO_MEMORY) ⊎ (status ≡ NOT_SERVED))
 
 -- these, of the program that the numbers encode
 abbrev pub IsRunAnswered : SessionShare → SessionShare → ProgramNumbers → ProgramAnswerNumbers → Type 0

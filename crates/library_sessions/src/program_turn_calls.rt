@@ -16,13 +16,13 @@ ghost use Rattle.library_sessions.specs.Bounds.{HasServedWithin};
 ghost use Rattle.library_books.specs.Programs.{numbers_of_answer};
 ghost use Rattle.library_sessions.specs.Sessions.{IsSameOffice, AreToWake};
 ghost use Rattle.library_sessions.specs.Turns.{number_of_wait, IsLookStarved, IsLookMade};
-ghost use Rattle.library_sessions.specs.ProgramTurns.{IsOfCalls, IsRunFault, IsProgramAnswered, IsProgramStarved, IsProgramLate, IsRunAnswered, IsRunStarved, IsRunMade, IsRunLookAnswered};
+ghost use Rattle.library_sessions.specs.ProgramTurns.{IsOfCalls, IsRunFault, IsProgramAnswered, IsProgramStarved, IsProgramLate, IsRunAnswered, IsRunStarved, IsRunMade, IsRunLookAnswered, HasMadeTurn};
 
 use crate::session_share::SessionShare;
 use crate::turn_calls::{NO_TURN, forget_told, wait_number};
 use combining::{LOOKS_PER_TRY, Next};
 use library_books::program_numbers::{
-    ProgramAnswerNumbers, ProgramNumbers, answer_numbers, read_program,
+    ProgramAnswerNumbers, ProgramNumbers, read_program, write_answer,
 };
 use library_books::status::{
     NO_MEMORY, NO_SUCH_ABOVE, NO_SUCH_MODE, NO_SUCH_OP, NO_SUCH_START, NOT_SERVED, NOTHING_PENDING,
@@ -63,7 +63,7 @@ fn write_next(
 {
     match next {
         Next::Answered(found) => {
-            *answer = answer_numbers(program, &found.reply);
+            write_answer(program, &found.reply, answer);
             OK
         }
         Next::Starved => NO_MEMORY,
@@ -137,8 +137,8 @@ fn publish_last(share: &mut SessionShare, program: Program)
 }
 
 /// Makes turn number `made` of a program, of which there are `turns` at most: as `Session::run_turn` makes it, or, if no turn is left,
-/// publishes the program unless one is pending. Writes the answer; or how to wait before the next turn, 0 if none is left; and how many
-/// sessions are to be woken to `told`.
+/// publishes the program unless one is pending. Writes the answer; or how to wait before the next turn, 0 if none is left. In an office
+/// that wakes it lists whom in the share.
 #[inline(always)]
 fn turn_of(
     share: &mut SessionShare,
@@ -147,30 +147,39 @@ fn turn_of(
     turns: u64,
     answer: &mut ProgramAnswerNumbers,
     wait: &mut u32,
-    told: &mut usize,
 ) -> u32
     requires live { share.old.session.retired ≡ false }
     requires some { 0 < length (calls_of program.now) }
-    ensures ok { result ≡ OK → IsProgramAnswered share.old share.new program.now answer.new }
-    ensures memory { result ≡ NO_MEMORY → IsProgramStarved share.old share.new program.now }
-    ensures late { result ≡ NOT_SERVED → IsProgramLate share.old share.new program.now made turns wait.new }
-    ensures told { AreToWake share.old share.new told.new }
-    ensures few { HasServedWithin 1 share.old share.new }
-    ensures failed { result ≢ OK → answer.new ≡ answer.old }
-    ensures unread { result ≢ NOT_SERVED → wait.new ≡ wait.old }
-    ensures statuses { (result ≡ OK) ⊎ ((result ≡ NO_MEMORY) ⊎ (result ≡ NOT_SERVED)) }
+    ensures turned { HasMadeTurn share.old share.new program.now made turns answer.old answer.new wait.old wait.new result }
+    ensures told { AreToWake share.old share.new (length share.new.told.told.list) }
 {
     forget_told(share);
     if made >= turns {
         publish_last(share, *program);
-        *told = 0;
         *wait = NO_TURN;
         return NOT_SERVED;
     }
     let asked = share.session.program_for(program);
     let next = make_turn(share, program, made);
-    *told = share.told.told.sessions().len();
     write_next(next, &asked, answer, wait)
+}
+
+/// Makes a turn as `turn_of` does. It stands apart, so that a program that is answered by its first turn is quick.
+#[inline(never)]
+fn turn_apart(
+    share: &mut SessionShare,
+    program: &Program,
+    made: u64,
+    turns: u64,
+    answer: &mut ProgramAnswerNumbers,
+    wait: &mut u32,
+) -> u32
+    requires live { share.old.session.retired ≡ false }
+    requires some { 0 < length (calls_of program.now) }
+    ensures turned { HasMadeTurn share.old share.new program.now made turns answer.old answer.new wait.old wait.new result }
+    ensures told { AreToWake share.old share.new (length share.new.told.told.list) }
+{
+    turn_of(share, program, made, turns, answer, wait)
 }
 
 /// Makes turn number `made` of the program that the numbers encode, as `turn_of` does. A session that has something pending before the first
@@ -210,7 +219,14 @@ pub fn run_turn(
     if made == 0 && !share.session.is_idle() {
         return PENDING;
     }
-    turn_of(share, &program, made, turns, answer, wait, told)
+    if made > 0 {
+        let status = turn_apart(share, &program, made, turns, answer, wait);
+        *told = share.told.told.sessions().len();
+        return status;
+    }
+    let status = turn_of(share, &program, made, turns, answer, wait);
+    *told = share.told.told.sessions().len();
+    status
 }
 
 /// Makes turn number `looked` of the pending program, of which there are `turns` at most, as `Session::run_look` makes it. Writes as

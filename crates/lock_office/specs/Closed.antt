@@ -1,4 +1,4 @@
--- What an office of programs leaves when it is closed, and what holds of its history.
+-- What the lock office leaves when it is closed, and what holds of its history.
 use Rattle.std.specs.Prelude.{◌≡◌, ℕ, List, Some, slice_get, All}
 use Rattle.sequential.specs.Histories.{calls_of}
 use Rattle.publication.specs.Views.{BoardView}

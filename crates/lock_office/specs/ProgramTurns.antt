@@ -1,4 +1,4 @@
--- Sessions of an office of programs that make whole programs, turn by turn.
+-- Sessions of the lock office that make whole programs, turn by turn.
 use Rattle.std.specs.Prelude.{◌≡◌, ℕ, ◌<◌, Some, length}
 use Rattle.lock_programs.specs.declared.program.Program.{Program}
 use Rattle.lock_programs.specs.declared.answer.Answer.{Answer as ProgramAnswer}

@@ -1,4 +1,4 @@
--- What contracts see of an office of programs and its sessions: that of any office, with programs of a book as the object.
+-- What contracts see of the lock office and its sessions: that of any office, with programs of a book as the object.
 use Rattle.std.specs.Prelude.{ℕ, List}
 use Rattle.lock_rules.specs.Entries.{Entry}
 use Rattle.lock_programs.specs.declared.program.Program.{Program}

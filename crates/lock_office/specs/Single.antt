@@ -1,4 +1,4 @@
--- Programs of one call, by which an office of programs serves single calls.
+-- Programs of one call, by which the lock office serves single calls.
 use Rattle.std.specs.Prelude.{◌≡◌, List, [], ◌∷◌}
 use Rattle.lock_rules.specs.declared.calls.Call.{Call}
 use Rattle.lock_rules.specs.declared.calls.Reply.{Reply}

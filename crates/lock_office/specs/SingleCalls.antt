@@ -1,4 +1,4 @@
--- Sessions of an office of programs that make single calls: each is a program of one call. What is pending may be a program of several.
+-- Sessions of the lock office that make single calls: each is a program of one call. What is pending may be a program of several.
 use Rattle.std.specs.Prelude.{◌≡◌, ℕ, ◌+◌, ◌-◌, ◌^◌, min, Some, List, [], ◌∷◌, ◌++◌, length}
 use Rattle.lock_rules.specs.declared.calls.Call.{Call}
 use Rattle.lock_rules.specs.declared.calls.Reply.{Reply}

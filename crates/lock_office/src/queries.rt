@@ -4,7 +4,7 @@
 //! gives it back. It serves no calls, changes nothing, and the session need not be idle. The answer is that of one moment: the
 //! number of calls that the history had then comes with it, and the session knows the whole history up to there.
 //!
-//! An office of programs (`Programs<Book>`) can be asked as well: then the calls are those of its programs, laid end to end.
+//! The calls of the lock office are those of its programs, laid end to end.
 
 ghost use Rattle.std.specs.Prelude.{◌≡◌, ◌≢◌, ◌+◌, ◌<◌, ◌≤◌, true, false, [], Some, None, Ok, IfOk, IfErr, IfSome, IfNone, length, vec_capacity};
 ghost use Rattle.lock_rules.specs.State.{held_mode, holders};

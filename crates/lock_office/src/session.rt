@@ -1,4 +1,4 @@
-//! A session that makes single calls and programs at an office of programs: each single call is a program of one call.
+//! A session that makes single calls and programs at the office: each single call is a program of one call.
 //!
 //! Its single calls are those of `combining`, in its files `performing.rt`, `turning.rt`, `calling.rt` and `looking.rt`, and are answered with
 //! the place of the call in the history of calls, and the reply. `running.rt` makes a whole program, turn by turn. `dumping.rt` copies the lock table, `counters.rt` tells its counters, its gauges and the office's

@@ -1,4 +1,4 @@
-//! Sessions of an office of programs that are lent to threads.
+//! Sessions of the lock office that are lent to threads.
 
 ghost use Rattle.std.specs.Prelude.{◌≡◌, All, IfOk};
 ghost use Rattle.combining.specs.Sessions.{IsSessionOf, IsIdle};

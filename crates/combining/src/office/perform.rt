@@ -73,14 +73,15 @@ impl<O: Batching> Office<O> {
         ensures notes { T.notes told.old session.old.front → T.notes told.new session.new.front }
     {
         told.clear();
-        self.perform_adding(session, call, bound, told)
+        self.perform_adding(session, &call, bound, told)
     }
 
     /// Performs as `perform` does, and adds the sessions whose waits the pass and the call have ended to those that were told.
+    #[inline(always)]
     pub(crate) fn perform_adding<T: Told<O>>(
         &self,
         session: &mut Session<O>,
-        call: O::Call,
+        call: &O::Call,
         bound: PassBound,
         told: &mut T,
     ) -> Performed<O::Reply>
@@ -91,7 +92,7 @@ impl<O: Batching> Office<O> {
         ensures ours { IsSessionOf self.now session.new }
         ensures idle { IsIdle session.new }
         ensures answered { (answer : _) (served : _) (starved : _) → result ≡ Performed.Answered answer served starved
-            → IsPerformed O.Sequential (O.goes_first call) session.old session.new call answer.place answer.reply served }
+            → IsPerformed O.Sequential (O.goes_first call.now) session.old session.new call.now answer.place answer.reply served }
         ensures put_back { (answer : _) (served : _) (starved : _) → result ≡ Performed.Answered answer served starved
             → IsTrue starved ↔ (session.old.put_backs < session.new.put_backs) }
         ensures few { length (entered_since session.old session.new) ≤ bound.rounds * bound.calls + 1 }

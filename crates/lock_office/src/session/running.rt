@@ -78,11 +78,10 @@ impl Session {
         if !self.is_idle() {
             return self.run_look(office, made, bound, told);
         }
-        let asked = *program;
-        self.asked = asked;
+        self.asked = *program;
         told.seen = self.seen;
-        let next = combining::turn(office, &mut self.session, &asked, made, bound, told);
-        self.seen = seen_next(told.seen, &asked, &next);
+        let next = combining::turn(office, &mut self.session, program, made, bound, told);
+        self.seen = seen_next(told.seen, program, &next);
         next
     }
 

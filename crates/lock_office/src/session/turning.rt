@@ -19,7 +19,6 @@ use programs::Programs;
 
 impl Session {
     /// Makes one turn of a call, as a program of one call.
-    #[inline(always)]
     pub fn turn<T: Told<Programs<Book>>>(
         &mut self,
         office: &Office,

@@ -20,7 +20,7 @@ returns-clause-told g c =
     let home = c.perform_own.ensures.work.home in
     let own = c.in_ok-answer.ensures.some in
     let whole = ap (λ (x : TicketView _ _). x.front) own.session in
-    let count : length u.front ≡ length t.front + 1 = ap (λ (l : List _). length l) whole ∙ length-append t.front (entry t.number c.args.call c.in_ok-answer.answer.1 ∷ []) in
+    let count : length u.front ≡ length t.front + 1 = ap (λ (l : List _). length l) whole ∙ length-append t.front (entry t.number c.args.call.now c.in_ok-answer.answer.1 ∷ []) in
     let sessions = home.sessions in
     told-step c.args.board.now.sessions (g.O.Sequential.sessions c.perform_own.new.load.object) (g.O.Sequential.history c.perform_own.new.load.object) u.front (length t.front) 1 _ _ _
     home.history (omega (arith, sessions)) count (entered-step t u (c.in_ok-answer.answer.0 ∷ []) (ap (λ (x : TicketView _ _). x.entered) own.session) ∙ ap (λ (k : _). k ∷ []) own.place_is)

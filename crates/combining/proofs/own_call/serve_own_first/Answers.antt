@@ -13,7 +13,7 @@ returns-clause-performed g c =
     let pass = c.serve_rounds in
     let entered = own.new.session in
     let after = pass.new.session in
-    let call = c.args.call in
+    let call = c.args.call.now in
     let served = pass.result.served in
     let e = pass.ensures in
     some_weaker own.result (λ (r : ℕ × _). IsOwnEntered before entered call r.0 r.1) (λ (r : ℕ × _). IsPassWithOwn true before after call r.0 r.1 served)
@@ -34,12 +34,12 @@ returns-clause-told g c =
     let pass = c.serve_rounds in
     told-both c.args.board.now.sessions own.new.session.front pass.new.session.front _ _ _ (g.T.Told.list c.args.told.now) (g.T.Told.list own.new.told) (g.T.Told.list pass.new.told)
     pass.ensures.served.longer
-    (entered-both before own.new.session pass.new.session (own-entered before own.new.session c.args.call own.result own.ensures.some own.ensures.none) (pass-entered own.new.session pass.new.session pass.result.served pass.ensures.pass))
+    (entered-both before own.new.session pass.new.session (own-entered before own.new.session c.args.call.now own.result own.ensures.some own.ensures.none) (pass-entered own.new.session pass.new.session pass.result.served pass.ensures.pass))
     own.ensures.told pass.ensures.told
 
 pub returns-clause-served : goal.returns-clause-served
 returns-clause-served g c =
     let own = c.perform_own_telling-answer in
     let pass = c.serve_rounds in
-    served-first c.args.board.now.sessions c.args.session.now own.new.session pass.new.session c.args.call own.result c.args.load.now own.new.load pass.new.load pass.result.starved pass.result.left
+    served-first c.args.board.now.sessions c.args.session.now own.new.session pass.new.session c.args.call.now own.result c.args.load.now own.new.load pass.new.load pass.result.starved pass.result.left
     own.ensures.some own.ensures.none own.ensures.taken pass.ensures.served

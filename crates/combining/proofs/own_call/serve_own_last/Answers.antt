@@ -11,7 +11,7 @@ returns-clause-performed g c =
     let before = c.args.session.now in
     let own = c.perform_own_telling-answer in
     let pass = c.serve_rounds-pass in
-    let call = c.args.call in
+    let call = c.args.call.now in
     let served = pass.result.served in
     some_weaker own.result (λ (r : ℕ × _). IsOwnEntered pass.new.session own.new.session call r.0 r.1) (λ (r : ℕ × _). IsPassWithOwn false before own.new.session call r.0 r.1 served)
     (λ (r : ℕ × _) is. own_last before pass.new.session own.new.session call r.0 r.1 served pass.ensures.pass pass.ensures.served.longer is) own.ensures.some
@@ -30,13 +30,13 @@ returns-clause-told g c =
     let own = c.perform_own_telling-answer in
     let pass = c.serve_rounds-pass in
     told-both c.args.board.now.sessions pass.new.session.front own.new.session.front _ _ _ (g.T.Told.list c.args.told.now) (g.T.Told.list pass.new.told) (g.T.Told.list own.new.told)
-    (entered-longer pass.new.session own.new.session c.args.call own.result own.ensures.some own.ensures.none)
-    (entered-both before pass.new.session own.new.session (pass-entered before pass.new.session pass.result.served pass.ensures.pass) (own-entered pass.new.session own.new.session c.args.call own.result own.ensures.some own.ensures.none))
+    (entered-longer pass.new.session own.new.session c.args.call.now own.result own.ensures.some own.ensures.none)
+    (entered-both before pass.new.session own.new.session (pass-entered before pass.new.session pass.result.served pass.ensures.pass) (own-entered pass.new.session own.new.session c.args.call.now own.result own.ensures.some own.ensures.none))
     pass.ensures.told own.ensures.told
 
 pub returns-clause-served : goal.returns-clause-served
 returns-clause-served g c =
     let own = c.perform_own_telling-answer in
     let pass = c.serve_rounds-pass in
-    served-last c.args.board.now.sessions c.args.session.now pass.new.session own.new.session c.args.call own.result c.args.load.now pass.new.load own.new.load pass.result.starved pass.result.left
+    served-last c.args.board.now.sessions c.args.session.now pass.new.session own.new.session c.args.call.now own.result c.args.load.now pass.new.load own.new.load pass.result.starved pass.result.left
     own.ensures.some own.ensures.none own.ensures.taken pass.ensures.served

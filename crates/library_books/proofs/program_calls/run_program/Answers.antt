@@ -20,7 +20,7 @@ returns-clause-ran c = λ _.
         made = c.in-Ok-run.made;
         is_asked = c.in-Ok.ensures.ok;
         ran = subst (λ (s : ℕ). HasRun c.args.book.now c.run.new.book s c.in-Ok.program c.in-Ok-run.made) c.in-Some.ensures.some.0 c.in-Ok-run.ensures.done;
-        told = c.answer_numbers.ensures;
+        told = c.write_answer.ensures;
         ended = c.ended.ensures;
       },
     )

@@ -12,5 +12,5 @@ loop-k-preserved c =
     let places = c.args.places.now in
     let suc_is : suc k ≡ k + 1 = omega arith in
     ap (λ ys. set ys k c.reply_numbers.result) c.loop-k.invariant ∙ ap (λ v. set (written numbers_of_reply k replies places) k v) c.reply_numbers.ensures
-    ∙ next_told numbers_of_reply k replies places c.reply.result c.reply.ensures (omega (arith, c.loop-k-test.true, c.served-served.ensures.few, c.requires))
+    ∙ next_told numbers_of_reply k replies places c.reply.result c.reply.ensures (omega (arith, c.loop-k-test.true, c.requires.few, c.requires.places))
     ∙ ap (λ j. written numbers_of_reply j replies places) suc_is

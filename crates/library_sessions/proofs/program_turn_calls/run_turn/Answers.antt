@@ -11,10 +11,10 @@ returns-then-not-is_idle-clause-pending c = λ _.
     (first, some, (c.in-Ok.program, c.in-Ok.ensures.ok))
 
 pub returns-clause-ok : goal.returns-clause-ok
-returns-clause-ok c = λ e. (c.in-Ok.program, c.in-Ok.ensures.ok, c.turn_of.ensures.ok e)
+returns-clause-ok c = λ e. (c.in-Ok.program, c.in-Ok.ensures.ok, c.turn_of-status.ensures.turned.ok e)
 
 pub returns-clause-memory : goal.returns-clause-memory
-returns-clause-memory c = λ e. (c.in-Ok.program, c.in-Ok.ensures.ok, c.turn_of.ensures.memory e)
+returns-clause-memory c = λ e. (c.in-Ok.program, c.in-Ok.ensures.ok, c.turn_of-status.ensures.turned.memory e)
 
 pub returns-clause-late : goal.returns-clause-late
-returns-clause-late c = λ e. (c.in-Ok.program, c.in-Ok.ensures.ok, c.turn_of.ensures.late e)
+returns-clause-late c = λ e. (c.in-Ok.program, c.in-Ok.ensures.ok, c.turn_of-status.ensures.turned.late e)

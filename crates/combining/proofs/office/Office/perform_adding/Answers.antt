@@ -13,7 +13,7 @@ release-requires-clause-took g c =
     let s = c.seize.new.ticket in
     let u = c.serve_with_own-own.new.session in
     let e = c.serve_with_own-own.ensures in
-    let kept = own-taken _ s u c.args.call c.serve_with_own-own.result.1 c.serve_with_own-own.result.0.served e.performed e.refused in
+    let kept = own-taken _ s u c.args.call.now c.serve_with_own-own.result.1 c.serve_with_own-own.result.0.served e.performed e.refused in
     let none : c.serve_with_own-own.new.load.pieces.items ≡ c.in-Some.load.value.pieces.items = search rules in
     let same : u.taken ≡ c.serve_with_own-own.new.load.pieces.items = kept ∙ (ap (λ (x : TicketView _ _). x.taken) c.in-Some.ensures.ticket ∙ sym none) in
     search rules
@@ -25,7 +25,7 @@ returns-in-Some-own-clause-few g c =
     let u = c.serve_with_own-own.new.session in
     let v = c.release.new.ticket in
     let served = c.serve_with_own-own.result.0.served in
-    let own = subst (λ (o : Option (ℕ × _)). IfSome o (λ (r : ℕ × _). IsPassWithOwn (g.O.Serving.goes_first c.args.call) s u c.args.call r.0 r.1 served)) c.in-Some-own.is c.serve_with_own-own.ensures.performed in
+    let own = subst (λ (o : Option (ℕ × _)). IfSome o (λ (r : ℕ × _). IsPassWithOwn (g.O.Serving.goes_first c.args.call.now) s u c.args.call.now r.0 r.1 served)) c.in-Some-own.is c.serve_with_own-own.ensures.performed in
     let entered : v.entered ≡ t.entered ++ range_with_len (length s.front) (served + 1) = ap (λ (x : TicketView _ _). x.entered) c.release.ensures.ticket
     ∙ (own.entered ∙ ap (λ (x : TicketView _ _). x.entered ++ range_with_len (length s.front) (served + 1)) c.in-Some.ensures.ticket) in
     let count = entered-count t v (length s.front) (served + 1) entered in
