@@ -114,8 +114,8 @@ static const pelgaisti_call transfer_calls[TRANSFER_CALLS] = {
     {PELGAISTI_LOCK, PELGAISTI_X, {3, {1, 4, 5}}}};
 
 static const pelgaisti_program transfer_programs[TRANSFER_PROGRAMS] = {
-    {PELGAISTI_COMMITS_AND_BEGINS, 1, PELGAISTI_IX, {PELGAISTI_LOCK, PELGAISTI_X, {3, {1, 2, 3}}}},
-    {PELGAISTI_NOTHING, 2, PELGAISTI_IX, {PELGAISTI_LOCK, PELGAISTI_X, {3, {1, 4, 5}}}}};
+    {PELGAISTI_COMMITS_AND_BEGINS, 0, PELGAISTI_IX, {PELGAISTI_LOCK, PELGAISTI_X, {3, {1, 2, 3}}}},
+    {PELGAISTI_NOTHING, 1, PELGAISTI_IX, {PELGAISTI_LOCK, PELGAISTI_X, {3, {1, 4, 5}}}}};
 
 static void transfer_of_calls(void) {
     pelgaisti_answer answer;

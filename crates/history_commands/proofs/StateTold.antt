@@ -14,6 +14,7 @@ use Rattle.sequential.specs.Histories.{IsEntryWithin}
 use Rattle.lock_explain.proofs.SessionsOfAHistory.{all-inside, inside, waits-open}
 use Rattle.state_rows.specs.Rows.{IsSession, IsWait}
 use Rattle.lock_report.specs.declared.snapshot.OpenTransaction.{OpenTransaction}
+use Rattle.lock_report.specs.declared.snapshot.ToldWait.{ToldWait}
 use Rattle.lock_report.specs.declared.snapshot.Wait.{Wait}
 use Rattle.lock_report.specs.Dot.{dot_of_waits}
 use Rattle.lock_report.specs.LocksDot.{dot_of_locks}
