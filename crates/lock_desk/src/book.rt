@@ -48,6 +48,12 @@ use trimmed_list::{MOST_DROPPED, NO_BOUND, TrimmedList};
 /// behind a cut, and of these the newest up to a bound, the sessions whose wait the last call has ended, and how many deadlocks are kept. The history is always legal: each reply is the one that the
 /// sequential lock manager of `lock_rules` gives in the state that the earlier entries lead to. Entries that are let go stay
 /// in the history that contracts see.
+///
+/// ```text
+/// Book ── history: TrimmedList<Entry>
+///  ├── notes: Notes ── the newest deadlocks and how waits ended; calls by operation and reply
+///  └─ LockTable, in a box
+/// ```
 #[derive(Drop)]
 pub struct Book {
     /// Sessions are numbered from 1 to this number, which is from 1 to `MAX_SESSIONS`.

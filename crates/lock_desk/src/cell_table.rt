@@ -37,6 +37,14 @@ type Resources = IndexSet<Resource, Seeded>;
 ///
 /// The place of a cell is its index in both lists. It is valid until a cell is added or vacated. Giving up a lock or
 /// a request takes no memory here.
+///
+/// ```text
+/// resources   0: 1    1: 1/1   2: 1/2   3: 7  provisional
+/// cells       0: ▪    1: ▪     2: ▪     3: idle   4: idle
+/// ```
+///
+/// A look-up for a lock enters a missing resource as a provisional key, so that a grant needs no second search. If memory for it is refused,
+/// the lock's own cell asks once more.
 #[derive(Drop)]
 pub struct CellTable {
     /// The resources whose cells are in use, and behind them the provisional key, if there is one.

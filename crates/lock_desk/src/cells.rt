@@ -33,6 +33,13 @@ pub enum RequestStatus {
 /// The holders and the wait queue of one resource. An idle cell has neither a holder nor a request.
 ///
 /// A session is in the queue at most once. It can be a holder too: then its request is a conversion.
+///
+/// ```text
+/// Cell of 1/1
+///  ├─ holders    single: 3:X      or columns     sessions  1   2   5
+///  │                                             codes     S   IS  S
+///  └─ waiting    5→X   │   7:IX   4:S            conversions, then fresh requests
+/// ```
 #[derive(Drop)]
 pub struct Cell {
     /// The holders, by session number. There is room for all waiting sessions too, so that a promotion takes no

@@ -54,6 +54,13 @@ pub struct Deadlock {
 ///
 /// Contracts see how many are kept at most, of how many sessions, those that are kept, oldest first, and what is counted of all. Only
 /// `keeping` takes memory.
+///
+/// ```text
+/// slots    5: 2▸1    10: 2▸1      oldest first: the place of the call, then the cycle, victim first
+/// ```
+///
+/// A call that makes more victims than are kept searches for the first so many and for the last: it has chosen all on a copy of the graph,
+/// where victims lose their edges and nobody is granted anything.
 #[derive(Drop)]
 pub struct DeadlockLog {
     /// A slot for each deadlock that may be kept. The newest are at the end.

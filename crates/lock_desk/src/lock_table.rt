@@ -42,6 +42,18 @@ use waits_for::Rows;
 ///
 /// Between two operations, cells and lockers agree on who holds what and who waits for what, and the waits-for graph
 /// is the one that they determine.
+///
+/// ```text
+/// LockTable ── count: transactions begun
+///  ├── cells: CellTable       a cell for each resource that is held or waited for
+///  ├── lockers[session - 1]   a session's transaction, locks and request
+///  ├── waits: Waits           the waits-for graph, and each transaction's number
+///  └── ended: EndedWaits      whose wait the last call or batch has ended
+/// ```
+///
+/// It shows the state that the history leads to (`specs/inner/Shows.antt`). Locks are kept twice, by resource and by session: by cells alone, a
+/// commit would look at the whole table. Each call makes room before its first change that contracts see. A refused growth may leave
+/// memory, a provisional key or an index, which no call shows.
 #[derive(Drop)]
 pub struct LockTable {
     /// How many transactions have begun: the number of the newest one.

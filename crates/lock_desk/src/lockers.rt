@@ -31,6 +31,14 @@ pub enum Request {
 /// No resource stands twice among the locks. If a fresh request waits, its resource isn't held, its parent is, and there
 /// is room for the lock that its grant adds: so a promotion takes no memory. If a conversion waits, its resource is held.
 /// The locks, with that of a fresh request, are at most `MAX_LOCKS`.
+///
+/// ```text
+/// Locker of session 3
+///  ├─ transaction  number 7, doomed: no
+///  ├─ wanted       Fresh(resource) or Conversion(resource)
+///  ├─ parent_hint  where the cells last locked were
+///  └─ held         its locks
+/// ```
 #[derive(Drop)]
 pub struct Locker {
     /// The open transaction of the session, if it has one.

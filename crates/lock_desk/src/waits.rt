@@ -22,7 +22,12 @@ use waits_for::{MAX_SESSIONS, Rows};
 /// A session waits for one resource at most, so a change of one cell changes only the rows of the sessions that wait
 /// there. A request that waits writes its own row, and adds an edge to it for each request behind it. When a session
 /// gives up a lock or a request, or is granted one, the rows of the others change only in their edge to it. After many
-/// grants at once, the rows of all requests that still wait are written anew.
+/// grants at once, more than eight, the rows of all requests that still wait are written anew.
+/// ```text
+/// matrix    1 2 3        bit u of row t: t waits directly for u
+///        2  1 . .        1 holds, 2 and 3 wait for it, 3 also behind 2
+///        3  1 1 .
+/// ```
 #[derive(Drop)]
 pub struct Waits {
     /// The edges: the row of a session has those for whom it waits directly, holders and requests ahead of its own.

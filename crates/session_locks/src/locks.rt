@@ -29,6 +29,13 @@ type Counts = IndexMap<Resource, u32, Seeded>;
 /// Most transactions never release a lock early, so a lock goes into a list first, where it costs no hash. A release of
 /// one among many moves the list into the index, once for each lock. The index says by a count whether a child of a
 /// lock is held, so a release costs the same in whatever order locks go.
+///
+/// ```text
+/// indexed   1 → 2    1/1 → 0    1/2 → 0      resource → how many children are indexed
+/// recent    1/2/1 @14    1/2/2 @15           resource @ place of its cell when granted
+/// ```
+///
+/// Each indexed lock came after its parent.
 #[derive(Drop)]
 pub struct Locks {
     /// The locks that were indexed, each with the number of its children in the index, while `counts_valid`.
