@@ -70,8 +70,10 @@ static double now(void) {
 /* One turn on a new book, with this mutex round each call where there is one. */
 static double serve_all(pthread_mutex_t *mutex) {
     pelgaisti_book book = PELGAISTI_EMPTY;
+    pelgaisti_options options = PELGAISTI_OPTIONS(PELGAISTI_MAX_SESSIONS);
+    options.keep = UINT64_MAX;
     pelgaisti_reply reply;
-    if (pelgaisti_book_open(&book, PELGAISTI_MAX_SESSIONS) != PELGAISTI_OK) exit(4);
+    if (pelgaisti_book_open(&book, &options) != PELGAISTI_OK) exit(4);
     double from = now();
     for (size_t k = 0; k < rows; k++) {
         if (mutex) pthread_mutex_lock(mutex);

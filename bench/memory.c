@@ -39,18 +39,19 @@ static int before(const void *a, const void *b) {
 }
 
 static void make_new(uint32_t count, int times) {
+    const pelgaisti_options options = PELGAISTI_OPTIONS(count);
     size_t book_bytes = 0, office_bytes = 0;
     for (int k = 0; k < times; k++) {
         pelgaisti_book book = PELGAISTI_EMPTY;
         size_t bytes = heap();
         uint64_t from = now();
-        if (pelgaisti_book_open(&book, count) != PELGAISTI_OK) exit(4);
+        if (pelgaisti_book_open(&book, &options) != PELGAISTI_OK) exit(4);
         took[0][k] = now() - from;
         book_bytes = heap() - bytes;
         if (pelgaisti_book_close(&book) != PELGAISTI_OK) exit(6);
         bytes = heap();
         from = now();
-        if (pelgaisti_office_open(sessions, count) != PELGAISTI_OK) exit(4);
+        if (pelgaisti_office_open(sessions, &options) != PELGAISTI_OK) exit(4);
         took[1][k] = now() - from;
         office_bytes = heap() - bytes;
         from = now();
@@ -70,9 +71,11 @@ static double each(size_t bytes, double locks) { return ((double)heap() - (doubl
 static void hold(uint32_t locks) {
     pelgaisti_call begin = {PELGAISTI_BEGIN, 0, {0, {0}}}, commit = {PELGAISTI_COMMIT, 0, {0, {0}}};
     pelgaisti_call lock = {PELGAISTI_LOCK, PELGAISTI_X, {1, {0}}};
+    pelgaisti_options options = PELGAISTI_OPTIONS(SESSIONS);
     pelgaisti_book book = PELGAISTI_EMPTY;
     pelgaisti_reply reply;
-    if (pelgaisti_book_open(&book, SESSIONS) != PELGAISTI_OK || pelgaisti_book_keep_at_most(&book, 0) != PELGAISTI_OK) exit(4);
+    options.keep = 0;
+    if (pelgaisti_book_open(&book, &options) != PELGAISTI_OK) exit(4);
     size_t bytes = heap();
     for (uint32_t session = 1; session <= SESSIONS; session++) {
         if (pelgaisti_book_serve(&book, session, &begin, &reply) != PELGAISTI_OK) exit(5);
@@ -104,11 +107,12 @@ static void take(pelgaisti_book *book) {
 static void make_calls(const char *kept, uint64_t calls) {
     static const uint32_t ops[] = {PELGAISTI_BEGIN, PELGAISTI_LOCK, PELGAISTI_LOCK, PELGAISTI_LOCK, PELGAISTI_COMMIT};
     static const uint32_t modes[] = {0, PELGAISTI_IX, PELGAISTI_IX, PELGAISTI_X, 0};
+    pelgaisti_options options = PELGAISTI_OPTIONS(SESSIONS);
     pelgaisti_book book = PELGAISTI_EMPTY;
     pelgaisti_reply reply;
     int is_taken = !strcmp(kept, "taken");
-    if (pelgaisti_book_open(&book, SESSIONS) != PELGAISTI_OK) exit(4);
-    if (!is_taken && strcmp(kept, "all") && pelgaisti_book_keep_at_most(&book, strtoull(kept, NULL, 10)) != PELGAISTI_OK) exit(4);
+    options.keep = is_taken || !strcmp(kept, "all") ? UINT64_MAX : strtoull(kept, NULL, 10);
+    if (pelgaisti_book_open(&book, &options) != PELGAISTI_OK) exit(4);
     for (uint64_t made = 0; made < calls; made++) {
         uint32_t session = 1 + (uint32_t)(made % SESSIONS), step = (uint32_t)(made / SESSIONS % 5);
         pelgaisti_call call = {0, 0, {0, {0}}};

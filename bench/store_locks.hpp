@@ -3,6 +3,7 @@
 #define BENCH_STORE_LOCKS_HPP
 #include "store_rows.hpp"
 
+#include <semaphore.h>
 #include <rocksdb/utilities/transaction.h>
 #include <rocksdb/utilities/transaction_db.h>
 #ifdef BERKELEY_DB
@@ -19,13 +20,18 @@ class guarded_book {
         bed() { sem_init(&woken, 0, 0); }
         ~bed() { sem_destroy(&woken); }
     };
+    static pelgaisti::options without_history(std::uint32_t clients) {
+        pelgaisti::options how(clients);
+        how.keep = 0;
+        return how;
+    }
     std::mutex guard_;
     pelgaisti::book book_;
     const std::unique_ptr<bed[]> beds_;  // of each session, on which its thread sleeps while its request waits
     std::atomic<std::uint32_t> taken_{0};
 
 public:
-    explicit guarded_book(std::uint32_t clients) : book_(clients), beds_(new bed[clients]) { book_.keep_at_most(0); }
+    explicit guarded_book(std::uint32_t clients) : book_(without_history(clients)), beds_(new bed[clients]) {}
 
     class client {
         using kind = pelgaisti::kind;
@@ -34,20 +40,22 @@ public:
         const std::uint32_t session_;
         start next_ = start::begins;  // with what the next program starts: `nothing` while a transaction is open
         store::held_locks held_;
-        std::vector<std::uint32_t> ended_;
 
         pelgaisti::program_answer run(const pelgaisti::program &calls) {
-            ended_.clear();
+            std::vector<std::uint32_t> ended;
             const auto answer = [&] {
                 const std::lock_guard<std::mutex> lock(of_.guard_);
-                return of_.book_.run(session_, calls, ended_);
+                const auto made = of_.book_.run(session_, calls);
+                ended = of_.book_.ended();
+                return made;
             }();
-            for (std::uint32_t session : ended_) sem_post(&of_.beds_[session - 1].woken);
+            for (std::uint32_t session : ended) sem_post(&of_.beds_[session - 1].woken);
             return answer;
         }
-        kind end_wait() {
+        // Whether the poll behind the wake-up stops, as it does where the session is a victim or waits still.
+        pelgaisti::program_answer end_wait() {
             while (sem_wait(&of_.beds_[session_ - 1].woken) != 0) {}  // a signal may end the sleep early
-            return run(pelgaisti::program(start::nothing, {pelgaisti::op::poll}))[0].kind;
+            return run(pelgaisti::program(start::nothing, {pelgaisti::op::poll}));
         }
 
     public:
@@ -60,14 +68,13 @@ public:
                 const std::size_t before = next_ == start::nothing ? 0 : next_ == start::commits_and_begins ? 2 : 1;
                 const auto answer = run(pelgaisti::program::locks(next_, on, in, level));
                 next_ = start::nothing;
-                if (answer.starved()) throw std::bad_alloc();
-                const auto last = answer[answer.size() - 1];
-                kind ended = last.kind;
-                while (ended == kind::waiting) ended = end_wait();
-                if (ended == kind::deadlock) throw store::must_retry(store::must_retry::reason::deadlock);
-                if (ended == kind::refused) throw std::runtime_error(pelgaisti_refusal_name(last.value));
+                if (answer.starved) throw std::bad_alloc();
+                auto last = answer;
+                while (last.stopped_at(kind::waiting)) last = end_wait();
+                if (last.stopped_at(kind::deadlock)) throw store::must_retry(store::must_retry::reason::deadlock);
+                if (last.stopped()) throw std::runtime_error(name(last.why()));
                 // the level at which it has waited is locked, too
-                for (std::size_t k = before; k < answer.size(); ++k) held_.note(on, ++level, in);
+                for (std::size_t k = before; k < answer.served; ++k) held_.note(on, ++level, in);
             }
         }
         void lock_tree(const path &on, mode in) { lock(on, in); }

@@ -203,7 +203,8 @@ static void unlock_mcs(guarded *g, node *own) {
 /* Runs a worker's program on a book, and adds to the list, which has so many sessions, those whose waits it ends. */
 static void run_on(guarded *g, worker *w, uint32_t *told, size_t *count) {
     size_t ended = 0;
-    if (pelgaisti_book_run(&g->book, w->session, &w->program, &w->answer, told + *count, MOST, &ended)) fail("a book runs no program");
+    if (pelgaisti_book_run(&g->book, w->session, &w->program, &w->answer) || pelgaisti_book_ended(&g->book, told + *count, MOST, &ended))
+        fail("a book runs no program");
     *count += ended;
 }
 
@@ -262,23 +263,27 @@ static pelgaisti_reply call(worker *w, uint32_t op, const pelgaisti_resource *re
     return answer.reply;
 }
 
+/* Notes a reply as the program's last. */
+static void note(worker *w, pelgaisti_reply reply) {
+    w->answer.served++;
+    if (reply.kind == PELGAISTI_WAITING || reply.kind == PELGAISTI_DEADLOCK || reply.kind == PELGAISTI_REFUSED) w->answer.stop = reply.kind;
+}
+
 /* Makes the calls of the program one after another, up to a reply at which it stops. */
 static void by_calls(worker *w) {
     static const pelgaisti_program_answer none;
     const pelgaisti_program *p = &w->program;
     const pelgaisti_resource *whole = &p->last.resource;
-    pelgaisti_reply *reply = w->answer.replies;
     w->answer = none;
-    if (is_end(p->start)) *reply++ = call(w, p->start % 2 == 0 ? PELGAISTI_COMMIT : PELGAISTI_ABORT, NULL, 0);
-    if (p->start == PELGAISTI_BEGINS || p->start >= PELGAISTI_COMMITS_AND_BEGINS) *reply++ = call(w, PELGAISTI_BEGIN, NULL, 0);
-    if (p->last.op == PELGAISTI_POLL) *reply++ = call(w, PELGAISTI_POLL, NULL, 0);
+    if (is_end(p->start)) note(w, call(w, p->start % 2 == 0 ? PELGAISTI_COMMIT : PELGAISTI_ABORT, NULL, 0));
+    if (p->start == PELGAISTI_BEGINS || p->start >= PELGAISTI_COMMITS_AND_BEGINS) note(w, call(w, PELGAISTI_BEGIN, NULL, 0));
+    if (p->last.op == PELGAISTI_POLL) note(w, call(w, PELGAISTI_POLL, NULL, 0));
     for (uint32_t level = p->level + 1; p->last.op == PELGAISTI_LOCK && level <= whole->level; level++) {
         pelgaisti_resource at = {level, {0}};
         memcpy(at.numbers, whole->numbers, level * sizeof *at.numbers);
-        *reply = call(w, PELGAISTI_LOCK, &at, level < whole->level ? p->above : p->last.mode);
-        if (reply++->kind != PELGAISTI_GRANTED) break;
+        note(w, call(w, PELGAISTI_LOCK, &at, level < whole->level ? p->above : p->last.mode));
+        if (w->answer.stop) break;
     }
-    w->answer.served = (uint32_t)(reply - w->answer.replies);
 }
 
 /* CC-Synch (Fatourou and Kallimanis 2012): a thread gives the tail a fresh node and takes the last one, in which it asks. The first of them
@@ -352,7 +357,7 @@ static void by_berkeley(worker *w) {
     }
     if (failed && failed != DB_LOCK_DEADLOCK) fail("Berkeley DB gives no lock");
     w->answer.served = 1;
-    w->answer.replies[0].kind = failed ? PELGAISTI_DEADLOCK : PELGAISTI_GRANTED;
+    w->answer.stop = failed ? PELGAISTI_DEADLOCK : 0;
 }
 #endif
 
@@ -379,11 +384,9 @@ static const way ways[] = {
 static int finish(worker *w) {
     for (;;) {
         pelgaisti_program asked;
-        pelgaisti_reply reply;
         how->make(w);
-        reply = w->answer.replies[w->answer.served - 1];
-        if (w->answer.starved || !w->answer.served || reply.kind == PELGAISTI_REFUSED) fail("a program is refused");
-        if (reply.kind != PELGAISTI_WAITING) return reply.kind != PELGAISTI_DEADLOCK;
+        if (w->answer.starved || !w->answer.served || w->answer.stop == PELGAISTI_REFUSED) fail("a program is refused");
+        if (w->answer.stop != PELGAISTI_WAITING) return w->answer.stop != PELGAISTI_DEADLOCK;
         asked = w->program;
         asked.level += w->answer.served - (asked.start == PELGAISTI_NOTHING ? 0 : asked.start < PELGAISTI_COMMITS_AND_BEGINS ? 1 : 2);
         asked.start = PELGAISTI_NOTHING;
@@ -391,9 +394,8 @@ static int finish(worker *w) {
             while (sem_wait(&woken[w->session]) != 0) continue;
             w->program = (pelgaisti_program){PELGAISTI_NOTHING, 0, 0, {PELGAISTI_POLL, 0, {0, {0}}}};
             how->make(w);
-            reply = w->answer.replies[0];
-        } while (reply.kind == PELGAISTI_WAITING);
-        if (reply.kind != PELGAISTI_CLEAR) return 0;
+        } while (w->answer.stop == PELGAISTI_WAITING);
+        if (w->answer.stop) return 0;
         if (asked.level >= asked.last.resource.level) return 1;
         w->program = asked;
     }
@@ -496,20 +498,23 @@ static void *work(void *argument) {
 static int is_office(void) { return how->make == by_programs || (how->make == by_calls && !how->enter); }
 
 static void open_all(void) {
+    pelgaisti_options options = PELGAISTI_OPTIONS(threads);
     pthread_mutexattr_t kind;
+    options.keep = 0;
+    options.waker = &waker;
     pthread_mutexattr_init(&kind);
     if (!strcmp(how->name, "adaptive")) pthread_mutexattr_settype(&kind, PTHREAD_MUTEX_ADAPTIVE_NP);
     for (unsigned k = 0; k < how->books; k++) {
         pthread_mutex_init(&books[k].mutex, &kind);
         atomic_store(&books[k].tail, NULL);
-        if (pelgaisti_book_open(&books[k].book, threads) || pelgaisti_book_keep_at_most(&books[k].book, 0)) fail("no book");
+        if (pelgaisti_book_open(&books[k].book, &options)) fail("no book");
     }
     if (how->make == by_ccsynch) {
         atomic_store(&books->tail, &nodes[MOST]);
         atomic_store(&nodes[MOST].word, LEADS);
         atomic_store(&nodes[MOST].next, NULL);
     }
-    if (is_office() && pelgaisti_office_open_waking(sessions, threads, 0, &waker)) fail("no office");
+    if (is_office() && pelgaisti_office_open(sessions, &options)) fail("no office");
 #ifdef BERKELEY_DB
     if (how->make == by_berkeley) open_environment();
 #endif

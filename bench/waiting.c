@@ -53,7 +53,10 @@ static void wake(void *engine, uint32_t session) {
 static const pelgaisti_waker waker = {wake, NULL};
 
 static pelgaisti_status open_office(void) {
-    return how == SLEEP ? pelgaisti_office_open_waking(sessions, threads, 0, &waker) : pelgaisti_office_open_keeping(sessions, threads, 0);
+    pelgaisti_options options = PELGAISTI_OPTIONS(threads);
+    options.keep = 0;
+    if (how == SLEEP) options.waker = &waker;
+    return pelgaisti_office_open(sessions, &options);
 }
 
 static pelgaisti_reply ask(worker *w, uint32_t op, uint32_t record) {
@@ -111,7 +114,7 @@ int main(int argc, char **argv) {
     pelgaisti_book book = PELGAISTI_EMPTY;
     pthread_t running[MOST];
     struct rusage used;
-    uint64_t *waits, length = 0, begun;
+    uint64_t *waits, first = 0, length = 0, begun;
     size_t waited = 0;
     double all, seconds, processor;
     int way = 0;
@@ -143,7 +146,7 @@ int main(int argc, char **argv) {
         waited += workers[t].waited;
     }
     for (unsigned t = threads - 1; t > 0; t--) pelgaisti_session_hand_in(&sessions[t], &sessions[0]);
-    if (pelgaisti_office_close(&sessions[0], &book) || pelgaisti_book_length(&book, &length)) return 4;
+    if (pelgaisti_office_close(&sessions[0], &book) || pelgaisti_book_length(&book, &first, &length)) return 4;
     qsort(waits, waited, sizeof *waits, before);
     printf("%-5s %3u threads %3u records: %7.0f transactions a second, %6.1f us of processors and %6.2f calls each; ", ways[way],
            threads, records, all / seconds, processor / all * 1e6, (double)length / all);

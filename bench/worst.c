@@ -8,8 +8,7 @@
                     the mean of a lock of 1,000 further ones once all are held, and the mean of all
        another      the same names in a book with another seed
        ordinary     the same with ordinary names
-       page         a page of 8 of the `locks` of a book that holds 1,048,576; 131,072; 8,192
-       dump         a dump of a book that holds as many
+       dump         a dump of a book that holds 1,048,576; 131,072; 8,192 locks
        commits      in an office: a poll whose pass serves 255 commits of 4,096 locks each
        bound        in a book that keeps at most the newest 2^20 entries of its history: the dearest poll of 2^21 behind the first 2^21
        readers      a commit before 1,023 readers that wait, all of whom are granted
@@ -28,7 +27,6 @@ enum { SESSIONS = 256, LOCKS = 4096, CHOSEN = 262144, FURTHER = 1000, MOST_FIGUR
 
 static pelgaisti_session sessions[PELGAISTI_MAX_SESSIONS];
 static uint32_t names[CHOSEN + FURTHER];
-static pelgaisti_claim page[8];
 
 static uint64_t now(void) {
     struct timespec t;
@@ -56,8 +54,11 @@ static uint64_t serve(pelgaisti_book *book, uint32_t session, pelgaisti_call cal
 }
 
 static void open_seeded(pelgaisti_book *book, uint32_t count, uint64_t bound, uint64_t seed) {
+    pelgaisti_options options = PELGAISTI_OPTIONS(count);
+    options.seed = seed;
+    options.keep = bound;
     *book = (pelgaisti_book)PELGAISTI_EMPTY;
-    if (pelgaisti_book_open_seeded(book, count, seed) || pelgaisti_book_keep_at_most(book, bound)) exit(4);
+    if (pelgaisti_book_open(book, &options)) exit(4);
 }
 
 static void open_book(pelgaisti_book *book, uint32_t count, uint64_t bound) { open_seeded(book, count, bound, SEED); }
@@ -116,21 +117,21 @@ static void give_back(pelgaisti_book *book, uint32_t count) {
 static void shrink(uint64_t *took) {
     static uint32_t others[SESSIONS * LOCKS];
     pelgaisti_book book;
+    pelgaisti_gauges gauges;
     uint64_t from;
-    size_t cells;
     for (uint32_t k = 0; k < SESSIONS * LOCKS; k++) others[k] = SESSIONS * LOCKS + k;
     open_book(&book, SESSIONS, 0);
     hold(&book, SESSIONS, NULL);
     give_back(&book, SESSIONS);
     from = now();
-    if (pelgaisti_book_idle_cells(&book, &cells) || cells != SESSIONS * LOCKS) exit(5);
+    if (pelgaisti_book_gauges(&book, &gauges) || gauges.idle_cells != SESSIONS * LOCKS) exit(5);
     took[0] = now() - from;
     took[1] = hold(&book, SESSIONS, others);
     give_back(&book, SESSIONS);
     from = now();
     if (pelgaisti_book_shrink(&book)) exit(5);
     took[2] = now() - from;
-    if (pelgaisti_book_idle_cells(&book, &cells) || cells != 0 || pelgaisti_book_close(&book)) exit(6);
+    if (pelgaisti_book_gauges(&book, &gauges) || gauges.idle_cells != 0 || pelgaisti_book_close(&book)) exit(6);
 }
 
 static void choose(void) { choose_names(names, CHOSEN + FURTHER, SEED, 12); }
@@ -158,21 +159,6 @@ static void by_the_seed(uint64_t *took) { of_names(took, SEED); }
 
 static void by_another(uint64_t *took) { of_names(took, OTHER_SEED); }
 
-static void pages(uint64_t *took) {
-    static const uint32_t counts[] = {256, 32, 2};
-    for (size_t k = 0; k < 3; k++) {
-        pelgaisti_book book;
-        uint64_t from;
-        size_t count;
-        open_book(&book, SESSIONS, 0);
-        hold(&book, counts[k], NULL);
-        from = now();
-        if (pelgaisti_book_locks(&book, counts[k] * LOCKS / 2, page, 8, &count) || count != counts[k] * LOCKS) exit(4);
-        took[k] = now() - from;
-        if (pelgaisti_book_close(&book)) exit(6);
-    }
-}
-
 static void dumps(uint64_t *took) {
     static const uint32_t counts[] = {256, 32, 2};
     for (size_t k = 0; k < 3; k++) {
@@ -194,7 +180,7 @@ static void dumps(uint64_t *took) {
 
 static pelgaisti_reply perform(uint32_t session, pelgaisti_call call) {
     pelgaisti_answer answer;
-    if (pelgaisti_session_perform_at_once(&sessions[session - 1], &call, NULL, &answer)) exit(4);
+    if (pelgaisti_session_perform(&sessions[session - 1], &call, 1, &answer)) exit(4);
     return answer.reply;
 }
 
@@ -202,8 +188,13 @@ static void commits(uint64_t *took) {
     pelgaisti_call commit = call_of(PELGAISTI_COMMIT, 0, 0);
     pelgaisti_answer answer;
     pelgaisti_book book = PELGAISTI_EMPTY;
+    pelgaisti_options options = PELGAISTI_OPTIONS(SESSIONS);
+    options.keep = 0;
+    options.seed = SEED;
+    options.pass_calls = options.pass_rounds = 65535; /* a pass serves all that is published */
+    options.pass_locks = UINT32_MAX;
     for (uint32_t k = 0; k < SESSIONS; k++) sessions[k] = (pelgaisti_session)PELGAISTI_EMPTY;
-    if (pelgaisti_office_open_seeded(sessions, SESSIONS, 0, NULL, SEED)) exit(4);
+    if (pelgaisti_office_open(sessions, &options)) exit(4);
     for (uint32_t session = 1; session <= SESSIONS; session++) {
         perform(session, call_of(PELGAISTI_BEGIN, 0, 0));
         for (uint32_t k = 0; session > 1 && k < LOCKS; k++) perform(session, call_of(PELGAISTI_LOCK, PELGAISTI_X, session * LOCKS + k));
@@ -268,7 +259,6 @@ static const struct {
     {"chosen", choose, by_the_seed, {"the dearest lock of 262,144 chosen names", "a lock of a further one", "the mean of all"}},
     {"another", choose, by_another, {"the dearest lock of these names with another seed", "a lock of a further one", "the mean of all"}},
     {"ordinary", name_in_order, by_the_seed, {"the dearest lock of 262,144 ordinary names", "a lock of a further one", "the mean of all"}},
-    {"page", NULL, pages, {"a page of 1,048,576 locks", "of 131,072", "of 8,192"}},
     {"dump", NULL, dumps, {"a dump of 1,048,576 locks", "of 131,072", "of 8,192"}},
     {"commits", NULL, commits, {"a poll whose pass serves 255 commits of 4,096 locks"}},
     {"bound", NULL, bound, {"the dearest poll with a bound of 2^20 entries"}},

@@ -231,8 +231,7 @@ static void call_withdraw(void) { serve(CALLER, call_on(PELGAISTI_WITHDRAW, 0, 1
 static void call_run(void) {
     pelgaisti_program program = {PELGAISTI_COMMITS_AND_BEGINS, 0, PELGAISTI_IX, {PELGAISTI_LOCK, PELGAISTI_X, field}};
     pelgaisti_program_answer answer;
-    size_t count;
-    check(pelgaisti_book_run(&book, CALLER, &program, &answer, list, PELGAISTI_MAX_SESSIONS, &count));
+    check(pelgaisti_book_run(&book, CALLER, &program, &answer));
     if (answer.served != 7) exit(6);
 }
 
@@ -286,11 +285,6 @@ static void call_blockers_of_none(void) {
     if (count) exit(21);
 }
 
-static void call_waits_for(void) {
-    uint32_t edge;
-    check(pelgaisti_book_waits_for(&book, CALLER, FIRST, &edge));
-}
-
 static void call_transaction(void) {
     pelgaisti_transaction open;
     check(pelgaisti_book_transaction(&book, CALLER, &open));
@@ -302,12 +296,6 @@ static void call_request(void) {
     if (waiting.kind != PELGAISTI_FRESH) exit(12);
 }
 
-/* A page of `n`. */
-static void call_locks(void) {
-    size_t count;
-    check(pelgaisti_book_locks(&book, 10, claims, quantity("n"), &count));
-}
-
 /* The first `n` rows of it. */
 static void call_dump(void) {
     uint64_t place;
@@ -317,7 +305,7 @@ static void call_dump(void) {
 
 /* All its lines. */
 static void call_dump_line(void) {
-    pelgaisti_dumping at = pelgaisti_dump_begin();
+    pelgaisti_dumping at = PELGAISTI_DUMPING;
     const size_t queue = quantity("queue");
     size_t count, lines = 0;
     uint64_t place;
@@ -376,8 +364,7 @@ static void call_keep_at_most(void) { check(pelgaisti_book_keep_at_most(&book, 1
 
 static void call_length(void) {
     uint64_t length, first;
-    check(pelgaisti_book_length(&book, &length));
-    check(pelgaisti_book_first_kept(&book, &first));
+    check(pelgaisti_book_length(&book, &first, &length));
 }
 
 /* Room for `n` resources. */
@@ -391,12 +378,6 @@ static void idle(void) {
 }
 
 static void call_shrink(void) { check(pelgaisti_book_shrink(&book)); }
-
-static void call_idle_cells(void) {
-    size_t cells;
-    check(pelgaisti_book_idle_cells(&book, &cells));
-    if (cells != quantity("n")) exit(16);
-}
 
 static void call_close(void) { check(pelgaisti_book_close(&book)); }
 
@@ -424,15 +405,14 @@ static void deadlocked(void) {
     call_deadlocks();
 }
 
-static void open_anew(void) {
-    check(pelgaisti_book_close(&book));
-    check(pelgaisti_book_open_seeded(&book, quantity("sessions"), SEED));
+/* With the newest `kept` deadlocks. */
+static void open_it(void) {
+    pelgaisti_options options = PELGAISTI_OPTIONS(quantity("sessions"));
+    options.keep = UINT64_MAX;
+    options.seed = SEED;
+    options.deadlocks = quantity("kept");
+    check(pelgaisti_book_open(&book, &options));
 }
-
-/* `n` deadlocks. */
-static void call_keep_deadlocks(void) { check(pelgaisti_book_keep_deadlocks(&book, quantity("n"))); }
-
-static void call_open(void) { check(pelgaisti_book_open_seeded(&book, quantity("sessions"), SEED)); }
 
 static void close_it(void) { check(pelgaisti_book_close(&book)); }
 
@@ -478,10 +458,8 @@ static const struct row {
     {"holders", readers, call_holders, 0},
     {"blockers", request_behind, call_blockers, 0},
     {"blockers, of a session that doesn't wait", readers_and_queue, call_blockers_of_none, 0},
-    {"waits_for", request_behind, call_waits_for, 0},
     {"transaction", nothing, call_transaction, 0},
     {"request", request_behind, call_request, 0},
-    {"locks", readers_and_queue, call_locks, 0},
     {"dump", readers_and_queue, call_dump, 0},
     {"dump_line, of all lines", writer_before_readers, call_dump_line, 0},
     {"counts", readers_and_queue, call_counts, 0},
@@ -491,14 +469,13 @@ static const struct row {
     {"ended", freed, call_ended, 0},
     {"history", nothing, call_history, 0},
     {"take_history", nothing, call_take_history, 0},
-    {"length, first_kept", nothing, call_length, 0},
+    {"length", nothing, call_length, 0},
     {"keep_at_most", nothing, call_keep_at_most, 0},
     {"reserve, resources", nothing, call_reserve_resources, 1},
     {"shrink", idle, call_shrink, 1},
-    {"idle_cells", idle, call_idle_cells, 1},
     {"deadlocks", deadlocked, call_deadlocks, 0},
-    {"keep_deadlocks", open_anew, call_keep_deadlocks, 1},
-    {"open", close_it, call_open, 1},
+    {"open", close_it, open_it, 1},
+    {"open, to keep deadlocks", close_it, open_it, 1},
     {"close", idle, call_close, 1},
 };
 
@@ -511,8 +488,7 @@ __attribute__((noinline)) void measured_call(void (*call)(void)) {
 }
 
 static void measure(const struct row *row) {
-    check(pelgaisti_book_open_seeded(&book, quantity("sessions"), SEED));
-    if (quantity("kept") > 0) check(pelgaisti_book_keep_deadlocks(&book, quantity("kept")));
+    open_it();
     next_session = FIRST;
     begin(BIG);
     for (uint32_t k = 0; k < quantity("resources"); k++) take(BIG, PELGAISTI_S, MANY + k);

@@ -3,7 +3,7 @@
        reserved   the same, behind a reserve
        chosen     the same of names that were chosen to have hashes alike with the seed of another book
        known      the same of names that were chosen for the seed of this one
-       page       a page of 8 of the `locks` of a book that holds 8,192
+       dump       a dump of a book that holds 8,192 locks
        commits    a call performed at once in an office whose pass serves 63 commits of 4,096 locks each
        readers    a commit before 1,023 readers that wait
        withdraw   a withdrawal from the front of a queue of 1,023
@@ -32,8 +32,10 @@ static void serve(uint32_t session, pelgaisti_call call, uint32_t kind) {
 }
 
 static void open_book(uint32_t count, uint64_t bound) {
-    if (pelgaisti_book_open_seeded(&book, count, SEED) != PELGAISTI_OK || pelgaisti_book_keep_at_most(&book, bound) != PELGAISTI_OK)
-        exit(4);
+    pelgaisti_options options = PELGAISTI_OPTIONS(count);
+    options.seed = SEED;
+    options.keep = bound;
+    if (pelgaisti_book_open(&book, &options) != PELGAISTI_OK) exit(4);
 }
 
 /* Sessions from 1 on hold LOCKS databases each. */
@@ -56,7 +58,7 @@ static void queue_up(uint32_t mode) {
 
 static void perform(uint32_t session, pelgaisti_call call) {
     pelgaisti_answer answer;
-    if (pelgaisti_session_perform_at_once(&sessions[session - 1], &call, NULL, &answer) != PELGAISTI_OK) exit(5);
+    if (pelgaisti_session_perform(&sessions[session - 1], &call, 1, &answer) != PELGAISTI_OK) exit(5);
 }
 
 static void lock_names(void) {
@@ -89,15 +91,20 @@ static void hold_8192(void) {
     hold(2);
 }
 
-static void read_page(void) {
-    static pelgaisti_claim page[8];
+static void dump(void) {
+    static pelgaisti_claim rows[2 * LOCKS + 2];
     size_t count;
-    if (pelgaisti_book_locks(&book, LOCKS, page, 8, &count) != PELGAISTI_OK || count != 2 * LOCKS) exit(7);
+    uint64_t place;
+    if (pelgaisti_book_dump(&book, rows, 2 * LOCKS + 2, &count, &place) != PELGAISTI_OK || count != 2 * LOCKS + 2) exit(7);
 }
 
 static void publish_commits(void) {
     pelgaisti_call commit = call_of(PELGAISTI_COMMIT, 0, 0);
-    if (pelgaisti_office_open_seeded(sessions, 64, 0, NULL, SEED) != PELGAISTI_OK) exit(8);
+    pelgaisti_options options = PELGAISTI_OPTIONS(64);
+    options.keep = 0;
+    options.seed = SEED;
+    options.pass_locks = UINT32_MAX; /* a pass serves all that is published */
+    if (pelgaisti_office_open(sessions, &options) != PELGAISTI_OK) exit(8);
     for (uint32_t session = 1; session <= 64; session++) {
         perform(session, call_of(PELGAISTI_BEGIN, 0, 0));
         for (uint32_t k = 0; session > 1 && k < LOCKS; k++) perform(session, call_of(PELGAISTI_LOCK, PELGAISTI_X, session * LOCKS + k));
@@ -139,7 +146,7 @@ static const struct {
     void (*prepare)(void), (*call)(void);
 } dear[] = {
     {"growth", begin_locks, lock_names},     {"reserved", begin_reserved, lock_names},  {"chosen", begin_chosen, lock_names},
-    {"known", begin_known, lock_names},      {"page", hold_8192, read_page},            {"commits", publish_commits, poll_at_once},
+    {"known", begin_known, lock_names},      {"dump", hold_8192, dump},                 {"commits", publish_commits, poll_at_once},
     {"readers", queue_readers, commit_first}, {"withdraw", queue_writers, withdraw_second}, {"history", keep_1024, poll_on},
     {"idle", give_back_8192, shrink},
 };

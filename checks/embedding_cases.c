@@ -15,9 +15,9 @@
      1 serves some                    makes a pass, and remembers whether it was starved and how many calls it served
      1 collects 3 granted X           collects the answer with place 3
      1 makes commit: 4 committed 1    publishes the call, serves it in a pass of its own, and collects this answer
-     1 performs poll: 5 clear, serving 1          performs the call at once, in a pass that serves one published call
-     1 tells commit: 4 committed 1, serving 0, telling 2 3     the same, and tells sessions 2 and 3
-     1 passes telling 2               makes a pass that tells session 2
+     1 performs poll: 5 clear, serving 1          makes the call in one turn, whose pass serves one published call
+     1 tells commit: 4 committed 1, serving 0, telling 2 3     the same, and the waker is called for sessions 2 and 3
+     1 passes telling 2               makes a pass behind which it is called for session 2
      1 calls poll: 5 clear            makes the call by pelgaisti_session_perform in one turn
      1 resumes 5 clear                goes on with the published call for one turn, and gets this answer
      1 stays                          goes on with the published call for no turn: it stays pending
@@ -47,12 +47,10 @@
    `end: book 2, 0, 2`, if its book has served two calls and keeps two from place 0 on. In every piece of the history and in the book of
    the closed office each call that a session got an answer to has to be at the place that it was told, with its reply. */
 #include "names.h"
-#include "pelgaisti.h"
+#include "open.h"
 #include "program_calls.h"
 #include "refuse_one.h"
 #include <ctype.h>
-#include <stdio.h>
-#include <stdlib.h>
 #include <string.h>
 
 enum { MOST = 8, ROOM = 64, PLACES = 256, LONGEST = 256, LINES = 80, HANDLES = 1 << 16 };
@@ -271,46 +269,64 @@ static int poll(session *own, char *text) {
     return 1;
 }
 
-static int perform(session *own, char *text) {
-    char *wanted = cut(text, ": "), *serving = cut(wanted, ", serving ");
+/* The sessions for which the waker was called, since they were forgotten. */
+static uint32_t woken[MOST];
+static size_t woken_count;
+
+static void note_woken(void *engine, uint32_t session) {
+    (void)engine;
+    if (woken_count < MOST) woken[woken_count] = session;
+    woken_count++;
+}
+
+static const pelgaisti_waker waker = {note_woken, NULL};
+
+/* How many published calls the office's passes have served. */
+static uint64_t served_by_passes(session *own) {
+    pelgaisti_pass_counts passes = {99, 99, 99};
+    pelgaisti_book view = PELGAISTI_EMPTY;
+    look(own, &view);
+    if (pelgaisti_book_passes(&view, &passes) != PELGAISTI_OK) stop("no passes", "");
+    end_look(own, &view);
+    return passes.served;
+}
+
+/* Makes a call in one turn, whose pass serves so many published calls. If memory is refused to it, it is published, and the pass of another
+   turn serves it, too. */
+static int perform_serving(session *own, char *text, char *wanted, const char *serving) {
     pelgaisti_call call = call_of(text);
-    pelgaisti_pass pass = {99, 99};
+    const uint64_t before = served_by_passes(own);
     pelgaisti_answer answer;
     pelgaisti_status status;
+    uint64_t others = number_of(serving);
     if (!is_idle(own)) return 0;
     ask_call(own, &call);
-    status = pelgaisti_session_perform_at_once(own, &call, &pass, &answer);
-    if (status == PELGAISTI_NO_MEMORY) status = pelgaisti_session_perform_at_once(own, &call, &pass, &answer);
-    return status == PELGAISTI_OK && is_answer(own, answer, wanted) && pass.served == number_of(serving) && !pass.starved && is_idle(own);
+    woken_count = 0;
+    status = pelgaisti_session_perform(own, &call, 1, &answer);
+    if (status == PELGAISTI_NO_MEMORY) {
+        others++;
+        status = pelgaisti_session_perform(own, NULL, 1, &answer);
+    }
+    return status == PELGAISTI_OK && is_answer(own, answer, wanted) && served_by_passes(own) == before + others && is_idle(own);
+}
+
+static int perform(session *own, char *text) {
+    char *wanted = cut(text, ": "), *serving = cut(wanted, ", serving ");
+    return perform_serving(own, text, wanted, serving);
 }
 
 static int tell(session *own, char *text) {
     char *wanted = cut(text, ": "), *serving = cut(wanted, ", serving "), *telling = cut(serving, ", telling");
-    pelgaisti_call call = call_of(text);
-    pelgaisti_pass pass = {99, 99};
-    pelgaisti_answer answer;
-    uint32_t told[MOST];
-    size_t length = 99;
-    pelgaisti_status status;
-    if (!is_idle(own)) return 0;
-    ask_call(own, &call);
-    status = pelgaisti_session_perform_telling(own, &call, &pass, &answer, told, MOST, &length);
-    if (status == PELGAISTI_NO_MEMORY) status = pelgaisti_session_perform_telling(own, &call, &pass, &answer, told, MOST, &length);
-    return status == PELGAISTI_OK && is_answer(own, answer, wanted) && pass.served == number_of(serving) && !pass.starved &&
-           is_list(told, length, telling + (*telling == ' '), 0);
+    return perform_serving(own, text, wanted, serving) && is_list(woken, woken_count, telling + (*telling == ' '), 0);
 }
 
 static int pass_telling(session *own, char *text) {
     char *telling = cut(text, "telling");
     pelgaisti_pass pass = {99, 1};
-    uint32_t told[MOST];
-    size_t length = 99;
-    for (int tries = 0; tries < 2 && pass.starved; tries++) {
-        pelgaisti_status status = pelgaisti_session_serve_telling(own, &pass, told, MOST, &length);
-        if (status != PELGAISTI_OK && status != PELGAISTI_NO_MEMORY) return 0;
-        if (status == PELGAISTI_NO_MEMORY) pass.starved = 1;
-    }
-    return !pass.starved && is_list(told, length, telling + (*telling == ' '), 0);
+    woken_count = 0;
+    for (int tries = 0; tries < 2 && pass.starved; tries++)
+        if (pelgaisti_session_serve(own, &pass) != PELGAISTI_OK) return 0;
+    return !pass.starved && is_list(woken, woken_count, telling + (*telling == ' '), 0);
 }
 
 /* Goes on with the published call for one turn; a second time if memory is refused for a call. */
@@ -350,17 +366,18 @@ static int is_run(session *own, char *text, int is_pending) {
     pelgaisti_call calls[PELGAISTI_CALLS];
     pelgaisti_program program = asked[own - sessions];
     pelgaisti_program_answer answer;
-    pelgaisti_reply wanted = {0, 0};
+    pelgaisti_reply wanted = {0, 0}, replies[PELGAISTI_CALLS];
     size_t done = 0, all = calls_asked(own, calls);
     do {
         pelgaisti_status status = pelgaisti_session_run(own, is_pending ? NULL : &program, 1, &answer);
         if (status == PELGAISTI_NO_MEMORY) status = pelgaisti_session_run(own, NULL, 1, &answer);
         if (status != PELGAISTI_OK || answer.place != place + done) return 0;
+        if (pelgaisti_program_replies(&program, &answer, replies) != answer.served) return 0;
         for (size_t k = 0; k < answer.served; k++, done++, reply = rest) {
             if (!*reply) return 0;
             rest = cut(reply, ", ");
             wanted = reply_of(reply);
-            if (done == all || !same_reply(&answer.replies[k], &wanted) || !note(own, &calls[done], place + done, wanted)) return 0;
+            if (done == all || !same_reply(&replies[k], &wanted) || !note(own, &calls[done], place + done, wanted)) return 0;
         }
         program = rest_of(program, answer.served);
         is_pending = 0;
@@ -438,80 +455,102 @@ static int is_claim(const pelgaisti_claim *claim, char *text) {
            claim->doomed == 0 && claim->mode == mode_of(mode) && same_resource(&claim->resource, &wanted);
 }
 
-static int ask_list(session *own, const char *word, char *about, char *found, uint64_t *seen) {
+static int ask_list(pelgaisti_book *view, const char *word, char *about, char *found) {
     pelgaisti_resource resource = {1, {0}};
     pelgaisti_holder holders[MOST];
     pelgaisti_claim claims[ROOM];
     uint32_t blockers[MOST];
-    size_t length = 99, at = 0;
+    uint64_t place;
+    size_t length = 99, at = 0, open = 0;
     pelgaisti_status status = PELGAISTI_NO_MEMORY;
     int is_of_holders = !strcmp(word, "holders"), is_of_blockers = !strcmp(word, "blockers");
     if (!is_of_holders && !is_of_blockers && strcmp(word, "locks")) stop("not a question", word);
     if (is_of_holders) resource = resource_of(about);
     for (int tries = 0; tries < 2 && status == PELGAISTI_NO_MEMORY; tries++) {
         if (is_of_holders)
-            status = pelgaisti_session_holders(own, &resource, holders, MOST, &length, seen);
+            status = pelgaisti_book_holders(view, &resource, holders, MOST, &length);
         else if (is_of_blockers)
-            status = pelgaisti_session_blockers(own, (uint32_t)number_of(about), blockers, MOST, &length, seen);
+            status = pelgaisti_book_blockers(view, (uint32_t)number_of(about), blockers, MOST, &length);
         else
-            status = pelgaisti_session_locks(own, 0, claims, ROOM, &length, seen);
+            status = pelgaisti_book_dump(view, claims, ROOM, &length, &place);
     }
     if (is_of_blockers && status == PELGAISTI_NO_SUCH_SESSION) return !strcmp(found, "no such session");
     if (status != PELGAISTI_OK) return 0;
     if (is_of_blockers) return is_list(blockers, length, found, 1);
+    while (!is_of_holders && open < length && claims[open].kind == PELGAISTI_TRANSACTION_ROW) open++; /* they come before the claims */
     for (char *rest; *found; found = rest, at++) {
         rest = cut(found, ", ");
-        if (at >= length) return 0;
+        if (open + at >= length) return 0;
         if (is_of_holders) {
             char *mode = cut(found, " ");
             if (holders[at].session != number_of(found) || holders[at].mode != mode_of(mode)) return 0;
-        } else if (!is_claim(&claims[at], found)) {
+        } else if (!is_claim(&claims[open + at], found)) {
             return 0;
         }
     }
-    return at == length;
+    return open + at == length;
 }
 
-/* Asks a question, as `held 2 1`, and wants this behind so many calls, as `6 X`. Of a session that the office doesn't have it wants
+/* Whether the session waits directly for the other one: 1 or 0. */
+static pelgaisti_status ask_edge(pelgaisti_book *view, uint32_t whose, uint32_t other, uint32_t *edge) {
+    uint32_t blockers[MOST];
+    size_t length = 0;
+    pelgaisti_status status = pelgaisti_book_blockers(view, whose, blockers, MOST, &length);
+    if (other < 1 || other > count) status = PELGAISTI_NO_SUCH_SESSION;
+    if (status != PELGAISTI_OK) return status;
+    *edge = 0;
+    for (size_t k = 0; k < length; k++) *edge |= blockers[k] == other;
+    return status;
+}
+
+/* Asks a question of a view, as `held 2 1`, and wants this behind so many calls, as `6 X`. Of a session that the office doesn't have it wants
    `no such session`. */
-static int ask(session *own, char *text) {
+static int ask_view(pelgaisti_book *view, char *text) {
     char *wanted = cut(text, ": "), *about = cut(text, " "), *found = wanted;
-    uint64_t seen = UINT64_MAX;
-    pelgaisti_status status;
+    uint64_t first, seen = UINT64_MAX;
+    pelgaisti_status status = PELGAISTI_OK;
     int is_so, is_off = !strcmp(wanted, "no such session");
     if (!is_off) found = cut(wanted, " ");
+    if (pelgaisti_book_length(view, &first, &seen) != PELGAISTI_OK) return 0;
     if (!strcmp(text, "held")) {
         char *at = cut(about, " ");
         pelgaisti_resource resource = resource_of(at);
         uint32_t mode = 99;
-        status = pelgaisti_session_held(own, (uint32_t)number_of(about), &resource, &mode, &seen);
+        status = pelgaisti_book_held(view, (uint32_t)number_of(about), &resource, &mode);
         is_so = mode == (!strcmp(found, "nothing") ? (uint32_t)PELGAISTI_NL : is_off ? 99 : mode_of(found));
     } else if (!strcmp(text, "waits")) {
         char *other = cut(about, " ");
         uint32_t edge = 99;
-        status = pelgaisti_session_waits_for(own, (uint32_t)number_of(about), (uint32_t)number_of(other), &edge, &seen);
+        status = ask_edge(view, (uint32_t)number_of(about), (uint32_t)number_of(other), &edge);
         is_so = edge == (!strcmp(found, "true") ? 1u : is_off ? 99u : 0u);
     } else if (!strcmp(text, "transaction")) {
         pelgaisti_transaction open = {99, 99};
-        status = pelgaisti_session_transaction(own, (uint32_t)number_of(about), &open, &seen);
+        status = pelgaisti_book_transaction(view, (uint32_t)number_of(about), &open);
         is_so = is_off || (open.number == (!strcmp(found, "nothing") ? 0 : number_of(found)) && open.doomed == 0);
     } else if (!strcmp(text, "request")) {
         pelgaisti_claim claim;
         memset(&claim, 0x55, sizeof claim);
-        status = pelgaisti_session_request(own, (uint32_t)number_of(about), &claim, &seen);
+        status = pelgaisti_book_request(view, (uint32_t)number_of(about), &claim);
         is_so = is_off || (!strcmp(found, "nothing") ? claim.kind == 0 : is_claim(&claim, found));
     } else if (!strcmp(text, "passes")) {
         pelgaisti_pass_counts passes = {99, 99, 99};
         char line[LONGEST];
-        status = pelgaisti_session_passes(own, &passes, &seen);
+        status = pelgaisti_book_passes(view, &passes);
         sprintf(line, "made %lu, served %lu, starved %lu", (unsigned long)passes.made, (unsigned long)passes.served, (unsigned long)passes.starved);
         is_so = !strcmp(line, found);
     } else {
-        is_so = ask_list(own, text, about, found, &seen);
-        status = PELGAISTI_OK;
+        is_so = ask_list(view, text, about, found);
         if (is_off) return is_so;
     }
     return is_so && (is_off ? status == PELGAISTI_NO_SUCH_SESSION : status == PELGAISTI_OK && seen == number_of(wanted));
+}
+
+static int ask(session *own, char *text) {
+    pelgaisti_book view = PELGAISTI_EMPTY;
+    look(own, &view);
+    const int is_so = ask_view(&view, text);
+    end_look(own, &view);
+    return is_so;
 }
 
 static int hear(session *own, const char *text) {
@@ -624,9 +663,9 @@ static pelgaisti_status close_office(session *own, pelgaisti_book *book) {
 /* Whether each entry that the book keeps is the one that is noted at its place, if one is. */
 static int is_history(pelgaisti_book *book) {
     static pelgaisti_entry entries[PLACES];
-    uint64_t first = 0;
+    uint64_t first = 0, served;
     size_t length = PLACES;
-    if (pelgaisti_book_first_kept(book, &first) != PELGAISTI_OK) return 0;
+    if (pelgaisti_book_length(book, &first, &served) != PELGAISTI_OK) return 0;
     if (pelgaisti_book_history(book, first, entries, PLACES, &length) != PELGAISTI_OK) return 0;
     for (size_t k = 0; k < length; k++)
         if (!is_noted(&entries[k], first + k)) return 0;
@@ -639,8 +678,7 @@ static int is_book(pelgaisti_book *book, char *wanted) {
     pelgaisti_entry entries[ROOM];
     uint64_t served = 99, kept = 99;
     size_t length = 99;
-    return pelgaisti_book_length(book, &served) == PELGAISTI_OK && served == number_of(wanted) &&
-           pelgaisti_book_first_kept(book, &kept) == PELGAISTI_OK && kept == number_of(first) &&
+    return pelgaisti_book_length(book, &kept, &served) == PELGAISTI_OK && served == number_of(wanted) && kept == number_of(first) &&
            pelgaisti_book_history(book, kept, entries, ROOM, &length) == PELGAISTI_OK && length == number_of(many);
 }
 
@@ -674,8 +712,8 @@ static const char *perform_case(void) {
     count = one.sessions;
     starved = starved_then = 0;
     refused_in_some = 0;
-    status = pelgaisti_office_open_keeping(sessions, count, one.bound);
-    if (status == PELGAISTI_NO_MEMORY) status = pelgaisti_office_open_keeping(sessions, count, one.bound);
+    status = open_office_with(sessions, count, one.bound, &waker, 0);
+    if (status == PELGAISTI_NO_MEMORY) status = open_office_with(sessions, count, one.bound, &waker, 0);
     if (status != PELGAISTI_OK) return "the office was not opened";
     wrong = perform_lines();
     if (wrong) return wrong;

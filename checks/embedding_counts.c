@@ -8,15 +8,13 @@
 #include "history.h"
 #include "must.h"
 #include "names.h"
-#include "pelgaisti.h"
+#include "open.h"
 #include "rows.h"
 #include <inttypes.h>
 #include <pthread.h>
-#include <stdio.h>
-#include <stdlib.h>
 #include <string.h>
 
-enum { TRACED = 12, THREADS = 64, WORDS = sizeof(pelgaisti_counts) / sizeof(uint64_t) };
+enum { TRACED = 12, THREADS = 64, ROOM = 8192, WORDS = sizeof(pelgaisti_counts) / sizeof(uint64_t) };
 
 /* The counters are words of 64 bits, one behind another. */
 typedef union counters {
@@ -34,30 +32,10 @@ static counters counts_of_book(pelgaisti_book *book) {
     return made;
 }
 
-static counters counts_of_office(pelgaisti_session *session, uint64_t *seen) {
-    counters made;
-    pelgaisti_status status;
-    memset(&made, 0x55, sizeof made);
-    do status = pelgaisti_session_counts(session, &made.of, seen);
-    while (status == PELGAISTI_ELSEWHERE);
-    MUST(status == PELGAISTI_OK);
-    return made;
-}
-
 static pelgaisti_gauges gauges_of_book(pelgaisti_book *book) {
     pelgaisti_gauges made;
     memset(&made, 0x55, sizeof made);
     MUST(pelgaisti_book_gauges(book, &made) == PELGAISTI_OK);
-    return made;
-}
-
-static pelgaisti_gauges gauges_of_office(pelgaisti_session *session, uint64_t *seen) {
-    pelgaisti_gauges made;
-    pelgaisti_status status;
-    memset(&made, 0x55, sizeof made);
-    do status = pelgaisti_session_gauges(session, &made, seen);
-    while (status == PELGAISTI_ELSEWHERE);
-    MUST(status == PELGAISTI_OK);
     return made;
 }
 
@@ -72,6 +50,32 @@ static void must_add_up(const pelgaisti_counts *is, uint64_t length) {
     MUST(is->requests == is->granted_at_once + is->waits_begun + is->requests_refused);
     MUST(is->waits_begun == is->waits_granted + is->victims + is->waits_withdrawn + is->waits_aborted + is->waits_restarted + is->waiting);
     MUST(is->deadlocks <= is->victims);
+}
+
+/* The counters of an open office, by a look, at which all questions are of one moment: the gauges are what the dump has, the waiting requests
+   what the counters have, and the dump has the length of the history. */
+static counters counts_of_office(pelgaisti_session *session, uint64_t *seen, pelgaisti_gauges *now) {
+    static pelgaisti_claim rows[ROOM];
+    pelgaisti_book view = PELGAISTI_EMPTY;
+    pelgaisti_gauges found = {0, 0, 0, 0, 0};
+    uint64_t first, place;
+    counters made;
+    size_t count;
+    look(session, &view);
+    made = counts_of_book(&view);
+    *now = gauges_of_book(&view);
+    MUST(pelgaisti_book_length(&view, &first, seen) == PELGAISTI_OK && first == 0);
+    MUST(pelgaisti_book_dump(&view, rows, ROOM, &count, &place) == PELGAISTI_OK && place == *seen && count <= ROOM);
+    end_look(session, &view);
+    for (size_t k = 0; k < count; k++) {
+        found.transactions += rows[k].kind == PELGAISTI_TRANSACTION_ROW;
+        found.locks += rows[k].kind == PELGAISTI_HELD;
+        found.waiting += rows[k].kind > PELGAISTI_HELD;
+    }
+    MUST(now->transactions == found.transactions && now->locks == found.locks && now->waiting == found.waiting);
+    MUST(made.of.waiting == found.waiting && now->longest_queue <= found.waiting);
+    must_add_up(&made.of, *seen);
+    return made;
 }
 
 static pelgaisti_call call_of(uint32_t op, uint32_t mode, uint32_t database, uint32_t file) {
@@ -170,6 +174,16 @@ static void must_have_moved(const counters *old, const counters *new, size_t row
     }
 }
 
+/* Expects so many passes of the office, which have served so many published calls. A look is none. */
+static void must_have_passes(pelgaisti_session *session, uint64_t made, uint64_t served) {
+    pelgaisti_book view = PELGAISTI_EMPTY;
+    pelgaisti_pass_counts passes = {99, 99, 99};
+    look(session, &view);
+    MUST(pelgaisti_book_passes(&view, NULL) == PELGAISTI_NULL);
+    MUST(pelgaisti_book_passes(&view, &passes) == PELGAISTI_OK && passes.made == made && passes.served == served && passes.starved == 0);
+    end_look(session, &view);
+}
+
 /* The passes of two sessions: one that serves nothing, one that serves what the other has published, and a whole call at once, whose pass
    finds nothing. */
 static void count_passes(void) {
@@ -178,38 +192,32 @@ static void count_passes(void) {
     pelgaisti_pass_counts passes = {99, 99, 99};
     pelgaisti_book book = PELGAISTI_EMPTY;
     pelgaisti_answer answer;
-    uint64_t seen = 99;
-    MUST(pelgaisti_session_passes(&two[0], &passes, &seen) == PELGAISTI_CLOSED && passes.made == 99 && seen == 99);
-    MUST(pelgaisti_office_open(two, 2) == PELGAISTI_OK);
-    MUST(pelgaisti_session_passes(&two[0], NULL, &seen) == PELGAISTI_NULL && pelgaisti_session_passes(&two[0], &passes, NULL) == PELGAISTI_NULL);
-    MUST(pelgaisti_session_passes(&two[0], &passes, &seen) == PELGAISTI_OK && passes.made == 0 && passes.served == 0 && passes.starved == 0 && seen == 0);
+    MUST(open_sessions(two, 2) == PELGAISTI_OK);
+    must_have_passes(&two[0], 0, 0);
     MUST(pelgaisti_session_serve(&two[0], NULL) == PELGAISTI_OK && pelgaisti_session_publish(&two[1], &begin, NULL) == PELGAISTI_OK);
     MUST(pelgaisti_session_serve(&two[0], NULL) == PELGAISTI_OK && pelgaisti_session_collect(&two[1], &answer) == PELGAISTI_OK);
-    MUST(pelgaisti_session_passes(&two[1], &passes, &seen) == PELGAISTI_OK && passes.made == 2 && passes.served == 1 && passes.starved == 0 && seen == 1);
+    must_have_passes(&two[1], 2, 1);
     MUST(pelgaisti_session_perform(&two[0], &begin, UINT64_MAX, &answer) == PELGAISTI_OK);
-    MUST(pelgaisti_session_passes(&two[1], &passes, &seen) == PELGAISTI_OK && passes.made == 3 && passes.served == 1 && passes.starved == 0 && seen == 2);
+    must_have_passes(&two[1], 3, 1);
     MUST(pelgaisti_session_hand_in(&two[1], &two[0]) == PELGAISTI_OK && pelgaisti_office_close(&two[0], &book) == PELGAISTI_OK);
-    MUST(pelgaisti_book_close(&book) == PELGAISTI_OK);
+    /* a book that is no view has none */
+    MUST(pelgaisti_book_passes(&book, &passes) == PELGAISTI_OK && passes.made == 0 && passes.served == 0 && passes.starved == 0);
+    MUST(pelgaisti_book_close(&book) == PELGAISTI_OK && pelgaisti_book_passes(&book, &passes) == PELGAISTI_CLOSED);
 }
 
 static void count_by_hand(void) {
     static pelgaisti_session sessions[4];
     pelgaisti_book book = PELGAISTI_EMPTY, closed = PELGAISTI_EMPTY;
     counters of_book, of_office;
-    pelgaisti_gauges gauges = {99, 99, 99, 99};
-    uint64_t seen = 99, moved = 0;
-    for (int k = 0; k < 4; k++) sessions[k] = pelgaisti_empty_session();
+    pelgaisti_gauges gauges = {99, 99, 99, 99, 99};
+    uint64_t seen, moved = 0;
     memset(&of_book, 0, sizeof of_book);
-    MUST(pelgaisti_book_gauges(&closed, &gauges) == PELGAISTI_CLOSED && gauges.locks == 99 && seen == 99);
-    MUST(pelgaisti_session_gauges(&sessions[0], &gauges, &seen) == PELGAISTI_CLOSED && gauges.locks == 99 && seen == 99);
+    MUST(pelgaisti_book_gauges(&closed, &gauges) == PELGAISTI_CLOSED && gauges.locks == 99);
     MUST(pelgaisti_book_counts(&closed, &of_book.of) == PELGAISTI_CLOSED && pelgaisti_book_counts(NULL, &of_book.of) == PELGAISTI_NULL);
-    MUST(pelgaisti_session_counts(&sessions[0], &of_book.of, &seen) == PELGAISTI_CLOSED && seen == 99);
-    MUST(pelgaisti_book_open(&book, 4) == PELGAISTI_OK && pelgaisti_office_open(sessions, 4) == PELGAISTI_OK);
-    MUST(pelgaisti_book_counts(&book, NULL) == PELGAISTI_NULL && pelgaisti_session_counts(&sessions[0], NULL, &seen) == PELGAISTI_NULL);
-    MUST(pelgaisti_book_gauges(&book, NULL) == PELGAISTI_NULL && pelgaisti_session_gauges(&sessions[0], NULL, &seen) == PELGAISTI_NULL);
-    MUST(pelgaisti_session_counts(&sessions[0], &of_book.of, NULL) == PELGAISTI_NULL && seen == 99);
+    MUST(open_book(&book, 4) == PELGAISTI_OK && open_sessions(sessions, 4) == PELGAISTI_OK);
+    MUST(pelgaisti_book_counts(&book, NULL) == PELGAISTI_NULL && pelgaisti_book_gauges(&book, NULL) == PELGAISTI_NULL);
     count_passes();
-    of_office = counts_of_office(&sessions[0], &seen);
+    of_office = counts_of_office(&sessions[0], &seen, &gauges);
     MUST(seen == 0 && !memcmp(&of_book, &of_office, sizeof of_book));
     for (size_t row = 0; row < COUNT(made_by_hand); row++) {
         uint32_t session = made_by_hand[row].session;
@@ -222,7 +230,7 @@ static void count_by_hand(void) {
         must_have_moved(&of_book, &now, row);
         must_add_up(&now.of, row + 1);
         of_book = now;
-        of_office = counts_of_office(&sessions[row % 4], &seen);
+        of_office = counts_of_office(&sessions[row % 4], &seen, &gauges);
         MUST(seen == row + 1 && !memcmp(&of_book, &of_office, sizeof of_book));
     }
     for (int k = 0; k < WORDS; k++) moved += of_book.word[k] > 0 || k == WORD(waiting);
@@ -235,14 +243,15 @@ static void count_by_hand(void) {
     MUST(pelgaisti_book_close(&book) == PELGAISTI_OK && pelgaisti_book_close(&closed) == PELGAISTI_OK);
 }
 
-/* Two readers wait for a writer, and are granted by its commit: what the gauges tell then. */
+/* Two readers wait for a writer, and are granted by its commit; behind theirs the cell of the resource is idle, until it is given back: what
+   the gauges tell then. */
 static void gauge_a_queue(void) {
-    static const pelgaisti_gauges queued = {3, 1, 2, 2}, granted = {2, 2, 0, 0};
+    static const pelgaisti_gauges queued = {3, 1, 2, 2, 0}, granted = {2, 2, 0, 0, 0}, idle = {0, 0, 0, 0, 1}, shrunk = {0, 0, 0, 0, 0};
     pelgaisti_book book = PELGAISTI_EMPTY;
     pelgaisti_call begin = call_of(PELGAISTI_BEGIN, 0, 0, 0), commit = call_of(PELGAISTI_COMMIT, 0, 0, 0);
     pelgaisti_gauges now;
     pelgaisti_reply reply;
-    MUST(pelgaisti_book_open(&book, 3) == PELGAISTI_OK);
+    MUST(open_book(&book, 3) == PELGAISTI_OK);
     for (uint32_t session = 1; session <= 3; session++) {
         pelgaisti_call lock = call_of(PELGAISTI_LOCK, session == 1 ? PELGAISTI_X : PELGAISTI_S, 1, 0);
         MUST(pelgaisti_book_serve(&book, session, &begin, &reply) == PELGAISTI_OK);
@@ -252,7 +261,12 @@ static void gauge_a_queue(void) {
     MUST(!memcmp(&now, &queued, sizeof now));
     MUST(pelgaisti_book_serve(&book, 1, &commit, &reply) == PELGAISTI_OK);
     now = gauges_of_book(&book);
-    MUST(!memcmp(&now, &granted, sizeof now) && pelgaisti_book_close(&book) == PELGAISTI_OK);
+    MUST(!memcmp(&now, &granted, sizeof now));
+    for (uint32_t session = 2; session <= 3; session++) MUST(pelgaisti_book_serve(&book, session, &commit, &reply) == PELGAISTI_OK);
+    now = gauges_of_book(&book);
+    MUST(!memcmp(&now, &idle, sizeof now) && pelgaisti_book_shrink(&book) == PELGAISTI_OK);
+    now = gauges_of_book(&book);
+    MUST(!memcmp(&now, &shrunk, sizeof now) && pelgaisti_book_close(&book) == PELGAISTI_OK);
 }
 
 /* The calls of batches, paths and programs count by themselves, and so do those whose entries are let go. */
@@ -262,11 +276,10 @@ static void count_several(void) {
     pelgaisti_entry batch[2];
     pelgaisti_reply reply;
     pelgaisti_program_answer answer;
-    uint32_t list[2];
     size_t count;
     counters now;
     memset(batch, 0, sizeof batch);
-    MUST(pelgaisti_book_open(&book, 2) == PELGAISTI_OK && pelgaisti_book_keep_at_most(&book, 1) == PELGAISTI_OK);
+    MUST(open_book(&book, 2) == PELGAISTI_OK && pelgaisti_book_keep_at_most(&book, 1) == PELGAISTI_OK);
     for (uint32_t k = 0; k < 2; k++) {
         batch[k].session = k + 1;
         batch[k].call = call_of(PELGAISTI_BEGIN, 0, 0, 0);
@@ -279,12 +292,12 @@ static void count_several(void) {
     now = counts_of_book(&book);
     MUST(now.of.calls[PELGAISTI_LOCK] == 2 && now.of.granted_at_once == 2);
     pelgaisti_program path = {PELGAISTI_NOTHING, 0, PELGAISTI_IX, {PELGAISTI_LOCK, PELGAISTI_X, page}};
-    MUST(pelgaisti_book_run(&book, 1, &path, &answer, list, 2, &count) == PELGAISTI_OK && answer.served == 3 && answer.stop == 0);
+    MUST(pelgaisti_book_run(&book, 1, &path, &answer) == PELGAISTI_OK && answer.served == 3 && answer.stop == 0);
     now = counts_of_book(&book);
     MUST(now.of.calls[PELGAISTI_LOCK] == 5 && now.of.granted_at_once == 5);
     /* commit, begin, and a path whose database is granted; the second session then waits for the page */
     pelgaisti_program program = {PELGAISTI_COMMITS_AND_BEGINS, 0, PELGAISTI_IX, {PELGAISTI_LOCK, PELGAISTI_X, page}};
-    MUST(pelgaisti_book_run(&book, 2, &program, &answer, list, 2, &count) == PELGAISTI_OK && answer.served == 5);
+    MUST(pelgaisti_book_run(&book, 2, &program, &answer) == PELGAISTI_OK && answer.served == 5);
     now = counts_of_book(&book);
     MUST(now.of.calls[PELGAISTI_COMMIT] == 1 && now.of.calls[PELGAISTI_BEGIN] == 3 && now.of.calls[PELGAISTI_LOCK] == 8);
     MUST(now.of.granted_at_once == 7 && now.of.waits_begun == 1 && now.of.waiting == 1);
@@ -319,8 +332,7 @@ static void count_trace(void) {
     pelgaisti_book book = PELGAISTI_EMPTY;
     char line[256];
     uint64_t length = 0, seen;
-    for (int k = 0; k < TRACED; k++) sessions[k] = pelgaisti_empty_session();
-    MUST(pelgaisti_book_open(&book, TRACED) == PELGAISTI_OK && pelgaisti_office_open(sessions, TRACED) == PELGAISTI_OK);
+    MUST(open_book(&book, TRACED) == PELGAISTI_OK && open_sessions(sessions, TRACED) == PELGAISTI_OK);
     for (; fgets(line, sizeof line, stdin); length++) {
         pelgaisti_call call;
         pelgaisti_reply reply;
@@ -329,11 +341,9 @@ static void count_trace(void) {
         MUST(session > 0 && session <= TRACED);
         MUST(pelgaisti_book_serve(&book, session, &call, &reply) == PELGAISTI_OK);
         MUST(pelgaisti_session_perform(&sessions[session - 1], &call, UINT64_MAX, &answer) == PELGAISTI_OK);
-        counters of_book = counts_of_book(&book), of_office = counts_of_office(&sessions[0], &seen);
-        MUST(seen == length + 1 && !memcmp(&of_book, &of_office, sizeof of_book));
-        must_add_up(&of_book.of, seen);
-        pelgaisti_gauges now = gauges_of_book(&book), seen_now = gauges_of_office(&sessions[0], &seen);
-        MUST(seen == length + 1 && !memcmp(&now, &seen_now, sizeof now) && now.waiting == of_book.of.waiting);
+        pelgaisti_gauges now = gauges_of_book(&book), seen_now;
+        counters of_book = counts_of_book(&book), of_office = counts_of_office(&sessions[0], &seen, &seen_now);
+        MUST(seen == length + 1 && !memcmp(&of_book, &of_office, sizeof of_book) && !memcmp(&now, &seen_now, sizeof now));
     }
     counters made = counts_of_book(&book);
     pelgaisti_gauges now = gauges_of_book(&book);
@@ -369,20 +379,19 @@ static void count_threads(const char *file) {
     pthread_t threads[THREADS];
     pelgaisti_book book = PELGAISTI_EMPTY;
     counters old, now;
-    uint64_t seen = 0, length;
+    pelgaisti_gauges gauges;
+    uint64_t seen = 0, first, length;
     FILE *to = fopen(file, "w");
     MUST(to);
     memset(&old, 0, sizeof old);
-    for (int k = 0; k <= THREADS; k++) shared[k] = pelgaisti_empty_session();
-    MUST(pelgaisti_office_open(shared, THREADS + 1) == PELGAISTI_OK);
+    MUST(open_sessions(shared, THREADS + 1) == PELGAISTI_OK);
     for (int k = 0; k < THREADS; k++) {
         numbers[k] = k;
         MUST(pthread_create(&threads[k], NULL, work, &numbers[k]) == 0);
     }
     /* at each moment the counters add up, and none but that of waiting requests has become less */
     while (seen < (uint64_t)calls_each * THREADS) {
-        now = counts_of_office(&shared[THREADS], &seen);
-        must_add_up(&now.of, seen);
+        now = counts_of_office(&shared[THREADS], &seen, &gauges);
         for (int k = 0; k < WORDS; k++) MUST(k == WORD(waiting) || now.word[k] >= old.word[k]);
         old = now;
     }
@@ -393,9 +402,9 @@ static void count_threads(const char *file) {
     MUST(pelgaisti_office_close(&shared[THREADS], &book) == PELGAISTI_OK);
     now = counts_of_book(&book);
     MUST(!memcmp(&now, &old, sizeof now));
-    pelgaisti_gauges gauges = gauges_of_book(&book);
+    gauges = gauges_of_book(&book);
     write_counts(&now.of, &gauges);
-    MUST(pelgaisti_book_length(&book, &length) == PELGAISTI_OK && length == seen);
+    MUST(pelgaisti_book_length(&book, &first, &length) == PELGAISTI_OK && length == seen);
     for (uint64_t place = 0; place < length; place++) {
         pelgaisti_entry entry;
         size_t count;

@@ -1,12 +1,10 @@
 /* The deadlocks that books and offices tell, and their text. Each expected value is worked out by hand from the rules, in the comment of its
    history. Valid C99. Prints the line of each check that fails, and last 'N passed, M failed'. */
 #define _XOPEN_SOURCE 600
-#include "pelgaisti.h"
+#include "open.h"
 #include <pthread.h>
 #include <sched.h>
 #include <semaphore.h>
-#include <stdio.h>
-#include <stdlib.h>
 #include <string.h>
 
 static int passed, failed;
@@ -67,16 +65,16 @@ static struct told told_by_book(pelgaisti_book *book, size_t room, size_t member
     return told;
 }
 
-/* The same of a session, which tries until it has the lock table. */
+/* The same by a look of a session, with the length of the history then. */
 static struct told told_by_session(pelgaisti_session *session, size_t room, size_t member_room) {
+    pelgaisti_book view = PELGAISTI_EMPTY;
     struct told told;
-    pelgaisti_status status;
-    memset(&told, 0x55, sizeof told);
-    do {
-        status = pelgaisti_session_deadlocks(session, room ? told.list : NULL, room, &told.count, member_room ? told.members : NULL,
-                                             member_room, &told.member_count, &told.seen);
-    } while (status == PELGAISTI_ELSEWHERE);
-    CHECK(status == PELGAISTI_OK && is_within(&told, room, member_room));
+    uint64_t first, seen;
+    look(session, &view);
+    told = told_by_book(&view, room, member_room);
+    CHECK(pelgaisti_book_length(&view, &first, &seen) == PELGAISTI_OK);
+    end_look(session, &view);
+    told.seen = seen;
     return told;
 }
 
@@ -121,8 +119,8 @@ static void ask(pelgaisti_book *book, uint32_t session, uint32_t mode, pelgaisti
     serve(book, session, call_of(PELGAISTI_LOCK, mode, resource), kind, 0);
 }
 
-static void open_book(pelgaisti_book *book, uint32_t sessions, size_t most) {
-    CHECK(pelgaisti_book_open(book, sessions) == PELGAISTI_OK && pelgaisti_book_keep_deadlocks(book, most) == PELGAISTI_OK);
+static void open_telling(pelgaisti_book *book, uint32_t sessions, size_t most) {
+    CHECK(open_book_of_deadlocks(book, sessions, most) == PELGAISTI_OK);
     CHECK(told_by_book(book, ROOM, MEMBER_ROOM).member_count == 0 && told_by_book(book, 0, 0).count == 0);
 }
 
@@ -179,7 +177,7 @@ static void the_newest_are_kept(void) {
         pelgaisti_book book = PELGAISTI_EMPTY;
         const size_t kept = most < 2 ? most : 2;
         struct told told;
-        open_book(&book, 2, most);
+        open_telling(&book, 2, most);
         CHECK(pelgaisti_book_keep_at_most(&book, most == 3 ? 1 : UINT64_MAX) == PELGAISTI_OK);
         cross(&book);
         told = told_by_book(&book, ROOM, MEMBER_ROOM);
@@ -201,7 +199,7 @@ static void the_newest_are_kept(void) {
 static void a_restarted_victim_is_one_again(void) {
     pelgaisti_book book = PELGAISTI_EMPTY;
     struct told told;
-    open_book(&book, 2, 2);
+    open_telling(&book, 2, 2);
     cross(&book);
     serve(&book, 1, call_of(PELGAISTI_WITHDRAW, 0, none), PELGAISTI_WITHDRAWN, 0);
     serve(&book, 2, call_of(PELGAISTI_RESTART, 0, none), PELGAISTI_RESTARTED, 1);
@@ -220,7 +218,7 @@ static void a_restarted_victim_is_one_again(void) {
    room of their own, and all of these are counted. */
 static void room_is_kept(void) {
     pelgaisti_book book = PELGAISTI_EMPTY;
-    open_book(&book, 2, 9);
+    open_telling(&book, 2, 9);
     cross(&book);
     cross_again(&book);
     for (size_t room = 0; room < 4; room++)
@@ -243,7 +241,7 @@ static void room_is_kept(void) {
 static void three_in_a_cycle(void) {
     pelgaisti_book book = PELGAISTI_EMPTY;
     struct told told;
-    open_book(&book, 3, 2);
+    open_telling(&book, 3, 2);
     begin(&book, 1, 1);
     begin(&book, 2, 2);
     begin(&book, 3, 3);
@@ -272,7 +270,7 @@ static void three_in_a_cycle(void) {
 static void one_waits_behind_a_request(void) {
     pelgaisti_book book = PELGAISTI_EMPTY;
     struct told told;
-    open_book(&book, 3, 2);
+    open_telling(&book, 3, 2);
     begin(&book, 1, 1);
     begin(&book, 2, 2);
     begin(&book, 3, 3);
@@ -298,7 +296,7 @@ static void one_waits_behind_a_request(void) {
 static void one_waits_behind_a_conversion(void) {
     pelgaisti_book book = PELGAISTI_EMPTY;
     struct told told;
-    open_book(&book, 3, 2);
+    open_telling(&book, 3, 2);
     begin(&book, 1, 1);
     begin(&book, 2, 2);
     begin(&book, 3, 3);
@@ -321,7 +319,7 @@ static void one_waits_behind_a_conversion(void) {
 static void one_call_makes_two(void) {
     pelgaisti_book book = PELGAISTI_EMPTY;
     struct told told;
-    open_book(&book, 3, 2);
+    open_telling(&book, 3, 2);
     begin(&book, 1, 1);
     begin(&book, 2, 2);
     begin(&book, 3, 3);
@@ -341,47 +339,23 @@ static void one_call_makes_two(void) {
     close_book(&book);
 }
 
-/* The log is asked for before the first call, and a later one changes nothing, also if the history has let go of all entries. Before the
-   first call the last one counts, but for one to which memory is refused. */
-static void asking_too_late(void) {
+/* A closed book tells none, and one that keeps none; as many as no memory has aren't kept. */
+static void books_that_tell_none(void) {
     pelgaisti_book book = PELGAISTI_EMPTY;
-    const pelgaisti_call poll = call_of(PELGAISTI_POLL, 0, none);
-    pelgaisti_reply reply;
-    uint64_t length;
+    uint64_t first, length;
     struct told told;
-    CHECK(pelgaisti_book_keep_deadlocks(NULL, 1) == PELGAISTI_NULL && pelgaisti_book_keep_deadlocks(&book, 1) == PELGAISTI_CLOSED);
     memset(&told, 0x55, sizeof told);
     CHECK(pelgaisti_book_deadlocks(&book, told.list, ROOM, &told.count, told.members, MEMBER_ROOM, &told.member_count) == PELGAISTI_CLOSED);
     CHECK(is_unwritten(&told, &told + 1));
-
-    /* asked by nobody */
-    CHECK(pelgaisti_book_open(&book, 2) == PELGAISTI_OK);
+    CHECK(open_book_of_deadlocks(&book, 2, SIZE_MAX) == PELGAISTI_NO_MEMORY);
+    CHECK(open_book(&book, 2) == PELGAISTI_OK);
     cross(&book);
-    CHECK(pelgaisti_book_keep_deadlocks(&book, 4) == PELGAISTI_SERVED && pelgaisti_book_keep_deadlocks(&book, SIZE_MAX) == PELGAISTI_SERVED);
     cross_again(&book);
     told = told_by_book(&book, ROOM, MEMBER_ROOM);
     CHECK(told.count == 0 && told.member_count == 0);
-    CHECK(pelgaisti_book_length(&book, &length) == PELGAISTI_OK && length == 18);
+    CHECK(pelgaisti_book_length(&book, &first, &length) == PELGAISTI_OK && first == 0 && length == 18);
     close_book(&book);
-
-    /* asked three times before, and once too late */
-    open_book(&book, 2, 4);
-    CHECK(pelgaisti_book_keep_deadlocks(&book, 1) == PELGAISTI_OK);
-    CHECK(pelgaisti_book_keep_deadlocks(&book, SIZE_MAX) == PELGAISTI_NO_MEMORY);
-    cross(&book);
-    CHECK(pelgaisti_book_keep_deadlocks(&book, 4) == PELGAISTI_SERVED && pelgaisti_book_keep_deadlocks(&book, 0) == PELGAISTI_SERVED);
-    cross_again(&book);
-    told = told_by_book(&book, ROOM, MEMBER_ROOM);
-    CHECK(told.count == 1 && told.member_count == 2);
-    want_cross_again(&told, 0, 0);
-    close_book(&book);
-
-    /* a refused call is one, and stays one when it is let go */
-    CHECK(pelgaisti_book_open(&book, 2) == PELGAISTI_OK && pelgaisti_book_keep_at_most(&book, 0) == PELGAISTI_OK);
-    CHECK(pelgaisti_book_serve(&book, 1, &poll, &reply) == PELGAISTI_OK && reply.kind == PELGAISTI_REFUSED);
-    CHECK(pelgaisti_book_keep_deadlocks(&book, 4) == PELGAISTI_SERVED);
-    close_book(&book);
-    open_book(&book, 2, 0);
+    open_telling(&book, 2, 0);
     cross(&book);
     CHECK(told_by_book(&book, ROOM, MEMBER_ROOM).count == 0);
     close_book(&book);
@@ -467,11 +441,11 @@ static void tell_cycle(pelgaisti_session *session, uint64_t transaction, char *t
     pelgaisti_deadlock list[KEPT];
     pelgaisti_member members[KEPT * SESSIONS];
     size_t count, member_count, first = 0; /* `first`: where the members of a deadlock begin */
-    uint64_t seen;
+    pelgaisti_book view = PELGAISTI_EMPTY;
     pelgaisti_status status;
-    do {
-        status = pelgaisti_session_deadlocks(session, list, KEPT, &count, members, KEPT * SESSIONS, &member_count, &seen);
-    } while (status == PELGAISTI_ELSEWHERE);
+    look(session, &view);
+    status = pelgaisti_book_deadlocks(&view, list, KEPT, &count, members, KEPT * SESSIONS, &member_count);
+    end_look(session, &view);
     for (size_t k = 0; status == PELGAISTI_OK && k < count; first += list[k++].members)
         if (members[first].request.transaction == transaction) pelgaisti_deadlock_text(&list[k], &members[first], text, room);
 }
@@ -510,7 +484,7 @@ static void threads_meet_a_deadlock(int sleeps) {
     size_t count = 0;
     struct told told, again;
     for (int s = 0; s < 3; s++) CHECK(sem_init(&woken[s], 0, 0) == 0);
-    CHECK(pelgaisti_office_open_telling(sessions, 2, UINT64_MAX, sleeps ? &waker : NULL, KEPT) == PELGAISTI_OK);
+    CHECK(open_office_with(sessions, 2, UINT64_MAX, sleeps ? &waker : NULL, KEPT) == PELGAISTI_OK);
     hold_each();
     for (int s = 0; s < 2; s++) {
         clerks[s].sleeps = sleeps;
@@ -570,40 +544,29 @@ static void offices(void) {
     pelgaisti_book book = PELGAISTI_EMPTY;
     pelgaisti_waker off = {NULL, NULL};
     pelgaisti_session open[1] = {PELGAISTI_EMPTY};
-    struct told told;
-    uint64_t first;
-    memset(&told, 0x55, sizeof told);
-    CHECK(pelgaisti_session_deadlocks(&sessions[0], told.list, ROOM, &told.count, told.members, MEMBER_ROOM, &told.member_count, &told.seen)
-          == PELGAISTI_CLOSED && is_unwritten(&told, &told + 1));
-    CHECK(pelgaisti_office_open_telling(sessions, 2, UINT64_MAX, &off, 1) == PELGAISTI_NULL);
-    CHECK(pelgaisti_office_open_telling(sessions, 0, UINT64_MAX, NULL, 1) == PELGAISTI_NO_SUCH_COUNT);
-    CHECK(pelgaisti_office_open_telling(sessions, 2, UINT64_MAX, NULL, SIZE_MAX) == PELGAISTI_NO_MEMORY);
-    CHECK(pelgaisti_office_open_telling(open, 1, UINT64_MAX, NULL, 1) == PELGAISTI_OK);
-    CHECK(pelgaisti_office_open_telling(open, 1, UINT64_MAX, NULL, 1) == PELGAISTI_OPEN);
+    uint64_t first, length;
+    CHECK(open_office_with(sessions, 2, UINT64_MAX, &off, 1) == PELGAISTI_NULL);
+    CHECK(open_office_with(sessions, 0, UINT64_MAX, NULL, 1) == PELGAISTI_NO_SUCH_COUNT);
+    CHECK(open_office_with(sessions, 2, UINT64_MAX, NULL, SIZE_MAX) == PELGAISTI_NO_MEMORY);
+    CHECK(open_office_with(open, 1, UINT64_MAX, NULL, 1) == PELGAISTI_OK);
+    CHECK(open_office_with(open, 1, UINT64_MAX, NULL, 1) == PELGAISTI_OPEN);
     CHECK(pelgaisti_office_close(open, &book) == PELGAISTI_OK);
     close_book(&book);
 
-    CHECK(pelgaisti_office_open(sessions, 2) == PELGAISTI_OK);
+    CHECK(open_office_with(sessions, 2, 3, &waker, 0) == PELGAISTI_OK);
     want_deadlocks_of(0);
-    CHECK(pelgaisti_office_open_keeping(sessions, 2, 3) == PELGAISTI_OK);
+    CHECK(open_office_with(sessions, 2, UINT64_MAX, NULL, 0) == PELGAISTI_OK);
     want_deadlocks_of(0);
-    CHECK(pelgaisti_office_open_waking(sessions, 2, UINT64_MAX, &waker) == PELGAISTI_OK);
-    want_deadlocks_of(0);
-    CHECK(pelgaisti_office_open_seeded(sessions, 2, UINT64_MAX, NULL, 7) == PELGAISTI_OK);
-    want_deadlocks_of(0);
-    CHECK(pelgaisti_office_open_telling(sessions, 2, UINT64_MAX, NULL, 0) == PELGAISTI_OK);
-    want_deadlocks_of(0);
-    CHECK(pelgaisti_office_open_telling(sessions, 2, UINT64_MAX, NULL, 1) == PELGAISTI_OK);
+    CHECK(open_office_with(sessions, 2, UINT64_MAX, NULL, 1) == PELGAISTI_OK);
     want_deadlocks_of(1);
-    CHECK(pelgaisti_office_open_telling(sessions, 2, 1, &waker, 3) == PELGAISTI_OK);
+    CHECK(open_office_with(sessions, 2, 1, &waker, 3) == PELGAISTI_OK);
     want_deadlocks_of(1);
 
-    /* the bound is the office's, and its book keeps no deadlocks anew */
-    CHECK(pelgaisti_office_open_telling(sessions, 2, 1, NULL, 3) == PELGAISTI_OK);
+    /* the bound is the office's */
+    CHECK(open_office_with(sessions, 2, 1, NULL, 3) == PELGAISTI_OK);
     hold_each();
     close_office(&book);
-    CHECK(pelgaisti_book_first_kept(&book, &first) == PELGAISTI_OK && first == 3);
-    CHECK(pelgaisti_book_keep_deadlocks(&book, 4) == PELGAISTI_SERVED);
+    CHECK(pelgaisti_book_length(&book, &first, &length) == PELGAISTI_OK && first == 3 && length == 4);
     close_book(&book);
 }
 
@@ -615,7 +578,7 @@ int main(void) {
     one_waits_behind_a_request();
     one_waits_behind_a_conversion();
     one_call_makes_two();
-    asking_too_late();
+    books_that_tell_none();
     texts();
     for (int s = 0; s < 3; s++) CHECK(sem_init(&woken[s], 0, 0) == 0);
     offices();

@@ -6,12 +6,10 @@
                                         of its place, as a book shows it that serves the history up to there
        embedding_dump queue             of 1,024 sessions one holds a resource, and 1,023 wait for it, each also for those ahead; writes the text */
 #include "must.h"
+#include "open.h"
 #include "rows.h"
-#include "pelgaisti.h"
 #include <inttypes.h>
 #include <pthread.h>
-#include <stdio.h>
-#include <stdlib.h>
 #include <string.h>
 
 enum { BUSY = 5, SESSIONS = 12, ROOM = 4096, DUMPS = 400 };
@@ -40,16 +38,16 @@ static dump dump_of_book(pelgaisti_book *book, pelgaisti_claim *room) {
 }
 
 static dump dump_of_office(pelgaisti_session *session, pelgaisti_claim *room) {
-    dump made = {0, 0, room};
-    pelgaisti_status status;
-    do status = pelgaisti_session_dump(session, room, ROOM, &made.count, &made.place);
-    while (status == PELGAISTI_ELSEWHERE);
-    MUST(status == PELGAISTI_OK && made.count <= ROOM);
+    pelgaisti_book view = PELGAISTI_EMPTY;
+    dump made;
+    look(session, &view);
+    made = dump_of_book(&view, room);
+    end_look(session, &view);
     return made;
 }
 
 static void write_dump(const dump *made) {
-    pelgaisti_dumping at = pelgaisti_dump_begin();
+    pelgaisti_dumping at = PELGAISTI_DUMPING;
     char line[100];
     uint32_t length;
     printf("at %" PRIu64 "\n", made->place);
@@ -66,8 +64,7 @@ static void dump_trace(void) {
     static pelgaisti_session sessions[SESSIONS];
     pelgaisti_book book = PELGAISTI_EMPTY;
     char line[256];
-    for (int k = 0; k < SESSIONS; k++) sessions[k] = pelgaisti_empty_session();
-    MUST(pelgaisti_book_open(&book, SESSIONS) == PELGAISTI_OK && pelgaisti_office_open(sessions, SESSIONS) == PELGAISTI_OK);
+    MUST(open_book(&book, SESSIONS) == PELGAISTI_OK && open_sessions(sessions, SESSIONS) == PELGAISTI_OK);
     for (;;) {
         dump made = dump_of_book(&book, of_book), shared = dump_of_office(&sessions[0], of_office);
         must_be_same(&made, &shared);
@@ -117,8 +114,7 @@ static void dump_busy(void) {
     pelgaisti_book book = PELGAISTI_EMPTY, replayed = PELGAISTI_EMPTY;
     uint64_t served = 0;
     size_t waits = 0;
-    for (int k = 0; k <= BUSY; k++) shared[k] = pelgaisti_empty_session();
-    MUST(pelgaisti_office_open(shared, BUSY + 1) == PELGAISTI_OK);
+    MUST(open_sessions(shared, BUSY + 1) == PELGAISTI_OK);
     for (int k = 0; k < BUSY; k++) {
         numbers[k] = k;
         MUST(pthread_create(&threads[k], NULL, work, &numbers[k]) == 0);
@@ -134,7 +130,7 @@ static void dump_busy(void) {
         MUST(pthread_join(threads[k], NULL) == 0);
         MUST(pelgaisti_session_hand_in(&shared[k], &shared[BUSY]) == PELGAISTI_OK);
     }
-    MUST(pelgaisti_office_close(&shared[BUSY], &book) == PELGAISTI_OK && pelgaisti_book_open(&replayed, BUSY + 1) == PELGAISTI_OK);
+    MUST(pelgaisti_office_close(&shared[BUSY], &book) == PELGAISTI_OK && open_book(&replayed, BUSY + 1) == PELGAISTI_OK);
     for (int k = 0; k < DUMPS; k++) {
         for (; served < taken[k].place; served++) {
             pelgaisti_entry entry;
@@ -160,11 +156,11 @@ static void dump_queue(void) {
     enum { ALL = PELGAISTI_MAX_SESSIONS };
     static pelgaisti_claim rows[2 * ALL];
     pelgaisti_book book = PELGAISTI_EMPTY;
-    pelgaisti_dumping at = pelgaisti_dump_begin();
+    pelgaisti_dumping at = PELGAISTI_DUMPING;
     uint64_t place;
     size_t count;
     char line[100], wanted[100];
-    MUST(pelgaisti_book_open(&book, ALL) == PELGAISTI_OK);
+    MUST(open_book(&book, ALL) == PELGAISTI_OK);
     for (uint32_t k = 0; k < ALL; k++) {
         const pelgaisti_call begin = {PELGAISTI_BEGIN, 0, {0, {0}}}, lock = {PELGAISTI_LOCK, PELGAISTI_X, {1, {7}}};
         pelgaisti_reply reply;

@@ -6,7 +6,6 @@ void ignore([[maybe_unused]] pelgaisti::book &book, [[maybe_unused]] pelgaisti::
 void ignore([[maybe_unused]] pelgaisti::book &book, [[maybe_unused]] pelgaisti::session &session,
             [[maybe_unused]] pelgaisti::office &office) {
     [[maybe_unused]] std::vector<pelgaisti::entry> entries;
-    [[maybe_unused]] std::vector<std::uint32_t> ended;
     [[maybe_unused]] std::uint64_t first = 0;
     IGNORED;
 }

@@ -79,8 +79,7 @@ static uint32_t run_path(uint32_t session, pelgaisti_resource r, uint64_t turns)
 static void open_with(const pelgaisti_waker *waker) {
     uint32_t k;
     memset(s, 0, sizeof s);
-    if (waker) MUST(pelgaisti_office_open_waking(s + 1, SESSIONS, UINT64_MAX, waker) == PELGAISTI_OK);
-    else MUST(pelgaisti_office_open(s + 1, SESSIONS) == PELGAISTI_OK);
+    MUST(open_office_with(s + 1, SESSIONS, UINT64_MAX, waker, 0) == PELGAISTI_OK);
     for (k = 1; k <= SESSIONS; k++) begin(&s[k]);
 }
 
@@ -89,16 +88,17 @@ static void close_office(void) { close_all(s + 1, SESSIONS); }
 
 static uint64_t calls_of(uint32_t op) {
     pelgaisti_counts c;
-    uint64_t seen;
-    while (pelgaisti_session_counts(&s[SESSIONS], &c, &seen) != PELGAISTI_OK) continue;
+    count_calls(&s[SESSIONS], &c);
     return c.calls[op];
 }
 
 static uint64_t length(void) {
-    pelgaisti_gauges g;
-    uint64_t seen;
-    while (pelgaisti_session_gauges(&s[SESSIONS], &g, &seen) != PELGAISTI_OK) continue;
-    return seen;
+    pelgaisti_book view = PELGAISTI_EMPTY;
+    uint64_t first, made = 0;
+    look(&s[SESSIONS], &view);
+    MUST(pelgaisti_book_length(&view, &first, &made) == PELGAISTI_OK);
+    end_look(&s[SESSIONS], &view);
+    return made;
 }
 
 /* A request that waits without end is granted: one poll, and the path goes on behind the level that waited. */
@@ -348,11 +348,11 @@ static void disturbed(void) {
     for (k = 0; k < 4; k++) { /* 4,096 sessions with those of the first office */
         const size_t count = k < 3 ? PELGAISTI_MAX_SESSIONS : PELGAISTI_MAX_SESSIONS - SESSIONS;
         memset(filler, 0, sizeof filler);
-        MUST(pelgaisti_office_open(filler, count) == PELGAISTI_OK);
+        MUST(open_sessions(filler, count) == PELGAISTI_OK);
         close_all(filler, count);
     }
     memset(twin, 0, sizeof twin);
-    MUST(pelgaisti_office_open(twin, SESSIONS) == PELGAISTI_OK && pelgaisti_session_mark(&twin[0], &mark) == PELGAISTI_OK && mark == mine + 4096);
+    MUST(open_sessions(twin, SESSIONS) == PELGAISTI_OK && pelgaisti_session_mark(&twin[0], &mark) == PELGAISTI_OK && mark == mine + 4096);
     for (k = 0; k < 2; k++) ask(&twin[k], PELGAISTI_BEGIN);
     MUST(lock(1, row, PELGAISTI_X, 0, &a) == PELGAISTI_OK);
     begun = now();

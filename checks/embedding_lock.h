@@ -4,7 +4,7 @@
 #define EMBEDDING_LOCK_H
 
 #include "must.h"
-#include "pelgaisti.h"
+#include "open.h"
 #include <pthread.h>
 #include <sched.h>
 #include <string.h>
@@ -40,20 +40,20 @@ static inline void commit(pelgaisti_session *session) { MUST(ask(session, PELGAI
 /* The mode that session `whose` holds on the resource. */
 static inline uint32_t held_by(pelgaisti_session *session, uint32_t whose, pelgaisti_resource on) {
     uint32_t mode = 0;
-    uint64_t seen;
-    pelgaisti_status status;
-    while ((status = pelgaisti_session_held(session, whose, &on, &mode, &seen)) == PELGAISTI_ELSEWHERE) sched_yield();
-    MUST(status == PELGAISTI_OK);
+    pelgaisti_book view = PELGAISTI_EMPTY;
+    look(session, &view);
+    MUST(pelgaisti_book_held(&view, whose, &on, &mode) == PELGAISTI_OK);
+    end_look(session, &view);
     return mode;
 }
 
 /* Whether a request of session `whose` waits. */
 static inline int waits(pelgaisti_session *session, uint32_t whose) {
     pelgaisti_claim claim;
-    uint64_t seen;
-    pelgaisti_status status;
-    while ((status = pelgaisti_session_request(session, whose, &claim, &seen)) == PELGAISTI_ELSEWHERE) sched_yield();
-    MUST(status == PELGAISTI_OK);
+    pelgaisti_book view = PELGAISTI_EMPTY;
+    look(session, &view);
+    MUST(pelgaisti_book_request(&view, whose, &claim) == PELGAISTI_OK);
+    end_look(session, &view);
     return claim.kind != 0;
 }
 
@@ -63,6 +63,14 @@ static inline void until_waits(pelgaisti_session *session, uint32_t whose) {
         MUST(now() < end);
         sched_yield();
     }
+}
+
+/* Writes the counters of an open office. */
+static inline void count_calls(pelgaisti_session *session, pelgaisti_counts *counts) {
+    pelgaisti_book view = PELGAISTI_EMPTY;
+    look(session, &view);
+    MUST(pelgaisti_book_counts(&view, counts) == PELGAISTI_OK);
+    end_look(session, &view);
 }
 
 /* Closes an office, and its book. */

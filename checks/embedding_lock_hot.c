@@ -2,7 +2,7 @@
    lost, and what each call tells is so. Each transaction locks some rows, or a table; a victim restarts; who is out of time gives up, or does
    without. Of who reads and writes each row the program keeps count itself: a reader or writer that meets another one is wrong. In the end
    the history is made once more by a book, call by call, whose replies have to be the same; and at the place that each outcome tells, the
-   history has to have an entry of this session whose reply means this outcome. If no call is answered for 20 seconds, a thread sleeps for
+   history has to have an entry of this session whose reply means this outcome. If no call is answered for a minute, a thread sleeps for
    ever, and the program fails.
    Usage: embedding_lock_hot [SECONDS [THREADS [refuse | waker]]]. With `refuse` one allocation in 8 is refused, at random, and the lock table
    gives its memory back now and then, so that calls take memory: behind NO_MEMORY pelgaisti_session_wait goes on. With `waker` the office has
@@ -10,7 +10,7 @@
 #define _GNU_SOURCE
 #include "embedding_lock.h"
 
-enum { MOST = 64, TABLES = 4, ROWS = 10, STILL = 20, ONE_IN = 8, READS = 1, WRITES = 2, PIECE = 4096 };
+enum { MOST = 64, TABLES = 4, ROWS = 10, STILL = 60, ONE_IN = 8, READS = 1, WRITES = 2, PIECE = 4096 };
 
 typedef struct outcome {
     uint64_t place;
@@ -128,8 +128,8 @@ static pelgaisti_status work(worker *w) {
 
 static void *run(void *at) {
     worker *w = at;
+    pelgaisti_book view = PELGAISTI_EMPTY;
     pelgaisti_status status;
-    uint64_t seen;
     while (!__atomic_load_n(&is_over, __ATOMIC_RELAXED)) {
         begin(w->session);
         while ((status = work(w)) == PELGAISTI_VICTIM) {
@@ -142,7 +142,11 @@ static void *run(void *at) {
         leave_all(w);
         if (status == PELGAISTI_OK) commit(w->session);
         else MUST(ask(w->session, PELGAISTI_ABORT).kind == PELGAISTI_ABORTED);
-        if (__atomic_load_n(&refuses, __ATOMIC_RELAXED) && drawn(&w->random, 4) == 0) pelgaisti_session_shrink(w->session, &seen);
+        if (__atomic_load_n(&refuses, __ATOMIC_RELAXED) && drawn(&w->random, 4) == 0) {
+            look(w->session, &view);
+            MUST(pelgaisti_book_shrink(&view) == PELGAISTI_OK);
+            end_look(w->session, &view);
+        }
     }
     __atomic_fetch_add(&finished, 1, __ATOMIC_RELAXED);
     return NULL;
@@ -178,7 +182,7 @@ static uint64_t compare(pelgaisti_book *book) {
     pelgaisti_book again = PELGAISTI_EMPTY;
     size_t next[MOST] = {0}, got;
     uint64_t first, bad = 0;
-    MUST(pelgaisti_book_open(&again, threads) == PELGAISTI_OK && pelgaisti_book_keep_at_most(&again, 0) == PELGAISTI_OK);
+    MUST(open_book(&again, threads) == PELGAISTI_OK && pelgaisti_book_keep_at_most(&again, 0) == PELGAISTI_OK);
     do {
         MUST(pelgaisti_book_take_history(book, &first, piece, PIECE, &got) == PELGAISTI_OK);
         for (size_t n = 0; n < got; n++) {
@@ -202,14 +206,19 @@ int main(int argc, char **argv) {
     static const pelgaisti_waker waker = {quiet, NULL};
     const double seconds = argc > 1 ? strtod(argv[1], NULL) : 30;
     const char *how = argc > 3 ? argv[3] : "";
+    pelgaisti_options options = PELGAISTI_OPTIONS(1);
     pthread_t all[MOST];
     pelgaisti_book book = PELGAISTI_EMPTY;
     pelgaisti_counts c;
     worker sum = {NULL, 0, 0, 0, 0, 0, 0, 0, NULL, 0, 0, {{0}}};
-    uint64_t seen, bad;
+    uint64_t first, length, bad;
     if (argc > 2) threads = (uint32_t)strtoul(argv[2], NULL, 10);
     MUST(threads <= MOST);
-    MUST(pelgaisti_office_open_seeded(s, threads, UINT64_MAX, strcmp(how, "waker") == 0 ? &waker : NULL, 1) == PELGAISTI_OK);
+    options.sessions = threads;
+    options.keep = UINT64_MAX;
+    options.seed = 1;
+    if (strcmp(how, "waker") == 0) options.waker = &waker;
+    MUST(pelgaisti_office_open(s, &options) == PELGAISTI_OK);
     __atomic_store_n(&refuses, strcmp(how, "refuse") == 0, __ATOMIC_RELAXED);
     for (uint32_t k = 0; k < threads; k++) {
         workers[k].session = &s[k];
@@ -224,15 +233,16 @@ int main(int argc, char **argv) {
         sum.commits += w->commits, sum.victims += w->victims, sum.over += w->over, sum.denied += w->denied;
         sum.starved += w->starved, sum.bad += w->bad, sum.count += w->count;
     }
-    MUST(pelgaisti_session_counts(&s[0], &c, &seen) == PELGAISTI_OK && c.waiting == 0);
+    count_calls(&s[0], &c);
+    MUST(c.waiting == 0);
     for (uint32_t k = 1; k < threads; k++) MUST(pelgaisti_session_hand_in(&s[k], &s[0]) == PELGAISTI_OK);
-    MUST(pelgaisti_office_close(&s[0], &book) == PELGAISTI_OK);
+    MUST(pelgaisti_office_close(&s[0], &book) == PELGAISTI_OK && pelgaisti_book_length(&book, &first, &length) == PELGAISTI_OK);
     bad = sum.bad + sum.denied + compare(&book);
     MUST(pelgaisti_book_close(&book) == PELGAISTI_OK);
     printf("%lu commits, %lu victims, %lu time-outs; %lu waits, %lu polls, %lu withdrawals, of which %lu too late; NO_MEMORY %lu times, of %lu "
            "refusals; %lu entries made once more, %lu outcomes at their places; wrong: %lu\n", (unsigned long)sum.commits,
            (unsigned long)sum.victims, (unsigned long)sum.over, (unsigned long)c.waits_begun, (unsigned long)c.calls[PELGAISTI_POLL],
            (unsigned long)c.calls[PELGAISTI_WITHDRAW], (unsigned long)(c.refusals[PELGAISTI_NOT_WAITING] + c.refusals[PELGAISTI_IS_DOOMED]),
-           (unsigned long)sum.starved, (unsigned long)refused, (unsigned long)seen, (unsigned long)sum.count, (unsigned long)bad);
+           (unsigned long)sum.starved, (unsigned long)refused, (unsigned long)length, (unsigned long)sum.count, (unsigned long)bad);
     return bad != 0 || sum.commits == 0 || sum.victims == 0 || sum.over == 0 || (refused > 0) != (sum.starved > 0);
 }

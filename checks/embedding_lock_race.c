@@ -74,10 +74,9 @@ static void watch(void) {
 
 int main(int argc, char **argv) {
     pelgaisti_counts c;
-    uint64_t seen;
     if (argc > 1) rounds = strtoull(argv[1], NULL, 10);
     if (argc > 2) pairs = strtoull(argv[2], NULL, 10);
-    MUST(pairs <= MOST && pelgaisti_office_open_keeping(s, 2 * pairs, 1024) == PELGAISTI_OK);
+    MUST(pairs <= MOST && open_office_with(s, 2 * pairs, 1024, NULL, 0) == PELGAISTI_OK);
     for (uint32_t k = 0; k < pairs; k++) {
         all[k].number = k;
         pthread_barrier_init(&all[k].meet, NULL, 2);
@@ -85,7 +84,7 @@ int main(int argc, char **argv) {
     }
     watch();
     for (uint32_t k = 0; k < pairs; k++) pthread_join(all[k].holder, NULL), pthread_join(all[k].other, NULL);
-    MUST(pelgaisti_session_counts(&s[0], &c, &seen) == PELGAISTI_OK);
+    count_calls(&s[0], &c);
     printf("%lu rounds: %lu granted, %lu timed out; %lu withdrawals, of which %lu too late; %lu waits, %lu polls\n", (unsigned long)done,
            (unsigned long)granted, (unsigned long)over, (unsigned long)c.calls[PELGAISTI_WITHDRAW],
            (unsigned long)c.refusals[PELGAISTI_NOT_WAITING], (unsigned long)c.waits_begun, (unsigned long)c.calls[PELGAISTI_POLL]);

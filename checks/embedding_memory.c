@@ -2,68 +2,29 @@
    succeeds, with the reply that it has if memory is ample. Each call that may lack memory has to meet a refusal. Also, at an
    allocation in one session's pass another session tries to serve, which returns ELSEWHERE. Link with
    -Wl,--wrap=malloc,--wrap=realloc. */
-#include "pelgaisti.h"
+#include "open.h"
 #include "refuse_one.h"
-#include <stdio.h>
-#include <stdlib.h>
 #include <string.h>
 
 static long failed;
 
-/* The session that tries to serve at the next allocation, the one that tries to perform a call at once, and the statuses. */
+/* The session that tries to serve at the next allocation, the one that tries to perform a call at once and to take entries, and the statuses. */
 static pelgaisti_session *meanwhile, *other;
-static uint32_t told, at_once, telling, untold[3] = {77, 77, 77};
+static uint32_t told, at_once, taking;
 static size_t uncounted = 99;
+static uint64_t unplaced = 99;
 static pelgaisti_pass unwritten;
 static pelgaisti_answer unanswered = {99, {77, 88}};
-
-/* What a session's questions, and its calls on the memory of the lock table, return at that allocation. */
-enum { QUESTIONS = 17 };
-static uint32_t asked[QUESTIONS], unasked = 99;
-static uint64_t unseen = 99;
 static const pelgaisti_call begin = {PELGAISTI_BEGIN, 0, {0, {0}}};
 
-/* Asks each question once. */
-static void ask_each(pelgaisti_session *session) {
-    static const pelgaisti_resource place = {1, {1}};
-    pelgaisti_transaction open;
-    pelgaisti_holder holder;
-    pelgaisti_claim claim;
-    pelgaisti_deadlock deadlock;
-    pelgaisti_member member;
-    pelgaisti_counts counts;
-    pelgaisti_gauges gauges;
-    pelgaisti_pass_counts passes;
-    size_t unlisted = 99;
-    asked[0] = pelgaisti_session_held(session, 1, &place, &unasked, &unseen);
-    asked[1] = pelgaisti_session_transaction(session, 1, &open, &unseen);
-    asked[2] = pelgaisti_session_request(session, 1, &claim, &unseen);
-    asked[3] = pelgaisti_session_waits_for(session, 1, 2, &unasked, &unseen);
-    asked[4] = pelgaisti_session_holders(session, &place, &holder, 1, &uncounted, &unseen);
-    asked[5] = pelgaisti_session_blockers(session, 1, &unasked, 1, &uncounted, &unseen);
-    asked[6] = pelgaisti_session_locks(session, 0, &claim, 1, &uncounted, &unseen);
-    asked[7] = pelgaisti_session_reserve(session, 1, 1, &unseen);
-    asked[8] = pelgaisti_session_shrink(session, &unseen);
-    asked[9] = pelgaisti_session_idle_cells(session, &uncounted, &unseen);
-    asked[10] = pelgaisti_session_deadlocks(session, &deadlock, 1, &uncounted, &member, 1, &unlisted, &unseen);
-    if (unlisted != 99) asked[10] = PELGAISTI_OK;
-    asked[11] = pelgaisti_session_locks_held(session, 1, &uncounted, &unseen);
-    asked[12] = pelgaisti_session_locks_of(session, 1, &place, &claim, 1, &uncounted, &unseen);
-    asked[13] = pelgaisti_session_dump(session, &claim, 1, &uncounted, &unseen);
-    asked[14] = pelgaisti_session_counts(session, &counts, &unseen);
-    asked[15] = pelgaisti_session_gauges(session, &gauges, &unseen);
-    asked[16] = pelgaisti_session_passes(session, &passes, &unseen);
-}
-
-/* At the next allocation, `meanwhile` tries to serve and `other` to perform a call and to ask, once. */
+/* At the next allocation they try so, once. */
 static void try_meanwhile(void) {
     pelgaisti_session *session = meanwhile;
     if (!session) return;
     meanwhile = NULL;
     told = pelgaisti_session_serve(session, &unwritten);
-    at_once = pelgaisti_session_perform_at_once(other, &begin, &unwritten, &unanswered);
-    telling = pelgaisti_session_perform_telling(other, &begin, &unwritten, &unanswered, untold, 3, &uncounted);
-    ask_each(other);
+    taking = pelgaisti_session_take_history(other, &unplaced, NULL, 0, &uncounted);
+    at_once = pelgaisti_session_perform(other, &begin, 1, &unanswered);
 }
 
 #define CHECK(condition) \
@@ -75,20 +36,16 @@ static void try_meanwhile(void) {
     } while (0)
 
 /* The calls that may lack memory, and how often memory was refused to each. */
-enum { BOOK_OPEN, BOOK_SERVE, BOOK_SERVE_BATCH, BOOK_RUN, BOOK_HOLDERS, BOOK_LOCKS, OFFICE_OPEN, SESSION_SERVE, AT_ONCE, TELLING,
-       SESSION_HOLDERS, SESSION_BLOCKERS, SESSION_LOCKS, HAND_IN, OFFICE_CLOSE, OPEN_WAKING, WAKING_SERVE, WAKING_SERVE_TELLING,
-       WAKING_AT_ONCE, WAKING_TELLING, WAKING_PERFORM, WAKING_LOCK, WAKING_WAIT, SESSION_RUN, BOOK_RESERVE, SESSION_RESERVE,
-       KEEP_DEADLOCKS, BOOK_DEADLOCKS, OPEN_TELLING, SESSION_DEADLOCKS, BOOK_LOCKS_OF, SESSION_LOCKS_OF, BOOK_DUMP, SESSION_DUMP,
-       LACKING };
-static const char *const lacking[LACKING] = {"book_open", "book_serve", "book_serve_batch", "book_run", "book_holders",
-                                             "book_locks", "office_open", "session_serve", "session_perform_at_once",
-                                             "session_perform_telling", "session_holders", "session_blockers", "session_locks",
-                                             "session_hand_in", "office_close", "office_open_waking", "session_serve, which wakes",
-                                             "session_serve_telling, which wakes", "session_perform_at_once, which wakes",
-                                             "session_perform_telling, which wakes", "session_perform, which wakes",
-                                             "session_lock, which wakes", "session_wait, which wakes", "session_run", "book_reserve", "session_reserve",
-                                             "book_keep_deadlocks", "book_deadlocks", "office_open_telling", "session_deadlocks",
-                                             "book_locks_of", "session_locks_of", "book_dump", "session_dump"};
+enum { BOOK_OPEN, BOOK_SERVE, BOOK_SERVE_BATCH, BOOK_RUN, BOOK_HOLDERS, OFFICE_OPEN, SESSION_SERVE, PERFORM, VIEW_HOLDERS, HAND_IN, OFFICE_CLOSE,
+       OPEN_WAKING, WAKING_SERVE, WAKING_PERFORM, WAKING_LOCK, WAKING_WAIT, SESSION_RUN, BOOK_RESERVE, VIEW_RESERVE, OPEN_DEADLOCKS,
+       BOOK_DEADLOCKS, OFFICE_DEADLOCKS, VIEW_DEADLOCKS, BOOK_LOCKS_OF, VIEW_LOCKS_OF, BOOK_DUMP, VIEW_DUMP, LACKING };
+static const char *const lacking[LACKING] = {"book_open", "book_serve", "book_serve_batch", "book_run", "book_holders", "office_open",
+                                             "session_serve", "session_perform", "book_holders of a view", "session_hand_in", "office_close",
+                                             "office_open with a waker", "session_serve, which wakes", "session_perform, which wakes",
+                                             "session_lock, which wakes", "session_wait, which wakes", "session_run", "book_reserve",
+                                             "book_reserve of a view", "book_open to keep deadlocks", "book_deadlocks",
+                                             "office_open to keep deadlocks", "book_deadlocks of a view", "book_locks_of",
+                                             "book_locks_of of a view", "book_dump", "book_dump of a view"};
 static long lacked[LACKING];
 
 /* How many batches were refused memory behind the calls that they served. */
@@ -104,9 +61,15 @@ static int is_lacking(int call, uint32_t status) {
 }
 
 static uint64_t length_of(pelgaisti_book *book) {
-    uint64_t length = UINT64_MAX;
-    CHECK(pelgaisti_book_length(book, &length) == PELGAISTI_OK);
+    uint64_t first, length = UINT64_MAX;
+    CHECK(pelgaisti_book_length(book, &first, &length) == PELGAISTI_OK);
     return length;
+}
+
+static uint64_t idle_cells_of(pelgaisti_book *book) {
+    pelgaisti_gauges gauges = {0, 0, 0, 0, 99};
+    CHECK(pelgaisti_book_gauges(book, &gauges) == PELGAISTI_OK);
+    return gauges.idle_cells;
 }
 
 static pelgaisti_call call_of(uint32_t op, uint32_t mode, uint32_t number) {
@@ -198,11 +161,11 @@ static void serve_batch(pelgaisti_book *book) {
 static void books(void) {
     pelgaisti_book book = PELGAISTI_EMPTY;
     long before = refusals;
-    uint32_t status = pelgaisti_book_open(&book, SESSIONS);
+    uint32_t status = open_book(&book, SESSIONS);
     CHECK((refusals > before) == (status == PELGAISTI_NO_MEMORY)); /* all that an opening allocates is what it makes */
     if (is_lacking(BOOK_OPEN, status)) {
         CHECK(book.is_open_ == 0 && book.at_ == NULL);
-        status = pelgaisti_book_open(&book, SESSIONS);
+        status = open_book(&book, SESSIONS);
     }
     CHECK(status == PELGAISTI_OK);
     for (uint32_t k = 0; k < 60; k++) serve_nth(&book, k);
@@ -217,15 +180,6 @@ static void books(void) {
     }
     CHECK(status == PELGAISTI_OK && count == SESSIONS && list[0].session == 1 && list[SESSIONS - 1].session == SESSIONS);
     pelgaisti_claim claims[2];
-    memset(claims, 0x55, sizeof claims);
-    count = 99;
-    status = pelgaisti_book_locks(&book, SESSIONS - 1, claims, 2, &count);
-    if (is_lacking(BOOK_LOCKS, status)) {
-        CHECK(count == 99 && claims[0].kind == 0x55555555);
-        status = pelgaisti_book_locks(&book, SESSIONS - 1, claims, 2, &count);
-    }
-    CHECK(status == PELGAISTI_OK && count == 45 && claims[0].session == SESSIONS && claims[0].resource.numbers[0] == 7);
-    CHECK(claims[1].session == 1 && claims[1].resource.numbers[0] == 9);
     static const pelgaisti_resource nowhere = {0, {0}};
     memset(claims, 0x55, sizeof claims);
     count = 99;
@@ -236,8 +190,7 @@ static void books(void) {
     }
     CHECK(status == PELGAISTI_OK && count == 2 && claims[0].session == 1 && claims[1].session == 1);
     CHECK(claims[0].resource.numbers[0] == 7 && claims[1].resource.numbers[0] == 9);
-    uint64_t length = 0, place = 99;
-    CHECK(pelgaisti_book_length(&book, &length) == PELGAISTI_OK);
+    uint64_t length = length_of(&book), place = 99;
     memset(claims, 0x55, sizeof claims);
     count = 99;
     status = pelgaisti_book_dump(&book, claims, 2, &count, &place);
@@ -264,16 +217,19 @@ static void serve_surely(pelgaisti_book *book, uint32_t session, pelgaisti_call 
     CHECK(reply.kind == kind);
 }
 
+/* An answer that no call has written. */
+static const pelgaisti_program_answer unmade = {77, 77, 77, 77, {77}};
+
 /* Runs a program of one lock on a new database, again if memory is refused: then nothing has changed. */
 static void run_lock(pelgaisti_book *book, uint32_t session, uint32_t number) {
     pelgaisti_program program = {PELGAISTI_NOTHING, 0, PELGAISTI_NL, {PELGAISTI_LOCK, PELGAISTI_IX, {1, {number}}}};
-    pelgaisti_program_answer answer = {77, 77, 77, 77, {{77, 88}}};
-    uint32_t list[3] = {77, 77, 77};
+    pelgaisti_program_answer answer = unmade;
     uint64_t length = length_of(book);
     size_t count = 99;
-    while (is_lacking(BOOK_RUN, pelgaisti_book_run(book, session, &program, &answer, list, 3, &count)))
-        CHECK(answer.place == 77 && answer.served == 77 && count == 0 && list[0] == 77 && length_of(book) == length);
-    CHECK(answer.place == length && answer.served == 1 && answer.replies[0].kind == PELGAISTI_GRANTED && count == 0);
+    while (is_lacking(BOOK_RUN, pelgaisti_book_run(book, session, &program, &answer)))
+        CHECK(answer.place == 77 && answer.served == 77 && length_of(book) == length);
+    CHECK(answer.place == length && answer.served == 1 && answer.values[0] == PELGAISTI_IX && answer.stop == 0);
+    CHECK(pelgaisti_book_ended(book, NULL, 0, &count) == PELGAISTI_OK && count == 0);
 }
 
 /* Session 1 runs a program that commits what session 2 waits for, begins, and locks a new path. If memory is refused to the commit,
@@ -281,7 +237,7 @@ static void run_lock(pelgaisti_book *book, uint32_t session, uint32_t number) {
    same, and one of the calls that are left goes on. From round to round the history is longer, and session 3 has one lock more. */
 static void programs(void) {
     pelgaisti_book book = PELGAISTI_EMPTY;
-    while (is_lacking(BOOK_OPEN, pelgaisti_book_open(&book, 3))) continue;
+    while (is_lacking(BOOK_OPEN, open_book(&book, 3))) continue;
     for (uint32_t s = 1; s <= 3; s++) serve_surely(&book, s, begin, PELGAISTI_BEGAN);
     for (uint32_t round = 0; round < 24; round++) {
         pelgaisti_program program = {PELGAISTI_COMMITS_AND_BEGINS, 0, PELGAISTI_IX, {PELGAISTI_LOCK, PELGAISTI_X, {5, {7, round, 1, 1, 1}}}};
@@ -290,14 +246,15 @@ static void programs(void) {
         serve_surely(&book, 1, call_of(PELGAISTI_LOCK, PELGAISTI_X, 8), PELGAISTI_GRANTED);
         serve_surely(&book, 2, call_of(PELGAISTI_LOCK, PELGAISTI_X, 8), PELGAISTI_WAITING);
         while (left > 0) {
-            pelgaisti_program_answer answer = {77, 77, 77, 77, {{77, 88}}};
+            pelgaisti_program_answer answer = unmade;
             uint32_t list[3] = {77, 77, 77}, length = (uint32_t)length_of(&book), status;
             size_t count = 99;
-            status = pelgaisti_book_run(&book, 1, &program, &answer, list, 3, &count);
+            status = pelgaisti_book_run(&book, 1, &program, &answer);
             if (is_lacking(BOOK_RUN, status)) {
-                CHECK(answer.place == 77 && answer.served == 77 && count == 0 && list[0] == 77 && length_of(&book) == length);
+                CHECK(answer.place == 77 && answer.served == 77 && length_of(&book) == length);
                 continue;
             }
+            CHECK(pelgaisti_book_ended(&book, list, 3, &count) == PELGAISTI_OK);
             CHECK(status == PELGAISTI_OK && answer.place == length && answer.stop == 0 && length_of(&book) == length + answer.served);
             CHECK(answer.served > 0 && answer.served <= left && answer.starved == (answer.served < left));
             CHECK(count == (left == PELGAISTI_CALLS) && (count == 0 || list[0] == 2));
@@ -322,18 +279,18 @@ static void programs(void) {
 static void rooms(void) {
     static const uint32_t counts[] = {3, 100, 400};
     pelgaisti_book book = PELGAISTI_EMPTY;
-    while (is_lacking(BOOK_OPEN, pelgaisti_book_open(&book, 4))) continue;
+    while (is_lacking(BOOK_OPEN, open_book(&book, 4))) continue;
     for (uint32_t s = 1; s <= 4; s++) serve_surely(&book, s, begin, PELGAISTI_BEGAN);
     for (uint32_t k = 0; k < 3; k++) serve_surely(&book, 1, call_of(PELGAISTI_LOCK, PELGAISTI_IX, 1000 + k), PELGAISTI_GRANTED);
     serve_surely(&book, 1, call_of(PELGAISTI_RELEASE, 0, 1001), PELGAISTI_RELEASED);
     for (size_t k = 0; k < 3; k++) {
         pelgaisti_call kept = call_of(PELGAISTI_LOCK, PELGAISTI_IX, 1002);
         uint64_t length = length_of(&book);
-        size_t idle = 99, cells;
+        uint64_t idle = idle_cells_of(&book);
         uint32_t mode;
-        CHECK(pelgaisti_book_idle_cells(&book, &idle) == PELGAISTI_OK && idle == (k == 0));
+        CHECK(idle == (k == 0));
         while (is_lacking(BOOK_RESERVE, pelgaisti_book_reserve(&book, counts[k], counts[k]))) {
-            CHECK(length_of(&book) == length && pelgaisti_book_idle_cells(&book, &cells) == PELGAISTI_OK && cells == idle);
+            CHECK(length_of(&book) == length && idle_cells_of(&book) == idle);
             CHECK(pelgaisti_book_held(&book, 1, &kept.resource, &mode) == PELGAISTI_OK && mode == PELGAISTI_IX);
         }
         largest = 0;
@@ -342,7 +299,7 @@ static void rooms(void) {
         CHECK(largest <= 256 * 64); /* a session's list has room for at most 256 locks, each in 64 bytes or less */
         largest = 0;
         CHECK(pelgaisti_book_shrink(&book) == PELGAISTI_OK && length_of(&book) == length + counts[k]);
-        CHECK(pelgaisti_book_idle_cells(&book, &cells) == PELGAISTI_OK && cells == 0);
+        CHECK(idle_cells_of(&book) == 0);
         CHECK(pelgaisti_book_held(&book, 1, &kept.resource, &mode) == PELGAISTI_OK && mode == PELGAISTI_IX);
     }
     CHECK(pelgaisti_book_close(&book) == PELGAISTI_OK);
@@ -368,92 +325,66 @@ static void serve_five(pelgaisti_session *sessions, pelgaisti_call call, uint32_
         CHECK(pelgaisti_session_collect(&sessions[k], &answer) == PELGAISTI_OK && answer.reply.kind == kind);
 }
 
-/* Performs a call at once, again if memory is refused: then the call isn't in the history, and may be published. */
+/* Performs a call in one turn. If memory is refused, it is pending, isn't in the history, and another turn performs it. */
 static void perform_nth(pelgaisti_session *session, uint32_t k, uint64_t place) {
     pelgaisti_call call = call_of(PELGAISTI_LOCK, PELGAISTI_IX, 300 + k);
     pelgaisti_answer answer = {99, {77, 88}};
-    pelgaisti_pass pass = {99, 99};
-    uint32_t list[CLERKS] = {77}, status;
-    size_t count = 99;
-    int is_telling = k % 2;
-    status = is_telling ? pelgaisti_session_perform_telling(session, &call, &pass, &answer, list, CLERKS, &count)
-                        : pelgaisti_session_perform_at_once(session, &call, &pass, &answer);
-    if (is_lacking(is_telling ? TELLING : AT_ONCE, status)) {
-        CHECK(answer.place == 99 && pass.served == 99 && list[0] == 77 && count == (is_telling ? 0 : 99));
-        CHECK(pelgaisti_session_collect(session, &answer) == PELGAISTI_NOTHING_PENDING);
-        status = pelgaisti_session_perform(session, &call, 1, &answer);
+    uint32_t status = pelgaisti_session_perform(session, &call, 1, &answer);
+    if (is_lacking(PERFORM, status)) {
+        CHECK(answer.place == 99 && pelgaisti_session_perform(session, &call, 1, &answer) == PELGAISTI_PENDING);
+        CHECK(pelgaisti_session_collect(session, &answer) == PELGAISTI_NOT_SERVED && answer.place == 99);
+        status = pelgaisti_session_perform(session, NULL, 1, &answer);
     }
     CHECK(status == PELGAISTI_OK && answer.place == place && answer.reply.kind == PELGAISTI_GRANTED);
 }
 
-/* Asks for the holders of a resource, for whom session 2 waits, and for all locks, each again if memory is refused: then nothing is
+/* Asks a view for the holders of a resource, for the locks of a session and for a dump, each again if memory is refused: then nothing is
    written. Every clerk holds resource 100, nobody waits, and there are so many locks. */
-static void ask_lists(pelgaisti_session *session, size_t locks, uint64_t length) {
+static void ask_lists(pelgaisti_book *view, size_t locks, uint64_t length) {
+    static const pelgaisti_resource nowhere = {0, {0}};
     static pelgaisti_claim claims[64];
     pelgaisti_holder holders[CLERKS];
     pelgaisti_call call = call_of(PELGAISTI_LOCK, PELGAISTI_IX, 100);
-    uint32_t list[CLERKS], status;
     uint64_t seen = 99;
     size_t count = 99;
-    status = pelgaisti_session_holders(session, &call.resource, holders, CLERKS, &count, &seen);
-    if (is_lacking(SESSION_HOLDERS, status)) {
-        CHECK(count == 99 && seen == 99);
-        status = pelgaisti_session_holders(session, &call.resource, holders, CLERKS, &count, &seen);
-    }
-    CHECK(status == PELGAISTI_OK && count == CLERKS && seen == length && holders[CLERKS - 1].session == CLERKS);
+    while (is_lacking(VIEW_HOLDERS, pelgaisti_book_holders(view, &call.resource, holders, CLERKS, &count))) CHECK(count == 99);
+    CHECK(count == CLERKS && holders[CLERKS - 1].session == CLERKS);
     count = 99;
-    seen = 99;
-    status = pelgaisti_session_blockers(session, 2, list, CLERKS, &count, &seen);
-    if (is_lacking(SESSION_BLOCKERS, status)) {
-        CHECK(count == 99 && seen == 99);
-        status = pelgaisti_session_blockers(session, 2, list, CLERKS, &count, &seen);
-    }
-    CHECK(status == PELGAISTI_OK && count == 0 && seen == length);
+    while (is_lacking(VIEW_LOCKS_OF, pelgaisti_book_locks_of(view, 2, &nowhere, claims, 64, &count))) CHECK(count == 99);
+    CHECK(0 < count && count <= locks && claims[0].session == 2);
     count = 99;
-    seen = 99;
-    status = pelgaisti_session_locks(session, 0, claims, 64, &count, &seen);
-    if (is_lacking(SESSION_LOCKS, status)) {
-        CHECK(count == 99 && seen == 99);
-        status = pelgaisti_session_locks(session, 0, claims, 64, &count, &seen);
-    }
-    CHECK(status == PELGAISTI_OK && count == locks && seen == length && claims[0].kind == PELGAISTI_HELD);
-    static const pelgaisti_resource nowhere = {0, {0}};
-    const uint32_t whose = claims[0].session;
-    count = 99;
-    seen = 99;
-    status = pelgaisti_session_locks_of(session, whose, &nowhere, claims, 64, &count, &seen);
-    if (is_lacking(SESSION_LOCKS_OF, status)) {
-        CHECK(count == 99 && seen == 99);
-        status = pelgaisti_session_locks_of(session, whose, &nowhere, claims, 64, &count, &seen);
-    }
-    CHECK(status == PELGAISTI_OK && 0 < count && count <= locks && seen == length && claims[0].session == whose);
-    count = 99;
-    seen = 99;
-    status = pelgaisti_session_dump(session, claims, 64, &count, &seen);
-    if (is_lacking(SESSION_DUMP, status)) {
-        CHECK(count == 99 && seen == 99);
-        status = pelgaisti_session_dump(session, claims, 64, &count, &seen);
-    }
-    CHECK(status == PELGAISTI_OK && count == locks + CLERKS && seen == length);
+    while (is_lacking(VIEW_DUMP, pelgaisti_book_dump(view, claims, 64, &count, &seen))) CHECK(count == 99 && seen == 99);
+    CHECK(count == locks + CLERKS && seen == length);
     CHECK(claims[0].kind == PELGAISTI_TRANSACTION_ROW && claims[CLERKS].kind == PELGAISTI_HELD);
 }
 
-/* Makes room by a session, again if memory is refused: then nothing is written. */
-static void reserve_surely(pelgaisti_session *session, uint64_t length) {
-    uint64_t seen = 99;
-    while (is_lacking(SESSION_RESERVE, pelgaisti_session_reserve(session, 500, 500, &seen))) CHECK(seen == 99);
-    CHECK(seen == length);
-    CHECK(pelgaisti_session_shrink(session, &seen) == PELGAISTI_OK && seen == length);
+/* Makes room at a view, again if memory is refused. */
+static void reserve_surely(pelgaisti_book *view, uint64_t length) {
+    while (is_lacking(VIEW_RESERVE, pelgaisti_book_reserve(view, 500, 500))) CHECK(length_of(view) == length);
+    CHECK(pelgaisti_book_shrink(view) == PELGAISTI_OK && length_of(view) == length);
+}
+
+/* A look and its end take no memory. */
+static void look_surely(pelgaisti_session *session, size_t locks, uint64_t length) {
+    pelgaisti_book view = PELGAISTI_EMPTY;
+    const long before = left;
+    look(session, &view);
+    CHECK(left == before);
+    ask_lists(&view, locks, length);
+    reserve_surely(&view, length);
+    const long behind = left;
+    end_look(session, &view);
+    CHECK(left == behind);
 }
 
 static void offices(void) {
     pelgaisti_session sessions[CLERKS];
     pelgaisti_book book = PELGAISTI_EMPTY;
     memset(sessions, 0, sizeof sessions);
-    uint32_t status = pelgaisti_office_open(sessions, CLERKS);
+    uint32_t status = open_sessions(sessions, CLERKS);
     if (is_lacking(OFFICE_OPEN, status)) {
         for (int k = 0; k < CLERKS; k++) CHECK(sessions[k].is_open_ == 0 && sessions[k].at_ == NULL);
-        status = pelgaisti_office_open(sessions, CLERKS);
+        status = open_sessions(sessions, CLERKS);
     }
     CHECK(status == PELGAISTI_OK);
     for (uint32_t k = 0; k < 40; k++) {
@@ -473,8 +404,7 @@ static void offices(void) {
     }
     for (uint32_t k = 0; k < 40; k++) perform_nth(&sessions[k % CLERKS], k, 40 + k);
     for (uint32_t k = 0; k < 12; k++) serve_five(sessions, call_of(PELGAISTI_LOCK, PELGAISTI_IX, 100 + k), PELGAISTI_GRANTED);
-    ask_lists(&sessions[3], 35 + 40 + 12 * CLERKS, 80 + 12 * CLERKS);
-    reserve_surely(&sessions[4], 80 + 12 * CLERKS);
+    look_surely(&sessions[3], 35 + 40 + 12 * CLERKS, 80 + 12 * CLERKS);
     serve_five(sessions, call_of(PELGAISTI_COMMIT, 0, 0), PELGAISTI_COMMITTED);
     for (int k = CLERKS - 1; k > 0; k--) {
         status = pelgaisti_session_hand_in(&sessions[k], &sessions[k / 2]);
@@ -504,14 +434,11 @@ static long woken_then[LACKING];
 /* Whether clerk 2 was woken exactly if its wait has ended, and nobody else was. It is asked after each call, whatever its status. */
 static int are_woken(pelgaisti_session *sessions) {
     pelgaisti_claim claim = {99, 99, 99, 99, 99, {0, {0}}};
-    uint64_t seen;
-    CHECK(pelgaisti_session_request(&sessions[4], 2, &claim, &seen) == PELGAISTI_OK);
+    pelgaisti_book view = PELGAISTI_EMPTY;
+    look(&sessions[4], &view);
+    CHECK(pelgaisti_book_request(&view, 2, &claim) == PELGAISTI_OK);
+    end_look(&sessions[4], &view);
     return wakes[1] + wakes[3] + wakes[4] + wakes[5] == 0 && wakes[2] == (claim.kind == 0);
-}
-
-/* The same, of a call that tells whom it has woken, too. */
-static int is_woken_as_told(pelgaisti_session *sessions, const uint32_t *list, size_t count, uint32_t before) {
-    return are_woken(sessions) && count == wakes[2] - before && (count == 0 || list[0] == 2);
 }
 
 /* Whether the call was refused memory, as is_lacking tells; notes whether it has woken clerk 2. */
@@ -521,57 +448,27 @@ static int is_lacking_awake(int call, uint32_t status, uint32_t before) {
 }
 
 /* Clerk 4 makes passes until one isn't starved, which serve the commit of clerk 1 and a lock of clerk 3 on a new resource. */
-static void serve_awake(pelgaisti_session *sessions, pelgaisti_call lock, int is_telling) {
-    int call = is_telling ? WAKING_SERVE_TELLING : WAKING_SERVE;
+static void serve_awake(pelgaisti_session *sessions, pelgaisti_call lock) {
     pelgaisti_answer answer;
     pelgaisti_pass pass;
     CHECK(pelgaisti_session_publish(&sessions[2], &lock, NULL) == PELGAISTI_OK);
     do {
-        uint32_t list[CLERKS] = {77}, before = wakes[2], status;
-        size_t count = 0;
-        pass.starved = 99;
-        status = is_telling ? pelgaisti_session_serve_telling(&sessions[3], &pass, list, CLERKS, &count)
-                            : pelgaisti_session_serve(&sessions[3], &pass);
-        if (is_telling) CHECK(is_woken_as_told(sessions, list, count, before));
-        else CHECK(are_woken(sessions));
-        if (is_lacking_awake(call, status, before)) {
-            CHECK(is_telling && pass.starved == 99 && count == 0); /* no pass was made */
-            continue;
-        }
-        CHECK(status == PELGAISTI_OK);
-        if (pass.starved) {
-            lacked[call]++;
-            woken_then[call] += wakes[2] > before;
-        }
+        const uint32_t before = wakes[2];
+        CHECK(pelgaisti_session_serve(&sessions[3], &pass) == PELGAISTI_OK && are_woken(sessions));
+        lacked[WAKING_SERVE] += pass.starved;
+        woken_then[WAKING_SERVE] += pass.starved && wakes[2] > before;
     } while (pass.starved);
     CHECK(pelgaisti_session_collect(&sessions[2], &answer) == PELGAISTI_OK && answer.reply.kind == PELGAISTI_GRANTED);
 }
 
-/* Clerk 3 performs the lock at once, until memory is there, in passes that serve the commit of clerk 1. */
-static void perform_awake(pelgaisti_session *sessions, pelgaisti_call lock, int is_telling) {
-    int call = is_telling ? WAKING_TELLING : WAKING_AT_ONCE;
-    pelgaisti_answer answer = {99, {77, 88}};
-    uint32_t status, before;
-    do {
-        uint32_t list[CLERKS] = {77};
-        size_t count = 99;
-        before = wakes[2];
-        status = is_telling ? pelgaisti_session_perform_telling(&sessions[2], &lock, NULL, &answer, list, CLERKS, &count)
-                            : pelgaisti_session_perform_at_once(&sessions[2], &lock, NULL, &answer);
-        if (is_telling) CHECK(is_woken_as_told(sessions, list, count, before));
-        else CHECK(are_woken(sessions));
-    } while (is_lacking_awake(call, status, before));
-    CHECK(status == PELGAISTI_OK && answer.reply.kind == PELGAISTI_GRANTED);
-}
-
-/* Clerk 3 performs the lock, and finishes it where it is left pending. */
-static void whole_call_awake(pelgaisti_session *sessions, pelgaisti_call lock) {
+/* Clerk 3 performs the lock, in so many turns, and finishes it where it is left pending. */
+static void perform_awake(pelgaisti_session *sessions, pelgaisti_call lock, uint64_t turns) {
     const pelgaisti_call *next = &lock;
     pelgaisti_answer answer = {99, {77, 88}};
     uint32_t status, before;
     do {
         before = wakes[2];
-        status = pelgaisti_session_perform(&sessions[2], next, 9, &answer);
+        status = pelgaisti_session_perform(&sessions[2], next, turns, &answer);
         next = NULL;
         CHECK(are_woken(sessions));
     } while (is_lacking_awake(WAKING_PERFORM, status, before));
@@ -614,10 +511,10 @@ static void wakers(void) {
     pelgaisti_session sessions[CLERKS];
     pelgaisti_book book = PELGAISTI_EMPTY;
     memset(sessions, 0, sizeof sessions);
-    uint32_t status = pelgaisti_office_open_waking(sessions, CLERKS, UINT64_MAX, &waker);
+    uint32_t status = open_office_with(sessions, CLERKS, UINT64_MAX, &waker, 0);
     while (is_lacking(OPEN_WAKING, status)) {
         for (int k = 0; k < CLERKS; k++) CHECK(sessions[k].is_open_ == 0 && sessions[k].at_ == NULL);
-        status = pelgaisti_office_open_waking(sessions, CLERKS, UINT64_MAX, &waker);
+        status = open_office_with(sessions, CLERKS, UINT64_MAX, &waker, 0);
     }
     CHECK(status == PELGAISTI_OK);
     perform_surely(&sessions[2], begin, PELGAISTI_BEGAN);
@@ -630,14 +527,15 @@ static void wakers(void) {
             perform_surely(&sessions[k], call_of(PELGAISTI_LOCK, PELGAISTI_X, 7), k == 0 ? PELGAISTI_GRANTED : PELGAISTI_WAITING);
         }
         CHECK(pelgaisti_session_publish(&sessions[0], &commit, NULL) == PELGAISTI_OK);
-        switch (round % 6) {
-        case 0:
-        case 1: serve_awake(sessions, lock, round % 6 == 1); break;
-        case 2:
-        case 3: perform_awake(sessions, lock, round % 6 == 3); break;
-        case 4: whole_call_awake(sessions, lock); break;
-        default: lock_awake(sessions, lock.resource.numbers[0], 1 + round / 6 % 4);
+        switch (round % 4) {
+        case 0: serve_awake(sessions, lock); break;
+        case 1: perform_awake(sessions, lock, 1); break;
+        case 2: perform_awake(sessions, lock, 9); break;
+        default: lock_awake(sessions, lock.resource.numbers[0], 1 + round / 4 % 4);
         }
+        /* where memory was refused to the commit, it was put back, though the lock may have been made behind it */
+        for (int tries = 0; wakes[2] == 0 && tries < 9; tries++)
+            CHECK(pelgaisti_session_serve(&sessions[3], NULL) == PELGAISTI_OK && are_woken(sessions));
         CHECK(wakes[2] == 1);
         CHECK(pelgaisti_session_collect(&sessions[0], &answer) == PELGAISTI_OK && answer.reply.kind == PELGAISTI_COMMITTED);
         perform_surely(&sessions[1], call_of(PELGAISTI_POLL, 0, 0), PELGAISTI_CLEAR);
@@ -652,10 +550,10 @@ static void wakers(void) {
 
 /* Runs a program of a session, and finishes it where memory is refused: then it is pending, and nothing was written. */
 static pelgaisti_program_answer run_whole(pelgaisti_session *session, const pelgaisti_program *program) {
-    pelgaisti_program_answer answer = {77, 77, 77, 77, {{77, 88}}};
+    pelgaisti_program_answer answer = unmade;
     pelgaisti_status status = pelgaisti_session_run(session, program, 9, &answer);
     while (is_lacking(SESSION_RUN, status)) {
-        CHECK(answer.place == 77 && answer.served == 77 && answer.replies[0].kind == 77);
+        CHECK(answer.place == 77 && answer.served == 77 && answer.values[0] == 77);
         CHECK(pelgaisti_session_run(session, program, 9, &answer) == PELGAISTI_PENDING);
         status = pelgaisti_session_run(session, NULL, 9, &answer);
     }
@@ -673,7 +571,7 @@ static void session_programs(void) {
     pelgaisti_answer answer;
     uint64_t length = 0;
     memset(sessions, 0, sizeof sessions);
-    while (is_lacking(OPEN_WAKING, pelgaisti_office_open_waking(sessions, CLERKS, UINT64_MAX, &waker))) continue;
+    while (is_lacking(OPEN_WAKING, open_office_with(sessions, CLERKS, UINT64_MAX, &waker, 0))) continue;
     for (int k = 0; k < CLERKS; k++) perform_surely(&sessions[k], begin, PELGAISTI_BEGAN);
     for (uint32_t round = 0; round < 24; round++) {
         pelgaisti_program program = {PELGAISTI_COMMITS_AND_BEGINS, 0, PELGAISTI_IX, {PELGAISTI_LOCK, PELGAISTI_X, {5, {7, round, 1, 1, 1}}}};
@@ -697,7 +595,7 @@ static void session_programs(void) {
         program.start = PELGAISTI_NOTHING;
         program.level = 0;
         program.last = call_of(PELGAISTI_LOCK, PELGAISTI_IX, 500 + round);
-        CHECK(run_whole(&sessions[2], &program).replies[0].kind == PELGAISTI_GRANTED);
+        CHECK(run_whole(&sessions[2], &program).values[0] == PELGAISTI_IX);
         perform_surely(&sessions[1], call_of(PELGAISTI_POLL, 0, 0), PELGAISTI_CLEAR);
         for (int k = 0; k < 2; k++) {
             perform_surely(&sessions[k], call_of(PELGAISTI_COMMIT, 0, 0), PELGAISTI_COMMITTED);
@@ -717,7 +615,6 @@ static struct told {
     pelgaisti_deadlock list[2];
     pelgaisti_member members[4];
     size_t count, member_count;
-    uint64_t seen;
 } told_of, untold_of;
 
 /* The newest of the deadlocks is that of these databases of sessions 1 and 2, each of which holds one in X and waits for the other. Session 2
@@ -730,15 +627,10 @@ static int are_told(size_t count, uint32_t first) {
            last[1].request.resource.numbers[0] == first + 1;
 }
 
-/* A book asks to keep one deadlock, and then two, once: where memory is refused, it keeps one. It makes two, and tells what it keeps. */
+/* A book that keeps two deadlocks, or isn't opened, makes two, and tells them. */
 static void deadlocks_of_a_book(void) {
     pelgaisti_book book = PELGAISTI_EMPTY;
-    uint32_t status;
-    size_t kept;
-    while (is_lacking(BOOK_OPEN, pelgaisti_book_open(&book, 2))) continue;
-    while (is_lacking(KEEP_DEADLOCKS, pelgaisti_book_keep_deadlocks(&book, 1))) continue;
-    status = pelgaisti_book_keep_deadlocks(&book, 2);
-    kept = is_lacking(KEEP_DEADLOCKS, status) ? 1 : 2;
+    while (is_lacking(OPEN_DEADLOCKS, open_book_of_deadlocks(&book, 2, 2))) CHECK(book.is_open_ == 0 && book.at_ == NULL);
     for (uint32_t first = 10; first < 30; first += 10) {
         for (uint32_t s = 1; s <= 2; s++) {
             serve_surely(&book, s, begin, PELGAISTI_BEGAN);
@@ -753,15 +645,15 @@ static void deadlocks_of_a_book(void) {
     while (is_lacking(BOOK_DEADLOCKS, pelgaisti_book_deadlocks(&book, told_of.list, 2, &told_of.count, told_of.members, 4,
                                                                &told_of.member_count)))
         CHECK(!memcmp(&told_of, &untold_of, sizeof told_of));
-    CHECK(are_told(kept, 20));
+    CHECK(are_told(2, 20));
     CHECK(pelgaisti_book_close(&book) == PELGAISTI_OK);
 }
 
-/* The same of an office, which keeps two or isn't opened. */
+/* The same of an office. */
 static void deadlocks_of_an_office(void) {
     pelgaisti_session sessions[2] = {PELGAISTI_EMPTY, PELGAISTI_EMPTY};
-    pelgaisti_book book = PELGAISTI_EMPTY;
-    while (is_lacking(OPEN_TELLING, pelgaisti_office_open_telling(sessions, 2, UINT64_MAX, NULL, 2)))
+    pelgaisti_book book = PELGAISTI_EMPTY, view = PELGAISTI_EMPTY;
+    while (is_lacking(OFFICE_DEADLOCKS, open_office_with(sessions, 2, UINT64_MAX, NULL, 2)))
         for (int k = 0; k < 2; k++) CHECK(sessions[k].is_open_ == 0 && sessions[k].at_ == NULL);
     for (uint32_t s = 0; s < 2; s++) {
         perform_surely(&sessions[s], begin, PELGAISTI_BEGAN);
@@ -770,10 +662,11 @@ static void deadlocks_of_an_office(void) {
     perform_surely(&sessions[0], call_of(PELGAISTI_LOCK, PELGAISTI_X, 11), PELGAISTI_WAITING);
     perform_surely(&sessions[1], call_of(PELGAISTI_LOCK, PELGAISTI_X, 10), PELGAISTI_DEADLOCK);
     memset(&told_of, 0x55, sizeof told_of);
-    while (is_lacking(SESSION_DEADLOCKS, pelgaisti_session_deadlocks(&sessions[0], told_of.list, 2, &told_of.count, told_of.members, 4,
-                                                                     &told_of.member_count, &told_of.seen)))
+    look(&sessions[0], &view);
+    while (is_lacking(VIEW_DEADLOCKS, pelgaisti_book_deadlocks(&view, told_of.list, 2, &told_of.count, told_of.members, 4, &told_of.member_count)))
         CHECK(!memcmp(&told_of, &untold_of, sizeof told_of));
-    CHECK(are_told(1, 10) && told_of.seen == 6);
+    end_look(&sessions[0], &view);
+    CHECK(are_told(1, 10));
     while (is_lacking(HAND_IN, pelgaisti_session_hand_in(&sessions[1], &sessions[0]))) continue;
     while (is_lacking(OFFICE_CLOSE, pelgaisti_office_close(&sessions[0], &book))) continue;
     CHECK(pelgaisti_book_close(&book) == PELGAISTI_OK);
@@ -785,13 +678,13 @@ static void deadlocks(void) {
     deadlocks_of_an_office();
 }
 
-/* While one session makes a pass, which allocates, a serve of another session returns ELSEWHERE and writes nothing, and so do the
-   calls that a third performs at once. The calls of both sessions are answered afterwards. */
+/* While one session makes a pass, which allocates, a serve of another session returns ELSEWHERE and writes nothing, and so does a take of
+   entries by a third, whose call of one turn is left pending. The calls of all three are answered afterwards. */
 static void elsewhere(void) {
     pelgaisti_session sessions[3] = {PELGAISTI_EMPTY, PELGAISTI_EMPTY, PELGAISTI_EMPTY};
     pelgaisti_book book = PELGAISTI_EMPTY;
     pelgaisti_answer answer;
-    CHECK(pelgaisti_office_open(sessions, 3) == PELGAISTI_OK);
+    CHECK(open_sessions(sessions, 3) == PELGAISTI_OK);
     for (int k = 0; k < 2; k++) CHECK(pelgaisti_session_publish(&sessions[k], &begin, NULL) == PELGAISTI_OK);
     unwritten.served = unwritten.starved = 99;
     ahead = try_meanwhile;
@@ -799,14 +692,12 @@ static void elsewhere(void) {
     other = &sessions[2];
     CHECK(pelgaisti_session_serve(&sessions[0], NULL) == PELGAISTI_OK);
     CHECK(!meanwhile && told == PELGAISTI_ELSEWHERE && unwritten.served == 99 && unwritten.starved == 99);
-    CHECK(at_once == PELGAISTI_ELSEWHERE && telling == PELGAISTI_ELSEWHERE && unanswered.place == 99 && untold[0] == 77 && uncounted == 99);
-    for (int k = 0; k < QUESTIONS; k++) CHECK(asked[k] == PELGAISTI_ELSEWHERE);
-    CHECK(unasked == 99 && unseen == 99 && uncounted == 99);
-    CHECK(pelgaisti_session_collect(&sessions[2], &answer) == PELGAISTI_NOTHING_PENDING);
+    CHECK(at_once == PELGAISTI_NOT_SERVED && unanswered.place == 99 && taking == PELGAISTI_ELSEWHERE && unplaced == 99 && uncounted == 99);
+    CHECK(pelgaisti_session_collect(&sessions[2], &answer) == PELGAISTI_NOT_SERVED);
     CHECK(pelgaisti_session_serve(&sessions[1], NULL) == PELGAISTI_OK);
-    for (int k = 0; k < 2; k++) CHECK(pelgaisti_session_collect(&sessions[k], &answer) == PELGAISTI_OK && answer.reply.kind == PELGAISTI_BEGAN);
+    for (int k = 0; k < 3; k++) CHECK(pelgaisti_session_collect(&sessions[k], &answer) == PELGAISTI_OK && answer.reply.kind == PELGAISTI_BEGAN);
     for (int k = 1; k < 3; k++) CHECK(pelgaisti_session_hand_in(&sessions[k], &sessions[0]) == PELGAISTI_OK);
-    CHECK(pelgaisti_office_close(&sessions[0], &book) == PELGAISTI_OK && length_of(&book) == 2);
+    CHECK(pelgaisti_office_close(&sessions[0], &book) == PELGAISTI_OK && length_of(&book) == 3);
     CHECK(pelgaisti_book_close(&book) == PELGAISTI_OK);
 }
 

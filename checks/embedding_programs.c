@@ -2,12 +2,10 @@
    that stop at a wait, a victim's reply or a refusal; and random programs of 64 threads, whose history is replayed on a book. Valid C99.
    Prints the line of each check that fails, and last 'N passed, M failed'. */
 #define _XOPEN_SOURCE 600
-#include "pelgaisti.h"
+#include "open.h"
 #include "program_calls.h"
 #include <pthread.h>
 #include <semaphore.h>
-#include <stdio.h>
-#include <stdlib.h>
 #include <string.h>
 
 static int passed, failed;
@@ -60,16 +58,31 @@ static uint64_t seen_by(pelgaisti_session *session) {
     return seen;
 }
 
+/* The replies that an answer to the program tells, one by one; behind them 0. */
+static pelgaisti_reply replies[PELGAISTI_CALLS];
+
+/* Reads them. Whether the answer has their values, and says so where it stopped. */
+static int is_told(const pelgaisti_program *program, const pelgaisti_program_answer *answer) {
+    uint32_t count, stop = 0;
+    memset(replies, 0, sizeof replies);
+    count = pelgaisti_program_replies(program, answer, replies);
+    if (count != answer->served || count > PELGAISTI_CALLS) return 0;
+    for (uint32_t k = 0; k < PELGAISTI_CALLS; k++) {
+        const pelgaisti_reply *it = &replies[k];
+        if (stops_at(it->kind)) stop = it->kind;
+        if (answer->values[k] != it->value || (k >= count && (it->kind || it->value))) return 0;
+    }
+    return answer->stop == stop;
+}
+
 /* Runs a program with so many replies, of which the last has this kind: then the answer says so, and the session knows the history up to
    there. */
 static pelgaisti_program_answer run(pelgaisti_session *session, pelgaisti_program program, uint32_t served, uint32_t kind) {
     pelgaisti_program_answer answer;
     memset(&answer, 0x55, sizeof answer);
-    CHECK(pelgaisti_session_run(session, &program, UINT64_MAX, &answer) == PELGAISTI_OK);
-    CHECK(answer.served == served && answer.starved == 0 && answer.replies[served - 1].kind == kind);
-    CHECK(answer.stop == (kind == PELGAISTI_WAITING || kind == PELGAISTI_DEADLOCK || kind == PELGAISTI_REFUSED ? kind : 0));
-    CHECK(seen_by(session) >= answer.place + served);
-    for (uint32_t k = served; k < PELGAISTI_CALLS; k++) CHECK(answer.replies[k].kind == 0 && answer.replies[k].value == 0);
+    CHECK(pelgaisti_session_run(session, &program, UINT64_MAX, &answer) == PELGAISTI_OK && is_told(&program, &answer));
+    CHECK(answer.served == served && answer.starved == 0 && replies[served - 1].kind == kind);
+    CHECK(answer.stop == (stops_at(kind) ? kind : 0) && seen_by(session) >= answer.place + served);
     return answer;
 }
 
@@ -142,9 +155,7 @@ static void want_pending(pelgaisti_session *session, pelgaisti_session *other) {
     pelgaisti_book book = PELGAISTI_EMPTY;
     pelgaisti_answer answer = {99, {77, 88}};
     pelgaisti_lock_answer locked;
-    uint32_t list[3] = {77, 77, 77};
     uint64_t before = seen_by(session);
-    size_t count = 99;
     bad_programs(session);
     for (uint64_t turns = 0; turns <= 40; turns += 20) {
         CHECK(is_unrun(session, &next, turns, PELGAISTI_PENDING));
@@ -154,13 +165,11 @@ static void want_pending(pelgaisti_session *session, pelgaisti_session *other) {
     }
     CHECK(pelgaisti_session_collect(session, &answer) == PELGAISTI_PENDING);
     CHECK(pelgaisti_session_publish(session, &poll, NULL) == PELGAISTI_PENDING);
-    CHECK(pelgaisti_session_perform_at_once(session, &poll, NULL, &answer) == PELGAISTI_PENDING);
-    CHECK(pelgaisti_session_perform_telling(session, &poll, NULL, &answer, list, 3, &count) == PELGAISTI_PENDING);
     CHECK(pelgaisti_session_retire(session) == PELGAISTI_PENDING);
     CHECK(pelgaisti_session_hand_in(session, other) == PELGAISTI_PENDING);
     CHECK(pelgaisti_office_close(session, &book) == PELGAISTI_MISSING);
     CHECK(is_unrun(session, NULL, 0, PELGAISTI_NOT_SERVED));
-    CHECK(answer.place == 99 && answer.reply.kind == 77 && list[0] == 77 && count == 99 && seen_by(session) == before);
+    CHECK(answer.place == 99 && answer.reply.kind == 77 && seen_by(session) == before);
 }
 
 static void programs_refuse(void) {
@@ -169,7 +178,7 @@ static void programs_refuse(void) {
     pelgaisti_program_answer answer;
     pelgaisti_book book = PELGAISTI_EMPTY;
     CHECK(is_unrun(&three[0], &program, 9, PELGAISTI_CLOSED) && is_unrun(&three[0], NULL, 9, PELGAISTI_CLOSED));
-    CHECK(pelgaisti_office_open(three, 3) == PELGAISTI_OK);
+    CHECK(open_sessions(three, 3) == PELGAISTI_OK);
     CHECK(pelgaisti_session_run(NULL, &program, 9, &answer) == PELGAISTI_NULL && pelgaisti_session_run(NULL, NULL, 9, &answer) == PELGAISTI_NULL);
     CHECK(pelgaisti_session_run(&three[0], &program, 9, NULL) == PELGAISTI_NULL && pelgaisti_session_run(&three[0], NULL, 9, NULL) == PELGAISTI_NULL);
     bad_programs(&three[0]);
@@ -191,21 +200,21 @@ static void programs_refuse(void) {
 /* A pending call and a pending program of one call are finished by the functions for calls and for programs alike. */
 static void one_call_is_finished_by_any(void) {
     pelgaisti_session two[2] = {PELGAISTI_EMPTY, PELGAISTI_EMPTY}, *s = &two[0];
-    pelgaisti_program begins = start_of(PELGAISTI_BEGINS), commits = start_of(PELGAISTI_COMMITS);
+    pelgaisti_program begins = start_of(PELGAISTI_BEGINS), commits = start_of(PELGAISTI_COMMITS), polls = program_of(PELGAISTI_NOTHING, poll);
     pelgaisti_program_answer made;
     pelgaisti_book book = PELGAISTI_EMPTY;
     pelgaisti_answer answer;
-    CHECK(pelgaisti_office_open(two, 2) == PELGAISTI_OK);
+    CHECK(open_sessions(two, 2) == PELGAISTI_OK);
     CHECK(pelgaisti_session_publish(s, &begin, NULL) == PELGAISTI_OK && is_unrun(s, &commits, 9, PELGAISTI_PENDING));
     CHECK(pelgaisti_session_run(s, NULL, 9, &made) == PELGAISTI_OK && made.place == 0 && made.served == 1 && made.stop == 0);
-    CHECK(made.replies[0].kind == PELGAISTI_BEGAN && made.replies[0].value == 1 && made.replies[1].kind == 0);
+    CHECK(is_told(&begins, &made) && replies[0].kind == PELGAISTI_BEGAN && replies[0].value == 1 && replies[1].kind == 0);
     CHECK(is_unrun(s, &commits, 0, PELGAISTI_NOT_SERVED));
     CHECK(pelgaisti_session_perform(s, NULL, 9, &answer) == PELGAISTI_OK && answer.place == 1 && answer.reply.kind == PELGAISTI_COMMITTED);
     CHECK(is_unrun(s, &begins, 0, PELGAISTI_NOT_SERVED) && pelgaisti_session_collect(s, &answer) == PELGAISTI_NOT_SERVED);
     CHECK(pelgaisti_session_serve(&two[1], NULL) == PELGAISTI_OK);
     CHECK(pelgaisti_session_collect(s, &answer) == PELGAISTI_OK && answer.place == 2 && answer.reply.kind == PELGAISTI_BEGAN);
     CHECK(pelgaisti_session_perform(s, &poll, 0, &answer) == PELGAISTI_NOT_SERVED);
-    CHECK(pelgaisti_session_run(s, NULL, 9, &made) == PELGAISTI_OK && made.place == 3 && made.replies[0].kind == PELGAISTI_CLEAR);
+    CHECK(pelgaisti_session_run(s, NULL, 9, &made) == PELGAISTI_OK && made.place == 3 && is_told(&polls, &made) && replies[0].kind == PELGAISTI_CLEAR);
     close_all(two, 2, &book);
     CHECK(pelgaisti_book_close(&book) == PELGAISTI_OK);
 }
@@ -220,17 +229,19 @@ static void others_serve_programs(void) {
     pelgaisti_book book = PELGAISTI_EMPTY;
     pelgaisti_pass pass;
     size_t count = 0;
-    CHECK(pelgaisti_office_open(three, 3) == PELGAISTI_OK);
+    CHECK(open_sessions(three, 3) == PELGAISTI_OK);
     CHECK(is_unrun(&three[0], &first, 0, PELGAISTI_NOT_SERVED) && is_unrun(&three[1], &second, 0, PELGAISTI_NOT_SERVED));
     CHECK(pelgaisti_session_serve(&three[2], &pass) == PELGAISTI_OK && pass.served == 2 && pass.starved == 0);
     CHECK(pelgaisti_session_run(&three[0], NULL, 1, &made) == PELGAISTI_OK && made.served == 6 && made.stop == 0);
     CHECK(made.place == 0 || made.place == 6);
-    CHECK(pelgaisti_session_run(&three[1], NULL, 1, &made) == PELGAISTI_OK && made.served == 6 && made.replies[5].value == PELGAISTI_X);
+    CHECK(pelgaisti_session_run(&three[1], NULL, 1, &made) == PELGAISTI_OK && is_told(&second, &made) && made.served == 6);
+    CHECK(replies[5].kind == PELGAISTI_GRANTED && made.values[5] == PELGAISTI_X);
     /* the commit with the next begin and its path goes ahead of what is published */
     CHECK(is_unrun(&three[2], &first, 0, PELGAISTI_NOT_SERVED));
     made = run(&three[0], path_of(PELGAISTI_COMMITS_AND_BEGINS, call_of(PELGAISTI_LOCK, PELGAISTI_S, 2, 5, 6)), 4, PELGAISTI_GRANTED);
-    CHECK(made.place == 12 && made.replies[0].value == 5 && made.replies[1].kind == PELGAISTI_BEGAN);
+    CHECK(made.place == 12 && replies[0].value == 5 && replies[1].kind == PELGAISTI_BEGAN);
     CHECK(pelgaisti_session_run(&three[2], NULL, 1, &made) == PELGAISTI_OK && made.place == 16 && made.served == 6);
+    run(&three[0], program_of(PELGAISTI_NOTHING, call_of(PELGAISTI_RELEASE, 0, 2, 5, 6)), 1, PELGAISTI_RELEASED);
     close_all(three, 3, &book);
     CHECK(pelgaisti_book_history(&book, 0, entries, 16, &count) == PELGAISTI_OK && count == 16);
     for (size_t k = 0; k < count; k++) CHECK(entries[k].session == entries[k < 12 ? k / 6 * 6 : 12].session);
@@ -254,7 +265,7 @@ static void programs_stop(int is_published) {
     pelgaisti_book book = PELGAISTI_EMPTY;
     uint32_t mode = 99;
     memset(woken, 0, sizeof woken);
-    CHECK(pelgaisti_office_open_waking(three, 3, UINT64_MAX, &wakes) == PELGAISTI_OK);
+    CHECK(open_office_with(three, 3, UINT64_MAX, &wakes, 0) == PELGAISTI_OK);
     run(&three[0], program, 3, PELGAISTI_GRANTED);
     /* session 2 waits at its third call, and makes no fourth one */
     if (is_published) {
@@ -266,7 +277,7 @@ static void programs_stop(int is_published) {
     }
     CHECK(made.place == 3 && made.served == 3 && made.stop == PELGAISTI_WAITING && woken[2] == 0);
     run(&three[1], program_of(PELGAISTI_NOTHING, poll), 1, PELGAISTI_WAITING);
-    CHECK(run(&three[1], path_of(PELGAISTI_COMMITS, write_2), 1, PELGAISTI_REFUSED).replies[0].value == PELGAISTI_IS_WAITING);
+    CHECK(run(&three[1], path_of(PELGAISTI_COMMITS, write_2), 1, PELGAISTI_REFUSED).values[0] == PELGAISTI_IS_WAITING);
     /* the commit of session 1 grants its request, and the calls behind it are made */
     program = path_of(PELGAISTI_COMMITS_AND_BEGINS, write_2);
     if (is_published) {
@@ -276,22 +287,22 @@ static void programs_stop(int is_published) {
     } else {
         made = run(&three[0], program, 4, PELGAISTI_GRANTED);
     }
-    CHECK(made.served == 4 && made.replies[0].kind == PELGAISTI_COMMITTED && made.replies[0].value == 2 && made.stop == 0);
+    CHECK(is_told(&program, &made) && made.served == 4 && made.values[0] == 2 && replies[0].kind == PELGAISTI_COMMITTED && made.stop == 0);
     CHECK(woken[1] == 0 && woken[2] == 1 && woken[3] == 0);
     run(&three[1], program_of(PELGAISTI_NOTHING, poll), 1, PELGAISTI_CLEAR);
     /* a refusal behind calls that were granted */
     made = run(&three[1], program_of(PELGAISTI_BEGINS, poll), 1, PELGAISTI_REFUSED);
-    CHECK(made.replies[0].value == PELGAISTI_ALREADY_OPEN);
+    CHECK(made.values[0] == PELGAISTI_ALREADY_OPEN);
     program = program_of(PELGAISTI_NOTHING, call_of(PELGAISTI_LOCK, PELGAISTI_X, 4, 7, 3));
     program.level = 2;
     program.above = PELGAISTI_IX;
-    CHECK(run(&three[1], program, 1, PELGAISTI_REFUSED).replies[0].value == PELGAISTI_PARENT_NOT_HELD);
+    CHECK(run(&three[1], program, 1, PELGAISTI_REFUSED).values[0] == PELGAISTI_PARENT_NOT_HELD);
     /* sessions 1 and 2 wait crosswise: session 1 is the younger, and the victim */
-    CHECK(run(&three[1], program_of(PELGAISTI_NOTHING, write_2), 1, PELGAISTI_WAITING).replies[0].value == 0);
+    CHECK(run(&three[1], program_of(PELGAISTI_NOTHING, write_2), 1, PELGAISTI_WAITING).values[0] == 0);
     made = run(&three[0], path_of(PELGAISTI_NOTHING, write_1), 2, PELGAISTI_DEADLOCK);
     CHECK(woken[1] == 0 && woken[2] == 1);
     made = run(&three[0], path_of(PELGAISTI_ABORTS_AND_BEGINS, call_of(PELGAISTI_LOCK, PELGAISTI_IS, 1, 7, 0)), 3, PELGAISTI_GRANTED);
-    CHECK(made.replies[0].kind == PELGAISTI_ABORTED && made.replies[0].value == 2 && woken[2] == 2);
+    CHECK(replies[0].kind == PELGAISTI_ABORTED && made.values[0] == 2 && woken[2] == 2);
     run(&three[1], program_of(PELGAISTI_NOTHING, poll), 1, PELGAISTI_CLEAR);
     close_all(three, 3, &book);
     CHECK(pelgaisti_book_held(&book, 2, &write_2.resource, &mode) == PELGAISTI_OK && mode == PELGAISTI_X);
@@ -395,15 +406,15 @@ static int is_in_history(const clerk *c, const made *it, const pelgaisti_entry *
     pelgaisti_call calls[PELGAISTI_CALLS];
     size_t count = calls_of(&it->program, calls), served = it->answer.served;
     if (it->answer.place < from || served < 1 || served > count || it->answer.place + served > length || it->answer.starved) return 0;
+    if (!is_told(&it->program, &it->answer)) return 0;
     for (size_t k = 0; k < served; k++) {
         const pelgaisti_entry *entry = &entries[it->answer.place + k];
-        const pelgaisti_reply *reply = &it->answer.replies[k];
+        const pelgaisti_reply *reply = &replies[k];
         if (entry->session != c->number || !same_call(&entry->call, &calls[k])) return 0;
         if (entry->reply.kind != reply->kind || entry->reply.value != reply->value) return 0;
         if (k + 1 < served && stops_at(reply->kind)) return 0;
     }
-    uint32_t last = it->answer.replies[served - 1].kind;
-    return it->answer.stop == (stops_at(last) ? last : 0) && (served == count || stops_at(last));
+    return served == count || stops_at(replies[served - 1].kind);
 }
 
 /* 64 threads run random programs. Each program is in the history, in its session's order, and the whole history, served call by call on a
@@ -414,11 +425,11 @@ static void programs_at_random(void) {
     pelgaisti_book book = PELGAISTI_EMPTY, twin = PELGAISTI_EMPTY;
     pelgaisti_entry *entries;
     pthread_t threads[THREADS];
-    uint64_t length = 0, calls = 0, bad = 0, late = 0;
+    uint64_t first = 1, length = 0, calls = 0, bad = 0, late = 0;
     size_t count = 0;
 
     for (size_t k = 0; k <= THREADS; k++) CHECK(sem_init(&beds[k], 0, 0) == 0);
-    CHECK(pelgaisti_office_open_waking(sessions, THREADS, UINT64_MAX, &rouses) == PELGAISTI_OK);
+    CHECK(open_office_with(sessions, THREADS, UINT64_MAX, &rouses, 0) == PELGAISTI_OK);
     for (uint32_t k = 0; k < THREADS; k++) {
         clerks[k].session = &sessions[k];
         clerks[k].number = k + 1;
@@ -427,7 +438,7 @@ static void programs_at_random(void) {
     }
     for (uint32_t k = 0; k < THREADS; k++) CHECK(pthread_join(threads[k], NULL) == 0);
     close_all(sessions, THREADS, &book);
-    CHECK(pelgaisti_book_length(&book, &length) == PELGAISTI_OK);
+    CHECK(pelgaisti_book_length(&book, &first, &length) == PELGAISTI_OK && first == 0);
     entries = (pelgaisti_entry *)calloc(length, sizeof *entries);
     CHECK(entries && pelgaisti_book_history(&book, 0, entries, length, &count) == PELGAISTI_OK && count == length);
     for (uint32_t k = 0; k < THREADS && entries; k++) {
@@ -441,7 +452,7 @@ static void programs_at_random(void) {
         }
     }
     CHECK(bad == 0 && calls == length && late > 0);
-    CHECK(pelgaisti_book_open(&twin, THREADS) == PELGAISTI_OK);
+    CHECK(open_book(&twin, THREADS) == PELGAISTI_OK);
     bad = 0;
     for (uint64_t place = 0; place < length && entries; place++) {
         pelgaisti_reply reply = {0, 0};

@@ -3,10 +3,9 @@
    Status 0 means that it didn't. With the argument `ordered` each writes it under the same lock, by calls that it publishes and collects,
    and nothing is to be reported. */
 #define _XOPEN_SOURCE 600
-#include "pelgaisti.h"
+#include "open.h"
 #include <pthread.h>
 #include <sched.h>
-#include <stdlib.h>
 #include <string.h>
 
 static pelgaisti_session sessions[4];
@@ -74,8 +73,7 @@ int main(int argc, char **argv) {
     const char *how = argc > 1 ? argv[1] : "";
     int is_waking = !strcmp(how, "waker"), is_ordered = !strcmp(how, "ordered");
     pthread_t threads[2];
-    if (is_waking && pelgaisti_office_open_waking(sessions, 4, UINT64_MAX, &waker) != PELGAISTI_OK) return 1;
-    if (!is_waking && pelgaisti_office_open(sessions, 4) != PELGAISTI_OK) return 1;
+    if (open_office_with(sessions, 4, UINT64_MAX, is_waking ? &waker : NULL, 0) != PELGAISTI_OK) return 1;
     pthread_barrier_init(&both_have_locked, NULL, 2);
     for (int k = 0; k < 4 && is_waking; k++) {
         perform(&sessions[k], PELGAISTI_BEGIN, 0, 0);

@@ -15,7 +15,8 @@ static uint32_t number_of(const name *list, size_t length, const char *text) {
 int main(void) {
     pelgaisti_book book = PELGAISTI_EMPTY;
     char line[256];
-    if (pelgaisti_book_open(&book, PELGAISTI_MAX_SESSIONS) != PELGAISTI_OK) return 1;
+    const pelgaisti_options options = PELGAISTI_OPTIONS(PELGAISTI_MAX_SESSIONS);
+    if (pelgaisti_book_open(&book, &options) != PELGAISTI_OK) return 1;
     while (fgets(line, sizeof line, stdin)) {
         char *field[4], *at = line;
         pelgaisti_call call = {0, 0, {0, {0}}};
@@ -34,8 +35,8 @@ int main(void) {
         if (*field[3]) call.mode = number_of(modes, COUNT(modes), field[3]);
         if (pelgaisti_book_serve(&book, (uint32_t)strtoul(field[0], NULL, 10), &call, &reply) != PELGAISTI_OK) return 3;
     }
-    uint64_t length = 0;
-    if (pelgaisti_book_length(&book, &length) != PELGAISTI_OK) return 4;
+    uint64_t first = 1, length = 0;
+    if (pelgaisti_book_length(&book, &first, &length) != PELGAISTI_OK || first != 0) return 4;
     for (uint64_t place = 0; place < length; place++) {
         /* three entries at a time, which also tests that slices of the history fit together */
         pelgaisti_entry entries[3];

@@ -2,11 +2,9 @@
    bindings/c/seed.c besides the archive, which has a copy of its own, and linked with
    -Wl,--wrap=syscall,--wrap=getauxval,--wrap=clock_gettime. */
 #define _GNU_SOURCE
-#include "pelgaisti.h"
+#include "open.h"
 #include "seed.h"
 #include <stdarg.h>
-#include <stdio.h>
-#include <stdlib.h>
 #include <string.h>
 #include <sys/auxv.h>
 #include <sys/syscall.h>
@@ -91,11 +89,6 @@ static void draws(void) {
     }
 }
 
-static void nobody(void *engine, uint32_t session) {
-    (void)engine;
-    (void)session;
-}
-
 /* How many seeds an opening of an office draws, which has to succeed; it is closed again. */
 static long drawn_by(pelgaisti_session *session, pelgaisti_status status) {
     pelgaisti_book book = PELGAISTI_EMPTY;
@@ -109,18 +102,17 @@ static long drawn_by(pelgaisti_session *session, pelgaisti_status status) {
 
 /* Each opening draws one seed, and one that is given a seed draws none. Where getrandom fails an opening succeeds. */
 static void openings(void) {
-    static const pelgaisti_waker waker = {nobody, NULL};
+    pelgaisti_options drawn = PELGAISTI_OPTIONS(1), given = PELGAISTI_OPTIONS(1);
     pelgaisti_session session = PELGAISTI_EMPTY;
     pelgaisti_book book = PELGAISTI_EMPTY;
+    given.seed = 7;
     for (gives_bytes = 0; gives_bytes < 2; gives_bytes++) {
         random_calls = 0;
-        CHECK(pelgaisti_book_open(&book, 1) == PELGAISTI_OK && random_calls == 1 && pelgaisti_book_close(&book) == PELGAISTI_OK);
-        CHECK(pelgaisti_book_open_seeded(&book, 1, 7) == PELGAISTI_OK && random_calls == 1 && pelgaisti_book_close(&book) == PELGAISTI_OK);
+        CHECK(pelgaisti_book_open(&book, &drawn) == PELGAISTI_OK && random_calls == 1 && pelgaisti_book_close(&book) == PELGAISTI_OK);
+        CHECK(pelgaisti_book_open(&book, &given) == PELGAISTI_OK && random_calls == 1 && pelgaisti_book_close(&book) == PELGAISTI_OK);
         random_calls = 0;
-        CHECK(drawn_by(&session, pelgaisti_office_open(&session, 1)) == 1);
-        CHECK(drawn_by(&session, pelgaisti_office_open_keeping(&session, 1, 9)) == 1);
-        CHECK(drawn_by(&session, pelgaisti_office_open_waking(&session, 1, 9, &waker)) == 1);
-        CHECK(drawn_by(&session, pelgaisti_office_open_seeded(&session, 1, 9, &waker, 7)) == 0);
+        CHECK(drawn_by(&session, pelgaisti_office_open(&session, &drawn)) == 1);
+        CHECK(drawn_by(&session, pelgaisti_office_open(&session, &given)) == 0);
     }
 }
 

@@ -5,18 +5,16 @@
    thread sleeps for ever, and the program fails. It fails, too, if no thread has slept.
    Usage: embedding_sleep [PROGRAMS [PROCESSORS]]. Link with -Wl,--wrap=syscall and -lpthread. */
 #define _GNU_SOURCE
-#include "pelgaisti.h"
+#include "open.h"
 #include <linux/futex.h>
 #include <pthread.h>
 #include <sched.h>
 #include <stdarg.h>
-#include <stdio.h>
-#include <stdlib.h>
 #include <sys/syscall.h>
 #include <time.h>
 #include <unistd.h>
 
-enum { THREADS = 64, ROWS = 200, STILL = 20, KEPT = 1024, LISTED = THREADS * ROWS };
+enum { THREADS = 64, ROWS = 200, STILL = 20, KEPT = 1024, LISTED = THREADS * (ROWS + 3) };
 
 typedef struct worker {
     pelgaisti_session *session;
@@ -84,12 +82,16 @@ static void lock_rows(worker *w, uint32_t rows) {
 /* Looks at all locks, until the others are done. */
 static void look_at_all(worker *w) {
     static pelgaisti_claim list[LISTED];
-    uint64_t seen;
+    pelgaisti_book view = PELGAISTI_EMPTY;
+    uint64_t place;
     size_t count;
     pelgaisti_status status;
     while (__atomic_load_n(&finished, __ATOMIC_RELAXED) < THREADS - 1) {
-        status = pelgaisti_session_locks(w->session, 0, list, LISTED, &count, &seen);
-        w->bad += status != PELGAISTI_OK && status != PELGAISTI_ELSEWHERE && status != PELGAISTI_NO_MEMORY;
+        look(w->session, &view);
+        status = pelgaisti_book_dump(&view, list, LISTED, &count, &place);
+        w->bad += status != PELGAISTI_OK && status != PELGAISTI_NO_MEMORY;
+        end_look(w->session, &view);
+        __atomic_fetch_add(&answered, 1, __ATOMIC_RELAXED);
         pause_for(20000);
     }
 }
@@ -147,7 +149,7 @@ int main(int count, char **words) {
     int k;
     asked = count > 1 ? strtoull(words[1], NULL, 10) : 20000;
     keep_to(count > 2 ? atoi(words[2]) : 2);
-    if (pelgaisti_office_open_keeping(sessions, THREADS, KEPT) != PELGAISTI_OK) return 2;
+    if (open_office_with(sessions, THREADS, KEPT, NULL, 0) != PELGAISTI_OK) return 2;
     for (k = 0; k < THREADS; k++) {
         workers[k].session = &sessions[k];
         workers[k].number = workers[k].random = (uint32_t)k + 1;

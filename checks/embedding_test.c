@@ -1,12 +1,10 @@
 /* Tests every call of pelgaisti.h with each of its statuses, and threads that share an office. Valid C99 and C++.
    Prints the line of each check that fails, and last 'N passed, M failed'. */
 #define _XOPEN_SOURCE 600
-#include "pelgaisti.h"
+#include "open.h"
 #include <pthread.h>
 #include <semaphore.h>
 #include <sched.h>
-#include <stdio.h>
-#include <stdlib.h>
 #include <string.h>
 
 static int passed, failed;
@@ -37,12 +35,37 @@ static const uint32_t off_modes[] = {2, 4, 6, 8, 12, 14, 16, 255, 256, 257, UINT
 static const uint32_t off_levels[] = {0, 6, 256, 257, UINT32_MAX};
 #define COUNT(list) (sizeof(list) / sizeof((list)[0]))
 
+static pelgaisti_status length_of(pelgaisti_book *book, uint64_t *length) {
+    uint64_t first;
+    return pelgaisti_book_length(book, &first, length);
+}
+
+static pelgaisti_status first_kept_of(pelgaisti_book *book, uint64_t *first) {
+    uint64_t length;
+    return pelgaisti_book_length(book, first, &length);
+}
+
+static uint64_t idle_cells_of(pelgaisti_book *book) {
+    pelgaisti_gauges gauges = {0, 0, 0, 0, 99};
+    CHECK(pelgaisti_book_gauges(book, &gauges) == PELGAISTI_OK);
+    return gauges.idle_cells;
+}
+
+/* The replies that an answer to the program tells; behind them 0. */
+static pelgaisti_reply told[PELGAISTI_CALLS];
+
+static void read_replies(const pelgaisti_program *program, const pelgaisti_program_answer *answer) {
+    memset(told, 0, sizeof told);
+    CHECK(pelgaisti_program_replies(program, answer, told) == answer->served);
+}
+
 static void post(void *engine, uint32_t session) {
     sem_t *semaphores = (sem_t *)engine;
     sem_post(&semaphores[session]);
 }
 
-/* Each call on a handle, and what its arguments are: a pointer (p), one that may be NULL (o), a number (n), a list and its room (lr). */
+/* Each call on a handle, and what its arguments are: a pointer (p), one that may be NULL (o), options (q), a number (n), a list and its
+   room (lr). */
 typedef uint32_t (*any_call)(uintptr_t, uintptr_t, uintptr_t, uintptr_t, uintptr_t, uintptr_t, uintptr_t, uintptr_t, uintptr_t);
 #define ANY(call) #call, (any_call)(void (*)(void))pelgaisti_##call
 static const struct {
@@ -50,33 +73,27 @@ static const struct {
     any_call call;
     const char *arguments;
 } all_calls[] = {
-    {ANY(book_open), "pn"}, {ANY(book_open_seeded), "pnn"}, {ANY(book_reserve), "pnn"}, {ANY(book_shrink), "p"},
-    {ANY(book_keep_deadlocks), "pn"}, {ANY(book_deadlocks), "plrplrp"}, {ANY(session_deadlocks), "plrplrpp"},
-    {ANY(office_open_telling), "pnnon"}, {ANY(book_idle_cells), "pp"}, {ANY(office_open_seeded), "pnnon"}, {ANY(session_reserve), "pnnp"}, {ANY(session_shrink), "pp"},
-    {ANY(session_idle_cells), "ppp"}, {ANY(book_close), "p"}, {ANY(book_serve), "pnpp"}, {ANY(book_serve_batch), "plrp"}, {ANY(book_held), "pnpp"},
-    {ANY(book_holders), "pplrp"}, {ANY(book_waits_for), "pnnp"}, {ANY(book_blockers), "pnlrp"}, {ANY(book_transaction), "pnp"},
-    {ANY(book_request), "pnp"}, {ANY(book_locks), "pnlrp"}, {ANY(book_ended), "plrp"}, {ANY(book_length), "pp"},
-    {ANY(book_locks_held), "pnp"}, {ANY(book_locks_of), "pnplrp"}, {ANY(session_locks_held), "pnpp"}, {ANY(session_locks_of), "pnplrpp"},
-    {ANY(book_dump), "plrpp"}, {ANY(session_dump), "plrpp"}, {ANY(book_counts), "pp"}, {ANY(session_counts), "ppp"}, {ANY(book_gauges), "pp"}, {ANY(session_gauges), "ppp"}, {ANY(session_passes), "ppp"}, {ANY(session_bound_passes), "pnnn"},
-    {ANY(book_history), "pnlrp"}, {ANY(book_first_kept), "pp"}, {ANY(book_keep_at_most), "pn"}, {ANY(book_take_history), "pplrp"},
-    {ANY(book_run), "pnpplrp"}, {ANY(office_open), "pn"}, {ANY(office_open_keeping), "pnn"}, {ANY(office_open_waking), "pnnp"},
-    {ANY(session_publish), "ppo"}, {ANY(session_serve), "po"}, {ANY(session_serve_telling), "polrp"},
-    {ANY(session_perform_at_once), "ppop"}, {ANY(session_perform_telling), "ppoplrp"}, {ANY(session_collect), "pp"},
-    {ANY(session_take_history), "pplrp"}, {ANY(session_held), "pnppp"}, {ANY(session_transaction), "pnpp"},
-    {ANY(session_request), "pnpp"}, {ANY(session_waits_for), "pnnpp"}, {ANY(session_holders), "pplrpp"},
-    {ANY(session_blockers), "pnlrpp"}, {ANY(session_locks), "pnlrpp"}, {ANY(session_seen), "pp"}, {ANY(session_mark), "pp"},
-    {ANY(session_hear), "pp"}, {ANY(session_retire), "p"}, {ANY(session_hand_in), "pp"}, {ANY(office_close), "pp"},
-    {ANY(session_perform), "ponp"}, {ANY(session_run), "ponp"}, {ANY(session_lock), "ppnnp"}, {ANY(session_wait), "pnp"}};
+    {ANY(book_open), "pq"}, {ANY(book_close), "p"}, {ANY(book_serve), "pnpp"}, {ANY(book_serve_batch), "plrp"}, {ANY(book_run), "pnpp"},
+    {ANY(book_ended), "plrp"}, {ANY(book_held), "pnpp"}, {ANY(book_holders), "pplrp"}, {ANY(book_blockers), "pnlrp"},
+    {ANY(book_transaction), "pnp"}, {ANY(book_request), "pnp"}, {ANY(book_locks_held), "pnp"}, {ANY(book_locks_of), "pnplrp"},
+    {ANY(book_dump), "plrpp"}, {ANY(book_counts), "pp"}, {ANY(book_gauges), "pp"}, {ANY(book_passes), "pp"}, {ANY(book_deadlocks), "plrplrp"},
+    {ANY(book_length), "ppp"}, {ANY(book_history), "pnlrp"}, {ANY(book_take_history), "pplrp"}, {ANY(book_keep_at_most), "pn"},
+    {ANY(book_reserve), "pnn"}, {ANY(book_shrink), "p"}, {ANY(office_open), "pq"}, {ANY(office_close), "pp"}, {ANY(session_perform), "ponp"},
+    {ANY(session_run), "ponp"}, {ANY(session_lock), "ppnnp"}, {ANY(session_wait), "pnp"}, {ANY(session_publish), "ppo"},
+    {ANY(session_serve), "po"}, {ANY(session_collect), "pp"}, {ANY(session_hear), "pp"}, {ANY(session_look), "pp"}, {ANY(look_end), "pp"},
+    {ANY(session_take_history), "pplrp"}, {ANY(session_seen), "pp"}, {ANY(session_mark), "pp"}, {ANY(session_retire), "p"},
+    {ANY(session_hand_in), "pp"}, {ANY(session_bound_passes), "pnnn"}};
 
 /* What the pointers point to: handles are closed, and else nothing is a number that a call takes. */
 static unsigned char pointed_to[9][64];
 
 /* The status of a call whose argument `off` is NULL, if there is one, and whose lists have so much room. */
 static uint32_t status_with(size_t k, size_t off, uintptr_t room) {
+    static const pelgaisti_options none = PELGAISTI_OPTIONS(0);
     uintptr_t a[9] = {0, 0, 0, 0, 0, 0, 0, 0, 0};
     for (size_t n = 0; all_calls[k].arguments[n]; n++) {
         const char is = all_calls[k].arguments[n];
-        a[n] = is == 'r' ? room : is == 'n' || n == off ? 0 : (uintptr_t)pointed_to[n];
+        a[n] = is == 'r' ? room : is == 'n' || n == off ? 0 : is == 'q' ? (uintptr_t)&none : (uintptr_t)pointed_to[n];
     }
     return all_calls[k].call(a[0], a[1], a[2], a[3], a[4], a[5], a[6], a[7], a[8]);
 }
@@ -107,15 +124,19 @@ static void null_is_refused(void) {
 
 /* Each call with an open handle that isn't where it was opened returns COPIED, and writes nothing: its pointer leads nowhere. */
 static void astray_handles_are_told(void) {
-    static const pelgaisti_session astray = {1, 0x55555555, (void *)1}, closed = PELGAISTI_EMPTY;
+    static const pelgaisti_session astray[2] = {{1, 0x55555555, (void *)1}, {2, 0x55555555, (void *)1}}, closed = PELGAISTI_EMPTY;
+    static const char *const of_two[] = {"session_hear", "session_hand_in", "office_close", "session_look", "look_end"};
     unsigned char before[9][64];
     memset(pointed_to, 0x55, sizeof pointed_to);
-    for (size_t place = 0; place < 2; place++)
+    for (size_t which = 0; which < 4; which++) /* the first handle or the second; a view, too */
         for (size_t k = 0; k < COUNT(all_calls); k++) {
             const char *name = all_calls[k].name;
-            if (place == 1 && strcmp(name, "session_hear") && strcmp(name, "session_hand_in") && strcmp(name, "office_close")) continue;
-            memcpy(pointed_to[0], place == 0 ? &astray : &closed, sizeof astray);
-            memcpy(pointed_to[1], place == 1 ? &astray : &closed, sizeof astray);
+            const size_t place = which % 2;
+            size_t n = 0;
+            while (n < COUNT(of_two) && strcmp(name, of_two[n])) n++;
+            if (place == 1 && n == COUNT(of_two)) continue;
+            memcpy(pointed_to[0], place == 0 ? &astray[which / 2] : &closed, sizeof closed);
+            memcpy(pointed_to[1], place == 1 ? &astray[which / 2] : &closed, sizeof closed);
             memcpy(before, pointed_to, sizeof before);
             if (status_with(k, 9, 1) != PELGAISTI_COPIED) printf("%s: ", name);
             CHECK(status_with(k, 9, 1) == PELGAISTI_COPIED && !memcmp(before, pointed_to, sizeof before));
@@ -129,17 +150,17 @@ static void copies_are_told(void) {
     pelgaisti_book book = PELGAISTI_EMPTY, other, closed = PELGAISTI_EMPTY;
     pelgaisti_reply reply = {77, 88};
     pelgaisti_answer answer = {99, {77, 88}};
-    CHECK(pelgaisti_office_open(two, 2) == PELGAISTI_OK);
+    CHECK(open_sessions(two, 2) == PELGAISTI_OK);
     copy = two[1];
     CHECK(pelgaisti_session_perform(&copy, &begin, 9, &answer) == PELGAISTI_COPIED && answer.place == 99);
     CHECK(pelgaisti_session_hand_in(&copy, &two[0]) == PELGAISTI_COPIED && pelgaisti_session_hear(&two[0], &copy) == PELGAISTI_COPIED);
-    CHECK(pelgaisti_office_open(&copy, 1) == PELGAISTI_COPIED);
+    CHECK(open_sessions(&copy, 1) == PELGAISTI_COPIED);
     /* an array of handles that was moved by one, as one that grows is */
     memcpy(&moved[1], two, sizeof two);
-    two[0] = two[1] = pelgaisti_empty_session();
+    memset(two, 0, sizeof two);
     CHECK(pelgaisti_session_perform(&moved[1], &begin, 9, &answer) == PELGAISTI_COPIED && answer.place == 99);
     CHECK(pelgaisti_session_hand_in(&moved[2], &moved[1]) == PELGAISTI_COPIED && pelgaisti_office_close(&moved[1], &book) == PELGAISTI_COPIED);
-    CHECK(pelgaisti_office_open(moved, 3) == PELGAISTI_COPIED);
+    CHECK(open_sessions(moved, 3) == PELGAISTI_COPIED);
     memcpy(two, &moved[1], sizeof two);
     CHECK(pelgaisti_session_perform(&two[1], &begin, 9, &answer) == PELGAISTI_OK && answer.reply.kind == PELGAISTI_BEGAN);
     CHECK(pelgaisti_session_hand_in(&two[1], &two[0]) == PELGAISTI_OK);
@@ -160,44 +181,43 @@ static void books_refuse(void) {
     pelgaisti_reply reply = {77, 88};
     pelgaisti_holder list[2] = {{5, 6}, {7, 8}};
     pelgaisti_entry entry;
+    pelgaisti_program program = {PELGAISTI_BEGINS, 0, 0, {0, 0, {0, {0}}}};
+    pelgaisti_program_answer answer;
     uint32_t mode = 99;
     size_t count = 99;
-    uint64_t length = 99;
+    uint64_t first = 99, length = 99;
 
     memset(&entry, 0x55, sizeof entry);
-    CHECK(pelgaisti_book_open(NULL, 3) == PELGAISTI_NULL);
-    CHECK(pelgaisti_book_open(&book, 0) == PELGAISTI_NO_SUCH_COUNT);
-    CHECK(pelgaisti_book_open(&book, PELGAISTI_MAX_SESSIONS + 1) == PELGAISTI_NO_SUCH_COUNT);
-    CHECK(pelgaisti_book_open(&book, 65537) == PELGAISTI_NO_SUCH_COUNT);
-    CHECK(pelgaisti_book_open(&book, UINT32_MAX) == PELGAISTI_NO_SUCH_COUNT);
-    CHECK(book.is_open_ == 0 && book.at_ == NULL);
+    CHECK(open_book(NULL, 3) == PELGAISTI_NULL);
+    CHECK(open_book(&book, 0) == PELGAISTI_NO_SUCH_COUNT);
+    CHECK(open_book(&book, PELGAISTI_MAX_SESSIONS + 1) == PELGAISTI_NO_SUCH_COUNT);
+    CHECK(open_book(&book, 65537) == PELGAISTI_NO_SUCH_COUNT);
+    CHECK(open_book(&book, UINT32_MAX) == PELGAISTI_NO_SUCH_COUNT);
+    CHECK(book.is_open_ == 0 && book.at_ == NULL && book.look_ == NULL && pelgaisti_book_open(&book, NULL) == PELGAISTI_NULL);
 
     CHECK(pelgaisti_book_serve(&book, 1, &begin, &reply) == PELGAISTI_CLOSED);
     CHECK(pelgaisti_book_serve_batch(&book, &entry, 1, &count) == PELGAISTI_CLOSED);
-    CHECK(pelgaisti_book_waits_for(&book, 1, 2, &mode) == PELGAISTI_CLOSED);
+    CHECK(pelgaisti_book_run(&book, 1, &program, &answer) == PELGAISTI_CLOSED);
     CHECK(pelgaisti_book_blockers(&book, 1, NULL, 0, &count) == PELGAISTI_CLOSED);
     CHECK(pelgaisti_book_held(&book, 1, &lock.resource, &mode) == PELGAISTI_CLOSED);
     CHECK(pelgaisti_book_holders(&book, &lock.resource, list, 2, &count) == PELGAISTI_CLOSED);
-    CHECK(pelgaisti_book_length(&book, &length) == PELGAISTI_CLOSED);
+    CHECK(pelgaisti_book_length(&book, &first, &length) == PELGAISTI_CLOSED);
     CHECK(pelgaisti_book_history(&book, 0, &entry, 1, &count) == PELGAISTI_CLOSED);
-    CHECK(pelgaisti_book_first_kept(&book, &length) == PELGAISTI_CLOSED);
     CHECK(pelgaisti_book_keep_at_most(&book, 1) == PELGAISTI_CLOSED);
     CHECK(pelgaisti_book_take_history(&book, &length, &entry, 1, &count) == PELGAISTI_CLOSED);
     CHECK(pelgaisti_book_close(&book) == PELGAISTI_CLOSED);
     CHECK(pelgaisti_book_close(NULL) == PELGAISTI_NULL);
 
-    CHECK(pelgaisti_book_open(&book, PELGAISTI_MAX_SESSIONS) == PELGAISTI_OK);
+    CHECK(open_book(&book, PELGAISTI_MAX_SESSIONS) == PELGAISTI_OK);
     CHECK(pelgaisti_book_close(&book) == PELGAISTI_OK);
     CHECK(pelgaisti_book_close(&book) == PELGAISTI_CLOSED);
-    CHECK(pelgaisti_book_open(&book, 3) == PELGAISTI_OK);
-    CHECK(pelgaisti_book_open(&book, 3) == PELGAISTI_OPEN);
-    CHECK(pelgaisti_book_open(&book, 0) == PELGAISTI_OPEN);
+    CHECK(open_book(&book, 3) == PELGAISTI_OK);
+    CHECK(open_book(&book, 3) == PELGAISTI_OPEN);
+    CHECK(open_book(&book, 0) == PELGAISTI_OPEN);
 
     for (size_t k = 0; k < COUNT(off_sessions); k++) {
         CHECK(pelgaisti_book_serve(&book, off_sessions[k], &begin, &reply) == PELGAISTI_NO_SUCH_SESSION);
         CHECK(pelgaisti_book_held(&book, off_sessions[k], &lock.resource, &mode) == PELGAISTI_NO_SUCH_SESSION);
-        CHECK(pelgaisti_book_waits_for(&book, off_sessions[k], 1, &mode) == PELGAISTI_NO_SUCH_SESSION);
-        CHECK(pelgaisti_book_waits_for(&book, 1, off_sessions[k], &mode) == PELGAISTI_NO_SUCH_SESSION);
     }
     for (size_t k = 0; k < COUNT(off_ops); k++) {
         pelgaisti_call off = call_of(off_ops[k], PELGAISTI_S, 1, 1, 0);
@@ -237,25 +257,21 @@ static void books_refuse(void) {
     CHECK(pelgaisti_book_serve_batch(NULL, &entry, 1, &count) == PELGAISTI_NULL);
     CHECK(pelgaisti_book_serve_batch(&book, NULL, 1, &count) == PELGAISTI_NULL);
     CHECK(pelgaisti_book_serve_batch(&book, &entry, 1, NULL) == PELGAISTI_NULL);
-    CHECK(pelgaisti_book_waits_for(NULL, 1, 2, &mode) == PELGAISTI_NULL);
-    CHECK(pelgaisti_book_waits_for(&book, 1, 2, NULL) == PELGAISTI_NULL);
-    CHECK(pelgaisti_book_length(NULL, &length) == PELGAISTI_NULL);
-    CHECK(pelgaisti_book_length(&book, NULL) == PELGAISTI_NULL);
+    CHECK(pelgaisti_book_length(NULL, &first, &length) == PELGAISTI_NULL);
+    CHECK(pelgaisti_book_length(&book, NULL, &length) == PELGAISTI_NULL && pelgaisti_book_length(&book, &first, NULL) == PELGAISTI_NULL);
     CHECK(pelgaisti_book_history(NULL, 0, &entry, 1, &count) == PELGAISTI_NULL);
     CHECK(pelgaisti_book_history(&book, 0, NULL, 1, &count) == PELGAISTI_NULL);
     CHECK(pelgaisti_book_history(&book, 0, &entry, 1, NULL) == PELGAISTI_NULL);
-    CHECK(pelgaisti_book_first_kept(NULL, &length) == PELGAISTI_NULL);
-    CHECK(pelgaisti_book_first_kept(&book, NULL) == PELGAISTI_NULL);
     CHECK(pelgaisti_book_keep_at_most(NULL, 1) == PELGAISTI_NULL);
     CHECK(pelgaisti_book_take_history(NULL, &length, &entry, 1, &count) == PELGAISTI_NULL);
     CHECK(pelgaisti_book_take_history(&book, NULL, &entry, 1, &count) == PELGAISTI_NULL);
     CHECK(pelgaisti_book_take_history(&book, &length, NULL, 1, &count) == PELGAISTI_NULL);
     CHECK(pelgaisti_book_take_history(&book, &length, &entry, 1, NULL) == PELGAISTI_NULL);
 
-    CHECK(reply.kind == 77 && reply.value == 88 && mode == 99 && count == 99 && length == 99);
+    CHECK(reply.kind == 77 && reply.value == 88 && mode == 99 && count == 99 && first == 99 && length == 99);
     CHECK(list[0].session == 5 && list[0].mode == 6 && list[1].session == 7 && list[1].mode == 8);
     CHECK(entry.session == 0x55555555 && entry.reply.kind == 0x55555555);
-    CHECK(pelgaisti_book_length(&book, &length) == PELGAISTI_OK && length == 0);
+    CHECK(length_of(&book, &length) == PELGAISTI_OK && length == 0);
     CHECK(pelgaisti_book_close(&book) == PELGAISTI_OK);
 }
 
@@ -273,7 +289,7 @@ static void books_serve(void) {
     pelgaisti_call release = call_of(PELGAISTI_RELEASE, 0, 1, 1, 0);
     pelgaisti_resource elsewhere = {4, {1, 2, 3, UINT32_MAX}};
 
-    CHECK(pelgaisti_book_open(&book, 3) == PELGAISTI_OK);
+    CHECK(open_book(&book, 3) == PELGAISTI_OK);
     for (uint32_t s = 1; s <= 3; s++) {
         CHECK(pelgaisti_book_serve(&book, s, &begin, &reply) == PELGAISTI_OK);
         CHECK(reply.kind == PELGAISTI_BEGAN && reply.value == s);
@@ -297,7 +313,7 @@ static void books_serve(void) {
     CHECK(pelgaisti_book_holders(&book, &elsewhere, list, 4, &count) == PELGAISTI_OK && count == 0);
 
     CHECK(pelgaisti_book_serve(&book, 2, &abort_all, &reply) == PELGAISTI_OK && reply.kind == PELGAISTI_ABORTED && reply.value == 2);
-    CHECK(pelgaisti_book_length(&book, &length) == PELGAISTI_OK && length == 9);
+    CHECK(length_of(&book, &length) == PELGAISTI_OK && length == 9);
     memset(entries, 0x55, sizeof entries);
     CHECK(pelgaisti_book_history(&book, 5, entries, 3, &count) == PELGAISTI_OK && count == 3);
     CHECK(entries[0].session == 3 && entries[0].call.op == PELGAISTI_LOCK && entries[0].call.mode == PELGAISTI_IX);
@@ -324,8 +340,8 @@ static void history_is_let_go(void) {
     pelgaisti_call begin = call_of(PELGAISTI_BEGIN, 0, 0, 0, 0), poll = call_of(PELGAISTI_POLL, 0, 0, 0, 0);
     pelgaisti_call write = call_of(PELGAISTI_LOCK, PELGAISTI_X, 1, 7, 0), commit = call_of(PELGAISTI_COMMIT, 0, 0, 0, 0);
 
-    CHECK(pelgaisti_book_open(&book, 2) == PELGAISTI_OK);
-    CHECK(pelgaisti_book_first_kept(&book, &first) == PELGAISTI_OK && first == 0);
+    CHECK(open_book(&book, 2) == PELGAISTI_OK);
+    CHECK(first_kept_of(&book, &first) == PELGAISTI_OK && first == 0);
     for (uint32_t s = 1; s <= 2; s++) {
         CHECK(pelgaisti_book_serve(&book, s, &begin, &reply) == PELGAISTI_OK);
         CHECK(pelgaisti_book_serve(&book, s, &write, &reply) == PELGAISTI_OK);
@@ -337,31 +353,31 @@ static void history_is_let_go(void) {
     CHECK(entries[0].session == 1 && entries[0].call.op == PELGAISTI_BEGIN && entries[0].reply.value == 1);
     CHECK(entries[1].session == 1 && entries[1].call.op == PELGAISTI_LOCK && entries[1].reply.kind == PELGAISTI_GRANTED);
     CHECK(entries[2].session == 0x55555555);
-    CHECK(pelgaisti_book_first_kept(&book, &first) == PELGAISTI_OK && first == 2);
-    CHECK(pelgaisti_book_length(&book, &length) == PELGAISTI_OK && length == 4);
+    CHECK(first_kept_of(&book, &first) == PELGAISTI_OK && first == 2);
+    CHECK(length_of(&book, &length) == PELGAISTI_OK && length == 4);
     CHECK(pelgaisti_book_history(&book, 1, entries, 4, &count) == PELGAISTI_LET_GO && count == 2);
     CHECK(pelgaisti_book_history(&book, 2, entries, 4, &count) == PELGAISTI_OK && count == 2);
     CHECK(entries[0].session == 2 && entries[0].call.op == PELGAISTI_BEGIN && entries[1].reply.kind == PELGAISTI_WAITING);
     /* one is kept at most */
     CHECK(pelgaisti_book_keep_at_most(&book, 1) == PELGAISTI_OK);
-    CHECK(pelgaisti_book_first_kept(&book, &first) == PELGAISTI_OK && first == 3);
+    CHECK(first_kept_of(&book, &first) == PELGAISTI_OK && first == 3);
     CHECK(pelgaisti_book_serve(&book, 1, &commit, &reply) == PELGAISTI_OK && reply.kind == PELGAISTI_COMMITTED && reply.value == 1);
-    CHECK(pelgaisti_book_first_kept(&book, &first) == PELGAISTI_OK && first == 4);
+    CHECK(first_kept_of(&book, &first) == PELGAISTI_OK && first == 4);
     CHECK(pelgaisti_book_serve(&book, 2, &poll, &reply) == PELGAISTI_OK && reply.kind == PELGAISTI_CLEAR);
     CHECK(pelgaisti_book_history(&book, 4, entries, 4, &count) == PELGAISTI_LET_GO);
     CHECK(pelgaisti_book_history(&book, 5, entries, 4, &count) == PELGAISTI_OK && count == 1 && entries[0].call.op == PELGAISTI_POLL);
     /* without a bound, what was let go stays so */
     CHECK(pelgaisti_book_keep_at_most(&book, UINT64_MAX) == PELGAISTI_OK);
     CHECK(pelgaisti_book_serve(&book, 2, &poll, &reply) == PELGAISTI_OK);
-    CHECK(pelgaisti_book_first_kept(&book, &first) == PELGAISTI_OK && first == 5);
+    CHECK(first_kept_of(&book, &first) == PELGAISTI_OK && first == 5);
     CHECK(pelgaisti_book_take_history(&book, &first, NULL, 0, &count) == PELGAISTI_OK && first == 5 && count == 0);
     CHECK(pelgaisti_book_take_history(&book, &first, entries, 4, &count) == PELGAISTI_OK && first == 5 && count == 2);
     CHECK(pelgaisti_book_take_history(&book, &first, entries, 4, &count) == PELGAISTI_OK && first == 7 && count == 0);
     /* none is kept */
     CHECK(pelgaisti_book_keep_at_most(&book, 0) == PELGAISTI_OK);
     CHECK(pelgaisti_book_serve(&book, 2, &commit, &reply) == PELGAISTI_OK && reply.kind == PELGAISTI_COMMITTED && reply.value == 1);
-    CHECK(pelgaisti_book_first_kept(&book, &first) == PELGAISTI_OK && first == 8);
-    CHECK(pelgaisti_book_length(&book, &length) == PELGAISTI_OK && length == 8);
+    CHECK(first_kept_of(&book, &first) == PELGAISTI_OK && first == 8);
+    CHECK(length_of(&book, &length) == PELGAISTI_OK && length == 8);
     CHECK(pelgaisti_book_close(&book) == PELGAISTI_OK);
 }
 
@@ -375,9 +391,9 @@ static void levels_are_locked(void) {
     size_t count = 0;
     uint32_t mode = 99;
 
-    CHECK(pelgaisti_version() == PELGAISTI_HEADER_VERSION && PELGAISTI_HEADER_VERSION == 5);
+    CHECK(pelgaisti_version() == PELGAISTI_HEADER_VERSION && PELGAISTI_HEADER_VERSION == 6);
     CHECK(PELGAISTI_LEVELS == 5 && sizeof lock.resource.numbers == 20);
-    CHECK(pelgaisti_book_open(&book, 1024) == PELGAISTI_OK);
+    CHECK(open_book(&book, 1024) == PELGAISTI_OK);
     CHECK(pelgaisti_book_serve(&book, 1024, &begin, &reply) == PELGAISTI_OK && reply.kind == PELGAISTI_BEGAN);
     lock.resource.numbers[2] = 3;
     lock.resource.numbers[3] = 4;
@@ -398,18 +414,28 @@ static void levels_are_locked(void) {
     CHECK(pelgaisti_book_close(&book) == PELGAISTI_OK);
 }
 
+/* Whether a struct that is returned is seen: MemorySanitizer isn't told of it. */
+#if defined(__has_feature)
+#if __has_feature(memory_sanitizer)
+#define IS_SEEN 0
+#endif
+#endif
+#ifndef IS_SEEN
+#define IS_SEEN 1
+#endif
+
 /* The calls are functions: compound literals as arguments, pointers to them, and what they return. */
 static void calls_are_functions(void) {
     pelgaisti_status (*serve)(pelgaisti_book *, uint32_t, const pelgaisti_call *, pelgaisti_reply *) = pelgaisti_book_serve;
-    pelgaisti_status (*open_office)(pelgaisti_session *, size_t) = pelgaisti_office_open;
-    pelgaisti_book book;
-    pelgaisti_session session;
+    pelgaisti_status (*open_office)(pelgaisti_session *, const pelgaisti_options *) = pelgaisti_office_open;
+    const pelgaisti_options defaults = PELGAISTI_OPTIONS(1), options = IS_SEEN ? pelgaisti_default_options(1) : defaults;
+    pelgaisti_book book = PELGAISTI_EMPTY;
+    pelgaisti_session session = PELGAISTI_EMPTY;
     pelgaisti_reply reply = {77, 88};
 
-    book = pelgaisti_empty_book();
-    session = pelgaisti_empty_session();
-    pelgaisti_status status = pelgaisti_book_open(&book, 1);
-    CHECK(status == PELGAISTI_OK);
+    CHECK(!memcmp(&defaults, &options, sizeof options) && options.sessions == 1 && options.pass_calls == 64 && options.pass_locks == 4096);
+    CHECK(options.pass_rounds == 4 && options.keep == 1024 && options.deadlocks == 0 && options.seed == 0 && !options.waker);
+    CHECK(pelgaisti_book_open(&book, &options) == PELGAISTI_OK);
 #ifndef __cplusplus
     CHECK(pelgaisti_book_serve(&book, 1, &(pelgaisti_call){PELGAISTI_BEGIN, 0, {0, {0}}}, &reply) == PELGAISTI_OK);
 #else
@@ -418,7 +444,7 @@ static void calls_are_functions(void) {
 #endif
     CHECK(reply.kind == PELGAISTI_BEGAN && reply.value == 1);
     CHECK(serve(&book, 1, NULL, &reply) == PELGAISTI_NULL);
-    CHECK(open_office(&session, 1) == PELGAISTI_OK && open_office(NULL, 1) == PELGAISTI_NULL);
+    CHECK(open_office(&session, &options) == PELGAISTI_OK && open_office(NULL, &options) == PELGAISTI_NULL);
     CHECK(pelgaisti_book_close(&book) == PELGAISTI_OK);
     CHECK(pelgaisti_office_close(&session, &book) == PELGAISTI_OK && pelgaisti_book_close(&book) == PELGAISTI_OK);
 }
@@ -428,8 +454,8 @@ static void numbers_have_names(void) {
     static const char *const statuses[] = {"OK", "NO_MEMORY", "CLOSED", "NO_SUCH_SESSION", "NO_SUCH_OP", "NO_SUCH_LEVEL",
                                            "NO_SUCH_MODE", "OPEN", "NO_SUCH_COUNT", "PENDING", "NOTHING_PENDING", "NOT_SERVED",
                                            "RETIRED", "ELSEWHERE", "OTHER_OFFICE", "MISSING", "COPIED", "NULL", "SAME", "LET_GO",
-                                           "NO_ROOM", "NO_SUCH_START", "NOT_ON_PATH", "NO_SUCH_ABOVE", "SERVED", "VICTIM", "TIMED_OUT",
-                                           "DENIED"};
+                                           "unknown", "NO_SUCH_START", "NOT_ON_PATH", "NO_SUCH_ABOVE", "unknown", "VICTIM", "TIMED_OUT",
+                                           "DENIED", "LOOKS", "NOT_A_LOOK"};
     static const char *const modes[] = {"NL", "IS", "unknown", "IX", "unknown", "S", "unknown", "SIX", "unknown", "unknown",
                                         "unknown", "unknown", "unknown", "U", "unknown", "X", "unknown"};
     static const char *const ops[] = {"unknown", "begin", "lock", "convert", "poll", "release", "commit", "abort", "try", "withdraw",
@@ -439,7 +465,7 @@ static void numbers_have_names(void) {
     static const char *const refusals[] = {"unknown", "AlreadyOpen", "NoTransaction", "IsWaiting", "IsDoomed", "NothingAsked",
                                            "NotHeld", "ParentNotHeld", "ChildHeld", "TooManyLocks", "unknown", "WouldWait",
                                            "NotWaiting", "unknown"};
-    static const uint64_t off[] = {28, 255, 256, 65536, UINT32_MAX, (uint64_t)1 << 32, ((uint64_t)1 << 32) + 1, UINT64_MAX};
+    static const uint64_t off[] = {30, 255, 256, 65536, UINT32_MAX, (uint64_t)1 << 32, ((uint64_t)1 << 32) + 1, UINT64_MAX};
 
     for (size_t k = 0; k < COUNT(statuses); k++) CHECK(!strcmp(pelgaisti_status_name(k), statuses[k]));
     for (size_t k = 0; k < COUNT(modes); k++) CHECK(!strcmp(pelgaisti_mode_name(k), modes[k]));
@@ -458,11 +484,10 @@ static void batches_are_served(void) {
     pelgaisti_book book = PELGAISTI_EMPTY;
     pelgaisti_entry items[6], history[8];
     size_t count = 99;
-    uint32_t edge = 99;
     uint64_t length = 99;
     pelgaisti_call write = call_of(PELGAISTI_LOCK, PELGAISTI_X, 1, 7, 9), read = call_of(PELGAISTI_LOCK, PELGAISTI_S, 1, 7, 9);
 
-    CHECK(pelgaisti_book_open(&book, 3) == PELGAISTI_OK);
+    CHECK(open_book(&book, 3) == PELGAISTI_OK);
     memset(items, 0x55, sizeof items);
     for (uint32_t k = 0; k < 6; k++) {
         items[k].session = 1 + k % 3;
@@ -478,7 +503,7 @@ static void batches_are_served(void) {
     CHECK(pelgaisti_book_serve_batch(&book, items, 6, &count) == PELGAISTI_NO_SUCH_OP);
     items[4].session = 0;
     CHECK(pelgaisti_book_serve_batch(&book, items, 6, &count) == PELGAISTI_NO_SUCH_SESSION);
-    CHECK(pelgaisti_book_length(&book, &length) == PELGAISTI_OK && length == 0 && items[0].reply.kind == 0x55555555);
+    CHECK(length_of(&book, &length) == PELGAISTI_OK && length == 0 && items[0].reply.kind == 0x55555555);
     items[4].session = 2;
     items[5].session = 3;
     items[4].call = write;
@@ -495,14 +520,12 @@ static void batches_are_served(void) {
     }
     CHECK(items[0].call.mode == 0 && items[0].call.resource.level == 0 && items[3].call.resource.numbers[1] == 0);
     /* who waits for whom: 2 for 1, 3 for 2 ahead of it */
-    static const char *const edges[3] = {"nnn", "ynn", "nyn"};
-    for (uint32_t a = 1; a <= 3; a++)
-        for (uint32_t b = 1; b <= 3; b++)
-            CHECK(pelgaisti_book_waits_for(&book, a, b, &edge) == PELGAISTI_OK && edge == (edges[a - 1][b - 1] == 'y' ? 1u : 0u));
     uint32_t blockers[2] = {77, 88};
     CHECK(pelgaisti_book_blockers(&book, 1, blockers, 2, &count) == PELGAISTI_OK && count == 0 && blockers[0] == 77);
     CHECK(pelgaisti_book_blockers(&book, 3, blockers, 2, &count) == PELGAISTI_OK && count == 1 && blockers[0] == 2 && blockers[1] == 88);
     CHECK(pelgaisti_book_blockers(&book, 2, NULL, 0, &count) == PELGAISTI_OK && count == 1);
+    blockers[0] = 77;
+    CHECK(pelgaisti_book_blockers(&book, 2, blockers, 2, &count) == PELGAISTI_OK && count == 1 && blockers[0] == 1 && blockers[1] == 88);
     CHECK(pelgaisti_book_blockers(&book, 4, blockers, 2, &count) == PELGAISTI_NO_SUCH_SESSION && count == 1);
     CHECK(pelgaisti_book_blockers(NULL, 1, blockers, 2, &count) == PELGAISTI_NULL);
     CHECK(pelgaisti_book_blockers(&book, 1, NULL, 2, &count) == PELGAISTI_NULL);
@@ -514,7 +537,7 @@ static void batches_are_served(void) {
     CHECK(pelgaisti_book_serve_batch(&book, items, 2, &count) == PELGAISTI_OK && count == 2);
     CHECK(items[0].reply.value == 1 && items[1].reply.kind == PELGAISTI_ABORTED);
     CHECK(pelgaisti_book_serve_batch(&book, NULL, 0, &count) == PELGAISTI_OK && count == 0);
-    CHECK(pelgaisti_book_length(&book, &length) == PELGAISTI_OK && length == 8);
+    CHECK(length_of(&book, &length) == PELGAISTI_OK && length == 8);
     CHECK(pelgaisti_book_close(&book) == PELGAISTI_OK);
 }
 
@@ -522,11 +545,10 @@ static void batches_are_served(void) {
 static pelgaisti_reply lock_path(pelgaisti_book *book, uint32_t session, const pelgaisti_resource *path, uint32_t mode, uint32_t *level) {
     const pelgaisti_program program = {PELGAISTI_NOTHING, *level, pelgaisti_parent_mode(mode), {PELGAISTI_LOCK, mode, *path}};
     pelgaisti_program_answer answer;
-    uint32_t told[3];
-    size_t ended;
-    CHECK(pelgaisti_book_run(book, session, &program, &answer, told, 3, &ended) == PELGAISTI_OK && answer.served > 0);
+    CHECK(pelgaisti_book_run(book, session, &program, &answer) == PELGAISTI_OK && answer.served > 0);
     *level += answer.served - (answer.stop != 0);
-    return answer.replies[answer.served - 1];
+    read_replies(&program, &answer);
+    return told[answer.served - 1];
 }
 
 /* A path in each mode: the modes held on it afterwards; where it stops, and how it goes on. */
@@ -542,7 +564,7 @@ static void paths_are_locked(void) {
     uint32_t mode = 99, level;
     uint64_t length = 0;
 
-    CHECK(pelgaisti_book_open(&book, 2) == PELGAISTI_OK);
+    CHECK(open_book(&book, 2) == PELGAISTI_OK);
     for (size_t m = 0; m < COUNT(modes); m++)
         for (uint32_t depth = 1; depth <= PELGAISTI_LEVELS; depth++) {
             pelgaisti_resource path = {depth, {1, 2, 3, 4, 5}};
@@ -601,14 +623,14 @@ static void paths_are_locked(void) {
     CHECK(pelgaisti_book_close(&book) == PELGAISTI_OK);
 
     /* an office with a bound keeps the newest entries */
-    CHECK(pelgaisti_office_open_keeping(NULL, 1, 2) == PELGAISTI_NULL);
-    CHECK(pelgaisti_office_open_keeping(two, 0, 2) == PELGAISTI_NO_SUCH_COUNT);
-    CHECK(pelgaisti_office_open_keeping(two, 1, 2) == PELGAISTI_OK);
-    CHECK(pelgaisti_office_open_keeping(two, 1, 2) == PELGAISTI_OPEN);
+    CHECK(open_office_with(NULL, 1, 2, NULL, 0) == PELGAISTI_NULL);
+    CHECK(open_office_with(two, 0, 2, NULL, 0) == PELGAISTI_NO_SUCH_COUNT);
+    CHECK(open_office_with(two, 1, 2, NULL, 0) == PELGAISTI_OK);
+    CHECK(open_office_with(two, 1, 2, NULL, 0) == PELGAISTI_OPEN);
     for (size_t k = 0; k < 9; k++) CHECK(pelgaisti_session_perform(&two[0], &poll, 1, &answer) == PELGAISTI_OK && answer.place == k);
     CHECK(pelgaisti_office_close(&two[0], &book) == PELGAISTI_OK);
-    CHECK(pelgaisti_book_length(&book, &length) == PELGAISTI_OK && length == 9);
-    CHECK(pelgaisti_book_first_kept(&book, &length) == PELGAISTI_OK && length == 7);
+    CHECK(length_of(&book, &length) == PELGAISTI_OK && length == 9);
+    CHECK(first_kept_of(&book, &length) == PELGAISTI_OK && length == 7);
     CHECK(pelgaisti_book_close(&book) == PELGAISTI_OK);
 }
 
@@ -625,7 +647,7 @@ static void modes_meet(void) {
     pelgaisti_reply reply;
     uint32_t mode;
 
-    CHECK(pelgaisti_book_open(&book, 2) == PELGAISTI_OK);
+    CHECK(open_book(&book, 2) == PELGAISTI_OK);
     for (size_t a = 0; a < 7; a++) {
         for (size_t g = 0; g < 7; g++) {
             pelgaisti_call first = call_of(PELGAISTI_LOCK, modes[g], 1, 1, 0), second = call_of(PELGAISTI_LOCK, modes[a], 1, 1, 0);
@@ -652,7 +674,7 @@ static void modes_meet(void) {
 static void sessions_refuse(void) {
     static pelgaisti_session many[PELGAISTI_MAX_SESSIONS + 1];
     pelgaisti_session two[2] = {PELGAISTI_EMPTY, PELGAISTI_EMPTY}, one[1] = {PELGAISTI_EMPTY}, closed = PELGAISTI_EMPTY;
-    pelgaisti_book book = PELGAISTI_EMPTY, open_book = PELGAISTI_EMPTY;
+    pelgaisti_book book = PELGAISTI_EMPTY, other = PELGAISTI_EMPTY;
     pelgaisti_call begin = call_of(PELGAISTI_BEGIN, 0, 0, 0, 0);
     pelgaisti_answer answer = {99, {77, 88}};
     pelgaisti_pass pass = {99, 99};
@@ -661,9 +683,9 @@ static void sessions_refuse(void) {
     pelgaisti_entry entry;
     size_t count = 99;
 
-    CHECK(pelgaisti_office_open(NULL, 2) == PELGAISTI_NULL);
-    CHECK(pelgaisti_office_open(two, 0) == PELGAISTI_NO_SUCH_COUNT);
-    CHECK(pelgaisti_office_open(many, PELGAISTI_MAX_SESSIONS + 1) == PELGAISTI_NO_SUCH_COUNT);
+    CHECK(open_sessions(NULL, 2) == PELGAISTI_NULL);
+    CHECK(open_sessions(two, 0) == PELGAISTI_NO_SUCH_COUNT);
+    CHECK(open_sessions(many, PELGAISTI_MAX_SESSIONS + 1) == PELGAISTI_NO_SUCH_COUNT);
     CHECK(pelgaisti_session_publish(&two[0], &begin, &posted) == PELGAISTI_CLOSED);
     CHECK(pelgaisti_session_serve(&two[0], &pass) == PELGAISTI_CLOSED);
     CHECK(pelgaisti_session_collect(&two[0], &answer) == PELGAISTI_CLOSED);
@@ -677,10 +699,10 @@ static void sessions_refuse(void) {
     CHECK(pelgaisti_session_hand_in(&two[1], &two[0]) == PELGAISTI_CLOSED);
     CHECK(pelgaisti_office_close(&two[0], &book) == PELGAISTI_CLOSED);
 
-    CHECK(pelgaisti_office_open(two, 2) == PELGAISTI_OK);
-    CHECK(pelgaisti_office_open(two, 1) == PELGAISTI_OPEN);
-    CHECK(pelgaisti_office_open(&two[1], 1) == PELGAISTI_OPEN);
-    CHECK(pelgaisti_office_open(one, 1) == PELGAISTI_OK);
+    CHECK(open_sessions(two, 2) == PELGAISTI_OK);
+    CHECK(open_sessions(two, 1) == PELGAISTI_OPEN);
+    CHECK(open_sessions(&two[1], 1) == PELGAISTI_OPEN);
+    CHECK(open_sessions(one, 1) == PELGAISTI_OK);
     CHECK(pelgaisti_session_publish(NULL, &begin, &posted) == PELGAISTI_NULL);
     CHECK(pelgaisti_session_publish(&two[0], NULL, &posted) == PELGAISTI_NULL);
     CHECK(pelgaisti_session_serve(NULL, &pass) == PELGAISTI_NULL);
@@ -766,18 +788,18 @@ static void sessions_refuse(void) {
     CHECK(pelgaisti_session_serve(&two[0], NULL) == PELGAISTI_OK);
     CHECK(pelgaisti_session_collect(&two[0], &answer) == PELGAISTI_OK);
     CHECK(answer.reply.kind == PELGAISTI_REFUSED && answer.reply.value == PELGAISTI_ALREADY_OPEN);
-    CHECK(pelgaisti_book_open(&open_book, 1) == PELGAISTI_OK);
-    CHECK(pelgaisti_office_close(&two[0], &open_book) == PELGAISTI_OPEN);
-    CHECK(pelgaisti_office_close(&closed, &open_book) == PELGAISTI_OPEN);
-    CHECK(pelgaisti_book_close(&open_book) == PELGAISTI_OK);
+    CHECK(open_book(&other, 1) == PELGAISTI_OK);
+    CHECK(pelgaisti_office_close(&two[0], &other) == PELGAISTI_OPEN);
+    CHECK(pelgaisti_office_close(&closed, &other) == PELGAISTI_OPEN);
+    CHECK(pelgaisti_book_close(&other) == PELGAISTI_OK);
     CHECK(pelgaisti_office_close(&two[0], &book) == PELGAISTI_OK);
-    CHECK(pelgaisti_office_close(&two[0], &open_book) == PELGAISTI_CLOSED);
-    CHECK(pelgaisti_book_length(&book, &length) == PELGAISTI_OK && length == 2);
+    CHECK(pelgaisti_office_close(&two[0], &other) == PELGAISTI_CLOSED);
+    CHECK(length_of(&book, &length) == PELGAISTI_OK && length == 2);
     CHECK(pelgaisti_book_close(&book) == PELGAISTI_OK);
     CHECK(pelgaisti_office_close(&one[0], &book) == PELGAISTI_OK);
     CHECK(pelgaisti_book_close(&book) == PELGAISTI_OK);
 
-    CHECK(pelgaisti_office_open(many, PELGAISTI_MAX_SESSIONS) == PELGAISTI_OK);
+    CHECK(open_sessions(many, PELGAISTI_MAX_SESSIONS) == PELGAISTI_OK);
     for (size_t k = PELGAISTI_MAX_SESSIONS - 1; k > 0; k--) CHECK(pelgaisti_session_hand_in(&many[k], &many[k - 1]) == PELGAISTI_OK);
     CHECK(pelgaisti_office_close(&many[0], &book) == PELGAISTI_OK);
     CHECK(pelgaisti_book_close(&book) == PELGAISTI_OK);
@@ -791,12 +813,12 @@ static void marks_differ(void) {
     pelgaisti_book book = PELGAISTI_EMPTY;
     uint64_t marks[4] = {0, 0, 0, 0}, again = 0;
 
-    CHECK(pelgaisti_office_open(other, 1) == PELGAISTI_OK);
+    CHECK(open_sessions(other, 1) == PELGAISTI_OK);
     CHECK(pelgaisti_session_mark(&other[0], &marks[3]) == PELGAISTI_OK);
     /* office k begins at the same handle, and its last session stays open in another one */
     for (size_t k = 0; k < 3; k++) {
         left[k] = &array[2 - k];
-        CHECK(pelgaisti_office_open(array, 3 - k) == PELGAISTI_OK);
+        CHECK(open_sessions(array, 3 - k) == PELGAISTI_OK);
         CHECK(pelgaisti_session_mark(left[k], &marks[k]) == PELGAISTI_OK);
         CHECK(pelgaisti_session_mark(&array[0], &again) == PELGAISTI_OK && again == marks[k]);
         for (size_t s = 0; s < 2 - k; s++) CHECK(pelgaisti_session_hand_in(&array[s], left[k]) == PELGAISTI_OK);
@@ -826,7 +848,7 @@ static void dropped_sessions(void) {
     uint32_t posted = 99, mode = 99;
     uint64_t length = 99;
 
-    CHECK(pelgaisti_office_open(two, 2) == PELGAISTI_OK);
+    CHECK(open_sessions(two, 2) == PELGAISTI_OK);
     CHECK(pelgaisti_session_publish(dropped, &begin, &posted) == PELGAISTI_OK && posted == PELGAISTI_LISTED);
     CHECK(pelgaisti_session_publish(other, &begin, &posted) == PELGAISTI_OK && posted == PELGAISTI_LISTED);
     CHECK(pelgaisti_session_serve(other, &pass) == PELGAISTI_OK && pass.served == 2 && pass.starved == 0);
@@ -843,7 +865,7 @@ static void dropped_sessions(void) {
     CHECK(pelgaisti_session_collect(other, &answer) == PELGAISTI_OK);
     CHECK(answer.place == 3 && answer.reply.kind == PELGAISTI_WAITING);
     CHECK(pelgaisti_office_close(other, &book) == PELGAISTI_MISSING);
-    CHECK(pelgaisti_book_length(&book, &length) == PELGAISTI_CLOSED && length == 99);
+    CHECK(length_of(&book, &length) == PELGAISTI_CLOSED && length == 99);
     /* the other session goes on: it gives up its wait */
     begin.op = PELGAISTI_ABORT;
     CHECK(pelgaisti_session_publish(other, &begin, NULL) == PELGAISTI_OK);
@@ -860,7 +882,7 @@ static void dropped_sessions(void) {
     CHECK(pelgaisti_session_hand_in(dropped, other) == PELGAISTI_OK);
     CHECK(pelgaisti_office_close(other, &book) == PELGAISTI_OK);
     CHECK(pelgaisti_book_held(&book, 1, &write.resource, &mode) == PELGAISTI_OK && mode == PELGAISTI_X);
-    CHECK(pelgaisti_book_length(&book, &length) == PELGAISTI_OK && length == 5);
+    CHECK(length_of(&book, &length) == PELGAISTI_OK && length == 5);
     CHECK(pelgaisti_book_close(&book) == PELGAISTI_OK);
 }
 
@@ -871,7 +893,7 @@ static void sixty_four_sessions_poll_in_turn(void) {
     pelgaisti_call poll = call_of(PELGAISTI_POLL, 0, 0, 0, 0);
     uint64_t length = 99;
 
-    CHECK(pelgaisti_office_open(sessions, 64) == PELGAISTI_OK);
+    CHECK(open_sessions(sessions, 64) == PELGAISTI_OK);
     for (uint64_t place = 0; place < 12800; place++) {
         pelgaisti_session *session = &sessions[place % 64];
         pelgaisti_pass pass = {99, 99};
@@ -887,7 +909,7 @@ static void sixty_four_sessions_poll_in_turn(void) {
     }
     for (size_t k = 63; k > 0; k--) CHECK(pelgaisti_session_hand_in(&sessions[k], &sessions[k - 1]) == PELGAISTI_OK);
     CHECK(pelgaisti_office_close(&sessions[0], &book) == PELGAISTI_OK);
-    CHECK(pelgaisti_book_length(&book, &length) == PELGAISTI_OK && length == 12800);
+    CHECK(length_of(&book, &length) == PELGAISTI_OK && length == 12800);
     CHECK(pelgaisti_book_close(&book) == PELGAISTI_OK);
 }
 
@@ -900,7 +922,7 @@ static void all_1024_sessions_close_in_any_order(void) {
     uint64_t length = 99;
     uint32_t random = 1;
 
-    CHECK(pelgaisti_office_open(sessions, PELGAISTI_MAX_SESSIONS) == PELGAISTI_OK);
+    CHECK(open_sessions(sessions, PELGAISTI_MAX_SESSIONS) == PELGAISTI_OK);
     for (size_t k = 0; k < PELGAISTI_MAX_SESSIONS; k++) {
         pelgaisti_answer answer = {99, {77, 88}};
         size_t place;
@@ -915,7 +937,7 @@ static void all_1024_sessions_close_in_any_order(void) {
     for (size_t k = 1; k < PELGAISTI_MAX_SESSIONS; k++)
         CHECK(pelgaisti_session_hand_in(&sessions[order[k]], &sessions[order[0]]) == PELGAISTI_OK);
     CHECK(pelgaisti_office_close(&sessions[order[0]], &book) == PELGAISTI_OK);
-    CHECK(pelgaisti_book_length(&book, &length) == PELGAISTI_OK && length == 1024);
+    CHECK(length_of(&book, &length) == PELGAISTI_OK && length == 1024);
     CHECK(pelgaisti_book_close(&book) == PELGAISTI_OK);
 }
 
@@ -926,14 +948,12 @@ static void two_offices_have_their_own_sessions(void) {
     pelgaisti_session *first[2] = {&ours[0], &theirs[0]}, *second[2] = {&ours[1], &theirs[1]};
     pelgaisti_call begin = call_of(PELGAISTI_BEGIN, 0, 0, 0, 0), poll = call_of(PELGAISTI_POLL, 0, 0, 0, 0);
 
-    CHECK(pelgaisti_office_open(ours, 2) == PELGAISTI_OK);
-    CHECK(pelgaisti_office_open(theirs, 2) == PELGAISTI_OK);
+    CHECK(open_sessions(ours, 2) == PELGAISTI_OK);
+    CHECK(open_sessions(theirs, 2) == PELGAISTI_OK);
     for (size_t k = 0; k < 2; k++) {
         pelgaisti_pass pass = {99, 99};
         pelgaisti_answer answer = {99, {77, 88}};
-        uint32_t told[2] = {77, 77};
-        size_t count = 99;
-        CHECK(pelgaisti_session_perform_at_once(first[k], &poll, &pass, &answer) == PELGAISTI_OK && pass.served == 0);
+        CHECK(pelgaisti_session_perform(first[k], &poll, 1, &answer) == PELGAISTI_OK);
         CHECK(answer.place == 0 && answer.reply.kind == PELGAISTI_REFUSED && answer.reply.value == PELGAISTI_NO_TRANSACTION);
         CHECK(pelgaisti_session_publish(first[k], &poll, NULL) == PELGAISTI_OK);
         /* a pass in the other office serves nothing */
@@ -942,7 +962,7 @@ static void two_offices_have_their_own_sessions(void) {
         CHECK(pelgaisti_session_serve(second[k], &pass) == PELGAISTI_OK && pass.served == 1);
         CHECK(pelgaisti_session_collect(first[k], &answer) == PELGAISTI_OK);
         CHECK(answer.place == 1 && answer.reply.kind == PELGAISTI_REFUSED && answer.reply.value == PELGAISTI_NO_TRANSACTION);
-        CHECK(pelgaisti_session_perform_telling(first[k], &begin, &pass, &answer, told, 2, &count) == PELGAISTI_OK && count == 0);
+        CHECK(pelgaisti_session_perform(first[k], &begin, 1, &answer) == PELGAISTI_OK);
         CHECK(answer.place == 2 && answer.reply.kind == PELGAISTI_BEGAN && answer.reply.value == 1);
         CHECK(pelgaisti_session_perform(second[k], &begin, 1, &answer) == PELGAISTI_OK);
         CHECK(answer.place == 3 && answer.reply.kind == PELGAISTI_BEGAN && answer.reply.value == 2);
@@ -956,7 +976,7 @@ static void two_offices_have_their_own_sessions(void) {
         pelgaisti_book book = PELGAISTI_EMPTY;
         uint64_t length = 99;
         CHECK(pelgaisti_office_close(first[k], &book) == PELGAISTI_OK);
-        CHECK(pelgaisti_book_length(&book, &length) == PELGAISTI_OK && length == 4);
+        CHECK(length_of(&book, &length) == PELGAISTI_OK && length == 4);
         CHECK(pelgaisti_book_close(&book) == PELGAISTI_OK);
     }
 }
@@ -971,7 +991,7 @@ static void pieces_follow(void) {
     uint64_t first = 99;
     size_t count = 99;
 
-    CHECK(pelgaisti_office_open(two, 2) == PELGAISTI_OK);
+    CHECK(open_sessions(two, 2) == PELGAISTI_OK);
     CHECK(pelgaisti_session_take_history(&two[0], &first, NULL, 0, &count) == PELGAISTI_OK && first == 0 && count == 0);
     CHECK(pelgaisti_session_perform(&two[0], &begin, 9, &answer) == PELGAISTI_OK);
     CHECK(pelgaisti_session_perform(&two[1], &poll, 9, &answer) == PELGAISTI_OK);
@@ -986,7 +1006,7 @@ static void pieces_follow(void) {
     CHECK(pelgaisti_session_take_history(&two[0], &first, NULL, 0, &count) == PELGAISTI_OK && first == 3 && count == 0);
     CHECK(pelgaisti_session_hand_in(&two[1], &two[0]) == PELGAISTI_OK);
     CHECK(pelgaisti_office_close(&two[0], &book) == PELGAISTI_OK);
-    CHECK(pelgaisti_book_first_kept(&book, &first) == PELGAISTI_OK && first == 3);
+    CHECK(first_kept_of(&book, &first) == PELGAISTI_OK && first == 3);
     CHECK(pelgaisti_book_take_history(&book, &first, entries, 4, &count) == PELGAISTI_OK && first == 3 && count == 1);
     CHECK(entries[0].session == 2 && entries[0].call.op == PELGAISTI_BEGIN);
     CHECK(pelgaisti_book_close(&book) == PELGAISTI_OK);
@@ -1033,7 +1053,7 @@ static void threads_share(void) {
     job jobs[THREADS];
     uint64_t bad = 0, length = 0;
 
-    CHECK(pelgaisti_office_open(sessions, THREADS) == PELGAISTI_OK);
+    CHECK(open_sessions(sessions, THREADS) == PELGAISTI_OK);
     for (int t = 0; t < THREADS; t++) {
         job j = {&sessions[t], places[t], 0, 0};
         jobs[t] = j;
@@ -1051,7 +1071,7 @@ static void threads_share(void) {
     CHECK(bad == 0);
     for (int t = THREADS - 1; t > 0; t--) CHECK(pelgaisti_session_hand_in(&sessions[t], &sessions[0]) == PELGAISTI_OK);
     CHECK(pelgaisti_office_close(&sessions[0], &book) == PELGAISTI_OK);
-    CHECK(pelgaisti_book_length(&book, &length) == PELGAISTI_OK && length == THREADS * CALLS);
+    CHECK(length_of(&book, &length) == PELGAISTI_OK && length == THREADS * CALLS);
     bad = 0;
     for (uint64_t place = 0; place < length;) {
         static pelgaisti_entry entries[1000];
@@ -1115,7 +1135,7 @@ static void sessions_are_lent(void) {
     size_t count = 0;
     uint32_t next[LENT + 1];
 
-    CHECK(pelgaisti_office_open(sessions, LENT) == PELGAISTI_OK);
+    CHECK(open_sessions(sessions, LENT) == PELGAISTI_OK);
     for (int k = 0; k < LENT; k++) give_session_back(&sessions[k]);
     for (int t = 0; t < CLIENTS; t++) CHECK(pthread_create(&threads[t], NULL, work_on_loan, &bad[t]) == 0);
     for (int t = 0; t < CLIENTS; t++) {
@@ -1125,7 +1145,7 @@ static void sessions_are_lent(void) {
     CHECK(in_pool == LENT);
     for (int k = LENT - 1; k > 0; k--) CHECK(pelgaisti_session_hand_in(&sessions[k], &sessions[0]) == PELGAISTI_OK);
     CHECK(pelgaisti_office_close(&sessions[0], &book) == PELGAISTI_OK);
-    CHECK(pelgaisti_book_length(&book, &length) == PELGAISTI_OK && length == COUNT(entries));
+    CHECK(length_of(&book, &length) == PELGAISTI_OK && length == COUNT(entries));
     CHECK(pelgaisti_book_history(&book, 0, entries, COUNT(entries), &count) == PELGAISTI_OK && count == COUNT(entries));
     for (int k = 0; k <= LENT; k++) next[k] = PELGAISTI_BEGIN;
     for (size_t k = 0; k < count; k++) {
@@ -1191,7 +1211,7 @@ static void pieces_are_the_history(void) {
     uint64_t bad = 0, first = 0, length = 0;
     size_t count = 0;
 
-    CHECK(pelgaisti_office_open(sessions, THREADS + TAKERS) == PELGAISTI_OK);
+    CHECK(open_sessions(sessions, THREADS + TAKERS) == PELGAISTI_OK);
     for (int t = 0; t < TAKERS; t++) {
         taker j = {&sessions[THREADS + t], 0, 0};
         takers[t] = j;
@@ -1207,11 +1227,11 @@ static void pieces_are_the_history(void) {
     CHECK(takers[0].bad == 0 && takers[1].bad == 0 && takers[0].pieces + takers[1].pieces > 0);
     for (int t = THREADS + TAKERS - 1; t > 0; t--) CHECK(pelgaisti_session_hand_in(&sessions[t], &sessions[0]) == PELGAISTI_OK);
     CHECK(pelgaisti_office_close(&sessions[0], &book) == PELGAISTI_OK);
-    CHECK(pelgaisti_book_length(&book, &length) == PELGAISTI_OK && length == THREADS * CALLS);
-    CHECK(pelgaisti_book_first_kept(&book, &first) == PELGAISTI_OK);
+    CHECK(length_of(&book, &length) == PELGAISTI_OK && length == THREADS * CALLS);
+    CHECK(first_kept_of(&book, &first) == PELGAISTI_OK);
     for (uint64_t place = 0; place < first; place++) bad += times[place] != 1;
     CHECK(pelgaisti_book_take_history(&book, &first, taken + first, length - first, &count) == PELGAISTI_OK && first + count == length);
-    CHECK(pelgaisti_book_open(&fresh, THREADS + TAKERS) == PELGAISTI_OK);
+    CHECK(open_book(&fresh, THREADS + TAKERS) == PELGAISTI_OK);
     for (uint64_t place = 0; place < length; place++) {
         pelgaisti_reply reply = {0, 0};
         bad += pelgaisti_book_serve(&fresh, taken[place].session, &taken[place].call, &reply) != PELGAISTI_OK;
@@ -1233,7 +1253,7 @@ static void ended_waits_of_a_book(void) {
     size_t count = 9;
 
     CHECK(pelgaisti_book_ended(&book, list, 3, &count) == PELGAISTI_CLOSED && count == 9 && list[0] == 77);
-    CHECK(pelgaisti_book_open(&book, 3) == PELGAISTI_OK);
+    CHECK(open_book(&book, 3) == PELGAISTI_OK);
     CHECK(pelgaisti_book_ended(NULL, list, 3, &count) == PELGAISTI_NULL);
     CHECK(pelgaisti_book_ended(&book, NULL, 3, &count) == PELGAISTI_NULL);
     CHECK(pelgaisti_book_ended(&book, list, 3, NULL) == PELGAISTI_NULL);
@@ -1264,7 +1284,7 @@ static int replies(pelgaisti_book *book, uint32_t session, pelgaisti_call call, 
    for 2, which waits for 1: 3 becomes the victim, and the request is granted. */
 static void cross(pelgaisti_book *book, uint32_t first, uint32_t second) {
     pelgaisti_call begin = call_of(PELGAISTI_BEGIN, 0, 0, 0, 0), read = call_of(PELGAISTI_LOCK, PELGAISTI_S, 1, 8, 0);
-    CHECK(pelgaisti_book_open(book, 3) == PELGAISTI_OK);
+    CHECK(open_book(book, 3) == PELGAISTI_OK);
     CHECK(replies(book, first, begin, PELGAISTI_BEGAN, 1) && replies(book, second, begin, PELGAISTI_BEGAN, 2));
     CHECK(replies(book, 3, begin, PELGAISTI_BEGAN, 3));
     CHECK(replies(book, 1, call_of(PELGAISTI_LOCK, PELGAISTI_X, 1, 8, 0), PELGAISTI_GRANTED, PELGAISTI_X));
@@ -1287,32 +1307,23 @@ static void paths_tell(void) {
     for (size_t k = 0; k < COUNT(ways); k++) {
         pelgaisti_book book = PELGAISTI_EMPTY;
         pelgaisti_program path = {PELGAISTI_NOTHING, 0, PELGAISTI_IS, {PELGAISTI_LOCK, PELGAISTI_S, {2, {7, ways[k].record}}}};
-        pelgaisti_program_answer answer = {77, 77, 77, 77, {{77, 88}}};
-        static uint32_t wide[PELGAISTI_MAX_SESSIONS + 1];
-        uint32_t list[3] = {77, 77, 77};
-        uint64_t before = 0, after = 0;
+        pelgaisti_program_answer answer;
+        uint32_t list[4] = {77, 77, 77, 77};
         size_t count = 99;
         cross(&book, ways[k].first, ways[k].second);
         for (uint32_t n = 1; ways[k].kind == PELGAISTI_REFUSED && n < PELGAISTI_MAX_LOCKS - 1; n++)
             CHECK(replies(&book, 1, call_of(PELGAISTI_LOCK, PELGAISTI_S, 1, 100 + n, 0), PELGAISTI_GRANTED, PELGAISTI_S));
-        /* without room for all sessions no call is made */
-        CHECK(pelgaisti_book_length(&book, &before) == PELGAISTI_OK);
-        CHECK(pelgaisti_book_run(&book, 1, &path, &answer, list, 2, &count) == PELGAISTI_NO_ROOM);
-        CHECK(answer.served == 77 && list[0] == 77 && count == 0);
-        CHECK(pelgaisti_book_length(&book, &after) == PELGAISTI_OK && after == before);
-        count = 99;
-        CHECK(pelgaisti_book_run(&book, 1, &path, &answer, list, 3, &count) == PELGAISTI_OK);
-        CHECK(answer.served == 2 && answer.replies[1].kind == ways[k].kind);
-        CHECK(count == ways[k].ended && list[0] == 3 && list[1] == (count == 2 ? 2u : 77u) && list[2] == 77);
-        CHECK(pelgaisti_book_ended(&book, wide, 3, &count) == PELGAISTI_OK && count == ways[k].ended);
-        CHECK(!memcmp(wide, list, count * sizeof *list));
+        CHECK(pelgaisti_book_run(&book, 1, &path, &answer) == PELGAISTI_OK && answer.served == 2);
+        read_replies(&path, &answer);
+        CHECK(told[1].kind == ways[k].kind && answer.stop == (ways[k].kind == PELGAISTI_GRANTED ? 0 : ways[k].kind));
+        CHECK(pelgaisti_book_ended(&book, list, 3, &count) == PELGAISTI_OK && count == ways[k].ended);
+        CHECK(list[0] == 3 && list[1] == (count == 2 ? 2u : 77u) && list[2] == 77);
         CHECK(replies(&book, 3, poll, PELGAISTI_DEADLOCK, 0));
-        /* the next path tells of none of them again, and has room enough with more than there are sessions */
+        /* the next path tells of none of them again */
         path.last.resource.level = 1;
         path.last.mode = PELGAISTI_IS;
-        count = 99;
-        CHECK(pelgaisti_book_run(&book, 1, &path, &answer, wide, COUNT(wide), &count) == PELGAISTI_OK);
-        CHECK(count == 0 && pelgaisti_book_ended(&book, list, 3, &count) == PELGAISTI_OK && count == 0);
+        CHECK(pelgaisti_book_run(&book, 1, &path, &answer) == PELGAISTI_OK);
+        CHECK(pelgaisti_book_ended(&book, list, 4, &count) == PELGAISTI_OK && count == 0);
         CHECK(pelgaisti_book_close(&book) == PELGAISTI_OK);
     }
 }
@@ -1327,19 +1338,17 @@ static pelgaisti_program program_of(uint32_t start, pelgaisti_call last) {
     return program;
 }
 
-/* Whether a program gets this status, and then nothing has changed, and nobody is told of. */
-static int is_unrun(pelgaisti_book *book, uint32_t session, pelgaisti_program program, size_t room, pelgaisti_status status) {
+/* Whether a program gets this status, and then nothing has changed. */
+static int is_unrun(pelgaisti_book *book, uint32_t session, pelgaisti_program program, pelgaisti_status status) {
     pelgaisti_program_answer answer;
     unsigned char before[sizeof answer];
-    uint32_t list[3] = {77, 77, 77};
     uint64_t length = 0, after = 0;
-    size_t count = 99;
     memset(&answer, 0x55, sizeof answer);
     memcpy(before, &answer, sizeof answer);
-    CHECK(pelgaisti_book_length(book, &length) == PELGAISTI_OK);
-    CHECK(pelgaisti_book_run(book, session, &program, &answer, list, room, &count) == status);
-    CHECK(pelgaisti_book_length(book, &after) == PELGAISTI_OK);
-    return count == 0 && list[0] == 77 && after == length && !memcmp(before, &answer, sizeof answer);
+    CHECK(length_of(book, &length) == PELGAISTI_OK);
+    CHECK(pelgaisti_book_run(book, session, &program, &answer) == status);
+    CHECK(length_of(book, &after) == PELGAISTI_OK);
+    return after == length && !memcmp(before, &answer, sizeof answer);
 }
 
 /* Each bad number of a program gives its status, the first of them in the order of the header's comment. */
@@ -1349,52 +1358,47 @@ static void programs_refuse(void) {
     static const uint32_t on_resources[] = {PELGAISTI_LOCK, PELGAISTI_CONVERT, PELGAISTI_TRY, PELGAISTI_RELEASE};
     pelgaisti_book book = PELGAISTI_EMPTY;
     pelgaisti_program program = program_of(PELGAISTI_BEGINS, call_of(PELGAISTI_LOCK, PELGAISTI_X, 2, 7, 1));
-    pelgaisti_program_answer answer;
-    uint32_t list[3];
-    size_t count = 99;
-    CHECK(pelgaisti_book_run(&book, 1, &program, &answer, list, 3, &count) == PELGAISTI_CLOSED && count == 0);
-    CHECK(pelgaisti_book_open(&book, 3) == PELGAISTI_OK);
+    CHECK(open_book(&book, 3) == PELGAISTI_OK);
     program.start = 7;
-    for (size_t room = 0; room < 3; room++) CHECK(is_unrun(&book, 4, program, room, PELGAISTI_NO_ROOM));
     for (size_t k = 0; k < COUNT(off_sessions); k++)
-        CHECK(is_unrun(&book, off_sessions[k], program, 3, PELGAISTI_NO_SUCH_SESSION));
+        CHECK(is_unrun(&book, off_sessions[k], program, PELGAISTI_NO_SUCH_SESSION));
     program.last.op = 11;
     for (size_t k = 0; k < COUNT(off_starts); k++) {
         program.start = off_starts[k];
-        CHECK(is_unrun(&book, 1, program, 3, PELGAISTI_NO_SUCH_START));
+        CHECK(is_unrun(&book, 1, program, PELGAISTI_NO_SUCH_START));
     }
     for (program.start = 0; program.start < 7; program.start++) {
         for (size_t k = 1; k < COUNT(off_ops); k++) {
             program.last.op = off_ops[k];
             program.last.resource.level = 0;
-            CHECK(is_unrun(&book, 1, program, 3, PELGAISTI_NO_SUCH_OP));
+            CHECK(is_unrun(&book, 1, program, PELGAISTI_NO_SUCH_OP));
         }
         for (size_t k = 0; k < COUNT(ends); k++) {
             program.last.op = ends[k];
-            CHECK(is_unrun(&book, 1, program, 3, PELGAISTI_NO_SUCH_OP));
+            CHECK(is_unrun(&book, 1, program, PELGAISTI_NO_SUCH_OP));
         }
     }
     for (size_t n = 0; n < COUNT(on_resources); n++) {
         for (size_t k = 0; k < COUNT(off_levels); k++) {
             program = program_of(PELGAISTI_BEGINS, call_of(on_resources[n], 2, off_levels[k], 1, 2));
-            CHECK(is_unrun(&book, 1, program, 3, PELGAISTI_NO_SUCH_LEVEL));
+            CHECK(is_unrun(&book, 1, program, PELGAISTI_NO_SUCH_LEVEL));
         }
         for (size_t k = 0; n < 3 && k < COUNT(off_modes); k++) {
             program = program_of(PELGAISTI_BEGINS, call_of(on_resources[n], off_modes[k], 2, 1, 2));
             program.level = 2;
-            CHECK(is_unrun(&book, 1, program, 3, PELGAISTI_NO_SUCH_MODE));
+            CHECK(is_unrun(&book, 1, program, PELGAISTI_NO_SUCH_MODE));
         }
         program = program_of(PELGAISTI_BEGINS, call_of(on_resources[n], PELGAISTI_X, 2, 1, 2));
         program.above = 2;
         static const uint32_t off_path[] = {2, 3, 5, 256, UINT32_MAX};
         for (size_t k = 0; k < COUNT(off_path); k++) {
             program.level = off_path[k];
-            CHECK(is_unrun(&book, 1, program, 3, PELGAISTI_NOT_ON_PATH));
+            CHECK(is_unrun(&book, 1, program, PELGAISTI_NOT_ON_PATH));
         }
         for (program.level = 0; program.level < 2; program.level++)
             for (size_t k = 0; k < COUNT(off_modes); k++) {
                 program.above = off_modes[k];
-                CHECK(is_unrun(&book, 1, program, 3, PELGAISTI_NO_SUCH_ABOVE));
+                CHECK(is_unrun(&book, 1, program, PELGAISTI_NO_SUCH_ABOVE));
             }
     }
     CHECK(pelgaisti_book_close(&book) == PELGAISTI_OK);
@@ -1403,17 +1407,18 @@ static void programs_refuse(void) {
 /* Runs a program with so many replies, of which the last has this kind; then the answer says so, and tells of nobody. */
 static pelgaisti_program_answer run(pelgaisti_book *book, uint32_t session, pelgaisti_program program, uint32_t served, uint32_t kind) {
     pelgaisti_program_answer answer;
-    uint32_t list[3] = {77, 77, 77};
     size_t count = 99;
     uint64_t length = 0, after = 0;
     memset(&answer, 0x55, sizeof answer);
-    CHECK(pelgaisti_book_length(book, &length) == PELGAISTI_OK);
-    CHECK(pelgaisti_book_run(book, session, &program, &answer, list, 3, &count) == PELGAISTI_OK);
-    CHECK(pelgaisti_book_length(book, &after) == PELGAISTI_OK && after == length + served);
-    CHECK(answer.place == length && answer.served == served && answer.starved == 0 && count == 0 && list[0] == 77);
-    CHECK(served == 0 || answer.replies[served - 1].kind == kind);
+    CHECK(length_of(book, &length) == PELGAISTI_OK);
+    CHECK(pelgaisti_book_run(book, session, &program, &answer) == PELGAISTI_OK);
+    CHECK(length_of(book, &after) == PELGAISTI_OK && after == length + served);
+    CHECK(answer.place == length && answer.served == served && answer.starved == 0);
+    CHECK(served == 0 || (pelgaisti_book_ended(book, NULL, 0, &count) == PELGAISTI_OK && count == 0));
+    read_replies(&program, &answer);
+    CHECK(served == 0 || told[served - 1].kind == kind);
     CHECK(answer.stop == (kind == PELGAISTI_WAITING || kind == PELGAISTI_DEADLOCK || kind == PELGAISTI_REFUSED ? kind : 0));
-    for (uint32_t k = served; k < PELGAISTI_CALLS; k++) CHECK(answer.replies[k].kind == 0 && answer.replies[k].value == 0);
+    for (uint32_t k = 0; k < PELGAISTI_CALLS; k++) CHECK(answer.values[k] == told[k].value);
     return answer;
 }
 
@@ -1427,27 +1432,27 @@ static void programs_are_run(void) {
     pelgaisti_entry entries[PELGAISTI_CALLS];
     uint32_t list[3] = {77, 77, 77}, mode = 99;
     size_t count = 99;
-    CHECK(pelgaisti_book_open(&book, 3) == PELGAISTI_OK);
+    CHECK(open_book(&book, 3) == PELGAISTI_OK);
     run(&book, 1, program_of(PELGAISTI_NOTHING, none), 0, 0);
-    CHECK(run(&book, 1, program_of(PELGAISTI_BEGINS, none), 1, PELGAISTI_BEGAN).replies[0].value == 1);
+    CHECK(run(&book, 1, program_of(PELGAISTI_BEGINS, none), 1, PELGAISTI_BEGAN).values[0] == 1);
     run(&book, 1, program_of(PELGAISTI_COMMITS, none), 1, PELGAISTI_COMMITTED);
-    CHECK(run(&book, 1, program_of(PELGAISTI_BEGINS, poll), 2, PELGAISTI_CLEAR).replies[0].value == 2);
+    CHECK(run(&book, 1, program_of(PELGAISTI_BEGINS, poll), 2, PELGAISTI_CLEAR).values[0] == 2 && told[0].kind == PELGAISTI_BEGAN);
     run(&book, 1, program_of(PELGAISTI_ABORTS, none), 1, PELGAISTI_ABORTED);
-    CHECK(run(&book, 1, program_of(PELGAISTI_COMMITS_AND_BEGINS, none), 1, PELGAISTI_REFUSED).replies[0].value == PELGAISTI_NO_TRANSACTION);
-    CHECK(run(&book, 1, program_of(PELGAISTI_BEGINS, none), 1, PELGAISTI_BEGAN).replies[0].value == 3);
-    CHECK(run(&book, 1, program_of(PELGAISTI_ABORTS_AND_BEGINS, none), 2, PELGAISTI_BEGAN).replies[1].value == 4);
-    CHECK(run(&book, 1, program_of(PELGAISTI_RESTARTS, write_7), 2, PELGAISTI_GRANTED).replies[0].kind == PELGAISTI_RESTARTED);
-    CHECK(run(&book, 1, program_of(PELGAISTI_RESTARTS, none), 1, PELGAISTI_RESTARTED).replies[0].value == 1);
+    CHECK(run(&book, 1, program_of(PELGAISTI_COMMITS_AND_BEGINS, none), 1, PELGAISTI_REFUSED).values[0] == PELGAISTI_NO_TRANSACTION);
+    CHECK(run(&book, 1, program_of(PELGAISTI_BEGINS, none), 1, PELGAISTI_BEGAN).values[0] == 3);
+    CHECK(run(&book, 1, program_of(PELGAISTI_ABORTS_AND_BEGINS, none), 2, PELGAISTI_BEGAN).values[1] == 4);
+    CHECK(run(&book, 1, program_of(PELGAISTI_RESTARTS, write_7), 2, PELGAISTI_GRANTED).values[0] == 0 && told[0].kind == PELGAISTI_RESTARTED);
+    CHECK(run(&book, 1, program_of(PELGAISTI_RESTARTS, none), 1, PELGAISTI_RESTARTED).values[0] == 1);
     /* seven calls: a commit, a begin and a path of five */
     longest.level = 0;
     longest.above = PELGAISTI_IX;
     answer = run(&book, 1, longest, PELGAISTI_CALLS, PELGAISTI_GRANTED);
-    CHECK(answer.replies[0].kind == PELGAISTI_COMMITTED && answer.replies[1].kind == PELGAISTI_BEGAN && answer.replies[1].value == 5);
-    for (int k = 2; k < 6; k++) CHECK(answer.replies[k].kind == PELGAISTI_GRANTED && answer.replies[k].value == PELGAISTI_IX);
-    CHECK(answer.replies[6].value == PELGAISTI_X);
+    CHECK(told[0].kind == PELGAISTI_COMMITTED && told[1].kind == PELGAISTI_BEGAN && told[1].value == 5);
+    for (int k = 2; k < 6; k++) CHECK(told[k].kind == PELGAISTI_GRANTED && told[k].value == PELGAISTI_IX);
+    CHECK(told[6].value == PELGAISTI_X);
     CHECK(pelgaisti_book_history(&book, answer.place, entries, PELGAISTI_CALLS, &count) == PELGAISTI_OK && count == PELGAISTI_CALLS);
     for (size_t k = 0; k < count; k++)
-        CHECK(entries[k].session == 1 && entries[k].reply.kind == answer.replies[k].kind && entries[k].reply.value == answer.replies[k].value);
+        CHECK(entries[k].session == 1 && entries[k].reply.kind == told[k].kind && entries[k].reply.value == told[k].value);
     CHECK(entries[4].call.op == PELGAISTI_LOCK && entries[4].call.mode == PELGAISTI_IX && entries[4].call.resource.level == 3);
     CHECK(pelgaisti_book_held(&book, 1, &longest.last.resource, &mode) == PELGAISTI_OK && mode == PELGAISTI_X);
     /* the rest of a path, and each other last call */
@@ -1461,8 +1466,8 @@ static void programs_are_run(void) {
     run(&book, 1, longest, 1, PELGAISTI_GRANTED);
     longest.last.op = PELGAISTI_RELEASE;
     run(&book, 1, longest, 1, PELGAISTI_RELEASED);
-    CHECK(run(&book, 1, longest, 1, PELGAISTI_REFUSED).replies[0].value == PELGAISTI_NOT_HELD);
-    CHECK(run(&book, 1, program_of(PELGAISTI_NOTHING, call_of(PELGAISTI_WITHDRAW, 0, 0, 0, 0)), 1, PELGAISTI_REFUSED).replies[0].value ==
+    CHECK(run(&book, 1, longest, 1, PELGAISTI_REFUSED).values[0] == PELGAISTI_NOT_HELD);
+    CHECK(run(&book, 1, program_of(PELGAISTI_NOTHING, call_of(PELGAISTI_WITHDRAW, 0, 0, 0, 0)), 1, PELGAISTI_REFUSED).values[0] ==
           PELGAISTI_NOT_WAITING);
     /* it waits at its second call, and makes no further one */
     longest = program_of(PELGAISTI_BEGINS, call_of(PELGAISTI_LOCK, PELGAISTI_S, 2, 7, 1));
@@ -1472,8 +1477,7 @@ static void programs_are_run(void) {
     run(&book, 2, program_of(PELGAISTI_NOTHING, poll), 1, PELGAISTI_WAITING);
     /* the commit ends its wait, though another call follows in the program */
     longest = program_of(PELGAISTI_COMMITS_AND_BEGINS, poll);
-    CHECK(pelgaisti_book_run(&book, 1, &longest, &answer, list, 3, &count) == PELGAISTI_OK && answer.served == 3);
-    CHECK(count == 1 && list[0] == 2 && list[1] == 77);
+    CHECK(pelgaisti_book_run(&book, 1, &longest, &answer) == PELGAISTI_OK && answer.served == 3);
     CHECK(pelgaisti_book_ended(&book, list, 3, &count) == PELGAISTI_OK && count == 1 && list[0] == 2);
     run(&book, 2, program_of(PELGAISTI_NOTHING, poll), 1, PELGAISTI_CLEAR);
     /* session 1 waits for 2, which would wait for 1, and is younger: a victim */
@@ -1495,10 +1499,10 @@ static void tries_and_withdrawals(void) {
     pelgaisti_call read_two = call_of(PELGAISTI_LOCK, PELGAISTI_S, 1, 2, 0);
     pelgaisti_claim waiting;
     pelgaisti_entry entries[2];
-    uint32_t list[4] = {77, 77, 77, 77}, mode = 99, edge = 99;
+    uint32_t list[4] = {77, 77, 77, 77}, mode = 99;
     size_t count = 9;
 
-    CHECK(pelgaisti_book_open(&book, 4) == PELGAISTI_OK);
+    CHECK(open_book(&book, 4) == PELGAISTI_OK);
     CHECK(replies(&book, 1, try_s, PELGAISTI_REFUSED, PELGAISTI_NO_TRANSACTION));
     CHECK(replies(&book, 1, withdraw, PELGAISTI_REFUSED, PELGAISTI_NO_TRANSACTION));
     for (uint32_t s = 1; s <= 4; s++) CHECK(replies(&book, s, begin, PELGAISTI_BEGAN, s));
@@ -1513,7 +1517,7 @@ static void tries_and_withdrawals(void) {
     CHECK(replies(&book, 1, try_x, PELGAISTI_REFUSED, PELGAISTI_WOULD_WAIT));
     CHECK(pelgaisti_book_held(&book, 1, &try_x.resource, &mode) == PELGAISTI_OK && mode == PELGAISTI_S);
     CHECK(pelgaisti_book_request(&book, 3, &waiting) == PELGAISTI_OK && waiting.kind == 0);
-    CHECK(pelgaisti_book_waits_for(&book, 3, 1, &edge) == PELGAISTI_OK && edge == 0);
+    CHECK(pelgaisti_book_blockers(&book, 3, list, 4, &count) == PELGAISTI_OK && count == 0);
     CHECK(replies(&book, 3, poll, PELGAISTI_CLEAR, 0));
 
     /* the writer waits, and behind it a reader that conflicts with no holder: once the writer withdraws, the reader has the lock */
@@ -1565,7 +1569,7 @@ static void restarts(void) {
     uint32_t list[3] = {77, 77, 77}, mode = 99;
     size_t count = 9;
 
-    CHECK(pelgaisti_book_open(&book, 3) == PELGAISTI_OK);
+    CHECK(open_book(&book, 3) == PELGAISTI_OK);
     CHECK(replies(&book, 1, restart, PELGAISTI_REFUSED, PELGAISTI_NO_TRANSACTION));
     for (uint32_t s = 1; s <= 2; s++) CHECK(replies(&book, s, begin, PELGAISTI_BEGAN, s));
     CHECK(replies(&book, 1, one, PELGAISTI_GRANTED, PELGAISTI_X) && replies(&book, 2, two, PELGAISTI_GRANTED, PELGAISTI_X));
@@ -1597,6 +1601,11 @@ static void restarts(void) {
     CHECK(pelgaisti_book_close(&book) == PELGAISTI_OK);
 }
 
+static void close_all(pelgaisti_session *sessions, int count, pelgaisti_book *book) {
+    for (int s = count - 1; s > 0; s--) CHECK(pelgaisti_session_hand_in(&sessions[s], &sessions[0]) == PELGAISTI_OK);
+    CHECK(pelgaisti_office_close(&sessions[0], book) == PELGAISTI_OK);
+}
+
 /* Whether the claim is this one, of the session's transaction with the session's number. */
 static int is_claim(const pelgaisti_claim *claim, uint32_t session, uint32_t kind, uint32_t mode, uint32_t level, uint32_t doomed) {
     return claim->session == session && claim->kind == kind && claim->mode == mode && claim->transaction == session &&
@@ -1625,48 +1634,33 @@ static void claims_of_a_book(void) {
     pelgaisti_call write = call_of(PELGAISTI_CONVERT, PELGAISTI_X, 1, 1, 0);
     pelgaisti_reply reply;
     pelgaisti_transaction open = {77, 88};
-    pelgaisti_claim list[6], claim;
-    size_t count = 99;
+    pelgaisti_claim claim;
 
-    memset(list, 0x55, sizeof list);
     memset(&claim, 0x55, sizeof claim);
     CHECK(pelgaisti_book_transaction(&book, 1, &open) == PELGAISTI_CLOSED);
     CHECK(pelgaisti_book_request(&book, 1, &claim) == PELGAISTI_CLOSED);
-    CHECK(pelgaisti_book_locks(&book, 0, list, 6, &count) == PELGAISTI_CLOSED);
-    CHECK(pelgaisti_book_open(&book, 3) == PELGAISTI_OK);
+    CHECK(open_book(&book, 3) == PELGAISTI_OK);
     CHECK(pelgaisti_book_transaction(NULL, 1, &open) == PELGAISTI_NULL && pelgaisti_book_transaction(&book, 1, NULL) == PELGAISTI_NULL);
     CHECK(pelgaisti_book_request(NULL, 1, &claim) == PELGAISTI_NULL && pelgaisti_book_request(&book, 1, NULL) == PELGAISTI_NULL);
-    CHECK(pelgaisti_book_locks(NULL, 0, list, 6, &count) == PELGAISTI_NULL);
-    CHECK(pelgaisti_book_locks(&book, 0, NULL, 6, &count) == PELGAISTI_NULL);
-    CHECK(pelgaisti_book_locks(&book, 0, list, 6, NULL) == PELGAISTI_NULL);
     for (size_t k = 0; k < COUNT(off_sessions); k++) {
         CHECK(pelgaisti_book_transaction(&book, off_sessions[k], &open) == PELGAISTI_NO_SUCH_SESSION);
         CHECK(pelgaisti_book_request(&book, off_sessions[k], &claim) == PELGAISTI_NO_SUCH_SESSION);
     }
-    CHECK(open.number == 77 && open.doomed == 88 && claim.kind == 0x55555555 && list[0].kind == 0x55555555 && count == 99);
+    CHECK(open.number == 77 && open.doomed == 88 && claim.kind == 0x55555555);
     CHECK(pelgaisti_book_transaction(&book, 1, &open) == PELGAISTI_OK && open.number == 0 && open.doomed == 0);
     CHECK(pelgaisti_book_request(&book, 1, &claim) == PELGAISTI_OK && claim.kind == 0 && claim.resource.level == 0);
-    CHECK(pelgaisti_book_locks(&book, 0, list, 6, &count) == PELGAISTI_OK && count == 0 && list[0].kind == 0x55555555);
     for (uint32_t s = 1; s <= 3; s++) CHECK(pelgaisti_book_serve(&book, s, &begin, &reply) == PELGAISTI_OK);
     for (size_t k = 0; k < COUNT(claimed); k++) {
         pelgaisti_call call = call_of(claimed[k][1], claimed[k][2], claimed[k][3], 1, claimed[k][3] > 1 ? 2 : 0);
         CHECK(pelgaisti_book_serve(&book, claimed[k][0], &call, &reply) == PELGAISTI_OK);
         CHECK(reply.kind == (k < 4 ? PELGAISTI_GRANTED : PELGAISTI_WAITING));
     }
-    CHECK(pelgaisti_book_locks(&book, 0, list, 6, &count) == PELGAISTI_OK && list[5].kind == 0x55555555);
-    want_claims(list, count);
-    memset(list, 0x55, sizeof list);
-    CHECK(pelgaisti_book_locks(&book, 3, list, 1, &count) == PELGAISTI_OK && count == 5 && list[1].kind == 0x55555555);
-    CHECK(is_claim(&list[0], 3, PELGAISTI_FRESH, PELGAISTI_IS, 1, 0));
-    CHECK(pelgaisti_book_locks(&book, 5, list, 6, &count) == PELGAISTI_OK && count == 5 && list[1].kind == 0x55555555);
-    CHECK(pelgaisti_book_locks(&book, SIZE_MAX, NULL, 0, &count) == PELGAISTI_OK && count == 5);
     CHECK(pelgaisti_book_request(&book, 1, &claim) == PELGAISTI_OK && is_claim(&claim, 1, PELGAISTI_CONVERSION, PELGAISTI_X, 1, 0));
     CHECK(pelgaisti_book_request(&book, 2, &claim) == PELGAISTI_OK && claim.kind == 0 && claim.session == 0);
     /* session 2, whose transaction is the youngest of the two, wants to write as well: a deadlock */
     CHECK(pelgaisti_book_serve(&book, 2, &write, &reply) == PELGAISTI_OK && reply.kind == PELGAISTI_DEADLOCK);
     CHECK(pelgaisti_book_transaction(&book, 2, &open) == PELGAISTI_OK && open.number == 2 && open.doomed == 1);
     CHECK(pelgaisti_book_transaction(&book, 1, &open) == PELGAISTI_OK && open.number == 1 && open.doomed == 0);
-    CHECK(pelgaisti_book_locks(&book, 1, list, 1, &count) == PELGAISTI_OK && is_claim(&list[0], 2, PELGAISTI_HELD, PELGAISTI_S, 1, 1));
     CHECK(pelgaisti_book_serve(&book, 2, &abort, &reply) == PELGAISTI_OK && reply.kind == PELGAISTI_ABORTED);
     CHECK(pelgaisti_book_transaction(&book, 2, &open) == PELGAISTI_OK && open.number == 0);
     CHECK(pelgaisti_book_close(&book) == PELGAISTI_OK);
@@ -1680,7 +1674,7 @@ static int is_transaction(const pelgaisti_claim *row, uint32_t session, uint32_t
 
 /* Expects these lines to be the text of the dump, each written whole, and also where there is little room for it. */
 static void want_text(const pelgaisti_claim *rows, size_t count, const char *const *lines, size_t line_count) {
-    pelgaisti_dumping at = pelgaisti_dump_begin(), again = at;
+    pelgaisti_dumping at = PELGAISTI_DUMPING, again = at;
     char line[100], short_line[8];
     for (size_t k = 0; k < line_count; k++) {
         const size_t length = strlen(lines[k]);
@@ -1709,7 +1703,7 @@ static void long_lines(void) {
     want_text(rows, 2, told, 2);
 }
 
-/* A dump of a book: its open transactions, and then what `pelgaisti_book_locks` lists, with the place in the history. */
+/* A dump of a book: its open transactions, and then its locks and waiting requests, with the place in the history. */
 static void dumps_of_a_book(void) {
     static const char *const told[] = {"transaction,1,1,,,,\n",  "transaction,2,2,,,,\n", "transaction,3,3,,,,\n", "held,1,1,,1,S,\n",
                                        "held,2,2,,1,S,\n",       "conversion,1,1,,1,X,\n", "fresh,3,3,,1,IS,\n",   "held,1,1,,1/2,S,\n",
@@ -1725,7 +1719,7 @@ static void dumps_of_a_book(void) {
 
     memset(rows, 0x55, sizeof rows);
     CHECK(pelgaisti_book_dump(&book, rows, 9, &count, &place) == PELGAISTI_CLOSED);
-    CHECK(pelgaisti_book_open(&book, 3) == PELGAISTI_OK);
+    CHECK(open_book(&book, 3) == PELGAISTI_OK);
     CHECK(pelgaisti_book_dump(NULL, rows, 9, &count, &place) == PELGAISTI_NULL);
     CHECK(pelgaisti_book_dump(&book, NULL, 9, &count, &place) == PELGAISTI_NULL);
     CHECK(pelgaisti_book_dump(&book, rows, 9, NULL, &place) == PELGAISTI_NULL);
@@ -1783,7 +1777,7 @@ static void pages_of_a_book(void) {
     memset(list, 0x55, sizeof list);
     CHECK(pelgaisti_book_locks_held(&book, 1, &count) == PELGAISTI_CLOSED);
     CHECK(pelgaisti_book_locks_of(&book, 1, &first, list, 6, &count) == PELGAISTI_CLOSED);
-    CHECK(pelgaisti_book_open(&book, 3) == PELGAISTI_OK);
+    CHECK(open_book(&book, 3) == PELGAISTI_OK);
     CHECK(pelgaisti_book_locks_held(NULL, 1, &count) == PELGAISTI_NULL && pelgaisti_book_locks_held(&book, 1, NULL) == PELGAISTI_NULL);
     CHECK(pelgaisti_book_locks_of(NULL, 1, &first, list, 6, &count) == PELGAISTI_NULL);
     CHECK(pelgaisti_book_locks_of(&book, 1, NULL, list, 6, &count) == PELGAISTI_NULL);
@@ -1843,11 +1837,12 @@ static void pages_of_many_locks(void) {
     enum { LOCKS = 200 };
     pelgaisti_book book = PELGAISTI_EMPTY;
     pelgaisti_call begin = call_of(PELGAISTI_BEGIN, 0, 0, 0, 0), root = call_of(PELGAISTI_LOCK, PELGAISTI_IX, 1, 1, 0);
-    static pelgaisti_claim all[LOCKS + 1], list[LOCKS + 1];
+    static pelgaisti_claim all[LOCKS + 2], list[LOCKS + 1];
     pelgaisti_reply reply;
+    uint64_t place;
     size_t count = 99, room, at;
 
-    CHECK(pelgaisti_book_open(&book, 1) == PELGAISTI_OK && pelgaisti_book_serve(&book, 1, &begin, &reply) == PELGAISTI_OK);
+    CHECK(open_book(&book, 1) == PELGAISTI_OK && pelgaisti_book_serve(&book, 1, &begin, &reply) == PELGAISTI_OK);
     CHECK(pelgaisti_book_serve(&book, 1, &root, &reply) == PELGAISTI_OK);
     for (uint32_t k = LOCKS; k > 0; k--) {
         pelgaisti_call call = call_of(PELGAISTI_LOCK, PELGAISTI_X, 2, 1, k);
@@ -1862,12 +1857,12 @@ static void pages_of_many_locks(void) {
         CHECK(pelgaisti_book_serve(&book, 1, &call, &reply) == PELGAISTI_OK && reply.kind == PELGAISTI_GRANTED);
     }
     CHECK(pelgaisti_book_locks_held(&book, 1, &count) == PELGAISTI_OK && count == 168);
-    CHECK(pelgaisti_book_locks(&book, 0, all, LOCKS + 1, &count) == PELGAISTI_OK && count == 168);
+    CHECK(pelgaisti_book_dump(&book, all, LOCKS + 2, &count, &place) == PELGAISTI_OK && count == 169); /* behind the transaction's row */
     for (room = 1; room <= LOCKS; room++) {
         pelgaisti_resource after = {0, {0}};
         for (at = 0, count = room; count == room; at += count) {
             CHECK(pelgaisti_book_locks_of(&book, 1, &after, list, room, &count) == PELGAISTI_OK && at + count <= 168);
-            CHECK(!memcmp(list, all + at, count * sizeof list[0]));
+            CHECK(!memcmp(list, all + 1 + at, count * sizeof list[0]));
             if (count > 0) after = list[count - 1].resource;
         }
         CHECK(at == 168);
@@ -1875,162 +1870,8 @@ static void pages_of_many_locks(void) {
     CHECK(pelgaisti_book_close(&book) == PELGAISTI_OK);
 }
 
-/* The questions of a session refuse as those of a book do, and then nothing is written. */
-static void questions_refuse(pelgaisti_session *asker, pelgaisti_session *closed) {
-    pelgaisti_resource place = {1, {1}};
-    pelgaisti_transaction open = {77, 88};
-    pelgaisti_holder holders[2] = {{77, 88}, {77, 88}};
-    pelgaisti_claim claim;
-    uint32_t list[2] = {77, 77}, mode = 99, edge = 99;
-    uint64_t seen = 99;
-    size_t count = 99;
-
-    memset(&claim, 0x55, sizeof claim);
-    CHECK(pelgaisti_session_held(closed, 1, &place, &mode, &seen) == PELGAISTI_CLOSED);
-    CHECK(pelgaisti_session_transaction(closed, 1, &open, &seen) == PELGAISTI_CLOSED);
-    CHECK(pelgaisti_session_request(closed, 1, &claim, &seen) == PELGAISTI_CLOSED);
-    CHECK(pelgaisti_session_waits_for(closed, 1, 2, &edge, &seen) == PELGAISTI_CLOSED);
-    CHECK(pelgaisti_session_holders(closed, &place, holders, 2, &count, &seen) == PELGAISTI_CLOSED);
-    CHECK(pelgaisti_session_blockers(closed, 1, list, 2, &count, &seen) == PELGAISTI_CLOSED);
-    CHECK(pelgaisti_session_locks(closed, 0, &claim, 1, &count, &seen) == PELGAISTI_CLOSED);
-    CHECK(pelgaisti_session_locks_held(closed, 1, &count, &seen) == PELGAISTI_CLOSED);
-    CHECK(pelgaisti_session_locks_of(closed, 1, &place, &claim, 1, &count, &seen) == PELGAISTI_CLOSED);
-    CHECK(pelgaisti_session_dump(closed, &claim, 1, &count, &seen) == PELGAISTI_CLOSED);
-    CHECK(pelgaisti_session_held(NULL, 1, &place, &mode, &seen) == PELGAISTI_NULL);
-    CHECK(pelgaisti_session_held(asker, 1, NULL, &mode, &seen) == PELGAISTI_NULL);
-    CHECK(pelgaisti_session_held(asker, 1, &place, NULL, &seen) == PELGAISTI_NULL);
-    CHECK(pelgaisti_session_held(asker, 1, &place, &mode, NULL) == PELGAISTI_NULL);
-    CHECK(pelgaisti_session_transaction(NULL, 1, &open, &seen) == PELGAISTI_NULL);
-    CHECK(pelgaisti_session_transaction(asker, 1, NULL, &seen) == PELGAISTI_NULL);
-    CHECK(pelgaisti_session_transaction(asker, 1, &open, NULL) == PELGAISTI_NULL);
-    CHECK(pelgaisti_session_request(NULL, 1, &claim, &seen) == PELGAISTI_NULL);
-    CHECK(pelgaisti_session_request(asker, 1, NULL, &seen) == PELGAISTI_NULL);
-    CHECK(pelgaisti_session_request(asker, 1, &claim, NULL) == PELGAISTI_NULL);
-    CHECK(pelgaisti_session_waits_for(NULL, 1, 2, &edge, &seen) == PELGAISTI_NULL);
-    CHECK(pelgaisti_session_waits_for(asker, 1, 2, NULL, &seen) == PELGAISTI_NULL);
-    CHECK(pelgaisti_session_waits_for(asker, 1, 2, &edge, NULL) == PELGAISTI_NULL);
-    CHECK(pelgaisti_session_holders(NULL, &place, holders, 2, &count, &seen) == PELGAISTI_NULL);
-    CHECK(pelgaisti_session_holders(asker, NULL, holders, 2, &count, &seen) == PELGAISTI_NULL);
-    CHECK(pelgaisti_session_holders(asker, &place, NULL, 2, &count, &seen) == PELGAISTI_NULL);
-    CHECK(pelgaisti_session_holders(asker, &place, holders, 2, NULL, &seen) == PELGAISTI_NULL);
-    CHECK(pelgaisti_session_holders(asker, &place, holders, 2, &count, NULL) == PELGAISTI_NULL);
-    CHECK(pelgaisti_session_blockers(NULL, 1, list, 2, &count, &seen) == PELGAISTI_NULL);
-    CHECK(pelgaisti_session_blockers(asker, 1, NULL, 2, &count, &seen) == PELGAISTI_NULL);
-    CHECK(pelgaisti_session_blockers(asker, 1, list, 2, NULL, &seen) == PELGAISTI_NULL);
-    CHECK(pelgaisti_session_blockers(asker, 1, list, 2, &count, NULL) == PELGAISTI_NULL);
-    CHECK(pelgaisti_session_locks(NULL, 0, &claim, 1, &count, &seen) == PELGAISTI_NULL);
-    CHECK(pelgaisti_session_locks(asker, 0, NULL, 1, &count, &seen) == PELGAISTI_NULL);
-    CHECK(pelgaisti_session_locks(asker, 0, &claim, 1, NULL, &seen) == PELGAISTI_NULL);
-    CHECK(pelgaisti_session_locks(asker, 0, &claim, 1, &count, NULL) == PELGAISTI_NULL);
-    CHECK(pelgaisti_session_locks_held(NULL, 1, &count, &seen) == PELGAISTI_NULL);
-    CHECK(pelgaisti_session_locks_held(asker, 1, NULL, &seen) == PELGAISTI_NULL);
-    CHECK(pelgaisti_session_locks_held(asker, 1, &count, NULL) == PELGAISTI_NULL);
-    CHECK(pelgaisti_session_locks_of(NULL, 1, &place, &claim, 1, &count, &seen) == PELGAISTI_NULL);
-    CHECK(pelgaisti_session_locks_of(asker, 1, NULL, &claim, 1, &count, &seen) == PELGAISTI_NULL);
-    CHECK(pelgaisti_session_locks_of(asker, 1, &place, NULL, 1, &count, &seen) == PELGAISTI_NULL);
-    CHECK(pelgaisti_session_locks_of(asker, 1, &place, &claim, 1, NULL, &seen) == PELGAISTI_NULL);
-    CHECK(pelgaisti_session_locks_of(asker, 1, &place, &claim, 1, &count, NULL) == PELGAISTI_NULL);
-    CHECK(pelgaisti_session_dump(NULL, &claim, 1, &count, &seen) == PELGAISTI_NULL);
-    CHECK(pelgaisti_session_dump(asker, NULL, 1, &count, &seen) == PELGAISTI_NULL);
-    CHECK(pelgaisti_session_dump(asker, &claim, 1, NULL, &seen) == PELGAISTI_NULL);
-    CHECK(pelgaisti_session_dump(asker, &claim, 1, &count, NULL) == PELGAISTI_NULL);
-    for (size_t k = 0; k < COUNT(off_sessions); k++) {
-        CHECK(pelgaisti_session_held(asker, off_sessions[k], &place, &mode, &seen) == PELGAISTI_NO_SUCH_SESSION);
-        CHECK(pelgaisti_session_transaction(asker, off_sessions[k], &open, &seen) == PELGAISTI_NO_SUCH_SESSION);
-        CHECK(pelgaisti_session_request(asker, off_sessions[k], &claim, &seen) == PELGAISTI_NO_SUCH_SESSION);
-        CHECK(pelgaisti_session_waits_for(asker, off_sessions[k], 1, &edge, &seen) == PELGAISTI_NO_SUCH_SESSION);
-        CHECK(pelgaisti_session_waits_for(asker, 1, off_sessions[k], &edge, &seen) == PELGAISTI_NO_SUCH_SESSION);
-        CHECK(pelgaisti_session_blockers(asker, off_sessions[k], list, 2, &count, &seen) == PELGAISTI_NO_SUCH_SESSION);
-        CHECK(pelgaisti_session_locks_held(asker, off_sessions[k], &count, &seen) == PELGAISTI_NO_SUCH_SESSION);
-        CHECK(pelgaisti_session_locks_of(asker, off_sessions[k], &place, &claim, 1, &count, &seen) == PELGAISTI_NO_SUCH_SESSION);
-    }
-    for (size_t k = 0; k < COUNT(off_levels); k++) {
-        place.level = off_levels[k];
-        CHECK(pelgaisti_session_held(asker, 1, &place, &mode, &seen) == PELGAISTI_NO_SUCH_LEVEL);
-        CHECK(pelgaisti_session_held(asker, 4, &place, &mode, &seen) == PELGAISTI_NO_SUCH_SESSION);
-        CHECK(pelgaisti_session_holders(asker, &place, holders, 2, &count, &seen) == PELGAISTI_NO_SUCH_LEVEL);
-        CHECK(pelgaisti_session_locks_of(asker, 4, &place, &claim, 1, &count, &seen) == PELGAISTI_NO_SUCH_SESSION);
-        if (place.level > 0) CHECK(pelgaisti_session_locks_of(asker, 1, &place, &claim, 1, &count, &seen) == PELGAISTI_NO_SUCH_LEVEL);
-    }
-    CHECK(mode == 99 && edge == 99 && open.number == 77 && open.doomed == 88 && holders[0].session == 77 && list[0] == 77);
-    CHECK(claim.kind == 0x55555555 && seen == 99 && count == 99);
-    CHECK(pelgaisti_session_seen(asker, &seen) == PELGAISTI_OK && seen == 0);
-}
-
-/* The sessions of an open office ask what they hold and wait for: the answers are those of a book, with how many calls the history
-   had. A question serves no call, and its session may have one pending. The status ELSEWHERE is in embedding_memory.c. */
-static void sessions_ask(void) {
-    static pelgaisti_session sessions[3], closed;
-    pelgaisti_book book = PELGAISTI_EMPTY;
-    pelgaisti_call begin = call_of(PELGAISTI_BEGIN, 0, 0, 0, 0), poll = call_of(PELGAISTI_POLL, 0, 0, 0, 0);
-    pelgaisti_resource place = {1, {1}};
-    pelgaisti_answer answer;
-    pelgaisti_transaction open;
-    pelgaisti_holder holders[3];
-    pelgaisti_claim claims[6], claim;
-    uint32_t list[3] = {77, 77, 77}, mode, edge;
-    uint64_t seen = 0;
-    size_t count = 0;
-
-    CHECK(pelgaisti_office_open(sessions, 3) == PELGAISTI_OK);
-    questions_refuse(&sessions[1], &closed);
-    for (int s = 0; s < 3; s++) CHECK(pelgaisti_session_perform(&sessions[s], &begin, 9, &answer) == PELGAISTI_OK);
-    for (size_t k = 0; k < COUNT(claimed); k++) {
-        pelgaisti_call call = call_of(claimed[k][1], claimed[k][2], claimed[k][3], 1, claimed[k][3] > 1 ? 2 : 0);
-        CHECK(pelgaisti_session_perform(&sessions[claimed[k][0] - 1], &call, 9, &answer) == PELGAISTI_OK);
-    }
-    CHECK(pelgaisti_session_publish(&sessions[1], &poll, NULL) == PELGAISTI_OK);
-    memset(claims, 0x55, sizeof claims);
-    memset(holders, 0x55, sizeof holders);
-    CHECK(pelgaisti_session_held(&sessions[1], 1, &place, &mode, &seen) == PELGAISTI_OK && mode == PELGAISTI_S && seen == 9);
-    CHECK(pelgaisti_session_seen(&sessions[1], &seen) == PELGAISTI_OK && seen == 9);
-    CHECK(pelgaisti_session_held(&sessions[0], 3, &place, &mode, &seen) == PELGAISTI_OK && mode == PELGAISTI_NL && seen == 9);
-    CHECK(pelgaisti_session_transaction(&sessions[1], 3, &open, &seen) == PELGAISTI_OK && open.number == 3 && open.doomed == 0);
-    CHECK(pelgaisti_session_request(&sessions[1], 3, &claim, &seen) == PELGAISTI_OK && seen == 9);
-    CHECK(is_claim(&claim, 3, PELGAISTI_FRESH, PELGAISTI_IS, 1, 0));
-    CHECK(pelgaisti_session_request(&sessions[1], 2, &claim, &seen) == PELGAISTI_OK && claim.kind == 0);
-    CHECK(pelgaisti_session_waits_for(&sessions[1], 1, 2, &edge, &seen) == PELGAISTI_OK && edge == 1 && seen == 9);
-    CHECK(pelgaisti_session_waits_for(&sessions[1], 2, 1, &edge, &seen) == PELGAISTI_OK && edge == 0);
-    CHECK(pelgaisti_session_holders(&sessions[1], &place, holders, 1, &count, &seen) == PELGAISTI_OK && count == 2 && seen == 9);
-    CHECK(holders[0].session == 1 && holders[0].mode == PELGAISTI_S && holders[1].session == 0x55555555);
-    CHECK(pelgaisti_session_holders(&sessions[1], &place, NULL, 0, &count, &seen) == PELGAISTI_OK && count == 2);
-    CHECK(pelgaisti_session_blockers(&sessions[1], 3, list, 3, &count, &seen) == PELGAISTI_OK && count == 1 && seen == 9);
-    CHECK(list[0] == 1 && list[1] == 77);
-    CHECK(pelgaisti_session_blockers(&sessions[1], 2, NULL, 0, &count, &seen) == PELGAISTI_OK && count == 0);
-    CHECK(pelgaisti_session_locks(&sessions[1], 0, claims, 6, &count, &seen) == PELGAISTI_OK && seen == 9);
-    want_claims(claims, count);
-    CHECK(pelgaisti_session_locks(&sessions[1], 4, claims, 6, &count, &seen) == PELGAISTI_OK && count == 5 && seen == 9);
-    CHECK(is_claim(&claims[0], 1, PELGAISTI_HELD, PELGAISTI_S, 2, 0) && is_claim(&claims[1], 2, PELGAISTI_HELD, PELGAISTI_S, 1, 0));
-    CHECK(pelgaisti_session_locks(&sessions[1], 0, NULL, 0, &count, &seen) == PELGAISTI_OK && count == 5);
-    /* session 1 holds the database and a file; a page may begin behind either */
-    {
-        pelgaisti_resource first = {0, {0}};
-        CHECK(pelgaisti_session_locks_held(&sessions[1], 1, &count, &seen) == PELGAISTI_OK && count == 2 && seen == 9);
-        CHECK(pelgaisti_session_locks_held(&sessions[1], 3, &count, &seen) == PELGAISTI_OK && count == 0 && seen == 9);
-        memset(claims, 0x55, sizeof claims);
-        CHECK(pelgaisti_session_locks_of(&sessions[1], 1, &first, claims, 1, &count, &seen) == PELGAISTI_OK && count == 1 && seen == 9);
-        CHECK(is_claim(&claims[0], 1, PELGAISTI_HELD, PELGAISTI_S, 1, 0) && claims[1].kind == 0x55555555);
-        CHECK(pelgaisti_session_locks_of(&sessions[1], 1, &claims[0].resource, claims, 6, &count, &seen) == PELGAISTI_OK && count == 1 && seen == 9);
-        CHECK(is_claim(&claims[0], 1, PELGAISTI_HELD, PELGAISTI_S, 2, 0));
-        CHECK(pelgaisti_session_locks_of(&sessions[1], 1, &claims[0].resource, claims, 6, &count, &seen) == PELGAISTI_OK && count == 0);
-        CHECK(pelgaisti_session_locks_of(&sessions[1], 3, &first, NULL, 0, &count, &seen) == PELGAISTI_OK && count == 0);
-    }
-    /* the three transactions come before the locks and requests */
-    memset(claims, 0x55, sizeof claims);
-    CHECK(pelgaisti_session_dump(&sessions[1], claims, 5, &count, &seen) == PELGAISTI_OK && count == 8 && seen == 9);
-    for (uint32_t s = 1; s <= 3; s++) CHECK(is_transaction(&claims[s - 1], s, 0));
-    CHECK(is_claim(&claims[4], 2, PELGAISTI_HELD, PELGAISTI_S, 1, 0) && claims[5].kind == 0x55555555);
-    CHECK(pelgaisti_session_dump(&sessions[2], NULL, 0, &count, &seen) == PELGAISTI_OK && count == 8 && seen == 9);
-    CHECK(pelgaisti_session_collect(&sessions[1], &answer) == PELGAISTI_NOT_SERVED);
-    CHECK(pelgaisti_session_serve(&sessions[2], NULL) == PELGAISTI_OK);
-    CHECK(pelgaisti_session_collect(&sessions[1], &answer) == PELGAISTI_OK && answer.place == 9);
-    for (int s = 1; s < 3; s++) CHECK(pelgaisti_session_hand_in(&sessions[s], &sessions[0]) == PELGAISTI_OK);
-    CHECK(pelgaisti_office_close(&sessions[0], &book) == PELGAISTI_OK);
-    CHECK(pelgaisti_book_close(&book) == PELGAISTI_OK);
-}
-
-/* Seeds of books and offices that are to have the same history. The last one is drawn. */
-static const uint64_t seeds[] = {0, 1, UINT64_MAX, 77};
+/* Seeds of books and offices that are to have the same history. With the last one it is drawn. */
+static const uint64_t seeds[] = {5, 1, UINT64_MAX, 0};
 
 /* What is drawn for the next call: the same numbers in each run. */
 static uint32_t draw(uint32_t *state, uint32_t below) {
@@ -2062,12 +1903,13 @@ static void want_history(pelgaisti_book *book, int is_first) {
     static pelgaisti_entry entries[DRAWN], others[DRAWN];
     static pelgaisti_claim claims[DRAWN], their_claims[DRAWN];
     static size_t lines;
+    uint64_t place;
     size_t count = 0, granted = 0, differ = 0;
     CHECK(pelgaisti_book_history(book, 0, is_first ? entries : others, DRAWN, &count) == PELGAISTI_OK && count == DRAWN);
     for (size_t k = 0; k < DRAWN && is_first; k++) granted += entries[k].reply.kind == PELGAISTI_GRANTED;
     for (size_t k = 0; k < DRAWN && !is_first; k++) differ += !is_same_entry(&entries[k], &others[k]);
     CHECK(differ == 0 && (!is_first || granted > 400));
-    CHECK(pelgaisti_book_locks(book, 0, is_first ? claims : their_claims, DRAWN, &count) == PELGAISTI_OK && count > 0 && count <= DRAWN);
+    CHECK(pelgaisti_book_dump(book, is_first ? claims : their_claims, DRAWN, &count, &place) == PELGAISTI_OK && count > 0 && count <= DRAWN);
     if (is_first) lines = count;
     CHECK(count == lines && (is_first || !memcmp(claims, their_claims, count * sizeof *claims)));
 }
@@ -2075,23 +1917,24 @@ static void want_history(pelgaisti_book *book, int is_first) {
 /* The same calls give the same history and the same locks, whatever the seed, and if room is made and memory is given back meanwhile. */
 static void no_history_depends_on_seeds(void) {
     static pelgaisti_session sessions[8];
-    pelgaisti_book book = PELGAISTI_EMPTY;
+    pelgaisti_book book = PELGAISTI_EMPTY, view = PELGAISTI_EMPTY;
     pelgaisti_reply reply;
     pelgaisti_answer answer;
-    uint64_t seen;
+    pelgaisti_options options = PELGAISTI_OPTIONS(8);
+    options.keep = UINT64_MAX;
     for (size_t k = 0; k < 2 * COUNT(seeds); k++) {
-        const int is_office = k % 2, is_drawn = k / 2 + 1 == COUNT(seeds);
+        const int is_office = k % 2;
         uint32_t state = 1, session, failures = 0;
-        if (is_office && is_drawn) CHECK(pelgaisti_office_open(sessions, 8) == PELGAISTI_OK);
-        else if (is_office) CHECK(pelgaisti_office_open_seeded(sessions, 8, UINT64_MAX, NULL, seeds[k / 2]) == PELGAISTI_OK);
-        else if (is_drawn) CHECK(pelgaisti_book_open(&book, 8) == PELGAISTI_OK);
-        else CHECK(pelgaisti_book_open_seeded(&book, 8, seeds[k / 2]) == PELGAISTI_OK);
+        options.seed = seeds[k / 2];
+        CHECK((is_office ? pelgaisti_office_open(sessions, &options) : pelgaisti_book_open(&book, &options)) == PELGAISTI_OK);
         for (uint32_t n = 0; n < DRAWN; n++) {
             pelgaisti_call call = draw_call(&state, &session);
             if (is_office) {
                 failures += pelgaisti_session_perform(&sessions[session - 1], &call, 9, &answer) != PELGAISTI_OK;
-                if (n % 100 == 50) failures += pelgaisti_session_reserve(&sessions[n % 8], n, n, &seen) != PELGAISTI_OK;
-                if (n % 100 == 0) failures += pelgaisti_session_shrink(&sessions[n % 8], &seen) != PELGAISTI_OK;
+                if (n % 50 == 0) look(&sessions[n % 8], &view);
+                if (n % 100 == 50) failures += pelgaisti_book_reserve(&view, n, n) != PELGAISTI_OK;
+                if (n % 100 == 0) failures += pelgaisti_book_shrink(&view) != PELGAISTI_OK;
+                if (n % 50 == 0) end_look(&sessions[n % 8], &view);
             } else {
                 failures += pelgaisti_book_serve(&book, session, &call, &reply) != PELGAISTI_OK;
                 if (k > 0 && n % 100 == 50) failures += pelgaisti_book_reserve(&book, n, n) != PELGAISTI_OK;
@@ -2110,91 +1953,70 @@ static void no_history_depends_on_seeds(void) {
    cell, which the next new one takes; a shrink takes away those that are left. */
 static void memory_of_a_book(void) {
     pelgaisti_book book = PELGAISTI_EMPTY;
+    pelgaisti_options options = PELGAISTI_OPTIONS(2);
     pelgaisti_call begin = call_of(PELGAISTI_BEGIN, 0, 0, 0, 0), commit = call_of(PELGAISTI_COMMIT, 0, 0, 0, 0);
     pelgaisti_reply reply;
     uint32_t mode;
     uint64_t length = 0;
-    size_t cells = 99;
+    options.seed = 7;
     CHECK(pelgaisti_book_reserve(&book, 1, 1) == PELGAISTI_CLOSED && pelgaisti_book_shrink(&book) == PELGAISTI_CLOSED);
-    CHECK(pelgaisti_book_idle_cells(&book, &cells) == PELGAISTI_CLOSED && cells == 99);
-    CHECK(pelgaisti_book_open_seeded(NULL, 2, 7) == PELGAISTI_NULL);
-    for (size_t k = 0; k < COUNT(off_sessions); k++)
-        if (off_sessions[k] < 1 || off_sessions[k] > PELGAISTI_MAX_SESSIONS)
-            CHECK(pelgaisti_book_open_seeded(&book, off_sessions[k], 7) == PELGAISTI_NO_SUCH_COUNT);
-    CHECK(book.is_open_ == 0 && pelgaisti_book_open_seeded(&book, 2, 7) == PELGAISTI_OK);
-    CHECK(pelgaisti_book_open_seeded(&book, 2, 7) == PELGAISTI_OPEN && pelgaisti_book_open_seeded(&book, 0, 7) == PELGAISTI_OPEN);
+    CHECK(pelgaisti_book_open(NULL, &options) == PELGAISTI_NULL && pelgaisti_book_open(&book, &options) == PELGAISTI_OK);
+    CHECK(pelgaisti_book_open(&book, &options) == PELGAISTI_OPEN);
     CHECK(pelgaisti_book_reserve(NULL, 1, 1) == PELGAISTI_NULL && pelgaisti_book_shrink(NULL) == PELGAISTI_NULL);
-    CHECK(pelgaisti_book_idle_cells(NULL, &cells) == PELGAISTI_NULL && pelgaisti_book_idle_cells(&book, NULL) == PELGAISTI_NULL);
-    CHECK(cells == 99 && pelgaisti_book_idle_cells(&book, &cells) == PELGAISTI_OK && cells == 0);
     CHECK(pelgaisti_book_reserve(&book, SIZE_MAX, 0) == PELGAISTI_NO_MEMORY);
     CHECK(pelgaisti_book_reserve(&book, 0, SIZE_MAX) == PELGAISTI_NO_MEMORY);
     CHECK(pelgaisti_book_reserve(&book, 0, 0) == PELGAISTI_OK && pelgaisti_book_reserve(&book, 100, 100) == PELGAISTI_OK);
-    CHECK(pelgaisti_book_idle_cells(&book, &cells) == PELGAISTI_OK && cells == 0); /* room is no cell */
+    CHECK(idle_cells_of(&book) == 0); /* room is no cell */
     CHECK(pelgaisti_book_serve(&book, 1, &begin, &reply) == PELGAISTI_OK);
     for (uint32_t k = 1; k <= 3; k++) {
         pelgaisti_call lock = call_of(PELGAISTI_LOCK, PELGAISTI_X, 1, k, 0);
         CHECK(pelgaisti_book_serve(&book, 1, &lock, &reply) == PELGAISTI_OK && reply.kind == PELGAISTI_GRANTED);
     }
-    CHECK(pelgaisti_book_idle_cells(&book, &cells) == PELGAISTI_OK && cells == 0);
+    CHECK(idle_cells_of(&book) == 0);
     CHECK(pelgaisti_book_serve(&book, 1, &commit, &reply) == PELGAISTI_OK && reply.value == 3);
-    CHECK(pelgaisti_book_idle_cells(&book, &cells) == PELGAISTI_OK && cells == 3);
+    CHECK(idle_cells_of(&book) == 3);
     CHECK(pelgaisti_book_serve(&book, 2, &begin, &reply) == PELGAISTI_OK);
     pelgaisti_call lock = call_of(PELGAISTI_LOCK, PELGAISTI_X, 1, 9, 0);
     CHECK(pelgaisti_book_serve(&book, 2, &lock, &reply) == PELGAISTI_OK && reply.kind == PELGAISTI_GRANTED);
-    CHECK(pelgaisti_book_idle_cells(&book, &cells) == PELGAISTI_OK && cells == 2);
-    CHECK(pelgaisti_book_shrink(&book) == PELGAISTI_OK && pelgaisti_book_idle_cells(&book, &cells) == PELGAISTI_OK && cells == 0);
+    CHECK(idle_cells_of(&book) == 2);
+    CHECK(pelgaisti_book_shrink(&book) == PELGAISTI_OK && idle_cells_of(&book) == 0);
     CHECK(pelgaisti_book_held(&book, 2, &lock.resource, &mode) == PELGAISTI_OK && mode == PELGAISTI_X);
-    CHECK(pelgaisti_book_length(&book, &length) == PELGAISTI_OK && length == 7);
+    CHECK(length_of(&book, &length) == PELGAISTI_OK && length == 7);
     CHECK(pelgaisti_book_serve(&book, 2, &commit, &reply) == PELGAISTI_OK && reply.value == 1);
-    CHECK(pelgaisti_book_idle_cells(&book, &cells) == PELGAISTI_OK && cells == 1);
+    CHECK(idle_cells_of(&book) == 1);
     CHECK(pelgaisti_book_close(&book) == PELGAISTI_OK);
 }
 
-/* The same of an office, by a session that knows the whole history then. */
+/* The same of an office, by a session that looks. */
 static void memory_of_an_office(void) {
-    static pelgaisti_session sessions[2], closed;
-    pelgaisti_book book = PELGAISTI_EMPTY;
-    pelgaisti_waker nobody = {NULL, NULL};
+    static pelgaisti_session sessions[2];
+    pelgaisti_book book = PELGAISTI_EMPTY, view = PELGAISTI_EMPTY;
+    pelgaisti_options options = PELGAISTI_OPTIONS(2);
     pelgaisti_call begin = call_of(PELGAISTI_BEGIN, 0, 0, 0, 0), commit = call_of(PELGAISTI_COMMIT, 0, 0, 0, 0);
     pelgaisti_answer answer;
-    uint64_t seen = 99, known;
-    size_t cells = 99;
-    CHECK(pelgaisti_office_open_seeded(NULL, 2, UINT64_MAX, NULL, 7) == PELGAISTI_NULL);
-    CHECK(pelgaisti_office_open_seeded(sessions, 2, UINT64_MAX, &nobody, 7) == PELGAISTI_NULL);
-    CHECK(pelgaisti_office_open_seeded(sessions, 0, UINT64_MAX, NULL, 7) == PELGAISTI_NO_SUCH_COUNT);
-    CHECK(pelgaisti_office_open_seeded(sessions, 1025, UINT64_MAX, NULL, 7) == PELGAISTI_NO_SUCH_COUNT);
-    CHECK(pelgaisti_office_open_seeded(sessions, 2, 3, NULL, 7) == PELGAISTI_OK);
-    CHECK(pelgaisti_office_open_seeded(sessions, 2, 3, NULL, 7) == PELGAISTI_OPEN);
-    CHECK(pelgaisti_session_reserve(&closed, 1, 1, &seen) == PELGAISTI_CLOSED);
-    CHECK(pelgaisti_session_shrink(&closed, &seen) == PELGAISTI_CLOSED);
-    CHECK(pelgaisti_session_idle_cells(&closed, &cells, &seen) == PELGAISTI_CLOSED);
-    CHECK(pelgaisti_session_reserve(NULL, 1, 1, &seen) == PELGAISTI_NULL && pelgaisti_session_reserve(sessions, 1, 1, NULL) == PELGAISTI_NULL);
-    CHECK(pelgaisti_session_shrink(NULL, &seen) == PELGAISTI_NULL && pelgaisti_session_shrink(sessions, NULL) == PELGAISTI_NULL);
-    CHECK(pelgaisti_session_idle_cells(NULL, &cells, &seen) == PELGAISTI_NULL);
-    CHECK(pelgaisti_session_idle_cells(sessions, NULL, &seen) == PELGAISTI_NULL);
-    CHECK(pelgaisti_session_idle_cells(sessions, &cells, NULL) == PELGAISTI_NULL && seen == 99 && cells == 99);
-    CHECK(pelgaisti_session_reserve(&sessions[1], 100, 100, &seen) == PELGAISTI_OK && seen == 0);
+    uint64_t first = 99;
+    options.seed = 7;
+    options.keep = 3;
+    CHECK(pelgaisti_office_open(NULL, &options) == PELGAISTI_NULL && pelgaisti_office_open(sessions, &options) == PELGAISTI_OK);
+    CHECK(pelgaisti_office_open(sessions, &options) == PELGAISTI_OPEN);
+    look(&sessions[1], &view);
+    CHECK(pelgaisti_book_reserve(&view, 100, 100) == PELGAISTI_OK);
+    end_look(&sessions[1], &view);
     CHECK(pelgaisti_session_perform(&sessions[0], &begin, 9, &answer) == PELGAISTI_OK);
     for (uint32_t k = 1; k <= 3; k++) {
         pelgaisti_call lock = call_of(PELGAISTI_LOCK, PELGAISTI_X, 1, k, 0);
         CHECK(pelgaisti_session_perform(&sessions[0], &lock, 9, &answer) == PELGAISTI_OK && answer.reply.kind == PELGAISTI_GRANTED);
     }
-    seen = 99;
-    CHECK(pelgaisti_session_reserve(&sessions[1], SIZE_MAX, 0, &seen) == PELGAISTI_NO_MEMORY && seen == 99);
-    CHECK(pelgaisti_session_seen(&sessions[1], &known) == PELGAISTI_OK && known == 4); /* also if memory is refused */
-    CHECK(pelgaisti_session_idle_cells(&sessions[1], &cells, &seen) == PELGAISTI_OK && cells == 0 && seen == 4);
-    /* a session may have a call pending, which isn't served */
-    CHECK(pelgaisti_session_publish(&sessions[0], &commit, NULL) == PELGAISTI_OK);
-    CHECK(pelgaisti_session_reserve(&sessions[0], 1, 1, &seen) == PELGAISTI_OK && seen == 4);
-    CHECK(pelgaisti_session_shrink(&sessions[0], &seen) == PELGAISTI_OK && seen == 4);
-    CHECK(pelgaisti_session_collect(&sessions[0], &answer) == PELGAISTI_NOT_SERVED);
-    CHECK(pelgaisti_session_perform(&sessions[0], NULL, 9, &answer) == PELGAISTI_OK && answer.reply.value == 3);
-    CHECK(pelgaisti_session_idle_cells(&sessions[1], &cells, &seen) == PELGAISTI_OK && cells == 3 && seen == 5);
-    CHECK(pelgaisti_session_shrink(&sessions[1], &seen) == PELGAISTI_OK && seen == 5);
-    CHECK(pelgaisti_session_idle_cells(&sessions[1], &cells, &seen) == PELGAISTI_OK && cells == 0);
+    look(&sessions[1], &view);
+    CHECK(pelgaisti_book_reserve(&view, SIZE_MAX, 0) == PELGAISTI_NO_MEMORY && idle_cells_of(&view) == 0);
+    end_look(&sessions[1], &view);
+    CHECK(pelgaisti_session_perform(&sessions[0], &commit, 9, &answer) == PELGAISTI_OK && answer.reply.value == 3);
+    look(&sessions[1], &view);
+    CHECK(idle_cells_of(&view) == 3 && pelgaisti_book_shrink(&view) == PELGAISTI_OK && idle_cells_of(&view) == 0);
+    end_look(&sessions[1], &view);
     CHECK(pelgaisti_session_hand_in(&sessions[1], &sessions[0]) == PELGAISTI_OK);
     CHECK(pelgaisti_office_close(&sessions[0], &book) == PELGAISTI_OK);
-    CHECK(pelgaisti_book_first_kept(&book, &seen) == PELGAISTI_OK && seen == 2); /* the bound was given */
+    CHECK(first_kept_of(&book, &first) == PELGAISTI_OK && first == 2); /* the bound was given */
     CHECK(pelgaisti_book_close(&book) == PELGAISTI_OK);
 }
 
@@ -2203,12 +2025,15 @@ static void seeded_wakers(void) {
     static pelgaisti_session sessions[2];
     sem_t woken[3];
     pelgaisti_waker waker = {post, woken};
+    pelgaisti_options options = PELGAISTI_OPTIONS(2);
     pelgaisti_book book = PELGAISTI_EMPTY;
     pelgaisti_call begin = call_of(PELGAISTI_BEGIN, 0, 0, 0, 0), write = call_of(PELGAISTI_LOCK, PELGAISTI_X, 1, 1, 0);
     pelgaisti_call commit = call_of(PELGAISTI_COMMIT, 0, 0, 0, 0);
     pelgaisti_answer answer;
     for (int s = 0; s < 3; s++) CHECK(sem_init(&woken[s], 0, 0) == 0);
-    CHECK(pelgaisti_office_open_seeded(sessions, 2, UINT64_MAX, &waker, 7) == PELGAISTI_OK);
+    options.seed = 7;
+    options.waker = &waker;
+    CHECK(pelgaisti_office_open(sessions, &options) == PELGAISTI_OK);
     for (int s = 0; s < 2; s++) {
         CHECK(pelgaisti_session_perform(&sessions[s], &begin, 9, &answer) == PELGAISTI_OK);
         CHECK(pelgaisti_session_perform(&sessions[s], &write, 9, &answer) == PELGAISTI_OK);
@@ -2218,39 +2043,6 @@ static void seeded_wakers(void) {
     CHECK(pelgaisti_session_hand_in(&sessions[1], &sessions[0]) == PELGAISTI_OK);
     CHECK(pelgaisti_office_close(&sessions[0], &book) == PELGAISTI_OK && pelgaisti_book_close(&book) == PELGAISTI_OK);
     for (int s = 0; s < 3; s++) sem_destroy(&woken[s]);
-}
-
-/* A pass tells whose wait it has ended, whoever makes it, and the next pass tells nobody. */
-static void passes_tell(void) {
-    static pelgaisti_session sessions[2];
-    pelgaisti_book book = PELGAISTI_EMPTY;
-    pelgaisti_call begin = call_of(PELGAISTI_BEGIN, 0, 0, 0, 0), commit = call_of(PELGAISTI_COMMIT, 0, 0, 0, 0);
-    pelgaisti_call write = call_of(PELGAISTI_LOCK, PELGAISTI_X, 1, 1, 0);
-    pelgaisti_answer answer;
-    pelgaisti_pass pass = {9, 9};
-    uint32_t list[3] = {77, 77, 77};
-    size_t count = 9;
-
-    CHECK(pelgaisti_session_serve_telling(&sessions[0], &pass, list, 2, &count) == PELGAISTI_CLOSED);
-    CHECK(pelgaisti_office_open(sessions, 2) == PELGAISTI_OK);
-    CHECK(pelgaisti_session_serve_telling(NULL, &pass, list, 2, &count) == PELGAISTI_NULL);
-    CHECK(pelgaisti_session_serve_telling(&sessions[0], &pass, NULL, 2, &count) == PELGAISTI_NULL);
-    CHECK(pelgaisti_session_serve_telling(&sessions[0], &pass, list, 2, NULL) == PELGAISTI_NULL);
-    CHECK(pelgaisti_session_serve_telling(&sessions[0], &pass, list, 1, &count) == PELGAISTI_NO_ROOM);
-    CHECK(count == 9 && list[0] == 77 && pass.served == 9);
-    for (int s = 0; s < 2; s++) {
-        CHECK(pelgaisti_session_perform(&sessions[s], &begin, 10, &answer) == PELGAISTI_OK);
-        CHECK(pelgaisti_session_perform(&sessions[s], &write, 10, &answer) == PELGAISTI_OK);
-        CHECK(answer.reply.kind == (s == 0 ? PELGAISTI_GRANTED : PELGAISTI_WAITING));
-    }
-    CHECK(pelgaisti_session_publish(&sessions[0], &commit, NULL) == PELGAISTI_OK);
-    CHECK(pelgaisti_session_serve_telling(&sessions[1], &pass, list, 3, &count) == PELGAISTI_OK && pass.served == 1);
-    CHECK(pass.starved == 0 && count == 1 && list[0] == 2 && list[1] == 77);
-    CHECK(pelgaisti_session_collect(&sessions[0], &answer) == PELGAISTI_OK && answer.reply.kind == PELGAISTI_COMMITTED);
-    CHECK(pelgaisti_session_serve_telling(&sessions[0], NULL, list, 2, &count) == PELGAISTI_OK && count == 0);
-    CHECK(pelgaisti_session_hand_in(&sessions[1], &sessions[0]) == PELGAISTI_OK);
-    CHECK(pelgaisti_office_close(&sessions[0], &book) == PELGAISTI_OK);
-    CHECK(pelgaisti_book_close(&book) == PELGAISTI_OK);
 }
 
 enum { TELLERS = 8, TELLER_CALLS = 500, TELLER_SESSIONS = 2 * TELLERS };
@@ -2267,23 +2059,33 @@ typedef struct teller {
     uint32_t state, hears;
     uint64_t bad;
     size_t count;
-    told_pass passes[TELLERS * TELLER_CALLS];
+    told_pass passes[TELLERS * TELLER_CALLS + 1];
 } teller;
 
-/* Tries to make a pass that tells. Returns whether the session's answer is there. */
+/* The thread's pass, which its waker notes. */
+static __thread told_pass *being_made;
+
+static void note_told(void *engine, uint32_t session) {
+    (void)engine;
+    being_made->told |= 1u << session;
+    being_made->count++;
+}
+
+static const pelgaisti_waker tells = {note_told, NULL};
+
+/* Tries to make a pass, of which the waker is told. Returns whether the session's answer is there. */
 static int tell_and_collect(teller *t, pelgaisti_session *session, pelgaisti_answer *answer) {
-    uint32_t list[TELLER_SESSIONS];
     pelgaisti_pass pass = {99, 99};
-    size_t count = 99;
-    pelgaisti_status status = pelgaisti_session_serve_telling(session, &pass, list, TELLER_SESSIONS, &count);
+    pelgaisti_status status;
+    being_made = &t->passes[t->count];
+    memset(being_made, 0, sizeof *being_made);
+    status = pelgaisti_session_serve(session, &pass);
     if (status == PELGAISTI_OK && pass.served > 0) {
-        told_pass *it = &t->passes[t->count++];
-        t->bad += pelgaisti_session_seen(session, &it->upto) != PELGAISTI_OK || pass.starved != 0;
-        it->served = pass.served;
-        it->count = (uint32_t)count;
-        for (size_t k = 0; k < count; k++) it->told |= 1u << list[k];
+        t->bad += pelgaisti_session_seen(session, &being_made->upto) != PELGAISTI_OK || pass.starved != 0;
+        being_made->served = pass.served;
+        t->count++;
     } else {
-        t->bad += status != PELGAISTI_ELSEWHERE && !(status == PELGAISTI_OK && pass.starved == 0 && count == 0);
+        t->bad += being_made->count > 0 || (status != PELGAISTI_ELSEWHERE && !(status == PELGAISTI_OK && pass.starved == 0));
     }
     return pelgaisti_session_collect(session, answer) == PELGAISTI_OK;
 }
@@ -2338,7 +2140,7 @@ static void threads_tell(void) {
     pelgaisti_book book = PELGAISTI_EMPTY, twin = PELGAISTI_EMPTY;
     pthread_t threads[TELLERS];
     uint64_t length = 0, place = 0, telling = 0;
-    CHECK(pelgaisti_office_open(sessions, TELLER_SESSIONS) == PELGAISTI_OK);
+    CHECK(open_office_with(sessions, TELLER_SESSIONS, UINT64_MAX, &tells, 0) == PELGAISTI_OK);
     for (uint32_t k = 0; k < TELLERS; k++) {
         tellers[k].two = &sessions[2 * k];
         tellers[k].state = k;
@@ -2349,8 +2151,8 @@ static void threads_tell(void) {
         for (size_t n = 0; n < tellers[k].count; n++) at[tellers[k].passes[n].upto - tellers[k].passes[n].served] = &tellers[k].passes[n];
     }
     for (size_t k = 1; k < TELLER_SESSIONS; k++) CHECK(pelgaisti_session_hand_in(&sessions[k], &sessions[0]) == PELGAISTI_OK);
-    CHECK(pelgaisti_office_close(&sessions[0], &book) == PELGAISTI_OK && pelgaisti_book_open(&twin, TELLER_SESSIONS) == PELGAISTI_OK);
-    CHECK(pelgaisti_book_length(&book, &length) == PELGAISTI_OK && length == TELLERS * TELLER_CALLS);
+    CHECK(pelgaisti_office_close(&sessions[0], &book) == PELGAISTI_OK && open_book(&twin, TELLER_SESSIONS) == PELGAISTI_OK);
+    CHECK(length_of(&book, &length) == PELGAISTI_OK && length == TELLERS * TELLER_CALLS);
     while (place < length && at[place] && is_told(&book, &twin, at[place])) {
         telling += at[place]->count > 0;
         place = at[place]->upto;
@@ -2359,94 +2161,58 @@ static void threads_tell(void) {
     CHECK(pelgaisti_book_close(&twin) == PELGAISTI_OK && pelgaisti_book_close(&book) == PELGAISTI_OK);
 }
 
-/* A call performed at once gives its answer without a publish, tells whose wait it has ended, and refuses as a publish does. The
-   statuses NO_MEMORY and ELSEWHERE are in embedding_memory.c. */
+/* A call of one turn is made at once, without a publish, and its pass serves the published calls: ahead of those if it gives locks back, else
+   behind them. */
 static void calls_at_once(void) {
-    static pelgaisti_session sessions[3], closed;
+    static pelgaisti_session sessions[3];
     pelgaisti_book book = PELGAISTI_EMPTY;
     pelgaisti_call begin = call_of(PELGAISTI_BEGIN, 0, 0, 0, 0), commit = call_of(PELGAISTI_COMMIT, 0, 0, 0, 0);
     pelgaisti_call write = call_of(PELGAISTI_LOCK, PELGAISTI_X, 1, 1, 0), poll = call_of(PELGAISTI_POLL, 0, 0, 0, 0);
     pelgaisti_call read = call_of(PELGAISTI_LOCK, PELGAISTI_S, 1, 1, 0), withdraw = call_of(PELGAISTI_WITHDRAW, 0, 0, 0, 0);
     pelgaisti_call try_write = call_of(PELGAISTI_TRY, PELGAISTI_X, 1, 1, 0);
-    pelgaisti_call offs[3];
-    const pelgaisti_status faults[3] = {PELGAISTI_NO_SUCH_OP, PELGAISTI_NO_SUCH_LEVEL, PELGAISTI_NO_SUCH_MODE};
-    pelgaisti_answer answer = {99, {77, 88}};
-    pelgaisti_pass pass = {9, 9};
-    uint32_t list[4] = {77, 77, 77, 77};
-    size_t count = 9;
+    pelgaisti_answer answer;
 
-    offs[0] = call_of(0, 0, 0, 0, 0);
-    offs[1] = call_of(PELGAISTI_LOCK, PELGAISTI_S, 0, 1, 0);
-    offs[2] = call_of(PELGAISTI_LOCK, 2, 1, 1, 0);
-    CHECK(pelgaisti_office_open(sessions, 3) == PELGAISTI_OK);
-    CHECK(pelgaisti_session_perform_at_once(&closed, &begin, &pass, &answer) == PELGAISTI_CLOSED);
-    CHECK(pelgaisti_session_perform_at_once(NULL, &begin, &pass, &answer) == PELGAISTI_NULL);
-    CHECK(pelgaisti_session_perform_at_once(&sessions[0], NULL, &pass, &answer) == PELGAISTI_NULL);
-    CHECK(pelgaisti_session_perform_at_once(&sessions[0], &begin, &pass, NULL) == PELGAISTI_NULL);
-    CHECK(pelgaisti_session_perform_telling(&closed, &begin, &pass, &answer, list, 3, &count) == PELGAISTI_CLOSED);
-    CHECK(pelgaisti_session_perform_telling(NULL, &begin, &pass, &answer, list, 3, &count) == PELGAISTI_NULL);
-    CHECK(pelgaisti_session_perform_telling(&sessions[0], NULL, &pass, &answer, list, 3, &count) == PELGAISTI_NULL);
-    CHECK(pelgaisti_session_perform_telling(&sessions[0], &begin, &pass, NULL, list, 3, &count) == PELGAISTI_NULL);
-    CHECK(pelgaisti_session_perform_telling(&sessions[0], &begin, &pass, &answer, NULL, 3, &count) == PELGAISTI_NULL);
-    CHECK(pelgaisti_session_perform_telling(&sessions[0], &begin, &pass, &answer, list, 3, NULL) == PELGAISTI_NULL);
-    CHECK(pelgaisti_session_perform_telling(&sessions[0], &begin, &pass, &answer, list, 2, &count) == PELGAISTI_NO_ROOM);
-    CHECK(pelgaisti_session_perform_telling(&sessions[0], &offs[0], &pass, &answer, list, 2, &count) == PELGAISTI_NO_ROOM);
-    CHECK(pelgaisti_session_publish(&sessions[0], &begin, NULL) == PELGAISTI_OK);
-    for (int k = 0; k < 3; k++) {
-        CHECK(pelgaisti_session_perform_at_once(&sessions[0], &offs[k], &pass, &answer) == faults[k]);
-        CHECK(pelgaisti_session_perform_telling(&sessions[0], &offs[k], &pass, &answer, list, 3, &count) == faults[k]);
-    }
-    CHECK(pelgaisti_session_perform_at_once(&sessions[0], &poll, &pass, &answer) == PELGAISTI_PENDING);
-    CHECK(pelgaisti_session_perform_telling(&sessions[0], &poll, &pass, &answer, list, 3, &count) == PELGAISTI_PENDING);
-    CHECK(pass.served == 9 && pass.starved == 9 && answer.place == 99 && answer.reply.kind == 77 && list[0] == 77 && count == 9);
-
+    CHECK(open_sessions(sessions, 3) == PELGAISTI_OK);
     /* the published call goes first, since this one gives nothing back */
-    CHECK(pelgaisti_session_perform_at_once(&sessions[1], &begin, &pass, &answer) == PELGAISTI_OK);
-    CHECK(pass.served == 1 && pass.starved == 0 && answer.place == 1 && answer.reply.kind == PELGAISTI_BEGAN && answer.reply.value == 2);
+    CHECK(pelgaisti_session_publish(&sessions[0], &begin, NULL) == PELGAISTI_OK);
+    CHECK(pelgaisti_session_perform(&sessions[1], &begin, 1, &answer) == PELGAISTI_OK);
+    CHECK(answer.place == 1 && answer.reply.kind == PELGAISTI_BEGAN && answer.reply.value == 2);
     CHECK(pelgaisti_session_collect(&sessions[1], &answer) == PELGAISTI_NOTHING_PENDING);
     CHECK(pelgaisti_session_collect(&sessions[0], &answer) == PELGAISTI_OK && answer.place == 0);
-    CHECK(pelgaisti_session_perform_telling(&sessions[0], &write, NULL, &answer, list, 3, &count) == PELGAISTI_OK);
-    CHECK(answer.place == 2 && answer.reply.kind == PELGAISTI_GRANTED && count == 0 && list[0] == 77);
-    CHECK(pelgaisti_session_perform_at_once(&sessions[1], &write, NULL, &answer) == PELGAISTI_OK);
+    CHECK(pelgaisti_session_perform(&sessions[0], &write, 1, &answer) == PELGAISTI_OK);
+    CHECK(answer.place == 2 && answer.reply.kind == PELGAISTI_GRANTED);
+    CHECK(pelgaisti_session_perform(&sessions[1], &write, 1, &answer) == PELGAISTI_OK);
     CHECK(answer.place == 3 && answer.reply.kind == PELGAISTI_WAITING);
 
-    /* a commit goes ahead of the published poll, and tells of the session that waits; the poll is served in its pass */
+    /* a commit goes ahead of the published poll, which is served in its pass */
     CHECK(pelgaisti_session_publish(&sessions[1], &poll, NULL) == PELGAISTI_OK);
-    CHECK(pelgaisti_session_perform_telling(&sessions[0], &commit, &pass, &answer, list, 4, &count) == PELGAISTI_OK);
-    CHECK(pass.served == 1 && answer.place == 4 && answer.reply.kind == PELGAISTI_COMMITTED);
-    CHECK(count == 1 && list[0] == 2 && list[1] == 77);
+    CHECK(pelgaisti_session_perform(&sessions[0], &commit, 1, &answer) == PELGAISTI_OK);
+    CHECK(answer.place == 4 && answer.reply.kind == PELGAISTI_COMMITTED);
     CHECK(pelgaisti_session_collect(&sessions[1], &answer) == PELGAISTI_OK && answer.reply.kind == PELGAISTI_CLEAR);
-    CHECK(pelgaisti_session_perform_telling(&sessions[1], &commit, &pass, &answer, list, 4, &count) == PELGAISTI_OK && count == 0);
+    CHECK(pelgaisti_session_perform(&sessions[1], &commit, 1, &answer) == PELGAISTI_OK);
 
-    /* 1 reads, 2 waits to write and 3 to read: a withdrawal of 2 goes ahead of the published poll of 3, and tells of 3 */
+    /* 1 reads, 2 waits to write and 3 to read: a withdrawal of 2 goes ahead of the published poll of 3 */
     for (int s = 0; s < 3; s++) {
-        CHECK(pelgaisti_session_perform_at_once(&sessions[s], &begin, NULL, &answer) == PELGAISTI_OK);
+        CHECK(pelgaisti_session_perform(&sessions[s], &begin, 1, &answer) == PELGAISTI_OK);
         CHECK(answer.place == 7 + 2 * (uint64_t)s);
-        CHECK(pelgaisti_session_perform_at_once(&sessions[s], s == 1 ? &write : &read, NULL, &answer) == PELGAISTI_OK);
+        CHECK(pelgaisti_session_perform(&sessions[s], s == 1 ? &write : &read, 1, &answer) == PELGAISTI_OK);
         CHECK(answer.reply.kind == (s == 0 ? PELGAISTI_GRANTED : PELGAISTI_WAITING));
     }
     CHECK(pelgaisti_session_publish(&sessions[2], &poll, NULL) == PELGAISTI_OK);
-    CHECK(pelgaisti_session_perform_telling(&sessions[1], &withdraw, &pass, &answer, list, 4, &count) == PELGAISTI_OK);
-    CHECK(pass.served == 1 && answer.place == 13 && answer.reply.kind == PELGAISTI_WITHDRAWN && answer.reply.value == 0);
-    CHECK(count == 1 && list[0] == 3);
+    CHECK(pelgaisti_session_perform(&sessions[1], &withdraw, 1, &answer) == PELGAISTI_OK);
+    CHECK(answer.place == 13 && answer.reply.kind == PELGAISTI_WITHDRAWN && answer.reply.value == 0);
     CHECK(pelgaisti_session_collect(&sessions[2], &answer) == PELGAISTI_OK && answer.reply.kind == PELGAISTI_CLEAR);
-    CHECK(pelgaisti_session_perform_at_once(&sessions[1], &try_write, NULL, &answer) == PELGAISTI_OK && answer.place == 15);
+    CHECK(pelgaisti_session_perform(&sessions[1], &try_write, 1, &answer) == PELGAISTI_OK && answer.place == 15);
     CHECK(answer.reply.kind == PELGAISTI_REFUSED && answer.reply.value == PELGAISTI_WOULD_WAIT);
     /* a try goes behind the published commits */
     CHECK(pelgaisti_session_publish(&sessions[0], &commit, NULL) == PELGAISTI_OK);
     CHECK(pelgaisti_session_publish(&sessions[2], &commit, NULL) == PELGAISTI_OK);
-    CHECK(pelgaisti_session_perform_at_once(&sessions[1], &try_write, &pass, &answer) == PELGAISTI_OK && pass.served == 2);
+    CHECK(pelgaisti_session_perform(&sessions[1], &try_write, 1, &answer) == PELGAISTI_OK);
     CHECK(answer.place == 18 && answer.reply.kind == PELGAISTI_GRANTED && answer.reply.value == PELGAISTI_X);
     for (int s = 0; s < 3; s += 2)
         CHECK(pelgaisti_session_collect(&sessions[s], &answer) == PELGAISTI_OK && answer.reply.kind == PELGAISTI_COMMITTED);
-
-    CHECK(pelgaisti_session_retire(&sessions[2]) == PELGAISTI_OK);
-    CHECK(pelgaisti_session_perform_at_once(&sessions[2], &begin, &pass, &answer) == PELGAISTI_RETIRED);
-    CHECK(pelgaisti_session_perform_telling(&sessions[2], &begin, &pass, &answer, list, 3, &count) == PELGAISTI_RETIRED);
-    CHECK(pelgaisti_session_hand_in(&sessions[2], &sessions[0]) == PELGAISTI_OK);
-    CHECK(pelgaisti_session_hand_in(&sessions[1], &sessions[0]) == PELGAISTI_OK);
-    CHECK(pelgaisti_office_close(&sessions[0], &book) == PELGAISTI_OK);
-    CHECK(pelgaisti_book_close(&book) == PELGAISTI_OK);
+    for (int s = 2; s > 0; s--) CHECK(pelgaisti_session_hand_in(&sessions[s], &sessions[0]) == PELGAISTI_OK);
+    CHECK(pelgaisti_office_close(&sessions[0], &book) == PELGAISTI_OK && pelgaisti_book_close(&book) == PELGAISTI_OK);
 }
 
 /* Threads that sleep until a pass tells of them: many more than there are processors. */
@@ -2546,7 +2312,7 @@ static void threads_sleep(void) {
     uint64_t waits = 0, polls = 0, withdrawn = 0, taken_back = 0;
     size_t count = 0;
 
-    CHECK(pelgaisti_office_open_waking(sessions, SLEEPERS, UINT64_MAX, &posts) == PELGAISTI_OK);
+    CHECK(open_office_with(sessions, SLEEPERS, UINT64_MAX, &posts, 0) == PELGAISTI_OK);
     CHECK(pthread_barrier_init(&all_here, NULL, SLEEPERS) == 0);
     for (uint32_t t = 0; t < SLEEPERS; t++) {
         jobs[t].session = &sessions[t];
@@ -2612,7 +2378,7 @@ static void threads_are_cancelled(void) {
     pthread_t threads[CANCELLED];
     uint64_t aborts = 0;
 
-    CHECK(pelgaisti_office_open_waking(sessions, CANCELLED + 1, 1024, &posts) == PELGAISTI_OK);
+    CHECK(open_office_with(sessions, CANCELLED + 1, 1024, &posts, 0) == PELGAISTI_OK);
     CHECK(pthread_barrier_init(&all_here, NULL, CANCELLED + 1) == 0);
     CHECK(pelgaisti_session_perform(&sessions[CANCELLED], &begin, 9, &answer) == PELGAISTI_OK);
     CHECK(pelgaisti_session_perform(&sessions[CANCELLED], &write, 9, &answer) == PELGAISTI_OK);
@@ -2738,7 +2504,7 @@ static void an_operator_ends_transactions(void) {
     uint64_t bad = 0, aborts = 0, commits = 0, taken_back = 0;
     size_t count = 0;
 
-    CHECK(pelgaisti_office_open_waking(sessions, 3, UINT64_MAX, &notes) == PELGAISTI_OK);
+    CHECK(open_office_with(sessions, 3, UINT64_MAX, &notes, 0) == PELGAISTI_OK);
     CHECK(pthread_barrier_init(&all_here, NULL, 4) == 0);
     for (uint32_t s = 1; s <= 3; s++) {
         jobs[s - 1].session = &sessions[s - 1];
@@ -2808,11 +2574,6 @@ static uint32_t kind_of(pelgaisti_session *session, pelgaisti_call call) {
     return answer.reply.kind;
 }
 
-static void close_all(pelgaisti_session *sessions, int count, pelgaisti_book *book) {
-    for (int s = count - 1; s > 0; s--) CHECK(pelgaisti_session_hand_in(&sessions[s], &sessions[0]) == PELGAISTI_OK);
-    CHECK(pelgaisti_office_close(&sessions[0], book) == PELGAISTI_OK);
-}
-
 /* What an office that is opened with a waker refuses, and that it keeps its bound. */
 static void wakers_are_registered(void) {
     static pelgaisti_session sessions[3], other[1], many[PELGAISTI_MAX_SESSIONS + 1];
@@ -2821,52 +2582,40 @@ static void wakers_are_registered(void) {
     const pelgaisti_waker nobody = {NULL, tally};
     uint64_t first = 99;
 
-    CHECK(pelgaisti_office_open_waking(NULL, 2, UINT64_MAX, &tallies) == PELGAISTI_NULL);
-    CHECK(pelgaisti_office_open_waking(sessions, 2, UINT64_MAX, NULL) == PELGAISTI_NULL);
-    CHECK(pelgaisti_office_open_waking(sessions, 2, UINT64_MAX, &nobody) == PELGAISTI_NULL);
-    CHECK(pelgaisti_office_open_waking(sessions, 0, UINT64_MAX, &tallies) == PELGAISTI_NO_SUCH_COUNT);
-    CHECK(pelgaisti_office_open_waking(many, PELGAISTI_MAX_SESSIONS + 1, UINT64_MAX, &tallies) == PELGAISTI_NO_SUCH_COUNT);
-    CHECK(pelgaisti_office_open_waking(sessions, 2, 1, &tallies) == PELGAISTI_OK);
-    CHECK(pelgaisti_office_open_waking(&sessions[1], 2, UINT64_MAX, &tallies) == PELGAISTI_OPEN);
-    CHECK(pelgaisti_office_open(other, 1) == PELGAISTI_OK);
+    CHECK(open_office_with(NULL, 2, UINT64_MAX, &tallies, 0) == PELGAISTI_NULL && pelgaisti_office_open(sessions, NULL) == PELGAISTI_NULL);
+    CHECK(open_office_with(sessions, 2, UINT64_MAX, &nobody, 0) == PELGAISTI_NULL);
+    CHECK(open_office_with(sessions, 0, UINT64_MAX, &tallies, 0) == PELGAISTI_NO_SUCH_COUNT);
+    CHECK(open_office_with(many, PELGAISTI_MAX_SESSIONS + 1, UINT64_MAX, &tallies, 0) == PELGAISTI_NO_SUCH_COUNT);
+    CHECK(open_office_with(sessions, 2, 1, &tallies, 0) == PELGAISTI_OK);
+    CHECK(open_office_with(&sessions[1], 2, UINT64_MAX, &tallies, 0) == PELGAISTI_OPEN);
+    CHECK(open_sessions(other, 1) == PELGAISTI_OK);
     CHECK(kind_of(&sessions[0], begin) == PELGAISTI_BEGAN && kind_of(&sessions[0], commit) == PELGAISTI_COMMITTED);
     CHECK(kind_of(&other[0], begin) == PELGAISTI_BEGAN && was_woken(2, 0));
     close_all(sessions, 2, &book);
-    CHECK(pelgaisti_book_first_kept(&book, &first) == PELGAISTI_OK && first == 1 && pelgaisti_book_close(&book) == PELGAISTI_OK);
+    CHECK(first_kept_of(&book, &first) == PELGAISTI_OK && first == 1 && pelgaisti_book_close(&book) == PELGAISTI_OK);
     close_all(other, 1, &book);
     CHECK(pelgaisti_book_close(&book) == PELGAISTI_OK);
 }
 
 /* The calls that make a pass. */
-enum { SERVE, SERVE_TELLING, AT_ONCE, TELLING, PERFORM, RESUME, LOCKING, WAITS, WAYS };
+enum { SERVE, PERFORM, RESUME, LOCKING, WAITS, WAYS };
 
 /* Session 1 gives up its lock in such a call, or, by one that waits for a lock, closes a cycle whose victim session 2 is. A pass of session 3
    serves the call if it is published. */
 static void end_wait_by(int way, pelgaisti_session *sessions) {
     pelgaisti_call commit = call_of(PELGAISTI_COMMIT, 0, 0, 0, 0);
     const pelgaisti_resource second = {1, {2}};
-    pelgaisti_lock_answer told;
+    pelgaisti_lock_answer locked;
     pelgaisti_answer answer = {99, {77, 88}};
-    uint32_t list[4] = {77, 77, 77, 77};
-    size_t count = 0;
-    if (way == SERVE || way == SERVE_TELLING || way == RESUME || way == WAITS)
-        CHECK(pelgaisti_session_publish(&sessions[0], &commit, NULL) == PELGAISTI_OK);
+    if (way == SERVE || way == RESUME || way == WAITS) CHECK(pelgaisti_session_publish(&sessions[0], &commit, NULL) == PELGAISTI_OK);
     switch (way) {
     case SERVE: CHECK(pelgaisti_session_serve(&sessions[2], NULL) == PELGAISTI_OK); break;
-    case SERVE_TELLING:
-        CHECK(pelgaisti_session_serve_telling(&sessions[2], NULL, list, 4, &count) == PELGAISTI_OK && count == 1 && list[0] == 2);
-        break;
-    case AT_ONCE: CHECK(pelgaisti_session_perform_at_once(&sessions[0], &commit, NULL, &answer) == PELGAISTI_OK); break;
-    case TELLING:
-        CHECK(pelgaisti_session_perform_telling(&sessions[0], &commit, NULL, &answer, list, 4, &count) == PELGAISTI_OK);
-        CHECK(count == 1 && list[0] == 2);
-        break;
     case PERFORM: CHECK(pelgaisti_session_perform(&sessions[0], &commit, 9, &answer) == PELGAISTI_OK); break;
     case RESUME: CHECK(pelgaisti_session_perform(&sessions[0], NULL, 9, &answer) == PELGAISTI_OK); break;
-    case WAITS: CHECK(pelgaisti_session_wait(&sessions[0], 0, &told) == PELGAISTI_OK); break;
-    default: CHECK(pelgaisti_session_lock(&sessions[0], &second, PELGAISTI_X, 1, &told) == PELGAISTI_TIMED_OUT && told.level == 0);
+    case WAITS: CHECK(pelgaisti_session_wait(&sessions[0], 0, &locked) == PELGAISTI_OK); break;
+    default: CHECK(pelgaisti_session_lock(&sessions[0], &second, PELGAISTI_X, 1, &locked) == PELGAISTI_TIMED_OUT && locked.level == 0);
     }
-    if (way == SERVE || way == SERVE_TELLING) CHECK(pelgaisti_session_collect(&sessions[0], &answer) == PELGAISTI_OK);
+    if (way == SERVE) CHECK(pelgaisti_session_collect(&sessions[0], &answer) == PELGAISTI_OK);
     if (way != LOCKING && way != WAITS) CHECK(answer.reply.kind == PELGAISTI_COMMITTED);
 }
 
@@ -2879,12 +2628,11 @@ static void each_pass_wakes(void) {
         for (int has_waker = 0; has_waker <= 1; has_waker++) {
             pelgaisti_session sessions[3] = {PELGAISTI_EMPTY, PELGAISTI_EMPTY, PELGAISTI_EMPTY};
             pelgaisti_book book = PELGAISTI_EMPTY;
-            if (has_waker) CHECK(pelgaisti_office_open_waking(sessions, 3, UINT64_MAX, &tallies) == PELGAISTI_OK);
-            else CHECK(pelgaisti_office_open_keeping(sessions, 3, UINT64_MAX) == PELGAISTI_OK);
+            CHECK(open_office_with(sessions, 3, UINT64_MAX, has_waker ? &tallies : NULL, 0) == PELGAISTI_OK);
             CHECK(kind_of(&sessions[0], begin) == PELGAISTI_BEGAN && kind_of(&sessions[1], begin) == PELGAISTI_BEGAN);
             CHECK(kind_of(&sessions[0], first) == PELGAISTI_GRANTED && kind_of(&sessions[1], second) == PELGAISTI_GRANTED);
             CHECK(kind_of(&sessions[1], first) == PELGAISTI_WAITING && was_woken(3, 0));
-            calling = &sessions[way == SERVE || way == SERVE_TELLING ? 2 : 0];
+            calling = &sessions[way == SERVE ? 2 : 0];
             end_wait_by(way, sessions);
             calling = NULL;
             CHECK(was_woken(3, has_waker ? 2 : 0));
@@ -2894,32 +2642,24 @@ static void each_pass_wakes(void) {
         }
 }
 
-/* A pass that ends many waits wakes each session once, whether its call tells of them too or not, also if the waker uses its handle. */
+/* A pass that ends many waits wakes each session once, also if the waker uses the handle of its call. */
 static void many_are_woken(void) {
     static pelgaisti_session sessions[MANY];
     pelgaisti_book book = PELGAISTI_EMPTY;
     pelgaisti_call begin = call_of(PELGAISTI_BEGIN, 0, 0, 0, 0), commit = call_of(PELGAISTI_COMMIT, 0, 0, 0, 0);
     pelgaisti_call write = call_of(PELGAISTI_LOCK, PELGAISTI_X, 1, 1, 0), read = call_of(PELGAISTI_LOCK, PELGAISTI_S, 1, 1, 0);
     pelgaisti_call poll = call_of(PELGAISTI_POLL, 0, 0, 0, 0);
-    CHECK(pelgaisti_office_open_waking(sessions, MANY, UINT64_MAX, &tallies) == PELGAISTI_OK);
+    CHECK(open_office_with(sessions, MANY, UINT64_MAX, &tallies, 0) == PELGAISTI_OK);
     /* from one waiter to all others: below, at and above what is read at a time */
     for (uint32_t waiters = 1; waiters < MANY; waiters++) {
-        uint32_t list[MANY];
-        pelgaisti_answer answer;
-        size_t count = 99;
-        int once = 1, is_telling = waiters % 4 == 0;
+        int once = 1;
         for (uint32_t s = 0; s <= waiters; s++) {
             CHECK(kind_of(&sessions[s], begin) == PELGAISTI_BEGAN);
             CHECK(kind_of(&sessions[s], s == 0 ? write : read) == (uint32_t)(s == 0 ? PELGAISTI_GRANTED : PELGAISTI_WAITING));
         }
         CHECK(was_woken(MANY, 0));
         calling = waiters % 2 == 0 ? &sessions[0] : NULL;
-        if (is_telling) {
-            CHECK(pelgaisti_session_perform_telling(&sessions[0], &commit, NULL, &answer, list, MANY, &count) == PELGAISTI_OK);
-            CHECK(answer.reply.kind == PELGAISTI_COMMITTED && count == waiters);
-        } else {
-            CHECK(kind_of(&sessions[0], commit) == PELGAISTI_COMMITTED);
-        }
+        CHECK(kind_of(&sessions[0], commit) == PELGAISTI_COMMITTED);
         calling = NULL;
         for (uint32_t s = 1; s <= MANY; s++) {
             once &= tally[s] == (2 <= s && s <= waiters + 1);
@@ -2942,7 +2682,7 @@ static void a_session_wakes_itself(void) {
     pelgaisti_call begin = call_of(PELGAISTI_BEGIN, 0, 0, 0, 0), commit = call_of(PELGAISTI_COMMIT, 0, 0, 0, 0);
     pelgaisti_call write = call_of(PELGAISTI_LOCK, PELGAISTI_X, 1, 1, 0), poll = call_of(PELGAISTI_POLL, 0, 0, 0, 0);
     pelgaisti_answer answer;
-    CHECK(pelgaisti_office_open_waking(sessions, 2, UINT64_MAX, &tallies) == PELGAISTI_OK);
+    CHECK(open_office_with(sessions, 2, UINT64_MAX, &tallies, 0) == PELGAISTI_OK);
     for (int s = 0; s < 2; s++) {
         CHECK(kind_of(&sessions[s], begin) == PELGAISTI_BEGAN);
         CHECK(kind_of(&sessions[s], write) == (uint32_t)(s == 0 ? PELGAISTI_GRANTED : PELGAISTI_WAITING));
@@ -2969,17 +2709,23 @@ static void passes_keep_to_their_bound(void) {
     pelgaisti_call begin = call_of(PELGAISTI_BEGIN, 0, 0, 0, 0), poll = call_of(PELGAISTI_POLL, 0, 0, 0, 0);
     pelgaisti_call commit = call_of(PELGAISTI_COMMIT, 0, 0, 0, 0), root = call_of(PELGAISTI_LOCK, PELGAISTI_IS, 1, 1, 0);
     pelgaisti_session four[4] = {PELGAISTI_EMPTY, PELGAISTI_EMPTY, PELGAISTI_EMPTY, PELGAISTI_EMPTY};
+    pelgaisti_options options = PELGAISTI_OPTIONS(4);
     pelgaisti_book book = PELGAISTI_EMPTY;
     pelgaisti_answer answer;
+    for (size_t k = 0; k < COUNT(off); k++) {
+        options.pass_calls = off[k][0], options.pass_locks = off[k][1], options.pass_rounds = off[k][2];
+        CHECK(pelgaisti_office_open(four, &options) == PELGAISTI_NO_SUCH_COUNT);
+    }
+    options.pass_calls = 1, options.pass_locks = 9, options.pass_rounds = 1;
     CHECK(pelgaisti_session_bound_passes(&four[3], 1, 1, 1) == PELGAISTI_CLOSED);
-    CHECK(pelgaisti_office_open(four, 4) == PELGAISTI_OK);
+    CHECK(pelgaisti_office_open(four, &options) == PELGAISTI_OK);
     CHECK(pelgaisti_session_bound_passes(NULL, 1, 1, 1) == PELGAISTI_NULL);
     for (size_t k = 0; k < COUNT(off); k++)
         CHECK(pelgaisti_session_bound_passes(&four[3], off[k][0], off[k][1], off[k][2]) == PELGAISTI_NO_SUCH_COUNT);
-    CHECK(pelgaisti_session_bound_passes(&four[3], 65535, UINT32_MAX, 65535) == PELGAISTI_OK);
     for (size_t k = 0; k < 3; k++) CHECK(pelgaisti_session_publish(&four[k], &begin, NULL) == PELGAISTI_OK);
-    CHECK(pelgaisti_session_bound_passes(&four[3], 1, 9, 1) == PELGAISTI_OK);
+    /* the bound with which the office was opened: one call */
     CHECK(pelgaisti_session_perform(&four[3], &begin, 1, &answer) == PELGAISTI_OK && known_by(&four[3]) == 2);
+    CHECK(pelgaisti_session_bound_passes(&four[3], 65535, UINT32_MAX, 65535) == PELGAISTI_OK);
     CHECK(pelgaisti_session_bound_passes(&four[3], 1, 9, 2) == PELGAISTI_OK);
     CHECK(pelgaisti_session_perform(&four[3], &poll, 1, &answer) == PELGAISTI_OK && known_by(&four[3]) == 5);
     for (size_t k = 0; k < 3; k++) CHECK(pelgaisti_session_perform(&four[k], NULL, 1, &answer) == PELGAISTI_OK);
@@ -3011,7 +2757,7 @@ static void offices_close_with_transactions(void) {
         pelgaisti_program_answer heard;
         pelgaisti_gauges gauges;
         pelgaisti_reply reply;
-        CHECK(pelgaisti_office_open_waking(sessions, 4, UINT64_MAX, &waker) == PELGAISTI_OK);
+        CHECK(open_office_with(sessions, 4, UINT64_MAX, &waker, 0) == PELGAISTI_OK);
         for (int s = 0; s < 3; s++) CHECK(kind_of(&sessions[s], begin) == PELGAISTI_BEGAN);
         /* 1 has 7, 2 has 8 and waits for 7, 3 waits for 7, and 1 closes a cycle with 2 */
         CHECK(kind_of(&sessions[0], seven) == PELGAISTI_GRANTED && kind_of(&sessions[1], eight) == PELGAISTI_GRANTED);
@@ -3019,7 +2765,7 @@ static void offices_close_with_transactions(void) {
         CHECK(kind_of(&sessions[0], eight) == PELGAISTI_WAITING);
         CHECK(pelgaisti_session_publish(&sessions[3], &begin, NULL) == PELGAISTI_OK);
         CHECK(pelgaisti_session_hand_in(&sessions[3], &sessions[0]) == PELGAISTI_PENDING && pelgaisti_office_close(&sessions[0], &book) == PELGAISTI_MISSING);
-        CHECK(pelgaisti_session_run(&sessions[3], NULL, UINT64_MAX, &heard) == PELGAISTI_OK && heard.replies[0].kind == PELGAISTI_BEGAN);
+        CHECK(pelgaisti_session_run(&sessions[3], NULL, UINT64_MAX, &heard) == PELGAISTI_OK && heard.served == 1 && heard.values[0] == 4);
         memcpy(at_close, wakes, sizeof wakes);
         for (int s = 1; s < 4; s++) CHECK(pelgaisti_session_hand_in(&sessions[s], &sessions[0]) == PELGAISTI_OK);
         CHECK(pelgaisti_office_close(&sessions[0], &book) == PELGAISTI_OK && pelgaisti_book_gauges(&book, &gauges) == PELGAISTI_OK);
@@ -3070,12 +2816,10 @@ int main(int argc, char **argv) {
     dumps_of_a_book();
     pages_of_a_book();
     pages_of_many_locks();
-    sessions_ask();
     memory_of_a_book();
     memory_of_an_office();
     no_history_depends_on_seeds();
     seeded_wakers();
-    passes_tell();
     threads_tell();
     calls_at_once();
     threads_sleep();

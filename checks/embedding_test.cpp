@@ -77,8 +77,7 @@ static void books() {
     CHECK(reply.kind == kind::refused && reply.value == static_cast<std::uint64_t>(pelgaisti::refusal::no_transaction));
     CHECK(book.serve(1, {op::begin}).kind == kind::began);
     using pelgaisti::program, pelgaisti::start;
-    std::vector<std::uint32_t> ended{9};
-    CHECK(book.run(1, program::locks(start::nothing, {1, 2, 3}, mode::X), ended).size() == 3);
+    CHECK(book.run(1, program::locks(start::nothing, {1, 2, 3}, mode::X)).served == 3);
     CHECK(book.held(1, {1, 2}) == mode::IX && book.held(1, {1, 2, 3}) == mode::X && book.held(2, {1}) == mode::NL);
     const std::vector<std::uint32_t> path{1, 2, 3, 4, 5, 6, 7};
     CHECK(book.held(1, {path.data(), 3}) == mode::X && book.held(1, {path.data(), 2}) == mode::IX);
@@ -90,31 +89,28 @@ static void books() {
     CHECK(throws(PELGAISTI_NO_SUCH_LEVEL, [&] { book.held(1, path); }));
     CHECK(throws(PELGAISTI_NO_SUCH_LEVEL, [&] { book.held(1, std::vector<std::uint32_t>{}); }));
     CHECK(throws(PELGAISTI_NO_SUCH_LEVEL, [&] { static_cast<void>(book.serve(1, {op::lock, mode::S, path})); }));
-    const auto waiting = book.run(2, program::locks(start::nothing, {1, 2}, mode::S), ended);
-    CHECK(waiting.size() == 2 && waiting.stopped() && waiting[1].kind == kind::waiting);
-    CHECK(ended == std::vector<std::uint32_t>{9});
-    CHECK(book.waits_for(2, 1) && !book.waits_for(1, 2));
+    const auto waiting = book.run(2, program::locks(start::nothing, {1, 2}, mode::S));
+    CHECK(waiting.served == 2 && waiting.stopped() && waiting.stopped_at(kind::waiting) && book.ended().empty());
     CHECK(book.blockers(2) == std::vector<std::uint32_t>{1} && book.blockers(3).empty());
     const auto holders = book.holders({1});
     CHECK(holders.size() == 2 && holders[0].session == 1 && holders[0].mode == PELGAISTI_IX && holders[1].mode == PELGAISTI_IS);
-    const auto locks = book.locks();
-    CHECK(locks.size() == 5 && locks[0].session == 1 && locks[3].kind == PELGAISTI_FRESH && locks[3].resource.level == 2);
     CHECK(book.locks_held(1) == 3 && book.locks_held(2) == 1 && book.locks_held(3) == 0);
-    const auto page = book.locks_of(1, 2), behind = book.locks_behind(page.back(), 2);
+    const auto page = book.locks_of(1, 2), behind = book.locks_of(1, 2, page.back().resource);
     CHECK(page.size() == 2 && page[0].resource.level == 1 && page[1].resource.level == 2);
-    CHECK(behind.size() == 1 && behind[0].mode == PELGAISTI_X && book.locks_behind(behind[0], 2).empty());
-    CHECK(book.locks_of(1, {1, 1}, 9).size() == 2 && book.locks_of(1, {1, 2}, 9).size() == 1 && book.locks_of(2, 0).empty());
+    CHECK(behind.size() == 1 && behind[0].mode == PELGAISTI_X && book.locks_of(1, 2, behind[0].resource).empty());
+    CHECK(book.locks_of(1, 9, {1, 1}).size() == 2 && book.locks_of(1, 9, {1, 2}).size() == 1 && book.locks_of(2, 0).empty());
     CHECK(throws(PELGAISTI_NO_SUCH_SESSION, [&] { book.locks_of(4, 1); }));
     CHECK(book.request(2).mode == PELGAISTI_S && book.request(1).kind == 0 && book.transaction(1).number == 3);
     const auto dump = book.dump();
     CHECK(dump.place == book.length() && dump.rows.size() == 7 && dump.rows[0].kind == PELGAISTI_TRANSACTION_ROW);
-    CHECK(dump.rows[2].session == 1 && dump.rows[2].mode == locks[0].mode && dump.rows[5].kind == PELGAISTI_FRESH);
+    CHECK(dump.rows[2].session == 1 && dump.rows[2].mode == PELGAISTI_IX && dump.rows[5].kind == PELGAISTI_FRESH && dump.rows[5].resource.level == 2);
     CHECK(dump.text().find("transaction,1,3,,,,\ntransaction,2,") == 0 && dump.text().find("\nwaits,2,,,,,1\n") != std::string::npos);
     const auto counted = book.counts();
     CHECK(counted.of(op::begin) == 3 && counted.of(op::lock) == 5 && counted.of(op::commit) == 2 && counted.of(op::poll) == 0);
     CHECK(counted.requests == 5 && counted.granted_at_once == 4 && counted.waits_begun == 1 && counted.waiting == 1);
     CHECK(counted.of(pelgaisti::refusal::no_transaction) == 1 && counted.of(pelgaisti::refusal::not_waiting) == 0);
     CHECK(book.gauges().transactions == 2 && book.gauges().waiting == 1 && book.gauges().longest_queue == 1);
+    CHECK(book.passes().made == 0);
     std::vector<pelgaisti_entry> batch(2);
     batch[0].session = 1;
     batch[0].call = pelgaisti::call{op::abort};
@@ -133,35 +129,51 @@ static void books() {
     CHECK(throws(PELGAISTI_NO_SUCH_COUNT, [] { pelgaisti::book none{0}; }));
 }
 
+// Whether the call wasn't refused.
+static bool is_made(const pelgaisti::answer &it) { return it.reply.kind != kind::refused; }
+
+static pelgaisti::options how(std::size_t sessions, std::uint64_t keep, const pelgaisti::waker *waker = nullptr, std::uint64_t deadlocks = 0) {
+    pelgaisti::options it{sessions};
+    it.keep = keep, it.waker = waker, it.deadlocks = deadlocks;
+    return it;
+}
+
+// A waker that notes whom it wakes.
+static pelgaisti::waker noting(std::vector<std::uint32_t> &woken) {
+    return {[](void *engine, std::uint32_t session) noexcept { static_cast<std::vector<std::uint32_t> *>(engine)->push_back(session); }, &woken};
+}
+
 // With a seed a lock table replies what it replies without one. A resource that nobody holds leaves an idle cell until the table shrinks.
 static void seeds_and_memory() {
-    pelgaisti::book book{2}, seeded{2, pelgaisti::seed{7}};
+    pelgaisti::options seed{2};
+    seed.seed = 7;
+    pelgaisti::book book{2}, seeded{seed};
     for (auto *one : {&book, &seeded}) {
         one->reserve(100, 100);
-        CHECK(one->idle_cells() == 0 && one->serve(1, {op::begin}).kind == kind::began);
+        CHECK(one->gauges().idle_cells == 0 && one->serve(1, {op::begin}).kind == kind::began);
         CHECK(one->serve(1, {op::lock, mode::X, {7}}).kind == kind::granted && one->serve(1, {op::lock, mode::S, {8}}).kind == kind::granted);
-        CHECK(one->serve(1, {op::commit}).value == 2 && one->idle_cells() == 2);
+        CHECK(one->serve(1, {op::commit}).value == 2 && one->gauges().idle_cells == 2);
         one->shrink();
-        CHECK(one->idle_cells() == 0 && one->length() == 4 && one->history(0, 9).size() == 4);
+        CHECK(one->gauges().idle_cells == 0 && one->length() == 4 && one->history(0, 9).size() == 4);
         CHECK(throws(PELGAISTI_NO_MEMORY, [&] { one->reserve(SIZE_MAX, 0); }) && throws(PELGAISTI_NO_MEMORY, [&] { one->reserve(0, SIZE_MAX); }));
     }
-    CHECK(throws(PELGAISTI_NO_SUCH_COUNT, [] { pelgaisti::book none(0, pelgaisti::seed{7}); }));
-    CHECK(throws(PELGAISTI_NO_SUCH_COUNT, [] { pelgaisti::office none(0, pelgaisti::seed{7}); }));
     std::vector<std::uint32_t> woken;
-    const auto note = [](void *engine, std::uint32_t session) noexcept {
-        static_cast<std::vector<std::uint32_t> *>(engine)->push_back(session);
-    };
-    pelgaisti::office office{2, pelgaisti::seed{7}, {note, &woken}, 3};
-    CHECK(office[1].reserve(100, 100) == 0u && office[0].perform({op::begin}) && office[1].perform({op::begin}));
-    CHECK(office[0].perform({op::lock, mode::X, {7}}) && office[1].perform({op::lock, mode::X, {7}})->reply.kind == kind::waiting);
-    CHECK(office[0].perform({op::commit}) && woken == std::vector<std::uint32_t>{2} && office[1].perform({op::commit}));
-    const auto idle = office[0].idle_cells();
-    CHECK(idle && idle->found == 1 && idle->length == 6);
-    CHECK(office[0].shrink() == 6u && office[0].idle_cells()->found == 0);
-    CHECK(throws(PELGAISTI_NO_MEMORY, [&] { office[0].reserve(SIZE_MAX, 0); }));
+    const auto notes = noting(woken);
+    seed.waker = &notes, seed.keep = 3;
+    pelgaisti::office office{seed};
+    office[1].look().reserve(100, 100);
+    CHECK(is_made(office[0].perform({op::begin})) && is_made(office[1].perform({op::begin})));
+    CHECK(is_made(office[0].perform({op::lock, mode::X, {7}})) && office[1].perform({op::lock, mode::X, {7}}).reply.kind == kind::waiting);
+    CHECK(is_made(office[0].perform({op::commit})) && woken == std::vector<std::uint32_t>{2} && is_made(office[1].perform({op::commit})));
+    {
+        auto view = office[0].look();
+        CHECK(view.gauges().idle_cells == 1 && view.length() == 6);
+        view.shrink();
+        CHECK(view.gauges().idle_cells == 0 && throws(PELGAISTI_NO_MEMORY, [&] { view.reserve(SIZE_MAX, 0); }));
+    }
     CHECK(office.close()->first_kept() == 3);
-    pelgaisti::office silent{1, pelgaisti::seed{7}};
-    CHECK(silent[0].perform({op::begin}) && silent.close()->length() == 1);
+    seed.pass_calls = 0;
+    CHECK(throws(PELGAISTI_NO_SUCH_COUNT, [&] { pelgaisti::office none(seed); }));
 }
 
 // The first call of session 1's path makes 3 a victim, since 1 would wait for 3, which waits for 2, which waits for 1. The second call
@@ -175,10 +187,9 @@ static void paths_tell() {
         CHECK(book.serve(2, {op::lock, mode::X, {7, 1}}).kind == kind::granted);
         CHECK(book.serve(2, {op::lock, mode::S, {8}}).kind == kind::waiting);
         CHECK(book.serve(3, {op::lock, mode::X, {7}}).kind == kind::waiting);
-        std::vector<std::uint32_t> ended;
-        const auto answer = book.run(1, pelgaisti::program::locks(pelgaisti::start::nothing, {7, waits ? 1u : 2u}, mode::S), ended);
-        CHECK(answer.size() == 2 && answer[1].kind == (waits ? kind::waiting : kind::granted));
-        CHECK(ended == (waits ? std::vector<std::uint32_t>{3, 2} : std::vector<std::uint32_t>{3}));
+        const auto answer = book.run(1, pelgaisti::program::locks(pelgaisti::start::nothing, {7, waits ? 1u : 2u}, mode::S));
+        CHECK(answer.served == 2 && answer.stopped_at(kind::waiting) == waits && answer.values[1] == (waits ? PELGAISTI_NL : PELGAISTI_S));
+        CHECK(book.ended() == (waits ? std::vector<std::uint32_t>{3, 2} : std::vector<std::uint32_t>{3}));
         CHECK(book.serve(3, {op::poll}).kind == kind::deadlock && book.ended().empty());
     }
 }
@@ -187,25 +198,27 @@ static void paths_tell() {
 static void programs() {
     using pelgaisti::program, pelgaisti::start;
     pelgaisti::book book{2};
-    std::vector<std::uint32_t> ended{9};
-    auto answer = book.run(1, program::locks(start::begins, {7, 2, 40}, mode::X), ended);
-    CHECK(answer.place() == 0 && answer.size() == 4 && !answer.stopped() && !answer.starved());
-    CHECK(answer[0].kind == kind::began && answer[1].value == PELGAISTI_IX && answer[3].value == PELGAISTI_X);
-    answer = book.run(2, program::locks(start::begins, {7, 2}, mode::S), ended);
-    CHECK(answer.place() == 4 && answer.size() == 3 && answer.stopped() && answer[2].kind == kind::waiting);
-    CHECK(ended == std::vector<std::uint32_t>{9} && book.run(1, program(start::nothing), ended).size() == 0);
-    answer = book.run(1, program::locks(start::commits_and_begins, {8, 1}, mode::X, 0), ended);
-    CHECK(answer.size() == 4 && answer[0].value == 3 && ended == (std::vector<std::uint32_t>{9, 2}));
-    CHECK(book.run(1, program::locks(start::nothing, {8, 2}, mode::X, 1), ended).size() == 1);
-    CHECK(book.run(2, program(start::nothing, {op::poll}), ended)[0].kind == kind::clear);
-    answer = book.run(2, program(start::restarts, {op::lock, mode::S, {9}}), ended);
-    CHECK(answer[0].kind == kind::restarted && answer[0].value == 2 && answer[1].kind == kind::granted);
-    CHECK(book.run(2, program(start::aborts, {op::try_lock, mode::S, {8}}), ended).stopped());
-    CHECK(throws(PELGAISTI_NOT_ON_PATH, [&] { static_cast<void>(book.run(1, program::locks(start::begins, {8}, mode::X, 1), ended)); }));
-    CHECK(throws(PELGAISTI_NO_SUCH_OP, [&] { static_cast<void>(book.run(1, program(start::commits, {op::begin}), ended)); }));
-    CHECK(throws(PELGAISTI_NO_SUCH_LEVEL, [&] { static_cast<void>(book.run(1, program::locks(start::begins, {}, mode::X), ended)); }));
-    CHECK(throws(PELGAISTI_NO_SUCH_SESSION, [&] { static_cast<void>(book.run(3, program(start::begins), ended)); }));
-    CHECK(ended.size() == 2);
+    const auto path = program::locks(start::begins, {7, 2, 40}, mode::X);
+    auto answer = book.run(1, path);
+    CHECK(answer.place == 0 && answer.served == 4 && answer.values[0] == 1 && !answer.stopped() && !answer.starved);
+    const auto replies = answer.replies(path);
+    CHECK(replies.size() == 4 && replies[0].kind == kind::began && replies[1].value == PELGAISTI_IX && replies[3].value == PELGAISTI_X);
+    answer = book.run(2, program::locks(start::begins, {7, 2}, mode::S));
+    CHECK(answer.place == 4 && answer.served == 3 && answer.stopped_at(kind::waiting) && book.ended().empty());
+    CHECK(book.run(1, program(start::nothing)).served == 0);
+    answer = book.run(1, program::locks(start::commits_and_begins, {8, 1}, mode::X, 0));
+    CHECK(answer.served == 4 && answer.values[0] == 3 && answer.values[1] == 3 && book.ended() == std::vector<std::uint32_t>{2});
+    CHECK(book.run(1, program::locks(start::nothing, {8, 2}, mode::X, 1)).served == 1);
+    const program poll(start::nothing, {op::poll}), restart(start::restarts, {op::lock, mode::S, {9}});
+    CHECK(book.run(2, poll).replies(poll).at(0).kind == kind::clear);
+    answer = book.run(2, restart);
+    CHECK(answer.replies(restart).at(0).kind == kind::restarted && answer.values[0] == 2 && answer.replies(restart).at(1).kind == kind::granted);
+    answer = book.run(2, program(start::aborts, {op::try_lock, mode::S, {8}}));
+    CHECK(answer.stopped_at(kind::refused) && answer.why() == pelgaisti::refusal::no_transaction);
+    CHECK(throws(PELGAISTI_NOT_ON_PATH, [&] { static_cast<void>(book.run(1, program::locks(start::begins, {8}, mode::X, 1))); }));
+    CHECK(throws(PELGAISTI_NO_SUCH_OP, [&] { static_cast<void>(book.run(1, program(start::commits, {op::begin}))); }));
+    CHECK(throws(PELGAISTI_NO_SUCH_LEVEL, [&] { static_cast<void>(book.run(1, program::locks(start::begins, {}, mode::X))); }));
+    CHECK(throws(PELGAISTI_NO_SUCH_SESSION, [&] { static_cast<void>(book.run(3, program(start::begins))); }));
 }
 
 // Programs of sessions: at once, published and served by another session, and pending; only a program's call finishes one of several.
@@ -213,19 +226,20 @@ static void session_programs() {
     using pelgaisti::program, pelgaisti::start;
     pelgaisti::office office{3};
     auto answer = office[0].run(program::locks(start::begins, {7, 2}, mode::X));
-    CHECK(answer && answer->place() == 0 && answer->size() == 3 && !answer->stopped() && (*answer)[2].value == PELGAISTI_X);
+    CHECK(answer.place == 0 && answer.served == 3 && !answer.stopped() && answer.values[2] == PELGAISTI_X);
     answer = office[1].run(program::locks(start::begins, {7, 2, 1}, mode::X));
-    CHECK(answer && answer->place() == 3 && answer->size() == 3 && answer->stopped() && (*answer)[2].kind == kind::waiting);
+    CHECK(answer.place == 3 && answer.served == 3 && answer.stopped_at(kind::waiting));
     CHECK(!office[0].run(program::locks(start::commits_and_begins, {8}, mode::S), 0));
     CHECK(throws(PELGAISTI_PENDING, [&] { static_cast<void>(office[0].resume()); }));
     CHECK(throws(PELGAISTI_PENDING, [&] { static_cast<void>(office[0].collect()); }));
     CHECK(throws(PELGAISTI_PENDING, [&] { static_cast<void>(office[0].run(program(start::commits))); }));
+    CHECK(throws(PELGAISTI_PENDING, [&] { office.close(); }));
     CHECK(!office[0].resume_program(0) && office[2].serve()->served == 1);
     answer = office[0].resume_program();
-    CHECK(answer && answer->place() == 6 && answer->size() == 3 && (*answer)[0].value == 2 && (*answer)[2].value == PELGAISTI_S);
-    CHECK((*office[1].run(program(start::nothing, {op::poll})))[0].kind == kind::clear);
+    CHECK(answer.place == 6 && answer.served == 3 && answer.values[0] == 2 && answer.values[2] == PELGAISTI_S);
+    CHECK(!office[1].run(program(start::nothing, {op::poll})).stopped());
     office[1].publish({op::poll});
-    CHECK(office[1].resume_program()->size() == 1 && throws(PELGAISTI_NOTHING_PENDING, [&] { static_cast<void>(office[1].resume_program()); }));
+    CHECK(office[1].resume_program().served == 1 && throws(PELGAISTI_NOTHING_PENDING, [&] { static_cast<void>(office[1].resume_program()); }));
     CHECK(throws(PELGAISTI_NO_SUCH_OP, [&] { static_cast<void>(office[1].run(program(start::nothing))); }));
     CHECK(throws(PELGAISTI_NOT_ON_PATH, [&] { static_cast<void>(office[1].run(program::locks(start::begins, {8}, mode::X, 1))); }));
     CHECK(office.close()->length() == 11);
@@ -255,51 +269,54 @@ static void tries() {
 
 static void offices() {
     pelgaisti::office office{2};
-    CHECK(office[0].perform({op::begin})->place == 0);
+    CHECK(office[0].perform({op::begin}).place == 0);
     CHECK(!office[1].perform({op::begin}, 0) && throws(PELGAISTI_PENDING, [&] { static_cast<void>(office[1].perform({op::begin})); }));
     // a close that fails has closed no session
-    CHECK(throws(PELGAISTI_PENDING, [&] { office.close(); }) && office[0].perform({op::poll})->place == 2);
-    CHECK(office[1].resume()->reply.value == 2);
+    CHECK(throws(PELGAISTI_PENDING, [&] { office.close(); }) && office[0].perform({op::poll}).place == 2);
+    CHECK(office[1].resume().reply.value == 2);
     CHECK(throws(PELGAISTI_NOTHING_PENDING, [&] { static_cast<void>(office[1].resume()); }));
     office[0].publish({op::lock, mode::S, {7}});
     CHECK(!office[0].collect() && office[1].serve()->served == 1 && office[0].collect()->reply.kind == kind::granted);
     // a call that is left without turns; a lock takes no pending call for its own
     CHECK(!office[1].perform({op::lock, mode::IX, {7}}, 0));
     CHECK(throws(PELGAISTI_PENDING, [&] { static_cast<void>(office[1].lock({9}, mode::X)); }));
-    CHECK(office[0].held(2, {9})->found == mode::NL);
-    CHECK(office[1].resume()->reply.kind == kind::waiting);
-    CHECK(office[0].perform({op::commit})->reply.kind == kind::committed);
+    CHECK(office[0].look().held(2, {9}) == mode::NL);
+    CHECK(office[1].resume().reply.kind == kind::waiting);
+    CHECK(office[0].perform({op::commit}).reply.kind == kind::committed);
     CHECK(office[1].wait().place == 6);
-    const auto held = office[0].held(2, {7});
-    CHECK(held && held->found == mode::IX && held->length == 7 && !office[0].waits_for(2, 1)->found);
-    CHECK(office[0].transaction(2)->found.number == 2 && office[0].request(2)->found.kind == 0);
-    CHECK(office[0].holders({7})->found.size() == 1 && office[0].blockers(2)->found.empty());
-    CHECK(office[0].locks()->found.size() == 1 && office[0].locks()->found[0].kind == PELGAISTI_HELD);
-    CHECK(office[0].locks_held(2)->found == 1 && office[0].locks_held(1)->found == 0 && office[0].locks_held(2)->length == 7);
-    CHECK(office[0].dump()->place == 7 && office[0].dump()->text() == "transaction,2,2,,,,\nheld,2,2,,7,IX,\n");
-    const auto counted = office[0].counts();
-    CHECK(counted && counted->length == 7 && counted->found.of(op::begin) == 2 && counted->found.of(op::lock) == 2);
-    CHECK(office[0].gauges()->length == 7 && office[0].gauges()->found.transactions == 1 && office[0].gauges()->found.locks == 1);
-    CHECK(office[0].passes()->length == 7 && office[0].passes()->found.starved == 0);
+    {
+        auto view = office[0].look();
+        CHECK(view.held(2, {7}) == mode::IX && view.length() == 7 && view.first_kept() == 0 && view.history(6, 9).size() == 1);
+        CHECK(view.transaction(2).number == 2 && view.request(2).kind == 0 && view.holders({7}).size() == 1 && view.blockers(2).empty());
+        CHECK(view.locks_held(2) == 1 && view.locks_held(1) == 0 && view.deadlocks().empty());
+        CHECK(view.dump().place == 7 && view.dump().text() == "transaction,2,2,,,,\nheld,2,2,,7,IX,\n");
+        const auto counted = view.counts();
+        CHECK(counted.of(op::begin) == 2 && counted.of(op::lock) == 2 && counted.granted_at_once == 1 && counted.waits_granted == 1);
+        CHECK(counted.of(pelgaisti::refusal::not_held) == 0 && view.gauges().transactions == 1 && view.gauges().locks == 1);
+        CHECK(view.passes().made > 0 && view.passes().starved == 0);
+        CHECK(view.locks_of(2, 8).at(0).mode == PELGAISTI_IX && view.locks_of(2, 8, {7}).empty());
+        CHECK(view.locks_of(2, 8, view.locks_of(2, 1).at(0).resource).empty());
+        CHECK(throws(PELGAISTI_NO_SUCH_SESSION, [&] { view.blockers(3); }));
+        // the session is closed meanwhile, and the office isn't
+        CHECK(throws(PELGAISTI_CLOSED, [&] { office[0].publish({op::poll}); }) && throws(PELGAISTI_CLOSED, [&] { office.close(); }));
+        CHECK(!office[1].serve() && !office[1].perform({op::poll}, 9));
+    }
+    CHECK(office[0].seen() == 7 && office[1].resume().place == 7);
     office[0].bound_passes(16, 1000, 1);
     CHECK(throws(PELGAISTI_NO_SUCH_COUNT, [&] { office[0].bound_passes(16, 0, 1); }));
-    CHECK(counted->found.granted_at_once == 1 && counted->found.waits_granted == 1 && counted->found.of(pelgaisti::refusal::not_held) == 0);
-    CHECK(office[0].locks_of(2, 8)->found.at(0).mode == PELGAISTI_IX && office[0].locks_of(2, {7}, 8)->found.empty());
-    CHECK(office[0].locks_behind(office[0].locks_of(2, 1)->found.at(0), 8)->found.empty());
-    CHECK(throws(PELGAISTI_NO_SUCH_SESSION, [&] { office[0].blockers(3); }));
     CHECK(office[1].lock({7, 8}, mode::X).level == 2);
     CHECK(throws(PELGAISTI_NO_SUCH_LEVEL, [&] { static_cast<void>(office[1].lock(std::vector<std::uint32_t>{}, mode::X)); }));
     office[0].hear(office[1]);
     office[0].retire();
     CHECK(throws(PELGAISTI_RETIRED, [&] { office[0].publish({op::begin}); }));
     auto book = office.close();
-    CHECK(book->held(2, {7, 8}) == mode::X && book->length() == 9 && book->first_kept() == 0);
-    pelgaisti::office keeping{1, 1};
-    CHECK(keeping[0].perform({op::begin}) && keeping[0].perform({op::commit}));
+    CHECK(book->held(2, {7, 8}) == mode::X && book->length() == 10 && book->first_kept() == 0);
+    pelgaisti::office keeping{how(1, 1)};
+    CHECK(is_made(keeping[0].perform({op::begin})) && is_made(keeping[0].perform({op::commit})));
     CHECK(keeping.close()->first_kept() == 1);
     pelgaisti::office pieces{2};
     std::uint64_t first = 9;
-    CHECK(pieces[0].perform({op::begin}) && pieces[1].perform({op::begin}));
+    CHECK(is_made(pieces[0].perform({op::begin})) && is_made(pieces[1].perform({op::begin})));
     auto piece = pieces[1].take_history(1, first);
     CHECK(piece && piece->size() == 1 && first == 0 && piece->front().session == 1);
     piece = pieces[0].take_history(9, first);
@@ -326,8 +343,7 @@ static void want_cross(const std::vector<pelgaisti::deadlock> &told) {
 // of the example and its end.
 static void books_tell_deadlocks() {
     for (const std::size_t most : {0u, 1u, 9u, 30u}) {
-        pelgaisti::book book{2};
-        book.keep_deadlocks(most);
+        pelgaisti::book book{how(2, UINT64_MAX, nullptr, most)};
         CHECK(book.deadlocks().empty());
         for (std::uint32_t round = 0; round < 20; ++round) {
             for (std::uint32_t k = 1; k <= 2; ++k) {
@@ -352,14 +368,11 @@ static void books_tell_deadlocks() {
             CHECK(told[k].cycle[0].request.transaction == 2 * round + 2 && told[k].cycle[1].request.transaction == 2 * round + 1);
             CHECK(told[k].cycle[0].request.resource.numbers[0] == 1 && told[k].cycle[1].request.resource.numbers[0] == 2);
         }
-        CHECK(throws(PELGAISTI_SERVED, [&] { book.keep_deadlocks(40); }) && book.deadlocks().size() == kept);
     }
-    pelgaisti::book unasked{2};
-    CHECK(throws(PELGAISTI_NO_MEMORY, [&] { unasked.keep_deadlocks(SIZE_MAX); }) && unasked.deadlocks().empty());
+    CHECK(throws(PELGAISTI_NO_MEMORY, [] { pelgaisti::book none(how(2, UINT64_MAX, nullptr, SIZE_MAX)); }));
     // one cycle has more members than there is room for at first: each session waits for the next one
     constexpr std::uint32_t many = 40;
-    pelgaisti::book ring{many};
-    ring.keep_deadlocks(1);
+    pelgaisti::book ring{how(many, UINT64_MAX, nullptr, 1)};
     for (std::uint32_t k = 1; k <= many; ++k)
         CHECK(ring.serve(k, {op::begin}).value == k && ring.serve(k, {op::lock, mode::X, {k}}).kind == kind::granted);
     for (std::uint32_t k = 1; k <= many; ++k)
@@ -373,27 +386,24 @@ static void books_tell_deadlocks() {
 // An office tells of deadlocks if it was told to keep some when it was opened, with a waker or without one.
 static void offices_tell_deadlocks() {
     std::vector<std::uint32_t> woken;
-    const auto note = [](void *engine, std::uint32_t session) noexcept {
-        static_cast<std::vector<std::uint32_t> *>(engine)->push_back(session);
-    };
-    pelgaisti::office silent{2}, telling{2, pelgaisti::telling{4}}, waking{2, pelgaisti::telling{4}, {note, &woken}, 3};
+    const auto notes = noting(woken);
+    pelgaisti::office silent{2}, telling{how(2, UINT64_MAX, nullptr, 4)}, waking{how(2, 3, &notes, 4)};
     for (auto *office : {&silent, &telling, &waking}) {
-        for (std::uint32_t k = 0; k < 2; ++k) CHECK((*office)[k].perform({op::begin})->reply.value == k + 1);
-        CHECK((*office)[0].perform({op::lock, mode::X, {1}}) && (*office)[1].perform({op::lock, mode::S, {2}}));
-        CHECK((*office)[0].deadlocks()->found.empty() && (*office)[0].deadlocks()->length == 4);
-        CHECK((*office)[0].perform({op::lock, mode::X, {2}})->reply.kind == kind::waiting);
-        CHECK((*office)[1].perform({op::lock, mode::S, {1}})->reply.kind == kind::deadlock);
-        const auto seen = (*office)[0].deadlocks();
-        CHECK(seen && seen->length == 6 && (office != &silent || seen->found.empty()));
-        if (office != &silent) want_cross(seen->found);
-        CHECK((*office)[1].perform({op::abort})->reply.value == 1 && (*office)[0].perform({op::commit})->reply.value == 2);
+        for (std::uint32_t k = 0; k < 2; ++k) CHECK((*office)[k].perform({op::begin}).reply.value == k + 1);
+        CHECK(is_made((*office)[0].perform({op::lock, mode::X, {1}})) && is_made((*office)[1].perform({op::lock, mode::S, {2}})));
+        CHECK((*office)[0].look().deadlocks().empty());
+        CHECK((*office)[0].perform({op::lock, mode::X, {2}}).reply.kind == kind::waiting);
+        CHECK((*office)[1].perform({op::lock, mode::S, {1}}).reply.kind == kind::deadlock);
+        const auto told = (*office)[0].look().deadlocks();
+        if (office != &silent) want_cross(told);
+        else CHECK(told.empty());
+        CHECK((*office)[1].perform({op::abort}).reply.value == 1 && (*office)[0].perform({op::commit}).reply.value == 2);
     }
     CHECK(woken == std::vector<std::uint32_t>{1});
     auto book = waking.close();
     CHECK(book->first_kept() == 5 && silent.close()->deadlocks().empty());
     want_cross(book->deadlocks());
-    CHECK(throws(PELGAISTI_NO_SUCH_COUNT, [] { pelgaisti::office none(0, pelgaisti::telling{4}); }));
-    CHECK(throws(PELGAISTI_NO_MEMORY, [] { pelgaisti::office none(2, pelgaisti::telling{SIZE_MAX}); }));
+    CHECK(throws(PELGAISTI_NO_MEMORY, [] { pelgaisti::office none(how(2, UINT64_MAX, nullptr, SIZE_MAX)); }));
 }
 
 // A function that may throw is no waker: the others that a pass has told would sleep on.
@@ -408,23 +418,20 @@ static_assert(is_waker<throws_nothing>::value && !is_waker<may_throw>::value);
 // Each call that makes a pass wakes whom it has ended a wait of, by the waker of which the office keeps a copy.
 static void wakers() {
     std::vector<std::uint32_t> woken;
-    const auto note = [](void *engine, std::uint32_t session) noexcept {
-        static_cast<std::vector<std::uint32_t> *>(engine)->push_back(session);
-    };
-    CHECK(throws(PELGAISTI_NULL, [] { pelgaisti::office office(2, pelgaisti::waker{nullptr, nullptr}); }));
-    CHECK(throws(PELGAISTI_NO_SUCH_COUNT, [&] { pelgaisti::office office(PELGAISTI_MAX_SESSIONS + 1, pelgaisti::waker{note, &woken}); }));
+    const pelgaisti::waker nobody{nullptr, nullptr};
+    CHECK(throws(PELGAISTI_NULL, [&] { pelgaisti::office office(how(2, 1, &nobody)); }));
     for (int way = 0; way < 5; ++way) {
-        auto kept = std::make_unique<pelgaisti::waker>(pelgaisti::waker{note, &woken});
-        pelgaisti::office office{3, *kept, 1};
+        auto kept = std::make_unique<pelgaisti::waker>(noting(woken));
+        pelgaisti::office office{how(3, 1, kept.get())};
         kept.reset();
         for (std::uint32_t k = 0; k < 2; ++k) {
-            CHECK(office[k].perform({op::begin})->reply.kind == kind::began);
-            CHECK(office[k].perform({op::lock, mode::X, {k + 1}})->reply.kind == kind::granted);
+            CHECK(office[k].perform({op::begin}).reply.kind == kind::began);
+            CHECK(office[k].perform({op::lock, mode::X, {k + 1}}).reply.kind == kind::granted);
         }
-        CHECK(office[1].perform({op::lock, mode::X, {1}})->reply.kind == kind::waiting && woken.empty());
-        if (way == 0) CHECK(office[0].perform({op::commit})->reply.kind == kind::committed);
+        CHECK(office[1].perform({op::lock, mode::X, {1}}).reply.kind == kind::waiting && woken.empty());
+        if (way == 0) CHECK(office[0].perform({op::commit}).reply.kind == kind::committed);
         if (way == 1 || way == 2) office[0].publish({op::commit});
-        if (way == 1) CHECK(office[0].resume()->reply.kind == kind::committed);
+        if (way == 1) CHECK(office[0].resume().reply.kind == kind::committed);
         if (way == 2) CHECK(office[2].serve()->served == 1);
         if (way == 3) CHECK(!office[0].lock({2}, mode::S, std::chrono::milliseconds(1)));  // 2 is the victim
         if (way == 4) office[0].publish({op::commit});  // served when the office is destroyed
@@ -442,17 +449,18 @@ static void locks_end() {
     pelgaisti::office office{3};
     CHECK(office[0].lock({1, 2}, mode::X).outcome == outcome::denied);
     CHECK(office[0].lock({1, 2}, mode::X, 1s).why == pelgaisti::refusal::no_transaction);
-    for (std::uint32_t k = 0; k < 3; ++k) CHECK(office[k].perform({op::begin})->reply.kind == kind::began);
+    for (std::uint32_t k = 0; k < 3; ++k) CHECK(office[k].perform({op::begin}).reply.kind == kind::began);
     const auto granted = office[0].lock({1, 2}, mode::X, std::chrono::hours::max());
     CHECK(granted && granted.outcome == outcome::granted && granted.level == 2 && granted.place == 6);
     for (const auto &late : {office[1].lock({1, 2}, mode::S, 1us), office[1].lock({1, 2}, mode::S, 0s), office[1].lock({1, 2}, mode::S, -1h)})
         CHECK(!late && late.outcome == outcome::timed_out && late.level == 1);
     // the first of the three has waited, and taken its request back; the others have tried
-    CHECK(office[0].counts()->found.of(op::withdraw) == 1 && office[0].counts()->found.of(op::try_lock) == 4);
-    CHECK(office[1].lock({3}, mode::X) && office[0].perform({op::lock, mode::S, {3}})->reply.kind == kind::waiting);
+    const auto counted = office[0].look().counts();
+    CHECK(counted.of(op::withdraw) == 1 && counted.of(op::try_lock) == 4);
+    CHECK(office[1].lock({3}, mode::X) && office[0].perform({op::lock, mode::S, {3}}).reply.kind == kind::waiting);
     CHECK(office[1].lock({1, 2}, mode::S, 1.5min).outcome == outcome::victim);
-    CHECK(office[0].wait(0.5ms).outcome == outcome::timed_out && office[0].perform({op::lock, mode::S, {3}})->reply.kind == kind::waiting);
-    CHECK(office[1].perform({op::restart})->reply.kind == kind::restarted && office[0].wait(1h).outcome == outcome::granted);
+    CHECK(office[0].wait(0.5ms).outcome == outcome::timed_out && office[0].perform({op::lock, mode::S, {3}}).reply.kind == kind::waiting);
+    CHECK(office[1].perform({op::restart}).reply.kind == kind::restarted && office[0].wait(1h).outcome == outcome::granted);
 }
 
 // A task that throws leaves its session in the office. Whoever has seen its end goes on with the session: finishes its pending call,
@@ -460,7 +468,7 @@ static void locks_end() {
 static void a_task_throws() {
     pelgaisti::office office{2};
     auto task = std::async(std::launch::async, [&] {
-        CHECK(office[1].perform({op::begin}) && office[1].perform({op::lock, mode::X, {7}}));
+        CHECK(is_made(office[1].perform({op::begin})) && is_made(office[1].perform({op::lock, mode::X, {7}})));
         office[1].publish({op::poll});
         throw std::runtime_error("lost");
     });
@@ -470,14 +478,14 @@ static void a_task_throws() {
     } catch (const std::runtime_error &error) {
         what = error.what();
     }
-    CHECK(what == "lost" && office[0].perform({op::begin})->reply.value == 2);
-    CHECK(office[0].perform({op::lock, mode::S, {7}})->reply.kind == kind::waiting);
+    CHECK(what == "lost" && office[0].perform({op::begin}).reply.value == 2);
+    CHECK(office[0].perform({op::lock, mode::S, {7}}).reply.kind == kind::waiting);
     CHECK(throws(PELGAISTI_PENDING, [&] { office[1].publish({op::abort}); }) && throws(PELGAISTI_PENDING, [&] { office.close(); }));
-    CHECK(office[1].resume()->reply.kind == kind::clear);
+    CHECK(office[1].resume().reply.kind == kind::clear);
     const auto ended = office[1].perform({op::abort});
-    CHECK(ended->reply.kind == kind::aborted && ended->reply.value == 1);
-    CHECK(office[0].perform({op::poll})->reply.kind == kind::clear);
-    CHECK(office[1].perform({op::begin})->reply.value == 3 && office.close()->length() == 8);
+    CHECK(ended.reply.kind == kind::aborted && ended.reply.value == 1);
+    CHECK(office[0].perform({op::poll}).reply.kind == kind::clear);
+    CHECK(office[1].perform({op::begin}).reply.value == 3 && office.close()->length() == 8);
 }
 
 static std::vector<std::uint32_t> numbers(const pelgaisti::office &office, const std::vector<pelgaisti::owned_session> &list) {
@@ -486,7 +494,7 @@ static std::vector<std::uint32_t> numbers(const pelgaisti::office &office, const
     return found;
 }
 
-static kind reply(pelgaisti::session &session, const pelgaisti::call &call) { return session.perform(call)->reply.kind; }
+static kind reply(pelgaisti::session &session, const pelgaisti::call &call) { return session.perform(call).reply.kind; }
 
 // A session has one owner, and goes back to its office with its owner's end: at the end of a scope, by an exception, in another thread.
 // It is handed out once then, with what it had.
@@ -515,16 +523,16 @@ static void sessions_have_owners() {
     auto orphans = office.orphans();
     CHECK(numbers(office, orphans) == (std::vector<std::uint32_t>{3, 4}) && office.orphans().empty() && !office.take(2));
     CHECK(throws(PELGAISTI_NOTHING_PENDING, [&] { static_cast<void>(orphans[0]->resume()); }));
-    CHECK(orphans[0]->perform({op::abort})->reply.value == 1 && reply(*one, {op::poll}) == kind::clear);
+    CHECK(orphans[0]->perform({op::abort}).reply.value == 1 && reply(*one, {op::poll}) == kind::clear);
     CHECK(throws(PELGAISTI_PENDING, [&] { static_cast<void>(orphans[1]->perform({op::abort})); }));
-    CHECK(orphans[1]->resume()->reply.kind == kind::committed && reply(*orphans[1], {op::abort}) == kind::refused);
+    CHECK(orphans[1]->resume().reply.kind == kind::committed && reply(*orphans[1], {op::abort}) == kind::refused);
 
     // given back, it is handed out again, by its index too, and its number is used again
     orphans.clear();
     auto again = office.take(3);
     CHECK(numbers(office, office.orphans()) == std::vector<std::uint32_t>{3});
     CHECK(numbers(office, office.orphans()) == std::vector<std::uint32_t>{3});
-    CHECK(again && again->perform({op::begin})->reply.value == 4 && reply(*again, {op::commit}) == kind::committed);
+    CHECK(again && again->perform({op::begin}).reply.value == 4 && reply(*again, {op::commit}) == kind::committed);
     pelgaisti::owned_session moved = std::move(again);
     CHECK(!again && throws(PELGAISTI_MISSING, [&] { office.close(); }));
     again.reset(), moved.reset(), one.reset(), two.reset();
@@ -549,20 +557,20 @@ static void orphans_wait() {
     // the third waits behind the second, and is the youngest on a cycle through the first
     CHECK(reply(*one, {op::lock, mode::S, {8}}) == kind::waiting);
     auto orphans = office.orphans();
-    CHECK(orphans.size() == 3 && orphans[1]->resume()->reply.kind == kind::waiting && reply(*orphans[1], {op::poll}) == kind::deadlock);
-    CHECK(orphans[1]->perform({op::abort})->reply.value == 1 && reply(*one, {op::poll}) == kind::clear);
+    CHECK(orphans.size() == 3 && orphans[1]->resume().reply.kind == kind::waiting && reply(*orphans[1], {op::poll}) == kind::deadlock);
+    CHECK(orphans[1]->perform({op::abort}).reply.value == 1 && reply(*one, {op::poll}) == kind::clear);
     CHECK(throws(PELGAISTI_RETIRED, [&] { static_cast<void>(orphans[2]->perform({op::abort})); }));
-    CHECK(one->request(2)->found.kind == PELGAISTI_FRESH);
+    CHECK(one->look().request(2).kind == PELGAISTI_FRESH);
     orphans.clear();
-    CHECK(reply(*one, {op::commit}) == kind::committed && one->held(2, {7})->found == mode::X);
+    CHECK(reply(*one, {op::commit}) == kind::committed && one->look().held(2, {7}) == mode::X);
     orphans = office.orphans();
-    CHECK(orphans[0]->perform({op::abort})->reply.value == 1);
+    CHECK(orphans[0]->perform({op::abort}).reply.value == 1);
     CHECK(reply(*one, {op::begin}) == kind::began && reply(*one, {op::lock, mode::X, {7}}) == kind::granted);
     CHECK(reply(*orphans[0], {op::begin}) == kind::began && reply(*orphans[0], {op::lock, mode::S, {7}}) == kind::waiting);
     orphans.clear();
     auto two = office.take(1);
     const auto ended = two->perform({op::abort});
-    CHECK(ended->reply.kind == kind::aborted && ended->reply.value == 0 && one->request(2)->found.kind == 0);
+    CHECK(ended.reply.kind == kind::aborted && ended.reply.value == 0 && one->look().request(2).kind == 0);
     two.reset(), one.reset();
     const auto book = office.close();
     CHECK(book->held(1, {7}) == mode::X && book->held(4, {9}) == mode::X);
@@ -600,17 +608,16 @@ static void threads_share_the_orphans() {
 // The mark is that of one transaction of one session, and the waker is called for that session. It ends nothing.
 static void marks_are_of_transactions() {
     std::vector<std::uint32_t> woken;
-    const auto note = [](void *engine, std::uint32_t session) noexcept {
-        static_cast<std::vector<std::uint32_t> *>(engine)->push_back(session);
-    };
-    pelgaisti::office office{2, pelgaisti::waker{note, &woken}}, plain{1};
-    const auto first = office[0].perform({op::begin})->reply.value, second = office[1].perform({op::begin})->reply.value;
+    const auto notes = noting(woken);
+    pelgaisti::office office{how(2, UINT64_MAX, &notes)}, plain{1};
+    const auto first = office[0].perform({op::begin}).reply.value, second = office[1].perform({op::begin}).reply.value;
     CHECK(!office.is_asked_to_end(1, first) && !office.is_asked_to_end(1, 0));
     office.ask_to_end(1, first);
     CHECK(woken == std::vector<std::uint32_t>{1} && office.is_asked_to_end(1, first));
     CHECK(!office.is_asked_to_end(1, second) && !office.is_asked_to_end(2, second) && !office.is_asked_to_end(2, first));
-    CHECK(office[1].transaction(1)->found.number == first && reply(office[0], {op::abort}) == kind::aborted);
-    const auto third = office[0].perform({op::begin})->reply.value;
+    CHECK(office[1].look().transaction(1).number == first);
+    CHECK(reply(office[0], {op::abort}) == kind::aborted);
+    const auto third = office[0].perform({op::begin}).reply.value;
     CHECK(!office.is_asked_to_end(1, third));
     office.ask_to_end(1, third);
     office.ask_to_end(1, first);  // late
@@ -648,7 +655,8 @@ struct beds {
 // the database in the end.
 static void asked_sessions_obey() {
     beds all;
-    pelgaisti::office office{3, pelgaisti::waker{beds::wake, &all}, 1024};
+    const pelgaisti::waker wakes{beds::wake, &all};
+    pelgaisti::office office{how(3, 1024, &wakes)};
     std::atomic<unsigned> wrong{0};
     const auto work = [&](std::uint32_t number, std::uint64_t transaction) {
         auto &session = office[number - 1];
@@ -661,7 +669,7 @@ static void asked_sessions_obey() {
     };
     for (int round = 0; round < 200; ++round) {
         std::uint64_t transactions[3];
-        for (std::size_t k = 0; k < 3; ++k) transactions[k] = office[k].perform({op::begin})->reply.value;
+        for (std::size_t k = 0; k < 3; ++k) transactions[k] = office[k].perform({op::begin}).reply.value;
         CHECK(reply(office[0], {op::lock, mode::X, {1}}) == kind::granted);
         std::vector<std::thread> running;
         for (std::uint32_t k = 0; k < 3; ++k) running.emplace_back(work, k + 1, transactions[k]);
@@ -670,7 +678,7 @@ static void asked_sessions_obey() {
         office.ask_to_end(3 - first, transactions[2 - first]);
         for (auto &it : running) it.join();
     }
-    CHECK(wrong == 0 && office.close()->locks().empty());
+    CHECK(wrong == 0 && office.close()->gauges().locks == 0);
 }
 
 // Offices that aren't closed: with a pending call and a pending program, with one that is served and not collected, after a close that failed, and one that an
@@ -682,8 +690,8 @@ static void offices_are_left() {
     CHECK(served[0].serve()->served == 1);
     CHECK(!pending[0].run({pelgaisti::start::begins, {op::poll}}, 0));
     begun[2].publish({op::begin});
-    CHECK(throws(PELGAISTI_PENDING, [&] { begun.close(); }) && begun[1].perform({op::begin})->reply.value == 2);
-    CHECK(throws(PELGAISTI_PENDING, [&] { begun.close(); }) && begun[0].perform({op::begin})->reply.value == 3);
+    CHECK(throws(PELGAISTI_PENDING, [&] { begun.close(); }) && begun[1].perform({op::begin}).reply.value == 2);
+    CHECK(throws(PELGAISTI_PENDING, [&] { begun.close(); }) && begun[0].perform({op::begin}).reply.value == 3);
     bool is_left = false;
     try {
         pelgaisti::office office{2};
@@ -700,20 +708,19 @@ static void offices_are_left() {
 // No count of the caller's makes a call allocate for more than there is.
 static void sizes() {
     constexpr std::size_t most = std::size_t{1} << 20;
-    const pelgaisti::waker nobody{[](void *, std::uint32_t) noexcept {}, nullptr};
     largest = 0;
     for (const std::size_t count : {std::size_t{0}, std::size_t{PELGAISTI_MAX_SESSIONS} + 1, std::size_t{1} << 26, SIZE_MAX}) {
         CHECK(throws(PELGAISTI_NO_SUCH_COUNT, [&] { pelgaisti::office none(count); }));
-        CHECK(throws(PELGAISTI_NO_SUCH_COUNT, [&] { pelgaisti::office none(count, nobody); }));
+        CHECK(throws(PELGAISTI_NO_SUCH_COUNT, [&] { pelgaisti::book none(count); }));
     }
     CHECK(largest < 1024);
     pelgaisti::office office{2};
     std::uint64_t first = 9;
-    for (int call = 0; call < 300; ++call) CHECK(office[1].perform({op::poll})->place == static_cast<std::uint64_t>(call));
+    for (int call = 0; call < 300; ++call) CHECK(office[1].perform({op::poll}).place == static_cast<std::uint64_t>(call));
     CHECK(office[0].take_history(10, first)->size() == 10 && first == 0);
     CHECK(office[0].take_history(SIZE_MAX, first)->size() == 290 && first == 10 && largest < most);
     CHECK(office[0].take_history(std::size_t{1} << 40, first)->empty() && first == 300);
-    for (int call = 0; call < 300; ++call) CHECK(office[1].perform({op::poll})->place == 300u + static_cast<unsigned>(call));
+    for (int call = 0; call < 300; ++call) CHECK(office[1].perform({op::poll}).place == 300u + static_cast<unsigned>(call));
     CHECK(office[1].take_history(299, first)->size() == 299 && first == 300);
     auto book = office.close();
     CHECK(book->history(599, 0).empty() && book->take_history(SIZE_MAX).size() == 1 && largest < most);
@@ -738,27 +745,25 @@ template <class Call, class State> static long each_refused(Call call, State is_
 static void refused_lists() {
     pelgaisti::office office{20};
     for (std::uint32_t s = 1; s <= 20; ++s) {
-        CHECK(office[s - 1].perform({op::begin})->reply.kind == kind::began);
-        CHECK(office[s - 1].perform({op::lock, s < 20 ? mode::S : mode::X, {7}})->reply.kind == (s < 20 ? kind::granted : kind::waiting));
+        CHECK(office[s - 1].perform({op::begin}).reply.kind == kind::began);
+        CHECK(office[s - 1].perform({op::lock, s < 20 ? mode::S : mode::X, {7}}).reply.kind == (s < 20 ? kind::granted : kind::waiting));
     }
     const auto always = [] { return true; };
     pelgaisti::session &asks = office[0];
-    CHECK(each_refused([&] { CHECK(asks.holders({7})->found.size() == 19); }, always) == 2);
-    CHECK(each_refused([&] { CHECK(asks.locks()->found.size() == 20); }, always) == 2);
-    CHECK(each_refused([&] { CHECK(asks.blockers(20)->found.size() == 19); }, always) == 2);
-    CHECK(each_refused([&] { CHECK(asks.dump()->rows.size() == 40); }, always) == 2);
-    CHECK(each_refused([&] { CHECK(asks.locks_of(1, SIZE_MAX)->found.size() == 1); }, always) == 1);
+    CHECK(each_refused([&] { CHECK(asks.look().holders({7}).size() == 19); }, always) == 2);
+    CHECK(each_refused([&] { CHECK(asks.look().blockers(20).size() == 19); }, always) == 2);
+    CHECK(each_refused([&] { CHECK(asks.look().dump().rows.size() == 40); }, always) == 2);
+    CHECK(each_refused([&] { CHECK(asks.look().locks_of(1, SIZE_MAX).size() == 1); }, always) == 1);
     std::uint64_t first = 9;
     CHECK(each_refused([&] { CHECK(asks.take_history(4, first)->size() == 4); }, [&] { return first == 9; }) == 1 && first == 0);
     CHECK(each_refused([&] { CHECK(asks.take_history(SIZE_MAX, first)->size() == 36); }, [&] { return first == 0; }) == 1 && first == 4);
 
-    for (int call = 0; call < 30; ++call) CHECK(office[1].perform({op::poll})->reply.kind == kind::clear);
+    for (int call = 0; call < 30; ++call) CHECK(office[1].perform({op::poll}).reply.kind == kind::clear);
     const auto book = office.close();
     const auto keeps_all = [&] { return book->first_kept() == 40 && book->length() == 70; };
     CHECK(each_refused([&] { CHECK(book->holders({7}).size() == 19); }, keeps_all) == 2);
-    CHECK(each_refused([&] { CHECK(book->locks().size() == 20); }, keeps_all) == 2);
     CHECK(each_refused([&] { CHECK(book->dump().rows.size() == 40); }, keeps_all) == 2);
-    CHECK(each_refused([&] { CHECK(book->blockers(20).size() == 19); }, keeps_all) == 1);
+    CHECK(each_refused([&] { CHECK(book->blockers(20).size() == 19); }, keeps_all) == 2);
     CHECK(each_refused([&] { CHECK(book->ended().empty()); }, keeps_all) == 1);
     CHECK(each_refused([&] { CHECK(book->locks_of(1, SIZE_MAX).size() == 1); }, keeps_all) == 1);
     CHECK(each_refused([&] { CHECK(book->history(40, SIZE_MAX).size() == 30); }, keeps_all) == 1);

@@ -1,6 +1,6 @@
 // Before C++17 a waker may throw, as far as a compiler sees. Then the program ends, in place of a call that leaves others asleep and loses
 // its answer. It ends by the signal of abort; if the exception comes out of the call, with status 0.
-#include "pelgaisti.h"
+#include "open.h"
 #include <cstddef>
 
 static void wake(void *, uint32_t) { throw 1; }
@@ -11,7 +11,7 @@ int main() {
     const pelgaisti_call begin = {PELGAISTI_BEGIN, 0, {0, {0}}}, lock = {PELGAISTI_LOCK, PELGAISTI_X, {1, {7}}};
     const pelgaisti_call commit = {PELGAISTI_COMMIT, 0, {0, {0}}};
     pelgaisti_answer answer;
-    if (pelgaisti_office_open_waking(sessions, 2, UINT64_MAX, &waker) != PELGAISTI_OK) return 2;
+    if (open_office_with(sessions, 2, UINT64_MAX, &waker, 0) != PELGAISTI_OK) return 2;
     for (int s = 0; s < 2; s++) {
         if (pelgaisti_session_perform(&sessions[s], &begin, 9, &answer) != PELGAISTI_OK) return 2;
         if (pelgaisti_session_perform(&sessions[s], &lock, 9, &answer) != PELGAISTI_OK) return 2;

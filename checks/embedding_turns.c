@@ -1,15 +1,14 @@
 /* While one session makes a pass, which allocates, another makes a whole call or a program in so many turns, which are counted by the yields
    behind them. The call is pending behind the last one, and its answer is there behind the pass. Link with
    -Wl,--wrap=malloc,--wrap=sched_yield. */
-#include "pelgaisti.h"
-#include <stdio.h>
-#include <stdlib.h>
+#include "open.h"
 
 static long passed, failed, yields;
 static void (*meanwhile)(void);
 static pelgaisti_session sessions[3];
 static pelgaisti_answer answer;
 static pelgaisti_program_answer made;
+static pelgaisti_reply replies[PELGAISTI_CALLS];
 static const pelgaisti_program program = {PELGAISTI_BEGINS, 0, 0, {PELGAISTI_POLL, 0, {0, {0}}}};
 static const pelgaisti_call begin = {PELGAISTI_BEGIN, 0, {0, {0}}}, poll = {PELGAISTI_POLL, 0, {0, {0}}};
 
@@ -77,7 +76,8 @@ static void finish_program(void) {
     CHECK(pelgaisti_session_run(&sessions[1], &program, 9, &made) == PELGAISTI_PENDING);
     CHECK(pelgaisti_session_run(&sessions[1], NULL, 0, &made) == PELGAISTI_NOT_SERVED && made.place == 99);
     CHECK(pelgaisti_session_run(&sessions[1], NULL, 1, &made) == PELGAISTI_OK && made.place == 1 && made.served == 2 && made.stop == 0);
-    CHECK(made.replies[0].kind == PELGAISTI_BEGAN && made.replies[1].kind == PELGAISTI_CLEAR);
+    CHECK(made.values[0] > 0 && pelgaisti_program_replies(&program, &made, replies) == 2);
+    CHECK(replies[0].kind == PELGAISTI_BEGAN && replies[0].value == made.values[0] && replies[1].kind == PELGAISTI_CLEAR);
     CHECK(pelgaisti_session_run(&sessions[1], NULL, 0, &made) == PELGAISTI_NOTHING_PENDING);
 }
 
@@ -95,7 +95,7 @@ static void in_a_pass(void (*work)(void), int is_published, int is_program) {
     pelgaisti_book book = PELGAISTI_EMPTY;
     answer.place = 99;
     made.place = 99;
-    CHECK(pelgaisti_office_open(sessions, 3) == PELGAISTI_OK);
+    CHECK(open_sessions(sessions, 3) == PELGAISTI_OK);
     if (is_published) CHECK((is_program ? pelgaisti_session_run(&sessions[1], &program, 0, &made)
                                         : pelgaisti_session_perform(&sessions[1], &begin, 0, &answer)) == PELGAISTI_NOT_SERVED);
     CHECK(pelgaisti_session_publish(&sessions[0], &begin, NULL) == PELGAISTI_OK);

@@ -9,11 +9,12 @@ static int failed;
 #define CHECK(condition) (void)((condition) || (failed++, printf("%s:%d: %s\n", __FILE__, __LINE__, #condition)))
 
 /* The functions of the shared library. */
-static pelgaisti_status (*open_theirs)(pelgaisti_session *, size_t), (*close_theirs)(pelgaisti_session *, pelgaisti_book *);
+static pelgaisti_status (*open_theirs)(pelgaisti_session *, const pelgaisti_options *), (*close_theirs)(pelgaisti_session *, pelgaisti_book *);
 static pelgaisti_status (*hand_in_theirs)(pelgaisti_session *, pelgaisti_session *), (*close_book)(pelgaisti_book *);
 
 int main(int argc, char **argv) {
     static pelgaisti_session ours[2], theirs[2];
+    const pelgaisti_options options = PELGAISTI_OPTIONS(2);
     pelgaisti_book book = PELGAISTI_EMPTY;
     void *library = argc > 1 ? dlopen(argv[1], RTLD_NOW | RTLD_GLOBAL) : NULL;
     if (!library) return 2;
@@ -24,7 +25,7 @@ int main(int argc, char **argv) {
     CHECK(open_theirs && hand_in_theirs && close_theirs && close_book && open_theirs != pelgaisti_office_open);
     /* also where both have opened as many offices before */
     for (int k = 0; k < 3; k++) {
-        CHECK(open_theirs(theirs, 2) == PELGAISTI_OK && pelgaisti_office_open(ours, 2) == PELGAISTI_OK);
+        CHECK(open_theirs(theirs, &options) == PELGAISTI_OK && pelgaisti_office_open(ours, &options) == PELGAISTI_OK);
         CHECK(pelgaisti_session_hear(&theirs[1], &ours[0]) == PELGAISTI_OTHER_OFFICE);
         CHECK(pelgaisti_session_hear(&ours[0], &theirs[1]) == PELGAISTI_OTHER_OFFICE);
         CHECK(pelgaisti_session_hand_in(&theirs[1], &ours[0]) == PELGAISTI_OTHER_OFFICE);

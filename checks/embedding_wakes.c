@@ -7,19 +7,17 @@
    Usage: embedding_wakes [PROGRAMS [refuse]]. With `refuse` one allocation in 8 is refused, at random. Link with
    -Wl,--wrap=malloc,--wrap=realloc and -lpthread. */
 #define _XOPEN_SOURCE 600 /* for nanosleep under -std=c99 */
-#include "pelgaisti.h"
+#include "open.h"
 #include <pthread.h>
 #include <sched.h>
 #include <semaphore.h>
-#include <stdio.h>
-#include <stdlib.h>
 #include <string.h>
 #include <time.h>
 
 enum { THREADS = 64, KEPT = 1024, DATABASES = 12, PAGES = 3, MOST_LOCKS = 4, STILL = 20, ONE_IN = 8, IN_A_ROUND = 1000 };
 
-/* The ways in which a call is made, and in which a path is locked. */
-enum { PERFORM, AT_ONCE, TELLING, SERVE, SERVE_TELLING, TRY_TWICE, WAYS };
+/* The ways in which a call is made: by as many turns as it takes, by one or two at first, or step by step. */
+enum { PERFORM, TRY_ONCE, TRY_TWICE, SERVE, WAYS };
 
 typedef struct worker {
     pelgaisti_session *session;
@@ -65,24 +63,13 @@ static uint32_t random_below(worker *w, uint32_t bound) {
     return (uint32_t)(((uint64_t)(w->random >> 8) * bound) >> 24);
 }
 
-/* Whether a call that is performed at once has to be made again: with ELSEWHERE and NO_MEMORY it wasn't performed. */
-static int is_to_be_repeated(worker *w, pelgaisti_status status) {
-    w->starved += status == PELGAISTI_NO_MEMORY;
-    if (status != PELGAISTI_ELSEWHERE && status != PELGAISTI_NO_MEMORY) return 0;
-    sched_yield();
-    return 1;
-}
-
 /* Serves and collects in turn until the pending call is answered. */
-static pelgaisti_status collect(worker *w, int is_telling, pelgaisti_answer *answer) {
-    uint32_t list[THREADS];
+static pelgaisti_status collect(worker *w, pelgaisti_answer *answer) {
     pelgaisti_status status;
     pelgaisti_pass pass;
-    size_t count;
     for (;;) {
         pass.starved = 0;
-        if (is_telling) pelgaisti_session_serve_telling(w->session, &pass, list, THREADS, &count);
-        else pelgaisti_session_serve(w->session, &pass);
+        pelgaisti_session_serve(w->session, &pass);
         w->starved += pass.starved;
         status = pelgaisti_session_collect(w->session, answer);
         if (status != PELGAISTI_NOT_SERVED) return status;
@@ -98,27 +85,15 @@ static int is_to_be_finished(worker *w, pelgaisti_status status) {
 
 /* Makes a call in one of the ways. */
 static pelgaisti_reply ask(worker *w, const pelgaisti_call *call) {
-    uint32_t list[THREADS], way = random_below(w, WAYS);
+    const uint32_t way = random_below(w, WAYS);
     pelgaisti_answer answer = {0, {0, 0}};
-    pelgaisti_status status = PELGAISTI_OK;
-    size_t count;
+    pelgaisti_status status;
     w->made[way]++;
-    switch (way) {
-    case AT_ONCE:
-        do status = pelgaisti_session_perform_at_once(w->session, call, NULL, &answer);
-        while (is_to_be_repeated(w, status));
-        break;
-    case TELLING:
-        do status = pelgaisti_session_perform_telling(w->session, call, NULL, &answer, list, THREADS, &count);
-        while (is_to_be_repeated(w, status));
-        break;
-    case SERVE:
-    case SERVE_TELLING:
+    if (way == SERVE) {
         status = pelgaisti_session_publish(w->session, call, NULL);
-        if (status == PELGAISTI_OK) status = collect(w, way == SERVE_TELLING, &answer);
-        break;
-    default: /* with few turns the call may be left pending, and is finished */
-        status = pelgaisti_session_perform(w->session, call, way == TRY_TWICE ? 2 : UINT64_MAX, &answer);
+        if (status == PELGAISTI_OK) status = collect(w, &answer);
+    } else { /* with few turns the call may be left pending, and is finished */
+        status = pelgaisti_session_perform(w->session, call, way == PERFORM ? UINT64_MAX : way, &answer);
         while (is_to_be_finished(w, status)) status = pelgaisti_session_perform(w->session, NULL, UINT64_MAX, &answer);
     }
     w->bad += status != PELGAISTI_OK;
@@ -145,6 +120,13 @@ static int settle(worker *w, pelgaisti_reply reply) {
     return reply.kind != PELGAISTI_DEADLOCK;
 }
 
+/* The reply at which a path has stopped, or a grant. */
+static pelgaisti_reply last_of(const pelgaisti_program_answer *answer) {
+    pelgaisti_reply last = {PELGAISTI_GRANTED, 0};
+    if (answer->stop) last.kind = answer->stop;
+    return last;
+}
+
 /* Locks a page and its database by programs. Whether both were granted. */
 static int lock_path(worker *w, const pelgaisti_resource *page, uint32_t mode) {
     pelgaisti_program path = {PELGAISTI_NOTHING, 0, 0, {PELGAISTI_LOCK, 0, {0, {0}}}};
@@ -153,13 +135,13 @@ static int lock_path(worker *w, const pelgaisti_resource *page, uint32_t mode) {
     path.last.resource = *page;
     w->paths++;
     while (path.level < page->level) {
-        pelgaisti_program_answer answer = {0, 0, 0, 0, {{0, 0}}};
+        pelgaisti_program_answer answer = {0, 0, 0, 0, {0}};
         pelgaisti_status status = pelgaisti_session_run(w->session, &path, UINT64_MAX, &answer);
         while (is_to_be_finished(w, status)) status = pelgaisti_session_run(w->session, NULL, UINT64_MAX, &answer);
         __atomic_fetch_add(&answered, 1, __ATOMIC_RELAXED);
         w->starved += answer.starved;
         w->bad += status != PELGAISTI_OK || answer.served == 0;
-        if (status != PELGAISTI_OK || answer.served == 0 || !settle(w, answer.replies[answer.served - 1])) return 0;
+        if (status != PELGAISTI_OK || answer.served == 0 || !settle(w, last_of(&answer))) return 0;
         path.level += answer.served; /* the level that waited is locked, too */
     }
     return 1;
@@ -221,7 +203,7 @@ static int run_round(uint64_t programs, int is_refusing) {
     pelgaisti_book book = PELGAISTI_EMPTY;
     left = programs;
     finished = 0;
-    if (pelgaisti_office_open_waking(sessions, THREADS, KEPT, &waker) != PELGAISTI_OK) return 0;
+    if (open_office_with(sessions, THREADS, KEPT, &waker, 0) != PELGAISTI_OK) return 0;
     __atomic_store_n(&refuses, is_refusing, __ATOMIC_RELAXED);
     for (int t = 0; t < THREADS; t++)
         if (pthread_create(&threads[t], NULL, work, &workers[t]) != 0) return 0;

@@ -86,7 +86,10 @@ static void rows(const char *name) {
         MUST(count < COUNT(all));
         all[count].session = read_row(line, &all[count].call);
     }
-    MUST(pelgaisti_book_open_seeded(&book, 256, SEED) == PELGAISTI_OK);
+    pelgaisti_options options = PELGAISTI_OPTIONS(256);
+    options.keep = UINT64_MAX;
+    options.seed = SEED;
+    MUST(pelgaisti_book_open(&book, &options) == PELGAISTI_OK);
     serve_rows(all, count);
 }
 
@@ -143,10 +146,8 @@ static void transfer_of_a_book(void) {
 
 static void transfer_of_book_programs(void) {
     pelgaisti_program_answer answer;
-    uint32_t list[LOCKERS + 1];
-    size_t count;
     for (int k = 0; k < TRANSFER_PROGRAMS; k++) {
-        if (pelgaisti_book_run(&book, 1, &transfer_programs[k], &answer, list, LOCKERS + 1, &count) != PELGAISTI_OK) exit(20);
+        if (pelgaisti_book_run(&book, 1, &transfer_programs[k], &answer) != PELGAISTI_OK) exit(20);
         if (answer.stop || answer.served != (k ? 2 : 5)) exit(21);
     }
 }
@@ -161,12 +162,12 @@ __attribute__((noinline)) void make_transfer(void (*way)(void));
 /* A function of its own, by whose name its instructions are counted. */
 __attribute__((noinline)) void make_transfer(void (*way)(void)) { way(); }
 
-static void transfers(const char *name, long times) {
+static void transfers(const char *name, long times, const pelgaisti_options *options) {
     static const pelgaisti_call begin = {PELGAISTI_BEGIN, 0, {0, {0}}};
     pelgaisti_answer answer;
     pelgaisti_reply reply;
     if (pelgaisti_session_perform(&sessions[0], &begin, UINT64_MAX, &answer) != PELGAISTI_OK) exit(17);
-    if (pelgaisti_book_open_seeded(&book, LOCKERS + 1, SEED) != PELGAISTI_OK || pelgaisti_book_keep_at_most(&book, 64) != PELGAISTI_OK) exit(18);
+    if (pelgaisti_book_open(&book, options) != PELGAISTI_OK) exit(18);
     if (pelgaisti_book_serve(&book, 1, &begin, &reply) != PELGAISTI_OK) exit(19);
     for (size_t way = 0; way < sizeof ways / sizeof *ways; way++)
         for (long k = 0; k < times && !strcmp(name, ways[way].name); k++) make_transfer(ways[way].make);
@@ -182,10 +183,14 @@ int main(int argc, char **argv) {
     static const pelgaisti_waker waker = {wake_nobody, NULL};
     long times = argc == 3 ? atol(argv[2]) : 0;
     int is_waking = argc == 3 && !strcmp(argv[1], "wakes");
-    if (pelgaisti_office_open_seeded(sessions, LOCKERS + 1, 64, is_waking ? &waker : NULL, SEED) != PELGAISTI_OK) return 1;
+    pelgaisti_options options = PELGAISTI_OPTIONS(LOCKERS + 1);
+    options.keep = 64;
+    options.seed = SEED;
+    if (is_waking) options.waker = &waker;
+    if (pelgaisti_office_open(sessions, &options) != PELGAISTI_OK) return 1;
     if (argc == 3 && !strcmp(argv[1], "rows")) rows(argv[2]);
     else if (argc == 3 && !strcmp(argv[1], "locks")) locks(times);
     else if (argc == 3 && (!strcmp(argv[1], "performs") || is_waking)) performs(times);
-    else if (argc == 3) transfers(argv[1], times);
+    else if (argc == 3) transfers(argv[1], times, &options);
     return 0;
 }

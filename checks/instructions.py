@@ -131,7 +131,7 @@ THROUGH_C = [
 DEAR_THROUGH_C = [
     ("a lock of 4,096, as the table grows", "growth", 4096, 935),
     ("a lock of 4,096, behind a reserve", "reserved", 4096, 720),
-    ("a page of 8 of 8,192 locks", "page", 1, 2_300_000),
+    ("a dump of 8,192 locks", "dump", 1, 3_100_000),
     ("a pass that serves 63 commits of 4,096 locks, for each lock", "commits", 63 * 4096, 280),
     ("a commit before 1,023 readers", "readers", 1, 375_000),
     ("a withdrawal from the front of a queue of 1,023", "withdraw", 1, 32_000),
@@ -142,7 +142,7 @@ DEAR_THROUGH_C = [
 # A transfer of seven calls: by single calls and by two programs of an office, each with how a book is called for the same, and a bound.
 # What an office takes beyond the book is its hand-over: that of programs is bounded by so much of that of calls.
 TRANSFERS = ("calls", "served", 10300), ("programs", "ran", 7900)
-MOST_OF_CALLS = 0.3
+MOST_OF_CALLS = 0.33
 
 
 def counted(words, *flags, given=subprocess.DEVNULL):

@@ -18,7 +18,7 @@ static size_t calls_of(const pelgaisti_program *program, pelgaisti_call calls[PE
     for (size_t k = 0; k < 2; k++)
         if (starts[program->start][k]) calls[count++].op = starts[program->start][k];
     for (uint32_t level = program->level + 1; 0 < level && level < on->level; level++, count++) {
-        calls[count].op = PELGAISTI_LOCK;
+        calls[count].op = program->last.op == PELGAISTI_TRY ? PELGAISTI_TRY : PELGAISTI_LOCK;
         calls[count].mode = program->above;
         calls[count].resource.level = level;
         memcpy(calls[count].resource.numbers, on->numbers, level * sizeof(uint32_t));

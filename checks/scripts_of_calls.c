@@ -189,14 +189,16 @@ static pelgaisti_entry round_rows[MOST_ROWS];
 static size_t round_length;
 
 static void open_book(pelgaisti_book *opened) {
-    pelgaisti_status status = pelgaisti_book_open(opened, sessions);
-    if (status == PELGAISTI_NO_MEMORY) status = pelgaisti_book_open(opened, sessions);
+    pelgaisti_options options = PELGAISTI_OPTIONS(sessions);
+    options.keep = UINT64_MAX;
+    pelgaisti_status status = pelgaisti_book_open(opened, &options);
+    if (status == PELGAISTI_NO_MEMORY) status = pelgaisti_book_open(opened, &options);
     want(status == PELGAISTI_OK, "status of an opening", status);
 }
 
 static uint64_t length_of(pelgaisti_book *of) {
-    uint64_t count = 0;
-    want(pelgaisti_book_length(of, &count) == PELGAISTI_OK, "length", 0);
+    uint64_t first_kept, count = 0;
+    want(pelgaisti_book_length(of, &first_kept, &count) == PELGAISTI_OK, "length", 0);
     return count;
 }
 
@@ -324,8 +326,8 @@ static void want_history(pelgaisti_book *of, uint64_t from, const pelgaisti_entr
 
 /* Expects the book to keep the entries that were not let go. */
 static void want_past(void) {
-    uint64_t kept = 0;
-    want(pelgaisti_book_first_kept(&book, &kept) == PELGAISTI_OK && kept == first, "first entry kept", first);
+    uint64_t kept = 0, count;
+    want(pelgaisti_book_length(&book, &kept, &count) == PELGAISTI_OK && kept == first, "first entry kept", first);
     want_history(&book, first, past + first, length - first);
 }
 
@@ -444,17 +446,19 @@ static int is_claim(const pelgaisti_claim *claim, const pelgaisti_entry *row) {
 }
 
 static void want_locks(const pelgaisti_entry *rows, size_t count) {
-    static pelgaisti_claim list[MOST_ROWS];
-    size_t got = 99, k;
+    static pelgaisti_claim list[MOST_ROWS + PELGAISTI_MAX_SESSIONS];
+    size_t got = 99, open = 0, k;
+    uint64_t place = 99;
     pelgaisti_status status;
     list[0].session = 99;
-    status = pelgaisti_book_locks(&book, 0, list, COUNT(list), &got);
+    status = pelgaisti_book_dump(&book, list, COUNT(list), &got, &place);
     if (status == PELGAISTI_NO_MEMORY) {
-        want(list[0].session == 99 && got == 99, "listing after a refusal", 0);
-        status = pelgaisti_book_locks(&book, 0, list, COUNT(list), &got);
+        want(list[0].session == 99 && got == 99 && place == 99, "listing after a refusal", 0);
+        status = pelgaisti_book_dump(&book, list, COUNT(list), &got, &place);
     }
-    want(status == PELGAISTI_OK && got == count, "length of the listing", got);
-    for (k = 0; k < count && !is_wrong; k++) want(is_claim(&list[k], &rows[k]), "line of the listing", k);
+    while (open < got && list[open].kind == PELGAISTI_TRANSACTION_ROW) open++; /* they come before the claims */
+    want(status == PELGAISTI_OK && got == open + count, "length of the listing", got);
+    for (k = 0; k < count && !is_wrong; k++) want(is_claim(&list[open + k], &rows[k]), "line of the listing", k);
 }
 
 static void want_session(uint32_t session, uint64_t number, int is_doomed, const pelgaisti_entry *request) {
@@ -501,10 +505,10 @@ static void take(uint64_t room, uint64_t from, uint64_t count) {
 }
 
 static void want_kept(uint64_t from, uint64_t next) {
-    uint64_t kept = 99;
-    want(pelgaisti_book_first_kept(&book, &kept) == PELGAISTI_OK, "first entry kept", from);
+    uint64_t kept = 99, count = 99;
+    want(pelgaisti_book_length(&book, &kept, &count) == PELGAISTI_OK, "first entry kept", from);
     want(kept == from, "first entry kept", kept);
-    want(length_of(&book) == next, "calls served", next);
+    want(count == next, "calls served", next);
 }
 
 /* ---- Two books ---- */
@@ -695,23 +699,27 @@ static pelgaisti_program random_program(void) {
 
 /* Runs a program in the book, again if memory is refused to its first call, and serves its calls in the second book. */
 static pelgaisti_program_answer run_in_both(uint32_t session, const pelgaisti_program *program) {
-    pelgaisti_program_answer answer = {77, 77, 77, 77, {{77, 88}}};
+    pelgaisti_program_answer answer = {77, 77, 77, 77, {77}};
+    pelgaisti_reply replies[PELGAISTI_CALLS];
     pelgaisti_call calls[PELGAISTI_CALLS];
     uint32_t list[EIGHT], ended[EIGHT];
     uint64_t before = length_of(&book);
     size_t count = 99, all = calls_of(program, calls), k, n, marked = 0;
     int has_ended[EIGHT + 1] = {0};
-    pelgaisti_status status = pelgaisti_book_run(&book, session, program, &answer, list, EIGHT, &count);
+    pelgaisti_status status = pelgaisti_book_run(&book, session, program, &answer);
     if (status == PELGAISTI_NO_MEMORY) {
-        want(answer.served == 77 && count == 0 && length_of(&book) == before, "history after a refusal", before);
-        status = pelgaisti_book_run(&book, session, program, &answer, list, EIGHT, &count);
+        want(answer.served == 77 && length_of(&book) == before, "history after a refusal", before);
+        status = pelgaisti_book_run(&book, session, program, &answer);
     }
     want(status == PELGAISTI_OK && answer.place == before && answer.served <= all, "program at", before);
+    want(pelgaisti_program_replies(program, &answer, replies) == answer.served, "replies of a program at", before);
+    want(answer.served == 0 || (pelgaisti_book_ended(&book, list, EIGHT, &count) == PELGAISTI_OK && count <= EIGHT), "ended by a program at", before);
+    if (answer.served == 0) count = 0;
     for (k = 0; k < answer.served && !is_wrong; k++) {
         pelgaisti_entry entry = {session, calls[k], {0, 0}};
         pelgaisti_reply reply = serve(&twin, &entry);
         uint32_t stops = stops_at(reply.kind) ? reply.kind : 0;
-        want(same_reply(&answer.replies[k], &reply), "reply in a program", before + k);
+        want(same_reply(&replies[k], &reply), "reply in a program", before + k);
         want(stops == (k + 1 == answer.served ? answer.stop : 0), "stop of a program at", before + k);
         want(pelgaisti_book_ended(&twin, ended, EIGHT, &n) == PELGAISTI_OK && n <= EIGHT, "ended", before + k);
         while (n > 0) marked += !has_ended[ended[--n]], has_ended[ended[n]] = 1;
@@ -798,7 +806,7 @@ static void want_edges_now(void) {
     for (one = 0; one < EIGHT; one++) {
         pelgaisti_holder holders[EIGHT];
         pelgaisti_resource resource = path(1, requests[one].number, 0);
-        uint32_t edge = 99, blockers[EIGHT];
+        uint32_t blockers[EIGHT];
         size_t found = 0;
         count = 0;
         if (requests[one].waits)
@@ -806,8 +814,6 @@ static void want_edges_now(void) {
         want(pelgaisti_book_blockers(&book, (uint32_t)one + 1, blockers, EIGHT, &blocked) == PELGAISTI_OK, "blockers", one);
         for (other = 0; other < EIGHT && !is_wrong; other++) {
             int wanted = is_edge(one, other, holders, count);
-            want(pelgaisti_book_waits_for(&book, (uint32_t)one + 1, (uint32_t)other + 1, &edge) == PELGAISTI_OK, "waits_for", one);
-            want(edge == (uint32_t)wanted, "edge from a session, the number of the other", (one + 1) * 100 + other + 1);
             if (wanted) want(found < blocked && blockers[found] == other + 1, "blocker of session", one + 1);
             found += (size_t)wanted;
         }

@@ -30,7 +30,7 @@ std::string fresh() { return (folder / std::to_string(++made_databases)).string(
 
 const path x{1, 1, 1}, y{1, 1, 2}, elsewhere{2, 1, 1};
 
-store::offices::options with(std::chrono::milliseconds limit, std::size_t count = 1, std::size_t keeps = 0, std::chrono::milliseconds looks = 0ms) {
+store::offices::options with(std::chrono::milliseconds limit, std::size_t count = 1, std::size_t keeps = 0, bool looks = false) {
     store::offices::options asked;
     asked.clients = 4, asked.count = count, asked.keeps = keeps, asked.limit = limit, asked.looks = looks;
     return asked;
@@ -372,7 +372,7 @@ int main(int, char **words) {
     locks_are_left_to_the_next_transaction();
     offices_are_left_behind();
     cycles_across_offices_end(with(40ms, 2), false);
-    cycles_across_offices_end(with(60s, 2, 0, 1ms), true);
+    cycles_across_offices_end(with(60s, 2, 0, true), true);
     intention_locks_are_kept();
     kept_intention_locks_are_given_up();
     rows_dont_come_into_a_scan();

@@ -1,9 +1,8 @@
 /*
  * A small engine: two tables of accounts, and four threads that move money between them. Each move locks the two records that it
  * changes, sleeps while it waits for a lock, and undoes its change if it is chosen as a deadlock's victim, or if it has waited for a
- * minute. Between two moves a thread runs one program: it commits the one, begins the next, and locks the path to its first record. The
- * lock table keeps the newest 1024 entries of its history, so that the engine takes no more memory the longer it runs. Before the threads
- * start, a record that is held is asked for without waiting, and with a short limit.
+ * minute. Between two moves a thread runs one program: it commits the one, begins the next, and locks the path to its first record. Before
+ * the threads start, a record that is held is asked for without waiting, and with a short limit.
  *
  *     ./embed && cc examples/engine.c -Iout -Lout -lpelgaisti -lpthread -o engine && ./engine
  *
@@ -135,7 +134,8 @@ int main(int argc, char **argv) {
     for (int t = 0; t < TABLES; t++)
         for (int r = 0; r < RECORDS; r++) accounts[t][r] = BALANCE;
     pthread_barrier_init(&both_hold_one, NULL, 2);
-    pelgaisti_status status = pelgaisti_office_open_keeping(sessions, THREADS, KEPT);
+    const pelgaisti_options options = PELGAISTI_OPTIONS(THREADS);
+    pelgaisti_status status = pelgaisti_office_open(sessions, &options);
     if (status != PELGAISTI_OK) stop("open", pelgaisti_status_name(status));
     for (unsigned t = 0; t < THREADS; t++) {
         worker w = {&sessions[t], t, moves, 0, 0, PELGAISTI_BEGINS};
@@ -155,16 +155,16 @@ int main(int argc, char **argv) {
     if (status != PELGAISTI_OK) stop("close", pelgaisti_status_name(status));
     static pelgaisti_entry entries[KEPT];
     pelgaisti_counts counts;
-    uint64_t length = 0, first = 0;
+    uint64_t length = 0, first = 0, first_kept = 0;
     size_t kept = 0;
-    pelgaisti_book_length(&book, &length);
+    pelgaisti_book_length(&book, &first_kept, &length);
     pelgaisti_book_counts(&book, &counts);
     pelgaisti_book_take_history(&book, &first, entries, KEPT, &kept);
     pelgaisti_book_close(&book);
 
     for (int t = 0; t < TABLES; t++)
         for (int r = 0; r < RECORDS; r++) sum += accounts[t][r];
-    int whole = kept > 0 && first + kept == length && entries[kept - 1].reply.kind == PELGAISTI_COMMITTED;
+    int whole = kept > 0 && first == first_kept && first + kept == length && entries[kept - 1].reply.kind == PELGAISTI_COMMITTED;
     int ended = counts.waits_begun == counts.waits_granted + counts.victims + counts.waits_withdrawn && counts.waits_withdrawn > 0;
     printf("%u moves; the sum is %ld; a deadlock was undone: %s; the newest calls are kept: %s; each wait has ended: %s; a held record was "
            "done without: %s\n", moved, sum, victims > 0 ? "yes" : "no", whole ? "yes" : "no", ended ? "yes" : "no", did_without ? "yes" : "no");

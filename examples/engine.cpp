@@ -31,9 +31,9 @@ struct account {
 struct worker {
     pelgaisti::session &session;
 
-    // Begins or ends a transaction, which is refused nowhere here. Without a bound on its turns there is always an answer.
+    // Begins or ends a transaction, which is refused nowhere here.
     void make(pelgaisti::op op) {
-        if (session.perform({op})->reply.kind == pelgaisti::kind::refused) std::abort();
+        if (session.perform({op}).reply.kind == pelgaisti::kind::refused) std::abort();
     }
 
     // Locks an account and its table. Whether both were granted within the limit.

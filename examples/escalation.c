@@ -16,7 +16,7 @@
 #include <string.h>
 
 /* A transaction reads and changes so many rows; it escalates at the threshold, and tries again so many locks later. */
-enum { THREADS = 4, READER = THREADS, SESSIONS, KEPT = 1024, ROWS = 1500, THRESHOLD = 1000, LATER = 200 };
+enum { THREADS = 4, READER = THREADS, SESSIONS, ROWS = 1500, THRESHOLD = 1000, LATER = 200 };
 
 static pelgaisti_session sessions[SESSIONS];
 static unsigned transactions = 20;
@@ -46,11 +46,12 @@ static int is_below(const pelgaisti_resource *parent, const pelgaisti_resource *
 static size_t escalate(pelgaisti_session *session, uint32_t number, const pelgaisti_resource *parent, pelgaisti_claim *held) {
     uint32_t mode = PELGAISTI_S;
     size_t count, below = 0;
-    uint64_t seen;
+    pelgaisti_book view = PELGAISTI_EMPTY;
     pelgaisti_status status;
+    must(pelgaisti_session_look(session, &view) == PELGAISTI_OK, "look", "it isn't made");
     /* the locks behind the parent in the order of paths: those below it come first */
-    while ((status = pelgaisti_session_locks_of(session, number, parent, held, PELGAISTI_MAX_LOCKS, &count, &seen)) == PELGAISTI_ELSEWHERE)
-        sched_yield(); /* another session has the lock table */
+    status = pelgaisti_book_locks_of(&view, number, parent, held, PELGAISTI_MAX_LOCKS, &count);
+    must(pelgaisti_look_end(session, &view) == PELGAISTI_OK, "look", "it doesn't end"); /* before the session's next call */
     must(status == PELGAISTI_OK, "locks of a session", pelgaisti_status_name(status));
     while (below < count && is_below(parent, &held[below].resource))
         if (held[below++].mode & ~(uint32_t)PELGAISTI_S) mode = PELGAISTI_X; /* more than S, or an intention to write */
@@ -64,10 +65,12 @@ static size_t escalate(pelgaisti_session *session, uint32_t number, const pelgai
 
 /* How many locks a session holds, and in which mode it has the resource. */
 static size_t locks_held(pelgaisti_session *session, uint32_t number, const pelgaisti_resource *resource, uint32_t *mode) {
+    pelgaisti_book view = PELGAISTI_EMPTY;
     size_t count = 0;
-    uint64_t seen;
-    while (pelgaisti_session_locks_held(session, number, &count, &seen) == PELGAISTI_ELSEWHERE) sched_yield();
-    while (pelgaisti_session_held(session, number, resource, mode, &seen) == PELGAISTI_ELSEWHERE) sched_yield();
+    must(pelgaisti_session_look(session, &view) == PELGAISTI_OK, "look", "it isn't made");
+    must(pelgaisti_book_locks_held(&view, number, &count) == PELGAISTI_OK, "locks", "there is no answer");
+    must(pelgaisti_book_held(&view, number, resource, mode) == PELGAISTI_OK, "a mode", "there is no answer");
+    must(pelgaisti_look_end(session, &view) == PELGAISTI_OK, "look", "it doesn't end");
     return count;
 }
 
@@ -133,7 +136,8 @@ int main(int argc, char **argv) {
     pthread_barrier_init(&start, NULL, SESSIONS);
     pthread_barrier_init(&has_tried, NULL, 2);
     pthread_barrier_init(&has_ended, NULL, 2);
-    pelgaisti_status status = pelgaisti_office_open_keeping(sessions, SESSIONS, KEPT);
+    const pelgaisti_options options = PELGAISTI_OPTIONS(SESSIONS);
+    pelgaisti_status status = pelgaisti_office_open(sessions, &options);
     must(status == PELGAISTI_OK, "open", pelgaisti_status_name(status));
     must(pthread_create(&threads[READER], NULL, read_one, NULL) == 0, "start", "there is no thread");
     for (uint32_t k = 0; k < THREADS; k++) {

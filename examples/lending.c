@@ -14,7 +14,7 @@
 #include <stdlib.h>
 
 /* The last two accounts, from MEETING on, are used only by the first transfers of two clients, which make a deadlock. */
-enum { CLIENTS = 200, SESSIONS = 8, ACCOUNTS = 8, MEETING = ACCOUNTS - 2, KEPT = 1024 };
+enum { CLIENTS = 200, SESSIONS = 8, ACCOUNTS = 8, MEETING = ACCOUNTS - 2 };
 
 static long accounts[ACCOUNTS];
 static unsigned transfers = 20;
@@ -111,7 +111,8 @@ int main(int argc, char **argv) {
 
     if (argc > 1) transfers = (unsigned)strtoul(argv[1], NULL, 10);
     pthread_barrier_init(&both_hold_one, NULL, 2);
-    pelgaisti_status status = pelgaisti_office_open_keeping(sessions, SESSIONS, KEPT);
+    const pelgaisti_options options = PELGAISTI_OPTIONS(SESSIONS);
+    pelgaisti_status status = pelgaisti_office_open(sessions, &options);
     must(status == PELGAISTI_OK, "open", pelgaisti_status_name(status));
     for (unsigned s = 0; s < SESSIONS; s++) give_back(s);
     for (unsigned c = 0; c < CLIENTS; c++) {

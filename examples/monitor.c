@@ -1,7 +1,7 @@
 /*
  * What an engine tells of its lock table while others use it. Four threads lock two records in either order, so that they meet deadlocks.
- * Who becomes a victim writes its cycle to the log. A fifth session is the monitor's: it writes dumps, counters, and the entries of the
- * history since the last dump.
+ * Who becomes a victim writes its cycle to the log. A fifth session is the monitor's: it writes dumps, with counters of the same moment, and
+ * the entries of the history since the last dump.
  *
  *     ./embed && cc examples/monitor.c -Iout -Lout -lpelgaisti -lpthread -o monitor && ./monitor dump.csv since.csv
  *     glm show --state dump.csv
@@ -44,33 +44,52 @@ static pelgaisti_reply ask(pelgaisti_session *session, uint32_t op, const pelgai
     return answer.reply;
 }
 
+/* Takes the lock table, to ask several questions of one moment, and gives it back. */
+static void look(pelgaisti_session *session, pelgaisti_book *view) {
+    const pelgaisti_status status = pelgaisti_session_look(session, view);
+    must(status == PELGAISTI_OK, "look", pelgaisti_status_name(status));
+}
+
+static void end_look(pelgaisti_session *session, pelgaisti_book *view) {
+    must(pelgaisti_look_end(session, view) == PELGAISTI_OK, "look", "it doesn't end");
+}
+
 /* Writes why this transaction became a victim: the text of the newest deadlock whose victim it was. The text is empty if as many newer ones
    as the office keeps have come meanwhile. */
 static void tell_cycle(pelgaisti_session *session, uint64_t transaction, char *text, size_t room) {
     pelgaisti_deadlock list[KEPT];
     pelgaisti_member members[KEPT * SESSIONS];
     size_t count, member_count, first = 0; /* `first`: where the members of a deadlock begin, the victim first */
-    uint64_t seen;
+    pelgaisti_book view = PELGAISTI_EMPTY;
     pelgaisti_status status;
-    while ((status = pelgaisti_session_deadlocks(session, list, KEPT, &count, members, KEPT * SESSIONS, &member_count, &seen)) ==
-           PELGAISTI_ELSEWHERE) sched_yield();
+    look(session, &view);
+    status = pelgaisti_book_deadlocks(&view, list, KEPT, &count, members, KEPT * SESSIONS, &member_count);
+    end_look(session, &view);
     must(status == PELGAISTI_OK, "deadlocks", pelgaisti_status_name(status));
     text[0] = 0;
     for (size_t k = 0; k < count; first += list[k++].members)
         if (members[first].request.transaction == transaction) pelgaisti_deadlock_text(&list[k], &members[first], text, room);
 }
 
-/* Writes the state of the lock table as the rows of `glm show --csv`. Returns its place in the history: how many calls were made before. The
-   rows are made without the lock table. */
+/* Writes the state of the lock table as the rows of `glm show --csv`, and to standard output how often requests had to wait, and what became
+   of it, up to that moment. Returns its place in the history: how many calls were made before. All text is made without the lock table. */
 static uint64_t write_state(pelgaisti_session *session, pelgaisti_claim *rows, size_t room, FILE *file) {
-    pelgaisti_dumping at = pelgaisti_dump_begin();
+    pelgaisti_dumping at = PELGAISTI_DUMPING;
+    pelgaisti_book view = PELGAISTI_EMPTY;
+    pelgaisti_counts counts;
     pelgaisti_status status;
     uint64_t place;
     size_t count;
     char line[100]; /* bytes, enough for each */
-    while ((status = pelgaisti_session_dump(session, rows, room, &count, &place)) == PELGAISTI_ELSEWHERE) sched_yield();
+    look(session, &view);
+    status = pelgaisti_book_dump(&view, rows, room, &count, &place);
+    if (status == PELGAISTI_OK) status = pelgaisti_book_counts(&view, &counts);
+    end_look(session, &view);
     must(status == PELGAISTI_OK && count <= room, "dump", "there is too little room or memory");
     while (pelgaisti_dump_line(rows, count, &at, line, sizeof line)) fputs(line, file);
+    printf("%" PRIu64 " calls, %" PRIu64 " requests\n", place, counts.requests);
+    printf("%" PRIu64 " waits begun, %" PRIu64 " granted, %" PRIu64 " victims, %" PRIu64 " go on\n", counts.waits_begun,
+           counts.waits_granted, counts.victims, counts.waiting);
     return place;
 }
 
@@ -99,16 +118,6 @@ static uint64_t write_since(pelgaisti_book *book, uint64_t place, FILE *file) {
         for (size_t k = 0; k < count; k++) write_entry(written + k, &entries[k], file);
     }
     return written;
-}
-
-/* Writes how often requests had to wait, and what became of it. */
-static void write_waits(pelgaisti_session *session, FILE *file) {
-    pelgaisti_counts counts;
-    uint64_t calls;
-    while (pelgaisti_session_counts(session, &counts, &calls) == PELGAISTI_ELSEWHERE) sched_yield();
-    fprintf(file, "%" PRIu64 " calls, %" PRIu64 " requests\n", calls, counts.requests);
-    fprintf(file, "%" PRIu64 " waits begun, %" PRIu64 " granted, %" PRIu64 " victims, %" PRIu64 " go on\n", counts.waits_begun,
-            counts.waits_granted, counts.victims, counts.waiting);
 }
 
 /* Locks two records of database 1 and commits. A victim logs its cycle and restarts, with its old number. */
@@ -152,7 +161,11 @@ int main(int argc, char **argv) {
     uint64_t place = 0;
     must(argc > 2, "usage", "monitor DUMP SINCE [TRANSACTIONS]");
     if (argc > 3) transactions = (unsigned)strtoul(argv[3], NULL, 10);
-    must(pelgaisti_office_open_telling(sessions, SESSIONS, KEPT_ENTRIES, &waker, KEPT) == PELGAISTI_OK, "open", "no memory");
+    pelgaisti_options options = PELGAISTI_OPTIONS(SESSIONS);
+    options.keep = KEPT_ENTRIES;
+    options.deadlocks = KEPT;
+    options.waker = &waker;
+    must(pelgaisti_office_open(sessions, &options) == PELGAISTI_OK, "open", "no memory");
     for (int k = 0; k < SESSIONS; k++) must(sem_init(&woken[k], 0, 0) == 0, "start", "there is no semaphore");
     for (int k = 0; k < WORKERS; k++) must(pthread_create(&threads[k], NULL, work, &sessions[k]) == 0, "start", "there is no thread");
     /* an engine asks now and then; since the last dump no more entries may come than are kept */
@@ -161,11 +174,9 @@ int main(int argc, char **argv) {
         must(file != NULL, argv[1], "it can't be written");
         place = write_state(&sessions[MONITOR], rows, ROWS, file);
         must(fclose(file) == 0, argv[1], "it can't be written");
-        write_waits(&sessions[MONITOR], stdout);
         for (int k = 0; k < 100; k++) sched_yield();
     } while (__atomic_load_n(&is_over, __ATOMIC_SEQ_CST) < WORKERS);
     for (int k = 0; k < WORKERS; k++) pthread_join(threads[k], NULL);
-    write_waits(&sessions[MONITOR], stdout);
     for (int k = 1; k < SESSIONS; k++) must(pelgaisti_session_hand_in(&sessions[k], &sessions[0]) == PELGAISTI_OK, "hand in", "no memory");
     must(pelgaisti_office_close(&sessions[0], &book) == PELGAISTI_OK, "close", "a call is pending");
     FILE *file = fopen(argv[2], "w");

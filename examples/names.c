@@ -14,7 +14,7 @@
 #include <stdlib.h>
 #include <string.h>
 
-enum { THREADS = 4, ROUNDS = 500, WORDS = 5, KEPT = 1024 };
+enum { THREADS = 4, ROUNDS = 500, WORDS = 5 };
 
 static uint64_t secret[2];
 static pelgaisti_session sessions[THREADS];
@@ -79,7 +79,7 @@ static uint32_t lock(pelgaisti_session *session, const pelgaisti_resource *recor
     const pelgaisti_program path = {PELGAISTI_NOTHING, 0, PELGAISTI_IX, {PELGAISTI_LOCK, PELGAISTI_X, *record}};
     pelgaisti_program_answer answer;
     must(pelgaisti_session_run(session, &path, UINT64_MAX, &answer) == PELGAISTI_OK && !answer.starved, "lock");
-    return answer.replies[answer.served - 1].kind;
+    return answer.stop ? answer.stop : PELGAISTI_GRANTED;
 }
 
 /* Meets words in an order of its own, each in a transaction. */
@@ -119,11 +119,12 @@ int main(void) {
     static const unsigned char bytes[15] = {0, 1, 2, 3, 4, 5, 6, 7, 8, 9, 10, 11, 12, 13, 14};
     pthread_t threads[THREADS];
     pelgaisti_book book = PELGAISTI_EMPTY;
+    const pelgaisti_options options = PELGAISTI_OPTIONS(THREADS);
     long sum = 0;
     FILE *random = fopen("/dev/urandom", "rb");
     must(random != NULL && fread(secret, sizeof secret, 1, random) == 1 && fclose(random) == 0, "no secret is drawn");
     must(hash(known, bytes, sizeof bytes) == UINT64_C(0xa129ca6149be45e5), "the hash isn't that of its paper");
-    must(pelgaisti_office_open_keeping(sessions, THREADS, KEPT) == PELGAISTI_OK, "open");
+    must(pelgaisti_office_open(sessions, &options) == PELGAISTI_OK, "open");
     for (int k = 0; k < THREADS; k++) must(pthread_create(&threads[k], NULL, count_words, &sessions[k]) == 0, "a thread");
     for (int k = 0; k < THREADS; k++) pthread_join(threads[k], NULL);
     keys_collide();

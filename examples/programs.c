@@ -29,13 +29,16 @@ static void must(int is_well, const char *what, const char *name) {
 static uint32_t run(uint32_t session, const pelgaisti_program *program) {
     const pelgaisti_call poll = {PELGAISTI_POLL, 0, {0, {0}}};
     pelgaisti_program_answer answer;
+    pelgaisti_reply replies[PELGAISTI_CALLS], last;
     uint32_t list[CLERKS];
     size_t count;
     pthread_mutex_lock(&guard);
-    pelgaisti_status status = pelgaisti_book_run(&book, session, program, &answer, list, CLERKS, &count);
+    pelgaisti_status status = pelgaisti_book_run(&book, session, program, &answer);
     must(status == PELGAISTI_OK && !answer.starved && answer.served > 0, "run", pelgaisti_status_name(status));
+    status = pelgaisti_book_ended(&book, list, CLERKS, &count);
+    must(status == PELGAISTI_OK, "ended", pelgaisti_status_name(status));
     for (size_t k = 0; k < count; k++) pthread_cond_signal(&woken[list[k]]);
-    pelgaisti_reply last = answer.replies[answer.served - 1];
+    last = replies[pelgaisti_program_replies(program, &answer, replies) - 1];
     while (last.kind == PELGAISTI_WAITING) {
         pthread_cond_wait(&woken[session], &guard);
         status = pelgaisti_book_serve(&book, session, &poll, &last);
@@ -76,9 +79,9 @@ int main(int argc, char **argv) {
     long sum = 0;
     if (argc > 1) transfers = (unsigned)strtoul(argv[1], NULL, 10);
     must(transfers > 0, "transfers", "none");
-    pelgaisti_status status = pelgaisti_book_open(&book, CLERKS);
+    const pelgaisti_options options = PELGAISTI_OPTIONS(CLERKS);
+    pelgaisti_status status = pelgaisti_book_open(&book, &options);
     must(status == PELGAISTI_OK, "open", pelgaisti_status_name(status));
-    must(pelgaisti_book_keep_at_most(&book, 1000) == PELGAISTI_OK, "keep", "not kept");
     for (uint32_t s = 0; s <= CLERKS; s++) pthread_cond_init(&woken[s], NULL);
     for (uint32_t s = 0; s < CLERKS; s++) {
         sessions[s] = s + 1;

@@ -63,8 +63,10 @@ static void go_back(got_locks *locks, size_t savepoint) {
 /* Whether session 1 holds the resource in this mode. */
 static int holds(const pelgaisti_resource *resource, uint32_t mode) {
     uint32_t found = PELGAISTI_NL;
-    uint64_t seen;
-    must(pelgaisti_session_held(&sessions[0], 1, resource, &found, &seen) == PELGAISTI_OK, "held");
+    pelgaisti_book view = PELGAISTI_EMPTY;
+    must(pelgaisti_session_look(&sessions[0], &view) == PELGAISTI_OK, "look");
+    must(pelgaisti_book_held(&view, 1, resource, &found) == PELGAISTI_OK, "held");
+    must(pelgaisti_look_end(&sessions[0], &view) == PELGAISTI_OK, "the look's end");
     return found == mode;
 }
 
@@ -99,7 +101,8 @@ static void a_victim_aborts(got_locks *locks) {
 int main(void) {
     static got_locks locks;
     pelgaisti_book book = PELGAISTI_EMPTY;
-    must(pelgaisti_office_open(sessions, 2) == PELGAISTI_OK, "open");
+    const pelgaisti_options options = PELGAISTI_OPTIONS(2);
+    must(pelgaisti_office_open(sessions, &options) == PELGAISTI_OK, "open");
     locks.session = &sessions[0];
     for (int k = 1; k >= 0; k--) must(ask(&sessions[k], PELGAISTI_BEGIN, NULL, 0) == PELGAISTI_BEGAN, "begin");
     go_back_after_a_wait(&locks);

@@ -15,7 +15,7 @@
 #include <stdlib.h>
 #include <string.h>
 
-enum { STAGES = 3, SESSIONS = 4, KEPT = 1024 };
+enum { STAGES = 3, SESSIONS = 4 };
 
 /* A transaction on its way: its session's number, and what its threads tell one another, which is plain memory. */
 typedef struct moving {
@@ -108,8 +108,10 @@ int main(int argc, char **argv) {
     static moving all[SESSIONS];
     pthread_t threads[STAGES];
     pelgaisti_book book = PELGAISTI_EMPTY;
+    pelgaisti_options options = PELGAISTI_OPTIONS(SESSIONS);
+    options.waker = &waker;
     if (argc > 1) rounds = (unsigned)strtoul(argv[1], NULL, 10);
-    must(pelgaisti_office_open_waking(sessions, SESSIONS, KEPT, &waker) == PELGAISTI_OK, "open");
+    must(pelgaisti_office_open(sessions, &options) == PELGAISTI_OK, "open");
     for (int k = 0; k < STAGES; k++)
         must(pthread_mutex_init(&queues[k].guard, NULL) == 0 && pthread_cond_init(&queues[k].grew, NULL) == 0, "a queue");
     for (uint32_t k = 0; k < SESSIONS; k++) {

@@ -16,7 +16,7 @@
 #include <stdio.h>
 #include <stdlib.h>
 
-enum { IDLE = 1, PAYING, LOST, BUSY, OPERATOR, SESSIONS = OPERATOR, ACCOUNTS = 2, KEPT = 1024 };
+enum { IDLE = 1, PAYING, LOST, BUSY, OPERATOR, SESSIONS = OPERATOR, ACCOUNTS = 2 };
 
 static long accounts[ACCOUNTS] = {100, 100};
 
@@ -28,6 +28,7 @@ typedef struct client {
     int wrote[ACCOUNTS];
     sem_t woken;            /* on which its thread sleeps */
     uint64_t asked;         /* the newest transaction that somebody has asked to end */
+    pelgaisti_program ran;  /* what it has run or published last, whose answer may be pending */
 } client;
 static client clients[SESSIONS + 1];
 static pelgaisti_session sessions[SESSIONS];
@@ -87,7 +88,7 @@ static int lock_account(const client *it, uint32_t account) {
         if (is_asked(it)) return 0;
         pelgaisti_status status = pelgaisti_session_run(&sessions[it->number - 1], &path, UINT64_MAX, &answer);
         must(status == PELGAISTI_OK && !answer.starved, "lock", pelgaisti_status_name(status));
-        pelgaisti_reply last = answer.replies[answer.served - 1];
+        pelgaisti_reply last = {answer.stop, answer.values[answer.served - 1]};
         while (last.kind == PELGAISTI_WAITING) {
             sleep_on(&clients[it->number].woken);
             if (is_asked(it)) return 0;
@@ -123,12 +124,14 @@ static void undo(client *it) {
 static pelgaisti_status take_over(client *it, int *had_open) {
     const pelgaisti_call abort = {PELGAISTI_ABORT, 0, {0, {0}}};
     pelgaisti_program_answer made;
+    pelgaisti_reply replies[PELGAISTI_CALLS];
     pelgaisti_answer answer;
     /* a call is heard like a program, as a program of one; pelgaisti_session_perform hears no program of several */
     pelgaisti_status status = pelgaisti_session_run(&sessions[it->number - 1], NULL, UINT64_MAX, &made);
     if (status != PELGAISTI_OK && status != PELGAISTI_NOTHING_PENDING) return status;
-    for (uint32_t k = 0; status == PELGAISTI_OK && k < made.served; k++)
-        if (made.replies[k].kind == PELGAISTI_COMMITTED) keep_writes(it); /* a transaction behind it has written nothing yet */
+    const uint32_t count = status == PELGAISTI_OK ? pelgaisti_program_replies(&it->ran, &made, replies) : 0;
+    for (uint32_t k = 0; k < count; k++)
+        if (replies[k].kind == PELGAISTI_COMMITTED) keep_writes(it); /* a transaction behind it has written nothing yet */
     undo(it);
     status = pelgaisti_session_perform(&sessions[it->number - 1], &abort, UINT64_MAX, &answer);
     if (status != PELGAISTI_OK) return status;
@@ -173,16 +176,18 @@ static void get_lost_paying(client *it) {
     pelgaisti_program_answer answer;
     must(lock_account(it, 0), "lock", "nobody has it yet");
     add(it, 0, 20);
+    it->ran = next;
     must(pelgaisti_session_run(&sessions[it->number - 1], &next, 0, &answer) == PELGAISTI_NOT_SERVED, "run", "a program");
     pthread_exit(NULL);
 }
 
 /* Is lost with what it has written, its locks, and a call that it has published. */
 static void get_lost(client *it) {
-    const pelgaisti_call call = {PELGAISTI_LOCK, PELGAISTI_X, {2, {1, 1}}};
+    const pelgaisti_program one = {PELGAISTI_NOTHING, 1, PELGAISTI_IX, {PELGAISTI_LOCK, PELGAISTI_X, {2, {1, 1}}}}; /* a call alone */
     must(lock_account(it, 0), "lock", "nobody has it yet");
     add(it, 0, -30);
-    must(pelgaisti_session_publish(&sessions[it->number - 1], &call, NULL) == PELGAISTI_OK, "publish", "a call");
+    it->ran = one;
+    must(pelgaisti_session_publish(&sessions[it->number - 1], &one.last, NULL) == PELGAISTI_OK, "publish", "a call");
     sem_post(&is_ready);
     pthread_exit(NULL);
 }
@@ -222,14 +227,16 @@ static void *run(void *argument) {
 static void end_blocker(uint32_t waiting, uint32_t blocker) {
     pelgaisti_session *own = &sessions[OPERATOR - 1];
     pelgaisti_transaction open = {0, 0};
+    pelgaisti_book view = PELGAISTI_EMPTY;
     uint32_t list[SESSIONS] = {0};
-    uint64_t seen;
     size_t count = 0;
     for (; count != 1 || list[0] != blocker; sched_yield()) {
-        pelgaisti_status status = pelgaisti_session_blockers(own, waiting, list, SESSIONS, &count, &seen);
-        must(status == PELGAISTI_OK || status == PELGAISTI_ELSEWHERE, "blockers", pelgaisti_status_name(status));
+        must(pelgaisti_session_look(own, &view) == PELGAISTI_OK, "look", "it isn't made");
+        pelgaisti_status status = pelgaisti_book_blockers(&view, waiting, list, SESSIONS, &count);
+        if (status == PELGAISTI_OK) status = pelgaisti_book_transaction(&view, blocker, &open); /* of the same moment */
+        must(pelgaisti_look_end(own, &view) == PELGAISTI_OK, "look", "it doesn't end");
+        must(status == PELGAISTI_OK, "blockers", pelgaisti_status_name(status));
     }
-    while (pelgaisti_session_transaction(own, blocker, &open, &seen) == PELGAISTI_ELSEWHERE) sched_yield();
     ask_to_end(blocker, open.number);
 }
 
@@ -238,7 +245,9 @@ int main(void) {
     pelgaisti_book book = PELGAISTI_EMPTY;
     int lost_ended = 0, others_ended = 0;
 
-    pelgaisti_status status = pelgaisti_office_open_waking(sessions, SESSIONS, KEPT, &waker);
+    pelgaisti_options options = PELGAISTI_OPTIONS(SESSIONS);
+    options.waker = &waker;
+    pelgaisti_status status = pelgaisti_office_open(sessions, &options);
     must(status == PELGAISTI_OK, "open", pelgaisti_status_name(status));
     must(sem_init(&is_ready, 0, 0) == 0, "start", "there is no semaphore");
     for (uint32_t s = 1; s <= SESSIONS; s++) {

@@ -46,8 +46,9 @@ static void *work(void *session) {
 }
 
 int main(void) {
+    const pelgaisti_options options = PELGAISTI_OPTIONS(2);
     pthread_t threads[2];
-    if (pelgaisti_office_open_keeping(sessions, 2, 1024) != PELGAISTI_OK) return 1;
+    if (pelgaisti_office_open(sessions, &options) != PELGAISTI_OK) return 1;
     for (int k = 0; k < 2; k++)
         if (pthread_create(&threads[k], NULL, work, &sessions[k]) != 0) return 1;
     for (int k = 0; k < 2; k++) pthread_join(threads[k], NULL);

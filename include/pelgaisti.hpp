@@ -4,11 +4,11 @@
  *     pelgaisti::book book{2};                                                // a lock table for one thread
  *     auto reply = book.serve(1, {pelgaisti::op::begin});
  *     pelgaisti::office office{4};                                            // one that four threads share
- *     auto answer = office[0].perform({pelgaisti::op::lock, pelgaisti::mode::X, {7}});
+ *     auto locked = office[0].lock({7, 40}, pelgaisti::mode::X, 100ms);       // waits for it, with the intention lock above it
+ *     auto view = office[0].look();                                           // the lock table of one moment, to the end of the scope
  * A call that fails throws pelgaisti::error with its status, after which nothing has changed but what its comment says. Two statuses
- * are no failures and are told by the result: ELSEWHERE by serve, by a session's take_history, its questions and what it does with the
- * table's memory, NOT_SERVED by collect and what is made of it. Compiled with -fno-exceptions, a call that fails ends the program by
- * std::abort.
+ * are no failures and are told by the result: ELSEWHERE by serve and by a session's take_history, NOT_SERVED by collect and by calls with
+ * a bound on their turns. Compiled with -fno-exceptions, a call that fails ends the program by std::abort.
  * A compiler warns of a result that is ignored where it tells what the caller has then: a reply or an answer, which may be WAITING,
  * how many calls of a batch or a program were served, and entries of the history that are taken out of the library's memory.
  * pelgaisti.h says what each call does and asks of its caller.
@@ -41,8 +41,6 @@ namespace pelgaisti {
 using std::size_t, std::uint32_t, std::uint64_t;
 using entry = pelgaisti_entry;
 using waker = pelgaisti_waker;  // {wake, engine}: a function that may throw is no waker
-enum class seed : uint64_t {};  // seed{7}: of the hash of resources, in place of one that is drawn; no reply depends on it
-enum class telling : size_t {};  // telling{16}: how many of its newest deadlocks an office keeps, to tell of them
 enum class mode : uint32_t { NL = 0, IS = 1, IX = 3, S = 5, SIX = 7, X = 15, U = 13 };
 enum class op : uint32_t { begin = 1, lock, convert, poll, release, commit, abort, try_lock, withdraw, restart };
 enum class kind : uint32_t { began = 1, granted, waiting, deadlock, clear, released, committed, aborted, refused, withdrawn,
@@ -75,35 +73,40 @@ template <class Error> [[noreturn]] void fail(const Error &why) {
 }
 inline void check(pelgaisti_status status) { if (status != PELGAISTI_OK) fail(error(status)); }
 inline void check_version() { if (pelgaisti_version() != PELGAISTI_HEADER_VERSION) fail(other_version()); }
-// What a call writes to its last argument; and the list that it writes, of at most `room` items.
+// How a book or an office is opened. A number of sessions has all else by default:
+//     pelgaisti::options how{4};
+//     how.deadlocks = 16;
+struct options : pelgaisti_options {
+    options(size_t count) : pelgaisti_options(PELGAISTI_OPTIONS(count < UINT32_MAX ? static_cast<uint32_t>(count) : UINT32_MAX)) {}
+};
+// What a call writes to its last argument.
 template <class T, class Call> T made_by(Call call) {
     T made{};
     return check(call(&made)), made;
 }
-// Behind the call it asks for no memory: what was taken out of the library is in the list.
+// The list that a call writes, of at most `room` items. Behind the call it asks for no memory: what was taken out of the library is in the list.
 template <class T, class Call> std::vector<T> list_by(size_t room, Call call) {
     std::vector<T> list(room);
     list.resize(made_by<size_t>([&](auto *count) { return call(list.data(), count); }));
     return list;
 }
-// The whole list of a call that writes as much of it as there is room for, with how many items it has: made again until all fit. `call`
-// returns whether it wrote.
-template <class T, class Call> bool fill_list(std::vector<T> &list, Call call) {
-    list.resize(8);
-    for (size_t count = 0;; list.resize(count)) {
-        if (!call(list.data(), list.size(), &count)) return false;
-        if (count > list.size()) continue;
+// The whole list of a call that writes as much of it as there is room for, with how many items it has: made again until all fit.
+template <class T, class Call> std::vector<T> whole_list(Call call) {
+    std::vector<T> list(8);
+    for (size_t count = 0;;) {
+        check(call(list.data(), list.size(), &count));
+        const bool are_all = count <= list.size();
         list.resize(count);
-        return true;
+        if (are_all) return list;
     }
 }
-inline size_t most_of_a_page(size_t most) { return most < PELGAISTI_MAX_LOCKS ? most : PELGAISTI_MAX_LOCKS; }
 // A path of 1 to PELGAISTI_LEVELS numbers: written out, from where they lie one behind another, or what has them so, as an array, a
 // vector or a span. With another count of numbers the calls fail with NO_SUCH_LEVEL.
 struct resource : pelgaisti_resource {
     resource(std::initializer_list<uint32_t> path) : resource(path.begin(), path.size()) {}
     template <class Path, class = std::enable_if_t<std::is_convertible_v<decltype(std::data(std::declval<const Path &>())), const uint32_t *>>>
     resource(const Path &path) : resource(std::data(path), std::size(path)) {}
+    resource(const pelgaisti_resource &it) : pelgaisti_resource(it) {}
     resource(const uint32_t *path, size_t count) : pelgaisti_resource{} {
         for (; level < count && level <= PELGAISTI_LEVELS; level++)
             if (level < PELGAISTI_LEVELS) numbers[level] = path[level];
@@ -141,7 +144,7 @@ struct dump {
     std::string text() const {
         std::string all;
         char line[128];
-        auto at = pelgaisti_dump_begin();
+        pelgaisti_dumping at = PELGAISTI_DUMPING;
         while (const uint32_t length = pelgaisti_dump_line(rows.data(), rows.size(), &at, line, sizeof line)) all.append(line, length);
         return all;
     }
@@ -168,18 +171,21 @@ struct program : pelgaisti_program {
         return made;
     }
 };
-// The answer to a program: the replies to the calls that were served, the first of which has the place `place()` in the history.
-class [[nodiscard]] program_answer {
-    pelgaisti_program_answer it_;
-public:
-    explicit program_answer(const pelgaisti_program_answer &it) : it_(it) {}
-    uint64_t place() const { return it_.place; }
-    size_t size() const { return it_.served; }
-    // The reply to the call at this index, which is less than size().
-    pelgaisti::reply operator[](size_t index) const { return pelgaisti::reply(it_.replies[index]); }
-    // Whether it stopped at the last reply, which is waiting, deadlock or refused; whether memory was refused to the call behind it.
-    bool stopped() const { return it_.stop != 0; }
-    bool starved() const { return it_.starved != 0; }
+// The answer to a program, with the fields of pelgaisti_program_answer.
+struct [[nodiscard]] program_answer : pelgaisti_program_answer {
+    explicit program_answer(const pelgaisti_program_answer &it) : pelgaisti_program_answer(it) {}
+    bool stopped() const { return stop != 0; }
+    bool stopped_at(kind it) const { return stop == static_cast<uint32_t>(it); }
+    // Why the last call was refused, where it stopped at that.
+    refusal why() const { return static_cast<refusal>(values[served - 1]); }
+    // The replies one by one, of the program that was answered.
+    std::vector<reply> replies(const program &calls) const {
+        pelgaisti_reply list[PELGAISTI_CALLS];
+        const uint32_t count = pelgaisti_program_replies(&calls, this, list);
+        std::vector<reply> all;
+        for (uint32_t k = 0; k < count; ++k) all.emplace_back(list[k]);
+        return all;
+    }
 };
 // A deadlock, as it was before its victim was doomed: the place in the history of the call that made it, the session of that call, and
 // the sessions on the cycle: the victim first, each of which waits for the next one, and the last for the victim. A member's `held` is the
@@ -195,67 +201,20 @@ inline std::string to_string(const deadlock &it) {
 template <class Traits> std::basic_ostream<char, Traits> &operator<<(std::basic_ostream<char, Traits> &out, const deadlock &it) {
     return out << to_string(it).c_str();
 }
-// The newest deadlocks, `most` at most, that a call writes, with their members: it is made again with more room until all fit. `call` returns
-// whether it wrote.
-template <class Call> bool tell_deadlocks(std::vector<deadlock> &told, size_t most, Call call) {
-    std::vector<pelgaisti_deadlock> list((std::min)(most, size_t{8}));
-    std::vector<member> members(4 * list.size());
-    for (size_t count = 0, all = 0;; list.resize(count), members.resize((std::max)(all, 4 * count))) {
-        if (!call(list.data(), list.size(), &count, members.data(), members.size(), &all)) return false;
-        count = (std::min)(count, most);
-        if (count > list.size() || all > members.size()) continue;
-        const member *next = members.data();
-        for (size_t k = 0; k < count; next += list[k++].members)
-            told.push_back({list[k].place, list[k].session, {next, next + list[k].members}});
-        return true;
-    }
-}
-// The answer to a question about the lock table of an open office: what the state had behind the first `length` calls.
-template <class T> struct seen { T found; uint64_t length; };
 struct pinned { pinned() = default; pinned(const pinned &) = delete; pinned &operator=(const pinned &) = delete; };
-class book : pinned {
+// A lock table that may be asked: a book, or the view of a session that looks.
+class table : pinned {
 public:
-    explicit book(uint32_t sessions) { check_version(), check(pelgaisti_book_open(&handle_, sessions)); }
-    book(uint32_t sessions, seed by) {
-        check_version(), check(pelgaisti_book_open_seeded(&handle_, sessions, static_cast<uint64_t>(by)));
-    }
-    ~book() { static_cast<void>(pelgaisti_book_close(&handle_)); }
-    pelgaisti::reply serve(uint32_t session, const pelgaisti::call &call) {
-        return reply(made_by<pelgaisti_reply>([&](auto *made) { return pelgaisti_book_serve(&handle_, session, &call, made); }));
-    }
-    // Serves the calls in order and makes each its entry of the history; how many were served: fewer if memory was refused.
-    [[nodiscard]] size_t serve_batch(std::vector<entry> &calls) {
-        return made_by<size_t>([&](auto *n) { return pelgaisti_book_serve_batch(&handle_, calls.data(), calls.size(), n); });
-    }
-    // Runs a program: its calls one after another, up to the first reply at which it stops. Adds the sessions whose wait one of them has
-    // ended to `ended`, each once.
-    program_answer run(uint32_t session, const program &calls, std::vector<uint32_t> &ended) {
-        uint32_t list[all];
-        size_t count = 0;
-        pelgaisti_program_answer made{};
-        ended.reserve(ended.size() + all);
-        check(pelgaisti_book_run(&handle_, session, &calls, &made, list, all, &count));
-        ended.insert(ended.end(), list, list + count);
-        return program_answer(made);
-    }
-    bool waits_for(uint32_t session, uint32_t other) {
-        return made_by<uint32_t>([&](auto *edge) { return pelgaisti_book_waits_for(&handle_, session, other, edge); }) != 0;
-    }
-    // The sessions for which the session waits directly, by number; and those whose wait the last call, batch, path or program has ended.
+    // The sessions for which the session waits directly, by number.
     std::vector<uint32_t> blockers(uint32_t session) {
-        return list_by<uint32_t>(all, [&](auto *at, auto *n) { return pelgaisti_book_blockers(&handle_, session, at, all, n); });
+        return whole_list<uint32_t>([&](auto *at, size_t room, auto *n) { return pelgaisti_book_blockers(&handle_, session, at, room, n); });
     }
-    std::vector<uint32_t> ended() {
-        return list_by<uint32_t>(all, [&](auto *at, auto *n) { return pelgaisti_book_ended(&handle_, at, all, n); });
+    mode held(uint32_t session, const resource &on) {
+        return mode(made_by<uint32_t>([&](auto *code) { return pelgaisti_book_held(&handle_, session, &on, code); }));
     }
-    mode held(uint32_t session, const pelgaisti::resource &resource) {
-        return mode(made_by<uint32_t>([&](auto *code) { return pelgaisti_book_held(&handle_, session, &resource, code); }));
-    }
-    std::vector<pelgaisti_holder> holders(const pelgaisti::resource &resource) {
-        std::vector<pelgaisti_holder> list;
-        fill_list(list, [&](auto *at, size_t room, auto *count) {
-            return check(pelgaisti_book_holders(&handle_, &resource, at, room, count)), true; });
-        return list;
+    std::vector<pelgaisti_holder> holders(const resource &on) {
+        return whole_list<pelgaisti_holder>([&](auto *at, size_t room, auto *count) {
+            return pelgaisti_book_holders(&handle_, &on, at, room, count); });
     }
     // The session's open transaction, with number 0 if it has none; and its waiting request, with kind 0 if it doesn't wait.
     pelgaisti_transaction transaction(uint32_t session) {
@@ -264,56 +223,92 @@ public:
     pelgaisti_claim request(uint32_t session) {
         return made_by<pelgaisti_claim>([&](auto *made) { return pelgaisti_book_request(&handle_, session, made); });
     }
-    // All locks and waiting requests, resource by resource.
-    std::vector<pelgaisti_claim> locks() {
-        std::vector<pelgaisti_claim> list;
-        fill_list(list, [&](auto *at, size_t room, auto *count) {
-            return check(pelgaisti_book_locks(&handle_, 0, at, room, count)), true; });
-        return list;
-    }
-    // Keeps the newest `most` deadlocks from now on, and takes the memory for them; else a book keeps none. SERVED: it has served calls.
-    void keep_deadlocks(size_t most) { check(pelgaisti_book_keep_deadlocks(&handle_, most)); }
-    // The newest `most` of the deadlocks that are kept, oldest first.
-    std::vector<deadlock> deadlocks(size_t most = SIZE_MAX) {
-        std::vector<deadlock> told;
-        static_cast<void>(tell_deadlocks(told, most, [&](auto *at, size_t room, auto *n, auto *members, size_t members_room, auto *m) {
-            return check(pelgaisti_book_deadlocks(&handle_, at, room, n, members, members_room, m)), true; }));
-        return told;
-    }
-    // How many locks the session holds; and a page of them, up to `most`: the first ones, those on resources behind `after`, or those behind the
-    // last lock of another page of the same session. Fewer than `most` are the last page.
+    // How many locks the session holds; and a page of them, up to `most`: the first ones, or those on resources behind `after`. Fewer than
+    // `most` are the last page.
     size_t locks_held(uint32_t session) {
         return made_by<size_t>([&](auto *count) { return pelgaisti_book_locks_held(&handle_, session, count); });
     }
-    std::vector<pelgaisti_claim> locks_of(uint32_t session, size_t most) { return page_of(session, pelgaisti_resource{}, most); }
-    std::vector<pelgaisti_claim> locks_of(uint32_t session, const pelgaisti::resource &after, size_t most) {
-        return page_of(session, after, most);
+    std::vector<pelgaisti_claim> locks_of(uint32_t session, size_t most, const resource &after = {}) {
+        most = (std::min)(most, size_t{PELGAISTI_MAX_LOCKS});
+        return list_by<pelgaisti_claim>(most, [&](auto *at, auto *n) {
+            return pelgaisti_book_locks_of(&handle_, session, &after, at, most, n); });
     }
-    std::vector<pelgaisti_claim> locks_behind(const pelgaisti_claim &last, size_t most) { return page_of(last.session, last.resource, most); }
-    // The whole state at one moment, with its place in the history: a row for each open transaction, lock and waiting request.
+    // The whole state, with its place in the history: a row for each open transaction, lock and waiting request.
     pelgaisti::dump dump() {
-        pelgaisti::dump made{0, {}};
-        fill_list(made.rows, [&](auto *at, size_t room, auto *count) {
-            return check(pelgaisti_book_dump(&handle_, at, room, count, &made.place)), true; });
-        return made;
+        uint64_t place = 0;
+        auto rows = whole_list<pelgaisti_claim>([&](auto *at, size_t room, auto *count) {
+            return pelgaisti_book_dump(&handle_, at, room, count, &place); });
+        return {place, std::move(rows)};
     }
     // The counters of the history: how many calls there were, how they were answered, and how waits ended.
     pelgaisti::counts counts() { return made_by<pelgaisti::counts>([&](auto *made) { return pelgaisti_book_counts(&handle_, made); }); }
-    // The gauges: how many transactions are open, locks are held and requests wait, and the longest queue.
+    // How many transactions are open, locks are held and requests wait, the longest queue, and the idle cells.
     pelgaisti_gauges gauges() { return made_by<pelgaisti_gauges>([&](auto *made) { return pelgaisti_book_gauges(&handle_, made); }); }
-    // Makes room, so that neither the table nor the history grows in a call until so many more resources and entries have come; gives back
-    // memory that isn't in use; counts the cells that are kept and serve no resource.
-    void reserve(size_t resources, size_t entries) { check(pelgaisti_book_reserve(&handle_, resources, entries)); }
-    void shrink() { check(pelgaisti_book_shrink(&handle_)); }
-    size_t idle_cells() { return made_by<size_t>([&](auto *cells) { return pelgaisti_book_idle_cells(&handle_, cells); }); }
-    uint64_t length() { return made_by<uint64_t>([&](auto *n) { return pelgaisti_book_length(&handle_, n); }); }
-    uint64_t first_kept() { return made_by<uint64_t>([&](auto *place) { return pelgaisti_book_first_kept(&handle_, place); }); }
-    void keep_at_most(uint64_t bound) { check(pelgaisti_book_keep_at_most(&handle_, bound)); }
+    // What the passes of the office have served; 0 of a book.
+    pelgaisti_pass_counts passes() {
+        return made_by<pelgaisti_pass_counts>([&](auto *made) { return pelgaisti_book_passes(&handle_, made); });
+    }
+    // The newest `most` of the deadlocks that are kept, oldest first. The call is made again with more room until all fit.
+    std::vector<deadlock> deadlocks(size_t most = SIZE_MAX) {
+        std::vector<pelgaisti_deadlock> list((std::min)(most, size_t{8}));
+        std::vector<member> members(4 * list.size());
+        for (size_t count = 0, all_members = 0;; list.resize(count), members.resize((std::max)(all_members, 4 * count))) {
+            check(pelgaisti_book_deadlocks(&handle_, list.data(), list.size(), &count, members.data(), members.size(), &all_members));
+            count = (std::min)(count, most);
+            if (count > list.size() || all_members > members.size()) continue;
+            std::vector<deadlock> told;
+            const member *next = members.data();
+            for (size_t k = 0; k < count; next += list[k++].members)
+                told.push_back({list[k].place, list[k].session, {next, next + list[k].members}});
+            return told;
+        }
+    }
+    // How many entries the history has, with those that were let go; and the place of the first one that is kept.
+    uint64_t length() { return places().second; }
+    uint64_t first_kept() { return places().first; }
     // Up to `room` entries of the history from the place `first` on.
     std::vector<entry> history(uint64_t first, size_t room) {
         room = room_for(first, room);
         return list_by<entry>(room, [&](auto *at, auto *n) { return pelgaisti_book_history(&handle_, first, at, room, n); });
     }
+    // Makes room, so that neither the table nor the history grows in a call until so many more resources and entries have come; gives back
+    // memory that isn't in use.
+    void reserve(size_t resources, size_t entries) { check(pelgaisti_book_reserve(&handle_, resources, entries)); }
+    void shrink() { check(pelgaisti_book_shrink(&handle_)); }
+protected:
+    table() = default;
+    ~table() = default;
+    std::pair<uint64_t, uint64_t> places() {
+        std::pair<uint64_t, uint64_t> made;
+        return check(pelgaisti_book_length(&handle_, &made.first, &made.second)), made;
+    }
+    size_t room_for(uint64_t first, size_t room) {
+        const uint64_t end = length();
+        return first >= end ? 0 : end - first < room ? end - first : room;
+    }
+    pelgaisti_book handle_ = PELGAISTI_EMPTY;
+};
+
+class book : public table {
+public:
+    explicit book(const options &how) { check_version(), check(pelgaisti_book_open(&handle_, &how)); }
+    ~book() { static_cast<void>(pelgaisti_book_close(&handle_)); }
+    pelgaisti::reply serve(uint32_t session, const pelgaisti::call &call) {
+        return reply(made_by<pelgaisti_reply>([&](auto *made) { return pelgaisti_book_serve(&handle_, session, &call, made); }));
+    }
+    // Serves the calls in order and makes each its entry of the history; how many were served: fewer if memory was refused.
+    [[nodiscard]] size_t serve_batch(std::vector<entry> &calls) {
+        return made_by<size_t>([&](auto *n) { return pelgaisti_book_serve_batch(&handle_, calls.data(), calls.size(), n); });
+    }
+    // Runs a program: its calls one after another, up to the first reply at which it stops.
+    program_answer run(uint32_t session, const program &calls) {
+        return program_answer(made_by<pelgaisti_program_answer>([&](auto *made) { return pelgaisti_book_run(&handle_, session, &calls, made); }));
+    }
+    // The sessions whose wait the last call, batch or program has ended.
+    std::vector<uint32_t> ended() {
+        return whole_list<uint32_t>([&](auto *at, size_t room, auto *n) { return pelgaisti_book_ended(&handle_, at, room, n); });
+    }
+    void keep_at_most(uint64_t bound) { check(pelgaisti_book_keep_at_most(&handle_, bound)); }
     // Up to `room` of the oldest entries that are kept, which the book lets go of. The first was at first_kept() before.
     [[nodiscard]] std::vector<entry> take_history(size_t room) {
         uint64_t first = first_kept();
@@ -323,17 +318,16 @@ public:
 private:
     friend class office;
     book() = default;
-    size_t room_for(uint64_t first, size_t room) {
-        const uint64_t end = length();
-        return first >= end ? 0 : end - first < room ? end - first : room;
-    }
-    std::vector<pelgaisti_claim> page_of(uint32_t session, const pelgaisti_resource &after, size_t most) {
-        most = most_of_a_page(most);
-        return list_by<pelgaisti_claim>(most, [&](auto *at, auto *n) {
-            return pelgaisti_book_locks_of(&handle_, session, &after, at, most, n); });
-    }
-    enum : size_t { all = PELGAISTI_MAX_SESSIONS };
-    pelgaisti_book handle_ = PELGAISTI_EMPTY;
+};
+
+// The look of a session, which ends where this goes out of scope; as a part of an expression where that ends. Until then the session is
+// closed, and others wait for the table: a call of another session in the same scope, or expression, would wait for ever.
+class [[nodiscard]] view : public table {
+    friend class session;
+    pelgaisti_session *const of_;
+    explicit view(pelgaisti_session *of) : of_(of) { check(pelgaisti_session_look(of_, &handle_)); }
+public:
+    ~view() { static_cast<void>(pelgaisti_look_end(of_, &handle_)); }
 };
 
 class session : pinned {
@@ -346,17 +340,22 @@ public:
     }
     // The answer to the pending call, or nothing if the session knows none yet.
     [[nodiscard]] std::optional<answer> collect() { return told([&](auto *found) { return pelgaisti_session_collect(&handle_, found); }); }
-    // Performs the call at once, or publishes, serves and collects, at most `turns` times. Nothing, or NO_MEMORY: resume() goes on.
-    [[nodiscard]] std::optional<answer> perform(const pelgaisti::call &call, uint64_t turns = UINT64_MAX) {
+    // Performs the call at once, or publishes, serves and collects: until there is an answer, or at most `turns` times. Nothing, or
+    // NO_MEMORY: resume() goes on.
+    answer perform(const pelgaisti::call &call) { return *perform(call, UINT64_MAX); }
+    [[nodiscard]] std::optional<answer> perform(const pelgaisti::call &call, uint64_t turns) {
         return told([&](auto *found) { return pelgaisti_session_perform(&handle_, &call, turns, found); });
     }
-    [[nodiscard]] std::optional<answer> resume(uint64_t turns = UINT64_MAX) {
+    answer resume() { return *resume(UINT64_MAX); }
+    [[nodiscard]] std::optional<answer> resume(uint64_t turns) {
         return told([&](auto *found) { return pelgaisti_session_perform(&handle_, nullptr, turns, found); });
     }
-    // Runs a program at once, or publishes, serves and collects, at most `turns` times: no other session's call comes between its calls.
-    // Nothing, or NO_MEMORY: resume_program() goes on. So it does with a pending call, which is a program of one.
-    [[nodiscard]] std::optional<program_answer> run(const program &calls, uint64_t turns = UINT64_MAX) { return run_by(&calls, turns); }
-    [[nodiscard]] std::optional<program_answer> resume_program(uint64_t turns = UINT64_MAX) { return run_by(nullptr, turns); }
+    // Runs a program so: no other session's call comes between its calls. Nothing, or NO_MEMORY: resume_program() goes on. So it does with a
+    // pending call, which is a program of one.
+    program_answer run(const program &calls) { return *run_by(&calls, UINT64_MAX); }
+    [[nodiscard]] std::optional<program_answer> run(const program &calls, uint64_t turns) { return run_by(&calls, turns); }
+    program_answer resume_program() { return *run_by(nullptr, UINT64_MAX); }
+    [[nodiscard]] std::optional<program_answer> resume_program(uint64_t turns) { return run_by(nullptr, turns); }
     // Locks a resource, and its ancestors before it, and waits for each lock: without end; or at most `within` in all, rounded up to
     // milliseconds, and with 0 or less not at all. NO_MEMORY: wait() goes on, and behind its granted the same call is made again.
     locked lock(const resource &on, mode in) { return lock_for(on, in, PELGAISTI_FOREVER); }
@@ -368,101 +367,26 @@ public:
     template <class Rep, class Period> locked wait(const std::chrono::duration<Rep, Period> &within) {
         return wait_for(milliseconds_of(within));
     }
+    // Waits for the lock table, and looks.
+    [[nodiscard]] pelgaisti::view look() { return pelgaisti::view(&handle_); }
+    // How many entries of the history the session knows.
+    uint64_t seen() { return made_by<uint64_t>([&](auto *n) { return pelgaisti_session_seen(&handle_, n); }); }
     // Takes up to `room` of the oldest entries that are kept, from the place `first` on; nothing if another session has the table.
     [[nodiscard]] std::optional<std::vector<entry>> take_history(size_t room, uint64_t &first) {
         if (room > 256) {  // no more room than for what is kept: takes nothing, which tells where it begins and ends
             size_t none = 0;
-            uint64_t begin = 0, end = 0;
+            uint64_t begin = 0;
             if (elsewhere(pelgaisti_session_take_history(&handle_, &begin, nullptr, 0, &none))) return std::nullopt;
-            check(pelgaisti_session_seen(&handle_, &end));
-            if (end - begin < room) room = end - begin;
+            room = (std::min)(room, size_t{seen() - begin});
         }
         std::vector<entry> list(room);
         if (elsewhere(pelgaisti_session_take_history(&handle_, &first, list.data(), room, &room))) return std::nullopt;
         list.resize(room);
         return std::optional(std::move(list));
     }
-    // Questions about the lock table of the open office. Each tries once for it, and serves no call; nothing if another session has
-    // the table. They answer as those of a book.
-    std::optional<seen<mode>> held(uint32_t whose, const resource &on) {
-        const auto made = asked<uint32_t>([&](auto *code, auto *n) { return pelgaisti_session_held(&handle_, whose, &on, code, n); });
-        return made ? std::optional(seen<mode>{mode(made->found), made->length}) : std::nullopt;
-    }
-    std::optional<seen<pelgaisti_transaction>> transaction(uint32_t whose) {
-        return asked<pelgaisti_transaction>([&](auto *it, auto *n) { return pelgaisti_session_transaction(&handle_, whose, it, n); });
-    }
-    std::optional<seen<pelgaisti_claim>> request(uint32_t whose) {
-        return asked<pelgaisti_claim>([&](auto *it, auto *n) { return pelgaisti_session_request(&handle_, whose, it, n); });
-    }
-    std::optional<seen<bool>> waits_for(uint32_t whose, uint32_t other) {
-        const auto made = asked<uint32_t>([&](auto *it, auto *n) { return pelgaisti_session_waits_for(&handle_, whose, other, it, n); });
-        return made ? std::optional(seen<bool>{made->found != 0, made->length}) : std::nullopt;
-    }
-    std::optional<seen<std::vector<pelgaisti_holder>>> holders(const resource &on) {
-        return listed<pelgaisti_holder>([&](auto *at, size_t room, auto *count, auto *n) {
-            return pelgaisti_session_holders(&handle_, &on, at, room, count, n); });
-    }
-    std::optional<seen<std::vector<uint32_t>>> blockers(uint32_t whose) {
-        return listed<uint32_t>([&](auto *at, size_t room, auto *count, auto *n) {
-            return pelgaisti_session_blockers(&handle_, whose, at, room, count, n); });
-    }
-    std::optional<seen<std::vector<pelgaisti_claim>>> locks() {
-        return listed<pelgaisti_claim>([&](auto *at, size_t room, auto *count, auto *n) {
-            return pelgaisti_session_locks(&handle_, 0, at, room, count, n); });
-    }
-    // The newest `most` deadlocks, oldest first, of those that the office was told to keep.
-    std::optional<seen<std::vector<deadlock>>> deadlocks(size_t most = SIZE_MAX) {
-        seen<std::vector<deadlock>> made{{}, 0};
-        const bool is_told = tell_deadlocks(made.found, most, [&](auto *at, size_t room, auto *n, auto *members, size_t members_room, auto *m) {
-            return !elsewhere(pelgaisti_session_deadlocks(&handle_, at, room, n, members, members_room, m, &made.length)); });
-        return is_told ? std::optional(std::move(made)) : std::nullopt;
-    }
-    std::optional<seen<size_t>> locks_held(uint32_t whose) {
-        return asked<size_t>([&](auto *count, auto *n) { return pelgaisti_session_locks_held(&handle_, whose, count, n); });
-    }
-    std::optional<seen<std::vector<pelgaisti_claim>>> locks_of(uint32_t whose, size_t most) {
-        return page_of(whose, pelgaisti_resource{}, most);
-    }
-    std::optional<seen<std::vector<pelgaisti_claim>>> locks_of(uint32_t whose, const resource &after, size_t most) {
-        return page_of(whose, after, most);
-    }
-    std::optional<seen<std::vector<pelgaisti_claim>>> locks_behind(const pelgaisti_claim &last, size_t most) {
-        return page_of(last.session, last.resource, most);
-    }
-    // The whole state at one moment, with its place in the history, or nothing if another session has the table.
-    std::optional<pelgaisti::dump> dump() {
-        auto made = listed<pelgaisti_claim>([&](auto *at, size_t room, auto *count, auto *n) {
-            return pelgaisti_session_dump(&handle_, at, room, count, n); });
-        return made ? std::optional(pelgaisti::dump{made->length, std::move(made->found)}) : std::nullopt;
-    }
-    // The counters of the history up to that moment, or nothing if another session has the table.
-    std::optional<seen<pelgaisti::counts>> counts() {
-        return asked<pelgaisti::counts>([&](auto *made, auto *n) { return pelgaisti_session_counts(&handle_, made, n); });
-    }
-    // The gauges at that moment, or nothing if another session has the table.
-    std::optional<seen<pelgaisti_gauges>> gauges() {
-        return asked<pelgaisti_gauges>([&](auto *made, auto *n) { return pelgaisti_session_gauges(&handle_, made, n); });
-    }
-    // What the passes of the office have served up to that moment, or nothing if another session has the table.
-    std::optional<seen<pelgaisti_pass_counts>> passes() {
-        return asked<pelgaisti_pass_counts>([&](auto *made, auto *n) { return pelgaisti_session_passes(&handle_, made, n); });
-    }
     // From now on a pass in a whole call of this session serves within this bound, as pelgaisti_session_bound_passes says.
     void bound_passes(uint32_t calls, uint32_t locks, uint32_t rounds) {
         check(pelgaisti_session_bound_passes(&handle_, calls, locks, rounds));
-    }
-    // What a book's do with the memory of the lock table, each by one try for it; how many calls the history had, or nothing if another
-    // session has the table.
-    std::optional<uint64_t> reserve(size_t resources, size_t entries) {
-        uint64_t length = 0;
-        return elsewhere(pelgaisti_session_reserve(&handle_, resources, entries, &length)) ? std::nullopt : std::optional(length);
-    }
-    std::optional<uint64_t> shrink() {
-        uint64_t length = 0;
-        return elsewhere(pelgaisti_session_shrink(&handle_, &length)) ? std::nullopt : std::optional(length);
-    }
-    std::optional<seen<size_t>> idle_cells() {
-        return asked<size_t>([&](auto *cells, auto *n) { return pelgaisti_session_idle_cells(&handle_, cells, n); });
     }
     void hear(session &other) { check(pelgaisti_session_hear(&handle_, &other.handle_)); }
     void retire() { check(pelgaisti_session_retire(&handle_)); }
@@ -470,36 +394,17 @@ private:
     friend class office;
     session() = default;
     static bool elsewhere(pelgaisti_status status) { return status == PELGAISTI_ELSEWHERE || (check(status), false); }
-    template <class T, class Call> static std::optional<seen<T>> asked(Call call) {
-        seen<T> made{};
-        return elsewhere(call(&made.found, &made.length)) ? std::nullopt : std::optional(made);
-    }
-    template <class T, class Call> static std::optional<seen<std::vector<T>>> listed(Call call) {
-        seen<std::vector<T>> made{{}, 0};
-        const bool is_told = fill_list(made.found, [&](auto *at, size_t room, auto *count) {
-            return !elsewhere(call(at, room, count, &made.length)); });
-        return is_told ? std::optional(std::move(made)) : std::nullopt;
-    }
-    std::optional<seen<std::vector<pelgaisti_claim>>> page_of(uint32_t whose, const pelgaisti_resource &after, size_t most) {
-        most = most_of_a_page(most);
-        seen<std::vector<pelgaisti_claim>> made{std::vector<pelgaisti_claim>(most), 0};
-        if (elsewhere(pelgaisti_session_locks_of(&handle_, whose, &after, made.found.data(), most, &most, &made.length))) return std::nullopt;
-        made.found.resize(most);
-        return std::optional(std::move(made));
-    }
-    static locked waited(pelgaisti_status status, const pelgaisti_lock_answer &it) {
-        if (status < PELGAISTI_VICTIM) check(status);
+    template <class Call> static locked waited(Call call) {
+        pelgaisti_lock_answer it{};
+        const pelgaisti_status status = call(&it);
+        if (status < PELGAISTI_VICTIM || status > PELGAISTI_DENIED) check(status);
         return {static_cast<outcome>(status), it.level, static_cast<refusal>(it.why), it.place};
     }
     locked lock_for(const resource &on, mode in, uint64_t timeout_ms) {
-        pelgaisti_lock_answer made{};
-        const auto status = pelgaisti_session_lock(&handle_, &on, static_cast<uint32_t>(in), timeout_ms, &made);
-        return waited(status, made);
+        return waited([&](auto *it) { return pelgaisti_session_lock(&handle_, &on, static_cast<uint32_t>(in), timeout_ms, it); });
     }
     locked wait_for(uint64_t timeout_ms) {
-        pelgaisti_lock_answer made{};
-        const auto status = pelgaisti_session_wait(&handle_, timeout_ms, &made);
-        return waited(status, made);
+        return waited([&](auto *it) { return pelgaisti_session_wait(&handle_, timeout_ms, it); });
     }
     template <class Call> static std::optional<answer> told(Call call) {
         pelgaisti_answer found{};
@@ -533,7 +438,7 @@ using owned_session = std::unique_ptr<session, goes_back>;
 // its sessions are joined before. All its calls but close() may be made by several threads at once.
 class office : pinned {
     enum class place : unsigned char { fresh, owned, back };
-    const pelgaisti::waker waker_{nullptr, nullptr};
+    const pelgaisti::waker waker_;
     std::unique_ptr<session[]> sessions_;
     size_t count_, handed_in_ = 0;
     // of each session where it is, which the mutex guards, and the newest transaction that somebody has asked to end, or 0
@@ -541,27 +446,13 @@ class office : pinned {
     std::unique_ptr<place[]> places_{new place[count_]()};
     std::unique_ptr<std::atomic<uint64_t>[]> asked_{new std::atomic<uint64_t>[count_]()};
 public:
-    // Of the history at most the newest `bound` entries are kept in memory.
-    explicit office(size_t sessions, uint64_t bound = UINT64_MAX) : sessions_(closed(sessions)), count_(sessions) {
-        check(pelgaisti_office_open_keeping(&sessions_[0].handle_, sessions, bound));
-    }
-    // An office whose engine sleeps by its own means while it waits for a lock: each call of its sessions that makes a pass calls the
-    // waker, of which the office keeps a copy, for each session whose wait the pass has ended. ask_to_end calls it, too.
-    office(size_t sessions, const pelgaisti::waker &wakes, uint64_t bound = UINT64_MAX)
-        : waker_(wakes), sessions_(closed(sessions)), count_(sessions) {
-        check(pelgaisti_office_open_waking(&sessions_[0].handle_, sessions, bound, &waker_));
-    }
-    // The same with a seed; a waker whose function is null is none.
-    office(size_t sessions, seed by, const pelgaisti::waker &wakes = {nullptr, nullptr}, uint64_t bound = UINT64_MAX)
-        : waker_(wakes), sessions_(closed(sessions)), count_(sessions) {
-        const pelgaisti::waker *const used = waker_.wake != nullptr ? &waker_ : nullptr;
-        check(pelgaisti_office_open_seeded(&sessions_[0].handle_, sessions, bound, used, static_cast<uint64_t>(by)));
-    }
-    // An office that keeps its newest deadlocks, for its sessions' deadlocks() to tell; a waker whose function is null is none.
-    office(size_t sessions, telling deadlocks, const pelgaisti::waker &wakes = {nullptr, nullptr}, uint64_t bound = UINT64_MAX)
-        : waker_(wakes), sessions_(closed(sessions)), count_(sessions) {
-        const pelgaisti::waker *const used = waker_.wake != nullptr ? &waker_ : nullptr;
-        check(pelgaisti_office_open_telling(&sessions_[0].handle_, sessions, bound, used, static_cast<size_t>(deadlocks)));
+    // Keeps a copy of the waker of the options, for an engine that sleeps by its own means while it waits for a lock. ask_to_end calls it,
+    // too.
+    explicit office(const options &how)
+        : waker_(how.waker ? *how.waker : pelgaisti::waker{nullptr, nullptr}), sessions_(closed(how.sessions)), count_(how.sessions) {
+        options own = how;
+        if (own.waker) own.waker = &waker_;
+        check(pelgaisti_office_open(&sessions_[0].handle_, &own));
     }
     ~office() {
         pelgaisti_session *const first = &sessions_[0].handle_;
@@ -616,15 +507,17 @@ public:
         return transaction != 0 && asked_of(whose).load() == transaction;
     }
     // Closes the office, and gives the lock table with the one history, and with what is open or waits. MISSING: an owner has one of its
-    // sessions. PENDING: one of them has a call pending. With both nothing has changed. NO_MEMORY: some sessions may be closed already,
-    // and another close goes on.
+    // sessions. PENDING: one of them has a call pending. CLOSED: one of them looks. With these nothing has changed. NO_MEMORY: some
+    // sessions may be closed already, and another close goes on.
     std::unique_ptr<book> close() {
         std::unique_ptr<book> made(new book);
         pelgaisti_answer unread;
         if (std::lock_guard<std::mutex> lock(guard_); how_many(place::owned) > 0) fail(error(PELGAISTI_MISSING));
-        for (size_t k = 0; k < count_; ++k)  // a look without turns changes nothing
-            if (pelgaisti_session_perform(&sessions_[k].handle_, nullptr, 0, &unread) == PELGAISTI_NOT_SERVED)
-                fail(error(PELGAISTI_PENDING));
+        for (size_t k = 0; k < count_; ++k) {  // to go on without turns changes nothing
+            const auto status = pelgaisti_session_perform(&sessions_[k].handle_, nullptr, 0, &unread);
+            if (status == PELGAISTI_NOT_SERVED || status == PELGAISTI_PENDING) fail(error(PELGAISTI_PENDING));
+            if (status == PELGAISTI_CLOSED && (k == 0 || k > handed_in_)) fail(error(PELGAISTI_CLOSED));
+        }
         for (; handed_in_ + 1 < count_; ++handed_in_)
             check(pelgaisti_session_hand_in(&sessions_[handed_in_ + 1].handle_, &sessions_[0].handle_));
         return check(pelgaisti_office_close(&sessions_[0].handle_, &made->handle_)), std::move(made);

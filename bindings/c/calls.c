@@ -9,16 +9,19 @@
 /* Addresses with the same note are a multiple of 32 GiB apart. */
 static inline uint32_t note_of(const void *handle) { return (uint32_t)((uintptr_t)handle >> 3); }
 
+/* By the first word of a handle: 1 means open, and 2 a book that is the view of a look. */
+static inline int is_in_use(const uint32_t *words) { return words[0] - 1 < 2; }
+
 /* Whether a handle, of a book or of a session, is open and isn't where it was opened. */
 static inline int is_astray(const void *handle) {
     const uint32_t *words = (const uint32_t *)handle;
-    return __builtin_expect(words && words[1] != note_of(handle) && words[0] == 1, 0);
+    return __builtin_expect(words && words[1] != note_of(handle) && is_in_use(words), 0);
 }
 
 /* Writes the note of an open handle, behind each call of the archive, which knows of none and may leave anything there. */
 static inline pelgaisti_status noting(void *handle, pelgaisti_status status) {
     uint32_t *words = (uint32_t *)handle;
-    if (words && words[0] == 1) words[1] = note_of(handle);
+    if (words && is_in_use(words)) words[1] = note_of(handle);
     return status;
 }
 
@@ -37,13 +40,17 @@ __attribute__((weak)) void AnnotateIgnoreReadsEnd(const char *file, int line);
    release. */
 enum { ORDERS_NOTHING = 0, RELEASES = 1, ACQUIRES = 2 };
 
-/* What stands for the words of the session's office: an address for its mark. Nothing is written there. */
-static void *words_of(pelgaisti_session *session) {
+/* What stands for the words of the office with this mark: an address. Nothing is written there. */
+static void *words_for(uint64_t mark) {
     static uint64_t words[1024];
+    return &words[mark % 1024];
+}
+
+static void *words_of(pelgaisti_session *session) {
     uint64_t mark = 0, *at = &mark;
     uint32_t number;
     pelgaisti_raw_session_mark(&session, &at, &number);
-    return &words[mark % 1024];
+    return words_for(mark);
 }
 
 /* A call uses the handle, unless it is NULL: two threads that use it without an order between them race. */
@@ -109,13 +116,9 @@ static inline pelgaisti_status listing(pelgaisti_status status, void *list, size
 /* What an export is given for an array of the caller's: where it is, and how many elements it has room for. */
 #define LIST(at, room) (&(pelgaisti_raw_list){(at), (room)})
 
-/* ---- The version, handles, and the calls of a path. ---- */
+/* ---- Functions without a handle. ---- */
 
 uint32_t pelgaisti_version(void) { return pelgaisti_raw_version(); }
-
-pelgaisti_book pelgaisti_empty_book(void) { return (pelgaisti_book)PELGAISTI_EMPTY; }
-
-pelgaisti_session pelgaisti_empty_session(void) { return (pelgaisti_session)PELGAISTI_EMPTY; }
 
 uint32_t pelgaisti_parent_mode(uint32_t mode) { return pelgaisti_raw_parent_mode(mode); }
 
@@ -125,14 +128,19 @@ pelgaisti_call pelgaisti_path_call(const pelgaisti_resource *resource, uint32_t 
     return call;
 }
 
+pelgaisti_options pelgaisti_default_options(uint32_t sessions) { return (pelgaisti_options)PELGAISTI_OPTIONS(sessions); }
+
 /* ---- Books. ---- */
 
-pelgaisti_status pelgaisti_book_open_seeded(pelgaisti_book *book, uint32_t sessions, uint64_t seed) {
-    return CALL(book, pelgaisti_raw_book_open(&book, sessions, seed));
-}
+/* The seed of the options, or one that is drawn. */
+static uint64_t seed_of(const pelgaisti_options *options) { return options->seed ? options->seed : draw_seed(); }
 
-pelgaisti_status pelgaisti_book_open(pelgaisti_book *book, uint32_t sessions) {
-    return pelgaisti_book_open_seeded(book, sessions, draw_seed());
+pelgaisti_status pelgaisti_book_open(pelgaisti_book *book, const pelgaisti_options *options) {
+    pelgaisti_options own;
+    if (!options) return is_astray(book) ? PELGAISTI_COPIED : PELGAISTI_NULL;
+    own = *options;
+    own.seed = seed_of(options);
+    return CALL(book, pelgaisti_raw_book_open(&book, &own));
 }
 
 pelgaisti_status pelgaisti_book_close(pelgaisti_book *book) {
@@ -156,10 +164,6 @@ pelgaisti_status pelgaisti_book_holders(pelgaisti_book *book, const pelgaisti_re
     return LISTING(list, room, count, CALL(book, pelgaisti_raw_book_holders(&book, &resource, LIST(list, room), &count)));
 }
 
-pelgaisti_status pelgaisti_book_waits_for(pelgaisti_book *book, uint32_t session, uint32_t other, uint32_t *edge) {
-    return WRITING(edge, CALL(book, pelgaisti_raw_book_waits_for(&book, session, other, &edge)));
-}
-
 pelgaisti_status pelgaisti_book_blockers(pelgaisti_book *book, uint32_t session, uint32_t *list, size_t room, size_t *count) {
     return LISTING(list, room, count, CALL(book, pelgaisti_raw_book_blockers(&book, session, LIST(list, room), &count)));
 }
@@ -170,10 +174,6 @@ pelgaisti_status pelgaisti_book_transaction(pelgaisti_book *book, uint32_t sessi
 
 pelgaisti_status pelgaisti_book_request(pelgaisti_book *book, uint32_t session, pelgaisti_claim *waiting) {
     return WRITING(waiting, CALL(book, pelgaisti_raw_book_request(&book, session, &waiting)));
-}
-
-pelgaisti_status pelgaisti_book_locks(pelgaisti_book *book, size_t first, pelgaisti_claim *list, size_t room, size_t *count) {
-    return LISTING(list, room, count, CALL(book, pelgaisti_raw_book_locks(&book, first, LIST(list, room), &count)));
 }
 
 pelgaisti_status pelgaisti_book_locks_held(pelgaisti_book *book, uint32_t session, size_t *count) {
@@ -201,17 +201,17 @@ pelgaisti_status pelgaisti_book_ended(pelgaisti_book *book, uint32_t *list, size
     return LISTING(list, room, count, CALL(book, pelgaisti_raw_book_ended(&book, LIST(list, room), &count)));
 }
 
-pelgaisti_status pelgaisti_book_length(pelgaisti_book *book, uint64_t *length) {
-    return WRITING(length, CALL(book, pelgaisti_raw_book_length(&book, &length)));
+pelgaisti_status pelgaisti_book_passes(pelgaisti_book *book, pelgaisti_pass_counts *passes) {
+    return WRITING(passes, CALL(book, pelgaisti_raw_book_passes(&book, &passes)));
+}
+
+pelgaisti_status pelgaisti_book_length(pelgaisti_book *book, uint64_t *first_kept, uint64_t *length) {
+    return WRITING(first_kept, WRITING(length, CALL(book, pelgaisti_raw_book_length(&book, &first_kept, &length))));
 }
 
 pelgaisti_status pelgaisti_book_history(pelgaisti_book *book, uint64_t first, pelgaisti_entry *entries, size_t room,
                                         size_t *count) {
     return LISTING(entries, room, count, CALL(book, pelgaisti_raw_book_history(&book, first, LIST(entries, room), &count)));
-}
-
-pelgaisti_status pelgaisti_book_first_kept(pelgaisti_book *book, uint64_t *first) {
-    return WRITING(first, CALL(book, pelgaisti_raw_book_first_kept(&book, &first)));
 }
 
 pelgaisti_status pelgaisti_book_keep_at_most(pelgaisti_book *book, uint64_t bound) {
@@ -222,10 +222,6 @@ pelgaisti_status pelgaisti_book_take_history(pelgaisti_book *book, uint64_t *fir
                                              size_t *count) {
     return WRITING(first, LISTING(entries, room, count,
                    CALL(book, pelgaisti_raw_book_take_history(&book, &first, LIST(entries, room), &count))));
-}
-
-pelgaisti_status pelgaisti_book_keep_deadlocks(pelgaisti_book *book, size_t most) {
-    return CALL(book, pelgaisti_raw_book_keep_deadlocks(&book, most));
 }
 
 pelgaisti_status pelgaisti_book_deadlocks(pelgaisti_book *book, pelgaisti_deadlock *list, size_t room, size_t *count,
@@ -243,14 +239,9 @@ pelgaisti_status pelgaisti_book_shrink(pelgaisti_book *book) {
     return CALL(book, pelgaisti_raw_book_shrink(&book));
 }
 
-pelgaisti_status pelgaisti_book_idle_cells(pelgaisti_book *book, size_t *cells) {
-    return WRITING(cells, CALL(book, pelgaisti_raw_book_idle_cells(&book, &cells)));
-}
-
 pelgaisti_status pelgaisti_book_run(pelgaisti_book *book, uint32_t session, const pelgaisti_program *program,
-                                    pelgaisti_program_answer *answer, uint32_t *list, size_t room, size_t *count) {
-    return WRITING(answer, LISTING(list, room, count,
-                   CALL(book, pelgaisti_raw_book_run(&book, session, &program, &answer, LIST(list, room), &count))));
+                                    pelgaisti_program_answer *answer) {
+    return WRITING(answer, CALL(book, pelgaisti_raw_book_run(&book, session, &program, &answer)));
 }
 
 /* ---- Offices: how they are opened, and how they wake. ---- */
@@ -258,40 +249,21 @@ pelgaisti_status pelgaisti_book_run(pelgaisti_book *book, uint32_t session, cons
 /* That of an office which the engine has given none: the library wakes who sleeps in it. */
 static const pelgaisti_waker no_waker = {NULL, NULL};
 
-/* Opens an office with a mark of its own. */
-static pelgaisti_status open_office(pelgaisti_session *sessions, size_t count, uint64_t bound, const pelgaisti_waker *waker,
-                                    uint64_t seed, size_t deadlocks) {
-    const uint64_t at = (uint64_t)(uintptr_t)(waker ? waker : &no_waker);
+/* The office has a mark of its own. */
+pelgaisti_status pelgaisti_office_open(pelgaisti_session *sessions, const pelgaisti_options *options) {
+    pelgaisti_options own;
     pelgaisti_status status;
-    size_t k;
+    size_t count, k;
+    if (!options || (options->waker && !options->waker->wake)) return is_astray(sessions) ? PELGAISTI_COPIED : PELGAISTI_NULL;
+    own = *options;
+    own.seed = seed_of(options);
+    if (!own.waker) own.waker = &no_waker;
+    count = own.sessions;
     for (k = 1; sessions && k < count && count <= PELGAISTI_MAX_SESSIONS; k++)
         if (use_too(&sessions[k])) return PELGAISTI_COPIED;
-    status = CALL(sessions, pelgaisti_raw_office_open(LIST(sessions, count), draw_mark(count), bound, at, seed, deadlocks));
+    status = CALL(sessions, pelgaisti_raw_office_open(LIST(sessions, count), draw_mark(count), &own));
     for (k = 1; k < count && status == PELGAISTI_OK; k++) noting(&sessions[k], status);
     return status;
-}
-
-pelgaisti_status pelgaisti_office_open(pelgaisti_session *sessions, size_t count) {
-    return open_office(sessions, count, UINT64_MAX, NULL, draw_seed(), 0);
-}
-
-pelgaisti_status pelgaisti_office_open_keeping(pelgaisti_session *sessions, size_t count, uint64_t bound) {
-    return open_office(sessions, count, bound, NULL, draw_seed(), 0);
-}
-
-pelgaisti_status pelgaisti_office_open_waking(pelgaisti_session *sessions, size_t count, uint64_t bound,
-                                              const pelgaisti_waker *waker) {
-    return waker && waker->wake ? open_office(sessions, count, bound, waker, draw_seed(), 0) : PELGAISTI_NULL;
-}
-
-pelgaisti_status pelgaisti_office_open_seeded(pelgaisti_session *sessions, size_t count, uint64_t bound,
-                                              const pelgaisti_waker *waker, uint64_t seed) {
-    return !waker || waker->wake ? open_office(sessions, count, bound, waker, seed, 0) : PELGAISTI_NULL;
-}
-
-pelgaisti_status pelgaisti_office_open_telling(pelgaisti_session *sessions, size_t count, uint64_t bound,
-                                               const pelgaisti_waker *waker, size_t deadlocks) {
-    return !waker || waker->wake ? open_office(sessions, count, bound, waker, draw_seed(), deadlocks) : PELGAISTI_NULL;
 }
 
 /* The waker of the session's office. */
@@ -318,19 +290,17 @@ static COLD void wake_all(pelgaisti_session *session, const uint32_t *list, size
     const pelgaisti_waker *waker = waker_of(session);
     const uint64_t mark = mark_of(session);
     const pelgaisti_session open = *session;
-    *session = pelgaisti_empty_session();
+    *session = (pelgaisti_session)PELGAISTI_EMPTY;
     wake_each(waker, mark, list, count);
     *session = open;
 }
 
-/* Wakes the sessions that the session's last pass has told of, so many. */
-static COLD void wake_told(pelgaisti_session *session, size_t told) {
-    uint32_t list[16];
-    size_t first, count = 0;
-    for (first = 0; first < told; first += 16) {
-        CALL(session, pelgaisti_raw_session_told(&session, first, list, 16, &count));
-        wake_all(session, list, told - first < 16 ? told - first : 16);
-    }
+/* Wakes the sessions that the session's last pass has told of. */
+static COLD void wake_told(pelgaisti_session *session) {
+    uint32_t list[PELGAISTI_MAX_SESSIONS];
+    size_t count = 0;
+    CALL(session, pelgaisti_raw_session_told(&session, 0, list, PELGAISTI_MAX_SESSIONS, &count));
+    wake_all(session, list, count);
 }
 
 /* ---- Sleep: a session that has waited for long in a whole call sleeps, and whoever had the lock table wakes it. The archive says who may
@@ -351,7 +321,7 @@ static COLD void rouse_all(pelgaisti_session *session) {
     for (k = 0; k < count; k++) wake_thread(mark, list[k]);
 }
 
-/* Wakes who sleeps, behind a call by which the session may have had the lock table: so each turn of a whole call, and each question. A
+/* Wakes who sleeps, behind a call by which the session may have had the lock table: so each turn of a whole call, and the end of a look. A
    thread is among the sleepers before its sleep begins, and looks whether the lock table is free behind that. So if there are none here,
    whoever is one later finds the lock table as this session has left it, or taken by another session, which comes here too. */
 static inline void wake_sleepers(pelgaisti_session *session) {
@@ -401,38 +371,8 @@ pelgaisti_status pelgaisti_session_serve(pelgaisti_session *session, pelgaisti_p
     pelgaisti_status status;
     size_t told = 0;
     status = HOLDING(session, pelgaisti_raw_session_serve(&session, &made, &told));
-    if (told > 0) wake_told(session, told);
+    if (told > 0) wake_told(session);
     return WRITING(made, status);
-}
-
-pelgaisti_status pelgaisti_session_serve_telling(pelgaisti_session *session, pelgaisti_pass *pass, uint32_t *list, size_t room,
-                                                 size_t *count) {
-    pelgaisti_pass unread, *made = pass ? pass : &unread;
-    pelgaisti_status status;
-    status = HOLDING(session, pelgaisti_raw_session_serve_telling(&session, &made, LIST(list, room), &count));
-    if (status == PELGAISTI_OK && *count > 0) wake_all(session, list, *count);
-    return WRITING(made, LISTING(list, room, count, status));
-}
-
-pelgaisti_status pelgaisti_session_perform_at_once(pelgaisti_session *session, const pelgaisti_call *call, pelgaisti_pass *pass,
-                                                   pelgaisti_answer *answer) {
-    pelgaisti_pass unread, *made = pass ? pass : &unread;
-    pelgaisti_status status;
-    size_t told = 0;
-    status = ORDERING_HOLD(session, RELEASES | ACQUIRES,
-                           pelgaisti_raw_session_perform_at_once(&session, &call, &made, &answer, &told));
-    if (told > 0) wake_told(session, told);
-    return WRITING(made, WRITING(answer, status));
-}
-
-pelgaisti_status pelgaisti_session_perform_telling(pelgaisti_session *session, const pelgaisti_call *call, pelgaisti_pass *pass,
-                                                   pelgaisti_answer *answer, uint32_t *list, size_t room, size_t *count) {
-    pelgaisti_pass unread, *made = pass ? pass : &unread;
-    pelgaisti_status status;
-    status = ORDERING_HOLD(session, RELEASES | ACQUIRES,
-                           pelgaisti_raw_session_perform_telling(&session, &call, &made, &answer, LIST(list, room), &count));
-    if ((status == PELGAISTI_OK || status == PELGAISTI_NO_MEMORY) && *count > 0) wake_all(session, list, *count);
-    return WRITING(made, WRITING(answer, LISTING(list, room, count, status)));
 }
 
 pelgaisti_status pelgaisti_session_collect(pelgaisti_session *session, pelgaisti_answer *answer) {
@@ -455,7 +395,7 @@ static inline __attribute__((always_inline)) pelgaisti_status make_turn(struct w
     it->told = 0;
     if (!it->call)
         return ORDERING_HOLD(it->session, ACQUIRES,
-                             pelgaisti_raw_session_look(&it->session, made, it->turns, &it->answer, &it->wait, &it->told));
+                             pelgaisti_raw_session_resume(&it->session, made, it->turns, &it->answer, &it->wait, &it->told));
     return ORDERING_HOLD(it->session, RELEASES | ACQUIRES,
                          pelgaisti_raw_session_turn(&it->session, &it->call, made, it->turns, &it->answer, &it->wait, &it->told));
 }
@@ -464,7 +404,7 @@ static inline __attribute__((always_inline)) pelgaisti_status make_turn(struct w
 static COLD pelgaisti_status go_on(struct whole_call *it, pelgaisti_status status) {
     uint64_t made;
     for (made = 1;; made++) {
-        if (it->told > 0) wake_told(it->session, it->told);
+        if (it->told > 0) wake_told(it->session);
         if (status != PELGAISTI_NOT_SERVED || it->wait == 0) return status;
         wait_or_sleep(it->session, it->wait, made, it->turns);
         status = make_turn(it, made);
@@ -487,7 +427,7 @@ pelgaisti_status pelgaisti_session_perform(pelgaisti_session *session, const pel
 static pelgaisti_status run_turn(pelgaisti_session *session, const pelgaisti_program *program, uint64_t made, uint64_t turns,
                                  pelgaisti_program_answer *answer, uint32_t *wait, size_t *told) {
     if (!program)
-        return ORDERING_HOLD(session, ACQUIRES, pelgaisti_raw_session_run_look(&session, made, turns, &answer, wait, told));
+        return ORDERING_HOLD(session, ACQUIRES, pelgaisti_raw_session_run_resume(&session, made, turns, &answer, wait, told));
     return ORDERING_HOLD(session, RELEASES | ACQUIRES,
                          pelgaisti_raw_session_run_turn(&session, &program, made, turns, &answer, wait, told));
 }
@@ -501,7 +441,7 @@ pelgaisti_status pelgaisti_session_run(pelgaisti_session *session, const pelgais
     for (made = 0;; made++) {
         told = 0;
         status = run_turn(session, program, made, turns, answer, &wait, &told);
-        if (told > 0) wake_told(session, told);
+        if (told > 0) wake_told(session);
         if (status != PELGAISTI_NOT_SERVED || wait == 0) return WRITING(answer, status);
         wait_or_sleep(session, wait, made + 1, turns);
     }
@@ -513,92 +453,8 @@ pelgaisti_status pelgaisti_session_take_history(pelgaisti_session *session, uint
                    HOLDING(session, pelgaisti_raw_session_take_history(&session, &first, LIST(entries, room), &count))));
 }
 
-pelgaisti_status pelgaisti_session_held(pelgaisti_session *session, uint32_t whose, const pelgaisti_resource *resource,
-                                        uint32_t *mode, uint64_t *seen) {
-    return WRITING(mode, WRITING(seen, HOLDING(session, pelgaisti_raw_session_held(&session, whose, &resource, &mode, &seen))));
-}
-
-pelgaisti_status pelgaisti_session_transaction(pelgaisti_session *session, uint32_t whose, pelgaisti_transaction *open,
-                                               uint64_t *seen) {
-    return WRITING(open, WRITING(seen, HOLDING(session, pelgaisti_raw_session_transaction(&session, whose, &open, &seen))));
-}
-
-pelgaisti_status pelgaisti_session_request(pelgaisti_session *session, uint32_t whose, pelgaisti_claim *waiting, uint64_t *seen) {
-    return WRITING(waiting, WRITING(seen, HOLDING(session, pelgaisti_raw_session_request(&session, whose, &waiting, &seen))));
-}
-
-pelgaisti_status pelgaisti_session_waits_for(pelgaisti_session *session, uint32_t whose, uint32_t other, uint32_t *edge,
-                                             uint64_t *seen) {
-    return WRITING(edge, WRITING(seen, HOLDING(session, pelgaisti_raw_session_waits_for(&session, whose, other, &edge, &seen))));
-}
-
-pelgaisti_status pelgaisti_session_holders(pelgaisti_session *session, const pelgaisti_resource *resource, pelgaisti_holder *list,
-                                           size_t room, size_t *count, uint64_t *seen) {
-    return LISTING(list, room, count, WRITING(seen,
-                   HOLDING(session, pelgaisti_raw_session_holders(&session, &resource, LIST(list, room), &count, &seen))));
-}
-
-pelgaisti_status pelgaisti_session_blockers(pelgaisti_session *session, uint32_t whose, uint32_t *list, size_t room,
-                                            size_t *count, uint64_t *seen) {
-    return LISTING(list, room, count, WRITING(seen,
-                   HOLDING(session, pelgaisti_raw_session_blockers(&session, whose, LIST(list, room), &count, &seen))));
-}
-
-pelgaisti_status pelgaisti_session_locks(pelgaisti_session *session, size_t first, pelgaisti_claim *list, size_t room,
-                                         size_t *count, uint64_t *seen) {
-    return LISTING(list, room, count, WRITING(seen,
-                   HOLDING(session, pelgaisti_raw_session_locks(&session, first, LIST(list, room), &count, &seen))));
-}
-
-pelgaisti_status pelgaisti_session_deadlocks(pelgaisti_session *session, pelgaisti_deadlock *list, size_t room, size_t *count,
-                                             pelgaisti_member *members, size_t member_room, size_t *member_count,
-                                             uint64_t *seen) {
-    return LISTING(list, room, count, LISTING(members, member_room, member_count, WRITING(seen,
-                   HOLDING(session, pelgaisti_raw_session_deadlocks(&session, room, LIST(list, room), &count,
-                        LIST(members, member_room), &member_count, &seen)))));
-}
-
-pelgaisti_status pelgaisti_session_locks_held(pelgaisti_session *session, uint32_t whose, size_t *count, uint64_t *seen) {
-    return WRITING(count, WRITING(seen, HOLDING(session, pelgaisti_raw_session_locks_held(&session, whose, &count, &seen))));
-}
-
-pelgaisti_status pelgaisti_session_locks_of(pelgaisti_session *session, uint32_t whose, const pelgaisti_resource *after,
-                                            pelgaisti_claim *list, size_t room, size_t *count, uint64_t *seen) {
-    return LISTING(list, room, count, WRITING(seen,
-                   HOLDING(session, pelgaisti_raw_session_locks_of(&session, whose, &after, LIST(list, room), &count, &seen))));
-}
-
-pelgaisti_status pelgaisti_session_dump(pelgaisti_session *session, pelgaisti_claim *rows, size_t room, size_t *count, uint64_t *seen) {
-    return LISTING(rows, room, count, WRITING(seen,
-                   HOLDING(session, pelgaisti_raw_session_dump(&session, LIST(rows, room), &count, &seen))));
-}
-
-pelgaisti_status pelgaisti_session_counts(pelgaisti_session *session, pelgaisti_counts *counts, uint64_t *seen) {
-    return WRITING(counts, WRITING(seen, HOLDING(session, pelgaisti_raw_session_counts(&session, &counts, &seen))));
-}
-
-pelgaisti_status pelgaisti_session_gauges(pelgaisti_session *session, pelgaisti_gauges *gauges, uint64_t *seen) {
-    return WRITING(gauges, WRITING(seen, HOLDING(session, pelgaisti_raw_session_gauges(&session, &gauges, &seen))));
-}
-
-pelgaisti_status pelgaisti_session_passes(pelgaisti_session *session, pelgaisti_pass_counts *passes, uint64_t *seen) {
-    return WRITING(passes, WRITING(seen, HOLDING(session, pelgaisti_raw_session_passes(&session, &passes, &seen))));
-}
-
 pelgaisti_status pelgaisti_session_bound_passes(pelgaisti_session *session, uint32_t calls, uint32_t locks, uint32_t rounds) {
     return CALL(session, pelgaisti_raw_session_bound_passes(&session, calls, locks, rounds));
-}
-
-pelgaisti_status pelgaisti_session_reserve(pelgaisti_session *session, size_t resources, size_t entries, uint64_t *seen) {
-    return WRITING(seen, HOLDING(session, pelgaisti_raw_session_reserve(&session, resources, entries, &seen)));
-}
-
-pelgaisti_status pelgaisti_session_shrink(pelgaisti_session *session, uint64_t *seen) {
-    return WRITING(seen, HOLDING(session, pelgaisti_raw_session_shrink(&session, &seen)));
-}
-
-pelgaisti_status pelgaisti_session_idle_cells(pelgaisti_session *session, size_t *cells, uint64_t *seen) {
-    return WRITING(cells, WRITING(seen, HOLDING(session, pelgaisti_raw_session_idle_cells(&session, &cells, &seen))));
 }
 
 pelgaisti_status pelgaisti_session_seen(pelgaisti_session *session, uint64_t *seen) {
@@ -612,6 +468,35 @@ pelgaisti_status pelgaisti_session_mark(pelgaisti_session *session, uint64_t *ma
 
 pelgaisti_status pelgaisti_session_retire(pelgaisti_session *session) {
     return CALL(session, pelgaisti_raw_session_retire(&session));
+}
+
+/* ---- Looks. A view and its session change places: while the one is open, the other is closed. ---- */
+
+/* For ThreadSanitizer it notes in the closed handle of the session of which office it is. */
+static COLD pelgaisti_status acquire_look(pelgaisti_session *session, uint64_t mark, pelgaisti_status status) {
+    if (status != PELGAISTI_OK) return status;
+    __tsan_acquire(words_for(mark));
+    session->note_ = (uint32_t)mark;
+    return status;
+}
+
+pelgaisti_status pelgaisti_session_look(pelgaisti_session *session, pelgaisti_book *view) {
+    const uint64_t mark = IS_WATCHED && session ? mark_of(session) : 0;
+    pelgaisti_status status;
+    uint64_t made;
+    if (use_too(view)) return PELGAISTI_COPIED;
+    for (made = 1;; made++) {
+        status = CALL(session, pelgaisti_raw_session_look(&session, &view));
+        if (status != PELGAISTI_ELSEWHERE) break;
+        wait_or_sleep(session, made < 8 ? 1u << made : UINT32_MAX, made, UINT64_MAX);
+    }
+    return noting(view, IS_WATCHED ? acquire_look(session, mark, status) : status);
+}
+
+pelgaisti_status pelgaisti_look_end(pelgaisti_session *session, pelgaisti_book *view) {
+    if (use_too(view)) return PELGAISTI_COPIED;
+    if (IS_WATCHED && session) __tsan_release(words_for(session->note_));
+    return HOLDING(session, pelgaisti_raw_look_end(&session, &view));
 }
 
 /* ---- Calls that use two handles. ---- */

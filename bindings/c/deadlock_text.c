@@ -1,4 +1,4 @@
-/* A deadlock as lines of text, for people, in the words of crates/explain_report/specs/DeadlockText.antt. Nothing here is proved. */
+/* A deadlock as lines of text, for people, in the words of crates/lock_explain/specs/DeadlockText.antt. Nothing here is proved. */
 #include "text.h"
 
 /* What a request asks for. */

@@ -47,20 +47,16 @@ static uint32_t first_blocker(const pelgaisti_claim *rows, size_t request, uint3
     return 0;
 }
 
-/* Moves on to the next request that waits for somebody, by its session: it is at `wait`. The number is its first blocker, 0 if there is no
-   such request. */
+/* Moves on to the next request that waits for somebody, by its session: its index and 1 is `wait_`, which is 0 in front of the first. The
+   number is its first blocker, 0 if there is no such request. */
 static uint32_t next_wait(const pelgaisti_claim *rows, size_t count, pelgaisti_dumping *at, uint32_t *others) {
     uint32_t first = 0;
-    while (first == 0 && (at->wait < count || at->wait == SIZE_MAX)) {
-        at->wait = request_above(rows, count, at->wait == SIZE_MAX ? 0 : rows[at->wait].session);
-        if (at->wait < count) first = first_blocker(rows, at->wait, others);
+    while (first == 0 && at->wait_ <= count) {
+        const size_t request = request_above(rows, count, at->wait_ == 0 ? 0 : rows[at->wait_ - 1].session);
+        at->wait_ = request + 1;
+        if (request < count) first = first_blocker(rows, request, others);
     }
     return first;
-}
-
-pelgaisti_dumping pelgaisti_dump_begin(void) {
-    pelgaisti_dumping at = {0, SIZE_MAX};
-    return at;
 }
 
 /* A row of a session, of a kind: what it has open, a lock or a request. */
@@ -77,14 +73,14 @@ static void put_row(struct text *out, const pelgaisti_claim *row) {
 
 uint32_t pelgaisti_dump_line(const pelgaisti_claim *rows, size_t count, pelgaisti_dumping *at, char *text, size_t room) {
     struct text out = {text, room, 0};
-    if (at->row < count) {
-        put_row(&out, &rows[at->row++]);
+    if (at->row_ < count) {
+        put_row(&out, &rows[at->row_++]);
         return (uint32_t)end_text(&out);
     }
     uint32_t others;
     const uint32_t first = next_wait(rows, count, at, &others);
     if (first == 0) return 0;
-    put_words_and_number(&out, "waits,", rows[at->wait].session);
+    put_words_and_number(&out, "waits,", rows[at->wait_ - 1].session);
     put_words_and_number(&out, ",,,,,", first);
     if (others > 0) put_words_and_number(&out, "+", others);
     put(&out, '\n');

@@ -32,17 +32,21 @@ static pelgaisti_status ask(struct wait *it, uint32_t op, pelgaisti_answer *last
     return perform(it, &call, last);
 }
 
-/* Runs a program so, or with NULL what is pending. Raises `level` by the locks that were granted. If memory was refused to one of its later
-   calls, nothing is pending, and the status is NO_MEMORY, too. */
+/* Runs a program of locks so, or with NULL what is pending: a single call, as a withdrawal, by itself, since a program's answer doesn't say
+   what its last call was. Raises `level` by the locks that were granted. If memory was refused to one of its later calls, nothing is
+   pending, and the status is NO_MEMORY, too. */
 static pelgaisti_status run(struct wait *it, const pelgaisti_program *program, uint32_t *level, pelgaisti_answer *last) {
     pelgaisti_program_answer answer;
     pelgaisti_status status;
     it->seen = wake_ups_so_far(it->mark, it->number);
+    if (!program) status = pelgaisti_session_perform(it->session, NULL, UINT64_MAX, last);
+    if (!program && status != PELGAISTI_PENDING) return status;
     status = pelgaisti_session_run(it->session, program, UINT64_MAX, &answer);
     if (status != PELGAISTI_OK) return status;
     if (answer.served > 0) {
         last->place = answer.place + answer.served - 1;
-        last->reply = answer.replies[answer.served - 1];
+        last->reply.kind = answer.stop ? answer.stop : PELGAISTI_GRANTED;
+        last->reply.value = answer.values[answer.served - 1];
     }
     *level += answer.served - (answer.stop != 0);
     return answer.starved ? PELGAISTI_NO_MEMORY : PELGAISTI_OK;
@@ -92,21 +96,13 @@ static pelgaisti_status end_wait(struct wait *it, pelgaisti_status status, pelga
     return status == PELGAISTI_OK ? outcome_of(&last->reply) : status;
 }
 
-/* Locks the levels of the path that are left, in one taking of the lock table, up to the first reply other than GRANTED. A path that must
-   not wait is tried level by level, since a program locks the ancestors by LOCK alone. */
+/* Locks the levels of the path that are left, in one taking of the lock table, up to the first reply other than GRANTED. With 0
+   milliseconds each is a TRY. */
 static pelgaisti_status lock_on(struct wait *it, const pelgaisti_resource *resource, uint32_t mode, uint32_t *level,
                                 pelgaisti_answer *last) {
-    pelgaisti_status status;
-    if (it->timeout_ms == 0) {
-        pelgaisti_call call = pelgaisti_path_call(resource, mode, *level);
-        call.op = PELGAISTI_TRY;
-        status = perform(it, &call, last);
-        *level += status == PELGAISTI_OK && last->reply.kind == PELGAISTI_GRANTED;
-    } else {
-        const pelgaisti_program rest = {PELGAISTI_NOTHING, *level, pelgaisti_parent_mode(mode), {PELGAISTI_LOCK, mode, *resource}};
-        status = run(it, &rest, level, last);
-    }
-    return status;
+    const uint32_t op = it->timeout_ms == 0 ? PELGAISTI_TRY : PELGAISTI_LOCK;
+    const pelgaisti_program rest = {PELGAISTI_NOTHING, *level, pelgaisti_parent_mode(mode), {op, mode, *resource}};
+    return run(it, &rest, level, last);
 }
 
 __attribute__((weak)) void __msan_unpoison(const volatile void *at, size_t size);

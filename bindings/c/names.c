@@ -7,8 +7,8 @@ const char *pelgaisti_status_name(uint64_t status) {
     static const char *const names[] = {"OK", "NO_MEMORY", "CLOSED", "NO_SUCH_SESSION", "NO_SUCH_OP", "NO_SUCH_LEVEL",
                                         "NO_SUCH_MODE", "OPEN", "NO_SUCH_COUNT", "PENDING", "NOTHING_PENDING", "NOT_SERVED",
                                         "RETIRED", "ELSEWHERE", "OTHER_OFFICE", "MISSING", "COPIED", "NULL", "SAME", "LET_GO",
-                                        "NO_ROOM", "NO_SUCH_START", "NOT_ON_PATH", "NO_SUCH_ABOVE", "SERVED", "VICTIM", "TIMED_OUT",
-                                        "DENIED"};
+                                        "unknown", "NO_SUCH_START", "NOT_ON_PATH", "NO_SUCH_ABOVE", "unknown", "VICTIM", "TIMED_OUT",
+                                        "DENIED", "LOOKS", "NOT_A_LOOK"};
     return NAME_IN(names, status);
 }
 

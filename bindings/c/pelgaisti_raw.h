@@ -13,105 +13,82 @@ typedef struct pelgaisti_raw_list {
     size_t room;
 } pelgaisti_raw_list;
 
+/* Where the crate's structs have their fields. Their sizes are in pelgaisti.h. */
+#define AT(type, field, place) _Static_assert(offsetof(pelgaisti_##type, field) == (place), "pelgaisti.h: " #type)
+AT(resource, numbers, 4); AT(call, mode, 4); AT(call, resource, 8); AT(reply, value, 8); AT(entry, call, 4); AT(entry, reply, 40);
+AT(answer, reply, 8); AT(lock_answer, place, 8); AT(program, last, 12); AT(program_answer, stop, 16); AT(program_answer, values, 24);
+AT(pass, starved, 4); AT(holder, mode, 4); AT(transaction, doomed, 8); AT(claim, kind, 4); AT(claim, mode, 8); AT(claim, transaction, 16);
+AT(claim, resource, 24); AT(deadlock, session, 8); AT(deadlock, members, 16); AT(member, held, 48); AT(counts, refusals, 88);
+AT(counts, requests, 192); AT(counts, victims, 232); AT(counts, deadlocks, 272); AT(gauges, waiting, 16); AT(gauges, idle_cells, 32);
+AT(pass_counts, starved, 16); AT(options, keep, 16); AT(options, seed, 32); AT(options, waker, 40); AT(book, at_, 8); AT(book, look_, 16);
+AT(session, at_, 8);
+#undef AT
+
 /* The crate's pelgaisti_version, which ./embed gives this name. */
 uint32_t pelgaisti_raw_version(void);
 
 uint32_t pelgaisti_raw_parent_mode(uint32_t mode);
 /* NO_SUCH_LEVEL and NO_SUCH_MODE write nothing. */
 uint32_t pelgaisti_raw_path_call(const pelgaisti_resource *resource, uint32_t mode, uint32_t level, pelgaisti_call *call);
-uint32_t pelgaisti_raw_book_open(pelgaisti_book **book, uint32_t sessions, uint64_t seed);
+uint32_t pelgaisti_raw_book_open(pelgaisti_book **book, const pelgaisti_options *options);
 uint32_t pelgaisti_raw_book_close(pelgaisti_book **book);
 uint32_t pelgaisti_raw_book_serve(pelgaisti_book **book, uint32_t session, const pelgaisti_call **call,
                                   pelgaisti_reply **reply);
 uint32_t pelgaisti_raw_book_serve_batch(pelgaisti_book **book, pelgaisti_raw_list *calls, size_t **count);
 uint32_t pelgaisti_raw_book_held(pelgaisti_book **book, uint32_t session, const pelgaisti_resource **resource,
                                  uint32_t **mode);
-uint32_t pelgaisti_raw_book_waits_for(pelgaisti_book **book, uint32_t session, uint32_t other, uint32_t **edge);
 uint32_t pelgaisti_raw_book_holders(pelgaisti_book **book, const pelgaisti_resource **resource, pelgaisti_raw_list *list,
                                     size_t **count);
 uint32_t pelgaisti_raw_book_transaction(pelgaisti_book **book, uint32_t session, pelgaisti_transaction **open);
 uint32_t pelgaisti_raw_book_request(pelgaisti_book **book, uint32_t session, pelgaisti_claim **waiting);
-uint32_t pelgaisti_raw_book_locks(pelgaisti_book **book, size_t first, pelgaisti_raw_list *list, size_t **count);
 uint32_t pelgaisti_raw_book_locks_held(pelgaisti_book **book, uint32_t session, size_t **count);
 uint32_t pelgaisti_raw_book_locks_of(pelgaisti_book **book, uint32_t session, const pelgaisti_resource **after,
                                      pelgaisti_raw_list *list, size_t **count);
 uint32_t pelgaisti_raw_book_dump(pelgaisti_book **book, pelgaisti_raw_list *rows, size_t **count, uint64_t **place);
 uint32_t pelgaisti_raw_book_counts(pelgaisti_book **book, pelgaisti_counts **counts);
 uint32_t pelgaisti_raw_book_gauges(pelgaisti_book **book, pelgaisti_gauges **gauges);
+uint32_t pelgaisti_raw_book_passes(pelgaisti_book **book, pelgaisti_pass_counts **passes);
 uint32_t pelgaisti_raw_book_ended(pelgaisti_book **book, pelgaisti_raw_list *list, size_t **count);
-uint32_t pelgaisti_raw_book_length(pelgaisti_book **book, uint64_t **count);
+uint32_t pelgaisti_raw_book_length(pelgaisti_book **book, uint64_t **first_kept, uint64_t **length);
 uint32_t pelgaisti_raw_book_history(pelgaisti_book **book, uint64_t first, pelgaisti_raw_list *entries, size_t **count);
-uint32_t pelgaisti_raw_book_first_kept(pelgaisti_book **book, uint64_t **first);
 uint32_t pelgaisti_raw_book_keep_at_most(pelgaisti_book **book, uint64_t bound);
 uint32_t pelgaisti_raw_book_take_history(pelgaisti_book **book, uint64_t **first, pelgaisti_raw_list *entries, size_t **count);
 uint32_t pelgaisti_raw_book_reserve(pelgaisti_book **book, size_t resources, size_t entries);
 uint32_t pelgaisti_raw_book_shrink(pelgaisti_book **book);
-uint32_t pelgaisti_raw_book_idle_cells(pelgaisti_book **book, size_t **cells);
-uint32_t pelgaisti_raw_book_keep_deadlocks(pelgaisti_book **book, size_t most);
 uint32_t pelgaisti_raw_book_deadlocks(pelgaisti_book **book, size_t most, pelgaisti_raw_list *list, size_t **count,
                                       pelgaisti_raw_list *members, size_t **member_count);
 uint32_t pelgaisti_raw_book_blockers(pelgaisti_book **book, uint32_t session, pelgaisti_raw_list *list, size_t **count);
 uint32_t pelgaisti_raw_book_run(pelgaisti_book **book, uint32_t session, const pelgaisti_program **program,
-                                pelgaisti_program_answer **answer, pelgaisti_raw_list *list, size_t **count);
+                                pelgaisti_program_answer **answer);
 /* `mark` is the number by which pelgaisti_raw_session_hear and pelgaisti_raw_session_hand_in tell offices apart: one that no other
-   open office has. `bound` is that of pelgaisti_office_open_keeping. `waker` is what pelgaisti_raw_session_waker tells, 0 for none: the
-   address of the waker, which the archive doesn't read. `deadlocks` is that of pelgaisti_office_open_telling, 0 for none. */
-uint32_t pelgaisti_raw_office_open(pelgaisti_raw_list *sessions, uint64_t mark, uint64_t bound, uint64_t waker, uint64_t seed,
-                                   size_t deadlocks);
+   open office has. Of the options' waker the archive reads the address alone, which pelgaisti_raw_session_waker tells; NULL for none. */
+uint32_t pelgaisti_raw_office_open(pelgaisti_raw_list *sessions, uint64_t mark, const pelgaisti_options *options);
 uint32_t pelgaisti_raw_session_publish(pelgaisti_session **session, const pelgaisti_call **call, uint32_t **posted);
 /* `told` gets how many sessions the waker is to wake after the pass, 0 in an office without one: it is written with OK, with NO_MEMORY,
    and with ELSEWHERE, which is 0. pelgaisti_raw_session_told tells which they are, until the session's next try to make a pass. */
 uint32_t pelgaisti_raw_session_serve(pelgaisti_session **session, pelgaisti_pass **pass, size_t *told);
-uint32_t pelgaisti_raw_session_serve_telling(pelgaisti_session **session, pelgaisti_pass **pass, pelgaisti_raw_list *list,
-                                             size_t **count);
-uint32_t pelgaisti_raw_session_perform_at_once(pelgaisti_session **session, const pelgaisti_call **call,
-                                               pelgaisti_pass **pass, pelgaisti_answer **answer, size_t *told);
-uint32_t pelgaisti_raw_session_perform_telling(pelgaisti_session **session, const pelgaisti_call **call,
-                                               pelgaisti_pass **pass, pelgaisti_answer **answer, pelgaisti_raw_list *list,
-                                               size_t **count);
 /* One turn of a call, behind `made` turns, of at most `turns`. PENDING comes only if `made` is 0. `told` is written with OK, NO_MEMORY and
    NOT_SERVED. With NO_MEMORY the call is pending. With NOT_SERVED there is no answer yet, and `wait` is written: what to do before
    the next turn; 0: no turn is left, and the call is pending; UINT32_MAX: yield the processor; else so many pause instructions. */
 uint32_t pelgaisti_raw_session_turn(pelgaisti_session **session, const pelgaisti_call **call, uint64_t made, uint64_t turns,
                                     pelgaisti_answer **answer, uint32_t *wait, size_t *told);
 /* The same of the call that is pending, behind `looked` turns. */
-uint32_t pelgaisti_raw_session_look(pelgaisti_session **session, uint64_t looked, uint64_t turns, pelgaisti_answer **answer,
-                                    uint32_t *wait, size_t *told);
+uint32_t pelgaisti_raw_session_resume(pelgaisti_session **session, uint64_t looked, uint64_t turns, pelgaisti_answer **answer,
+                                      uint32_t *wait, size_t *told);
 /* One turn of a program, behind `made` turns, of at most `turns`. It writes as pelgaisti_raw_session_turn does. */
 uint32_t pelgaisti_raw_session_run_turn(pelgaisti_session **session, const pelgaisti_program **program, uint64_t made,
                                         uint64_t turns, pelgaisti_program_answer **answer, uint32_t *wait, size_t *told);
 /* The same of what is pending, behind `looked` turns. */
-uint32_t pelgaisti_raw_session_run_look(pelgaisti_session **session, uint64_t looked, uint64_t turns,
-                                        pelgaisti_program_answer **answer, uint32_t *wait, size_t *told);
+uint32_t pelgaisti_raw_session_run_resume(pelgaisti_session **session, uint64_t looked, uint64_t turns,
+                                          pelgaisti_program_answer **answer, uint32_t *wait, size_t *told);
 uint32_t pelgaisti_raw_session_collect(pelgaisti_session **session, pelgaisti_answer **answer);
 uint32_t pelgaisti_raw_session_take_history(pelgaisti_session **session, uint64_t **first, pelgaisti_raw_list *entries,
                                             size_t **count);
-uint32_t pelgaisti_raw_session_held(pelgaisti_session **session, uint32_t whose, const pelgaisti_resource **resource,
-                                    uint32_t **mode, uint64_t **seen);
-uint32_t pelgaisti_raw_session_transaction(pelgaisti_session **session, uint32_t whose, pelgaisti_transaction **found,
-                                           uint64_t **seen);
-uint32_t pelgaisti_raw_session_request(pelgaisti_session **session, uint32_t whose, pelgaisti_claim **found, uint64_t **seen);
-uint32_t pelgaisti_raw_session_waits_for(pelgaisti_session **session, uint32_t whose, uint32_t other, uint32_t **edge,
-                                         uint64_t **seen);
-uint32_t pelgaisti_raw_session_holders(pelgaisti_session **session, const pelgaisti_resource **resource,
-                                       pelgaisti_raw_list *list, size_t **count, uint64_t **seen);
-uint32_t pelgaisti_raw_session_blockers(pelgaisti_session **session, uint32_t whose, pelgaisti_raw_list *list, size_t **count,
-                                        uint64_t **seen);
-uint32_t pelgaisti_raw_session_locks(pelgaisti_session **session, size_t first, pelgaisti_raw_list *list, size_t **count,
-                                     uint64_t **seen);
-uint32_t pelgaisti_raw_session_deadlocks(pelgaisti_session **session, size_t most, pelgaisti_raw_list *list, size_t **count,
-                                         pelgaisti_raw_list *members, size_t **member_count, uint64_t **seen);
-uint32_t pelgaisti_raw_session_locks_held(pelgaisti_session **session, uint32_t whose, size_t **count, uint64_t **seen);
-uint32_t pelgaisti_raw_session_locks_of(pelgaisti_session **session, uint32_t whose, const pelgaisti_resource **after,
-                                        pelgaisti_raw_list *list, size_t **count, uint64_t **seen);
-uint32_t pelgaisti_raw_session_dump(pelgaisti_session **session, pelgaisti_raw_list *rows, size_t **count, uint64_t **seen);
-uint32_t pelgaisti_raw_session_counts(pelgaisti_session **session, pelgaisti_counts **counts, uint64_t **seen);
-uint32_t pelgaisti_raw_session_gauges(pelgaisti_session **session, pelgaisti_gauges **gauges, uint64_t **seen);
-uint32_t pelgaisti_raw_session_passes(pelgaisti_session **session, pelgaisti_pass_counts **passes, uint64_t **seen);
+/* Tries once for the lock table. ELSEWHERE: another session has it. OK: `view`, which was closed, is a look at it, and `session` closed. */
+uint32_t pelgaisti_raw_session_look(pelgaisti_session **session, pelgaisti_book **view);
+/* Gives the lock table back: `view` is closed, and `session`, which was closed, open. */
+uint32_t pelgaisti_raw_look_end(pelgaisti_session **session, pelgaisti_book **view);
 uint32_t pelgaisti_raw_session_bound_passes(pelgaisti_session **session, uint32_t calls, uint32_t locks, uint32_t rounds);
-uint32_t pelgaisti_raw_session_reserve(pelgaisti_session **session, size_t resources, size_t entries, uint64_t **seen);
-uint32_t pelgaisti_raw_session_shrink(pelgaisti_session **session, uint64_t **seen);
-uint32_t pelgaisti_raw_session_idle_cells(pelgaisti_session **session, size_t **cells, uint64_t **seen);
 uint32_t pelgaisti_raw_session_seen(pelgaisti_session **session, uint64_t **seen);
 /* Writes the mark of the session's office, and the session's number. */
 uint32_t pelgaisti_raw_session_mark(pelgaisti_session **session, uint64_t **mark, uint32_t *number);

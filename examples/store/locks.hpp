@@ -1,26 +1,23 @@
 // Locks for a store: strict two-phase locking by offices of the lock manager, for clients that each have one thread at a time.
 //
 // A client has a session in each office. It locks a row, or a whole subtree, by a program: what is left to do of the transaction before
-// (commit it, or restart it as a deadlock's victim), a begin, and the path. While a request waits, its thread sleeps until the office's
-// waker wakes it; when its time is over, it takes the request back. It remembers which locks it holds, so that it asks for none twice.
+// (commit it, or restart it as a deadlock's victim), a begin, and the path. While a request waits, its thread sleeps in the library, which
+// takes the request back when its time is over. It remembers which locks it holds, so that it asks for none twice.
 #ifndef STORE_LOCKS_HPP
 #define STORE_LOCKS_HPP
 #include "pelgaisti.hpp"
 
 #include <algorithm>
 #include <atomic>
-#include <cerrno>
 #include <chrono>
 #include <cstdint>
 #include <cstring>
 #include <exception>
 #include <memory>
 #include <mutex>
-#include <semaphore.h>
 #include <stdexcept>
 #include <string>
 #include <thread>
-#include <time.h>
 #include <unordered_map>
 #include <vector>
 
@@ -108,56 +105,31 @@ public:
         std::size_t count = 1;                   // offices, to which databases are dealt out by their numbers
         std::size_t keeps = 0;                   // a transaction with at most so many row locks leaves its intention locks to the next one
         std::chrono::milliseconds limit{1000};   // how long a request waits; up to half of it longer, at random
-        std::chrono::milliseconds looks{10};     // with several offices: how often who waits looks for cycles across them; 0: never
+        bool looks = true;                       // with several offices: whether who begins to wait looks for cycles across them
         std::uint64_t history = 0;               // how many entries of its history an office keeps
     };
     class client;
 
-    explicit offices(const options &asked) : asked_(asked), ages_(new std::atomic<std::uint64_t>[asked.clients]()) {
-        for (std::size_t k = 0; k < asked.count; ++k) rooms_.push_back(std::make_unique<room>(asked));
+    explicit offices(const options &asked) : asked_(asked), since_(new std::atomic<std::uint64_t>[asked.clients]()) {
+        pelgaisti::options how(asked.clients);
+        how.keep = asked.history;
+        for (std::size_t k = 0; k < asked.count; ++k) all_.push_back(std::make_unique<pelgaisti::office>(how));
     }
 
     // Ends the transactions of clients that are gone. Whoever connects does so, and whoever has waited for too long.
     void look_after_orphans() {
         const std::lock_guard<std::mutex> lock(guard_);
-        for (auto &in : rooms_)
-            for (auto &lost : in->office.orphans()) end(*lost, in->beds[in->office.number(*lost) - 1]);
+        for (auto &in : all_)
+            for (auto &lost : in->orphans()) end(*lost);
     }
 
 private:
-    // On which a session's thread sleeps while its request waits. It counts, so that a wake-up that comes early isn't lost.
-    struct bed {
-        sem_t woken;
-        bed() { sem_init(&woken, 0, 0); }
-        ~bed() { sem_destroy(&woken); }
-        bed(const bed &) = delete;
-        bed &operator=(const bed &) = delete;
-        void sleep() {
-            while (sem_wait(&woken) != 0) {}  // a signal may end the sleep early
-        }
-        // Sleeps at most until then, by the monotonic clock. Whether it was woken.
-        bool sleep_until(std::chrono::steady_clock::time_point then) {
-            const auto since = std::chrono::duration_cast<std::chrono::nanoseconds>(then.time_since_epoch()).count();
-            const timespec at{static_cast<time_t>(since / 1000000000), static_cast<long>(since % 1000000000)};
-            while (sem_clockwait(&woken, CLOCK_MONOTONIC, &at) != 0)
-                if (errno != EINTR) return false;
-            return true;
-        }
-    };
-    struct room {
-        std::unique_ptr<bed[]> beds;
-        pelgaisti::office office;
-        explicit room(const options &asked)
-            : beds(new bed[asked.clients]), office(asked.clients, pelgaisti::waker{wake, beds.get()}, asked.history) {}
-    };
-    static void wake(void *beds, std::uint32_t session) noexcept { sem_post(&static_cast<bed *>(beds)[session - 1].woken); }
-
     // Runs a program, or without one the pending one, and goes on with it until memory isn't refused any more: what gives locks back has to
     // be done.
     static pelgaisti::program_answer insist(pelgaisti::session &session, const pelgaisti::program *calls) {
         for (;; std::this_thread::sleep_for(std::chrono::milliseconds(1))) {
             try {
-                return *(calls != nullptr ? session.run(*calls) : session.resume_program());
+                return calls != nullptr ? session.run(*calls) : session.resume_program();
             } catch (const pelgaisti::error &why) {
                 if (why.status() != PELGAISTI_NO_MEMORY) throw;
             }
@@ -165,8 +137,8 @@ private:
         }
     }
 
-    // Ends whatever a session has: a pending program, a request that waits, a transaction, wake-ups that nobody took.
-    static void end(pelgaisti::session &session, bed &sleeps) {
+    // Ends whatever a session has: a pending program, a request that waits, a transaction.
+    static void end(pelgaisti::session &session) {
         const pelgaisti::program aborts(pelgaisti::start::aborts);
         try {
             static_cast<void>(insist(session, nullptr));
@@ -174,25 +146,24 @@ private:
             if (why.status() != PELGAISTI_NOTHING_PENDING) throw;
         }
         static_cast<void>(insist(session, &aborts));  // refused if there is no transaction
-        while (sem_trywait(&sleeps.woken) == 0) {}
     }
 
     const options asked_;
-    std::vector<std::unique_ptr<room>> rooms_;
+    std::vector<std::unique_ptr<pelgaisti::office>> all_;
     std::mutex guard_;                     // of taking sessions and of looking after orphans
     std::atomic<unsigned> tree_locks_{0};  // how many clients have, or want, a whole subtree
-    std::atomic<std::uint64_t> begun_{0};  // the transactions of all clients
-    std::unique_ptr<std::atomic<std::uint64_t>[]> ages_;  // of each client the number of its transaction
+    std::atomic<std::uint64_t> waits_{0};  // of all clients, while there are several offices
+    std::unique_ptr<std::atomic<std::uint64_t>[]> since_;  // of each client the number of its wait, 0 if it doesn't wait
 };
 
 // The locks of a client. It is used by one thread at a time.
 class offices::client {
     using kind = pelgaisti::kind;
+    using outcome = pelgaisti::outcome;
     using start = pelgaisti::start;
     // A client in an office.
     struct seat {
         pelgaisti::owned_session session;
-        bed *sleeps = nullptr;
         start next = start::begins;  // with what the next program starts: `nothing` while a transaction is open
         held_locks held;
     };
@@ -203,7 +174,7 @@ public:
         const std::lock_guard<std::mutex> lock(of.guard_);
         for (std::size_t k = 0; k < of.asked_.clients && !take_seats(k); ++k) {}
         if (seats_.empty()) throw std::runtime_error("there are as many clients as the store has room for");
-        random_ = number_ = of.rooms_[0]->office.number(*seats_[0].session);
+        random_ = number_ = of.all_[0]->number(*seats_[0].session);
     }
     // A client that is dropped in its transaction, by an exception, leaves it to whoever looks after orphans: its sessions go back to their
     // offices. Else it gives back what it has left to its next transaction.
@@ -216,7 +187,6 @@ public:
 
     void begin() {
         in_transaction_ = true;
-        of_.ages_[number_ - 1] = ++of_.begun_;
         if (kept_ > 0 && (kept_ >= most_kept || of_.tree_locks_.load() > 0)) give_up_kept();
     }
 
@@ -231,21 +201,15 @@ public:
         while (level < on.level) {
             const start first = at.next;
             const std::size_t before = calls_of(first);
-            const auto answer = *at.session->run(pelgaisti::program::locks(first, on, in, level));
-            if (answer.size() >= before) at.next = start::nothing;
-            else at.next = start::begins;  // memory was refused between the commit and the begin
-            if (answer.starved()) throw pelgaisti::error(PELGAISTI_NO_MEMORY);
-            const auto last = answer[answer.size() - 1];
-            kind ended = last.kind;
-            while (ended == kind::waiting) ended = end_wait(at, until);
-            if (ended == kind::deadlock) throw must_retry(must_retry::reason::deadlock);
-            if (ended == kind::withdrawn) {
-                of_.look_after_orphans();
-                throw must_retry(must_retry::reason::limit);
-            }
-            if (ended == kind::refused) throw std::runtime_error(pelgaisti_refusal_name(last.value));
+            const auto answer = at.session->run(pelgaisti::program::locks(first, on, in, level));
+            // memory may have been refused between the commit and the begin
+            at.next = answer.served >= before ? start::nothing : start::begins;
+            if (answer.starved) throw pelgaisti::error(PELGAISTI_NO_MEMORY);
+            if (answer.stopped_at(kind::refused)) throw std::runtime_error(name(answer.why()));
+            if (answer.stopped_at(kind::deadlock)) throw must_retry(must_retry::reason::deadlock);
+            if (answer.stopped_at(kind::waiting)) wait(at, until);
             // the level at which it has waited is locked, too
-            for (std::size_t k = before; k < answer.size(); ++k) at.held.note(on, ++level, in);
+            for (std::size_t k = before; k < answer.served; ++k) at.held.note(on, ++level, in);
         }
     }
 
@@ -278,7 +242,7 @@ public:
     void abort() {
         announce(false);
         for (seat &at : seats_) {
-            end(*at.session, *at.sleeps);
+            end(*at.session);
             at.next = start::begins, at.held.clear();
         }
         in_transaction_ = false;
@@ -296,12 +260,11 @@ public:
 private:
     // Takes the sessions of this index, if no other client has one of them. Whether it did.
     bool take_seats(std::size_t index) {
-        for (auto &in : of_.rooms_) {
+        for (auto &in : of_.all_) {
             seat made;
-            made.session = in->office.take(index);
+            made.session = in->take(index);
             if (!made.session) return seats_.clear(), false;
-            made.sleeps = &in->beds[index];
-            end(*made.session, *made.sleeps);  // it may be one that was dropped
+            end(*made.session);  // it may be one that was dropped
             seats_.push_back(std::move(made));
         }
         return true;
@@ -311,45 +274,40 @@ private:
         return what == start::nothing ? 0 : what == start::commits_and_begins || what == start::aborts_and_begins ? 2 : 1;
     }
 
-    // Sleeps until the wait of the session's request has ended, and asks how. Takes the request back when its time is over, or when it closes
-    // a cycle of waits across offices.
-    kind end_wait(seat &at, std::chrono::steady_clock::time_point until) {
-        const bool looks = seats_.size() > 1 && of_.asked_.looks.count() > 0;
-        for (bool is_over = false, is_victim = false; !is_over && !is_victim;) {
-            const auto next = looks ? std::min(until, std::chrono::steady_clock::now() + of_.asked_.looks) : until;
-            if (at.sleeps->sleep_until(next)) break;
-            is_over = next == until;
-            is_victim = !is_over && closes_cycle();
-            if (!is_over && !is_victim) continue;
-            if (at.session->perform({pelgaisti::op::withdraw})->reply.kind == kind::withdrawn) return is_over ? kind::withdrawn : kind::deadlock;
-            at.sleeps->sleep();  // refused: the wait has ended meanwhile, and whoever ended it wakes this thread
-        }
-        return at.session->perform({pelgaisti::op::poll})->reply.kind;
+    // Sleeps until the session's request is granted. Takes it back when its time is over, or if it closes a cycle of waits across offices.
+    void wait(seat &at, std::chrono::steady_clock::time_point until) {
+        const bool is_victim = seats_.size() > 1 && of_.asked_.looks && closes_cycle();
+        const auto found = at.session->wait(is_victim ? std::chrono::nanoseconds(0) : until - std::chrono::steady_clock::now());
+        of_.since_[number_ - 1] = 0;
+        if (found) return;
+        if (found.outcome == outcome::denied) throw std::runtime_error(name(found.why));
+        if (is_victim || found.outcome == outcome::victim) throw must_retry(must_retry::reason::deadlock);
+        of_.look_after_orphans();
+        throw must_retry(must_retry::reason::limit);
     }
 
-    // Whether this client waits for itself by way of older transactions, whichever offices they wait in. No lock table sees a cycle across
-    // offices; the youngest on it gives up. The offices are asked one after another, so a cycle may be gone when it is found.
+    // Whether this client waits for itself by way of others that began to wait before it, in whichever offices. No lock table sees a cycle
+    // across offices; the last to begin its wait on one sees the others wait, and gives up. The offices are asked one after another, so a
+    // cycle may be gone when it is found.
     bool closes_cycle() {
+        const std::uint64_t own = of_.since_[number_ - 1] = ++of_.waits_;
         std::vector<std::uint32_t> left{number_};
         std::vector<bool> seen(of_.asked_.clients + 1);
         while (!left.empty()) {
             const std::uint32_t who = left.back();
             left.pop_back();
-            for (seat &at : seats_)
-                for (std::uint32_t other : blockers(at, who)) {
+            for (seat &at : seats_) {
+                const auto blockers = at.session->look().blockers(who);  // a client has the same number in each office
+                for (std::uint32_t other : blockers) {
                     if (other == number_) return true;
-                    if (seen[other] || of_.ages_[other - 1].load() > of_.ages_[number_ - 1].load()) continue;
+                    const std::uint64_t since = of_.since_[other - 1].load();
+                    if (seen[other] || since == 0 || since > own) continue;
                     seen[other] = true;
                     left.push_back(other);
                 }
+            }
         }
         return false;
-    }
-
-    // The clients for which one waits in an office: a client has the same number in each.
-    static std::vector<std::uint32_t> blockers(seat &at, std::uint32_t who) {
-        for (;; std::this_thread::yield())  // another session has the lock table for a moment
-            if (const auto found = at.session->blockers(who)) return found->found;
     }
 
     // Commits what another office's locks were left for; or gives back a victim's there, whose transaction stays open with its age.

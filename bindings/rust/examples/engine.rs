@@ -21,7 +21,7 @@ const THREADS: u32 = 4;
 
 /// Performs a call: without a bound on its turns there is an answer, unless memory is refused.
 fn ask(session: &mut Session, call: &Call) -> Reply {
-    session.perform(call, u64::MAX).expect("memory for a call").reply
+    session.perform(call).expect("memory for a call").reply
 }
 
 /// Begins or ends a transaction, which is refused nowhere here.

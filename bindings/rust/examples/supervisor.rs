@@ -7,7 +7,7 @@
 //!
 //!     cargo run --release --example supervisor
 
-use pelgaisti::{Call, Error, Mode, Office, Program, Reply, Resource, Session, Start};
+use pelgaisti::{Call, Error, Mode, Office, Options, Program, ProgramAnswer, Reply, Resource, Session, Start};
 use std::sync::atomic::{AtomicI64, Ordering};
 use std::sync::{mpsc, Arc, Condvar, Mutex, MutexGuard};
 use std::{panic, thread};
@@ -21,6 +21,8 @@ struct Engine {
     accounts: [AtomicI64; 2],
     /// What a transaction has to write back if it aborts.
     undo: [Mutex<Vec<(usize, i64)>>; SESSIONS as usize + 1],
+    /// The program that it has left pending.
+    ran: [Mutex<Option<Program>>; SESSIONS as usize + 1],
     /// How often each session was woken and hasn't slept since.
     woken: Mutex<[u32; SESSIONS as usize + 1]>,
     changed: Condvar,
@@ -64,15 +66,17 @@ impl Engine {
     /// its transaction. Returns the reply to the abort, a refusal if no transaction was open. After an error the session is dropped again,
     /// and what is left to do is done when it is taken over next.
     fn take_over(&self, lost: &mut Session) -> Result<Reply, Error> {
+        let ran = self.ran[lost.number() as usize].lock().expect("no thread panics here").take();
+        let has_committed = |made: &ProgramAnswer| ran.map_or(false, |it| made.replies(&it).any(|it| matches!(it, Reply::Committed(_))));
         // a call is heard like a program, as a program of one; `resume` hears no program of several
         match lost.resume_program(u64::MAX) {
             // a transaction behind the commit has written nothing yet
-            Ok(made) if made.replies().any(|it| matches!(it, Reply::Committed(_))) => self.keep_writes(lost),
+            Ok(made) if has_committed(&made) => self.keep_writes(lost),
             Ok(_) | Err(Error::NothingPending) => (),
             Err(error) => return Err(error),
         }
         self.undo_writes(lost);
-        Ok(lost.perform(&Call::Abort, u64::MAX)?.reply)
+        Ok(lost.perform(&Call::Abort)?.reply)
     }
 
     /// Ends the transactions of the sessions that were dropped, and gives the sessions, whose numbers can be used again.
@@ -90,7 +94,7 @@ impl Engine {
 
 /// Performs a call: without a bound on its turns there is an answer, unless memory is refused.
 fn ask(session: &mut Session, call: &Call) -> Reply {
-    session.perform(call, u64::MAX).expect("memory for a call").reply
+    session.perform(call).expect("memory for a call").reply
 }
 
 fn begin(session: &mut Session) -> u64 {
@@ -112,19 +116,19 @@ fn lock(engine: &Engine, session: &mut Session, transaction: u64, number: u32) -
         if session.is_asked_to_end(transaction) {
             return false;
         }
-        let answer = session.run(&path, u64::MAX).expect("memory for a program");
-        let mut reply = answer.replies().last().expect("a call was made");
-        while reply == Reply::Waiting {
+        let answer = session.run(&path).expect("memory for a program");
+        let mut stop = answer.stop;
+        while stop == Some(Reply::Waiting) {
             engine.sleep(session.number());
             if session.is_asked_to_end(transaction) {
                 return false;
             }
-            reply = ask(session, &Call::Poll);
+            stop = Some(ask(session, &Call::Poll));
         }
-        match reply {
-            Reply::Deadlock => return false,
-            Reply::Refused(why) => panic!("a lock was refused: {why}"),
-            _ => level += answer.replies().len(), // the level at which it has waited is locked, too
+        match stop {
+            Some(Reply::Deadlock) => return false,
+            Some(Reply::Refused(why)) => panic!("a lock was refused: {why}"),
+            _ => level += answer.served, // the level at which it has waited is locked, too
         }
     }
     true
@@ -137,7 +141,8 @@ fn get_lost_paying(engine: &Engine, mut session: Session) {
     assert!(lock(engine, &mut session, transaction, 0));
     engine.add(&session, 0, 20);
     let next = Program::locks(Start::CommitsAndBegins, account(0), Mode::X, 0).expect("a path that isn't locked");
-    assert_eq!(session.run(&next, 0).err(), Some(Error::NotServed));
+    *engine.ran[session.number() as usize].lock().expect("no thread panics here") = Some(next);
+    assert_eq!(session.run_within(&next, 0).err(), Some(Error::NotServed));
     panic::resume_unwind(Box::new("lost")); // a panic without a message
 }
 
@@ -176,14 +181,15 @@ fn move_money(engine: &Engine, mut session: Session) -> Session {
 
 /// Waits until a session waits for another one alone, and asks that the transaction of that one end.
 fn end_blocker(own: &mut Session, waiting: u32, blocker: u32) -> Result<(), Error> {
-    while !matches!(own.blockers(waiting), Ok(seen) if seen.found == [blocker]) {
-        thread::yield_now();
-    }
     loop {
-        match own.transaction(blocker) {
-            Err(Error::Elsewhere) => thread::yield_now(),
-            other => break own.operator().ask_to_end(blocker, other?.found.map_or(0, |it| it.number)),
+        let view = own.look()?;
+        if view.blockers(waiting)? == [blocker] {
+            let open = view.transaction(blocker)?; // of the same moment
+            drop(view);
+            return own.operator().ask_to_end(blocker, open.map_or(0, |it| it.number));
         }
+        drop(view);
+        thread::yield_now();
     }
 }
 
@@ -193,7 +199,7 @@ fn main() -> Result<(), Error> {
         account.store(100, Ordering::Relaxed);
     }
     let wakes = engine.clone();
-    let mut sessions = Office::open_waking(SESSIONS, 1024, move |session| wakes.wake(session))?;
+    let mut sessions = Office::open_waking(Options { keep: 1024, ..Options::new(SESSIONS) }, move |session| wakes.wake(session))?;
     let all = <[Session; SESSIONS as usize]>::try_from(sessions.split_off(0));
     let [idle, paying, lost, busy, mut own] = all.unwrap_or_else(|_| panic!("five sessions"));
 

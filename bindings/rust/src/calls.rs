@@ -28,13 +28,13 @@ pub enum Mode {
 
 impl Mode {
     const ALL: [(Mode, u32, &'static str); 7] = [
-        (Mode::NL, 0, "NL"),
-        (Mode::IS, 1, "IS"),
-        (Mode::IX, 3, "IX"),
-        (Mode::S, 5, "S"),
-        (Mode::SIX, 7, "SIX"),
-        (Mode::U, 13, "U"),
-        (Mode::X, 15, "X"),
+        (Mode::NL, ffi::NL, "NL"),
+        (Mode::IS, ffi::IS, "IS"),
+        (Mode::IX, ffi::IX, "IX"),
+        (Mode::S, ffi::S, "S"),
+        (Mode::SIX, ffi::SIX, "SIX"),
+        (Mode::U, ffi::U, "U"),
+        (Mode::X, ffi::X, "X"),
     ];
 
     pub(crate) fn code(self) -> u32 {
@@ -181,16 +181,16 @@ impl Call {
             resource: resource.raw(),
         };
         match self {
-            Call::Begin => plain(1),
-            Call::Lock(resource, mode) => of(2, resource, *mode),
-            Call::Convert(resource, mode) => of(3, resource, *mode),
-            Call::Poll => plain(4),
-            Call::Release(resource) => of(5, resource, Mode::NL),
-            Call::Commit => plain(6),
-            Call::Abort => plain(7),
-            Call::Try(resource, mode) => of(8, resource, *mode),
-            Call::Withdraw => plain(9),
-            Call::Restart => plain(10),
+            Call::Begin => plain(ffi::BEGIN),
+            Call::Lock(resource, mode) => of(ffi::LOCK, resource, *mode),
+            Call::Convert(resource, mode) => of(ffi::CONVERT, resource, *mode),
+            Call::Poll => plain(ffi::POLL),
+            Call::Release(resource) => of(ffi::RELEASE, resource, Mode::NL),
+            Call::Commit => plain(ffi::COMMIT),
+            Call::Abort => plain(ffi::ABORT),
+            Call::Try(resource, mode) => of(ffi::TRY, resource, *mode),
+            Call::Withdraw => plain(ffi::WITHDRAW),
+            Call::Restart => plain(ffi::RESTART),
         }
     }
 
@@ -198,15 +198,15 @@ impl Call {
     pub(crate) fn of(raw: &RawCall) -> Call {
         let mode = Mode::of(u64::from(raw.mode));
         match (raw.op, Resource::of(&raw.resource)) {
-            (1, _) => Call::Begin,
-            (2, Some(resource)) => Call::Lock(resource, mode),
-            (3, Some(resource)) => Call::Convert(resource, mode),
-            (5, Some(resource)) => Call::Release(resource),
-            (6, _) => Call::Commit,
-            (7, _) => Call::Abort,
-            (8, Some(resource)) => Call::Try(resource, mode),
-            (9, _) => Call::Withdraw,
-            (10, _) => Call::Restart,
+            (ffi::BEGIN, _) => Call::Begin,
+            (ffi::LOCK, Some(resource)) => Call::Lock(resource, mode),
+            (ffi::CONVERT, Some(resource)) => Call::Convert(resource, mode),
+            (ffi::RELEASE, Some(resource)) => Call::Release(resource),
+            (ffi::COMMIT, _) => Call::Commit,
+            (ffi::ABORT, _) => Call::Abort,
+            (ffi::TRY, Some(resource)) => Call::Try(resource, mode),
+            (ffi::WITHDRAW, _) => Call::Withdraw,
+            (ffi::RESTART, _) => Call::Restart,
             _ => Call::Poll,
         }
     }
@@ -226,7 +226,7 @@ pub enum Reply {
     /// The transaction was chosen as a victim. It keeps its locks: undo, then abort or restart.
     Deadlock,
     /// The session waits for nothing. After a wait for a lock it is held in the mode that was asked for; after one for a conversion
-    /// in the least upper bound of that and what was held, which [`crate::Book::held`] tells, or the reply to the same lock again.
+    /// in the least upper bound of that and what was held, which [`crate::Table::held`] tells, or the reply to the same lock again.
     Clear,
     /// The lock was released.
     Released,
@@ -245,16 +245,16 @@ pub enum Reply {
 impl Reply {
     pub(crate) fn of(raw: &RawReply) -> Reply {
         match raw.kind {
-            1 => Reply::Began(raw.value),
-            2 => Reply::Granted(Mode::of(raw.value)),
-            3 => Reply::Waiting,
-            4 => Reply::Deadlock,
-            5 => Reply::Clear,
-            6 => Reply::Released,
-            7 => Reply::Committed(raw.value),
-            8 => Reply::Aborted(raw.value),
-            10 => Reply::Withdrawn,
-            11 => Reply::Restarted(raw.value),
+            ffi::BEGAN => Reply::Began(raw.value),
+            ffi::GRANTED => Reply::Granted(Mode::of(raw.value)),
+            ffi::WAITING => Reply::Waiting,
+            ffi::DEADLOCK => Reply::Deadlock,
+            ffi::CLEAR => Reply::Clear,
+            ffi::RELEASED => Reply::Released,
+            ffi::COMMITTED => Reply::Committed(raw.value),
+            ffi::ABORTED => Reply::Aborted(raw.value),
+            ffi::WITHDRAWN => Reply::Withdrawn,
+            ffi::RESTARTED => Reply::Restarted(raw.value),
             _ => Reply::Refused(Refusal::of(raw.value)),
         }
     }
@@ -289,17 +289,17 @@ pub enum Refusal {
 
 impl Refusal {
     pub(crate) fn of(number: u64) -> Refusal {
-        match number {
-            1 => Refusal::AlreadyOpen,
-            2 => Refusal::NoTransaction,
-            3 => Refusal::IsWaiting,
-            4 => Refusal::IsDoomed,
-            5 => Refusal::NothingAsked,
-            6 => Refusal::NotHeld,
-            7 => Refusal::ParentNotHeld,
-            8 => Refusal::ChildHeld,
-            11 => Refusal::WouldWait,
-            12 => Refusal::NotWaiting,
+        match number as u32 {
+            ffi::ALREADY_OPEN => Refusal::AlreadyOpen,
+            ffi::NO_TRANSACTION => Refusal::NoTransaction,
+            ffi::IS_WAITING => Refusal::IsWaiting,
+            ffi::IS_DOOMED => Refusal::IsDoomed,
+            ffi::NOTHING_ASKED => Refusal::NothingAsked,
+            ffi::NOT_HELD => Refusal::NotHeld,
+            ffi::PARENT_NOT_HELD => Refusal::ParentNotHeld,
+            ffi::CHILD_HELD => Refusal::ChildHeld,
+            ffi::WOULD_WAIT => Refusal::WouldWait,
+            ffi::NOT_WAITING => Refusal::NotWaiting,
             _ => Refusal::TooManyLocks,
         }
     }

@@ -1,7 +1,7 @@
 //! What sessions hold and wait for.
 
 use crate::calls::{Mode, Resource};
-use crate::ffi::{RawClaim, RawHolder, RawTransaction};
+use crate::ffi::{self, RawClaim, RawHolder, RawTransaction};
 
 /// An open transaction.
 #[derive(Clone, Copy, Debug, PartialEq, Eq, Hash)]
@@ -61,9 +61,9 @@ impl Claim {
     /// The claim, `None` if there is none.
     pub(crate) fn of(raw: &RawClaim) -> Option<Claim> {
         let kind = match raw.kind {
-            0 => return None,
-            1 => ClaimKind::Held,
-            2 => ClaimKind::Conversion,
+            ffi::TRANSACTION_ROW => return None,
+            ffi::HELD => ClaimKind::Held,
+            ffi::CONVERSION => ClaimKind::Conversion,
             _ => ClaimKind::Fresh,
         };
         Some(Claim {

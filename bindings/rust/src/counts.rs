@@ -1,11 +1,9 @@
 //! The counters of a history, and the gauges of a lock table.
 
-use crate::book::Book;
 use crate::calls::Refusal;
 use crate::error::{done, Error};
-use crate::ffi::{self, Gauges, PassCounts, RawCounts, WHY_NUMBERS};
-use crate::looks::Seen;
-use crate::office::Session;
+use crate::ffi::{self, RawCounts, RawGauges, RawPassCounts, WHY_NUMBERS};
+use crate::table::Table;
 
 /// How many calls of each kind there were, refused ones too. A call of a program or of a path counts by itself.
 #[derive(Clone, Copy, Debug, PartialEq, Eq, Hash)]
@@ -104,7 +102,34 @@ impl Counts {
     }
 }
 
-impl Book {
+/// How much a lock table has at one moment.
+#[derive(Clone, Copy, Debug, Default, PartialEq, Eq, Hash)]
+pub struct Gauges {
+    /// The open transactions.
+    pub transactions: u64,
+    /// The locks that are held, of all sessions.
+    pub locks: u64,
+    /// The requests that wait.
+    pub waiting: u64,
+    /// The most requests that wait for one resource.
+    pub longest_queue: u64,
+    /// The cells of the table whose resource nobody holds or waits for, which the next new resources take.
+    pub idle_cells: u64,
+}
+
+/// What the passes of an office have served since it was opened. In a pass a session that has the lock table serves the calls that others
+/// have published.
+#[derive(Clone, Copy, Debug, Default, PartialEq, Eq, Hash)]
+pub struct PassCounts {
+    /// The passes.
+    pub made: u64,
+    /// The published calls and programs that they served; what a session performs at once isn't among them.
+    pub served: u64,
+    /// The passes that put calls back, because memory was refused.
+    pub starved: u64,
+}
+
+impl Table {
     /// The counters of the history. They are kept on the way, whatever the history keeps: the cost grows with the sessions alone.
     ///
     ///     # use pelgaisti::{Book, Call, Mode, Refusal, Resource};
@@ -120,7 +145,7 @@ impl Book {
     ///     # Ok::<(), pelgaisti::Error>(())
     pub fn counts(&self) -> Result<Counts, Error> {
         let mut made = RawCounts::default();
-        // SAFETY: the handle is this book's; the counters are a local
+        // SAFETY: the handle is this table's; the counters are a local
         done(unsafe { ffi::pelgaisti_book_counts(self.raw(), &mut made) })?;
         Ok(Counts::of(&made))
     }
@@ -133,63 +158,42 @@ impl Book {
     ///         let _ = book.serve(session, &Call::Begin)?;
     ///         let _ = book.serve(session, &Call::Lock(Resource::new(&[7]).unwrap(), Mode::X))?;
     ///     }
-    ///     assert_eq!(book.gauges()?, Gauges { transactions: 2, locks: 1, waiting: 1, longest_queue: 1 });
+    ///     assert_eq!(book.gauges()?, Gauges { transactions: 2, locks: 1, waiting: 1, longest_queue: 1, idle_cells: 0 });
     ///     # Ok::<(), pelgaisti::Error>(())
     pub fn gauges(&self) -> Result<Gauges, Error> {
-        let mut made = Gauges::default();
-        // SAFETY: the handle is this book's; the gauges are a local
+        let mut made = RawGauges::default();
+        // SAFETY: the handle is this table's; the gauges are a local
         done(unsafe { ffi::pelgaisti_book_gauges(self.raw(), &mut made) })?;
-        Ok(made)
-    }
-}
-
-impl Session {
-    /// The counters of the history of all sessions, as [`Book::counts`] tells them. It tries once to take the lock table.
-    /// [`Error::Elsewhere`]: another session has it; ask again.
-    ///
-    ///     # use pelgaisti::{Call, Office};
-    ///     let mut sessions = Office::open(2)?;
-    ///     let _ = sessions[0].perform(&Call::Begin, u64::MAX)?;
-    ///     let seen = sessions[1].counts()?;
-    ///     assert_eq!((seen.length, seen.found.calls.begin), (1, 1));
-    ///     # Ok::<(), pelgaisti::Error>(())
-    pub fn counts(&mut self) -> Result<Seen<Counts>, Error> {
-        let (mut made, mut length) = (RawCounts::default(), 0);
-        // SAFETY: the handle is this session's, used by `&mut`; the others are locals of their types
-        done(unsafe { ffi::pelgaisti_session_counts(self.raw(), &mut made, &mut length) })?;
-        let found = Counts::of(&made);
-        Ok(Seen { length, found })
+        let RawGauges {
+            transactions,
+            locks,
+            waiting,
+            longest_queue,
+            idle_cells,
+        } = made;
+        Ok(Gauges {
+            transactions,
+            locks,
+            waiting,
+            longest_queue,
+            idle_cells,
+        })
     }
 
-    /// The gauges of the lock table, as [`Book::gauges`] tells them. It tries once to take the lock table. [`Error::Elsewhere`]: another
-    /// session has it; ask again.
-    ///
-    ///     # use pelgaisti::{Call, Office};
-    ///     let mut sessions = Office::open(2)?;
-    ///     let _ = sessions[0].perform(&Call::Begin, u64::MAX)?;
-    ///     assert_eq!(sessions[1].gauges()?.found.transactions, 1);
-    ///     # Ok::<(), pelgaisti::Error>(())
-    pub fn gauges(&mut self) -> Result<Seen<Gauges>, Error> {
-        let (mut found, mut length) = (Gauges::default(), 0);
-        // SAFETY: the handle is this session's, used by `&mut`; the others are locals of their types
-        done(unsafe { ffi::pelgaisti_session_gauges(self.raw(), &mut found, &mut length) })?;
-        Ok(Seen { length, found })
-    }
-
-    /// What the passes of the office have served since it was opened. It tries once to take the lock table. [`Error::Elsewhere`]: another
-    /// session has it; ask again.
+    /// What the passes of the office have served since it was opened. Of a book, which has no passes, all are 0.
     ///
     ///     # use pelgaisti::{Call, Office};
     ///     let mut sessions = Office::open(2)?;
     ///     let _ = sessions[0].publish(&Call::Begin)?;
     ///     let _ = sessions[1].serve()?;
-    ///     let passes = sessions[1].passes()?.found;
+    ///     let passes = sessions[1].look()?.passes()?;
     ///     assert_eq!((passes.made, passes.served, passes.starved), (1, 1, 0));
     ///     # Ok::<(), pelgaisti::Error>(())
-    pub fn passes(&mut self) -> Result<Seen<PassCounts>, Error> {
-        let (mut found, mut length) = (PassCounts::default(), 0);
-        // SAFETY: the handle is this session's, used by `&mut`; the others are locals of their types
-        done(unsafe { ffi::pelgaisti_session_passes(self.raw(), &mut found, &mut length) })?;
-        Ok(Seen { length, found })
+    pub fn passes(&self) -> Result<PassCounts, Error> {
+        let mut found = RawPassCounts::default();
+        // SAFETY: the handle is this table's; what is written is a local
+        done(unsafe { ffi::pelgaisti_book_passes(self.raw(), &mut found) })?;
+        let RawPassCounts { made, served, starved } = found;
+        Ok(PassCounts { made, served, starved })
     }
 }

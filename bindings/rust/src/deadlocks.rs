@@ -1,13 +1,11 @@
 //! The newest deadlocks of a lock table.
 
-use crate::book::Book;
 use crate::calls::Mode;
 use crate::claims::{Claim, ClaimKind};
 use crate::error::{done, Error};
 use crate::ffi::{self, RawDeadlock, RawMember};
 use crate::lists::{blank, each, list_for};
-use crate::looks::Seen;
-use crate::office::Session;
+use crate::table::Table;
 use std::fmt;
 
 /// A session on the cycle of a deadlock.
@@ -103,29 +101,13 @@ fn whole_deadlocks(
     }
 }
 
-/// Deadlocks. A book keeps none unless it is asked to before its first call.
-impl Book {
-    /// Keeps the newest `most` deadlocks from now on, for [`Book::deadlocks`] to tell, and takes the memory for them: some 56 bytes a session
-    /// for each. So no call lacks memory for a deadlock. A call that makes one pays for a search, which grows with the sessions that
-    /// wait. [`Error::Served`]: calls were served already.
-    ///
-    ///     # use pelgaisti::{Book, Call, Error};
-    ///     let mut book = Book::open(2)?;
-    ///     book.keep_deadlocks(16)?;
-    ///     let _ = book.serve(1, &Call::Begin)?;
-    ///     assert_eq!(book.keep_deadlocks(32), Err(Error::Served));
-    ///     # Ok::<(), Error>(())
-    pub fn keep_deadlocks(&mut self, most: usize) -> Result<(), Error> {
-        // SAFETY: the handle is this book's
-        done(unsafe { ffi::pelgaisti_book_keep_deadlocks(self.raw(), most) })
-    }
-
+/// Deadlocks. A lock table keeps none unless it is opened with [`Options::deadlocks`](crate::Options::deadlocks).
+impl Table {
     /// The deadlocks that are kept, oldest first. A call makes one for each victim that it dooms; those of one call have the same place, in
     /// the order in which their victims were doomed. Of several cycles that go through the victim one is told.
     ///
-    ///     # use pelgaisti::{Book, Call, Mode, Reply, Resource};
-    ///     let mut book = Book::open(2)?;
-    ///     book.keep_deadlocks(16)?;
+    ///     # use pelgaisti::{Book, Call, Mode, Options, Reply, Resource};
+    ///     let mut book = Book::open(Options { deadlocks: 16, ..Options::new(2) })?;
     ///     let [one, two] = [1, 2].map(|number| Resource::new(&[number]).unwrap());
     ///     for (session, call) in [
     ///         (1, Call::Begin),
@@ -148,7 +130,7 @@ impl Book {
         self.newest_deadlocks(usize::MAX)
     }
 
-    /// The newest `most` of the deadlocks that [`Book::deadlocks`] tells, oldest first. Its cost grows with these alone.
+    /// The newest `most` of the deadlocks that [`Table::deadlocks`] tells, oldest first. Its cost grows with these alone.
     ///
     ///     # use pelgaisti::{Book, Error};
     ///     assert!(Book::open(2)?.newest_deadlocks(1)?.is_empty());
@@ -157,36 +139,8 @@ impl Book {
         whole_deadlocks(most, |(list, count), (members, member_count)| {
             let (to, room) = (list.as_mut_ptr(), list.len());
             let (members, member_room) = (members.as_mut_ptr(), members.len());
-            // SAFETY: the handle is this book's; the lists have so much room, and the counts are locals
+            // SAFETY: the handle is this table's; the lists have so much room, and the counts are locals
             done(unsafe { ffi::pelgaisti_book_deadlocks(self.raw(), to, room, count, members, member_room, member_count) })
         })
-    }
-}
-
-/// Deadlocks of an office, which keeps none unless it is opened by [`crate::Office::open_telling`] or
-/// [`crate::Office::open_waking_telling`].
-impl Session {
-    /// The newest deadlocks, oldest first, as [`Book::deadlocks`] tells them. It is a question: it tries once to take the lock table, and
-    /// serves no call. [`Error::Elsewhere`]: another session has the lock table; ask again.
-    ///
-    ///     assert!(pelgaisti::Office::open_telling(2, u64::MAX, 16)?[0].deadlocks()?.found.is_empty());
-    ///     # Ok::<(), pelgaisti::Error>(())
-    pub fn deadlocks(&mut self) -> Result<Seen<Vec<Deadlock>>, Error> {
-        self.newest_deadlocks(usize::MAX)
-    }
-
-    /// The newest `most` of the deadlocks that [`Session::deadlocks`] tells, oldest first. Its cost grows with these alone.
-    ///
-    ///     assert!(pelgaisti::Office::open_telling(2, u64::MAX, 16)?[0].newest_deadlocks(1)?.found.is_empty());
-    ///     # Ok::<(), pelgaisti::Error>(())
-    pub fn newest_deadlocks(&mut self, most: usize) -> Result<Seen<Vec<Deadlock>>, Error> {
-        let (handle, mut length) = (self.raw(), 0);
-        let found = whole_deadlocks(most, |(list, count), (members, member_count)| {
-            let (to, room) = (list.as_mut_ptr(), list.len());
-            let (members, member_room) = (members.as_mut_ptr(), members.len());
-            // SAFETY: the handle is this session's, used by `&mut`; the lists have so much room, the others are locals of their types
-            done(unsafe { ffi::pelgaisti_session_deadlocks(handle, to, room, count, members, member_room, member_count, &mut length) })
-        })?;
-        Ok(Seen { length, found })
     }
 }

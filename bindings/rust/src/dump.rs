@@ -1,11 +1,10 @@
 //! The whole state of a lock table at one moment.
 
-use crate::book::Book;
 use crate::claims::{Claim, Transaction};
 use crate::error::{done, Error};
-use crate::ffi::{self, RawClaim};
+use crate::ffi::{self, RawClaim, RawDumping};
 use crate::lists::whole_list;
-use crate::office::Session;
+use crate::table::Table;
 use std::fmt;
 
 /// The whole state of a lock table at one moment, with its place in the history. It is displayed as the rows of `glm show --csv`.
@@ -34,7 +33,8 @@ impl Dump {
         })
     }
 
-    /// All locks and all waiting requests, in the order of [`Book::locks`].
+    /// All locks and all waiting requests: resource by resource, in the order of paths; of each resource its holders by session number, then its
+    /// queue in the order in which it is granted.
     pub fn claims(&self) -> impl Iterator<Item = Claim> + '_ {
         self.rows.iter().filter_map(Claim::of)
     }
@@ -43,8 +43,7 @@ impl Dump {
 impl fmt::Display for Dump {
     fn fmt(&self, to: &mut fmt::Formatter<'_>) -> fmt::Result {
         let mut line = [0u8; 128];
-        // SAFETY: the call takes nothing
-        let mut at = unsafe { ffi::pelgaisti_dump_begin() };
+        let mut at = RawDumping::default();
         loop {
             let (rows, count) = (self.rows.as_ptr(), self.rows.len());
             // SAFETY: the rows are those of one dump, and so many; the place was made for them; the line has so much room
@@ -63,7 +62,7 @@ impl fmt::Debug for Dump {
     }
 }
 
-impl Book {
+impl Table {
     /// The whole state: the open transactions, and all locks and waiting requests.
     ///
     ///     # use pelgaisti::{Book, Call, Mode, Resource};
@@ -79,25 +78,8 @@ impl Book {
     pub fn dump(&self) -> Result<Dump, Error> {
         let mut place = 0;
         let rows = whole_list(|row: &RawClaim| Some(*row), |list, count| {
-            // SAFETY: the handle is this book's; the list has so much room, and the others are locals
+            // SAFETY: the handle is this table's; the list has so much room, and the others are locals
             done(unsafe { ffi::pelgaisti_book_dump(self.raw(), list.as_mut_ptr(), list.len(), count, &mut place) })
-        })?;
-        Ok(Dump { place, rows })
-    }
-}
-
-impl Session {
-    /// The whole state of one moment, as [`Book::dump`] gives it. It tries once to take the lock table, and while it copies, no other
-    /// session can take it. [`Error::Elsewhere`]: another session has the lock table; ask again.
-    ///
-    ///     assert_eq!(pelgaisti::Office::open(1)?[0].dump()?.to_string(), "");
-    ///     # Ok::<(), pelgaisti::Error>(())
-    pub fn dump(&mut self) -> Result<Dump, Error> {
-        let (handle, mut place) = (self.raw(), 0);
-        let rows = whole_list(|row: &RawClaim| Some(*row), |list, count| {
-            let (to, room) = (list.as_mut_ptr(), list.len());
-            // SAFETY: the handle is this session's, used by `&mut`; the list has so much room, the others are locals of their types
-            done(unsafe { ffi::pelgaisti_session_dump(handle, to, room, count, &mut place) })
         })?;
         Ok(Dump { place, rows })
     }

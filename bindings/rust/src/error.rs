@@ -4,8 +4,7 @@ use crate::ffi;
 use std::fmt;
 
 /// Why a call made nothing. Nothing has changed then, but for [`Error::Elsewhere`], after which a pending call that wasn't listed
-/// may be; for [`Error::NoMemory`] of a session's question or of [`crate::Session::reserve`], after which the session may know more of the
-/// history; and for the calls that are made of several: `perform`, `resume`, `run`, `resume_program`, `lock` and `wait` say what they leave.
+/// may be; and for the calls that are made of several: `perform`, `resume`, `run`, `resume_program`, `lock` and `wait` say what they leave.
 #[derive(Clone, Copy, Debug, PartialEq, Eq, Hash)]
 pub enum Error {
     /// Memory was refused. The same call may be made again.
@@ -32,8 +31,6 @@ pub enum Error {
     Missing,
     /// The entry at this place of the history was let go.
     LetGo,
-    /// Calls were served already.
-    Served,
     /// The library is of another version than this crate.
     OtherVersion,
 }
@@ -53,7 +50,6 @@ impl fmt::Display for Error {
             Error::OtherOffice => "the sessions are of different offices",
             Error::Missing => "a session of the office wasn't handed in",
             Error::LetGo => "the entry at this place was let go",
-            Error::Served => "calls were served already",
             Error::OtherVersion => "the library is of another version",
         })
     }
@@ -77,7 +73,6 @@ pub(crate) fn done(status: u32) -> Result<(), Error> {
         ffi::OTHER_OFFICE => Error::OtherOffice,
         ffi::MISSING => Error::Missing,
         ffi::LET_GO => Error::LetGo,
-        ffi::SERVED => Error::Served,
         other => unreachable!("status {other}, which the types of this crate rule out"),
     })
 }

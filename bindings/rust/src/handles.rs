@@ -1,9 +1,11 @@
 //! Handles, each at one place from its opening to its end.
 
 use crate::error::{done, Error};
-use crate::ffi::{self, RawHandle, RawPass, RawProgramAnswer, MAX_SESSIONS};
-use crate::lists::list_for;
+use crate::ffi::{self, RawPass, RawProgramAnswer, RawSession, MAX_SESSIONS};
+use crate::lists::{filled, list_for};
+use crate::options::Options;
 use crate::shared::Shared;
+use crate::table::Table;
 use crate::waker::PlacedWaker;
 use std::cell::UnsafeCell;
 use std::mem;
@@ -11,31 +13,15 @@ use std::ptr;
 use std::sync::atomic::{AtomicU64, Ordering};
 use std::sync::{Mutex, MutexGuard, PoisonError};
 
-/// So many handles that aren't open yet.
-pub(crate) fn closed(count: usize) -> Result<Box<[UnsafeCell<RawHandle>]>, Error> {
-    let mut handles = list_for(count)?;
-    handles.resize_with(count, || UnsafeCell::new(RawHandle::EMPTY));
-    Ok(handles.into_boxed_slice())
-}
-
-/// How an office is opened.
-#[derive(Clone, Copy)]
-pub(crate) enum Opening {
-    /// With a seed of its own.
-    Plain,
-    /// With this seed.
-    Seeded(u64),
-    /// With a seed of its own, keeping so many of the newest deadlocks.
-    Telling(usize),
-}
-
 /// The handles of an office's sessions.
 pub(crate) struct Handles {
-    all: Box<[UnsafeCell<RawHandle>]>,
+    all: Box<[UnsafeCell<RawSession>]>,
+    // of each session the handle of its look
+    views: Box<[Table]>,
     // the indices of the sessions that were dropped, with room for all, so that a drop asks for no memory
     dropped: Mutex<Vec<usize>>,
     // of each session the newest transaction that somebody has asked to end, 0 if there is none
-    asked: Vec<AtomicU64>,
+    asked: Box<[AtomicU64]>,
     // behind the handles: what the library has of it is read by calls on them
     waker: Option<PlacedWaker>,
 }
@@ -46,46 +32,43 @@ unsafe impl Send for Handles {}
 // SAFETY: as above
 unsafe impl Sync for Handles {}
 
+fn closed() -> UnsafeCell<RawSession> {
+    UnsafeCell::new(RawSession {
+        is_open_: 0,
+        note_: 0,
+        at_: ptr::null_mut(),
+    })
+}
+
 impl Handles {
     /// Opens an office.
-    pub(crate) fn open(
-        sessions: usize,
-        bound: u64,
-        waker: Option<PlacedWaker>,
-        opening: Opening,
-    ) -> Result<Shared<Handles>, Error> {
+    pub(crate) fn open(options: &Options, waker: Option<PlacedWaker>) -> Result<Shared<Handles>, Error> {
+        let sessions = options.sessions as usize;
         if sessions == 0 || sessions > MAX_SESSIONS {
             return Err(Error::NoSuchCount);
         }
-        let mut asked = list_for(sessions)?;
-        asked.resize_with(sessions, AtomicU64::default);
         let handles = Shared::new(Handles {
-            all: closed(sessions)?,
+            all: filled(sessions, closed)?,
+            views: filled(sessions, Table::closed)?,
             dropped: Mutex::new(list_for(sessions)?),
-            asked,
+            asked: filled(sessions, AtomicU64::default)?,
             waker,
         })?;
         // of the whole slice, not of its first handle
         let first = UnsafeCell::raw_get(handles.all.as_ptr());
-        let waker = handles.waker.as_ref().map(|it| it.raw());
-        done(match (waker, opening) {
-            // SAFETY: there are so many handles, empty, at places that they keep while these `Handles` live
-            (None, Opening::Plain) => unsafe { ffi::pelgaisti_office_open_keeping(first, sessions, bound) },
-            // SAFETY: likewise; the waker keeps its place and its fields as long, and `wake` returns whatever the closure does
-            (Some(waker), Opening::Plain) => unsafe { ffi::pelgaisti_office_open_waking(first, sessions, bound, waker) },
-            // SAFETY: likewise; the waker may be null
-            (_, Opening::Seeded(seed)) => unsafe {
-                ffi::pelgaisti_office_open_seeded(first, sessions, bound, waker.unwrap_or(ptr::null()), seed)
-            },
-            // SAFETY: likewise
-            (_, Opening::Telling(deadlocks)) => unsafe {
-                ffi::pelgaisti_office_open_telling(first, sessions, bound, waker.unwrap_or(ptr::null()), deadlocks)
-            },
-        })?;
+        let raw = options.raw(handles.waker.as_ref().map_or(ptr::null(), |it| it.raw()));
+        // SAFETY: there are so many handles, empty, at places that they keep while these `Handles` live. A waker keeps its place and its
+        // fields as long, and its function returns whatever the closure does
+        done(unsafe { ffi::pelgaisti_office_open(first, &raw) })?;
         Ok(handles)
     }
 
-    pub(crate) fn raw(&self, index: usize) -> *mut RawHandle {
+    /// The handle of the look of the session with this index.
+    pub(crate) fn view(&self, index: usize) -> &Table {
+        &self.views[index]
+    }
+
+    pub(crate) fn raw(&self, index: usize) -> *mut RawSession {
         self.all[index].get()
     }
 
@@ -129,10 +112,10 @@ impl Handles {
                 Some(to) => drop(unsafe { ffi::pelgaisti_session_hand_in(handle, to) }),
             }
         }
-        let mut book = RawHandle::EMPTY;
+        let book = Table::closed();
         // SAFETY: no session is left to use the handle; the book's is a local that is empty, and is open between the two calls only
         first_open.map_or(true, |last| unsafe {
-            ffi::pelgaisti_office_close(last, &mut book) == ffi::OK && ffi::pelgaisti_book_close(&mut book) == ffi::OK
+            ffi::pelgaisti_office_close(last, book.raw()) == ffi::OK && ffi::pelgaisti_book_close(book.raw()) == ffi::OK
         })
     }
 }
@@ -144,8 +127,8 @@ impl Drop for Handles {
             waker.end();
         }
         if !self.close() {
-            // memory was refused: handles that are open keep their places
-            mem::forget((mem::take(&mut self.all), self.waker.take()));
+            // memory was refused, or a look was leaked: handles that are open keep their places
+            mem::forget((mem::take(&mut self.all), mem::take(&mut self.views), self.waker.take()));
         }
     }
 }

@@ -10,6 +10,13 @@ pub(crate) fn list_for<T>(room: usize) -> Result<Vec<T>, Error> {
     Ok(list)
 }
 
+/// A boxed list of so many, which are made one after another.
+pub(crate) fn filled<T>(count: usize, made: impl FnMut() -> T) -> Result<Box<[T]>, Error> {
+    let mut list = list_for(count)?;
+    list.resize_with(count, made);
+    Ok(list.into_boxed_slice())
+}
+
 /// The item of a list that has one, and room for one, at its place, which `Box::from_raw` takes.
 pub(crate) fn placed<T>(one: Vec<T>) -> NonNull<T> {
     // a list of one item has the layout of the item

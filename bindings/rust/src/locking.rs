@@ -74,7 +74,7 @@ impl Session {
     ///     let mut sessions = Office::open(2)?;
     ///     let page = Resource::new(&[7, 2, 40]).unwrap();
     ///     for session in &mut sessions {
-    ///         let _ = session.perform(&Call::Begin, u64::MAX)?;
+    ///         let _ = session.perform(&Call::Begin)?;
     ///     }
     ///     assert!(sessions[0].lock(page, Mode::X, None)?.is_granted());
     ///     let late = sessions[1].lock(page, Mode::S, Some(Duration::from_millis(5)))?;
@@ -95,12 +95,12 @@ impl Session {
     ///     let mut sessions = Office::open(2)?;
     ///     let lock = Call::Lock(Resource::new(&[7]).unwrap(), Mode::X);
     ///     for session in &mut sessions {
-    ///         let _ = session.perform(&Call::Begin, u64::MAX)?;
-    ///         let _ = session.perform(&lock, u64::MAX)?;
+    ///         let _ = session.perform(&Call::Begin)?;
+    ///         let _ = session.perform(&lock)?;
     ///     }
     ///     assert_eq!(sessions[1].wait(Some(Duration::ZERO))?.outcome, Outcome::TimedOut);
-    ///     assert_eq!(sessions[1].perform(&lock, u64::MAX)?.reply, Reply::Waiting);
-    ///     let _ = sessions[0].perform(&Call::Commit, u64::MAX)?;
+    ///     assert_eq!(sessions[1].perform(&lock)?.reply, Reply::Waiting);
+    ///     let _ = sessions[0].perform(&Call::Commit)?;
     ///     assert_eq!(sessions[1].wait(None)?.outcome, Outcome::Granted);
     ///     # Ok::<(), pelgaisti::Error>(())
     pub fn wait(&mut self, within: Option<Duration>) -> Result<Locked, Error> {

@@ -3,11 +3,13 @@
 use crate::book::{entries_by, Book, Entry};
 use crate::calls::{Call, Reply};
 use crate::error::{done, same_version, Error};
-use crate::ffi::{self, RawAnswer, RawHandle, RawPass, RawProgramAnswer};
-use crate::handles::{Handles, Opening};
+use crate::ffi::{self, RawAnswer, RawPass, RawProgramAnswer, RawSession};
+use crate::handles::Handles;
 use crate::lists::{blank, list_for};
+use crate::options::Options;
 use crate::programs::{Program, ProgramAnswer};
 use crate::shared::Shared;
+use crate::table::Table;
 use crate::waker::PlacedWaker;
 use std::marker::PhantomData;
 use std::ptr;
@@ -66,51 +68,22 @@ pub struct NotClosed {
 }
 
 impl Office {
-    /// Opens an office with an empty lock table, and returns its sessions 1 to `sessions`, at most 1024.
+    /// Opens an office with an empty lock table, for so many sessions, at most 1024, or as [`Options`] say, and returns its sessions in the
+    /// order of their numbers.
     ///
-    ///     # use pelgaisti::{Call, Office, Reply};
-    ///     let mut sessions = Office::open(2)?;
-    ///     sessions[0].publish(&Call::Begin)?;
-    ///     sessions[0].serve()?;
-    ///     assert_eq!(sessions[0].collect()?.reply, Reply::Began(1));
-    ///     # Ok::<(), pelgaisti::Error>(())
-    pub fn open(sessions: u32) -> Result<Vec<Session>, Error> {
-        Office::open_keeping(sessions, u64::MAX)
-    }
-
-    /// Opens an office as [`Office::open`] does, which keeps at most the newest `bound` entries of its history in memory.
-    ///
-    ///     # use pelgaisti::{Call, Office};
-    ///     let mut sessions = Office::open_keeping(1, 2)?;
+    ///     # use pelgaisti::{Call, Office, Options};
+    ///     let mut sessions = Office::open(Options { keep: 2, ..Options::new(1) })?;
     ///     for call in [Call::Begin, Call::Poll, Call::Commit] {
-    ///         let _ = sessions[0].perform(&call, u64::MAX)?;
+    ///         let _ = sessions[0].perform(&call)?;
     ///     }
     ///     let book = Office::close(sessions).ok().unwrap();
     ///     assert_eq!((book.length(), book.first_kept()), (3, 1));
     ///     # Ok::<(), pelgaisti::Error>(())
-    pub fn open_keeping(sessions: u32, bound: u64) -> Result<Vec<Session>, Error> {
-        Office::open_by(sessions, bound, None, Opening::Plain)
+    pub fn open(options: impl Into<Options>) -> Result<Vec<Session>, Error> {
+        Office::open_by(&options.into(), None)
     }
 
-    /// Opens an office as [`Office::open_keeping`] does, whose lock table has this seed, as [`Book::open_seeded`] says.
-    ///
-    ///     assert_eq!(pelgaisti::Office::open_seeded(2, u64::MAX, 7)?.len(), 2);
-    ///     # Ok::<(), pelgaisti::Error>(())
-    pub fn open_seeded(sessions: u32, bound: u64, seed: u64) -> Result<Vec<Session>, Error> {
-        Office::open_by(sessions, bound, None, Opening::Seeded(seed))
-    }
-
-    /// Opens an office as [`Office::open_keeping`] does, whose lock table keeps the newest `deadlocks` deadlocks, for
-    /// [`Session::deadlocks`] to tell, and takes the memory for them, as [`Book::keep_deadlocks`] does. An office that is opened otherwise
-    /// keeps none.
-    ///
-    ///     assert_eq!(pelgaisti::Office::open_telling(2, u64::MAX, 16)?.len(), 2);
-    ///     # Ok::<(), pelgaisti::Error>(())
-    pub fn open_telling(sessions: u32, bound: u64, deadlocks: usize) -> Result<Vec<Session>, Error> {
-        Office::open_by(sessions, bound, None, Opening::Telling(deadlocks))
-    }
-
-    /// Opens an office as [`Office::open_keeping`] does, for an engine whose threads sleep by its own means while they wait for a lock; in
+    /// Opens an office as [`Office::open`] does, for an engine whose threads sleep by its own means while they wait for a lock; in
     /// [`Session::lock`] and [`Session::wait`] they sleep in the library. A thread that was told [`Reply::Waiting`] sleeps until `wake` is
     /// called for its session, and then polls once.
     ///
@@ -133,58 +106,22 @@ impl Office {
     ///     # use pelgaisti::{Call, Mode, Office, Resource};
     ///     # use std::sync::mpsc;
     ///     let (woken, told) = mpsc::sync_channel(2);
-    ///     let mut sessions = Office::open_waking(2, u64::MAX, move |session| woken.send(session).unwrap())?;
+    ///     let mut sessions = Office::open_waking(2, move |session| woken.send(session).unwrap())?;
     ///     for session in &mut sessions {
-    ///         let _ = session.perform(&Call::Begin, u64::MAX)?;
-    ///         let _ = session.perform(&Call::Lock(Resource::new(&[7]).unwrap(), Mode::X), u64::MAX)?;
+    ///         let _ = session.perform(&Call::Begin)?;
+    ///         let _ = session.perform(&Call::Lock(Resource::new(&[7]).unwrap(), Mode::X))?;
     ///     }
-    ///     let _ = sessions[0].perform(&Call::Commit, u64::MAX)?;
+    ///     let _ = sessions[0].perform(&Call::Commit)?;
     ///     assert_eq!(told.try_recv(), Ok(2));
     ///     # Ok::<(), pelgaisti::Error>(())
-    pub fn open_waking(
-        sessions: u32,
-        bound: u64,
-        wake: impl Fn(u32) + Send + Sync + 'static,
-    ) -> Result<Vec<Session>, Error> {
-        Office::open_by(sessions, bound, Some(PlacedWaker::new(wake)?), Opening::Plain)
+    pub fn open_waking(options: impl Into<Options>, wake: impl Fn(u32) + Send + Sync + 'static) -> Result<Vec<Session>, Error> {
+        Office::open_by(&options.into(), Some(PlacedWaker::new(wake)?))
     }
 
-    /// Opens an office as [`Office::open_waking`] does, whose lock table has this seed, as [`Book::open_seeded`] says.
-    ///
-    ///     assert_eq!(pelgaisti::Office::open_waking_seeded(2, u64::MAX, 7, |_| ())?.len(), 2);
-    ///     # Ok::<(), pelgaisti::Error>(())
-    pub fn open_waking_seeded(
-        sessions: u32,
-        bound: u64,
-        seed: u64,
-        wake: impl Fn(u32) + Send + Sync + 'static,
-    ) -> Result<Vec<Session>, Error> {
-        Office::open_by(sessions, bound, Some(PlacedWaker::new(wake)?), Opening::Seeded(seed))
-    }
-
-    /// Opens an office as [`Office::open_waking`] does, whose lock table keeps the newest `deadlocks` deadlocks, as
-    /// [`Office::open_telling`] says.
-    ///
-    ///     assert_eq!(pelgaisti::Office::open_waking_telling(2, u64::MAX, 16, |_| ())?.len(), 2);
-    ///     # Ok::<(), pelgaisti::Error>(())
-    pub fn open_waking_telling(
-        sessions: u32,
-        bound: u64,
-        deadlocks: usize,
-        wake: impl Fn(u32) + Send + Sync + 'static,
-    ) -> Result<Vec<Session>, Error> {
-        Office::open_by(sessions, bound, Some(PlacedWaker::new(wake)?), Opening::Telling(deadlocks))
-    }
-
-    fn open_by(
-        sessions: u32,
-        bound: u64,
-        waker: Option<PlacedWaker>,
-        opening: Opening,
-    ) -> Result<Vec<Session>, Error> {
+    fn open_by(options: &Options, waker: Option<PlacedWaker>) -> Result<Vec<Session>, Error> {
         same_version()?;
-        let sessions = sessions as usize;
-        let handles = Handles::open(sessions, bound, waker, opening)?;
+        let handles = Handles::open(options, waker)?;
+        let sessions = options.sessions as usize;
         let mut opened = list_for(sessions)?;
         opened.extend((0..sessions).map(|index| Session::of(&handles, index)));
         Ok(opened)
@@ -258,8 +195,13 @@ impl Session {
     }
 
     /// The handle, at its place as long as the session lives. A session that has it by `&mut` uses it alone.
-    pub(crate) fn raw(&self) -> *mut RawHandle {
+    pub(crate) fn raw(&self) -> *mut RawSession {
         self.handles.raw(self.index)
+    }
+
+    /// The handle of its look, used by whoever has the session by `&mut`, or by the look that has it so.
+    pub(crate) fn view(&self) -> &Table {
+        self.handles.view(self.index)
     }
 
     /// The session's number, from 1 on.
@@ -285,7 +227,7 @@ impl Session {
         let mut posted = 0;
         // SAFETY: the handle is this session's, used by `&mut`; the others are locals of their types
         done(unsafe { ffi::pelgaisti_session_publish(self.raw(), &call.raw(), &mut posted) })?;
-        Ok(if posted == 1 { Posted::Listed } else { Posted::Unlisted })
+        Ok(if posted == ffi::LISTED { Posted::Listed } else { Posted::Unlisted })
     }
 
     /// Tries once to take the lock table, without blocking, and if that succeeds, serves what is published.
@@ -320,33 +262,41 @@ impl Session {
         Ok(Answer::of(&answer))
     }
 
-    /// Makes a whole call, in at most `turns` turns, between which the thread pauses or yields the processor; behind 128 turns it
-    /// sleeps while another session has the lock table. In the first turn it tries to perform the call at once; in the next it
-    /// publishes it, and from then on it serves, at every eighth turn and within the bound of [`Session::bound_passes`], and looks for
-    /// the answer. If the call isn't published by the
-    /// last turn, it is published then; with no turns it is published and nothing else. The answer may be [`Reply::Waiting`]: this
-    /// waits for an answer, not for a lock.
+    /// Makes a whole call, and returns its answer. The answer may be [`Reply::Waiting`]: this waits for an answer, not for a lock, as
+    /// [`Session::lock`] does.
     ///
-    /// [`Error::NotServed`]: after so many turns there is no answer. [`Error::NoMemory`]: memory was refused, for the call or in a
-    /// pass of this session, and there is no answer yet. After both the call is pending, and [`Session::resume`] goes on with it.
+    /// It makes turns, between which the thread pauses or yields the processor; behind 128 turns it sleeps while another session has the
+    /// lock table. In the first turn it tries to perform the call at once; in the next it publishes it, and from then on it serves, at
+    /// every eighth turn and within the bound of [`Session::bound_passes`], and looks for the answer.
+    ///
+    /// [`Error::NoMemory`]: memory was refused, for the call or in a pass of this session, and there is no answer yet. The call is pending
+    /// then, and [`Session::resume`] goes on with it.
     ///
     ///     # use pelgaisti::{Call, Office, Reply};
     ///     let mut sessions = Office::open(2)?;
-    ///     assert_eq!(sessions[1].perform(&Call::Begin, u64::MAX)?.reply, Reply::Began(1));
+    ///     assert_eq!(sessions[1].perform(&Call::Begin)?.reply, Reply::Began(1));
     ///     # Ok::<(), pelgaisti::Error>(())
-    pub fn perform(&mut self, call: &Call, turns: u64) -> Result<Answer, Error> {
+    pub fn perform(&mut self, call: &Call) -> Result<Answer, Error> {
+        self.perform_within(call, ffi::FOREVER)
+    }
+
+    /// Makes a whole call, as [`Session::perform`] does, in at most `turns` turns. If the call isn't published by the last turn, it is
+    /// published then; with no turns it is published and nothing else.
+    ///
+    /// [`Error::NotServed`]: after so many turns there is no answer. The call is pending then, as behind [`Error::NoMemory`].
+    pub fn perform_within(&mut self, call: &Call, turns: u64) -> Result<Answer, Error> {
         let mut answer = RawAnswer::default();
         // SAFETY: the handle is this session's, used by `&mut`; call and answer are locals of their types
         done(unsafe { ffi::pelgaisti_session_perform(self.raw(), &call.raw(), turns, &mut answer) })?;
         Ok(Answer::of(&answer))
     }
 
-    /// Goes on with the pending call: all turns look for its answer, as those of [`Session::perform`] do that come last.
+    /// Goes on with the pending call, in at most `turns` turns: all look for its answer, as those of [`Session::perform`] do that come last.
     /// [`Error::Pending`]: what is pending is a program of several calls, which [`Session::resume_program`] finishes.
     ///
     ///     # use pelgaisti::{Call, Error, Office, Reply};
     ///     let mut sessions = Office::open(2)?;
-    ///     assert_eq!(sessions[1].perform(&Call::Begin, 0), Err(Error::NotServed));
+    ///     assert_eq!(sessions[1].perform_within(&Call::Begin, 0), Err(Error::NotServed));
     ///     assert_eq!(sessions[1].resume(1)?.reply, Reply::Began(1));
     ///     # Ok::<(), pelgaisti::Error>(())
     pub fn resume(&mut self, turns: u64) -> Result<Answer, Error> {
@@ -356,36 +306,42 @@ impl Session {
         Ok(Answer::of(&answer))
     }
 
-    /// Runs a whole program, in at most `turns` turns, as [`Session::perform`] makes them of a call: it is tried at once, then published as
-    /// one. No other session's call comes between its calls in the history.
+    /// Runs a whole program, as [`Session::perform`] makes a call: it is tried at once, then published as one. No other session's call comes
+    /// between its calls in the history.
     ///
-    /// [`Error::NotServed`]: after so many turns there is no answer. [`Error::NoMemory`]: memory was refused, to the first call or in a pass
-    /// of this session, and there is no answer yet. After both the program is pending, and [`Session::resume_program`] goes on with it. If
-    /// memory is refused to a later call, the answer says so. [`Error::NoCalls`]: the program makes no call.
+    /// [`Error::NoMemory`]: memory was refused, to the first call or in a pass of this session, and there is no answer yet. The program is
+    /// pending then, and [`Session::resume_program`] goes on with it. If memory is refused to a later call, the answer says so.
+    /// [`Error::NoCalls`]: the program makes no call.
     ///
     ///     # use pelgaisti::{Mode, Office, Program, Reply, Resource, Start};
     ///     let mut sessions = Office::open(2)?;
     ///     let page = Resource::new(&[7, 2]).unwrap();
     ///     let program = Program::locks(Start::Begins, page, Mode::X, 0).unwrap();
-    ///     let answer = sessions[0].run(&program, u64::MAX)?;
-    ///     assert!(answer.replies().eq([Reply::Began(1), Reply::Granted(Mode::IX), Reply::Granted(Mode::X)]));
+    ///     let answer = sessions[0].run(&program)?;
+    ///     assert!(answer.replies(&program).eq([Reply::Began(1), Reply::Granted(Mode::IX), Reply::Granted(Mode::X)]));
     ///     # Ok::<(), pelgaisti::Error>(())
-    pub fn run(&mut self, program: &Program, turns: u64) -> Result<ProgramAnswer, Error> {
+    pub fn run(&mut self, program: &Program) -> Result<ProgramAnswer, Error> {
+        self.run_within(program, ffi::FOREVER)
+    }
+
+    /// Runs a whole program, as [`Session::run`] does, in at most `turns` turns. [`Error::NotServed`]: after so many there is no answer, and
+    /// the program is pending.
+    pub fn run_within(&mut self, program: &Program, turns: u64) -> Result<ProgramAnswer, Error> {
         let mut answer = RawProgramAnswer::default();
         // SAFETY: the handle is this session's, used by `&mut`; the answer is a local of its type
         done(unsafe { ffi::pelgaisti_session_run(self.raw(), program.raw(), turns, &mut answer) })?;
         Ok(ProgramAnswer::of(answer))
     }
 
-    /// Goes on with the pending program: all turns look for its answer. A pending call is a program of one call.
+    /// Goes on with the pending program, in at most `turns` turns: all look for its answer. A pending call is a program of one call.
     ///
     ///     # use pelgaisti::{Error, Office, Program, Reply, Start};
     ///     let mut sessions = Office::open(2)?;
-    ///     sessions[1].run(&Program::start(Start::Begins), u64::MAX)?;
+    ///     let _ = sessions[1].run(&Program::start(Start::Begins))?;
     ///     let next = Program::start(Start::CommitsAndBegins);
-    ///     assert_eq!(sessions[1].run(&next, 0).err(), Some(Error::NotServed));
+    ///     assert_eq!(sessions[1].run_within(&next, 0).err(), Some(Error::NotServed));
     ///     assert_eq!(sessions[1].resume(1), Err(Error::Pending));
-    ///     assert!(sessions[1].resume_program(1)?.replies().eq([Reply::Committed(0), Reply::Began(2)]));
+    ///     assert!(sessions[1].resume_program(1)?.replies(&next).eq([Reply::Committed(0), Reply::Began(2)]));
     ///     # Ok::<(), pelgaisti::Error>(())
     pub fn resume_program(&mut self, turns: u64) -> Result<ProgramAnswer, Error> {
         let mut answer = RawProgramAnswer::default();
@@ -401,7 +357,7 @@ impl Session {
     ///
     ///     # use pelgaisti::{Call, Office};
     ///     let mut sessions = Office::open(1)?;
-    ///     let _ = sessions[0].perform(&Call::Begin, u64::MAX)?;
+    ///     let _ = sessions[0].perform(&Call::Begin)?;
     ///     let (first, entries) = sessions[0].take_history(64)?;
     ///     assert_eq!((first, entries.len(), entries[0].call), (0, 1, Call::Begin));
     ///     assert_eq!(sessions[0].take_history(64)?.0, 1);

@@ -18,8 +18,8 @@ pub struct Operator {
 
 impl Operator {
     /// Asks that this transaction of the session with this number end: leaves the mark that [`Session::is_asked_to_end`] reads, and
-    /// calls the waker, if the office has one, for the session, on this thread, whether the session waits or not. [`Session::locks`]
-    /// and [`Session::transaction`] tell the numbers.
+    /// calls the waker, if the office has one, for the session, on this thread, whether the session waits or not. A look tells the
+    /// numbers ([`Session::look`], [`crate::Table::transaction`]).
     ///
     /// The mark is the transaction's: who asks too late asks nothing of the session's next one. [`Error::NoSuchSession`]: the office
     /// has no session with this number, or is closed.
@@ -27,10 +27,10 @@ impl Operator {
     ///     # use pelgaisti::{Call, Error, Office, Reply};
     ///     let mut sessions = Office::open(2)?;
     ///     let operator = sessions[0].operator();
-    ///     assert_eq!(sessions[1].perform(&Call::Begin, u64::MAX)?.reply, Reply::Began(1));
+    ///     assert_eq!(sessions[1].perform(&Call::Begin)?.reply, Reply::Began(1));
     ///     operator.ask_to_end(2, 1)?;
     ///     assert!(sessions[1].is_asked_to_end(1));
-    ///     assert_eq!(sessions[1].perform(&Call::Abort, u64::MAX)?.reply, Reply::Aborted(0));
+    ///     assert_eq!(sessions[1].perform(&Call::Abort)?.reply, Reply::Aborted(0));
     ///     assert_eq!(operator.ask_to_end(3, 1), Err(Error::NoSuchSession));
     ///     # Ok::<(), Error>(())
     pub fn ask_to_end(&self, session: u32, transaction: u64) -> Result<(), Error> {

@@ -22,12 +22,12 @@ impl Office {
     ///     # use pelgaisti::{Call, Mode, Office, Reply, Resource};
     ///     let mut sessions = Office::open(2)?;
     ///     let mut lost = sessions.pop().unwrap();
-    ///     let _ = lost.perform(&Call::Begin, u64::MAX)?;
-    ///     let _ = lost.perform(&Call::Lock(Resource::new(&[7]).unwrap(), Mode::X), u64::MAX)?;
+    ///     let _ = lost.perform(&Call::Begin)?;
+    ///     let _ = lost.perform(&Call::Lock(Resource::new(&[7]).unwrap(), Mode::X))?;
     ///     drop(lost);
     ///     let mut orphans = Office::orphans(&sessions[0])?;
     ///     assert_eq!(orphans[0].number(), 2);
-    ///     assert_eq!(orphans[0].perform(&Call::Abort, u64::MAX)?.reply, Reply::Aborted(1));
+    ///     assert_eq!(orphans[0].perform(&Call::Abort)?.reply, Reply::Aborted(1));
     ///     sessions.append(&mut orphans);
     ///     assert!(Office::close(sessions).is_ok());
     ///     # Ok::<(), pelgaisti::Error>(())

@@ -1,30 +1,23 @@
 //! How many locks a session holds, and pages of them.
 
-use crate::book::Book;
 use crate::calls::Resource;
 use crate::claims::Claim;
 use crate::error::{done, Error};
 use crate::ffi::{self, RawClaim, RawResource, MAX_LOCKS};
 use crate::lists::{blank, each};
-use crate::looks::Seen;
-use crate::office::Session;
-
-/// The resource behind which a page begins: level 0 stands for none.
-fn begin(after: Option<Resource>) -> RawResource {
-    after.map_or_else(RawResource::default, Resource::raw)
-}
+use crate::table::Table;
 
 /// Pages of one session's locks. A page has the first locks on resources behind another, in the order of paths; the next one begins behind
 /// the resource of its last lock. Pages that are read so tell no resource twice, whatever is called between them, and each lock that the
 /// session held at all of them is told by the time a page is short. What a page costs grows with the locks of that session alone.
-impl Book {
+impl Table {
     /// How many locks the session holds, at most 4096: an engine escalates before it is refused a lock.
     ///
     ///     assert_eq!(pelgaisti::Book::open(1)?.locks_held(1)?, 0);
     ///     # Ok::<(), pelgaisti::Error>(())
     pub fn locks_held(&self, session: u32) -> Result<usize, Error> {
         let mut count = 0;
-        // SAFETY: the handle is this book's; the count is a local
+        // SAFETY: the handle is this table's; the count is a local
         done(unsafe { ffi::pelgaisti_book_locks_held(self.raw(), session, &mut count) })?;
         Ok(count)
     }
@@ -47,40 +40,9 @@ impl Book {
     pub fn locks_of(&self, session: u32, after: Option<Resource>, most: usize) -> Result<Vec<Claim>, Error> {
         let (mut list, mut count) = (blank::<RawClaim>(most.min(MAX_LOCKS))?, 0);
         let (to, room) = (list.as_mut_ptr(), list.len());
-        // SAFETY: the handle is this book's; the list has so much room, the others are locals of their types
-        done(unsafe { ffi::pelgaisti_book_locks_of(self.raw(), session, &begin(after), to, room, &mut count) })?;
+        let after = after.map_or_else(RawResource::default, Resource::raw); // level 0 stands for none
+        // SAFETY: the handle is this table's; the list has so much room, the others are locals of their types
+        done(unsafe { ffi::pelgaisti_book_locks_of(self.raw(), session, &after, to, room, &mut count) })?;
         each(&list[..count], Claim::of)
-    }
-}
-
-/// Pages of one session's locks, as those of a [`Book`]: each call tries once to take the lock table, as a question does.
-impl Session {
-    /// How many locks session `whose` holds, as [`Book::locks_held`] tells it.
-    ///
-    ///     assert_eq!(pelgaisti::Office::open(2)?[0].locks_held(2)?.found, 0);
-    ///     # Ok::<(), pelgaisti::Error>(())
-    pub fn locks_held(&mut self, whose: u32) -> Result<Seen<usize>, Error> {
-        let (mut found, mut length) = (0, 0);
-        // SAFETY: the handle is this session's, used by `&mut`; the others are locals of their types
-        done(unsafe { ffi::pelgaisti_session_locks_held(self.raw(), whose, &mut found, &mut length) })?;
-        Ok(Seen { length, found })
-    }
-
-    /// A page of the locks of session `whose`, as [`Book::locks_of`] tells it. Other sessions may call between two pages. While it reads
-    /// one, no other session can take the lock table.
-    ///
-    ///     # use pelgaisti::{Call, Mode, Office, Resource};
-    ///     let mut sessions = Office::open(2)?;
-    ///     let _ = sessions[0].perform(&Call::Begin, u64::MAX)?;
-    ///     let _ = sessions[0].perform(&Call::Lock(Resource::new(&[7]).unwrap(), Mode::X), u64::MAX)?;
-    ///     assert_eq!(sessions[1].locks_of(1, None, 8)?.found[0].mode, Mode::X);
-    ///     # Ok::<(), pelgaisti::Error>(())
-    pub fn locks_of(&mut self, whose: u32, after: Option<Resource>, most: usize) -> Result<Seen<Vec<Claim>>, Error> {
-        let (mut list, mut count, mut length) = (blank::<RawClaim>(most.min(MAX_LOCKS))?, 0, 0);
-        let (to, room) = (list.as_mut_ptr(), list.len());
-        // SAFETY: the handle is this session's, used by `&mut`; the list has so much room, the others are locals of their types
-        done(unsafe { ffi::pelgaisti_session_locks_of(self.raw(), whose, &begin(after), to, room, &mut count, &mut length) })?;
-        let found = each(&list[..count], Claim::of)?;
-        Ok(Seen { length, found })
     }
 }

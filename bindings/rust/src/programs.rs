@@ -1,7 +1,7 @@
 //! Programs: several calls of a session that are made as one, and the answers to them.
 
 use crate::calls::{level_code, Call, Mode, Reply, Resource};
-use crate::ffi::{RawCall, RawProgram, RawProgramAnswer};
+use crate::ffi::{self, RawCall, RawProgram, RawProgramAnswer, RawReply, CALLS};
 
 /// What a program does with the session's transaction first.
 #[derive(Clone, Copy, Debug, PartialEq, Eq, Hash)]
@@ -25,13 +25,13 @@ pub enum Start {
 impl Start {
     fn number(self) -> u32 {
         match self {
-            Start::Nothing => 0,
-            Start::Begins => 1,
-            Start::Commits => 2,
-            Start::Aborts => 3,
-            Start::CommitsAndBegins => 4,
-            Start::AbortsAndBegins => 5,
-            Start::Restarts => 6,
+            Start::Nothing => ffi::NOTHING,
+            Start::Begins => ffi::BEGINS,
+            Start::Commits => ffi::COMMITS,
+            Start::Aborts => ffi::ABORTS,
+            Start::CommitsAndBegins => ffi::COMMITS_AND_BEGINS,
+            Start::AbortsAndBegins => ffi::ABORTS_AND_BEGINS,
+            Start::Restarts => ffi::RESTARTS,
         }
     }
 }
@@ -47,7 +47,8 @@ impl Program {
     ///
     ///     # use pelgaisti::{Book, Program, Reply, Start};
     ///     let mut book = Book::open(1)?;
-    ///     assert!(book.run(1, &Program::start(Start::Begins), &mut vec![])?.replies().eq([Reply::Began(1)]));
+    ///     let begin = Program::start(Start::Begins);
+    ///     assert!(book.run(1, &begin)?.replies(&begin).eq([Reply::Began(1)]));
     ///     # Ok::<(), pelgaisti::Error>(())
     pub fn start(first: Start) -> Program {
         Program {
@@ -62,8 +63,10 @@ impl Program {
     ///
     ///     # use pelgaisti::{Book, Call, Program, Reply};
     ///     let mut book = Book::open(1)?;
-    ///     assert!(book.run(1, &Program::one(&Call::Poll), &mut vec![])?.replies().count() == 1);
-    ///     assert!(book.run(1, &Program::one(&Call::Begin), &mut vec![])?.replies().eq([Reply::Began(1)]));
+    ///     for (call, reply) in [(Call::Begin, Reply::Began(1)), (Call::Poll, Reply::Clear)] {
+    ///         let program = Program::one(&call);
+    ///         assert!(book.run(1, &program)?.replies(&program).eq([reply]));
+    ///     }
     ///     # Ok::<(), pelgaisti::Error>(())
     pub fn one(call: &Call) -> Program {
         match call {
@@ -124,31 +127,35 @@ impl Program {
 #[must_use = "the program may have stopped at a reply, or lacked memory"]
 #[derive(Clone, Copy)]
 pub struct ProgramAnswer {
+    /// The index of the first call's entry in the history; if no call was served, of the next one.
+    pub place: u64,
+    /// How many of its calls were served.
+    pub served: usize,
+    /// Whether memory was refused to the call behind those that were served.
+    pub starved: bool,
+    /// The reply at which it stopped, its last: `Waiting`, `Deadlock` or a refusal.
+    pub stop: Option<Reply>,
     raw: RawProgramAnswer,
 }
 
 impl ProgramAnswer {
     pub(crate) fn of(raw: RawProgramAnswer) -> ProgramAnswer {
-        ProgramAnswer { raw }
+        let served = raw.served as usize;
+        let value = raw.values[..served].last().copied().unwrap_or(0);
+        ProgramAnswer {
+            place: raw.place,
+            served,
+            starved: raw.starved != 0,
+            stop: (raw.stop != 0).then(|| Reply::of(&RawReply { kind: raw.stop, value })),
+            raw,
+        }
     }
 
-    /// The index of the first call's entry in the history; if no call was served, of the next one.
-    pub fn place(&self) -> u64 {
-        self.raw.place
-    }
-
-    /// The reply to each call that was served.
-    pub fn replies(&self) -> impl ExactSizeIterator<Item = Reply> + '_ {
-        self.raw.replies[..self.raw.served as usize].iter().map(Reply::of)
-    }
-
-    /// Whether the program stopped at its last reply, which is then `Waiting`, `Deadlock` or a refusal.
-    pub fn stopped(&self) -> bool {
-        self.raw.stop != 0
-    }
-
-    /// Whether memory was refused to the call behind those that were served.
-    pub fn starved(&self) -> bool {
-        self.raw.starved != 0
+    /// The reply to each call that was served. `program` is the one that was answered; of another one the replies mean nothing.
+    pub fn replies(&self, program: &Program) -> impl ExactSizeIterator<Item = Reply> {
+        let mut list = [RawReply::default(); CALLS];
+        // SAFETY: program and answer are of their types, and the list has room for the replies of any program
+        let count = unsafe { ffi::pelgaisti_program_replies(program.raw(), &self.raw, list.as_mut_ptr()) };
+        list.map(|it| Reply::of(&it)).into_iter().take(count as usize)
     }
 }

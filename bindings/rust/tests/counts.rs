@@ -70,13 +70,13 @@ fn counters_move() {
     let mut sessions = Office::open(2).unwrap();
     for (session, call) in calls() {
         let reply = book.serve(session, &call).unwrap();
-        let answer = sessions[session as usize - 1].perform(&call, u64::MAX).unwrap();
+        let answer = sessions[session as usize - 1].perform(&call).unwrap();
         assert_eq!(reply, answer.reply);
-        let seen = sessions[0].counts().unwrap();
-        assert_eq!((seen.found, seen.length), (book.counts().unwrap(), book.length()));
+        let view = sessions[0].look().unwrap();
+        assert_eq!((view.counts(), view.gauges(), view.length()), (book.counts(), book.gauges(), book.length()));
     }
     assert_eq!(book.serve(2, &Call::Poll).unwrap(), Reply::Clear);
     book.keep_at_most(0);
     assert_eq!(book.counts().unwrap().calls.poll, 4);
-    expected(&sessions[1].counts().unwrap().found);
+    expected(&sessions[1].look().unwrap().counts().unwrap());
 }

@@ -1,6 +1,6 @@
 //! The newest deadlocks that books and offices tell, and their text.
 
-use pelgaisti::{Book, Call, ClaimKind, Deadlock, Error, Mode, Office, Reply, Resource, Session};
+use pelgaisti::{Book, Call, ClaimKind, Deadlock, Error, Mode, Office, Options, Reply, Resource, Session};
 use std::sync::mpsc;
 
 fn database(number: u32) -> Resource {
@@ -51,14 +51,13 @@ fn cross(book: &mut Book, transactions: [u64; 2]) {
 #[test]
 fn the_newest_are_told() {
     for most in [0, 1, 3, 9, 30] {
-        let mut book = Book::open(2).unwrap();
-        book.keep_deadlocks(most).unwrap();
+        let mut book = Book::open(Options { deadlocks: most, ..Options::new(2) }).unwrap();
         assert_eq!(book.deadlocks(), Ok(vec![]));
         for round in 0..20 {
             cross(&mut book, [2 * round + 1, 2 * round + 2]);
         }
         let told = book.deadlocks().unwrap();
-        assert_eq!(told.len(), most.min(20));
+        assert_eq!(told.len(), most.min(20) as usize);
         for (round, deadlock) in (20 - told.len() as u64..).zip(&told) {
             want_cross(deadlock, 8 * round + 5, [2 * round + 1, 2 * round + 2]);
         }
@@ -71,28 +70,11 @@ fn the_newest_are_told() {
     assert_eq!(unasked.deadlocks(), Ok(vec![]));
 }
 
-/// The log is asked for before the first call.
-#[test]
-fn asking_too_late() {
-    let mut book = Book::open(2).unwrap();
-    book.keep_deadlocks(9).unwrap();
-    book.keep_deadlocks(1).unwrap();
-    assert_eq!(book.keep_deadlocks(usize::MAX), Err(Error::NoMemory));
-    cross(&mut book, [1, 2]);
-    assert_eq!(book.keep_deadlocks(9), Err(Error::Served));
-    cross(&mut book, [3, 4]);
-    let told = book.deadlocks().unwrap();
-    assert_eq!(told.len(), 1);
-    want_cross(&told[0], 13, [3, 4]);
-    assert_eq!(Error::Served.to_string(), "calls were served already");
-}
-
 /// A cycle of 40 sessions, each of which waits for the next one; the victim is the last, which waits for the first.
 #[test]
 fn a_long_cycle_is_told() {
     const MANY: u32 = 40;
-    let mut book = Book::open(MANY).unwrap();
-    book.keep_deadlocks(1).unwrap();
+    let mut book = Book::open(Options { deadlocks: 1, ..Options::new(MANY) }).unwrap();
     for session in 1..=MANY {
         assert_eq!(book.serve(session, &Call::Begin).unwrap(), Reply::Began(u64::from(session)));
         assert_eq!(book.serve(session, &lock(session, Mode::X)).unwrap(), Reply::Granted(Mode::X));
@@ -112,8 +94,7 @@ fn a_long_cycle_is_told() {
 /// the conversion is ahead: a cycle of 1, 3 and 2, whose youngest is session 3. With its request the obstacle goes.
 #[test]
 fn each_wait_has_its_words() {
-    let mut book = Book::open(3).unwrap();
-    book.keep_deadlocks(1).unwrap();
+    let mut book = Book::open(Options { deadlocks: 1, ..Options::new(3) }).unwrap();
     let below = Resource::new(&[2, 7, 40]).unwrap();
     serve(
         &mut book,
@@ -147,8 +128,7 @@ fn each_wait_has_its_words() {
 /// place 7, asks for 1 in S, beside session 2's lock, but behind session 3's request.
 #[test]
 fn a_request_ahead_blocks() {
-    let mut book = Book::open(3).unwrap();
-    book.keep_deadlocks(1).unwrap();
+    let mut book = Book::open(Options { deadlocks: 1, ..Options::new(3) }).unwrap();
     serve(
         &mut book,
         &[
@@ -174,7 +154,7 @@ fn a_request_ahead_blocks() {
 }
 
 fn reply(session: &mut Session, call: Call) -> Reply {
-    session.perform(&call, u64::MAX).unwrap().reply
+    session.perform(&call).unwrap().reply
 }
 
 /// Offices that were told to keep deadlocks when they were opened, with a closure that wakes and without, and one that wasn't.
@@ -182,22 +162,23 @@ fn reply(session: &mut Session, call: Call) -> Reply {
 fn offices_tell() {
     let (woken, told) = mpsc::sync_channel(8);
     let wake = move |session| woken.send(session).unwrap();
-    let telling = Office::open_telling(2, u64::MAX, 4).unwrap();
-    let waking = Office::open_waking_telling(2, 3, 4, wake).unwrap();
+    let options = Options { deadlocks: 4, ..Options::new(2) };
+    let telling = Office::open(options).unwrap();
+    let waking = Office::open_waking(Options { keep: 3, ..options }, wake).unwrap();
     for (mut sessions, kept) in [(telling, 1), (waking, 1), (Office::open(2).unwrap(), 0)] {
         for (index, session) in sessions.iter_mut().enumerate() {
             assert_eq!(reply(session, Call::Begin), Reply::Began(index as u64 + 1));
         }
         assert_eq!(reply(&mut sessions[0], lock(1, Mode::X)), Reply::Granted(Mode::X));
         assert_eq!(reply(&mut sessions[1], lock(2, Mode::S)), Reply::Granted(Mode::S));
-        let seen = sessions[0].deadlocks().unwrap();
-        assert_eq!((seen.length, seen.found), (4, vec![]));
+        assert_eq!(sessions[0].look().unwrap().deadlocks(), Ok(vec![]));
         assert_eq!(reply(&mut sessions[0], lock(2, Mode::X)), Reply::Waiting);
         assert_eq!(reply(&mut sessions[1], lock(1, Mode::S)), Reply::Deadlock);
         for session in &mut sessions {
-            let seen = session.deadlocks().unwrap();
-            assert_eq!((seen.length, seen.found.len()), (6, kept));
-            seen.found.iter().for_each(|it| want_cross(it, 5, [1, 2]));
+            let view = session.look().unwrap();
+            let told = view.deadlocks().unwrap();
+            assert_eq!((view.length(), told.len()), (6, kept));
+            told.iter().for_each(|it| want_cross(it, 5, [1, 2]));
         }
         assert_eq!(reply(&mut sessions[1], Call::Abort), Reply::Aborted(1));
         assert_eq!(reply(&mut sessions[0], Call::Commit), Reply::Committed(2));
@@ -207,7 +188,8 @@ fn offices_tell() {
         told.iter().for_each(|it| want_cross(it, 5, [1, 2]));
     }
     assert_eq!(told.try_iter().collect::<Vec<u32>>(), [1]);
-    assert_eq!(Office::open_telling(0, u64::MAX, 4).err(), Some(Error::NoSuchCount));
-    assert_eq!(Office::open_telling(2, u64::MAX, usize::MAX).err(), Some(Error::NoMemory));
-    assert_eq!(Office::open_waking_telling(2, u64::MAX, usize::MAX, |_| ()).err(), Some(Error::NoMemory));
+    let too_many = Options { deadlocks: u64::MAX, ..options };
+    assert_eq!(Book::open(too_many).err(), Some(Error::NoMemory));
+    assert_eq!(Office::open(too_many).err(), Some(Error::NoMemory));
+    assert_eq!(Office::open_waking(too_many, |_| ()).err(), Some(Error::NoMemory));
 }

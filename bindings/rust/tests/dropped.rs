@@ -7,7 +7,7 @@ use std::thread;
 
 /// Performs a call of the session and returns the reply.
 fn reply(session: &mut Session, call: Call) -> Reply {
-    session.perform(&call, u64::MAX).unwrap().reply
+    session.perform(&call).unwrap().reply
 }
 
 fn numbers(sessions: &[Session]) -> Vec<u32> {
@@ -124,17 +124,17 @@ fn orphans_that_wait() {
     assert_eq!(reply(&mut one, Call::Lock(other, Mode::S)), Reply::Waiting);
     let mut orphans = Office::orphans(&one).unwrap();
     assert_eq!(numbers(&orphans), [2, 3]);
-    assert_eq!(orphans[1].perform(&Call::Abort, 1), Err(Error::Pending));
+    assert_eq!(orphans[1].perform_within(&Call::Abort, 1), Err(Error::Pending));
     assert_eq!(orphans[1].resume(1).unwrap().reply, Reply::Waiting);
     assert_eq!(reply(&mut orphans[1], Call::Poll), Reply::Deadlock);
     assert_eq!(reply(&mut orphans[1], Call::Abort), Reply::Aborted(1));
     assert_eq!(reply(&mut one, Call::Poll), Reply::Clear);
 
     // the second is granted once it is an orphan again, and is aborted with its lock
-    assert_eq!(one.request(2).unwrap().found.unwrap().resource, page);
+    assert_eq!(one.look().unwrap().request(2).unwrap().unwrap().resource, page);
     drop(orphans);
     assert_eq!(reply(&mut one, Call::Commit), Reply::Committed(2));
-    assert_eq!(one.held(2, page).unwrap().found, Mode::X);
+    assert_eq!(one.look().unwrap().held(2, page).unwrap(), Mode::X);
     let mut orphans = Office::orphans(&one).unwrap();
     assert_eq!(reply(&mut orphans[0], Call::Abort), Reply::Aborted(1));
     assert_eq!(reply(&mut orphans[0], Call::Abort), Reply::Refused(Refusal::NoTransaction));
@@ -147,7 +147,7 @@ fn orphans_that_wait() {
     drop(orphans);
     let mut orphans = Office::orphans(&one).unwrap();
     assert_eq!(reply(&mut orphans[0], Call::Abort), Reply::Aborted(0));
-    assert_eq!(one.request(2).unwrap().found, None);
+    assert_eq!(one.look().unwrap().request(2).unwrap(), None);
 }
 
 /// A session that retired with a transaction open: its locks go with the office.
@@ -159,9 +159,9 @@ fn orphans_that_have_retired() {
     sessions[1].retire().unwrap();
     drop(sessions.pop());
     let mut orphans = Office::orphans(&sessions[0]).unwrap();
-    assert_eq!(orphans[0].perform(&Call::Abort, 1), Err(Error::Retired));
+    assert_eq!(orphans[0].perform_within(&Call::Abort, 1), Err(Error::Retired));
     assert_eq!(orphans[0].serve().unwrap().served, 0);
-    assert_eq!(sessions[0].held(2, page).unwrap().found, Mode::X);
+    assert_eq!(sessions[0].look().unwrap().held(2, page).unwrap(), Mode::X);
     sessions.append(&mut orphans);
     assert_eq!(Office::close(sessions).ok().unwrap().held(2, page), Ok(Mode::X));
 }

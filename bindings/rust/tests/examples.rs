@@ -159,7 +159,7 @@ fn threads_share_an_office() {
                 let mut calls = 0;
                 let mut ask = |call: &Call| {
                     calls += 1;
-                    session.perform(call, u64::MAX).unwrap().reply
+                    session.perform(call).unwrap().reply
                 };
                 for _ in 0..ROUNDS {
                     assert!(matches!(ask(&Call::Begin), Reply::Began(_)));

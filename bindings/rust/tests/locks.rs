@@ -9,7 +9,7 @@ fn resource(numbers: &[u32]) -> Resource {
 }
 
 fn ask(session: &mut Session, call: Call) -> Reply {
-    session.perform(&call, u64::MAX).unwrap().reply
+    session.perform(&call).unwrap().reply
 }
 
 /// An office whose sessions have begun.
@@ -27,7 +27,7 @@ fn short(microseconds: u64) -> Option<Duration> {
 
 /// What session 1 or 2 holds on the resource, which the other one asks.
 fn held(other: &mut Session, whose: u32, numbers: &[u32]) -> Mode {
-    other.held(whose, resource(numbers)).unwrap().found
+    other.look().unwrap().held(whose, resource(numbers)).unwrap()
 }
 
 #[test]
@@ -41,7 +41,7 @@ fn each_outcome_is_told() {
         assert_eq!((late.outcome, late.level, late.is_granted()), (Outcome::TimedOut, 2, false));
     }
     assert_eq!((held(&mut one, 2, &[7, 2]), held(&mut one, 2, &[7, 2, 40])), (Mode::IS, Mode::NL));
-    let counts = one.counts().unwrap().found;
+    let counts = one.look().unwrap().counts().unwrap();
     assert_eq!((counts.calls.withdraw, counts.calls.try_lock), (1, 3));
     assert_eq!(ask(&mut three, Call::Commit), Reply::Committed(0));
     let denied = three.lock(row, Mode::S, Some(Duration::MAX)).unwrap();
@@ -64,7 +64,7 @@ fn a_thread_sleeps_until_the_lock_is_granted() {
         let locked = two.lock(row, Mode::X, Some(Duration::from_secs(60))).unwrap();
         (locked.outcome, locked.level, ask(&mut two, Call::Commit))
     });
-    while !matches!(one.request(2), Ok(seen) if seen.found.is_some()) {
+    while one.look().unwrap().request(2).unwrap().is_none() {
         thread::yield_now();
     }
     thread::sleep(Duration::from_millis(20));
@@ -78,15 +78,15 @@ fn a_thread_sleeps_until_the_lock_is_granted() {
 fn a_wait_finishes_what_is_pending() {
     let [mut one, mut two] = office();
     let page = resource(&[7, 2]);
-    assert_eq!(one.perform(&Call::Lock(resource(&[1]), Mode::X), 0), Err(Error::NotServed));
+    assert_eq!(one.perform_within(&Call::Lock(resource(&[1]), Mode::X), 0), Err(Error::NotServed));
     assert_eq!(one.lock(page, Mode::X, None), Err(Error::Pending));
     assert_eq!(one.lock(page, Mode::X, short(0)), Err(Error::Pending));
     assert!(one.wait(None).unwrap().is_granted());
     assert_eq!((held(&mut two, 1, &[1]), held(&mut two, 1, &[7])), (Mode::X, Mode::NL));
     let program = Program::locks(Start::Nothing, page, Mode::X, 0).unwrap();
-    assert_eq!(one.run(&program, 0).err(), Some(Error::NotServed));
+    assert_eq!(one.run_within(&program, 0).err(), Some(Error::NotServed));
     assert!(one.wait(None).unwrap().is_granted() && held(&mut two, 1, &[7, 2]) == Mode::X);
-    assert_eq!(two.run(&program, 0).err(), Some(Error::NotServed));
+    assert_eq!(two.run_within(&program, 0).err(), Some(Error::NotServed));
     assert_eq!(two.wait(short(500)).unwrap().outcome, Outcome::TimedOut);
     two.retire().unwrap();
     assert_eq!((two.lock(page, Mode::X, None), two.wait(None)), (Err(Error::Retired), Err(Error::Retired)));

@@ -3,7 +3,7 @@
 
 #![deny(unsafe_op_in_unsafe_fn)]
 
-use pelgaisti::{Book, Call, Error, Mode, Office, Program, Reply, Resource, Session, Start};
+use pelgaisti::{Book, Call, Error, Mode, Office, Options, Program, Reply, Resource, Session, Start};
 use std::alloc::{GlobalAlloc, Layout, System};
 use std::cell::Cell;
 use std::ptr::null_mut;
@@ -63,7 +63,7 @@ fn database() -> Resource {
 }
 
 fn reply(session: &mut Session, call: Call) -> Reply {
-    session.perform(&call, u64::MAX).unwrap().reply
+    session.perform(&call).unwrap().reply
 }
 
 /// A book of 300 sessions: all but the last hold the database to read, and the last one waits for them.
@@ -109,11 +109,9 @@ fn a_book_goes_on_where_memory_is_refused() {
     let mut book = book_of_readers();
     let calls = vec![(1, Call::Poll); 100];
     assert_eq!(refused(|| book.serve_batch(&calls)), Err(Error::NoMemory));
-    let (program, mut ended) = (Program::locks(Start::Nothing, database(), Mode::S, 0).unwrap(), vec![]);
-    assert_eq!(refused(|| book.run(1, &program, &mut ended)).err(), Some(Error::NoMemory));
-    assert_eq!((ended.len(), book.length()), (0, 600));
+    let program = Program::locks(Start::Nothing, database(), Mode::S, 0).unwrap();
+    assert_eq!(book.length(), 600);
     assert_eq!(refused(|| book.holders(database())), Err(Error::NoMemory));
-    assert_eq!(refused(|| book.locks()), Err(Error::NoMemory));
     assert_eq!(refused(|| book.dump()).err(), Some(Error::NoMemory));
     assert_eq!(refused(|| book.blockers(300)), Err(Error::NoMemory));
     assert_eq!(refused(|| book.history(0, 100)), Err(Error::NoMemory));
@@ -121,8 +119,8 @@ fn a_book_goes_on_where_memory_is_refused() {
     assert_eq!(book.first_kept(), 0);
 
     assert_eq!(book.serve_batch(&calls).unwrap().len(), 100);
-    assert!(book.run(1, &program, &mut ended).unwrap().replies().eq([Reply::Granted(Mode::S)]));
-    assert_eq!((book.holders(database()).unwrap().len(), book.locks().unwrap().len()), (299, 300));
+    assert!(refused(|| book.run(1, &program)).unwrap().replies(&program).eq([Reply::Granted(Mode::S)]));
+    assert_eq!(book.holders(database()).unwrap().len(), 299);
     assert_eq!(book.blockers(300).unwrap(), (1..300).collect::<Vec<_>>());
     let dump = book.dump().unwrap();
     assert_eq!((dump.place(), dump.transactions().count(), dump.claims().count()), (book.length(), 300, 300));
@@ -133,9 +131,8 @@ fn a_book_goes_on_where_memory_is_refused() {
 /// The deadlock of 20 sessions, each of which waits for the next one.
 #[test]
 fn deadlocks_are_told_where_memory_was_refused() {
-    let mut book = Book::open(20).unwrap();
-    book.keep_deadlocks(4).unwrap();
-    let mut sessions = Office::open_telling(20, u64::MAX, 4).unwrap();
+    let options = Options { deadlocks: 4, ..Options::new(20) };
+    let (mut book, mut sessions) = (Book::open(options).unwrap(), Office::open(options).unwrap());
     let lock = |number| Call::Lock(Resource::new(&[number]).unwrap(), Mode::X);
     let mut serve = |number: u32, call| {
         let _ = book.serve(number, &call).unwrap();
@@ -149,10 +146,11 @@ fn deadlocks_are_told_where_memory_was_refused() {
         serve(number, lock(number % 20 + 1));
     }
     assert_eq!(refused(|| book.deadlocks()), Err(Error::NoMemory));
-    assert_eq!(refused(|| sessions[0].deadlocks()), Err(Error::NoMemory));
+    let view = sessions[0].look().unwrap();
+    assert_eq!(refused(|| view.deadlocks()), Err(Error::NoMemory));
     let told = book.deadlocks().unwrap();
     assert_eq!((told.len(), told[0].cycle.len()), (1, 20));
-    assert_eq!(sessions[0].deadlocks().unwrap().found, told);
+    assert_eq!(view.deadlocks().unwrap(), told);
 }
 
 #[test]
@@ -160,7 +158,7 @@ fn an_office_goes_on_where_memory_is_refused() {
     let owned = Arc::new(());
     let owner = owned.clone();
     let wake = move |_| drop(owner.clone());
-    assert_eq!(refused(|| Office::open_waking(300, u64::MAX, wake)).err(), Some(Error::NoMemory));
+    assert_eq!(refused(|| Office::open_waking(300, wake)).err(), Some(Error::NoMemory));
     assert_eq!(Arc::strong_count(&owned), 1);
     assert_eq!(refused(|| Office::open(1024)).err(), Some(Error::NoMemory));
 
@@ -170,14 +168,16 @@ fn an_office_goes_on_where_memory_is_refused() {
         let _ = reply(session, Call::Lock(database(), if index == 299 { Mode::X } else { Mode::S }));
     }
     let session = &mut sessions[0];
-    assert_eq!(refused(|| session.holders(database())), Err(Error::NoMemory));
-    assert_eq!(refused(|| session.locks()), Err(Error::NoMemory));
-    assert_eq!(refused(|| session.blockers(300)), Err(Error::NoMemory));
+    let view = refused(|| session.look()).unwrap(); // a look takes no memory
+    assert_eq!(refused(|| view.holders(database())), Err(Error::NoMemory));
+    assert_eq!(refused(|| view.dump()).err(), Some(Error::NoMemory));
+    assert_eq!(refused(|| view.blockers(300)), Err(Error::NoMemory));
+    assert_eq!((view.holders(database()).unwrap().len(), view.dump().unwrap().claims().count()), (299, 300));
+    assert_eq!(view.blockers(300).unwrap(), (1..300).collect::<Vec<_>>());
+    drop(view);
     assert_eq!(refused(|| session.take_history(100)), Err(Error::NoMemory));
     assert_eq!(refused(|| session.take_history(usize::MAX)), Err(Error::NoMemory));
 
-    assert_eq!((session.holders(database()).unwrap().found.len(), session.locks().unwrap().found.len()), (299, 300));
-    assert_eq!(session.blockers(300).unwrap().found, (1..300).collect::<Vec<_>>());
     let (first, entries) = session.take_history(usize::MAX).unwrap();
     assert_eq!((first, entries.len()), (0, 600));
 }
@@ -204,10 +204,6 @@ fn each_refused_allocation_is_told() {
         move |_| drop(owner.clone())
     };
     assert!(each_refused(|| Office::open(2)) > 0);
-    assert!(each_refused(|| Office::open_keeping(2, 9)) > 0);
-    assert!(each_refused(|| Office::open_seeded(2, u64::MAX, 7)) > 0);
-    assert!(each_refused(|| Office::open_waking(2, u64::MAX, waker())) > 0);
-    assert!(each_refused(|| Office::open_telling(2, u64::MAX, 4)) > 0);
-    assert!(each_refused(|| Office::open_waking_telling(2, u64::MAX, 4, waker())) > 0);
+    assert!(each_refused(|| Office::open_waking(2, waker())) > 0);
     assert_eq!(Arc::strong_count(&owned), 1);
 }

@@ -1,6 +1,6 @@
 //! Transactions that somebody asks to end: by the mark, by the wake-up, and by sessions that obey.
 
-use pelgaisti::{Call, Error, Mode, Office, Operator, Reply, Resource, Session};
+use pelgaisti::{Call, Error, Mode, Office, Operator, Options, Reply, Resource, Session};
 use std::sync::{mpsc, Arc, Condvar, Mutex};
 use std::thread;
 
@@ -9,7 +9,7 @@ fn page() -> Call {
 }
 
 fn reply(session: &mut Session, call: Call) -> Reply {
-    session.perform(&call, u64::MAX).unwrap().reply
+    session.perform(&call).unwrap().reply
 }
 
 fn begin(session: &mut Session) -> u64 {
@@ -23,7 +23,7 @@ fn begin(session: &mut Session) -> u64 {
 #[test]
 fn marks_are_of_transactions() {
     let (woken, told) = mpsc::sync_channel(8);
-    let mut sessions = Office::open_waking(3, u64::MAX, move |session| woken.send(session).unwrap()).unwrap();
+    let mut sessions = Office::open_waking(3, move |session| woken.send(session).unwrap()).unwrap();
     let operator = sessions[2].operator();
     let (one, rest) = sessions.split_first_mut().unwrap();
     let two = &mut rest[0];
@@ -32,7 +32,7 @@ fn marks_are_of_transactions() {
     operator.ask_to_end(1, first).unwrap();
     assert_eq!(told.try_iter().collect::<Vec<_>>(), [1]);
     assert!(one.is_asked_to_end(first) && !one.is_asked_to_end(second) && !two.is_asked_to_end(second));
-    assert_eq!(one.transaction(1).unwrap().found.unwrap().number, first);
+    assert_eq!(one.look().unwrap().transaction(1).unwrap().unwrap().number, first);
 
     // the next transaction isn't asked, and an older mark takes no newer one away
     assert_eq!(reply(one, Call::Abort), Reply::Aborted(0));
@@ -45,7 +45,7 @@ fn marks_are_of_transactions() {
 
     // it ends nothing, also of a session that was dropped, whose mark is found by whoever has it next
     operator.ask_to_end(2, second).unwrap();
-    assert_eq!(one.transaction(2).unwrap().found.unwrap().number, second);
+    assert_eq!(one.look().unwrap().transaction(2).unwrap().unwrap().number, second);
     let two = sessions.remove(1);
     drop(two);
     let mut orphans = Office::orphans(&sessions[0]).unwrap();
@@ -75,7 +75,7 @@ fn who_asks_needs_no_waker() {
     thread::spawn(move || operator.ask_to_end(1, transaction)).join().unwrap().unwrap();
     assert!(sessions[0].is_asked_to_end(transaction));
 
-    let sessions = Office::open_waking(1, 1, |_| std::panic::resume_unwind(Box::new(()))).unwrap();
+    let sessions = Office::open_waking(1, |_| std::panic::resume_unwind(Box::new(()))).unwrap();
     sessions[0].operator().ask_to_end(1, 5).unwrap();
     assert!(sessions[0].is_asked_to_end(5));
 }
@@ -116,7 +116,7 @@ fn work(session: &mut Session, beds: &Beds, transaction: u64, thinks: bool) -> b
 fn asked_sessions_obey() {
     let beds = Beds::default();
     let sleepers = beds.clone();
-    let mut sessions = Office::open_waking(3, 1024, move |session| {
+    let mut sessions = Office::open_waking(Options { keep: 1024, ..Options::new(3) }, move |session| {
         sleepers.0.lock().unwrap()[session as usize] += 1;
         sleepers.1.notify_all();
     })
@@ -148,5 +148,5 @@ fn asked_sessions_obey() {
         }
     }
     let book = Office::close(sessions).ok().unwrap();
-    assert_eq!(book.locks().unwrap(), []);
+    assert_eq!(book.dump().unwrap().claims().count(), 0);
 }

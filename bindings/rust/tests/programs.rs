@@ -6,12 +6,12 @@ fn resource(numbers: &[u32]) -> Resource {
     Resource::new(numbers).unwrap()
 }
 
-/// The replies to the program, which tells of nobody.
+/// The replies to the program, which ends nobody's wait.
 fn run(book: &mut Book, session: u32, program: Program) -> (Vec<Reply>, ProgramAnswer) {
-    let mut ended = Vec::new();
-    let answer = book.run(session, &program, &mut ended).unwrap();
-    assert!(ended.is_empty() && !answer.starved());
-    (answer.replies().collect(), answer)
+    let answer = book.run(session, &program).unwrap();
+    let replies: Vec<_> = answer.replies(&program).collect();
+    assert!(book.ended().unwrap().is_empty() && !answer.starved && replies.len() == answer.served);
+    (replies, answer)
 }
 
 #[test]
@@ -57,16 +57,15 @@ fn a_path_stops_where_it_waits() {
     let record = resource(&[7, 2, 40, 1]);
     let (replies, answer) = run(&mut book, 1, Program::locks(Start::Begins, record, Mode::X, 0).unwrap());
     assert_eq!(replies[3..], [Reply::Granted(Mode::IX), Reply::Granted(Mode::X)]);
-    assert_eq!((answer.place(), answer.stopped()), (0, false));
+    assert_eq!((answer.place, answer.stop), (0, None));
     let (replies, answer) = run(&mut book, 2, Program::locks(Start::Begins, resource(&[7, 2]), Mode::S, 0).unwrap());
     assert_eq!(replies, [Reply::Began(2), Reply::Granted(Mode::IS), Reply::Waiting]);
-    assert_eq!((answer.place(), answer.stopped()), (5, true));
-    let mut ended = vec![9];
+    assert_eq!((answer.place, answer.stop), (5, Some(Reply::Waiting)));
     let program = Program::path(Start::CommitsAndBegins, 0, Mode::IX, &Call::Try(resource(&[8, 1]), Mode::X)).unwrap();
-    let answer = book.run(1, &program, &mut ended).unwrap();
-    assert_eq!((answer.replies().len(), ended), (4, vec![9, 2]));
+    let answer = book.run(1, &program).unwrap();
+    assert_eq!((answer.replies(&program).next(), answer.served, book.ended().unwrap()), (Some(Reply::Committed(4)), 4, vec![2]));
     assert_eq!(run(&mut book, 2, Program::one(&Call::Poll)).0, [Reply::Clear]);
-    assert_eq!(book.run(3, &program, &mut Vec::new()).err(), Some(Error::NoSuchSession));
+    assert_eq!(book.run(3, &program).err(), Some(Error::NoSuchSession));
 }
 
 /// A program of a session is tried at once, or published and served by another session; what is pending is finished as a program.
@@ -77,22 +76,25 @@ fn sessions_run_programs() {
         [one, two, three] => (one, two, three),
         _ => panic!(),
     };
-    let answer = one.run(&Program::locks(Start::Begins, resource(&[7, 2]), Mode::X, 0).unwrap(), 9).unwrap();
-    assert!(answer.replies().eq([Reply::Began(1), Reply::Granted(Mode::IX), Reply::Granted(Mode::X)]));
-    let answer = two.run(&Program::locks(Start::Begins, resource(&[7, 2, 1]), Mode::X, 0).unwrap(), 9).unwrap();
-    assert!(answer.replies().eq([Reply::Began(2), Reply::Granted(Mode::IX), Reply::Waiting]) && answer.stopped());
+    let path = Program::locks(Start::Begins, resource(&[7, 2]), Mode::X, 0).unwrap();
+    let answer = one.run_within(&path, 9).unwrap();
+    assert!(answer.replies(&path).eq([Reply::Began(1), Reply::Granted(Mode::IX), Reply::Granted(Mode::X)]));
+    let path = Program::locks(Start::Begins, resource(&[7, 2, 1]), Mode::X, 0).unwrap();
+    let answer = two.run_within(&path, 9).unwrap();
+    assert!(answer.replies(&path).eq([Reply::Began(2), Reply::Granted(Mode::IX), Reply::Waiting]));
+    assert_eq!((answer.stop, answer.served), (Some(Reply::Waiting), 3));
     let next = Program::locks(Start::CommitsAndBegins, resource(&[8]), Mode::S, 0).unwrap();
-    assert_eq!(one.run(&next, 0).err(), Some(Error::NotServed));
-    assert_eq!((one.resume(9), one.collect(), one.perform(&Call::Poll, 9)), (Err(Error::Pending), Err(Error::Pending), Err(Error::Pending)));
-    assert_eq!(one.run(&next, 9).err(), Some(Error::Pending));
+    assert_eq!(one.run_within(&next, 0).err(), Some(Error::NotServed));
+    assert_eq!((one.resume(9), one.collect(), one.perform_within(&Call::Poll, 9)), (Err(Error::Pending), Err(Error::Pending), Err(Error::Pending)));
+    assert_eq!(one.run_within(&next, 9).err(), Some(Error::Pending));
     assert_eq!(three.serve().unwrap().served, 1);
     let answer = one.resume_program(1).unwrap();
-    assert_eq!(answer.place(), 6);
-    assert!(answer.replies().eq([Reply::Committed(2), Reply::Began(3), Reply::Granted(Mode::S)]));
+    assert_eq!(answer.place, 6);
+    assert!(answer.replies(&next).eq([Reply::Committed(2), Reply::Began(3), Reply::Granted(Mode::S)]));
     assert_eq!(one.resume_program(9).err(), Some(Error::NothingPending));
     two.publish(&Call::Poll).unwrap();
-    assert!(two.resume_program(9).unwrap().replies().eq([Reply::Clear]));
-    assert_eq!(two.run(&Program::start(Start::Nothing), 9).err(), Some(Error::NoCalls));
+    assert!(two.resume_program(9).unwrap().replies(&Program::one(&Call::Poll)).eq([Reply::Clear]));
+    assert_eq!(two.run_within(&Program::start(Start::Nothing), 9).err(), Some(Error::NoCalls));
     assert_eq!(Office::close(sessions).ok().unwrap().length(), 10);
 }
 
@@ -100,8 +102,8 @@ fn sessions_run_programs() {
 #[test]
 fn a_pending_program_is_dropped() {
     let mut sessions = Office::open(2).unwrap();
-    assert_eq!(sessions[0].run(&Program::one(&Call::Begin), 9).unwrap().replies().count(), 1);
-    assert_eq!(sessions[0].run(&Program::start(Start::CommitsAndBegins), 0).err(), Some(Error::NotServed));
+    assert_eq!(sessions[0].run_within(&Program::one(&Call::Begin), 9).unwrap().served, 1);
+    assert_eq!(sessions[0].run_within(&Program::start(Start::CommitsAndBegins), 0).err(), Some(Error::NotServed));
     drop(sessions.pop());
     let mut orphans = Office::orphans(&sessions[0]).unwrap();
     assert_eq!(orphans[0].resume_program(1).err(), Some(Error::NothingPending));

@@ -1,6 +1,6 @@
 //! No history depends on the seed of a lock table, nor on room that is made or memory that is given back.
 
-use pelgaisti::{Book, Call, Entry, Error, Mode, Office, Reply, Resource};
+use pelgaisti::{Book, Call, Entry, Error, Mode, Office, Options, Reply, Resource};
 use std::sync::mpsc;
 
 const SESSIONS: u32 = 4;
@@ -23,7 +23,7 @@ fn drawn() -> Vec<(u32, Call)> {
             _ => Call::Lock(resource, mode),
         }
     };
-    (0..2000).map(|at| (at % SESSIONS + 1, call())).collect()
+    (0..1000).map(|at| (at % SESSIONS + 1, call())).collect()
 }
 
 /// The history of the calls in a book, in which room is made and memory given back meanwhile.
@@ -43,10 +43,10 @@ fn in_a_book(mut book: Book) -> Vec<Entry> {
 fn in_an_office(mut sessions: Vec<pelgaisti::Session>) -> Vec<Entry> {
     for (at, (session, call)) in drawn().iter().enumerate() {
         let session = &mut sessions[*session as usize - 1];
-        let _ = session.perform(call, u64::MAX).unwrap();
+        let _ = session.perform(call).unwrap();
         match at % 100 {
-            0 => assert_eq!(session.shrink(), Ok(at as u64 + 1)),
-            50 => assert_eq!(session.reserve(at, at), Ok(at as u64 + 1)),
+            0 => session.look().unwrap().shrink(),
+            50 => session.look().unwrap().reserve(at, at).unwrap(),
             _ => (),
         }
     }
@@ -58,47 +58,51 @@ fn in_an_office(mut sessions: Vec<pelgaisti::Session>) -> Vec<Entry> {
 fn no_history_depends_on_the_seed() {
     let mut plain = Book::open(SESSIONS).unwrap();
     let history = plain.serve_batch(&drawn()).unwrap();
-    assert_eq!(history.len(), 2000);
+    assert_eq!(history.len(), 1000);
     assert!(history.iter().filter(|it| matches!(it.reply, Reply::Granted(_))).count() > 100);
     for seed in [0, 1, u64::MAX] {
-        assert_eq!(in_a_book(Book::open_seeded(SESSIONS, seed).unwrap()), history);
-        assert_eq!(in_an_office(Office::open_seeded(SESSIONS, u64::MAX, seed).unwrap()), history);
-        assert_eq!(in_an_office(Office::open_waking_seeded(SESSIONS, u64::MAX, seed, |_| ()).unwrap()), history);
+        let options = Options { seed, ..Options::new(SESSIONS) };
+        assert_eq!(in_a_book(Book::open(options).unwrap()), history);
+        assert_eq!(in_an_office(Office::open(options).unwrap()), history);
+        assert_eq!(in_an_office(Office::open_waking(options, |_| ()).unwrap()), history);
     }
-    assert_eq!(in_a_book(Book::open(SESSIONS).unwrap()), history);
-    assert_eq!(in_an_office(Office::open(SESSIONS).unwrap()), history);
 }
 
 #[test]
-fn openings_with_a_seed_refuse_what_others_do() {
+fn openings_refuse_what_is_out_of_range() {
     for sessions in [0, 1025] {
-        assert_eq!(Book::open_seeded(sessions, 7).err(), Some(Error::NoSuchCount));
-        assert_eq!(Office::open_seeded(sessions, 9, 7).err(), Some(Error::NoSuchCount));
-        assert_eq!(Office::open_waking_seeded(sessions, 9, 7, |_| ()).err(), Some(Error::NoSuchCount));
+        assert_eq!(Book::open(sessions).err(), Some(Error::NoSuchCount));
+        assert_eq!(Office::open(sessions).err(), Some(Error::NoSuchCount));
+        assert_eq!(Office::open_waking(sessions, |_| ()).err(), Some(Error::NoSuchCount));
+    }
+    for no_pass in [Options { pass_calls: 0, ..Options::new(1) }, Options { pass_locks: 0, ..Options::new(1) }, Options { pass_rounds: 65_536, ..Options::new(1) }] {
+        assert_eq!(Office::open(no_pass).err(), Some(Error::NoSuchCount));
+        assert!(Book::open(no_pass).is_ok());
     }
 }
 
 #[test]
 fn a_seeded_office_wakes_and_has_its_bound() {
     let (woken, told) = mpsc::sync_channel(8);
-    let mut sessions = Office::open_waking_seeded(2, 3, 7, move |session| woken.send(session).unwrap()).unwrap();
+    let mut sessions = Office::open_waking(Options { keep: 3, seed: 7, ..Options::new(2) }, move |session| woken.send(session).unwrap()).unwrap();
     let database = Resource::new(&[7]).unwrap();
     for session in &mut sessions {
-        let _ = session.perform(&Call::Begin, u64::MAX).unwrap();
-        let _ = session.perform(&Call::Lock(database, Mode::X), u64::MAX).unwrap();
+        let _ = session.perform(&Call::Begin).unwrap();
+        let _ = session.perform(&Call::Lock(database, Mode::X)).unwrap();
     }
-    let _ = sessions[0].perform(&Call::Commit, u64::MAX).unwrap();
+    let _ = sessions[0].perform(&Call::Commit).unwrap();
     assert_eq!(told.try_recv(), Ok(2));
     assert_eq!(Office::close(sessions).ok().unwrap().first_kept(), 2);
 }
 
 #[test]
 fn room_that_cannot_be_made_is_refused() {
-    let mut book = Book::open(1).unwrap();
+    let book = Book::open(1).unwrap();
     assert_eq!(book.reserve(usize::MAX, 0), Err(Error::NoMemory));
     assert_eq!(book.reserve(0, usize::MAX), Err(Error::NoMemory));
     let mut sessions = Office::open(1).unwrap();
-    assert_eq!(sessions[0].reserve(usize::MAX, 0), Err(Error::NoMemory));
-    assert_eq!(sessions[0].reserve(0, usize::MAX), Err(Error::NoMemory));
-    assert_eq!(sessions[0].reserve(9, 9), Ok(0));
+    let view = sessions[0].look().unwrap();
+    assert_eq!(view.reserve(usize::MAX, 0), Err(Error::NoMemory));
+    assert_eq!(view.reserve(0, usize::MAX), Err(Error::NoMemory));
+    assert_eq!(view.reserve(9, 9), Ok(()));
 }

@@ -1,6 +1,6 @@
 //! Offices whose threads are woken: by each call that makes a pass, and also if the waker panics for one of them.
 
-use pelgaisti::{Call, Error, Mode, Office, Outcome, Reply, Resource, Session};
+use pelgaisti::{Call, Error, Mode, Office, Options, Outcome, Reply, Resource, Session};
 use std::panic;
 use std::sync::atomic::{AtomicUsize, Ordering};
 use std::sync::{Arc, Condvar, Mutex};
@@ -12,14 +12,14 @@ fn lock(number: u32, mode: Mode) -> Call {
 }
 
 fn reply(session: &mut Session, call: Call) -> Reply {
-    session.perform(&call, u64::MAX).unwrap().reply
+    session.perform(&call).unwrap().reply
 }
 
 /// An office of so many sessions, and whom its waker has woken since this was asked last.
 fn office(sessions: u32) -> (Vec<Session>, impl Fn() -> Vec<u32>) {
     let woken = Arc::new(Mutex::new(Vec::new()));
     let noted = woken.clone();
-    let sessions = Office::open_waking(sessions, u64::MAX, move |session| noted.lock().unwrap().push(session)).unwrap();
+    let sessions = Office::open_waking(sessions, move |session| noted.lock().unwrap().push(session)).unwrap();
     (sessions, move || std::mem::take(&mut *woken.lock().unwrap()))
 }
 
@@ -40,7 +40,7 @@ fn each_pass_wakes() {
         match way {
             0 => assert_eq!(reply(one, Call::Commit), Reply::Committed(1)),
             1 => {
-                assert_eq!(one.perform(&Call::Commit, 0), Err(Error::NotServed));
+                assert_eq!(one.perform_within(&Call::Commit, 0), Err(Error::NotServed));
                 assert_eq!(one.resume(9).unwrap().reply, Reply::Committed(1));
             }
             2 => {
@@ -89,7 +89,7 @@ fn a_panic_loses_no_answer_and_no_other_wake_up() {
         let called = Arc::new(AtomicUsize::new(0));
         let woken = Arc::new(Mutex::new(Vec::new()));
         let (calls, noted) = (called.clone(), woken.clone());
-        let mut sessions = Office::open_waking(40, u64::MAX, move |session| {
+        let mut sessions = Office::open_waking(40, move |session| {
             calls.fetch_add(1, Ordering::Relaxed);
             assert!(session % 3 != 0, "no third session is woken");
             noted.lock().unwrap().push(session);
@@ -103,8 +103,8 @@ fn a_panic_loses_no_answer_and_no_other_wake_up() {
         panic::set_hook(Box::new(|_| ()));
         let one = &mut sessions[0];
         let committed = match way {
-            0 => one.perform(&Call::Commit, 9),
-            1 => one.perform(&Call::Commit, 0).or_else(|_| one.resume(9)),
+            0 => one.perform_within(&Call::Commit, 9),
+            1 => one.perform_within(&Call::Commit, 0).or_else(|_| one.resume(9)),
             _ => {
                 let served = one.publish(&Call::Commit).and_then(|_| one.serve());
                 served.and_then(|_| one.collect())
@@ -131,7 +131,7 @@ fn a_panic_in_a_panic_is_kept_from_the_call() {
             panic!("dropped");
         }
     }
-    let mut sessions = Office::open_waking(2, u64::MAX, |_| panic::resume_unwind(Box::new(Bomb))).unwrap();
+    let mut sessions = Office::open_waking(2, |_| panic::resume_unwind(Box::new(Bomb))).unwrap();
     for session in &mut sessions {
         let _ = reply(session, Call::Begin);
         let _ = reply(session, lock(1, Mode::X));
@@ -146,7 +146,7 @@ fn the_waker_goes_with_the_office() {
     for is_closed in [false, true] {
         let woken = Arc::new(AtomicUsize::new(0));
         let noted = woken.clone();
-        let mut sessions = Office::open_waking(3, u64::MAX, move |_| {
+        let mut sessions = Office::open_waking(3, move |_| {
             noted.fetch_add(1, Ordering::Relaxed);
         })
         .unwrap();
@@ -172,7 +172,7 @@ fn threads_sleep() {
     const ROUNDS: usize = 200;
     let beds: Arc<(Mutex<[usize; 9]>, Condvar)> = Arc::default();
     let woken = beds.clone();
-    let sessions = Office::open_waking(8, 64, move |session| {
+    let sessions = Office::open_waking(Options { keep: 64, ..Options::new(8) }, move |session| {
         woken.0.lock().unwrap()[session as usize] += 1;
         woken.1.notify_all();
     });
@@ -210,15 +210,4 @@ fn threads_sleep() {
     let sessions: Vec<_> = threads.into_iter().map(|it| it.join().unwrap()).collect();
     assert_eq!(*beds.0.lock().unwrap(), [0; 9]);
     assert!(Office::close(sessions).is_ok());
-}
-
-#[test]
-fn sessions_that_are_too_many_are_refused() {
-    assert_eq!(Office::open_waking(0, 1, |_| ()).err(), Some(Error::NoSuchCount));
-    assert_eq!(Office::open_waking(1025, 1, |_| ()).err(), Some(Error::NoSuchCount));
-    let mut sessions = Office::open_waking(1, 2, |_| ()).unwrap();
-    for call in [Call::Begin, Call::Poll, Call::Commit] {
-        let _ = sessions[0].perform(&call, u64::MAX).unwrap();
-    }
-    assert_eq!(Office::close(sessions).ok().unwrap().first_kept(), 1);
 }

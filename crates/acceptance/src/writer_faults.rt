@@ -10,7 +10,7 @@ use std::thread::Threads;
 /// The version that the library names is the one that the program writes.
 #[test]
 fn the_version_is_that_of_the_text(rt: HostRuntime) {
-    assert!(rt; VERSION == "0.8.0" && VERSION_TEXT.contains(VERSION));
+    assert!(rt; VERSION == "0.9.0" && VERSION_TEXT.contains(VERSION));
 }
 
 /// A replay or a run whose output takes no bytes ends with the fault `Device`, and a replay with status 5.

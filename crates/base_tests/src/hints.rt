@@ -1,7 +1,6 @@
 //! Hints to faults of long rows, and of rows behind many others. What hints say is in `checks/program-tables`.
 
-use lock_trace::read_trace;
-use row_hints::{KEPT_BYTES, Kept, RowForm, hint_text};
+use lock_trace::{KEPT_BYTES, Kept, RowForm, hint_text, read_trace};
 use std::alloc::{AllocError, Global};
 use std::test::Fail;
 

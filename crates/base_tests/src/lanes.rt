@@ -2,23 +2,22 @@
 
 ghost use Rattle.std.specs.Prelude.{◌≡◌, ◌<◌, ◌≤◌, length};
 
-use mode_lanes::{and_into, any_common, any_meets, first_meets, mark_meets, or_into, union};
+use mode_lanes::{and_into, any_common, any_meets, first_meets, mark_meets, or_into};
 
 /// The greatest length that is tried.
 const LONGEST: usize = 1025;
 
-/// The union of a column, whether a byte of it meets the mask, and the first that does. Marks those that do.
-fn told(column: &[u8], mask: u8, marks: &mut [u8]) -> (u8, bool, Option<usize>)
+/// Whether a byte of a column meets the mask, and the first that does. Marks those that do.
+fn told(column: &[u8], mask: u8, marks: &mut [u8]) -> (bool, Option<usize>)
     requires { length marks.old ≡ length column.now }
     ensures { length marks.new ≡ length marks.old }
 {
     mark_meets(column, mask, marks);
     let is_met = any_meets(column, mask);
-    (union(column), is_met, first_meets(column, mask))
+    (is_met, first_meets(column, mask))
 }
 
-/// A byte past the last whole chunk is counted in the union, found, and marked; another mask meets no byte. Empty columns have
-/// no bits.
+/// A byte past the last whole chunk is found, and marked; another mask meets no byte. Empty columns have no bits.
 #[test]
 fn columns_by_hand(rt: HostRuntime) {
     let mut column = [1; 33];
@@ -26,11 +25,11 @@ fn columns_by_hand(rt: HostRuntime) {
     let mut wanted = [0; 33];
     wanted[32] = 1;
     let mut marks = [7; 33];
-    let mut right = told(&column, 2, &mut marks) == (3, true, Some(32));
+    let mut right = told(&column, 2, &mut marks) == (true, Some(32));
     right &= marks == wanted;
-    right &= told(&column, 4, &mut marks) == (3, false, None);
+    right &= told(&column, 4, &mut marks) == (false, None);
     right &= marks == [0; 33];
-    right &= told(&[], 2, &mut []) == (0, false, None);
+    right &= told(&[], 2, &mut []) == (false, None);
     assert!(rt; right);
 }
 
@@ -59,18 +58,16 @@ fn is_column_as_by_loop(column: &[u8], mask: u8) -> bool
     let mut marks = [7; LONGEST];
     let marks = &mut marks[..column.len()];
     let answers = told(column, mask, marks);
-    let mut all = 0;
     let mut first = None;
     let mut right = true;
     for k in 0..column.len() {
         let meets = column[k] & mask != 0;
-        all |= column[k];
         right &= marks[k] == meets as u8;
         if meets && first.is_none() {
             first = Some(k);
         }
     }
-    right & (answers == (all, first.is_some(), first))
+    right & (answers == (first.is_some(), first))
 }
 
 /// Whether `or_into`, `and_into` and `any_common` are right: a row of twos becomes `other`, which has a 3 in one word and twos

@@ -1,120 +1,185 @@
--- The list in which a pass tells whose wait it has ended: one session more, or one fewer.
-use Rattle.std.proofs.Common.{◌≡◌, ◌≢◌, ℕ, suc, ◌+◌, ◌-◌, ◌<◌, ◌≤◌, ◌↔◌, ◌⊎◌, inl, inr, ⊎_elim, Bool, true, false, eqb, List, [], ◌∷◌, ◌++◌, length, get_or, set, take, filter, Contains, refl, sym, ap, ◌∙◌, subst, arith, length-append, get_or-set_other, get_or-set_same}
-use Rattle.std.specs.List.{range_with_len}
-use Rattle.std.proofs.lemmas.Bool.{cases_Bool}
-use Rattle.std.proofs.lemmas.Bool.Decides.{Decides-eqb}
-use Rattle.std.proofs.lemmas.Cmp.{nat_eq_equiv}
-use Rattle.std.proofs.lemmas.List.{get_or_append_left, get_or_default, length-set}
-use Rattle.std.proofs.lemmas.List.Elements.{Contains-append_left, Contains-push, Contains-push_cases}
-use Rattle.std.proofs.lemmas.List.FromFn.{length-range_with_len}
-use Rattle.std.proofs.lemmas.List.Filters.{length-filter_both}
-use Rattle.std.proofs.lemmas.Map.Keys.{IsDistinct-from_apart}
-use Rattle.std.proofs.lemmas.Map.Made.{length-le_from_is_member, is_member-Decides}
-use Rattle.std.proofs.Math.Seq.{get_or-append_seam, take-suc}
-use mathlib.Core.Logic.{dite}
-use native.Mathlib.Decide.{ℕ_discrete}
-use Rattle.sequential.proofs.Ranges.{true≢false, member-range}
-use Rattle.sequential.proofs.Members.{member-contains}
+-- The bits in which a pass tells whose wait it has ended, and the sessions that they stand for.
+use Rattle.std.proofs.Common.{◌≡◌, ◌≢◌, ℕ, zero, suc, ◌+◌, ◌-◌, ◌*◌, ◌/◌, ◌%◌, ◌^◌, ◌<◌, ◌≤◌, ◌↔◌, ◌⊎◌, inl, inr, ⊎_elim, Bool, true, false, ◌||◌, eqb, List, [], ◌∷◌, ◌++◌, length, get_or, set, take, replicate, Contains, refl, sym, ap, ◌∙◌, subst, arith, w64, get_or-set_other, get_or-set_same}
+use Rattle.std.specs.Prelude.{bit_or, if◌then◌else◌}
+use Rattle.std.specs.Int.{bit_at}
+use Rattle.std.proofs.lemmas.Bool.{cases_lt, cases_eq, eq-eqb, ne_eqb, or_right, false≢true}
+use Rattle.std.proofs.lemmas.List.{get_or_past, get_or-replicate, append_assoc}
+use Rattle.std.proofs.lemmas.List.Elements.{Contains-append_left, Contains-push, Contains-push_cases, Contains-get_or}
+use Rattle.std.proofs.lemmas.Nat.Bits.{bit_at-zero, bit_at_set_same, bit_at_set_other}
+use Rattle.std.proofs.Math.Seq.{take-suc}
 use Rattle.combining.specs.Ended.{IsOnce}
+use Rattle.combining.specs.inner.EndedList.{has_bit, marked}
 
--- Sessions from 1 to n, each once, are at most n.
-pub few-within : (n : ℕ) (list : List ℕ) → IsOnce list → ((u : ℕ) → Contains list u → (1 ≤ u) × (u ≤ n)) → length list ≤ n
-few-within n list once within =
-    let all : List ℕ = filter (λ (v : ℕ). true) (range_with_len 1 n) in
-    let decides = is_member-Decides Decides-eqb in
-    let apart = IsDistinct-from_apart eqb list (λ i j d lt few. different (get_or list i d) (get_or list j d) (λ e.
-    once i j lt few (get_or_default list i 0 d (omega (arith, lt, few)) ∙ (e ∙ get_or_default list j d 0 few)))) in
-    let here : (u : ℕ) → Contains list u → Contains all u = λ u h. let k = within u h in let l = k.1 in member-contains u all ((member-range (λ (v : ℕ). true) n 1 u).1 (k.0, omega (arith, l), refl)) in
-    let most : length list ≤ length all = length-le_from_is_member nat_eq_equiv list all apart (λ q m. (decides all q).1 (here q ((decides list q).0 m))) in
-    omega (arith, most, length-filter_both (λ (v : ℕ). true) (λ (v : ℕ). false) (λ v. refl) (range_with_len 1 n), length-range_with_len 1 n)
+-- ---- Bits.
+
+-- `b || false` is `b`.
+or-false : (b : Bool) → (b || false) ≡ b
+or-false true = refl
+or-false false = refl
+
+-- Setting bit k sets bit k and changes no other.
+pub bit-set : (words : List ℕ) (k : ℕ) → k / 64 < length words → (j : ℕ) → has_bit (set words (k / 64) (bit_or (get_or words (k / 64) 0) (1 * 2 ^ (k % 64) % 2 ^ 64))) j ≡ (has_bit words j || eqb j k)
+bit-set words k lt j = elim (cases_eq (j / 64) (k / 64)) [
+  | inr ne ↦ ap (λ (x : ℕ). eqb (bit_at x (j % 64)) 1) (get_or-set_other words (k / 64) (j / 64) more 0 ne) ∙ other (λ e. ne (ap (λ (x : ℕ). x / 64) e))
+  | inl e ↦
+      ap (λ (x : ℕ). eqb (bit_at (get_or (set words (k / 64) more) x 0) (j % 64)) 1) e ∙ (ap (λ (x : ℕ). eqb (bit_at x (j % 64)) 1) (get_or-set_same words (k / 64) more 0 lt)
+      ∙ elim (cases_eq (j % 64) (k % 64)) [
+        | inl h ↦ ap (λ (i : ℕ). eqb (bit_at more i) 1) h ∙ (ap (λ (x : ℕ). eqb x 1) (bit_at_set_same w64 (get_or words (k / 64) 0) (k % 64) small) ∙ sym (or_right (has_bit words j) (eqb j k) (eq-eqb j k (place j k e h))))
+        | inr ne ↦ ap (λ (x : ℕ). eqb x 1) (bit_at_set_other w64 (get_or words (k / 64) 0) (k % 64) small (j % 64) ne) ∙ (ap (λ (i : ℕ). eqb (bit_at (get_or words i 0) (j % 64)) 1) (sym e) ∙ other (λ same. ne (ap (λ (x : ℕ). x % 64) same)))
+      ])
+]
   where
-    different : (a b : ℕ) → a ≢ b → eqb a b ≡ false
-    different a b ne = ⊎_elim (λ e. absurd (ne ((Decides-eqb a b).0 e))) (λ e. e) (cases_Bool (eqb a b))
+    more : ℕ
+    more = bit_or (get_or words (k / 64) 0) (1 * 2 ^ (k % 64) % 2 ^ 64)
 
--- Exactly the sessions of the list are marked.
-pub record AreMarked (marks : List Bool) (list : List ℕ) : Type 0 where
-  pub once : IsOnce list
-  pub members : (u : ℕ) → Contains list u ↔ ((1 ≤ u) × (u ≤ length marks) × (get_or marks (u - 1) false ≡ true))
+    small : k % 64 < 64
+    small = omega arith
 
-pub few-marked : (marks : List Bool) (list : List ℕ) → AreMarked marks list → length list ≤ length marks
-few-marked marks list m = few-within (length marks) list m.once (λ u h. let k = (m.members u).0 h in (k.0, k.1))
+    place : (j k : ℕ) → j / 64 ≡ k / 64 → j % 64 ≡ k % 64 → j ≡ k
+    place j k e h = omega (arith, e, h)
 
--- The front of a list with no session twice has none twice, and not its last one.
-once-front : (xs : List ℕ) (u : ℕ) → IsOnce (xs ++ u ∷ []) → IsOnce xs
-once-front xs u once j k lt few e = once j k lt (omega (arith, few, length-append xs (u ∷ [])))
-    (get_or_append_left xs (u ∷ []) 0 j (omega (arith, lt, few)) ∙ (e ∙ sym (get_or_append_left xs (u ∷ []) 0 k few)))
+    other : j ≢ k → has_bit words j ≡ (has_bit words j || eqb j k)
+    other apart = sym (rw (ne_eqb j k apart) (or-false (has_bit words j)))
 
-not-last : (xs : List ℕ) (u : ℕ) → IsOnce (xs ++ u ∷ []) → Contains xs u → ⊥
-not-last xs u once h =
-    let few = h.1 in
-    once h.0 (length xs) few (omega (arith, length-append xs (u ∷ [])))
-    (get_or_append_left xs (u ∷ []) 0 h.0 few ∙ (get_or_default xs h.0 0 u few ∙ (h.2 ∙ sym (get_or-append_seam xs u [] 0))))
-
--- The list without its last session.
-pub marked-popped : (marks : List Bool) (xs : List ℕ) (u : ℕ) → AreMarked marks (xs ++ u ∷ []) → AreMarked (set marks (u - 1) false) xs
-marked-popped marks xs u m = record { once = once-front xs u m.once; members = λ v. (there v, back v) }
+-- In words that are 0 no bit is set.
+bit-zeros : (n j : ℕ) → has_bit (replicate n 0) j ≡ false
+bit-zeros n j = elim (cases_lt (j / 64) n) [
+  | inl lt ↦ rw (get_or-replicate {A = ℕ} n (j / 64) 0 0 lt) (rw (bit_at-zero (j % 64)) refl)
+  | inr le ↦ rw (get_or_past {X = ℕ} (replicate n 0) (j / 64) 0 (omega (arith, le, zeros n))) (rw (bit_at-zero (j % 64)) refl)
+]
   where
-    last : (1 ≤ u) × (u ≤ length marks)
-    last = let k = (m.members u).0 (Contains-push xs u) in (k.0, k.1)
+    zeros : (m : ℕ) → length (replicate {A = ℕ} m 0) ≡ m
+    zeros zero = refl
+    zeros (suc m) = omega (arith, zeros m)
 
-    there : (v : ℕ) → Contains xs v → (1 ≤ v) × (v ≤ length (set marks (u - 1) false)) × (get_or (set marks (u - 1) false) (v - 1) false ≡ true)
-    there v h =
-        let k = (m.members v).0 (Contains-append_left xs (u ∷ []) v h) in
-        let some = k.0 in
-        let within = k.1 in
-        let other : v ≢ u = λ e. not-last xs u m.once (subst (λ (w : ℕ). Contains xs w) e h) in
-        let apart : v - 1 ≢ u - 1 = λ e. other (omega (arith, e, some, last.0)) in
-        (some, omega (arith, within, length-set marks (u - 1) false), get_or-set_other marks (u - 1) (v - 1) false false apart ∙ k.2)
+-- ---- The sessions whose bit is set.
 
-    back : (v : ℕ) → (1 ≤ v) × (v ≤ length (set marks (u - 1) false)) × (get_or (set marks (u - 1) false) (v - 1) false ≡ true) → Contains xs v
-    back v h =
-        let some = h.0 in
-        let within = h.1 in
-        let long = length-set marks (u - 1) false in
-        let here : u - 1 < length marks = let l = last.0 in let r = last.1 in omega (arith, l, r) in
-        let other : v ≢ u = λ e. true≢false h.2 (ap (λ (w : ℕ). get_or (set marks (u - 1) false) (w - 1) false) e ∙ get_or-set_same marks (u - 1) false false here) in
-        let apart : v - 1 ≢ u - 1 = λ e. let l = last.0 in other (omega (arith, e, some, l)) in
-        ⊎_elim (λ c. c) (λ e. absurd (other (sym e)))
-        (Contains-push_cases xs u v ((m.members v).1 (some, omega (arith, within, long), sym (get_or-set_other marks (u - 1) (v - 1) false false apart) ∙ h.2)))
+-- A session in front of others.
+cons-cases : (x : ℕ) (xs : List ℕ) (u k : ℕ) → k < length (x ∷ xs) → get_or (x ∷ xs) k u ≡ u → (u ≡ x) ⊎ Contains xs u
+cons-cases x xs u zero lt e = inl (sym e)
+cons-cases x xs u (suc k) lt e = inr (k, omega (arith, lt), e)
 
--- The list with one session more at its end, which wasn't marked.
-pub marked-pushed : (marks : List Bool) (xs : List ℕ) (u : ℕ) → AreMarked marks xs → 1 ≤ u → u ≤ length marks → get_or marks (u - 1) false ≡ false → AreMarked (set marks (u - 1) true) (xs ++ u ∷ [])
-marked-pushed marks xs u m some within unmarked = record { once = once; members = λ v. (there v, back v) }
+cons-behind : (x : ℕ) (xs : List ℕ) (u : ℕ) → Contains xs u → Contains (x ∷ xs) u
+cons-behind x xs u h = let lt = h.1 in (suc h.0, omega (arith, lt), h.2)
+
+-- The sessions up to the next one, which stands there if its bit is set.
+in-next : (words : List ℕ) (n u : ℕ) → (Contains (marked words n) u ↔ ((1 ≤ u) × (u ≤ n) × (has_bit words (u - 1) ≡ true))) → (b : Bool) → has_bit words n ≡ b
+    → Contains (if b then suc n ∷ marked words n else marked words n) u ↔ ((1 ≤ u) × (u ≤ suc n) × (has_bit words (u - 1) ≡ true))
+in-next words n u so_far true is = (
+  λ h. ⊎_elim
+      (λ e. (omega (arith, e), omega (arith, e), ap (λ (i : ℕ). has_bit words i) (let below : u - 1 ≡ n = omega (arith, e) in below) ∙ is))
+      (λ c. let k = so_far.0 c in let few = k.1 in (k.0, omega (arith, few), k.2))
+      (cons-cases (suc n) (marked words n) u h.0 h.1 h.2),
+  λ h. let some = h.0 in let few = h.1 in elim (cases_eq u (suc n)) [
+    | inl e ↦ (0, omega arith, sym e)
+    | inr ne ↦ cons-behind (suc n) (marked words n) u (so_far.1 (some, omega (arith, ne, few), h.2))
+  ],
+)
+in-next words n u so_far false is = (
+  λ c. let k = so_far.0 c in let few = k.1 in (k.0, omega (arith, few), k.2),
+  λ h. let some = h.0 in let few = h.1 in elim (cases_eq u (suc n)) [
+    | inl e ↦ absurd (false≢true (sym is ∙ (ap (λ (i : ℕ). has_bit words i) (let below : n ≡ u - 1 = omega (arith, e) in below) ∙ h.2)))
+    | inr ne ↦ so_far.1 (some, omega (arith, ne, few), h.2)
+  ],
+)
+
+-- They are those from 1 to n whose bit is set.
+pub marked-in : (words : List ℕ) (n u : ℕ) → Contains (marked words n) u ↔ ((1 ≤ u) × (u ≤ n) × (has_bit words (u - 1) ≡ true))
+marked-in words zero u = (λ h. let few = h.1 in absurd (omega (arith, few)), λ h. let some = h.0 in let few = h.1 in absurd (omega (arith, some, few)))
+marked-in words (suc n) u = in-next words n u (marked-in words n u) (has_bit words n) refl
+
+-- Each stands there once.
+once-next : (words : List ℕ) (n : ℕ) → IsOnce (marked words n) → (b : Bool) → IsOnce (if b then suc n ∷ marked words n else marked words n)
+once-next words n so_far true = front
   where
-    new : Contains xs u → ⊥
-    new h = true≢false ((m.members u).0 h).2 unmarked
+    front : (j k : ℕ) → j < k → k < length (suc n ∷ marked words n) → get_or (suc n ∷ marked words n) j 0 ≢ get_or (suc n ∷ marked words n) k 0
+    front j zero lt few = λ e. absurd (omega (arith, lt))
+    front zero (suc k) lt few = λ e.
+        let there = (marked-in words n (get_or (marked words n) k 0)).0 (Contains-get_or (marked words n) k 0 (omega (arith, few))) in
+        let most = there.1 in absurd (omega (arith, most, e))
+    front (suc j) (suc k) lt few = so_far j k (omega (arith, lt)) (omega (arith, few))
+once-next words n so_far false = so_far
 
-    here : u - 1 < length marks
-    here = omega (arith, some, within)
+pub marked-once : (words : List ℕ) (n : ℕ) → IsOnce (marked words n)
+marked-once words zero = λ j k lt few. absurd (omega (arith, few))
+marked-once words (suc n) = once-next words n (marked-once words n) (has_bit words n)
 
-    once : IsOnce (xs ++ u ∷ [])
-    once j k lt few e = dite (ℕ_discrete k (length xs))
-        (λ is. let j_few : j < length xs = omega (arith, lt, is) in new (
-          j,
-          j_few,
-          get_or_default xs j u 0 j_few ∙ (sym (get_or_append_left xs (u ∷ []) 0 j j_few) ∙ (e ∙ (ap (λ (i : ℕ). get_or (xs ++ u ∷ []) i 0) is ∙ get_or-append_seam xs u [] 0))),
-        ))
-        (λ isnt. let k_few : k < length xs = omega (arith, few, isnt, length-append xs (u ∷ [])) in
-        m.once j k lt k_few (sym (get_or_append_left xs (u ∷ []) 0 j (omega (arith, lt, k_few))) ∙ (e ∙ get_or_append_left xs (u ∷ []) 0 k k_few)))
+-- The length with one in front.
+longer-if : (b : Bool) (x : ℕ) (xs : List ℕ) → length (if b then x ∷ xs else xs) ≡ (if b then 1 else 0) + length xs
+longer-if true x xs = omega arith
+longer-if false x xs = omega arith
 
-    there : (v : ℕ) → Contains (xs ++ u ∷ []) v → (1 ≤ v) × (v ≤ length (set marks (u - 1) true)) × (get_or (set marks (u - 1) true) (v - 1) false ≡ true)
-    there v h = ⊎_elim
-        (λ c. let k = (m.members v).0 c in let l = k.0 in let r = k.1 in
-        let other : v ≢ u = λ e. new (subst (λ (w : ℕ). Contains xs w) e c) in
-        let apart : v - 1 ≢ u - 1 = λ e. other (omega (arith, e, some, l)) in
-        (l, omega (arith, r, length-set marks (u - 1) true), get_or-set_other marks (u - 1) (v - 1) true false apart ∙ k.2))
-        (λ e. subst (λ (w : ℕ). (1 ≤ w) × (w ≤ length (set marks (u - 1) true)) × (get_or (set marks (u - 1) true) (w - 1) false ≡ true)) e
-        (some, omega (arith, within, length-set marks (u - 1) true), get_or-set_same marks (u - 1) true false here))
-        (Contains-push_cases xs u v h)
+-- They are at most n.
+pub marked-few : (words : List ℕ) (n : ℕ) → length (marked words n) ≤ n
+marked-few words zero = omega arith
+marked-few words (suc n) = omega (arith, longer-if (has_bit words n) (suc n) (marked words n), marked-few words n, one (has_bit words n))
+  where
+    one : (b : Bool) → (if b then 1 else 0) ≤ 1
+    one true = omega arith
+    one false = omega arith
 
-    back : (v : ℕ) → (1 ≤ v) × (v ≤ length (set marks (u - 1) true)) × (get_or (set marks (u - 1) true) (v - 1) false ≡ true) → Contains (xs ++ u ∷ []) v
-    back v h = dite (ℕ_discrete v u)
-        (λ e. subst (λ (w : ℕ). Contains (xs ++ u ∷ []) w) (sym e) (Contains-push xs u))
-        (λ ne. let l = h.0 in let r = h.1 in let apart : v - 1 ≢ u - 1 = λ e. ne (omega (arith, e, some, l)) in
-        Contains-append_left xs (u ∷ []) v ((m.members v).1 (l, omega (arith, r, length-set marks (u - 1) true), sym (get_or-set_other marks (u - 1) (v - 1) true false apart) ∙ h.2)))
+-- With the same bits they are the same.
+marked-same : (old new : List ℕ) (n : ℕ) → ((j : ℕ) → j < n → has_bit new j ≡ has_bit old j) → marked new n ≡ marked old n
+marked-same old new zero same = refl
+marked-same old new (suc n) same =
+    ap (λ (b : Bool). if b then suc n ∷ marked new n else marked new n) (same n (omega arith))
+    ∙ ap (λ (l : List ℕ). if has_bit old n then suc n ∷ l else l) (marked-same old new n (λ j lt. same j (omega (arith, lt))))
+
+-- With no bit they are none.
+pub marked-none : (m n : ℕ) → marked (replicate m 0) n ≡ []
+marked-none m zero = refl
+marked-none m (suc n) = ap (λ (b : Bool). if b then suc n ∷ marked (replicate m 0) n else marked (replicate m 0) n) (bit-zeros m n) ∙ marked-none m n
+
+module _ (old new : List ℕ) (k : ℕ) (more : (j : ℕ) → has_bit new j ≡ (has_bit old j || eqb j k)) where
+  other : (j : ℕ) → j ≢ k → has_bit new j ≡ has_bit old j
+  other j ne = more j ∙ (ap (λ (b : Bool). has_bit old j || b) (ne_eqb j k ne) ∙ or-false (has_bit old j))
+
+  at : has_bit new k ≡ true
+  at = more k ∙ or_right (has_bit old k) (eqb k k) (eq-eqb k k refl)
+
+  -- With a bit more they are one more.
+  pub marked-longer : (n : ℕ) → k < n → has_bit old k ≡ false → length (marked new n) ≡ length (marked old n) + 1
+  marked-longer zero lt was = absurd (omega (arith, lt))
+  marked-longer (suc n) lt was = elim (cases_eq k n) [
+    | inl e ↦ omega (
+      arith,
+      longer-if (has_bit new n) (suc n) (marked new n),
+      longer-if (has_bit old n) (suc n) (marked old n),
+      ap {B = ℕ} (λ (b : Bool). if b then 1 else 0) (ap (λ (i : ℕ). has_bit new i) (sym e) ∙ at),
+      ap {B = ℕ} (λ (b : Bool). if b then 1 else 0) (ap (λ (i : ℕ). has_bit old i) (sym e) ∙ was),
+      ap (λ (l : List ℕ). length l) (marked-same old new n (λ j below. other j (λ is. absurd (omega (arith, is, e, below))))),
+    )
+    | inr ne ↦ omega (
+      arith,
+      longer-if (has_bit new n) (suc n) (marked new n),
+      longer-if (has_bit old n) (suc n) (marked old n),
+      ap {B = ℕ} (λ (b : Bool). if b then 1 else 0) (other n (λ e. ne (sym e))),
+      marked-longer n (omega (arith, lt, ne)) was,
+    )
+  ]
+
+  -- And this one is among them.
+  pub marked-with : (n s : ℕ) → k ≡ s - 1 → 1 ≤ s → s ≤ n → (u : ℕ) → Contains (marked new n) u ↔ (Contains (marked old n) u ⊎ (u ≡ s))
+  marked-with n s place some few u = (
+    λ h. let is = (marked-in new n u).0 h in elim (cases_eq (u - 1) k) [
+      | inl e ↦ inr (let l = is.0 in omega (arith, e, place, l, some))
+      | inr ne ↦ inl ((marked-in old n u).1 (is.0, is.1, sym (other (u - 1) ne) ∙ is.2))
+    ],
+    λ h. ⊎_elim
+        (λ c. let is = (marked-in old n u).0 c in (marked-in new n u).1 (is.0, is.1, more (u - 1) ∙ ap (λ (b : Bool). b || eqb (u - 1) k) is.2))
+        (λ e. subst (λ (v : ℕ). Contains (marked new n) v) (sym e) ((marked-in new n s).1 (some, few, ap (λ (i : ℕ). has_bit new i) (sym place) ∙ at)))
+        h,
+  )
+
+-- The next session of those that are written.
+pub written-next : (b : Bool) (xs rest all : List ℕ) (x : ℕ) → xs ++ (if b then x ∷ rest else rest) ≡ all → (if b then xs ++ x ∷ [] else xs) ++ rest ≡ all
+written-next true xs rest all x e = append_assoc xs (x ∷ []) rest ∙ e
+written-next false xs rest all x e = e
+
+-- ---- Sessions that are added one after another.
 
 -- What the list with one session more has.
-pub push-members : (xs : List ℕ) (u v : ℕ) → Contains (xs ++ u ∷ []) v ↔ (Contains xs v ⊎ (v ≡ u))
+push-members : (xs : List ℕ) (u v : ℕ) → Contains (xs ++ u ∷ []) v ↔ (Contains xs v ⊎ (v ≡ u))
 push-members xs u v = (
   λ h. ⊎_elim (λ c. inl c) (λ e. inr (sym e)) (Contains-push_cases xs u v h),
   λ h. ⊎_elim (λ c. Contains-append_left xs (u ∷ []) v c) (λ e. subst (λ (w : ℕ). Contains (xs ++ u ∷ []) w) (sym e) (Contains-push xs u)) h,
@@ -129,3 +194,10 @@ added-next old mid new xs k d few first last u =
       λ h. ⊎_elim (λ m. ⊎_elim (λ o. inl o) (λ t. inr (subst (λ (l : List ℕ). Contains l u) (sym whole) (p.1 (inl t)))) ((first u).0 m)) (λ e. inr (subst (λ (l : List ℕ). Contains l u) (sym whole) (p.1 (inr e)))) ((last u).0 h),
       λ h. (last u).1 (⊎_elim (λ o. inl ((first u).1 (inl o))) (λ t. ⊎_elim (λ f. inl ((first u).1 (inr f))) (λ e. inr e) (p.0 (subst (λ (l : List ℕ). Contains l u) whole t))) h),
     )
+
+-- A session whose bit is set is among them already.
+pub marked-already : (words : List ℕ) (n k s : ℕ) → k ≡ s - 1 → 1 ≤ s → s ≤ n → has_bit words k ≡ true → (u : ℕ) → Contains (marked words n) u ↔ (Contains (marked words n) u ⊎ (u ≡ s))
+marked-already words n k s place some few is u = (
+  λ h. inl h,
+  λ h. ⊎_elim (λ c. c) (λ e. subst (λ (v : ℕ). Contains (marked words n) v) (sym e) ((marked-in words n s).1 (some, few, ap (λ (i : ℕ). has_bit words i) (sym place) ∙ is))) h,
+)

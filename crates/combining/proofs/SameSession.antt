@@ -1,5 +1,5 @@
 -- What doesn't change in a session from one step of its pass to the next, and which places it enters.
-use Rattle.std.proofs.Common.{◌≡◌, ℕ, ◌+◌, List, [], ◌∷◌, ◌++◌, length, refl, sym, ap, ◌∙◌, arith, append_assoc, append-nil}
+use Rattle.std.proofs.Common.{◌≡◌, ℕ, ◌+◌, List, [], ◌∷◌, ◌++◌, length, sym, ap, ◌∙◌, arith, append_assoc}
 use Rattle.std.specs.List.{range_with_len}
 use Rattle.sequential.specs.declared.entry.Entry.{Entry}
 use Rattle.publication.specs.Views.{TicketView}

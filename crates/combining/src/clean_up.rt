@@ -1,4 +1,5 @@
-//! The ages of publication records, and the clean-up: a record that no pass has served for a while is taken off the publication list.
+//! The ages of publication records, in rounds of passes, and the clean-up: a record that no round has served for a while is taken off the
+//! publication list.
 
 ghost use Rattle.std.specs.Prelude.{◌≡◌, ◌≢◌, ◌≤◌, ◌<◌, ◌+◌, ◌%◌, ◌⊎◌, ◌↔◌, true, false, Some, IsTrue, length, vec_len, All};
 ghost use Rattle.sequential.specs.Batches.{IsItemWithin};
@@ -10,10 +11,10 @@ ghost use Rattle.combining.specs.inner.Ages.{sessions_of, noted, IsUnused, IsCle
 use publication::{Board, Ticket};
 use sequential::{Batching, Item};
 
-/// The clean-up runs every `PASSES_KEPT` passes, and takes off the records that were last served more than `PASSES_KEPT` passes ago.
+/// The clean-up runs every `PASSES_KEPT` rounds, and takes off the records that were last served more than `PASSES_KEPT` rounds ago.
 const PASSES_KEPT: u64 = 64;
 
-/// Sets the age of each session that a pass served to the number of that pass. The other ages stay.
+/// Sets the age of each session that a round served to the number of that round. The other ages stay.
 pub(crate) fn note_served<C: Copy, R: Copy>(ages: &mut Vec<u64>, served: &[Item<C, R>], passes: u64)
     requires within { All (IsItemWithin (vec_len ages.old)) served.now }
     ensures ages { ages.new.items ≡ noted ages.old.items (sessions_of served.now) passes }
@@ -24,7 +25,7 @@ pub(crate) fn note_served<C: Copy, R: Copy>(ages: &mut Vec<u64>, served: &[Item<
     }
 }
 
-/// Whether record `whose` was last served more than `PASSES_KEPT` passes ago.
+/// Whether record `whose` was last served more than `PASSES_KEPT` rounds ago.
 fn is_unused(ages: &[u64], whose: u16, passes: u64) -> bool
     requires whose { (0 < whose) × (whose ≤ length ages.now) }
     ensures { IsTrue result ↔ IsUnused ages.now passes whose }
@@ -84,7 +85,7 @@ fn unlink_unused<O: Batching>(
     }
 }
 
-/// Every `PASSES_KEPT` passes, walks the publication list once and takes off each unused record but the first, which can't be taken off.
+/// Every `PASSES_KEPT` rounds, walks the publication list once and takes off each unused record but the first, which can't be taken off.
 pub(crate) fn clean_up<O: Batching>(
     board: &Board<O>,
     session: &mut Ticket<O>,

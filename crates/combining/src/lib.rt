@@ -7,7 +7,7 @@
 //! up to where it gives the object back. `calling.rt` makes a whole call turn by turn, `backoff.rt` says how it waits between turns.
 //! `rounds.rt` is the combiner's pass, in rounds within a bound (`bounds.rt`), `pass.rt` what a round does with records, `own_call.rt` a pass
 //! with a call of its own, `clean_up.rt` takes unused records off the publication list. `told.rt` says who is told whose waits a pass has
-//! ended, `ended.rt` is the list of them.
+//! ended, `ended.rt` is the set of them.
 //!
 //! A pass seizes the object, in each round opens posted records, serves their calls as one batch and answers them, and gives the object
 //! back.

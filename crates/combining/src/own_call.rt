@@ -64,61 +64,37 @@ pub(crate) fn perform_own_telling<O: Batching, T: Told<O>>(
     Some(answer)
 }
 
-/// Performs a call of the combiner's own and then runs a pass.
-#[inline(never)]
-fn serve_own_first<O: Batching, T: Told<O>>(
-    board: &Board<O>,
-    session: &mut Ticket<O>,
-    load: &mut Load<O>,
-    call: &O::Call,
-    bound: PassBound,
-    told: &mut T,
-) -> (Pass, Option<(u64, O::Reply)>)
-    requires bound { IsBound bound }
-    requires work { IsAtWork O.Sequential board.now session.old load.old }
-    requires idle { IsIdle session.old }
-    requires room { HasRoom (T.room told.old) board.now.sessions }
-    ensures performed { IfSome result.1 (λ r. IsPassWithOwn true session.old session.new call.now r.0 r.1 result.0.served) }
-    ensures refused { IfNone result.1 (HasPassed session.old session.new result.0.served) }
-    ensures work { IsAtWork O.Sequential board.now session.new load.new }
-    ensures served { HasServed board.now.sessions session.old session.new load.old load.new result.0.starved result.0.left }
-    ensures all { IsUnmet bound → result.0.left ≡ false }
-    ensures few { result.0.served ≤ bound.rounds * bound.calls }
-    ensures told { HasAddedTold T.ends board.now.sessions session.new.front (entered_since session.old session.new) (T.list told.old) (T.list told.new) }
-    ensures room { T.room told.new ≡ T.room told.old }
-    ensures noted { T.notes told.new session.new.front }
-{
-    let answer = perform_own_telling(board, session, load, call, told);
-    (serve_rounds(board, session, load, bound, told), answer)
-}
-
-/// Runs a pass and then performs a call of the combiner's own.
+/// Makes a pass as `serve_rounds` does if `test` holds. Else it serves nothing, and changes nothing.
 #[inline(always)]
-fn serve_own_last<O: Batching, T: Told<O>>(
+fn serve_rounds_if<O: Batching, T: Told<O>>(
+    test: bool,
     board: &Board<O>,
     session: &mut Ticket<O>,
     load: &mut Load<O>,
-    call: &O::Call,
     bound: PassBound,
     told: &mut T,
-) -> (Pass, Option<(u64, O::Reply)>)
+) -> Pass
     requires bound { IsBound bound }
     requires work { IsAtWork O.Sequential board.now session.old load.old }
-    requires idle { IsIdle session.old }
     requires room { HasRoom (T.room told.old) board.now.sessions }
-    ensures performed { IfSome result.1 (λ r. IsPassWithOwn false session.old session.new call.now r.0 r.1 result.0.served) }
-    ensures refused { IfNone result.1 (HasPassed session.old session.new result.0.served) }
     ensures work { IsAtWork O.Sequential board.now session.new load.new }
-    ensures served { HasServed board.now.sessions session.old session.new load.old load.new result.0.starved result.0.left }
-    ensures all { IsUnmet bound → result.0.left ≡ false }
-    ensures few { result.0.served ≤ bound.rounds * bound.calls }
-    ensures told { HasAddedTold T.ends board.now.sessions session.new.front (entered_since session.old session.new) (T.list told.old) (T.list told.new) }
+    ensures passed { test ≡ true → HasPassed session.old session.new result.served }
+    ensures served { test ≡ true → HasServed board.now.sessions session.old session.new load.old load.new result.starved result.left }
+    ensures few { result.served ≤ bound.rounds * bound.calls }
+    ensures all { IsUnmet bound → result.left ≡ false }
+    ensures told { test ≡ true → HasAddedTold T.ends board.now.sessions session.new.front (entered_since session.old session.new) (T.list told.old) (T.list told.new) }
+    ensures noted { test ≡ true → T.notes told.new session.new.front }
     ensures room { T.room told.new ≡ T.room told.old }
-    ensures noted { T.notes told.new session.new.front }
+    ensures none { test ≡ false → (session.new ≡ session.old) × (load.new ≡ load.old) × (told.new ≡ told.old) }
 {
-    let pass = serve_rounds(board, session, load, bound, told);
-    let answer = perform_own_telling(board, session, load, call, told);
-    (pass, answer)
+    if test {
+        return serve_rounds(board, session, load, bound, told);
+    }
+    Pass {
+        served: 0,
+        starved: false,
+        left: false,
+    }
 }
 
 /// Runs a pass within the bound, in which the combiner performs a call of its own, which it has not published: ahead of the others if the
@@ -146,9 +122,12 @@ pub(crate) fn serve_with_own<O: Batching, T: Told<O>>(
     ensures room { T.room told.new ≡ T.room told.old }
     ensures noted { T.notes told.new session.new.front }
 {
-    if O::goes_first(call) {
-        serve_own_first(board, session, load, call, bound, told)
-    } else {
-        serve_own_last(board, session, load, call, bound, told)
+    let goes_first = O::goes_first(call);
+    let ahead = serve_rounds_if(!goes_first, board, session, load, bound, told);
+    let answer = perform_own_telling(board, session, load, call, told);
+    let behind = serve_rounds_if(goes_first, board, session, load, bound, told);
+    if goes_first {
+        return (behind, answer);
     }
+    (ahead, answer)
 }

@@ -195,7 +195,7 @@ fn put_back_row<O: Batching>(
     }
 }
 
-/// Performs the calls of the row, answers those that were performed, and posts the others again. Notes the pass as the
+/// Performs the calls of the row, answers those that were performed, and posts the others again. Notes the round as the
 /// age of each session that it served.
 #[inline(never)]
 fn serve_opened<O: Batching>(

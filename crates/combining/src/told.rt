@@ -91,14 +91,17 @@ impl<O: Telling> Told<O> for Ended {
 
     ghost weight = { λ _ _ _. 0 };
 
+    #[inline(always)]
     fn weigh(_object: &O, _session: u16, _call: &O::Call) -> u16 {
         0
     }
 
+    #[inline(always)]
     fn clear(&mut self) {
         self.remove_all();
     }
 
+    #[inline(always)]
     fn add(&mut self, object: &O, served: u32) {
         self.add_ended(object, served);
     }

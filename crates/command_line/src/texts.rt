@@ -1,10 +1,10 @@
 //! Texts of the program: its version, its help texts, and the message for a badly written number.
 
 /// The version of the project.
-pub const VERSION: &str = "0.8.0";
+pub const VERSION: &str = "0.9.0";
 
 /// The text of `--version`: the project's version, and the logic of the kit that it was proved with.
-pub const VERSION_TEXT: &str = "glm 0.8.0\nproved with the Rattle kit, logic dac8208d650f15bf\n";
+pub const VERSION_TEXT: &str = "glm 0.9.0\nproved with the Rattle kit, logic dac8208d650f15bf\n";
 
 /// The beginning of the help of `replay`.
 pub(crate) const ABOUT_REPLAY: &str =

@@ -1,8 +1,8 @@
 -- Faults after which the beginning of a text may be written: what checks ensure of them.
 use Rattle.std.proofs.Common.{◌≡◌, ℕ, List, Option, Some, Ok}
-use Rattle.history_commands.specs.declared.checking.Verdict.{Verdict}
+use Rattle.replay_commands.specs.declared.checking.Verdict.{Verdict}
 use Rattle.glm.specs.Outcomes.{HasPrintedPart}
-use Rattle.history_commands.specs.Verdicts.{Checks, text_of_verdict}
+use Rattle.replay_commands.specs.Verdicts.{Checks, text_of_verdict}
 use Rattle.replay_commands.specs.Written.{AppendsPart}
 
 -- a check whose writer failed wrote the beginning of the line

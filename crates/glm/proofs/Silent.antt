@@ -5,7 +5,7 @@ use Rattle.clap.specs.Walk.{Text}
 use Rattle.command_line.specs.CommandLine.{AskReplayInPieces, AskRunInPieces, AskShell}
 use Rattle.glm.specs.Outcomes.{HasDone, status_of_outcome}
 use Rattle.glm.specs.Statuses.{status_for, status_for_dump, status_for_show}
-use Rattle.history_commands.specs.declared.checking.Verdict.TheVariants as verdict
+use Rattle.replay_commands.specs.declared.checking.Verdict.TheVariants as verdict
 use Rattle.replay_commands.specs.declared.tool_fault.ToolFault.TheVariants as tool
 use Rattle.glm.specs.declared.outcomes.Outcome.{Outcome}
 use Rattle.glm.specs.declared.outcomes.Outcome.TheVariants as outcome

@@ -105,11 +105,6 @@ on_streams words asked input old new outcome.Misused ask s = absurd (s.has_done.
 on_streams words asked input old new outcome.OutOfMemory ask s = kept_on_streams words input old new _ s s.has_done
 on_streams words asked input old new outcome.FileFailed ask s = kept_on_streams words input old new _ s s.has_done
 
--- a file that couldn't be opened or written leaves standard output as it was
-pub file_failed_outcome : (words : List Text) (input known : Option (List ℕ)) (o : Outcome) → IsFileFault o → HasOutcome words input known known o
-file_failed_outcome words input known o (inl is) = subst (λ (p : Outcome). HasOutcome words input known known p) (sym is) (Keeps-refl known)
-file_failed_outcome words input known o (inr is) = subst (λ (p : Outcome). HasOutcome words input known known p) (sym is) (Keeps-refl known)
-
 -- a file that couldn't be written has the outcome of one of which no bytes are known
 pub file_failed_in_file : (words : List Text) (input : Option (List ℕ)) (o : Outcome) → IsFileFault o → HasDoneInFile words input o
 file_failed_in_file words input o (inl is) = (None, None, subst (λ (p : Outcome). HasDone words input None None p) (sym is) (Keeps-refl None))

@@ -8,8 +8,8 @@ use Rattle.command_line.specs.declared.args.Form.{Form}
 use Rattle.history_commands.specs.declared.dump_fault.DumpFault.{DumpFault}
 use Rattle.history_commands.specs.declared.dump_fault.DumpFault.TheVariants as dump
 use Rattle.history_commands.specs.Dumps.{HasDump, HasDumpPart, ShowsDump}
-use Rattle.history_commands.specs.declared.checking.Verdict.{Verdict}
-use Rattle.history_commands.specs.declared.checking.Verdict.TheVariants as verdict
+use Rattle.replay_commands.specs.declared.checking.Verdict.{Verdict}
+use Rattle.replay_commands.specs.declared.checking.Verdict.TheVariants as verdict
 use Rattle.history_commands.specs.declared.show_fault.ShowFault.{ShowFault}
 use Rattle.history_commands.specs.declared.show_fault.ShowFault.TheVariants as show
 use Rattle.replay_commands.specs.declared.tool_fault.ToolFault.{ToolFault}
@@ -24,10 +24,10 @@ use Rattle.glm.specs.Statuses.{status_for, status_for_dump, status_for_show}
 use Rattle.history_commands.specs.Showing.{HasShown, HasShownPart, Shows}
 use Rattle.history_commands.specs.Explaining.{HasExplained, HasExplainedPart, Explains}
 use Rattle.history_commands.specs.Drawing.{Draws, HasDrawn, HasDrawnPart}
-use Rattle.history_commands.specs.Verdicts.{Checks, IsHistory, text_of_verdict}
+use Rattle.replay_commands.specs.Verdicts.{Checks, IsHistory, text_of_verdict}
 use Rattle.replay_commands.specs.Written.{AppendsPart}
 use Rattle.lock_shell.specs.Turns.{HasTalked, HasTalkedPart, IsFaultOfShell}
-use Rattle.stats_report.specs.Stats.{Counts, HasCounted, HasCountedPart}
+use Rattle.replay_commands.specs.Stats.{Counts, HasCounted, HasCountedPart}
 
 -- the exit status of an outcome
 abbrev pub status_of_outcome : Outcome → ℕ
@@ -199,7 +199,7 @@ pub record HasAnsweredShell (words : List Text) (old new : Option (List ℕ)) (a
 
 -- the text of `--version`: the project's version, and the logic of the kit that it was proved with
 abbrev pub text_of_version : List ℕ
-text_of_version = codes "glm 0.8.0\nproved with the Rattle kit, logic dac8208d650f15bf\n"
+text_of_version = codes "glm 0.9.0\nproved with the Rattle kit, logic dac8208d650f15bf\n"
 
 -- what an outcome says of the words, the bytes of what was read, and what was written, which holds `old` before and `new` after
 abbrev pub HasDone : List Text → Option (List ℕ) → Option (List ℕ) → Option (List ℕ) → Outcome → Type 0

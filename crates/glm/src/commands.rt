@@ -24,13 +24,13 @@ use crate::wrong_replies::{ReportRequest, explained, shown};
 use clap::Error;
 use clap::error::ErrorKind;
 use command_line::{CommandRequest, Delivery, Request, VERSION_TEXT, request_of, usage_text};
-use history_commands::{WrongReply, show_dump, timeline};
+use history_commands::{show_dump, timeline};
 use lock_shell::shell;
-use lock_trace::SkipComments;
-use replay_commands::{NewFile, open_source, replay, replay_in_pieces, write_text};
-use row_hints::{Kept, KeptRows};
+use lock_trace::{Kept, KeptRows, SkipComments};
+use replay_commands::{
+    NewFile, WrongReply, open_source, replay, replay_in_pieces, stats, write_text,
+};
 use run_commands::{Gate, run, run_in_pieces};
-use stats_report::stats;
 use std::alloc::Global;
 use std::fs::Files;
 use std::io::{Error as IoError, ErrorKind as IoErrorKind, Read, Write};

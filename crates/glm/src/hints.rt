@@ -2,10 +2,9 @@
 
 use crate::outcomes::Outcome;
 use command_line::CommandRequest;
-use history_commands::{ShowFault, Verdict, WrongReply};
-use lock_trace::TraceFault;
-use replay_commands::ToolFault;
-use row_hints::{KeptRows, RowForm, expected_text, hint_text};
+use history_commands::ShowFault;
+use lock_trace::{KeptRows, RowForm, TraceFault, expected_text, hint_text};
+use replay_commands::{ToolFault, Verdict, WrongReply};
 use std::alloc::{AllocError as NoMemory, Global};
 use std::io::Write;
 

@@ -5,9 +5,9 @@ ghost use Rattle.glm.specs.Outcomes.{status_of_outcome};
 ghost use Rattle.glm.specs.Streams.{IsFileFault};
 ghost use Rattle.glm.specs.Statuses.{IsStatus, status_for, status_for_dump, status_for_show, status_of_kind};
 
-use history_commands::{DumpFault, ShowFault, Verdict};
+use history_commands::{DumpFault, ShowFault};
 use lock_trace::{TraceFault, TraceKind};
-use replay_commands::ToolFault;
+use replay_commands::{ToolFault, Verdict};
 use std::fmt::Display;
 use std::io;
 use std::io::{ErrorKind, Write};

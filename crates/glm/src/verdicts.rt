@@ -4,13 +4,14 @@ ghost use Rattle.std.specs.Prelude.{◌≡◌, ◌≢◌, ◌<◌, ◌≤◌, �
 ghost use Rattle.std.specs.Io.KnownBytes.{Keeps, Appends};
 ghost use Rattle.lock_rules.specs.declared.calls.TheConstants.{MAX_SESSIONS};
 ghost use Rattle.glm.specs.Outcomes.{HasPrintedPart, PrintsVerdict};
-ghost use Rattle.history_commands.specs.Verdicts.{Checks, Finds, IsFaultOfCheck, text_of_verdict};
+ghost use Rattle.replay_commands.specs.Verdicts.{Checks, Finds, IsFaultOfCheck, text_of_verdict};
 ghost use Rattle.replay_commands.specs.Replays.{IsFaultOfOneThread};
 
 use crate::wrong_replies::wrong_of;
 use command_line::Delivery;
-use history_commands::{Finding, Verdict, WrongReply, check_by_row, check_whole, verdict_line};
-use replay_commands::{ToolFault, write_text};
+use replay_commands::{
+    Finding, ToolFault, Verdict, WrongReply, check_by_row, check_whole, verdict_line, write_text,
+};
 use std::alloc::Global;
 use std::io::{Read, Write};
 

@@ -7,7 +7,8 @@ ghost use Rattle.history_commands.specs.Explaining.{Explains, HasExplained, HasE
 ghost use Rattle.history_commands.specs.Showing.{HasShown, HasShownPart, Shows};
 
 use command_line::Form;
-use history_commands::{Finding, ShowFault, Verdict, WrongReply, explain_found, show_found};
+use history_commands::{ShowFault, explain_found, show_found};
+use replay_commands::{Finding, Verdict, WrongReply};
 use std::alloc::Global;
 use std::io::{Read, Write};
 

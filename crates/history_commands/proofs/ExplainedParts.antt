@@ -9,12 +9,12 @@ use Rattle.lock_rules.specs.Step.{step}
 use Rattle.lock_trace.specs.Entries.{IsEntry}
 use Rattle.lock_trace.specs.ReadHistories.{history_of}
 use Rattle.history_commands.specs.Explaining.{AreAccounts, Explains, HasExplainedPart, IsAccount, IsAccountIfEventful, IsExplained, IsTextExplained, is_entry_eventful}
-use Rattle.history_commands.specs.Verdicts.{text_of_verdict}
+use Rattle.replay_commands.specs.Verdicts.{text_of_verdict}
 use Rattle.replay_commands.specs.Written.{AppendsPart}
-use Rattle.history_commands.proofs.IsVerdict.{one_more}
+use Rattle.replay_commands.proofs.IsVerdict.{one_more}
 use Rattle.command_line.specs.declared.args.Form.{Form}
-use Rattle.history_commands.specs.declared.checking.Verdict.{Verdict}
-use Rattle.history_commands.specs.declared.checking.Verdict.TheVariants as verdict
+use Rattle.replay_commands.specs.declared.checking.Verdict.{Verdict}
+use Rattle.replay_commands.specs.declared.checking.Verdict.TheVariants as verdict
 use Rattle.history_commands.specs.declared.show_fault.ShowFault.TheVariants as show
 
 -- an explanation whose writer failed was written in part
@@ -71,12 +71,6 @@ account_told form n front e account told is = subst (λ (b : Bool). IsAccountIfE
 pub nothing_told : (form : Form) (n : ℕ) (front : List Entry) (e : Entry) → is_entry_eventful n front e ≡ false → IsToldBehind form n front e []
 nothing_told form n front e untold = subst (λ (b : Bool). IsAccountIfEventful b form n front e []) (sym untold) refl
 
--- the waits that a call ended, in the same history of the same sessions
-pub ended_alike : (n m : ℕ) (front back : List Entry) (e : Entry) → n ≡ m → front ≡ back
-    → ended_waits n e.session (state_of front) (step (state_of front) e.session e.call).state ≡ ended_waits m e.session (state_of back) (step (state_of back) e.session e.call).state
-ended_alike n m front back e sessions history =
-    ap₂ (λ (k : ℕ) (es : List Entry). ended_waits k e.session (state_of es) (step (state_of es) e.session e.call).state) sessions history
-
 -- the history grown by an entry whose reply is the recorded one
 pub served_more : (es : List Entry) (i : ℕ) (e : Entry) (before after : List Entry) → i < length es → e ≡ get_or es i e → before ≡ take i es
     → after ≡ before ++ e ∷ [] → after ≡ take (i + 1) es
@@ -90,18 +84,3 @@ told_more form n m es i e front old new lt is sessions so_far are (added, (told,
     let there = subst (λ (k : ℕ). IsToldBehind form k (take i es) e added) sessions (subst (λ (xs : List Entry). IsToldBehind form m xs e added) so_far told) in
     subst (λ (xs : List Entry). AreAccounts form n [] xs new) (served_more es i e (take i es) (take i es ++ e ∷ []) lt is refl refl)
     (subst (AreAccounts form n [] (take i es ++ e ∷ [])) (sym grows) (accounts_grow form n [] (take i es) e old added are there))
-
--- the recorded reply is that of the same history
-pub reply_alike : (front back : List Entry) (e : Entry) → front ≡ back → (step (state_of front) e.session e.call).reply ≡ e.reply
-    → (step (state_of back) e.session e.call).reply ≡ e.reply
-reply_alike front back e is = subst (λ (es : List Entry). (step (state_of es) e.session e.call).reply ≡ e.reply) is
-
--- the line of the verdict is what is written of a history that isn't legal
-pub illegal_explained : (form : Form) (n : ℕ) (asked : Option ℕ) (history : List Entry) (first : ℕ) (found : Verdict) (text : List ℕ) → found ≡ verdict.Illegal first
-    → text ≡ text_of_verdict (verdict.Illegal first) → IsTextExplained form n asked history found text
-illegal_explained form n asked history first found text is line = subst (λ (v : Verdict). IsTextExplained form n asked history v text) (sym is) line
-
--- what follows of a result from two things that are known of it
-pub from_both : {T E : Type 0} (r : Result T E) (P Q R : T → Type 0) → ((x : T) → P x → Q x → R x) → IfOk r P → IfOk r Q → IfOk r R
-from_both (Ok x) P Q R follows p q = follows x p q
-from_both (Err e) P Q R follows p q = p

@@ -1,9 +1,7 @@
 pub mod DoomedBy
 pub mod DrawnParts
 pub mod ExplainedParts
-pub mod FindingBehind
 pub mod Flats
-pub mod IsVerdict
 pub mod PartsWritten
 pub mod Requests
 pub mod RequestsSince
@@ -13,4 +11,3 @@ pub mod WaitsFollow
 pub mod WaitsSince
 pub mod WithinFront
 pub mod WithoutRequest
-pub mod WrongReplies

@@ -4,7 +4,7 @@ use Rattle.std.specs.List.{All}
 use Rattle.lock_rules.specs.Entries.{Entry}
 use Rattle.lock_trace.specs.Entries.{IsEntry}
 use Rattle.lock_trace.specs.ReadHistories.{history_of}
-use Rattle.history_commands.specs.declared.checking.Verdict.{Verdict}
+use Rattle.replay_commands.specs.declared.checking.Verdict.{Verdict}
 use Rattle.history_commands.specs.Showing.{HasShownPart, IsShown, Shows}
 use Rattle.command_line.specs.declared.args.Form.{Form}
 use Rattle.history_commands.specs.declared.show_fault.ShowFault.TheVariants as show

@@ -18,7 +18,7 @@ use Rattle.lock_rules.proofs.Lists.{request_of-session}
 use Rattle.sequential.proofs.Members.{Member, contains-member, member-contains}
 use Rattle.lock_report.specs.Claims.{is_request_kind}
 use Rattle.lock_report.specs.declared.snapshot.Wait.{Wait}
-use Rattle.dump_report.specs.Blockers.{first_blocker as first_listed, is_request, is_waited_for, request_of as request_listed, requests_among}
+use Rattle.lock_report.specs.Blockers.{first_blocker as first_listed, is_request, is_waited_for, request_of as request_listed, requests_among}
 use Rattle.history_commands.specs.Waits.{claimants, first_passing}
 
 -- a request that is found is listed

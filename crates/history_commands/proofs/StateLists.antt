@@ -15,13 +15,13 @@ use Rattle.lock_rules.proofs.Lists.{eqb-refl, request_of-session}
 use Rattle.lock_rules.proofs.Settle.{reached-walk, reaches-walk}
 use Rattle.lock_rules.proofs.Walks.{found, walk-found}
 use Rattle.waits_for.specs.Walks.{IsWalk}
-use Rattle.state_rows.specs.Rows.{IsSession, IsWait}
+use Rattle.lock_report.specs.ReadRows.{IsSession, IsWait}
 use Rattle.lock_report.specs.declared.snapshot.OpenTransaction.{OpenTransaction}
 use Rattle.lock_report.specs.declared.snapshot.ToldWait.{ToldWait}
 use Rattle.lock_report.specs.declared.snapshot.Wait.{Wait}
-use Rattle.dump_report.specs.Blockers.{first_blocker as first_listed, is_waited_for, other_wait as other_listed, request_of as request_listed, requests_among, told_behind, told_of, told_waits, waits_by as waits_among}
-use Rattle.dump_report.specs.Jam.{does_wait, is_blocked, is_root as is_root_listed, jammed_behind, root_of as root_listed, roots_of as roots_listed, waiters}
-use Rattle.dump_report.proofs.Walks.{all-listed}
+use Rattle.lock_report.specs.Blockers.{first_blocker as first_listed, is_waited_for, other_wait as other_listed, request_of as request_listed, requests_among, told_behind, told_of, told_waits, waits_by as waits_among}
+use Rattle.lock_report.specs.Jam.{does_wait, is_blocked, is_root as is_root_listed, jammed_behind, root_of as root_listed, roots_of as roots_listed, waiters}
+use Rattle.lock_report.proofs.Walks.{all-listed}
 use Rattle.history_commands.specs.Roots.{is_root, root_of, roots_of}
 use Rattle.history_commands.specs.Showing.{open_of, opens_of, wait_of, waits_by, waits_of}
 use Rattle.history_commands.specs.Waits.{first_blocker_of, other_wait, waits_behind, waits_since, waits_told, with_since}
@@ -131,7 +131,7 @@ module _ (n : ℕ) (es : List Entry)
       ∙ (λ i. cond (is-root-told s i) (record { begun = record { session = s; transaction = x }; blocks = length (filter (λ u. blocked-told u s i) (range_with_len 1 n)); grants = (root_listed-grants s) } ∷ []) [])
     where
       root_listed-grants : ℕ → ℕ
-      root_listed-grants v = length (Rattle.dump_report.specs.Jam.granted_by_abort v (jammed_behind None (listing_of (state_of es))))
+      root_listed-grants v = length (Rattle.lock_report.specs.Jam.granted_by_abort v (jammed_behind None (listing_of (state_of es))))
 
   pub roots-told : roots_listed n (opens_of n (state_of es)) (listing_of (state_of es)) (waits_of n (state_of es)) ≡ roots_of n (state_of es)
   roots-told =

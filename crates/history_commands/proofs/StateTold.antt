@@ -12,7 +12,7 @@ use Rattle.lock_rules.specs.Waits.{waits_for}
 use Rattle.lock_rules.proofs.Owners.{state-numbered}
 use Rattle.sequential.specs.Histories.{IsEntryWithin}
 use Rattle.lock_explain.proofs.SessionsOfAHistory.{all-inside, inside, waits-open}
-use Rattle.state_rows.specs.Rows.{IsSession, IsWait}
+use Rattle.lock_report.specs.ReadRows.{IsSession, IsWait}
 use Rattle.lock_report.specs.declared.snapshot.OpenTransaction.{OpenTransaction}
 use Rattle.lock_report.specs.declared.snapshot.ToldWait.{ToldWait}
 use Rattle.lock_report.specs.declared.snapshot.Wait.{Wait}
@@ -20,9 +20,9 @@ use Rattle.lock_report.specs.Dot.{dot_of_waits}
 use Rattle.lock_report.specs.LocksDot.{dot_of_locks}
 use Rattle.lock_report.specs.StateRows.{rows_of_state}
 use Rattle.lock_report.specs.StateText.{text_of_state}
-use Rattle.dump_report.specs.Blockers.{told_waits}
-use Rattle.dump_report.specs.Blocking.{first_waits, rows_of_waits}
-use Rattle.dump_report.specs.Jam.{roots_of as roots_listed}
+use Rattle.lock_report.specs.Blockers.{told_waits}
+use Rattle.lock_report.specs.Blocking.{first_waits, rows_of_waits}
+use Rattle.lock_report.specs.Jam.{roots_of as roots_listed}
 use Rattle.command_line.specs.declared.args.Form.{Form}
 use Rattle.command_line.specs.declared.args.Form.TheVariants as form
 use Rattle.history_commands.specs.Forms.{form_of_lists}

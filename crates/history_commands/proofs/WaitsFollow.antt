@@ -23,8 +23,8 @@ use Rattle.lock_rules.proofs.Steps.{state-lawful}
 use Rattle.lock_report.specs.Claims.{is_request_kind}
 use Rattle.lock_report.specs.declared.snapshot.OpenTransaction.{OpenTransaction}
 use Rattle.lock_report.specs.declared.snapshot.Wait.{Wait}
-use Rattle.dump_report.specs.Blockers.{requests_among, request_of as request_listed}
-use Rattle.dump_report.specs.Blocking.{claims_on, is_ahead, waits_among, waits_of as waits_of_request}
+use Rattle.lock_report.specs.Blockers.{requests_among, request_of as request_listed}
+use Rattle.lock_report.specs.Blocking.{claims_on, is_ahead, waits_among, waits_of as waits_of_request}
 use Rattle.history_commands.specs.Showing.{open_of, opens_of, waits_by, waits_of}
 use Rattle.history_commands.proofs.Flats.{flat-flat}
 use Rattle.history_commands.proofs.Requests.{request-told}

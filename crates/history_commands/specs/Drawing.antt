@@ -4,12 +4,12 @@ use Rattle.std.specs.Io.KnownBytes.{Appends}
 use Rattle.lock_rules.specs.Entries.{Entry}
 use Rattle.lock_trace.specs.Entries.{IsEntry}
 use Rattle.lock_trace.specs.ReadHistories.{history_of, TellsOfHistory}
-use Rattle.history_commands.specs.declared.checking.Verdict.{Verdict}
-use Rattle.history_commands.specs.declared.checking.Verdict.TheVariants as verdict
+use Rattle.replay_commands.specs.declared.checking.Verdict.{Verdict}
+use Rattle.replay_commands.specs.declared.checking.Verdict.TheVariants as verdict
 use Rattle.history_commands.specs.declared.show_fault.ShowFault.{ShowFault}
 use Rattle.history_commands.specs.declared.show_fault.ShowFault.TheVariants as show
 use Rattle.history_commands.specs.Explaining.{HasPlace}
-use Rattle.history_commands.specs.Verdicts.{IsHistory, IsVerdict, text_of_verdict}
+use Rattle.replay_commands.specs.Verdicts.{IsHistory, IsVerdict, text_of_verdict}
 use Rattle.replay_commands.specs.Written.{AppendsPart}
 
 -- the first place that was asked for isn't behind the last

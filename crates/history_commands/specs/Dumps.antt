@@ -1,10 +1,10 @@
 -- What `show --state` writes: a dump in a form of `show`.
 use Rattle.std.specs.Prelude.{◌≡◌, ◌≢◌, ◌+◌, ◌⊎◌, ℕ, List, [], length, take, Option, None, Result, Ok, Err}
 use Rattle.std.specs.Io.KnownBytes.{Appends}
-use Rattle.state_rows.specs.declared.reading.StateLists.{StateLists}
-use Rattle.state_rows.specs.States.{AreLists, IsFaulty, IsNoState, text_of}
-use Rattle.dump_report.specs.Blockers.{requests_among}
-use Rattle.dump_report.specs.Blocking.{rows_of_waits, waits_among}
+use Rattle.lock_report.specs.declared.reading.state.StateLists.{StateLists}
+use Rattle.lock_report.specs.ReadStates.{AreLists, IsFaulty, IsNoState, text_of}
+use Rattle.lock_report.specs.Blockers.{requests_among}
+use Rattle.lock_report.specs.Blocking.{rows_of_waits, waits_among}
 use Rattle.command_line.specs.declared.args.Form.{Form}
 use Rattle.replay_commands.specs.Written.{AppendsPart}
 use Rattle.history_commands.specs.Forms.{form_of_lists}

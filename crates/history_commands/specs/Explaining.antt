@@ -13,20 +13,20 @@ use Rattle.lock_trace.specs.Histories.{text_of_piece}
 use Rattle.lock_trace.specs.ReadHistories.{history_of, TellsOfHistory}
 use Rattle.lock_explain.specs.declared.explanation.Explanation.{Explanation}
 use Rattle.lock_explain.specs.Explanations.{IsExplanation, is_eventful}
-use Rattle.explain_report.specs.ExplanationText.{text_of_explanation}
-use Rattle.explain_report.specs.ExplanationRows.{rows_of_explanation}
-use Rattle.explain_report.specs.ExplanationDot.{dot_of_explanation}
+use Rattle.lock_explain.specs.ExplanationText.{text_of_explanation}
+use Rattle.lock_explain.specs.ExplanationRows.{rows_of_explanation}
+use Rattle.lock_explain.specs.ExplanationDot.{dot_of_explanation}
 use Rattle.lock_report.specs.declared.snapshot.Doom.{Doom}
 use Rattle.lock_report.specs.Answers.{rows_of_answer, text_of_answer}
 use Rattle.history_commands.specs.Dooms.{doomed_by}
 use Rattle.history_commands.specs.Waits.{waits_of}
 use Rattle.command_line.specs.declared.args.Form.{Form}
 use Rattle.command_line.specs.declared.args.Form.TheVariants as form
-use Rattle.history_commands.specs.declared.checking.Verdict.{Verdict}
-use Rattle.history_commands.specs.declared.checking.Verdict.TheVariants as verdict
+use Rattle.replay_commands.specs.declared.checking.Verdict.{Verdict}
+use Rattle.replay_commands.specs.declared.checking.Verdict.TheVariants as verdict
 use Rattle.history_commands.specs.declared.show_fault.ShowFault.{ShowFault}
 use Rattle.history_commands.specs.declared.show_fault.ShowFault.TheVariants as show
-use Rattle.history_commands.specs.Verdicts.{IsHistory, IsVerdict, text_of_verdict}
+use Rattle.replay_commands.specs.Verdicts.{IsHistory, IsVerdict, text_of_verdict}
 use Rattle.replay_commands.specs.Written.{AppendsPart}
 
 -- the account of an entry at a place, in this form: lines begin with the row of the entry

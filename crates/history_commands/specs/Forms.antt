@@ -8,10 +8,10 @@ use Rattle.lock_report.specs.declared.snapshot.Wait.{Wait}
 use Rattle.lock_report.specs.Dot.{dot_of_waits}
 use Rattle.lock_report.specs.LocksDot.{dot_of_locks}
 use Rattle.lock_report.specs.StateRows.{rows_of_state}
-use Rattle.dump_report.specs.declared.showing.Moment.{Moment}
-use Rattle.dump_report.specs.Blockers.{told_waits}
-use Rattle.dump_report.specs.Blocking.{first_waits}
-use Rattle.dump_report.specs.Shown.{text_of_lists}
+use Rattle.lock_report.specs.declared.blocking.showing.Moment.{Moment}
+use Rattle.lock_report.specs.Blockers.{told_waits}
+use Rattle.lock_report.specs.Blocking.{first_waits}
+use Rattle.lock_report.specs.Shown.{text_of_lists}
 use Rattle.command_line.specs.declared.args.Form.{Form}
 use Rattle.command_line.specs.declared.args.Form.TheVariants as form
 use Rattle.history_commands.specs.Waits.{with_since}

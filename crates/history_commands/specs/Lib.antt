@@ -4,8 +4,6 @@ pub mod Dumps
 pub mod Explaining
 pub mod Forms
 pub mod Roots
-pub mod RowsJudged
 pub mod Showing
 pub mod Since
-pub mod Verdicts
 pub mod Waits

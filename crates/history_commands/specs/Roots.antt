@@ -6,8 +6,8 @@ use Rattle.lock_rules.specs.State.{State, is_waiting}
 use Rattle.lock_rules.specs.Waits.{waits_for, reaches}
 use Rattle.lock_rules.specs.Listing.{listing_of}
 use Rattle.lock_report.specs.declared.snapshot.Root.{Root}
-use Rattle.dump_report.specs.Jam.{jammed_behind}
-use Rattle.dump_report.specs.Jam.{granted_by_abort as granted_on_queues}
+use Rattle.lock_report.specs.Jam.{jammed_behind}
+use Rattle.lock_report.specs.Jam.{granted_by_abort as granted_on_queues}
 
 -- the sessions, of 1 to n, that wait for session s, directly or through others: a walk of the waits-for graph leads from them to s
 abbrev pub blocked_by : ℕ → State → ℕ → List ℕ

@@ -16,15 +16,15 @@ use Rattle.lock_report.specs.StateText.{text_of_state}
 use Rattle.lock_report.specs.StateRows.{rows_of_state}
 use Rattle.lock_report.specs.Dot.{dot_of_waits}
 use Rattle.lock_report.specs.LocksDot.{dot_of_locks}
-use Rattle.dump_report.specs.Blocking.{first_waits}
+use Rattle.lock_report.specs.Blocking.{first_waits}
 use Rattle.command_line.specs.declared.args.Form.{Form}
 use Rattle.command_line.specs.declared.args.Form.TheVariants as form
-use Rattle.history_commands.specs.declared.checking.Verdict.{Verdict}
-use Rattle.history_commands.specs.declared.checking.Verdict.TheVariants as verdict
+use Rattle.replay_commands.specs.declared.checking.Verdict.{Verdict}
+use Rattle.replay_commands.specs.declared.checking.Verdict.TheVariants as verdict
 use Rattle.history_commands.specs.declared.show_fault.ShowFault.{ShowFault}
 use Rattle.history_commands.specs.declared.show_fault.ShowFault.TheVariants as show
 use Rattle.history_commands.specs.Roots.{roots_of}
-use Rattle.history_commands.specs.Verdicts.{IsHistory, IsVerdict, text_of_verdict}
+use Rattle.replay_commands.specs.Verdicts.{IsHistory, IsVerdict, text_of_verdict}
 use Rattle.history_commands.specs.Waits.{waits_told}
 use Rattle.replay_commands.specs.Written.{AppendsPart}
 

@@ -11,11 +11,9 @@ use crate::dooming::doomed_by;
 use crate::listing::{add_open, waits_by};
 use crate::since::with_places;
 use command_line::Form;
-use dump_report::told_waits;
-use explain_report::{explanation_dot, explanation_rows, explanation_text};
 use lock_desk::{Book, Call, Entry, NoMemory};
-use lock_explain::Explanation;
-use lock_report::{Doom, ToldWait, answer_rows, answer_text};
+use lock_explain::{Explanation, explanation_dot, explanation_rows, explanation_text};
+use lock_report::{Doom, ToldWait, answer_rows, answer_text, told_waits};
 use lock_trace::piece_text;
 use std::alloc::Global;
 

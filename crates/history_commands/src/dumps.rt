@@ -3,18 +3,19 @@
 ghost use Rattle.std.specs.Prelude.{◌≡◌, ◌≢◌, ◌⊎◌, ℕ, ◌+◌, ◌<◌, ◌≤◌, List, Some, Err, IfSome, IfNone, IfOk, IfErr, take, string_bytes};
 ghost use Rattle.std.specs.Io.KnownBytes.{Keeps};
 ghost use Rattle.lock_rules.specs.declared.calls.TheConstants.{MAX_SESSIONS};
-ghost use Rattle.state_rows.specs.States.{AreLists};
+ghost use Rattle.lock_report.specs.ReadStates.{AreLists};
 ghost use Rattle.history_commands.specs.declared.dump_fault.DumpFault.TheVariants as fault;
-ghost use Rattle.dump_report.specs.Blocking.{rows_of_waits, waits_among};
+ghost use Rattle.lock_report.specs.Blocking.{rows_of_waits, waits_among};
 ghost use Rattle.history_commands.specs.Dumps.{HasDump, HasDumpPart, IsDump, IsMistold, ReadsDump, ShowsDump, text_of_dump};
 
 use crate::dump_fault::DumpFault;
 use crate::forms::form_text;
 use command_line::Form;
-use dump_report::{Lists, Moment, first_waits, requests_among, told_waits, waits_among};
-use lock_report::FirstWait;
+use lock_report::{
+    FirstWait, Lists, Moment, StateFault, StateLists, first_waits, read_state, requests_among,
+    told_waits, waits_among,
+};
 use replay_commands::write_text;
-use state_rows::{StateFault, StateLists, read_state};
 use std::alloc::Global;
 use std::io::{ErrorKind, Read, Write};
 

@@ -8,17 +8,17 @@ ghost use Rattle.lock_rules.specs.Step.{step};
 ghost use Rattle.lock_trace.specs.Entries.{IsEntry};
 ghost use Rattle.lock_explain.specs.Explanations.{IsExplanation};
 ghost use Rattle.history_commands.specs.Explaining.{AreAccounts, Explains, HasExplained, HasExplainedPart, HasPlace, IsTextExplained};
-ghost use Rattle.history_commands.specs.Verdicts.{Finds, IsFirstWrong, IsVerdict, text_of_verdict, verdict_in, verdict_of};
+ghost use Rattle.replay_commands.specs.Verdicts.{Finds, IsFirstWrong, IsVerdict, text_of_verdict, verdict_in, verdict_of};
 
 use crate::accounts::{ServedCall, account, add_account_if_eventful};
-use crate::checking::{Verdict, finding_behind, first_wrong, fresh_book, is_same, verdict_line};
-use crate::finding::Finding;
 use crate::show_fault::ShowFault;
 use command_line::Form;
 use lock_desk::{Book, Entry, NoMemory};
 use lock_explain::{Explanation, serve_eventful, serve_explained};
 use lock_trace::read_history;
-use replay_commands::write_text;
+use replay_commands::{
+    Finding, Verdict, finding_behind, first_wrong, fresh_book, is_same, verdict_line, write_text,
+};
 use std::alloc::Global;
 use std::io::{Read, Write};
 

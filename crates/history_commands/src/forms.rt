@@ -2,15 +2,16 @@
 
 ghost use Rattle.std.specs.Prelude.{◌≡◌, ◌<◌, ◌≤◌, All, IfOk, string_bytes};
 ghost use Rattle.lock_rules.specs.declared.calls.TheConstants.{MAX_SESSIONS};
-ghost use Rattle.state_rows.specs.Rows.{IsSession, IsWait};
-ghost use Rattle.dump_report.specs.Blockers.{told_waits};
+ghost use Rattle.lock_report.specs.ReadRows.{IsSession, IsWait};
+ghost use Rattle.lock_report.specs.Blockers.{told_waits};
 ghost use Rattle.history_commands.specs.Forms.{form_of_lists, told_at};
 
 use crate::since::with_places;
 use command_line::Form;
-use dump_report::{Lists, Moment, first_waits, lists_text, told_waits};
 use lock_desk::Entry;
-use lock_report::{ToldWait, locks_dot, state_rows, waits_dot};
+use lock_report::{
+    Lists, Moment, ToldWait, first_waits, lists_text, locks_dot, state_rows, told_waits, waits_dot,
+};
 use std::alloc::{AllocError as NoMemory, Global};
 
 /// The waits, of a state in front of a place with the places since when sessions wait. Fails if memory is refused.

@@ -6,7 +6,7 @@ ghost use Rattle.lock_rules.specs.Entries.{Entry as EntryValue};
 ghost use Rattle.lock_rules.specs.Legal.{IsLegal, state_of};
 ghost use Rattle.lock_rules.specs.Listing.{listing_of};
 ghost use Rattle.sequential.specs.Histories.{IsEntryWithin};
-ghost use Rattle.dump_report.specs.Blocking.{first_waits, rows_of_waits, waits_among};
+ghost use Rattle.lock_report.specs.Blocking.{first_waits, rows_of_waits, waits_among};
 ghost use Rattle.history_commands.specs.Showing.{opens_of, waits_of};
 ghost use Rattle.history_commands.specs.Waits.{waits_told};
 ghost use Rattle.history_commands.specs.Since.{ArePlacesTold};

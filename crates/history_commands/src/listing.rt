@@ -5,9 +5,8 @@ ghost use Rattle.lock_rules.specs.Legal.{state_of};
 ghost use Rattle.lock_rules.specs.Listing.{listing_of};
 ghost use Rattle.history_commands.specs.Showing.{open_of, opens_of, wait_of, waits_by, waits_of};
 
-use dump_report::Lists;
 use lock_desk::{Book, NoMemory};
-use lock_report::{OpenTransaction, Wait};
+use lock_report::{Lists, OpenTransaction, Wait};
 use std::alloc::Global;
 
 /// Adds the open transaction of `session` to the list, if it has one. Fails if memory is refused.

@@ -5,18 +5,18 @@ ghost use Rattle.std.specs.Io.KnownBytes.{Keeps};
 ghost use Rattle.lock_rules.specs.declared.calls.TheConstants.{MAX_SESSIONS};
 ghost use Rattle.lock_trace.specs.Entries.{IsEntry};
 ghost use Rattle.history_commands.specs.Showing.{HasShown, HasShownPart, Shows, place_shown, lines_in, text_in, text_shown};
-ghost use Rattle.history_commands.specs.Verdicts.{Finds, IsVerdict, text_of_verdict, verdict_in, verdict_of};
+ghost use Rattle.replay_commands.specs.Verdicts.{Finds, IsVerdict, text_of_verdict, verdict_in, verdict_of};
 
-use crate::checking::{Verdict, finding_behind, first_wrong, fresh_book, verdict_line};
-use crate::finding::Finding;
 use crate::forms::form_text;
 use crate::listing::lists_of;
 use crate::show_fault::ShowFault;
 use command_line::Form;
-use dump_report::Moment;
 use lock_desk::{Book, Entry, NoMemory};
+use lock_report::Moment;
 use lock_trace::read_history;
-use replay_commands::write_text;
+use replay_commands::{
+    Finding, Verdict, finding_behind, first_wrong, fresh_book, verdict_line, write_text,
+};
 use std::alloc::Global;
 use std::io::{Read, Write};
 

@@ -27,23 +27,8 @@ leads_lock n r m h = (inl h.0, h.1, (Lock r m, h))
 pub leads_convert : (n : ProgramNumbers) (r : List ℕ) (m : Mode) → IsCall n.last (Convert r m) → LeadsTo n r
 leads_convert n r m h = (inr (inl h.0), h.1, (Convert r m, h))
 
-pub leads_release : (n : ProgramNumbers) (r : List ℕ) → IsCall n.last (Release r) → LeadsTo n r
-leads_release n r h = (inr (inr (inl h.0)), h.1, (Release r, h))
-
 pub leads_try : (n : ProgramNumbers) (r : List ℕ) (m : Mode) → IsCall n.last (Try r m) → LeadsTo n r
 leads_try n r m h = (inr (inr (inr (inl h.0))), h.1, (Try r m, h))
-
--- the last call's numbers encode none
-pub last_fault : (n : ProgramNumbers) (fault : ℕ) → IsStart n.start → n.last.op ≢ NO_CALL → IsCallFault n.last fault → IsProgramFault n fault
-last_fault n fault s some h = record {
-  known = inl h.known;
-  start = (λ e. absurd (omega (arith, e, h.known.1)), λ _. s);
-  op = λ e. (some, inl (h.op e));
-  level = h.level;
-  mode = h.mode;
-  path = λ e. absurd (omega (arith, e, h.known.1));
-  above = λ e. absurd (omega (arith, e, h.known.1));
-}
 
 -- the path's numbers encode none
 pub path_fault : (n : ProgramNumbers) (r : List ℕ) (fault : ℕ) → IsStart n.start → LeadsTo n r

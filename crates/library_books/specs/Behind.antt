@@ -8,8 +8,6 @@ use denote.Builtin.{u32, u64, usize}
 use denote.Memory.{mem}
 use denote.RattleType.{RattleType}
 use denote.RawPtr.{Ptr, block_ptr, null_ptr, lies_at}
-use Rattle.library_books.specs.declared.book_handle.BookHandle.{BookHandle}
-use Rattle.library_books.specs.contracts.book_handle.BookHandle.{the_row as book_handle_row}
 use Rattle.library_books.specs.declared.numbers.AnswerNumbers.{AnswerNumbers}
 use Rattle.library_books.specs.contracts.numbers.AnswerNumbers.{the_row as answer_row}
 use Rattle.library_books.specs.declared.claims.ClaimNumbers.{ClaimNumbers}
@@ -64,9 +62,6 @@ list_at R (suc n) p xs = items_at R (suc n) p xs
 -- n items should lie at the pointer, and it is null
 abbrev pub IsNullList : Ptr → ℕ → Type 0
 IsNullList p n = (p ≡ null_ptr) × (0 < n)
-
-abbrev pub book_handle_behind : Ptr → BookHandle → Fml
-book_handle_behind = maybe_at book_handle_row
 
 abbrev pub answer_behind : Ptr → AnswerNumbers → Fml
 answer_behind = maybe_at answer_row
@@ -129,9 +124,6 @@ abbrev pub sessions_behind : ℕ → Ptr → List ℕ → Fml
 sessions_behind = list_at u32
 
 -- how they are stored in ghost fields
-abbrev pub book_handle_coded : Coded BookHandle
-book_handle_coded = book_handle_row.coded
-
 abbrev pub answer_coded : Coded AnswerNumbers
 answer_coded = answer_row.coded
 

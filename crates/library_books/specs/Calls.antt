@@ -7,15 +7,16 @@ use Rattle.lock_rules.specs.Ended.{ended_waits}
 use Rattle.lock_desk.specs.BookView.{BookView}
 use Rattle.library_books.specs.declared.numbers.CallNumbers.{CallNumbers}
 use Rattle.library_books.specs.declared.numbers.ReplyNumbers.{ReplyNumbers}
+use Rattle.library_books.specs.declared.option_numbers.OptionNumbers.{OptionNumbers}
 use Rattle.library_books.specs.Numbers.{IsCall, numbers_of_reply}
 
 -- the book has a session with this number
 abbrev pub IsSession : BookView → ℕ → Type 0
 IsSession book session = (1 ≤ session) × (session ≤ book.sessions)
 
--- the array has room for all sessions of the book
-abbrev pub HasRoom : {X : Type 0} → BookView → List X → Type 0
-HasRoom book places = book.sessions ≤ length places
+-- a book for so many sessions that was opened with these options
+abbrev pub opened_book : ℕ → OptionNumbers → BookView
+opened_book sessions options = record { sessions = sessions; history = []; cut = 0; bound = options.keep; ended = []; deadlocks = options.deadlocks }
 
 -- the call that the numbers encode was served: the reply is that of the sequential lock manager, the history has one more entry, and the
 -- book tells whose wait the call has ended

@@ -34,6 +34,6 @@ numbers_of_counts c = record {
   deadlocks = c.deadlocks;
 }
 
--- the gauges in numbers
-abbrev pub numbers_of_gauges : Gauges → GaugeNumbers
-numbers_of_gauges g = record { transactions = g.transactions; locks = g.locks; waiting = g.waiting; longest_queue = g.longest_queue }
+-- the gauges in numbers, with so many idle cells
+abbrev pub numbers_of_gauges : Gauges → ℕ → GaugeNumbers
+numbers_of_gauges g cells = record { transactions = g.transactions; locks = g.locks; waiting = g.waiting; longest_queue = g.longest_queue; idle_cells = cells }

@@ -23,12 +23,11 @@ use Rattle.lock_programs.specs.Fits.{goes_on_behind}
 use Rattle.lock_programs.specs.Answers.{replies_of, program_form}
 use Rattle.lock_desk.specs.BookView.{BookView}
 use Rattle.lock_desk.specs.Batches.{TellsFrom}
-use Rattle.library_books.specs.declared.numbers.ReplyNumbers.{ReplyNumbers}
 use Rattle.library_books.specs.declared.program_numbers.ProgramNumbers.{ProgramNumbers}
 use Rattle.library_books.specs.declared.program_numbers.ProgramAnswerNumbers.{ProgramAnswerNumbers}
 use Rattle.library_books.specs.declared.program_numbers.TheConstants.{NO_CALL}
 use Rattle.library_books.specs.declared.status.TheConstants.{NO_SUCH_OP, NO_SUCH_LEVEL, NO_SUCH_MODE, NO_SUCH_START, NOT_ON_PATH, NO_SUCH_ABOVE}
-use Rattle.library_books.specs.Calls.{AreListedOnce, are_written}
+use Rattle.library_books.specs.Calls.{are_written}
 use Rattle.library_books.specs.Claims.{number_of_bool}
 use Rattle.library_books.specs.Numbers.{IsOp, IsOneOf, IsLevel, IsModeCode, IsPath, IsCall, numbers_of_reply}
 
@@ -107,9 +106,9 @@ stop_of [] = 0
 stop_of (r ∷ []) = stop_number r
 stop_of (r ∷ q ∷ rs) = stop_of (q ∷ rs)
 
--- what stands in an answer where there is no reply
-abbrev pub no_reply : ReplyNumbers
-no_reply = record { kind = 0; value = 0 }
+-- the value of a reply, as its numbers have it
+abbrev pub value_of_reply : Reply → ℕ
+value_of_reply reply = (numbers_of_reply reply).value
 
 -- the numbers of the answer to a program
 abbrev pub numbers_of_answer : Program → Answer → ProgramAnswerNumbers
@@ -118,7 +117,7 @@ numbers_of_answer p a = record {
   served = length (replies_of p a);
   starved = number_of_bool a.is_refused;
   stop = stop_of (replies_of p a);
-  replies = are_written numbers_of_reply (replies_of p a) (replicate CALLS no_reply);
+  values = are_written value_of_reply (replies_of p a) (replicate CALLS 0);
 }
 
 -- session s ran the program on the book: its calls were served one after another, up to the first reply behind which it doesn't go on, or
@@ -131,11 +130,10 @@ pub record HasRun (before after : BookView) (s : ℕ) (p : Program) (a : Answer)
   pub legal : IsLegal after.history
   pub ended : TellsFrom after (length before.history)
 
--- the program that the numbers encode was run, and the answer tells of it. The array has the sessions whose wait its calls have ended
-pub record IsProgramRun (before after : BookView) (session : ℕ) (asked : ProgramNumbers) (answer : ProgramAnswerNumbers) (places list : List ℕ) (count : ℕ) : Type 0 where
+-- the program that the numbers encode was run, and the answer tells of it
+pub record IsProgramRun (before after : BookView) (session : ℕ) (asked : ProgramNumbers) (answer : ProgramAnswerNumbers) : Type 0 where
   pub program : Program
   pub made : Answer
   pub is_asked : IsProgram asked program
   pub ran : HasRun before after session program made
   pub told : answer ≡ numbers_of_answer program made
-  pub ended : (sessions : List ℕ) × AreListedOnce after.ended sessions × (list ≡ are_written (λ u. u) sessions places) × (count ≡ length sessions)

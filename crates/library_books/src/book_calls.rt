@@ -1,19 +1,20 @@
-//! The calls of a book in numbers, on the book that a handle holds.
+//! The calls of a book in numbers.
 
-ghost use Rattle.std.specs.Prelude.{◌≡◌, ◌≢◌, ◌+◌, ◌<◌, ◌≤◌, ◌↔◌, ◌⊎◌, ℕ, List, IfSome, IfNone, if◌then◌else◌, length, drop, min};
+ghost use Rattle.std.specs.Prelude.{◌≡◌, ◌≢◌, ◌+◌, ◌<◌, ◌≤◌, ◌↔◌, ◌⊎◌, ℕ, List, IfSome, IfNone, length, drop, min};
 ghost use Rattle.lock_modes.specs.Codes.{code_of};
 ghost use Rattle.lock_rules.specs.Legal.{state_of};
 ghost use Rattle.lock_rules.specs.State.{held_mode, mode_or_nothing, holders};
-ghost use Rattle.lock_rules.specs.Waits.{waits_for as is_waited_for};
 ghost use Rattle.lock_rules.specs.declared.calls.Call.{Call as CallValue};
+ghost use Rattle.lock_rules.specs.declared.calls.TheConstants.{MAX_SESSIONS};
 ghost use Rattle.lock_desk.specs.BookView.{first_kept_by, kept_by};
 ghost use Rattle.library_books.specs.Numbers.{IsCall, IsCallFault, IsLevel, IsPath, numbers_of_entry, numbers_of_holder};
-ghost use Rattle.library_books.specs.Calls.{IsSession, IsServed, AreListedOnce, are_written};
+ghost use Rattle.library_books.specs.Calls.{IsSession, IsServed, opened_book, AreListedOnce, are_written};
 
 use crate::numbers::{
     CallNumbers, EntryNumbers, HolderNumbers, ReplyNumbers, ResourceNumbers, entry_numbers,
     holder_numbers, read_call, read_resource, reply_numbers,
 };
+use crate::option_numbers::OptionNumbers;
 use crate::status::{
     LET_GO, NO_MEMORY, NO_SUCH_LEVEL, NO_SUCH_MODE, NO_SUCH_OP, NO_SUCH_SESSION, OK,
 };
@@ -29,6 +30,25 @@ pub fn session_of(book: &Book, session: u32) -> Option<u16>
         return None;
     }
     Some(session as u16)
+}
+
+/// An empty book for `sessions` sessions, with these options. Returns `None` if memory is refused.
+pub fn new_book(alloc: Global, sessions: u16, options: &OptionNumbers) -> Option<Box<Book>>
+    requires some { 1 ≤ sessions }
+    requires few { sessions ≤ MAX_SESSIONS }
+    ensures { IfSome result (λ book. book.value ≡ opened_book sessions options.now) }
+{
+    let Ok(mut book) = Book::with_seed(alloc, sessions, options.seed) else {
+        return None;
+    };
+    if book
+        .keep_deadlocks(alloc, options.deadlocks as usize)
+        .is_err()
+    {
+        return None;
+    }
+    book.keep_at_most(options.keep);
+    Box::new(alloc, book).ok()
 }
 
 /// Serves the call that the numbers encode.
@@ -75,24 +95,6 @@ pub fn held(book: &Book, session: u32, path: &ResourceNumbers, mode: &mut u32) -
         Some(held) => u32::from(held.code()),
         None => 0,
     };
-    OK
-}
-
-/// Writes 1 to `edge` if the session waits for the other one directly, else 0.
-pub fn waits_for(book: &Book, session: u32, other: u32, edge: &mut u32) -> u32
-    ensures ok { result ≡ OK → IsSession book.now session × IsSession book.now other
-        × (edge.new ≡ if is_waited_for (state_of book.now.history).table session other then 1 else 0) }
-    ensures failed { result ≢ OK → edge.new ≡ edge.old }
-    ensures session { result ≡ NO_SUCH_SESSION → ¬ (IsSession book.now session × IsSession book.now other) }
-    ensures statuses { (result ≡ OK) ⊎ (result ≡ NO_SUCH_SESSION) }
-{
-    let Some(waiter) = session_of(book, session) else {
-        return NO_SUCH_SESSION;
-    };
-    let Some(waited) = session_of(book, other) else {
-        return NO_SUCH_SESSION;
-    };
-    *edge = if book.waits_for(waiter, waited) { 1 } else { 0 };
     OK
 }
 

@@ -1,6 +1,6 @@
 //! Transactions, locks and waiting requests in numbers, and how they are written to C's structs.
 
-ghost use Rattle.std.specs.Prelude.{◌≡◌, drop};
+ghost use Rattle.std.specs.Prelude.{◌≡◌};
 ghost use Rattle.library_books.specs.Calls.{are_written};
 ghost use Rattle.library_books.specs.Claims.{number_of_kind, number_of_bool, numbers_of_claim, numbers_of_request, numbers_of_transaction};
 
@@ -101,12 +101,4 @@ pub fn write_claims(lines: &[Claim], places: &mut [ClaimNumbers])
     for k in 0..count {
         places[k] = claim_numbers(&lines[k]);
     }
-}
-
-/// Writes the numbers of the lines from index `first` on, as many as `places` has room for.
-pub fn write_claims_from(lines: &[Claim], first: usize, places: &mut [ClaimNumbers])
-    ensures { places.new ≡ are_written numbers_of_claim (drop first lines.now) places.old }
-{
-    let start = usize::min(first, lines.len());
-    write_claims(&lines[start..], places);
 }

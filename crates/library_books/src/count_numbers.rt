@@ -100,16 +100,19 @@ pub struct GaugeNumbers {
     pub locks: u64,
     pub waiting: u64,
     pub longest_queue: u64,
+    /// The cells that the lock table keeps and that serve no resource. No clause says how many they are.
+    pub idle_cells: u64,
 }
 
 /// The gauges in numbers.
-pub fn gauge_numbers(gauges: Gauges) -> GaugeNumbers
-    ensures { result ≡ numbers_of_gauges gauges }
+pub fn gauge_numbers(gauges: Gauges, idle_cells: usize) -> GaugeNumbers
+    ensures { result ≡ numbers_of_gauges gauges idle_cells }
 {
     GaugeNumbers {
         transactions: gauges.transactions,
         locks: gauges.locks,
         waiting: gauges.waiting,
         longest_queue: gauges.longest_queue,
+        idle_cells: idle_cells as u64,
     }
 }

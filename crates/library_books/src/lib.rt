@@ -2,20 +2,19 @@
 //! which C speaks of it. It knows no office.
 //!
 //! Pointers of C and what lies behind them: `pointers.rt` and the files in `pointers/`. Numbers of C's structs: `numbers.rt`,
-//! `program_numbers.rt`, `claims.rt`, `count_numbers.rt`, `deadlock_numbers.rt`, `status.rt`. The handle: `book_handle.rt`, and what is
-//! in it, `held_book.rt` over `raw_box.rt`. The calls, on the book that a handle holds: `book_calls.rt`, `batch.rt`, `listing.rt`,
-//! `program_calls.rt`.
+//! `program_numbers.rt`, `option_numbers.rt`, `claims.rt`, `count_numbers.rt`, `deadlock_numbers.rt`, `status.rt`. What a handle holds: `held_book.rt` over
+//! `raw_box.rt`. The calls, on a book: `book_calls.rt`, `batch.rt`, `listing.rt`, `program_calls.rt`.
 #![tactic(auto)]
 
 pub mod batch;
 pub mod book_calls;
-pub mod book_handle;
 pub mod claims;
 pub mod count_numbers;
 pub mod deadlock_numbers;
 pub mod held_book;
 pub mod listing;
 pub mod numbers;
+pub mod option_numbers;
 pub mod pointers;
 pub mod program_calls;
 pub mod program_numbers;

@@ -1,20 +1,17 @@
-//! What a book's sessions hold and wait for, and whom they wait for, in numbers, on the book that a handle holds.
+//! What a book's sessions hold and wait for, and whom they wait for, in numbers.
 
-ghost use Rattle.std.specs.Prelude.{◌≡◌, ◌≢◌, ◌⊎◌, length, drop};
+ghost use Rattle.std.specs.Prelude.{◌≡◌, ◌≢◌, ◌⊎◌, length};
 ghost use Rattle.lock_rules.specs.Legal.{state_of};
-ghost use Rattle.lock_rules.specs.Listing.{listing_of, waiting_line};
+ghost use Rattle.lock_rules.specs.Listing.{waiting_line};
 ghost use Rattle.lock_desk.specs.Queries.{blockers_among};
 ghost use Rattle.library_books.specs.Calls.{IsSession, are_written};
-ghost use Rattle.library_books.specs.Claims.{numbers_of_claim, numbers_of_request, numbers_of_transaction};
+ghost use Rattle.library_books.specs.Claims.{numbers_of_request, numbers_of_transaction};
 
 use crate::book_calls::{session_of, write_sessions};
-use crate::claims::{
-    ClaimNumbers, TransactionNumbers, request_numbers, transaction_numbers, write_claims_from,
-};
-use crate::status::{NO_MEMORY, NO_SUCH_SESSION, OK};
+use crate::claims::{ClaimNumbers, TransactionNumbers, request_numbers, transaction_numbers};
+use crate::status::{NO_SUCH_SESSION, OK};
 use lock_desk::Book;
 use lock_rules::MAX_SESSIONS;
-use std::alloc::Global;
 
 /// Writes the open transaction of the session.
 pub fn transaction(book: &Book, session: u32, open: &mut TransactionNumbers) -> u32
@@ -41,29 +38,6 @@ pub fn request(book: &Book, session: u32, waiting: &mut ClaimNumbers) -> u32
         return NO_SUCH_SESSION;
     };
     *waiting = request_numbers(book.request(number));
-    OK
-}
-
-/// Writes the lines of the listing from index `first` on, as many as `list` has room for, and the number of all lines to
-/// `count`.
-pub fn locks(
-    alloc: Global,
-    book: &Book,
-    first: usize,
-    list: &mut [ClaimNumbers],
-    count: &mut usize,
-) -> u32
-    ensures ok { result ≡ OK → (let all = listing_of (state_of book.now.history) in
-        (list.new ≡ are_written numbers_of_claim (drop first all) list.old) × (count.new ≡ length all)) }
-    ensures failed { result ≢ OK → (list.new ≡ list.old) × (count.new ≡ count.old) }
-    ensures statuses { (result ≡ OK) ⊎ (result ≡ NO_MEMORY) }
-{
-    let mut lines = Vec::new(alloc);
-    if book.locks(alloc, &mut lines).is_err() {
-        return NO_MEMORY;
-    }
-    write_claims_from(lines.as_slice(), first, list);
-    *count = lines.len();
     OK
 }
 

@@ -8,13 +8,11 @@
 //! `proofs/ItemLists.antt`.
 
 mod constants;
-mod handles;
 mod integers;
 mod lists;
 mod structs;
 
 pub use constants::{CallPointer, ProgramPointer, ResourcePointer};
-pub use handles::BookPointer;
 pub use integers::{SizePointer, U32Pointer, U64Pointer};
 pub use lists::{ClaimList, DeadlockList, EntryList, HolderList, MemberList, SessionList};
 pub use structs::{

@@ -1,14 +1,14 @@
-//! A program of calls on the book that a handle holds.
+//! A program of calls on a book.
 
 ghost use Rattle.std.specs.Prelude.{◌≡◌, ◌≢◌, ◌≤◌, ◌⊎◌, IfOk, OnErr};
 ghost use Rattle.lock_programs.specs.declared.program.Program.{Program as ProgramValue};
-ghost use Rattle.library_books.specs.Calls.{HasRoom, IsSession};
+ghost use Rattle.library_books.specs.Calls.{IsSession};
 ghost use Rattle.library_books.specs.Programs.{HasRun, IsProgram, IsProgramFault, IsProgramRun};
 
-use crate::book_calls::{ended, session_of};
+use crate::book_calls::session_of;
 use crate::program_numbers::{ProgramAnswerNumbers, ProgramNumbers, read_program, write_answer};
 use crate::status::{
-    NO_MEMORY, NO_ROOM, NO_SUCH_ABOVE, NO_SUCH_MODE, NO_SUCH_OP, NO_SUCH_SESSION, NO_SUCH_START, OK,
+    NO_MEMORY, NO_SUCH_ABOVE, NO_SUCH_MODE, NO_SUCH_OP, NO_SUCH_SESSION, NO_SUCH_START, OK,
 };
 use lock_desk::{Book, NoMemory};
 use lock_programs::{Answer, Program};
@@ -24,31 +24,21 @@ fn run(book: &mut Book, session: u16, program: &Program) -> Result<Answer, NoMem
     Ok(answer)
 }
 
-/// Runs the program that the numbers encode. Writes the answer, and the sessions whose wait its calls have ended, with their number.
-/// If nothing was run, `count` is 0.
+/// Runs the program that the numbers encode, and writes the answer. The book tells whose wait its calls have ended.
 pub fn run_program(
     book: &mut Book,
     session: u32,
     asked: &ProgramNumbers,
     answer: &mut ProgramAnswerNumbers,
-    list: &mut [u32],
-    count: &mut usize,
 ) -> u32
-    ensures ran { result ≡ OK → HasRoom book.old list.old × IsSession book.old session
-        × IsProgramRun book.old book.new session asked.now answer.new list.old list.new count.new }
-    ensures failed { result ≢ OK → (book.new ≡ book.old) × (answer.new ≡ answer.old) × (list.new ≡ list.old) × (count.new ≡ 0) }
-    ensures room { result ≡ NO_ROOM → ¬ (HasRoom book.old list.old) }
-    ensures session { result ≡ NO_SUCH_SESSION → HasRoom book.old list.old × ¬ (IsSession book.old session) }
-    ensures call { NO_SUCH_OP ≤ result → result ≤ NO_SUCH_MODE → HasRoom book.old list.old × IsSession book.old session × IsProgramFault asked.now result }
-    ensures program { NO_SUCH_START ≤ result → HasRoom book.old list.old × IsSession book.old session × IsProgramFault asked.now result }
-    ensures memory { result ≡ NO_MEMORY → HasRoom book.old list.old × IsSession book.old session }
-    ensures asked { result ≡ NO_MEMORY → (program : ProgramValue) × IsProgram asked.now program }
-    ensures statuses { (result ≤ NO_MEMORY) ⊎ (((NO_SUCH_SESSION ≤ result) × (result ≤ NO_SUCH_MODE)) ⊎ ((NO_ROOM ≤ result) × (result ≤ NO_SUCH_ABOVE))) }
+    ensures ran { result ≡ OK → IsSession book.old session × IsProgramRun book.old book.new session asked.now answer.new }
+    ensures failed { result ≢ OK → (book.new ≡ book.old) × (answer.new ≡ answer.old) }
+    ensures session { result ≡ NO_SUCH_SESSION → ¬ (IsSession book.old session) }
+    ensures call { NO_SUCH_OP ≤ result → result ≤ NO_SUCH_MODE → IsSession book.old session × IsProgramFault asked.now result }
+    ensures program { NO_SUCH_START ≤ result → IsSession book.old session × IsProgramFault asked.now result }
+    ensures memory { result ≡ NO_MEMORY → IsSession book.old session × ((program : ProgramValue) × IsProgram asked.now program) }
+    ensures statuses { (result ≤ NO_MEMORY) ⊎ (((NO_SUCH_SESSION ≤ result) × (result ≤ NO_SUCH_MODE)) ⊎ ((NO_SUCH_START ≤ result) × (result ≤ NO_SUCH_ABOVE))) }
 {
-    *count = 0;
-    if list.len() < usize::from(book.sessions()) {
-        return NO_ROOM;
-    }
     let Some(number) = session_of(book, session) else {
         return NO_SUCH_SESSION;
     };
@@ -60,6 +50,5 @@ pub fn run_program(
         return NO_MEMORY;
     };
     write_answer(&program, &made, answer);
-    ended(book, list, count);
     OK
 }

@@ -7,10 +7,10 @@ ghost use Rattle.lock_programs.specs.Answers.{replies_of};
 ghost use Rattle.lock_programs.specs.Starts.{start_calls, last_call};
 ghost use Rattle.lock_programs.specs.Calls.{calls_of};
 ghost use Rattle.library_books.specs.Calls.{are_written};
-ghost use Rattle.library_books.specs.Numbers.{IsModeCode, numbers_of_reply};
-ghost use Rattle.library_books.specs.Programs.{number_of_start, stop_number, stop_of, IsOnPath, IsPathTo, IsProgram, IsProgramFault, numbers_of_answer};
+ghost use Rattle.library_books.specs.Numbers.{IsModeCode};
+ghost use Rattle.library_books.specs.Programs.{number_of_start, stop_number, stop_of, IsOnPath, IsPathTo, IsProgram, IsProgramFault, numbers_of_answer, value_of_reply};
 
-use crate::numbers::{CallNumbers, ReplyNumbers, read_call, read_mode, reply_numbers};
+use crate::numbers::{CallNumbers, read_call, read_mode, reply_numbers};
 use crate::status::{NO_SUCH_ABOVE, NO_SUCH_OP, NO_SUCH_START, NOT_ON_PATH};
 use lock_modes::Mode;
 use lock_programs::{Answer, CALLS, Last, Program, Start, goes_on_behind};
@@ -19,9 +19,6 @@ use lock_tree::Resource;
 
 /// The op of the last call of a program that has none: what `start` says is all that it does.
 pub const NO_CALL: u32 = 0;
-
-/// What stands in an answer where there is no reply.
-const NO_REPLY: ReplyNumbers = ReplyNumbers { kind: 0, value: 0 };
 
 /// A program: what `start` says, then a lock in the mode `above` on each ancestor of the last call's resource below the first `level`,
 /// which are locked already, and then the last call. `level` and `above` matter only if the last call has a resource.
@@ -35,8 +32,8 @@ pub struct ProgramNumbers {
 }
 
 /// The answer to a program: the index of the first call's entry in the history, the number of calls served, 1 if memory was refused
-/// to the next one and otherwise 0, the kind of the reply at which the program stopped and otherwise 0, and the replies, with zeros
-/// behind those that there are.
+/// to the next one and otherwise 0, the kind of the reply at which the program stopped and otherwise 0, and the value of each reply, with
+/// zeros behind those that there are. The kinds of the other replies follow from the program's calls.
 #[repr(C)]
 #[derive(Clone, Copy)]
 pub struct ProgramAnswerNumbers {
@@ -44,7 +41,7 @@ pub struct ProgramAnswerNumbers {
     pub served: u32,
     pub starved: u32,
     pub stop: u32,
-    pub replies: [ReplyNumbers; CALLS],
+    pub values: [u64; CALLS],
 }
 
 /// What the number says that a program does first. Returns `None` if it says nothing.
@@ -146,16 +143,16 @@ fn stop_of(program: &Program, answer: &Answer, served: usize) -> u32
     stop_number(&answer.reply(program, served - 1))
 }
 
-/// Writes the numbers of an answer's `served` replies, from the first place on.
+/// Writes the values of an answer's `served` replies, from the first place on.
 #[inline(always)]
-fn write_replies(program: &Program, answer: &Answer, served: usize, places: &mut [ReplyNumbers])
+fn write_values(program: &Program, answer: &Answer, served: usize, places: &mut [u64])
     requires served { served ≡ length (replies_of program.now answer.now) }
     requires few { served ≤ CALLS }
     requires places { length places.old ≡ CALLS }
-    ensures { places.new ≡ are_written numbers_of_reply (replies_of program.now answer.now) places.old }
+    ensures { places.new ≡ are_written value_of_reply (replies_of program.now answer.now) places.old }
 {
     for k in 0..served {
-        places[k] = reply_numbers(answer.reply(program, k));
+        places[k] = reply_numbers(answer.reply(program, k)).value;
     }
 }
 
@@ -169,6 +166,6 @@ pub fn write_answer(program: &Program, answer: &Answer, numbers: &mut ProgramAns
     numbers.served = served as u32;
     numbers.starved = u32::from(answer.is_refused());
     numbers.stop = stop_of(program, answer, served);
-    numbers.replies = [NO_REPLY; CALLS];
-    write_replies(program, answer, served, &mut numbers.replies);
+    numbers.values = [0; CALLS];
+    write_values(program, answer, served, &mut numbers.values);
 }

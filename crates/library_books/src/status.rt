@@ -1,7 +1,6 @@
 //! The statuses that exports return. A status other than `OK` means that nothing was written and nothing has changed,
-//! with four exceptions: `ELSEWHERE` may leave a pending call listed that was not, and empties the list of whom to wake;
-//! `NO_MEMORY` of a call that was to be performed at once comes behind a pass; `NO_MEMORY` of a path comes behind the calls
-//! that were served, and any other status of a path but `NULL_POINTER` writes 0 to `count`; and `COPIED` closes the session's handle.
+//! with three exceptions: `ELSEWHERE` of a pass may leave a pending call listed that was not, and empties the list of whom to wake;
+//! `NOT_SERVED` and `NO_MEMORY` of a turn leave the call pending; and `COPIED` closes the session's handle.
 
 /// The call succeeded.
 pub const OK: u32 = 0;
@@ -72,5 +71,8 @@ pub const NOT_ON_PATH: u32 = 22;
 /// No mode has the code that a program has for the ancestors.
 pub const NO_SUCH_ABOVE: u32 = 23;
 
-/// The book has served calls already.
-pub const SERVED: u32 = 24;
+/// The handle is a look at the lock table of an office, which this call would change.
+pub const LOOKS: u32 = 28;
+
+/// The handle is no look, but a book of its own. (24 is retired; 25 to 27 are statuses of the header's own functions.)
+pub const NOT_A_LOOK: u32 = 29;

@@ -1,5 +1,4 @@
 pub mod Handles
-pub mod Starved
 pub mod SameOffice
 pub mod ListKinds
 pub mod ServedWithin

@@ -17,7 +17,6 @@ IsNoBound calls locks rounds = (calls ≡ 0) ⊎ ((65535 < calls) ⊎ ((locks �
 pub record HasBound (calls locks rounds : ℕ) (before after : SessionShare) : Type 0 where
   pub bound : IsBoundOf calls locks rounds after.bound
   pub session : after.session ≡ before.session
-  pub ended : after.ended ≡ before.ended
   pub told : after.told ≡ before.told
   pub office : after.office ≡ before.office
   pub handed : after.handed.items ≡ before.handed.items

@@ -5,11 +5,9 @@ use Rattle.lock_rules.specs.State.{State}
 use Rattle.lock_rules.specs.Listing.{listing_of}
 use Rattle.lock_office.specs.Dump.{opens_of}
 use Rattle.library_books.specs.declared.claims.ClaimNumbers.{ClaimNumbers}
-use Rattle.library_sessions.specs.declared.session_share.SessionShare.{SessionShare}
 use Rattle.library_books.specs.Calls.{are_written}
 use Rattle.library_books.specs.Claims.{number_of_bool, numbers_of_claim}
 use Rattle.library_books.specs.Numbers.{nowhere}
-use Rattle.library_sessions.specs.Queries.{IsSeen, state_seen}
 
 -- the row of a session with its open transaction: of kind 0, without a mode and a resource
 abbrev pub numbers_of_open : ℕ × Transaction → ClaimNumbers
@@ -22,7 +20,3 @@ rows_dumped n st = map numbers_of_open (opens_of n st) ++ map numbers_of_claim (
 -- the rows of a dump, as many as there is room for, and how many they are in all
 abbrev pub IsDumped : ℕ → State → List ClaimNumbers → List ClaimNumbers → ℕ → Type 0
 IsDumped n st places written count = (written ≡ are_written (λ row. row) (rows_dumped n st) places) × (count ≡ length (rows_dumped n st))
-
--- the dump of the moment at which the session had the lock table
-abbrev pub IsDumpSeen : SessionShare → SessionShare → List ClaimNumbers → List ClaimNumbers → ℕ → ℕ → Type 0
-IsDumpSeen before after places written count seen = IsSeen before after seen × IsDumped before.sessions (state_seen after) places written count

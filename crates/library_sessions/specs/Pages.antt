@@ -1,15 +1,13 @@
 -- How many locks a session holds, and pages of them, as the exports state it.
 use Rattle.std.specs.Prelude.{◌≡◌, ℕ, ◌≤◌, List, Option, Some, None, length, take}
 use Rattle.lock_tree.specs.declared.levels.TheConstants.{LEVELS}
-use Rattle.lock_rules.specs.State.{State, claims_of}
+use Rattle.lock_rules.specs.State.{State}
 use Rattle.lock_desk.specs.Pages.{locks_of}
 use Rattle.library_books.specs.declared.claims.ClaimNumbers.{ClaimNumbers}
 use Rattle.library_books.specs.declared.numbers.ResourceNumbers.{ResourceNumbers}
-use Rattle.library_sessions.specs.declared.session_share.SessionShare.{SessionShare}
 use Rattle.library_books.specs.Calls.{are_written}
 use Rattle.library_books.specs.Claims.{numbers_of_claim}
 use Rattle.library_books.specs.Numbers.{IsPath}
-use Rattle.library_sessions.specs.Queries.{IsOfOffice, IsSeen, state_seen}
 
 -- the level of the resource behind which a page begins; 0 means that the page begins with the first lock
 abbrev pub IsAfterLevel : ℕ → Type 0
@@ -24,13 +22,3 @@ IsAfter p (Some r) = IsPath p r
 abbrev pub IsPageOf : State → ℕ → ResourceNumbers → List ClaimNumbers → List ClaimNumbers → ℕ → Type 0
 IsPageOf st session place places written count = (after : Option (List ℕ)) × IsAfter place after
     × (let page = take (length places) (locks_of st session after) in (written ≡ are_written numbers_of_claim page places) × (count ≡ length page))
-
--- how many locks this session held
-abbrev pub IsCountSeen : SessionShare → SessionShare → ℕ → ℕ → ℕ → Type 0
-IsCountSeen before after whose count seen = IsOfOffice before whose × IsSeen before after seen
-    × (count ≡ length (claims_of whose (state_seen after).table.held))
-
--- the page of this session's locks
-abbrev pub IsPageSeen : SessionShare → SessionShare → ℕ → ResourceNumbers → List ClaimNumbers → List ClaimNumbers → ℕ → ℕ → Type 0
-IsPageSeen before after whose place places written count seen = IsOfOffice before whose × IsSeen before after seen
-    × IsPageOf (state_seen after) whose place places written count

@@ -12,8 +12,8 @@ use Rattle.combining.specs.Sessions.{HasTriedToList}
 use Rattle.combining.specs.Ended.{entered_since}
 use Rattle.lock_programs.specs.declared.program.Program.{Program}
 use Rattle.lock_office.specs.ProgramBoards.{IsLegal, flat_history}
-use Rattle.lock_office.specs.Sessions.{HasNothingPending, IsIdle, IsPassed, IsRefused, IsPendingServed, HasTakenPiece}
-use Rattle.lock_office.specs.SingleCalls.{MakesOneCall, IsPerformed, IsCollected}
+use Rattle.lock_office.specs.Sessions.{HasNothingPending, IsPassed, IsPendingServed, HasTakenPiece}
+use Rattle.lock_office.specs.SingleCalls.{MakesOneCall, IsCollected}
 use Rattle.lock_office.specs.ProgramTurns.{IsPendingSingle}
 use Rattle.lock_office.specs.Ended.{AreToldBy}
 use Rattle.library_books.specs.declared.numbers.CallNumbers.{CallNumbers}
@@ -57,66 +57,12 @@ IsTurn before after served starved = IsPassed before.session after.session serve
     × (starved ≡ 0 → (j : ℕ) → 0 < j → j ≤ before.sessions → heard_from before.session j ≤ length (calls_of j after.session.front))
     × IsSameOffice before after
 
--- the sessions whose wait the entries have ended whose places the session has entered meanwhile, each once: the array has their numbers
--- at its front, and room for them all
-abbrev pub AreToldIn : SessionShare → SessionShare → List ℕ → List ℕ → ℕ → Type 0
-AreToldIn before after places numbers count = (told : List ℕ) × AreToldBy before.sessions after.session.front (entered_since before.session after.session) told
-    × (numbers ≡ are_written (λ u. u) told places) × (count ≡ length told) × (count ≤ length places)
-
--- a pass as IsTurn says, and the sessions whose wait its calls have ended
-abbrev pub IsToldTurn : SessionShare → SessionShare → ℕ → ℕ → List ℕ → List ℕ → ℕ → Type 0
-IsToldTurn before after served starved places numbers count = IsTurn before after served starved
-    × AreToldIn before after places numbers count
-
 -- so many sessions are to be woken, which the share lists: with a waker exactly those whose wait the entries have ended whose places the
 -- session has entered meanwhile, each once; without a waker none
 pub record AreToWake (before after : SessionShare) (count : ℕ) : Type 0 where
   pub count_is : count ≡ length after.told.told.list
   pub waking : after.waker ≢ 0 → AreToldBy after.sessions after.session.front (entered_since before.session after.session) after.told.told.list
   pub silent : after.waker ≡ 0 → count ≡ 0
-
--- the share is unchanged, except that it lists nobody to wake
-pub record HasToldNone (before after : SessionShare) : Type 0 where
-  pub session : after.session ≡ before.session
-  pub handed : after.handed ≡ before.handed
-  pub ended : after.ended ≡ before.ended
-  pub told : after.told.told ≡ record before.told.told { list = [] }
-  pub office : IsSameOffice before after
-
--- the numbers encode a call, and the session may make one
-abbrev pub MayCall : SessionShare → CallNumbers → Type 0
-MayCall share asked = ((call : Call) × IsCall asked call) × IsIdle share.session
-
--- the session performed the call that the numbers encode at once, in a pass that served so many other calls besides: the answer has the
--- index of its entry in the history, and the reply there. `starved` is 1 exactly if the pass put a call back, and else 0. If it is 0, each
--- call that the session had heard of is served
-abbrev pub IsPerformedAtOnce : SessionShare → SessionShare → CallNumbers → AnswerNumbers → ℕ → ℕ → Type 0
-IsPerformedAtOnce before after asked answer served starved = (call : Call) × (reply : Reply) × IsCall asked call
-    × (answer.reply ≡ numbers_of_reply reply) × IsIdle before.session
-    × IsPerformed before.session after.session call answer.place reply served × (starved ≤ 1)
-    × ((starved ≡ 1) ↔ (before.session.put_backs < after.session.put_backs)) × HasCallsOf after.session.front after.session
-    × (starved ≡ 0 → (j : ℕ) → 0 < j → j ≤ before.sessions → heard_from before.session j ≤ length (calls_of j after.session.front))
-    × IsSameOffice before after
-
--- the session made a pass, in which the call that the numbers encode was not performed. The session is idle as before, and may know more of
--- the history, which has of its own calls those that it collected
-abbrev pub IsRefusedAtOnce : SessionShare → SessionShare → CallNumbers → Type 0
-IsRefusedAtOnce before after asked = MayCall before asked × IsRefused before.session after.session × HasCallsOf after.session.front after.session
-    × IsSameOffice before after
-
--- the call was performed at once, as IsPerformedAtOnce says, and the sessions whose wait it and the calls of the pass have ended
-abbrev pub IsToldPerformed : SessionShare → SessionShare → CallNumbers → AnswerNumbers → ℕ → ℕ → List ℕ → List ℕ → ℕ → Type 0
-IsToldPerformed before after asked answer served starved places numbers count = IsPerformedAtOnce before after asked answer served starved
-    × AreToldIn before after places numbers count
-
--- the call was not performed in a pass, as IsRefusedAtOnce says, and the sessions whose wait the calls of the pass have ended
-abbrev pub IsToldRefused : SessionShare → SessionShare → CallNumbers → List ℕ → List ℕ → ℕ → Type 0
-IsToldRefused before after asked places numbers count = IsRefusedAtOnce before after asked
-    × AreToldIn before after places numbers count
-
--- no pass was made: the share and the array are as before, and nobody is told of
-abbrev pub HasToldNobody : SessionShare → SessionShare → CallNumbers → List ℕ → List ℕ → ℕ → Type 0
-HasToldNobody before after asked places numbers count = MayCall before asked × (after ≡ before) × (numbers ≡ places) × (count ≡ 0)
 
 -- the answer to the pending call, a program of one call, is collected: the index of its entry in the history, and the reply there
 abbrev pub IsAnswered : SessionShare → SessionShare → AnswerNumbers → Type 0
@@ -148,7 +94,7 @@ IsRetired before after = (before.session.pending ≡ None) × (before.session.re
 
 -- the share keeps all but its session
 abbrev pub IsSameButSession : SessionShare → SessionShare → Type 0
-IsSameButSession before after = (after.handed ≡ before.handed) × (after.ended ≡ before.ended) × (after.told ≡ before.told) × IsSameOffice before after
+IsSameButSession before after = (after.handed ≡ before.handed) × (after.told ≡ before.told) × IsSameOffice before after
 
 -- the session has begun a sleep. 1: it is down, and has seen since that another session had the lock table. 0: it is up again
 abbrev pub HasBegunSleep : SessionShare → SessionShare → ℕ → Type 0

@@ -1,16 +1,14 @@
-//! A dump of a book or of an open office, in numbers: its open transactions, locks and waiting requests of one moment.
+//! A dump of a book in numbers: its open transactions, locks and waiting requests of one moment.
 
-ghost use Rattle.std.specs.Prelude.{◌≡◌, ◌≢◌, ◌≤◌, ◌⊎◌, ◌++◌, IfOk, OnOk, length, map};
+ghost use Rattle.std.specs.Prelude.{◌≡◌, ◌≢◌, ◌⊎◌, ◌++◌, IfOk, OnOk, length, map};
 ghost use Rattle.lock_rules.specs.Legal.{state_of};
 ghost use Rattle.library_books.specs.Calls.{are_written};
 ghost use Rattle.library_books.specs.Claims.{numbers_of_claim};
-ghost use Rattle.library_sessions.specs.Dumps.{IsDumpSeen, IsDumped, numbers_of_open};
-ghost use Rattle.library_sessions.specs.Queries.{HasSeen};
+ghost use Rattle.library_sessions.specs.Dumps.{IsDumped, numbers_of_open};
 
-use crate::session_share::SessionShare;
 use library_books::claims::{ClaimNumbers, claim_numbers, transaction_numbers};
 use library_books::numbers::NOWHERE;
-use library_books::status::{ELSEWHERE, NO_MEMORY, OK};
+use library_books::status::{NO_MEMORY, OK};
 use lock_desk::{Book, Claim, Transaction};
 use lock_office::dump_book;
 use std::alloc::{AllocError as NoMemory, Global};
@@ -98,41 +96,5 @@ pub fn dump_of_book(
     write_rows(rows.as_slice(), list);
     *count = rows.len();
     *place = book.served();
-    OK
-}
-
-/// Writes the rows of a dump of the open office, as many as `list` has room for, the number of all rows to `count`, and how many calls the
-/// history had then.
-pub fn dump_of_office(
-    alloc: Global,
-    share: &mut SessionShare,
-    list: &mut [ClaimNumbers],
-    count: &mut usize,
-    seen: &mut u64,
-) -> u32
-    ensures ok { result ≡ OK → IsDumpSeen share.old share.new list.old list.new count.new seen.new }
-    ensures failed { result ≢ OK → (list.new ≡ list.old) × (count.new ≡ count.old) × (seen.new ≡ seen.old) }
-    ensures same { result ≢ OK → result ≢ NO_MEMORY → share.new ≡ share.old }
-    ensures memory { result ≡ NO_MEMORY → HasSeen share.old share.new }
-    ensures elsewhere { result ≡ ELSEWHERE → 2 ≤ share.old.sessions }
-    ensures statuses { (result ≡ OK) ⊎ ((result ≡ NO_MEMORY) ⊎ (result ≡ ELSEWHERE)) }
-{
-    let mut claims = Vec::new(alloc);
-    let mut opens = Vec::new(alloc);
-    let Ok(asked) = share
-        .session
-        .dump(&share.office, alloc, &mut claims, &mut opens)
-    else {
-        return NO_MEMORY;
-    };
-    let Some(length) = asked else {
-        return ELSEWHERE;
-    };
-    let Ok(rows) = rows_of(alloc, opens.as_slice(), claims.as_slice()) else {
-        return NO_MEMORY;
-    };
-    write_rows(rows.as_slice(), list);
-    *count = rows.len();
-    *seen = length;
     OK
 }

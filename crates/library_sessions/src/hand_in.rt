@@ -1,6 +1,6 @@
 //! Handing sessions in to one another, and closing an office.
 
-ghost use Rattle.std.specs.Prelude.{◌≡◌, ◌≢◌, ◌<◌, ◌≤◌, ◌∷◌, ◌++◌, [], ◌↔◌, ◌⊎◌, true, false, None, IsTrue, IsSome, IfOk, IfErr, IfSome, vec_len, vec_capacity};
+ghost use Rattle.std.specs.Prelude.{◌≡◌, ◌≢◌, ◌<◌, ◌≤◌, ◌∷◌, ◌++◌, [], ◌↔◌, ◌⊎◌, true, false, None, IsTrue, IsSome, IfOk, IfErr, IfSome, vec_len, vec_capacity, is_some};
 ghost use Rattle.lock_rules.specs.declared.calls.TheConstants.{MAX_SESSIONS};
 ghost use Rattle.publication.specs.Boards.{IsEachOnce};
 ghost use Rattle.lock_office.specs.Sessions.{HasNothingPending};
@@ -45,11 +45,15 @@ fn is_settled(session: &Session) -> bool
 /// Moves the session of `share`, and all that were handed in to it, to the end of `to.handed`. Returns the share if
 /// memory is refused.
 fn take_in(share: Box<SessionShare>, to: &mut SessionShare) -> Result<(), Box<SessionShare>>
+    requires free { is_some share.value.looking ≡ false }
+    requires free_to { is_some to.old.looking ≡ false }
     requires one_office { share.value.office.value ≡ to.old.office.value }
     requires mark { share.value.mark ≡ to.old.mark }
     requires settled { HasNothingPending share.value.session }
+    ensures free_to { is_some to.new.looking ≡ false }
     ensures ok { IfOk result (λ _. IsHandedIn share.value to.old to.new) }
     ensures err { IfErr result (λ back. IsSameShare share.value back.value × IsSameShare to.old to.new) }
+    ensures free { IfErr result (λ back. is_some back.value.looking ≡ false) }
 {
     let mut share = share;
     if to.handed.reserve(share.handed.len() + 1).is_err()
@@ -63,10 +67,10 @@ fn take_in(share: Box<SessionShare>, to: &mut SessionShare) -> Result<(), Box<Se
         handed: _,
         sessions: _,
         mark: _,
-        ended: _,
         waker: _,
         bound: _,
         told: _,
+        looking: _,
     } = Box::into_inner(share);
     to.handed.push_reserved(session.into_session());
     Ok(())
@@ -78,9 +82,13 @@ pub fn hand_in(
     share: Box<SessionShare>,
     to: &mut SessionShare,
 ) -> Result<(), (u32, Box<SessionShare>)>
+    requires free { is_some share.value.looking ≡ false }
+    requires free_to { is_some to.old.looking ≡ false }
     requires one_office { share.value.mark ≡ to.old.mark → share.value.office.value ≡ to.old.office.value }
+    ensures free_to { is_some to.new.looking ≡ false }
     ensures ok { IfOk result (λ _. IsHandedIn share.value to.old to.new) }
     ensures err { IfErr result (λ back. IsSameShare share.value back.1.value × IsSameShare to.old to.new) }
+    ensures free { IfErr result (λ back. is_some back.1.value.looking ≡ false) }
     ensures other_office { IfErr result (λ back. back.0 ≡ OTHER_OFFICE → share.value.mark ≢ to.old.mark) }
     ensures pending { IfErr result (λ back. back.0 ≡ PENDING → (share.value.mark ≡ to.old.mark) × (share.value.session.pending ≢ None)) }
     ensures memory { IfErr result (λ back. back.0 ≡ NO_MEMORY → (share.value.mark ≡ to.old.mark) × HasNothingPending share.value.session) }
@@ -101,6 +109,8 @@ pub fn hand_in(
 /// Makes room for one more session in `share.handed`, and a box for a book, so that `finish` needs no memory. Returns
 /// `None` if memory is refused.
 fn room_for(alloc: Global, share: &mut SessionShare) -> Option<Box<Book>>
+    requires free { is_some share.old.looking ≡ false }
+    ensures free { is_some share.new.looking ≡ false }
     ensures room { IfSome result (λ _. vec_len share.new.handed < vec_capacity share.new.handed) }
     ensures same { IsSameShare share.old share.new }
 {
@@ -116,6 +126,7 @@ fn room_for(alloc: Global, share: &mut SessionShare) -> Option<Box<Book>>
 /// Closes the office and puts its book into `room`. All other sessions must have been handed in. Returns `None` if
 /// another share of the office still exists.
 fn finish(share: SessionShare, room: Box<Book>) -> Option<Box<Book>>
+    requires free { is_some share.looking ≡ false }
     requires all { IsEachOnce share.office.value.sessions (all_of share) }
     requires settled { HasNothingPending share.session }
     requires reserved { vec_len share.handed < vec_capacity share.handed }
@@ -127,10 +138,10 @@ fn finish(share: SessionShare, room: Box<Book>) -> Option<Box<Book>>
         handed,
         sessions: _,
         mark: _,
-        ended: _,
         waker: _,
         bound: _,
         told: _,
+        looking: _,
     } = share;
     let mut all = handed;
     all.push_reserved(session.into_session());
@@ -154,8 +165,10 @@ pub fn close(
     alloc: Global,
     share: Box<SessionShare>,
 ) -> Result<Box<Book>, (u32, Option<Box<SessionShare>>)>
+    requires free { is_some share.value.looking ≡ false }
     ensures ok { IfOk result (λ book. IsClosed share.value.office.value (all_of share.value) book.value) }
     ensures back { IfErr result (λ refused. refused.0 ≢ COPIED → IfSome refused.1 (λ same. IsSameShare share.value same.value) × IsSome refused.1) }
+    ensures free { IfErr result (λ refused. IfSome refused.1 (λ same. is_some same.value.looking ≡ false)) }
     ensures gone { IfErr result (λ refused. refused.0 ≡ COPIED → refused.1 ≡ None) }
     ensures missing { IfErr result (λ refused. refused.0 ≡ MISSING → ¬ (IsEachOnce share.value.sessions (all_of share.value))) }
     ensures pending { IfErr result (λ refused. refused.0 ≡ PENDING → IsEachOnce share.value.sessions (all_of share.value) × (share.value.session.pending ≢ None)) }

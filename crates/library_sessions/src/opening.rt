@@ -1,15 +1,13 @@
 //! The shares and handles of a new office.
 
-ghost use Rattle.std.specs.Prelude.{◌≡◌, ◌≢◌, ◌≤◌, [], true, false, Some, None, All, Any, IfOk, length, map};
+ghost use Rattle.std.specs.Prelude.{◌≡◌, ◌≢◌, ◌≤◌, [], true, false, Some, None, All, Any, IfOk, length, map, is_some};
 ghost use Rattle.lock_office.specs.Sessions.{IsSessionOf, IsIdle};
 ghost use Rattle.lock_rules.specs.declared.calls.TheConstants.{MAX_SESSIONS};
 ghost use Rattle.library_sessions.specs.Offices.{IsOfOffice};
 
-use crate::bounds::WHOLE_CALLS;
-use crate::ended_list::EndedList;
 use crate::session_handle::SessionHandle;
 use crate::session_share::SessionShare;
-use lock_office::{Counted, Ended, Office, Session, Ticket};
+use lock_office::{Counted, Ended, Office, PassBound, Session, Ticket};
 use std::alloc::{AllocError, Global};
 use std::sync::Arc;
 
@@ -36,8 +34,8 @@ fn call_session_of(session: Ticket) -> Session
     Session::new(session, 0)
 }
 
-/// Makes the share of one session. `count` is the number of sessions of the office. With a waker it has room for all sessions that
-/// a pass may tell, so that no pass lacks memory for them.
+/// Makes the share of one session. `count` is the number of sessions of the office. It has room for all sessions that a pass may tell, so
+/// that no pass lacks memory for them.
 fn share_of(
     alloc: Global,
     shared: &Arc<Office>,
@@ -45,26 +43,27 @@ fn share_of(
     count: u16,
     mark: u64,
     waker: u64,
+    bound: PassBound,
 ) -> Result<Box<SessionShare>, AllocError>
     requires ours { IsSessionOf shared.now.value session × IsIdle session }
     requires unknowing { session.front ≡ [] }
     requires count { count ≡ shared.now.value.sessions }
     requires few { count ≤ MAX_SESSIONS }
     ensures session { IfOk result (λ share. share.value.session ≡ session) }
-    ensures office { IfOk result (λ share. IsOfOffice shared.now.value mark waker share.value) }
+    ensures office { IfOk result (λ share. IsOfOffice shared.now.value mark waker bound share.value) }
 {
     let office = shared.clone()?;
-    let told = Ended::new(alloc, if waker == 0 { 0 } else { count })?;
+    let told = Ended::new(alloc, count)?;
     let share = SessionShare {
         office,
         session: call_session_of(session),
         handed: Vec::new(alloc),
         sessions: count,
         mark,
-        ended: EndedList::new(count),
         waker,
-        bound: WHOLE_CALLS,
+        bound,
         told: Counted::new(told),
+        looking: None,
     };
     let boxed = Box::new(alloc, share)?;
     Ok(boxed)
@@ -78,18 +77,19 @@ pub fn shares_of(
     count: u16,
     mark: u64,
     waker: u64,
+    bound: PassBound,
 ) -> Result<Vec<Box<SessionShare>>, AllocError>
     requires ours { All (λ session. IsSessionOf office session × IsIdle session) sessions.items }
     requires unknowing { All (λ session. session.front ≡ []) sessions.items }
     requires count { count ≡ office.sessions }
     requires few { count ≤ MAX_SESSIONS }
     ensures sessions { IfOk result (λ shares. map (λ share. share.value.session) shares.items ≡ sessions.items) }
-    ensures office { IfOk result (λ shares. All (λ share. IsOfOffice office mark waker share.value) shares.items) }
+    ensures office { IfOk result (λ shares. All (λ share. IsOfOffice office mark waker bound share.value) shares.items) }
 {
     let shared = Arc::new(alloc, office)?;
     let mut made = Vec::with_capacity(alloc, sessions.len())?;
     for session in sessions {
-        let share = share_of(alloc, &shared, session, count, mark, waker)?;
+        let share = share_of(alloc, &shared, session, count, mark, waker, bound)?;
         made.push(share)?;
     }
     Ok(made)
@@ -97,7 +97,8 @@ pub fn shares_of(
 
 /// Opens the handles with the shares, in their order. There are as many handles as shares.
 pub fn open_handles(handles: &mut [SessionHandle], shares: Vec<Box<SessionShare>>)
-    requires { length shares.items ≡ length handles.old }
+    requires as_many { length shares.items ≡ length handles.old }
+    requires free { All (λ share. is_some share.value.looking ≡ false) shares.items }
     ensures { map (λ handle. handle.held.share) handles.new ≡ map (λ share. Some share.value) shares.items }
 {
     let mut shares = shares;

@@ -1,26 +1,20 @@
 //! What the passes of an office have served in numbers, as C's struct has them.
 
-ghost use Rattle.std.specs.Prelude.{◌≡◌};
-ghost use Rattle.library_sessions.specs.Counts.{numbers_of_passes};
-
-use lock_office::counts::PassCounts;
-
-/// What the passes of an office have served.
+/// What the passes of an office have served so far. A round of a bounded pass counts as a pass. Each number stops at the greatest u64.
 #[repr(C)]
 #[derive(Clone, Copy)]
 pub struct PassCountNumbers {
+    /// How many passes were made.
     pub made: u64,
+    /// How many published calls and programs they served. What a session performs at once is not among them.
     pub served: u64,
+    /// How many of them put calls back, because memory was refused.
     pub starved: u64,
 }
 
-/// What the passes have served, in numbers.
-pub fn pass_count_numbers(passes: PassCounts) -> PassCountNumbers
-    ensures { result ≡ numbers_of_passes passes }
-{
-    PassCountNumbers {
-        made: passes.made,
-        served: passes.served,
-        starved: passes.starved,
-    }
-}
+/// What passes have served of a book, which has none.
+pub const NO_PASSES: PassCountNumbers = PassCountNumbers {
+    made: 0,
+    served: 0,
+    starved: 0,
+};

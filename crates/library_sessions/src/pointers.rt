@@ -1,18 +1,50 @@
-//! Pointers of C to the handles of sessions, and to what passes have served. They are as `library_books::pointers` has them.
+//! Pointers of C to handles, and to what passes have served. They are as `library_books::pointers` has them.
 
 ghost use Rattle.std.specs.Prelude.{◌≡◌, ◌≢◌, ◌↔◌, IsTrue, List, MatchOption};
 ghost use Rattle.std.specs.Coded.{coded_list};
 ghost use denote.RawPtr.{Testable, null_ptr};
 ghost use Rattle.library_books.specs.Behind.{IsNullList, list_at, maybe_at};
+ghost use Rattle.library_sessions.specs.declared.book_handle.BookHandle.{BookHandle};
+ghost use Rattle.library_sessions.specs.contracts.book_handle.BookHandle.{the_row as book_handle_row};
 ghost use Rattle.library_sessions.specs.declared.pass_count_numbers.PassCountNumbers.{PassCountNumbers};
 ghost use Rattle.library_sessions.specs.contracts.pass_count_numbers.PassCountNumbers.{the_row as pass_counts_row};
 ghost use Rattle.library_sessions.specs.declared.session_handle.SessionHandle.{SessionHandle};
 ghost use Rattle.library_sessions.specs.contracts.session_handle.SessionHandle.{the_row as session_handle_row};
 
+use crate::book_handle::BookHandle;
 use crate::pass_count_numbers::PassCountNumbers;
 use crate::session_handle::SessionHandle;
 use std::marker::Model;
 use std::slice;
+
+/// A pointer of C, null or to a book's handle.
+#[repr(C)]
+pub struct BookPointer {
+    pub at: *mut BookHandle,
+    ghost testable: { Testable at },
+    pub ghost behind: { BookHandle } by { book_handle_row.coded },
+}
+
+impl Model for BookPointer {
+    ghost also_owns = { λ p. maybe_at book_handle_row p.at p.behind };
+}
+
+impl BookPointer {
+    ghost use Rattle.std.specs.Borrow.{sem};
+    ghost use Rattle.library_sessions.specs.inner.Lending.{lends_of_book_pointer};
+
+    /// What lies behind the pointer, or `None` at null.
+    pub fn get(&mut self) -> Option<&mut BookHandle>
+        ensures* lends { sem 𝓛 (lends_of_book_pointer self.entry result) }
+        ensures value { MatchOption result (self.old.at ≡ null_ptr) (λ r. (self.old.at ≢ null_ptr) × (r.now ≡ self.old.behind)) }
+    {
+        let at = self.at;
+        if at == std::ptr::null_mut() {
+            return None;
+        }
+        unsafe { Some(&mut *at) }
+    }
+}
 
 /// A pointer of C, null or to a session's handle.
 #[repr(C)]

@@ -1,6 +1,6 @@
 //! One turn of a session's program in numbers, on the share that a handle holds.
 
-ghost use Rattle.std.specs.Prelude.{◌≡◌, ◌≢◌, ◌<◌, ◌≤◌, ◌%◌, ◌⊎◌, ◌↔◌, [], true, false, None, IfOk, IfErr, length};
+ghost use Rattle.std.specs.Prelude.{◌≡◌, ◌≢◌, ◌<◌, ◌≤◌, ◌%◌, ◌⊎◌, ◌↔◌, [], true, false, None, IfOk, IfErr, length, is_some};
 ghost use Rattle.lock_programs.specs.declared.program.Program.{Program as ProgramValue};
 ghost use Rattle.lock_programs.specs.declared.answer.Answer.{Answer as AnswerValue};
 ghost use Rattle.lock_programs.specs.Calls.{calls_of};
@@ -77,9 +77,11 @@ fn write_next(
 /// Makes one turn of a program, as `Session::run_turn` does. In an office with a waker it lists whom to wake in the share.
 #[inline(always)]
 fn make_turn(share: &mut SessionShare, program: &Program, made: u64) -> Next<Answer>
+    requires free { is_some share.old.looking ≡ false }
     requires live { share.old.session.retired ≡ false }
     requires some { 0 < length (calls_of program.now) }
     requires none { share.old.told.told.list ≡ [] }
+    ensures free { is_some share.new.looking ≡ false }
     ensures turned { HasTurned share.old.session share.new.session share.old.sessions made (IsCalled share.old.session share.new.session program.now)
         (IsAnswered share.old.session share.new.session) (IsCalling share.old.session share.new.session program.now)
         (HasStarvedCalling share.old.session share.new.session program.now) result }
@@ -101,8 +103,10 @@ fn make_turn(share: &mut SessionShare, program: &Program, made: u64) -> Next<Ans
 
 /// Makes one turn of the pending program, as `Session::run_look` does. In an office with a waker it lists whom to wake in the share.
 fn make_look(share: &mut SessionShare, looked: u64) -> Next<Answer>
+    requires free { is_some share.old.looking ≡ false }
     requires pending { share.old.session.pending ≢ None }
     requires none { share.old.told.told.list ≡ [] }
+    ensures free { is_some share.new.looking ≡ false }
     ensures awaited { HasAwaited share.old.session share.new.session (IsAnswered share.old.session share.new.session) result }
     ensures others { (w : _) → result ≡ Next.Wait w → looked % LOOKS_PER_TRY ≡ 0 → 1 < share.old.sessions }
     ensures wait { (w : _) → result ≡ Next.Wait w → IsWaitAfterLook looked w }
@@ -123,8 +127,10 @@ fn make_look(share: &mut SessionShare, looked: u64) -> Next<Answer>
 
 /// Publishes the program of a session that has none pending, and may make one.
 fn publish_last(share: &mut SessionShare, program: Program)
+    requires free { is_some share.old.looking ≡ false }
     requires live { share.old.session.retired ≡ false }
     requires some { 0 < length (calls_of program) }
+    ensures free { is_some share.new.looking ≡ false }
     ensures published { share.old.session.pending ≡ None → IsCalling share.old.session share.new.session program }
     ensures same { share.old.session.pending ≢ None → share.new.session ≡ share.old.session }
     ensures told { share.new.told ≡ share.old.told }
@@ -148,8 +154,10 @@ fn turn_of(
     answer: &mut ProgramAnswerNumbers,
     wait: &mut u32,
 ) -> u32
+    requires free { is_some share.old.looking ≡ false }
     requires live { share.old.session.retired ≡ false }
     requires some { 0 < length (calls_of program.now) }
+    ensures free { is_some share.new.looking ≡ false }
     ensures turned { HasMadeTurn share.old share.new program.now made turns answer.old answer.new wait.old wait.new result }
     ensures told { AreToWake share.old share.new (length share.new.told.told.list) }
 {
@@ -174,8 +182,10 @@ fn turn_apart(
     answer: &mut ProgramAnswerNumbers,
     wait: &mut u32,
 ) -> u32
+    requires free { is_some share.old.looking ≡ false }
     requires live { share.old.session.retired ≡ false }
     requires some { 0 < length (calls_of program.now) }
+    ensures free { is_some share.new.looking ≡ false }
     ensures turned { HasMadeTurn share.old share.new program.now made turns answer.old answer.new wait.old wait.new result }
     ensures told { AreToWake share.old share.new (length share.new.told.told.list) }
 {
@@ -193,6 +203,8 @@ pub fn run_turn(
     wait: &mut u32,
     told: &mut usize,
 ) -> u32
+    requires free { is_some share.old.looking ≡ false }
+    ensures free { is_some share.new.looking ≡ false }
     ensures ok { result ≡ OK → IsRunAnswered share.old share.new asked.now answer.new }
     ensures memory { result ≡ NO_MEMORY → IsRunStarved share.old share.new asked.now }
     ensures late { result ≡ NOT_SERVED → IsRunMade share.old share.new asked.now made turns wait.new }
@@ -221,11 +233,11 @@ pub fn run_turn(
     }
     if made > 0 {
         let status = turn_apart(share, &program, made, turns, answer, wait);
-        *told = share.told.told.sessions().len();
+        *told = share.told.told.count();
         return status;
     }
     let status = turn_of(share, &program, made, turns, answer, wait);
-    *told = share.told.told.sessions().len();
+    *told = share.told.told.count();
     status
 }
 
@@ -239,6 +251,8 @@ pub fn run_look(
     wait: &mut u32,
     told: &mut usize,
 ) -> u32
+    requires free { is_some share.old.looking ≡ false }
+    ensures free { is_some share.new.looking ≡ false }
     ensures ok { result ≡ OK → IsRunLookAnswered share.old share.new answer.new }
     ensures memory { result ≡ NO_MEMORY → IsLookStarved share.old share.new }
     ensures late { result ≡ NOT_SERVED → IsLookMade share.old share.new looked turns wait.new }
@@ -261,6 +275,6 @@ pub fn run_look(
     }
     let asked = share.session.pending_program();
     let next = make_look(share, looked);
-    *told = share.told.told.sessions().len();
+    *told = share.told.told.count();
     write_next(next, &asked, answer, wait)
 }

@@ -1,6 +1,6 @@
 //! The calls of a session in numbers, on the share that a handle holds.
 
-ghost use Rattle.std.specs.Prelude.{◌≡◌, ◌≢◌, ◌<◌, ◌≤◌, ◌⊎◌, ◌↔◌, ◌==◌, true, false, [], None, IsTrue, length, drop};
+ghost use Rattle.std.specs.Prelude.{◌≡◌, ◌≢◌, ◌<◌, ◌≤◌, ◌⊎◌, ◌↔◌, ◌==◌, true, false, [], None, IsTrue, length, drop, is_some};
 ghost use Rattle.combining.specs.Ended.{entered_since};
 ghost use Rattle.lock_office.specs.Sessions.{IsPassed, IsPendingServed};
 ghost use Rattle.lock_office.specs.ProgramTurns.{HasSeveralPending};
@@ -8,9 +8,10 @@ ghost use Rattle.lock_office.specs.Ended.{AreToldBy};
 ghost use Rattle.sequential.specs.Histories.{calls_of};
 ghost use Rattle.publication.specs.Boards.{HasCallsOf, heard_from};
 ghost use Rattle.lock_rules.specs.declared.calls.Call.{Call as CallValue};
+ghost use Rattle.lock_rules.specs.declared.calls.TheConstants.{MAX_SESSIONS};
 ghost use Rattle.library_books.specs.Calls.{are_written};
 ghost use Rattle.library_books.specs.Numbers.{IsCall, IsCallFault};
-ghost use Rattle.library_sessions.specs.Sessions.{IsSameOffice, IsPublished, IsElsewhere, AreToWake, IsToldTurn, IsAnswered, IsPieceTaken, IsHeard, IsRetired};
+ghost use Rattle.library_sessions.specs.Sessions.{IsSameOffice, IsPublished, IsElsewhere, AreToWake, IsAnswered, IsPieceTaken, IsHeard, IsRetired};
 
 use crate::session_share::SessionShare;
 use library_books::book_calls::{write_entries, write_sessions};
@@ -18,10 +19,11 @@ use library_books::numbers::{
     AnswerNumbers, CallNumbers, EntryNumbers, PassNumbers, read_call, reply_numbers,
 };
 use library_books::status::{
-    ELSEWHERE, NO_MEMORY, NO_ROOM, NO_SUCH_MODE, NO_SUCH_OP, NOT_SERVED, NOTHING_PENDING, OK,
-    OTHER_OFFICE, PENDING, RETIRED,
+    ELSEWHERE, NO_MEMORY, NO_SUCH_MODE, NO_SUCH_OP, NOT_SERVED, NOTHING_PENDING, OK, OTHER_OFFICE,
+    PENDING, RETIRED,
 };
-use lock_office::{Counted, Ended, Nobody, Posted, Turn, UNBOUNDED};
+use lock_office::{Counted, Nobody, Posted, Turn, UNBOUNDED};
+use lock_rules::MAX_SESSIONS;
 use std::alloc::Global;
 
 /// The session's record is on the publication list.
@@ -44,6 +46,8 @@ fn posted_number(posted: Posted) -> u32
 
 /// Publishes the call that the numbers encode.
 pub fn publish(share: &mut SessionShare, asked: &CallNumbers, posted: &mut u32) -> u32
+    requires free { is_some share.old.looking ≡ false }
+    ensures free { is_some share.new.looking ≡ false }
     ensures ok { result ≡ OK → IsPublished share.old share.new asked.now posted.new }
     ensures posted { result ≡ OK → (LISTED ≤ posted.new) × (posted.new ≤ UNLISTED) }
     ensures failed { result ≢ OK → (share.new ≡ share.old) × (posted.new ≡ posted.old) }
@@ -96,6 +100,8 @@ fn write_turn(turn: Turn, pass: &mut PassNumbers) -> u32
 
 /// Tries once to become the combiner, and makes a pass if that succeeds. In an office with a waker it lists whom to wake in the share.
 fn make_pass(share: &mut SessionShare) -> Turn
+    requires free { is_some share.old.looking ≡ false }
+    ensures free { is_some share.new.looking ≡ false }
     ensures pass { (served : _) (starved left : _) → result ≡ Turn.Pass served starved left → IsPassed share.old.session share.new.session served }
     ensures starved { (served : _) (starved left : _) → result ≡ Turn.Pass served starved left → IsTrue starved ↔ (share.old.session.put_backs < share.new.session.put_backs) }
     ensures rises { (j : _) → heard_from share.old.session j ≤ heard_from share.new.session j }
@@ -118,6 +124,8 @@ fn make_pass(share: &mut SessionShare) -> Turn
 
 /// Makes a pass as `make_pass` does. Writes how many sessions are to be woken to `told`.
 pub fn serve(share: &mut SessionShare, pass: &mut PassNumbers, told: &mut usize) -> u32
+    requires free { is_some share.old.looking ≡ false }
+    ensures free { is_some share.new.looking ≡ false }
     ensures passed { result ≡ OK → IsPassed share.old.session share.new.session pass.new.served }
     ensures starved { result ≡ OK → pass.new.starved ≤ 1 }
     ensures put_back { result ≡ OK → (pass.new.starved ≡ 1) ↔ (share.old.session.put_backs < share.new.session.put_backs) }
@@ -129,12 +137,11 @@ pub fn serve(share: &mut SessionShare, pass: &mut PassNumbers, told: &mut usize)
     ensures same { IsSameOffice share.old share.new }
     ensures told { result ≡ OK → AreToWake share.old share.new told.new }
     ensures failed { result ≢ OK → pass.new ≡ pass.old }
-    ensures elsewhere { result ≡ ELSEWHERE → IsElsewhere share.old share.new }
-    ensures untold { result ≡ ELSEWHERE → told.new ≡ 0 }
+    ensures elsewhere { result ≡ ELSEWHERE → IsElsewhere share.old share.new × (told.new ≡ 0) }
     ensures statuses { (result ≡ OK) ⊎ (result ≡ ELSEWHERE) }
 {
     let turn = make_pass(share);
-    *told = share.told.told.sessions().len();
+    *told = share.told.told.count();
     write_turn(turn, pass)
 }
 
@@ -144,52 +151,12 @@ pub fn told(share: &SessionShare, first: usize, list: &mut [u32], count: &mut us
     ensures list { list.new ≡ are_written (λ u. u) (drop first share.now.told.told.list) list.old }
     ensures count { count.new ≡ length share.now.told.told.list }
 {
-    let sessions = share.told.told.sessions();
+    let mut all = [0; MAX_SESSIONS as usize];
+    let told = share.told.told.write(&mut all);
+    let sessions = &all[..told];
     let start = usize::min(first, sessions.len());
     write_sessions(&sessions[start..], list);
     *count = sessions.len();
-}
-
-/// Writes the sessions whose wait a call has ended to `list`, which has room for them, and how many they are to `count`.
-pub fn write_ended(ended: &Counted<Ended>, list: &mut [u32], count: &mut usize)
-    requires room { ended.now.told.room ≤ length list.old }
-    ensures list { list.new ≡ are_written (λ u. u) ended.now.told.list list.old }
-    ensures count { (count.new ≡ length ended.now.told.list) × (count.new ≤ length list.old) }
-{
-    let sessions = ended.told.sessions();
-    write_sessions(sessions, list);
-    *count = sessions.len();
-}
-
-/// Serves as `serve` does, and writes the sessions whose wait the pass has ended to `list`, and how many they are to `count`.
-/// `list` has to have room for all sessions of the office.
-pub fn serve_telling(
-    alloc: Global,
-    share: &mut SessionShare,
-    pass: &mut PassNumbers,
-    list: &mut [u32],
-    count: &mut usize,
-) -> u32
-    ensures ok { result ≡ OK → IsToldTurn share.old share.new pass.new.served pass.new.starved list.old list.new count.new }
-    ensures failed { result ≢ OK → (pass.new ≡ pass.old) × (list.new ≡ list.old) × (count.new ≡ count.old) }
-    ensures elsewhere { result ≡ ELSEWHERE → IsElsewhere share.old share.new }
-    ensures room { result ≡ NO_ROOM ↔ (length list.old < share.old.sessions) }
-    ensures same { (result ≡ NO_ROOM) ⊎ (result ≡ NO_MEMORY) → share.new ≡ share.old }
-    ensures statuses { (result ≡ OK) ⊎ ((result ≡ NO_ROOM) ⊎ ((result ≡ NO_MEMORY) ⊎ (result ≡ ELSEWHERE))) }
-{
-    if list.len() < usize::from(share.sessions) {
-        return NO_ROOM;
-    }
-    let Some(mut ended) = share.ended.take(alloc) else {
-        return NO_MEMORY;
-    };
-    let turn = share.session.serve(&share.office, UNBOUNDED, &mut ended);
-    let status = write_turn(turn, pass);
-    if status == OK {
-        write_ended(&ended, list, count);
-    }
-    share.ended.put(ended);
-    status
 }
 
 /// Takes the oldest entries of the history that the lock table keeps, as many as `places` has room for, and writes them there,
@@ -201,6 +168,8 @@ pub fn take_history(
     places: &mut [EntryNumbers],
     count: &mut usize,
 ) -> u32
+    requires free { is_some share.old.looking ≡ false }
+    ensures free { is_some share.new.looking ≡ false }
     ensures ok { result ≡ OK → IsPieceTaken share.old share.new first.new count.new places.old places.new }
     ensures failed { result ≢ OK → (share.new ≡ share.old) × (first.new ≡ first.old) × (places.new ≡ places.old) × (count.new ≡ count.old) }
     ensures elsewhere { result ≡ ELSEWHERE → 2 ≤ share.old.sessions }
@@ -222,6 +191,8 @@ pub fn take_history(
 
 /// Takes the answer to the pending call. A pending program of several calls is refused.
 pub fn collect(share: &mut SessionShare, answer: &mut AnswerNumbers) -> u32
+    requires free { is_some share.old.looking ≡ false }
+    ensures free { is_some share.new.looking ≡ false }
     ensures ok { result ≡ OK → IsAnswered share.old share.new answer.new }
     ensures failed { result ≢ OK → (share.new ≡ share.old) × (answer.new ≡ answer.old) }
     ensures nothing { result ≡ NOTHING_PENDING → share.old.session.pending ≡ None }
@@ -249,6 +220,8 @@ pub fn collect(share: &mut SessionShare, answer: &mut AnswerNumbers) -> u32
 
 /// Retires the session.
 pub fn retire(share: &mut SessionShare) -> u32
+    requires free { is_some share.old.looking ≡ false }
+    ensures free { is_some share.new.looking ≡ false }
     ensures ok { result ≡ OK → IsRetired share.old share.new }
     ensures failed { result ≢ OK → share.new ≡ share.old }
     ensures retired { result ≡ RETIRED → share.old.session.retired ≡ true }
@@ -267,7 +240,10 @@ pub fn retire(share: &mut SessionShare) -> u32
 
 /// Makes what `other` knows of the history known to `share`.
 pub fn hear(share: &mut SessionShare, other: &mut SessionShare) -> u32
+    requires free { is_some share.old.looking ≡ false }
+    requires free_other { is_some other.old.looking ≡ false }
     requires one_office { share.old.mark ≡ other.old.mark → share.old.office.value ≡ other.old.office.value }
+    ensures free { is_some share.new.looking ≡ false }
     ensures ok { result ≡ OK → (share.old.mark ≡ other.old.mark) × IsHeard share.old other.old share.new }
     ensures failed { result ≢ OK → (result ≡ OTHER_OFFICE) × (share.old.mark ≢ other.old.mark) × (share.new ≡ share.old) }
     ensures other { other.new ≡ other.old }

@@ -1,6 +1,7 @@
 //! The handle by which C holds a session.
 
-ghost use Rattle.std.specs.Prelude.{◌≡◌, ◌≢◌, Some, None, IsSome, IfSome, IfNone};
+ghost use Rattle.std.specs.Prelude.{◌≡◌, ◌≢◌, Some, None, IsSome, IfSome, IfNone, false, is_some};
+ghost use Rattle.library_sessions.specs.declared.session_share.SessionShare.{SessionShare as ShareValue};
 
 use crate::held_share::HeldShare;
 use crate::session_share::SessionShare;
@@ -17,12 +18,14 @@ pub struct SessionHandle {
     pub held: HeldShare,
     ghost open: { is_open ≡ 1 → IsSome held.share },
     ghost closed: { is_open ≢ 1 → held.share ≡ None },
+    ghost free: { (share : ShareValue) → held.share ≡ Some share → is_some share.looking ≡ false },
 }
 
 impl SessionHandle {
     /// Takes the share out of an open handle and leaves the handle closed. Returns `None` if the handle is closed.
     pub fn take(&mut self, alloc: Global) -> Option<Box<SessionShare>>
         ensures some { IfSome result (λ share. self.old.held.share ≡ Some share.value) }
+        ensures free { IfSome result (λ share. is_some share.value.looking ≡ false) }
         ensures open { IfSome result (λ _. self.old.is_open ≡ 1) }
         ensures taken { IfSome result (λ _. (self.new.is_open ≡ 0) × (self.new.held.share ≡ None)) }
         ensures none { IfNone result (self.new ≡ self.old) }
@@ -39,8 +42,9 @@ impl SessionHandle {
         Some(held.into_raw_box().into_box())
     }
 
-    /// Opens the handle with `share`. The handle should be closed: a share that it holds is leaked.
+    /// Opens the handle with `share`, which doesn't look. The handle should be closed: a share that it holds is leaked.
     pub fn put(&mut self, share: Box<SessionShare>)
+        requires free { is_some share.value.looking ≡ false }
         ensures { (self.new.is_open ≡ 1) × (self.new.held.share ≡ Some share.value) }
     {
         *self = SessionHandle {

@@ -1,11 +1,13 @@
 //! What a session's handle holds.
 
-ghost use Rattle.std.specs.Prelude.{◌≡◌, ◌≢◌, ◌≤◌, [], All};
+ghost use Rattle.std.specs.Prelude.{◌≡◌, ◌≢◌, ◌≤◌, [], None, All, false, is_some};
 ghost use Rattle.lock_rules.specs.declared.calls.TheConstants.{MAX_SESSIONS};
 ghost use Rattle.lock_office.specs.Sessions.{IsSessionOf, HasNothingPending};
 
-use crate::ended_list::EndedList;
+use lock_desk::Book;
 use lock_office::{Counted, Ended, Office, PassBound, Session, Ticket};
+use programs::Programs;
+use publication::Load;
 use std::sync::Arc;
 
 /// A session and its share of the office.
@@ -21,19 +23,18 @@ pub struct SessionShare {
     pub sessions: u16,
     /// The caller's number for the office. The caller gives no two open offices the same.
     pub mark: u64,
-    /// Scratch list of the sessions whose wait a call of the session has ended.
-    pub ended: EndedList,
     /// The address of the office's waker, or 0 if it has none.
     pub waker: u64,
     /// How much a pass in a whole call of the session serves at most.
     pub bound: PassBound,
-    /// The sessions whose wait the session's last pass has ended. In an office without a waker it has no room and stays empty.
+    /// The sessions whose wait the session's last pass has ended. In an office without a waker it stays empty.
     pub told: Counted<Ended>,
-    ghost ours: { IsSessionOf office.value session },
+    /// The lock table of the office, while the session looks at it.
+    pub looking: Option<Box<Load<Programs<Book>>>>,
+    ghost ours: { is_some looking ≡ false → IsSessionOf office.value session },
     ghost theirs: { All (λ one. IsSessionOf office.value one × HasNothingPending one) handed.items },
     ghost count: { sessions ≡ office.value.sessions },
     ghost few: { sessions ≤ MAX_SESSIONS },
-    ghost room: { ended.room ≡ sessions },
-    ghost waking: { waker ≢ 0 → told.told.room ≡ sessions },
+    ghost telling: { told.told.room ≡ sessions },
     ghost silent: { waker ≡ 0 → told.told.list ≡ [] },
 }

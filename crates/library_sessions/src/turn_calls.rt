@@ -1,6 +1,6 @@
 //! One turn of a session's call in numbers, on the share that a handle holds.
 
-ghost use Rattle.std.specs.Prelude.{◌≡◌, ◌≢◌, ◌<◌, ◌≤◌, ◌%◌, ◌⊎◌, ◌↔◌, [], true, false, None};
+ghost use Rattle.std.specs.Prelude.{◌≡◌, ◌≢◌, ◌<◌, ◌≤◌, ◌%◌, ◌⊎◌, ◌↔◌, [], true, false, None, is_some};
 ghost use Rattle.lock_rules.specs.declared.calls.Call.{Call as CallValue};
 ghost use Rattle.lock_rules.specs.declared.calls.Reply.{Reply as ReplyValue};
 ghost use Rattle.combining.specs.declared.office.Answer.{Answer};
@@ -73,6 +73,8 @@ fn write_next(next: Next<Reply>, answer: &mut AnswerNumbers, wait: &mut u32) -> 
 /// Forgets whom the last pass told of.
 #[inline(always)]
 pub fn forget_told(share: &mut SessionShare)
+    requires free { is_some share.old.looking ≡ false }
+    ensures free { is_some share.new.looking ≡ false }
     ensures none { share.new.told.told.list ≡ [] }
     ensures session { share.new.session ≡ share.old.session }
     ensures same { IsSameOffice share.old share.new }
@@ -85,8 +87,10 @@ pub fn forget_told(share: &mut SessionShare)
 /// Makes one turn of a call, as `Session::turn` does. In an office with a waker it lists whom to wake in the share.
 #[inline(always)]
 fn make_turn(share: &mut SessionShare, call: &Call, made: u64) -> Next<Reply>
+    requires free { is_some share.old.looking ≡ false }
     requires live { share.old.session.retired ≡ false }
     requires none { share.old.told.told.list ≡ [] }
+    ensures free { is_some share.new.looking ≡ false }
     ensures turned { HasTurned share.old.session share.new.session share.old.sessions made (IsCalled share.old.session share.new.session call.now)
         (IsAnswered share.old.session share.new.session) (IsCalling share.old.session share.new.session call.now)
         (HasStarvedCalling share.old.session share.new.session call.now) result }
@@ -109,8 +113,10 @@ fn make_turn(share: &mut SessionShare, call: &Call, made: u64) -> Next<Reply>
 /// Makes one turn of the pending call, as `Session::look` does. In an office with a waker it lists whom to wake in the share.
 #[inline(always)]
 fn make_look(share: &mut SessionShare, looked: u64) -> Next<Reply>
+    requires free { is_some share.old.looking ≡ false }
     requires pending { share.old.session.pending ≢ None }
     requires none { share.old.told.told.list ≡ [] }
+    ensures free { is_some share.new.looking ≡ false }
     ensures awaited { HasAwaited share.old.session share.new.session (IsAnswered share.old.session share.new.session) result }
     ensures others { (w : _) → result ≡ Next.Wait w → looked % LOOKS_PER_TRY ≡ 0 → 1 < share.old.sessions }
     ensures wait { (w : _) → result ≡ Next.Wait w → IsWaitAfterLook looked w }
@@ -132,7 +138,9 @@ fn make_look(share: &mut SessionShare, looked: u64) -> Next<Reply>
 /// Publishes the call of a session that has none pending, and may make one.
 #[inline(never)]
 fn publish_last(share: &mut SessionShare, call: Call)
+    requires free { is_some share.old.looking ≡ false }
     requires live { share.old.session.retired ≡ false }
+    ensures free { is_some share.new.looking ≡ false }
     ensures published { share.old.session.pending ≡ None → IsCalling share.old.session share.new.session call }
     ensures same { share.old.session.pending ≢ None → share.new.session ≡ share.old.session }
     ensures told { share.new.told ≡ share.old.told }
@@ -155,7 +163,9 @@ fn turn_of(
     wait: &mut u32,
     told: &mut usize,
 ) -> u32
+    requires free { is_some share.old.looking ≡ false }
     requires live { share.old.session.retired ≡ false }
+    ensures free { is_some share.new.looking ≡ false }
     ensures ok { result ≡ OK → IsCallAnswered share.old share.new call.now answer.new }
     ensures memory { result ≡ NO_MEMORY → IsCallStarved share.old share.new call.now }
     ensures late { result ≡ NOT_SERVED → IsCallLate share.old share.new call.now made turns wait.new }
@@ -173,7 +183,7 @@ fn turn_of(
         return NOT_SERVED;
     }
     let next = make_turn(share, call, made);
-    *told = share.told.told.sessions().len();
+    *told = share.told.told.count();
     write_next(next, answer, wait)
 }
 
@@ -188,11 +198,12 @@ pub fn turn(
     wait: &mut u32,
     told: &mut usize,
 ) -> u32
+    requires free { is_some share.old.looking ≡ false }
+    ensures free { is_some share.new.looking ≡ false }
     ensures ok { result ≡ OK → IsTurnAnswered share.old share.new asked.now answer.new }
     ensures memory { result ≡ NO_MEMORY → IsTurnStarved share.old share.new asked.now }
     ensures late { result ≡ NOT_SERVED → IsTurnMade share.old share.new asked.now made turns wait.new }
-    ensures told { (result ≡ OK) ⊎ ((result ≡ NO_MEMORY) ⊎ (result ≡ NOT_SERVED)) → AreToWake share.old share.new told.new }
-    ensures few { (result ≡ OK) ⊎ ((result ≡ NO_MEMORY) ⊎ (result ≡ NOT_SERVED)) → HasServedWithin 1 share.old share.new }
+    ensures told { (result ≡ OK) ⊎ ((result ≡ NO_MEMORY) ⊎ (result ≡ NOT_SERVED)) → AreToWake share.old share.new told.new × HasServedWithin 1 share.old share.new }
     ensures first { (result ≡ OK) ⊎ ((result ≡ NO_MEMORY) ⊎ (result ≡ NOT_SERVED)) → made ≡ 0 → share.old.session.pending ≡ None }
     ensures failed { result ≢ OK → answer.new ≡ answer.old }
     ensures unread { result ≢ NOT_SERVED → wait.new ≡ wait.old }
@@ -225,6 +236,8 @@ pub fn look(
     wait: &mut u32,
     told: &mut usize,
 ) -> u32
+    requires free { is_some share.old.looking ≡ false }
+    ensures free { is_some share.new.looking ≡ false }
     ensures ok { result ≡ OK → IsLookAnswered share.old share.new answer.new }
     ensures memory { result ≡ NO_MEMORY → IsLookStarved share.old share.new }
     ensures late { result ≡ NOT_SERVED → IsLookMade share.old share.new looked turns wait.new }
@@ -250,6 +263,6 @@ pub fn look(
         return NOT_SERVED;
     }
     let next = make_look(share, looked);
-    *told = share.told.told.sessions().len();
+    *told = share.told.told.count();
     write_next(next, answer, wait)
 }

@@ -12,9 +12,9 @@ use Rattle.lock_rules.proofs.Histories.{state_after-append}
 use Rattle.lock_desk.specs.Batches.{Item, entries_from, has_ended_in, ended_waits_in}
 use Rattle.lock_desk.specs.BookView.{BookView}
 use Rattle.sequential.specs.Batches.{item_of}
-use Rattle.session_sets.specs.Ended.{EndedView, is_ended, ended_in}
+use Rattle.lock_holders.specs.Ended.{EndedView, is_ended, ended_in}
 use Rattle.lock_desk.specs.inner.Served.{AreServed}
-use Rattle.session_sets.proofs.FilteredNumbers.{same-tests, same-numbers, no-numbers}
+use Rattle.lock_holders.proofs.FilteredNumbers.{same-tests, same-numbers, no-numbers}
 
 -- the entries of the first k items
 abbrev pub entries_of_first : State → ℕ → List Item → List Entry

@@ -6,7 +6,7 @@ use Rattle.std.proofs.Math.Bool.{and-false}
 use Rattle.lock_rules.specs.State.{Claim, State, is_waiting, request_of}
 use Rattle.lock_rules.specs.Waits.{keeps_waiting, waits_for}
 use Rattle.lock_desk.specs.Queries.{blockers_among}
-use Rattle.session_sets.proofs.FilteredNumbers.{no-numbers}
+use Rattle.lock_holders.proofs.FilteredNumbers.{no-numbers}
 use Rattle.std.specs.List.{range_with_len}
 use Rattle.std.proofs.Math.Seq.{take-nil}
 use Rattle.std.proofs.lemmas.List.Elements.{filter-append}

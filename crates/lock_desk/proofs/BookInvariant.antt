@@ -11,13 +11,13 @@ use Rattle.lock_rules.specs.Ended.{has_ended, ended_waits}
 use Rattle.lock_rules.specs.Step.{step}
 use Rattle.lock_rules.specs.Legal.{state_of}
 use Rattle.lock_rules.proofs.Histories.{legal-push, state_of-push}
-use Rattle.lock_desk.specs.declared.lockers.Locker.{Locker}
-use Rattle.lock_desk.specs.inner.Lockers.{no_standing, standing_of, standings_of, standing_at}
-use Rattle.lock_desk.specs.inner.Changes.{with_ended, with_ended_count, IsWhole, HasNotedEnded}
-use Rattle.session_sets.specs.Ended.{EndedView, is_ended, ended_in}
-use Rattle.lock_desk.specs.declared.lock_table.LockTable.{LockTable}
-use Rattle.lock_desk.specs.inner.Ready.{IsReadyTable}
-use Rattle.lock_desk.specs.inner.Shows.{Shows}
+use Rattle.lock_table.specs.declared.lockers.Locker.{Locker}
+use Rattle.lock_table.specs.inner.Lockers.{no_standing, standing_of, standings_of, standing_at}
+use Rattle.lock_table.specs.Changes.{with_ended, with_ended_count, IsWhole, HasNotedEnded}
+use Rattle.lock_holders.specs.Ended.{EndedView, is_ended, ended_in}
+use Rattle.lock_table.specs.declared.table.LockTable.{LockTable}
+use Rattle.lock_table.specs.Ready.{IsReadyTable}
+use Rattle.lock_table.specs.Shows.{Shows}
 use Rattle.lock_desk.specs.inner.Served.{AreKept}
 use Rattle.lock_desk.specs.BookView.{BookView}
 use Rattle.lock_desk.specs.Deadlocks.{AreDeadlocksTold, deadlocks_in, newest}
@@ -28,10 +28,10 @@ use Rattle.sequential.specs.Histories.{IsEntryWithin}
 use Rattle.lock_desk.specs.inner.Invariant.{book_view_of, IsKept}
 use Rattle.lock_desk.specs.declared.book.Book.TheInside.{Inside}
 use Rattle.waits_for.specs.declared.TheConstants.{MAX_SESSIONS}
-use Rattle.session_sets.proofs.EndedList.{none-waits_ended}
-use Rattle.session_sets.proofs.FilteredNumbers.{any-among, same-numbers}
-use Rattle.lock_desk.proofs.EndedWaits.{whole-relisted, ready-relisted, shows-relisted}
-use Rattle.lock_desk.proofs.Simulation.{waits-shown}
+use Rattle.lock_holders.proofs.EndedList.{none-waits_ended}
+use Rattle.lock_holders.proofs.FilteredNumbers.{any-among, same-numbers}
+use Rattle.lock_table.proofs.EndedWaits.{whole-relisted, ready-relisted, shows-relisted}
+use Rattle.lock_table.proofs.Simulation.{waits-shown}
 
 -- after one more entry
 pub kept-more : (d e : LockTable) (es more : List Entry) (session : ℕ) (call : Call) (reply : Reply) → more ≡ es ++ record { session = session; call = call; reply = reply } ∷ []
@@ -58,17 +58,6 @@ kept-same d e es more h k shows whole ready lockers = subst (AreKept e) (sym h) 
   ready = ready;
   counted = let n = k.counted in let a = shows.count in let b = k.shows.count in omega (arith, n, a, b);
 })
-
--- one more locker without a transaction
-pub none-push : (ws : List Locker) (w : Locker) → ((s : ℕ) → standing_at s (standings_of ws) ≡ no_standing) → standing_of w ≡ no_standing → (s : ℕ) → standing_at s (standings_of (ws ++ w ∷ [])) ≡ no_standing
-none-push ws w h e zero = refl
-none-push ws w h e (suc s) = go ws (λ i. h (suc i)) s
-  where
-    go : (xs : List Locker) → ((i : ℕ) → standing_at i (map standing_of xs) ≡ no_standing) → (i : ℕ) → standing_at i (map standing_of (xs ++ w ∷ [])) ≡ no_standing
-    go [] k zero = e
-    go [] k (suc i) = refl
-    go (x ∷ xs) k zero = k zero
-    go (x ∷ xs) k (suc i) = go xs (λ j. k (suc j)) i
 
 -- what is listed in addition has ended by the rules
 

@@ -18,19 +18,21 @@ use Rattle.lock_rules.specs.Legal.{state_of, IsLegal}
 use Rattle.lock_rules.specs.Sound.{IsNumbered}
 use Rattle.lock_rules.proofs.Histories.{legal-push}
 use Rattle.lock_rules.proofs.Lists.{request_of-claims_but}
-use Rattle.lock_counts.specs.Counts.{one_if, count_if, is_op, is_refusal_numbered, gives_up, waits_aborted, waits_restarted}
-use Rattle.lock_counts.specs.Tallies.{cell_of}
-use Rattle.lock_counts.proofs.Counting.{count-le-length}
-use Rattle.lock_counts.proofs.Numbers.{kind_few}
-use Rattle.lock_counts.proofs.Tallies.{cells-apart, count-push, total-push}
-use Rattle.lock_counts.proofs.Balance.{counts-bounded}
-use Rattle.lock_counts.proofs.Thinned.{thin-promotions, thinned-waits-not}
+use Rattle.lock_rules.specs.Counts.{one_if, count_if, is_op, is_refusal_numbered, gives_up, waits_aborted, waits_restarted}
+use Rattle.lock_rules.specs.CountTallies.{cell_of}
+use Rattle.lock_rules.proofs.Counting.{count-le-length}
+use Rattle.lock_rules.proofs.CountNumbers.{kind_few}
+use Rattle.lock_rules.proofs.CountTallies.{cells-apart, count-push, total-push}
+use Rattle.lock_rules.proofs.CountBalance.{counts-bounded}
+use Rattle.lock_rules.proofs.CountThinned.{thin-promotions, thinned-waits-not}
 use Rattle.lock_desk.specs.declared.call_counts.CallCounts.{CallCounts}
 use Rattle.lock_desk.specs.declared.wait_counts.WaitCounts.{WaitCounts}
-use Rattle.lock_desk.specs.Deadlocks.{Moment, deadlocks_of, moments_at, deadlocks_in}
-use Rattle.lock_desk.specs.inner.Counting.{no_waits, with_own_wait, AreCallsCounted, AreVictimsCounted, AreWaitsCounted}
+use Rattle.lock_table.specs.Deadlocks.{Moment, deadlocks_of, moments_at}
+use Rattle.lock_desk.specs.Deadlocks.{deadlocks_in}
+use Rattle.lock_desk.specs.inner.WaitCounts.{no_waits, AreVictimsCounted}
+use Rattle.lock_desk.specs.inner.Counting.{with_own_wait, AreCallsCounted, AreWaitsCounted}
 use Rattle.lock_desk.specs.inner.Noting.{HasCounted}
-use Rattle.lock_desk.proofs.DeadlocksOfCalls.{deadlocks-push}
+use Rattle.lock_desk.proofs.DeadlocksOfHistories.{deadlocks-push}
 use Rattle.lock_desk.proofs.VictimsCounted.{goes-up}
 use Rattle.lock_desk.proofs.VictimsOfCalls.{all-victims}
 

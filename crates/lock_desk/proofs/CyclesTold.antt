@@ -5,7 +5,7 @@ use Rattle.std.proofs.lemmas.Bool.{cases_lt, lt-ltb, le-ltb, ne_eqb, eqb-false}
 use Rattle.std.proofs.lemmas.List.{map-append, take_more, get_or-map, drop-append-le, drop-drop, length-drop, length-map}
 use Rattle.std.proofs.lemmas.Map.Keys.{IsDistinct-from_apart, apart_from_distinct}
 use Rattle.waits_for.specs.Pairs.{pairs_of}
-use Rattle.wait_cycles.specs.Cycles.{IsCycle}
+use Rattle.waits_for.specs.Cycles.{IsCycle}
 use Rattle.lock_rules.specs.State as rules
 use Rattle.lock_rules.specs.Waits.{waits_for, victim_of}
 use Rattle.lock_rules.specs.Listing.{listed_as, kind_of_request, listed_request, waiting_line}
@@ -14,16 +14,17 @@ use Rattle.lock_rules.specs.Sound.{IsSound}
 use Rattle.lock_rules.proofs.Alters.{waits_for-waits}
 use Rattle.lock_rules.proofs.Lists.{request_of-session}
 use Rattle.lock_rules.proofs.Settle.{has-waits}
-use Rattle.lock_desk.specs.Deadlocks.{Moment, IsMember, AreMembers, IsCycleTold, IsDeadlockTold, first_session}
+use Rattle.lock_table.specs.Deadlocks.{Moment}
+use Rattle.lock_desk.specs.Deadlocks.{IsMember, AreMembers, IsCycleTold, IsDeadlockTold, first_session}
 use Rattle.lock_desk.specs.declared.deadlock_log.Deadlock.{Deadlock}
 use Rattle.lock_desk.specs.declared.wait_counts.WaitCounts.{WaitCounts}
 use Rattle.lock_desk.specs.inner.Noting.{LogView, HasTold}
 use Rattle.lock_desk.specs.declared.deadlock_log.Member.{Member}
-use Rattle.lock_desk.specs.declared.lock_table.LockTable.{LockTable}
-use Rattle.lock_desk.specs.inner.Changes.{IsWhole}
-use Rattle.lock_desk.specs.inner.Ready.{IsReadyTable}
-use Rattle.lock_desk.specs.inner.Shows.{Shows}
-use Rattle.lock_desk.proofs.WaitsOfTheState.{pairs-shown}
+use Rattle.lock_table.specs.declared.table.LockTable.{LockTable}
+use Rattle.lock_table.specs.Changes.{IsWhole}
+use Rattle.lock_table.specs.Ready.{IsReadyTable}
+use Rattle.lock_table.specs.Shows.{Shows}
+use Rattle.lock_table.proofs.WaitsOfTheState.{pairs-shown}
 use Rattle.lock_desk.proofs.DeadlocksTold.{told-in_room, told-instead}
 
 -- the request of a session

@@ -1,10 +1,12 @@
 -- What a log tells: the newest deadlocks, and one more.
 use Rattle.std.proofs.Common.{◌≡◌, ℕ, zero, suc, ◌+◌, ◌-◌, ◌<◌, ◌≤◌, List, [], ◌∷◌, ◌++◌, length, drop, refl, sym, ◌∙◌, ap, arith, subst, append_assoc, append-nil, length-append, length-drop}
 use Rattle.std.proofs.lemmas.List.{drop-append-le, drop-drop}
-use Rattle.lock_desk.specs.Deadlocks.{Moment, IsCycleTold, IsDeadlockTold, AreDeadlocksTold, newest}
+use Rattle.lock_table.specs.Deadlocks.{Moment}
+use Rattle.lock_desk.specs.Deadlocks.{IsCycleTold, IsDeadlockTold, AreDeadlocksTold, newest}
 use Rattle.lock_desk.specs.declared.deadlock_log.Deadlock.{Deadlock}
-use Rattle.lock_desk.specs.inner.Noting.{LogView, HasTold, HasCounted, HasNoted, HasNotedAhead, IsAlike, AreAlike}
-use Rattle.lock_desk.proofs.VictimsCounted.{counted-none, counted-on}
+use Rattle.lock_table.specs.Noting.{IsNotedAhead}
+use Rattle.lock_desk.specs.inner.Noting.{LogView, HasTold, HasCounted, HasNoted}
+use Rattle.lock_desk.proofs.VictimsCounted.{counted-on}
 
 -- lists of deadlocks told
 
@@ -60,14 +62,6 @@ newest-length n xs = length-drop (length xs - n) xs
 
 -- what a log notes and tells
 
--- nothing
-pub noted-none : (l : LogView) → HasNoted [] l l
-noted-none l = record {
-  most = refl;
-  told = λ before h. subst (λ (ms : List Moment). AreDeadlocksTold (newest l.most ms) l.told) (sym (append-nil before)) h;
-  counted = counted-none l.counts;
-}
-
 -- some deadlocks, and then more
 pub noted-on : (a b c : LogView) (ms ns : List Moment) → HasNoted ms a b → HasNoted ns b c → HasNoted (ms ++ ns) a c
 noted-on a b c ms ns h k = record {
@@ -80,11 +74,11 @@ noted-on a b c ms ns h k = record {
 }
 
 -- what is noted whatever is noted behind it
-pub noted-ahead : (n : ℕ) (a b : LogView) (ms : List Moment) → HasNoted ms a b → HasNotedAhead n ms a b
+pub noted-ahead : (n : ℕ) (a b : LogView) (ms : List Moment) → HasNoted ms a b → IsNotedAhead HasNoted n ms a b
 noted-ahead n a b ms h more c few k = noted-on a b c ms more h k
 
 -- the first of many needn't be kept
-pub skipped-ahead : (n : ℕ) (a b : LogView) (ms : List Moment) → a.most ≤ n → b.most ≡ a.most → b.told ≡ a.told → HasCounted ms a.counts b.counts → HasNotedAhead n ms a b
+pub skipped-ahead : (n : ℕ) (a b : LogView) (ms : List Moment) → a.most ≤ n → b.most ≡ a.most → b.told ≡ a.told → HasCounted ms a.counts b.counts → IsNotedAhead HasNoted n ms a b
 skipped-ahead n a b ms few most told counted more c le k = record {
   most = k.most ∙ most;
   told = λ before h.
@@ -93,16 +87,6 @@ skipped-ahead n a b ms few most told counted more c le k = record {
       subst (λ (xs : List Moment). AreDeadlocksTold xs c.told) (newest-behind a.most before more (omega (arith, few, le)) ∙ (sym (newest-behind a.most (before ++ ms) more (omega (arith, few, le))) ∙ ap (newest a.most) (append_assoc before ms more))) two;
   counted = counted-on a.counts b.counts c.counts ms more counted k.counted;
 }
-
--- some, and then more
-pub ahead-on : (m n : ℕ) (a b c : LogView) (ms ns : List Moment) → m ≤ n + length ns → HasNotedAhead m ms a b → HasNotedAhead n ns b c → HasNotedAhead n (ms ++ ns) a c
-ahead-on m n a b c ms ns le h k more d few last =
-    subst (λ (xs : List Moment). HasNoted xs a d) (sym (append_assoc ms ns more))
-    (h (ns ++ more) d (omega (arith, le, few, length-append ns more)) (k more d few last))
-
--- if none have to come, all are noted
-pub ahead-none : (n : ℕ) (a b : LogView) (ms : List Moment) → n ≤ 0 → HasNotedAhead n ms a b → HasNoted ms a b
-ahead-none n a b ms none h = subst (λ (xs : List Moment). HasNoted xs a b) (append-nil ms) (h [] b none (noted-none b))
 
 -- one deadlock, while there is room
 pub told-in_room : (a b : LogView) (m : Moment) (d : Deadlock) → IsDeadlockTold m d → b.most ≡ a.most → length a.told < a.most → b.told ≡ a.told ++ d ∷ [] → HasTold (m ∷ []) a b
@@ -126,31 +110,6 @@ told-instead a b m d t same some full more = record {
       (subst (λ (ms : List Moment). AreDeadlocksTold ms (drop 1 a.told ++ d ∷ [])) (sym (newest-push a.most before m some many))
       (told-push (drop 1 (newest a.most before)) (drop 1 a.told) m d (told-drop 1 (newest a.most before) a.told h) t));
 }
-
--- copies
-
--- one more copy
-pub alike-push : (ds es : List Deadlock) (d e : Deadlock) → AreAlike ds es → IsAlike d e → AreAlike (ds ++ d ∷ []) (es ++ e ∷ [])
-alike-push [] [] d e h k = (k, tt)
-alike-push [] (y ∷ es) d e h k = absurd h
-alike-push (x ∷ ds) [] d e h k = absurd h
-alike-push (x ∷ ds) (y ∷ es) d e h k = (h.0, alike-push ds es d e h.1 k)
-
--- copies tell what the originals tell
-pub told-alike : (ms : List Moment) (ds es : List Deadlock) → AreDeadlocksTold ms ds → AreAlike ds es → AreDeadlocksTold ms es
-told-alike [] [] [] h k = tt
-told-alike [] [] (e ∷ es) h k = absurd k
-told-alike [] (d ∷ ds) es h k = absurd h
-told-alike (m ∷ ms) [] es h k = absurd h
-told-alike (m ∷ ms) (d ∷ ds) [] h k = absurd k
-told-alike (m ∷ ms) (d ∷ ds) (e ∷ es) h k = (
-  record {
-    place = k.0.place ∙ h.0.place;
-    session = k.0.session ∙ h.0.session;
-    cycle = subst (IsCycleTold m.state m.session) (sym k.0.cycle) h.0.cycle;
-  },
-  told-alike ms ds es h.1 k.1,
-)
 
 -- nothing is told of nothing
 pub newest-none : {X : Type 0} (n : ℕ) → newest {X = X} n [] ≡ []

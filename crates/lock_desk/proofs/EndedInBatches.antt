@@ -20,7 +20,7 @@ use Rattle.sequential.proofs.Ranges.{member-range}
 use Rattle.lock_desk.specs.BookView.{BookView}
 use Rattle.programs.proofs.GoingOn.{TellsBy, tells-more, tells-none}
 use Rattle.lock_desk.specs.Batches.{Item, entries_from, has_ended_in, ended_waits_in, ended_waits_beside, ends_wait, TellsFrom}
-use Rattle.session_sets.proofs.FilteredNumbers.{among, any-contains}
+use Rattle.lock_holders.proofs.FilteredNumbers.{among, any-contains}
 
 -- The entries of calls have ended the same waits as the calls.
 pub same-ended : (st : State) (is : List Item) (u : ℕ) → has_ended_in st is u ≡ has_ended_in st (map item_of (entries_from st is)) u

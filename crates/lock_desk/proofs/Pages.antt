@@ -18,16 +18,16 @@ use Rattle.lock_rules.specs.Sound.{IsOrdered, after, ascend}
 use Rattle.lock_rules.specs.Listing.{resources_of, transaction_of, listed_as, listed_on, lock_line, listed_resources}
 use Rattle.lock_rules.proofs.Lists.{seek, seek-after, mode_in-seek}
 use Rattle.lock_rules.proofs.ResourceOrder.{rise, same-lists, has-with, rise-with}
-use Rattle.lock_desk.specs.declared.lock_table.LockTable.{LockTable}
+use Rattle.lock_table.specs.declared.table.LockTable.{LockTable}
 use Rattle.session_locks.specs.Resources.{is_behind, has_path, in_order, those_behind}
 use Rattle.lock_desk.specs.Pages.{is_lock_of, locks_of}
-use Rattle.lock_desk.specs.inner.Changes.{standing, mode_held, IsWhole}
-use Rattle.lock_desk.specs.inner.Listing.{transaction_shown}
-use Rattle.lock_desk.specs.inner.Pages.{lock_lines, lock_lines_at, page_of}
-use Rattle.lock_desk.specs.inner.Shows.{Shows}
-use Rattle.lock_desk.proofs.Asking.{held-locker}
+use Rattle.lock_table.specs.Changes.{standing, mode_held, IsWhole}
+use Rattle.lock_table.specs.Listing.{transaction_shown}
+use Rattle.lock_table.specs.LockPages.{lock_lines, lock_lines_at, page_of}
+use Rattle.lock_table.specs.Shows.{Shows}
+use Rattle.lock_table.proofs.Asking.{held-locker}
 use Rattle.session_locks.proofs.InOrder.{rise-in_order, has-in_order}
-use Rattle.lock_desk.proofs.Simulation.{mode-shown}
+use Rattle.lock_table.proofs.Simulation.{mode-shown}
 use Rattle.session_locks.proofs.FilteredResources.{has-filter, rise-filter, all-filter}
 
 -- the resources that are listed

@@ -5,11 +5,11 @@ use Rattle.lock_rules.specs.declared.listing.Claim.{Claim as ListedClaim}
 use Rattle.lock_rules.specs.State as rules
 use Rattle.lock_rules.specs.Queue.{queue}
 use Rattle.lock_rules.specs.Listing.{kind_of_request, listed_as, listed_request}
-use Rattle.lock_desk.specs.declared.lock_table.LockTable.{LockTable}
+use Rattle.lock_table.specs.declared.table.LockTable.{LockTable}
 use Rattle.lock_desk.specs.Gauges.{queue_length}
-use Rattle.lock_desk.specs.inner.Cells.{View}
-use Rattle.lock_desk.specs.inner.Changes.{view_at}
-use Rattle.lock_desk.specs.inner.Shows.{Shows, short}
+use Rattle.lock_table.specs.inner.Cells.{View}
+use Rattle.lock_table.specs.Changes.{view_at}
+use Rattle.lock_table.specs.Shows.{Shows, short}
 
 same-line : (a b : ListedClaim) → Some a ≡ Some b → a ≡ b
 same-line a b h = cc h

@@ -20,9 +20,9 @@ use Rattle.lock_rules.proofs.ResourceOrder.{contrary, precedes, rise, before-sel
 use Rattle.lock_rules.proofs.Steps.{state-lawful}
 use Rattle.session_locks.specs.Resources.{is_behind, has_path, AreApart}
 use Rattle.lock_desk.specs.Pages.{is_lock_of, locks_of, AreLocksTold, Look, page_at, next_after, lines_told, is_one_short, lines_on, HoldsThroughout, DoPagesTell}
-use Rattle.lock_desk.proofs.LockCounts.{locks-told}
+use Rattle.lock_table.proofs.LockCounts.{locks-told}
 use Rattle.lock_desk.proofs.Pages.{held_lines, held_lines_on, holds, held_behind, locks-lines, rise-held, has-held, all-held}
-use Rattle.lock_desk.proofs.TableViews.{held-seen}
+use Rattle.lock_table.proofs.TableViews.{held-seen}
 
 -- the first resources of a list that rises
 

@@ -4,11 +4,11 @@ use Rattle.std.proofs.lemmas.Bool.{cases_Bool}
 use Rattle.std.proofs.lemmas.Bool.Decides.{Decides-eqb}
 use Rattle.lock_rules.proofs.Lists.{other, apart}
 use Rattle.lock_rules.proofs.Sound.{eqb-swap}
-use Rattle.lock_counts.specs.Counts.{one_if}
-use Rattle.lock_counts.proofs.Counting.{one_if-le}
+use Rattle.lock_rules.specs.Counts.{one_if}
+use Rattle.lock_rules.proofs.Counting.{one_if-le}
 use Rattle.lock_desk.specs.declared.wait_counts.WaitCounts.{WaitCounts}
-use Rattle.lock_desk.specs.Deadlocks.{Moment}
-use Rattle.lock_desk.specs.inner.Counting.{up_if, with_victim, closings, behind, AreVictimsCounted}
+use Rattle.lock_table.specs.Deadlocks.{Moment}
+use Rattle.lock_desk.specs.inner.WaitCounts.{up_if, with_victim, closings, behind, AreVictimsCounted}
 use Rattle.lock_desk.specs.inner.Noting.{HasCounted}
 
 -- one more moment
@@ -30,14 +30,6 @@ closings-few next (m ∷ ms) = omega (arith, one_if-le (not (eqb (suc m.place) n
 pub goes-up : (b : Bool) (x n z : ℕ) → z ≡ up_if b x → x ≡ n → n + 1 < 2 ^ 64 → z ≡ n + one_if b
 goes-up true x n z e f few = e ∙ mod-eq_of_lt (omega (arith, f, few)) ∙ omega (arith, f)
 goes-up false x n z e f few = e ∙ omega (arith, f)
-
--- nothing more is counted
-pub counted-none : (c : WaitCounts) → HasCounted [] c c
-counted-none c = record {
-  victims = λ before few h. subst (λ (ms : List Moment). AreVictimsCounted ms c) (sym (append-nil before)) h;
-  aborted = refl;
-  restarted = refl;
-}
 
 -- some are counted, and then more
 pub counted-on : (a b c : WaitCounts) (ms ns : List Moment) → HasCounted ms a b → HasCounted ns b c → HasCounted (ms ++ ns) a c

@@ -29,11 +29,12 @@ use Rattle.lock_rules.proofs.Histories.{state_of-push}
 use Rattle.lock_rules.proofs.Steps.{all-pass, is-none, try-locks, state-lawful}
 use Rattle.lock_rules.proofs.Owners.{state-numbered}
 use Rattle.lock_rules.proofs.Idle.{state-idle}
-use Rattle.lock_counts.specs.Counts.{one_if, count_if, total_from, is_kind, is_request, dooms_itself, doomed_by, victims_of, waits_doomed, deadlocks}
-use Rattle.lock_counts.proofs.Counting.{count-append, count-splits, count-alike, count-none}
-use Rattle.lock_counts.proofs.Thinned.{IsThinned, thin-same, thin-then, thin-cancel, thinned-waits-not, cancelled-waits-not, member-waits, times-count}
-use Rattle.lock_desk.specs.Deadlocks.{Moment, deadlocked_states, deadlocks_of_request, deadlocks_unless_refused, deadlocks_of, moments_at, deadlocks_from, deadlocks_in}
-use Rattle.lock_desk.specs.inner.Counting.{closings}
+use Rattle.lock_rules.specs.Counts.{one_if, count_if, total_from, is_kind, is_request, dooms_itself, doomed_by, victims_of, waits_doomed, deadlocks}
+use Rattle.lock_rules.proofs.Counting.{count-append, count-splits, count-alike, count-none}
+use Rattle.lock_rules.proofs.CountThinned.{IsThinned, thin-same, thin-then, thin-cancel, thinned-waits-not, cancelled-waits-not, member-waits, times-count}
+use Rattle.lock_table.specs.Deadlocks.{Moment, deadlocked_states, deadlocks_of_request, deadlocks_unless_refused, deadlocks_of, moments_at}
+use Rattle.lock_desk.specs.Deadlocks.{deadlocks_from, deadlocks_in}
+use Rattle.lock_desk.specs.inner.WaitCounts.{closings}
 
 -- rounds of victims
 

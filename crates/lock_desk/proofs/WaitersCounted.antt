@@ -7,14 +7,14 @@ use Rattle.lock_rules.specs.State as rules
 use Rattle.lock_rules.specs.Sound.{IsOnce, IsSound, times}
 use Rattle.lock_rules.proofs.Lists.{apart, other, times-none}
 use Rattle.lock_rules.proofs.Steps.{is-none}
-use Rattle.lock_counts.specs.Counts.{one_if, count_if}
-use Rattle.lock_desk.specs.declared.lockers.Locker.{Locker}
-use Rattle.lock_desk.specs.declared.lock_table.LockTable.{LockTable}
-use Rattle.lock_desk.specs.inner.Lockers.{Standing, no_standing, standing_of}
-use Rattle.lock_desk.specs.inner.Changes.{standings, IsWhole}
-use Rattle.lock_desk.specs.inner.Shows.{Shows}
-use Rattle.lock_desk.proofs.LockerStandings.{length-standings}
-use Rattle.lock_desk.proofs.Simulation.{waits-shown}
+use Rattle.lock_rules.specs.Counts.{one_if, count_if}
+use Rattle.lock_table.specs.declared.lockers.Locker.{Locker}
+use Rattle.lock_table.specs.declared.table.LockTable.{LockTable}
+use Rattle.lock_table.specs.inner.Lockers.{Standing, no_standing, standing_of}
+use Rattle.lock_table.specs.Changes.{standings, IsWhole}
+use Rattle.lock_table.specs.Shows.{Shows}
+use Rattle.lock_table.proofs.LockerStandings.{length-standings}
+use Rattle.lock_table.proofs.Simulation.{waits-shown}
 use Rattle.lock_desk.proofs.VictimsOfCalls.{one-request}
 
 -- how many of m sessions from k on this one is

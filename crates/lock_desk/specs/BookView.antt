@@ -1,6 +1,6 @@
 -- What contracts see of a book.
 use Rattle.std.specs.Prelude.{ℕ, List, length}
-use Rattle.trimmed_list.specs.Kept.{first_kept, kept}
+use Rattle.sequential.specs.Kept.{first_kept, kept}
 use Rattle.lock_rules.specs.Entries.{Entry}
 
 -- a book: its number of sessions; the calls that it has served with their replies, oldest first; the place up to which

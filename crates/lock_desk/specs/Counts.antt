@@ -3,7 +3,7 @@ use Rattle.std.specs.Prelude.{List}
 use Rattle.lock_rules.specs.declared.calls.Why.TheVariants as why
 use Rattle.lock_rules.specs.declared.kinds.Op.TheVariants as op
 use Rattle.lock_rules.specs.Entries.{Entry}
-use Rattle.lock_counts.specs.Counts.{calls, refusals, requests, granted_at_once, requests_refused, waits_begun, waits_granted, waits_doomed, waits_withdrawn, waits_aborted, waits_restarted, still_waiting, deadlocks}
+use Rattle.lock_rules.specs.Counts.{calls, refusals, requests, granted_at_once, requests_refused, waits_begun, waits_granted, waits_doomed, waits_withdrawn, waits_aborted, waits_restarted, still_waiting, deadlocks}
 use Rattle.lock_desk.specs.declared.counts.Calls.{Calls}
 use Rattle.lock_desk.specs.declared.counts.Refusals.{Refusals}
 use Rattle.lock_desk.specs.declared.counts.Counts.{Counts}

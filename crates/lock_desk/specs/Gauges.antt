@@ -2,7 +2,7 @@
 use Rattle.std.specs.Prelude.{ℕ, zero, suc, ◌+◌, max, Option, Some, None, length}
 use Rattle.lock_rules.specs.State.{Claim, Table, State, is_open, request_of, claims_of}
 use Rattle.lock_rules.specs.Queue.{queue}
-use Rattle.lock_counts.specs.Counts.{one_if}
+use Rattle.lock_rules.specs.Counts.{one_if}
 use Rattle.lock_desk.specs.declared.gauges.Gauges.{Gauges}
 
 -- how many of the sessions 1 to n have an open transaction

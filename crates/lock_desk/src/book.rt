@@ -12,9 +12,9 @@ ghost use Rattle.lock_rules.specs.Listing.{listing_of, waiting_line};
 ghost use Rattle.lock_rules.specs.Laws.{DoesGrantStand, DoesDoomStand, DoesRequestStand};
 ghost use Rattle.lock_rules.specs.Lawful.{IsLawfulState};
 ghost use Rattle.lock_rules.specs.State.{empty};
-ghost use Rattle.lock_desk.specs.inner.Changes.{IsWhole};
-ghost use Rattle.lock_desk.specs.inner.Ready.{IsReadyTable};
-ghost use Rattle.lock_desk.specs.inner.Shows.{Shows};
+ghost use Rattle.lock_table.specs.Changes.{IsWhole};
+ghost use Rattle.lock_table.specs.Ready.{IsReadyTable};
+ghost use Rattle.lock_table.specs.Shows.{Shows};
 ghost use Rattle.lock_desk.specs.Batches.{ended_waits_beside};
 ghost use Rattle.lock_desk.specs.BookView.{first_kept_by, kept_by};
 ghost use Rattle.sequential.specs.Histories.{IsEntryWithin};
@@ -30,17 +30,17 @@ mod paths;
 
 use crate::call_counts::CallCounts;
 use crate::deadlock_log::DeadlockLog;
-use crate::lock_table::LockTable;
 use crate::notes::Notes;
 use crate::recording::serve_recorded;
 use lock_modes::Mode;
 use lock_rules::{Call, Claim, Entry, MAX_SESSIONS, Reply, Transaction, laws};
+use lock_table::LockTable;
 use lock_tree::Resource;
 pub use pages::pages_tell_each_lock_once;
-pub use paths::{PathLocked, grants, lock_of_level};
+pub use paths::{grants, lock_of_level};
+use sequential::{MOST_DROPPED, NO_BOUND, TrimmedList};
 use std::alloc::{AllocError as NoMemory, Global};
 use std::marker::Model;
-use trimmed_list::{MOST_DROPPED, NO_BOUND, TrimmedList};
 
 /// A lock table with the history of the calls that it has served.
 ///
@@ -256,8 +256,8 @@ impl Book {
     /// transaction was made a deadlock victim. Each is there once, in no particular order.
     ///
     /// An engine wakes the threads of these sessions alone; a poll tells each of them which of the two it was. The session
-    /// of the call itself isn't among them: its reply tells. After a batch, a path or calls of `serve_on`: every session whose
-    /// wait another session's call has ended, even if it waits again. A batch or a path of which nothing was served leaves
+    /// of the call itself isn't among them: its reply tells. After a batch or calls of `serve_on`: every session whose
+    /// wait another session's call has ended, even if it waits again. A batch of which nothing was served leaves
     /// none, a call whose memory was refused leaves them as they were. That a call tells whose wait it ended is this project's
     /// own.
     pub fn ended(&self) -> &[u16]

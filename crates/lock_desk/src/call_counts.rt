@@ -4,8 +4,8 @@ ghost use Rattle.std.specs.Prelude.{◌≡◌, ℕ, ◌+◌, ◌-◌, ◌%◌, �
 ghost use Rattle.lock_rules.specs.Kinds.{number_of_kind, op_of_call};
 ghost use Rattle.lock_rules.specs.Entries.{Entry as EntryValue};
 ghost use Rattle.lock_rules.specs.declared.calls.Call.{Call as CallValue};
-ghost use Rattle.lock_counts.specs.Counts.{count_if, is_kind, is_request, is_refusal_numbered, calls, replies, refusals};
-ghost use Rattle.lock_counts.specs.Tallies.{cell_of};
+ghost use Rattle.lock_rules.specs.Counts.{count_if, is_kind, is_request, is_refusal_numbered, calls, replies, refusals};
+ghost use Rattle.lock_rules.specs.CountTallies.{cell_of};
 ghost use Rattle.lock_desk.specs.inner.Counting.{AreCallsCounted};
 
 use lock_rules::{Op, Reply, ReplyKind, Why};
@@ -32,7 +32,7 @@ pub struct CallCounts {
 }
 
 /// The index of a counter of replies.
-#[tactic(auto, using(lock_counts::proofs::Numbers::op_few, lock_counts::proofs::Numbers::kind_few))]
+#[tactic(auto, using(lock_rules::proofs::CountNumbers::op_few, lock_rules::proofs::CountNumbers::kind_few))]
 #[inline(always)]
 fn cell(op: Op, kind: ReplyKind) -> usize
     ensures cell { result ≡ cell_of op (number_of_kind kind) }

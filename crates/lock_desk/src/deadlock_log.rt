@@ -1,33 +1,31 @@
 //! The newest deadlocks: of each the call that made it, and the cycle with what its members waited for.
 
-ghost use Rattle.std.specs.Prelude.{◌≡◌, ℕ, ◌+◌, ◌-◌, ◌<◌, ◌≤◌, ◌⊎◌, List, true, [], ◌∷◌, ◌++◌, drop, nat_lt, if◌then◌else◌, length, slice_index_or, vec_len, vec_capacity, IfOk};
+ghost use Rattle.std.specs.Prelude.{◌≡◌, ℕ, ◌+◌, ◌-◌, ◌<◌, ◌≤◌, true, [], ◌∷◌, ◌++◌, drop, nat_lt, if◌then◌else◌, length, slice_index_or, vec_len, vec_capacity, IfOk};
 ghost use Rattle.std.specs.List.{All};
 ghost use Rattle.waits_for.specs.Pairs.{pairs_of};
 ghost use Rattle.waits_for.specs.Walks.{Reaches};
-ghost use Rattle.wait_cycles.specs.Cycles.{IsCycle};
+ghost use Rattle.waits_for.specs.Cycles.{IsCycle};
 ghost use Rattle.lock_rules.specs.State.{State};
 ghost use Rattle.lock_rules.specs.Waits.{victim_of, waits_for};
 ghost use Rattle.lock_rules.specs.Sound.{IsSound};
-ghost use Rattle.lock_desk.specs.Deadlocks.{IsMember, IsCycleTold, IsDeadlockTold, moments_at, newest};
+ghost use Rattle.lock_table.specs.Deadlocks.{moments_at};
+ghost use Rattle.lock_desk.specs.Deadlocks.{IsMember, IsCycleTold, IsDeadlockTold, newest};
 ghost use Rattle.lock_desk.specs.declared.deadlock_log.Deadlock.{Deadlock as DeadlockValue};
 ghost use Rattle.lock_desk.specs.declared.deadlock_log.Member.{Member as MemberValue};
-ghost use Rattle.lock_desk.specs.inner.Changes.{IsWhole, MayServe};
-ghost use Rattle.lock_desk.specs.inner.Ready.{IsReadyTable};
-ghost use Rattle.lock_desk.specs.inner.Shows.{Shows};
-ghost use Rattle.lock_desk.specs.inner.Counting.{no_waits, with_victim, with_abort, with_restart};
-ghost use Rattle.lock_desk.specs.inner.Blocking.{IsSizedFor};
-ghost use Rattle.lock_desk.specs.inner.Noting.{HasTold, HasNotedAhead, IsLogFor, AreAlike, AreChosen};
+ghost use Rattle.lock_table.specs.Changes.{IsWhole, MayServe};
+ghost use Rattle.lock_table.specs.Ready.{IsReadyTable};
+ghost use Rattle.lock_table.specs.Shows.{Shows};
+ghost use Rattle.lock_desk.specs.inner.WaitCounts.{no_waits, with_victim, with_abort, with_restart};
+ghost use Rattle.lock_desk.specs.inner.Noting.{HasTold, IsLogFor};
 
-use crate::graph_copy::GraphCopy;
-use crate::lock_table::LockTable;
 use crate::wait_counts::WaitCounts;
-use crate::waits::{Waits, count_victims};
+use lock_holders::{position_of, session_at};
 use lock_modes::Mode;
 use lock_rules::{Claim, MAX_SESSIONS};
-use session_sets::{position_of, session_at};
+use lock_table::{DeadlockNotes, GraphCopy, LockTable};
 use std::alloc::{AllocError, Global};
 use std::marker::Model;
-use wait_cycles::CycleSearch;
+use waits_for::CycleSearch;
 
 /// A session on the cycle of a deadlock.
 #[derive(Clone, Copy, Debug, PartialEq, Eq, Hash)]
@@ -244,56 +242,6 @@ impl DeadlockLog {
         self.counts = self.counts.with_restart(waits);
     }
 
-    /// At least how many victims the call of `session` makes in the rounds that are left, `rounds` of them, if `known` are known to come.
-    ///
-    /// Looks ahead once, when as many were `made` as are kept: of more, the first needn't be kept.
-    pub(crate) fn coming(
-        &mut self,
-        waits: &Waits,
-        session: u16,
-        made: usize,
-        rounds: usize,
-        known: usize,
-    ) -> usize
-        requires some { 1 ≤ session }
-        requires within { session ≤ waits.now.rows.sessions }
-        requires ready { IsSizedFor waits.now.rows.sessions waits.now }
-        requires log { IsLogFor waits.now.rows.sessions self.old }
-        ensures same { self.new ≡ self.old }
-        ensures known { known ≤ result }
-        ensures chosen { (result ≡ known) ⊎ ((vs : List ℕ) × AreChosen (pairs_of waits.now.rows) waits.now.numbers.items (session - 1) vs
-            × (length vs ≡ result) × (result ≤ rounds)) }
-    {
-        if known > 0 || made == 0 || made != self.slots.len() {
-            return known;
-        }
-        count_victims(waits, &mut self.copy, session, rounds)
-    }
-
-    /// Notes the deadlock of `session`, whose call has the place `place`, before `victim` is doomed: counts it, and keeps it in the place
-    /// of the oldest one if there are more than are kept. `victim` must be on a cycle. If with it more are `coming` than are kept, it isn't
-    /// kept, since those behind it take its place.
-    pub(crate) fn note(
-        &mut self,
-        table: &LockTable,
-        place: u64,
-        session: u16,
-        victim: u16,
-        coming: usize,
-    )
-        requires may_serve { MayServe victim table.now }
-        requires log { IsLogFor (vec_len table.now.lockers) self.old }
-        requires cycle { Reaches (pairs_of table.now.waits.rows) (victim - 1) (victim - 1) }
-        ensures log { IsLogFor (vec_len table.now.lockers) self.new }
-        ensures noted { (st : State) → IsSound st.table → Shows table.now st → victim_of st session ≡ victim
-            → HasNotedAhead (coming - 1) (moments_at place session (st ∷ [])) self.old self.new }
-    {
-        self.count_victim(place);
-        if coming <= self.most() {
-            self.keep(table, place, session, victim);
-        }
-    }
-
     /// Keeps the deadlock of `session`, whose call has the place `place`, before `victim` is doomed, and lets go of the oldest one if
     /// there are more than are kept. `victim` must be on a cycle.
     #[inline(never)]
@@ -317,25 +265,44 @@ impl DeadlockLog {
     }
 }
 
+impl DeadlockNotes for DeadlockLog {
+    ghost use Rattle.lock_desk.specs.inner.Noting.{IsLogFor, HasNoted};
+    ghost use Rattle.lock_desk.specs.inner.NotedNothing.{noted-none};
+
+    ghost fits = { IsLogFor };
+
+    ghost noted = { HasNoted };
+
+    /// Looks ahead once, when as many were `made` as are kept: of more, the first needn't be kept.
+    fn coming(
+        &mut self,
+        table: &LockTable,
+        session: u16,
+        made: usize,
+        rounds: usize,
+        known: usize,
+    ) -> usize {
+        if known > 0 || made == 0 || made != self.slots.len() {
+            return known;
+        }
+        table.count_victims(&mut self.copy, session, rounds)
+    }
+
+    /// Counts the deadlock, and keeps it in the place of the oldest one if there are more than are kept. If with it more are `coming` than
+    /// are kept, it isn't kept, since those behind it take its place.
+    fn note(&mut self, table: &LockTable, place: u64, session: u16, victim: u16, coming: usize) {
+        self.count_victim(place);
+        if coming <= self.most() {
+            self.keep(table, place, session, victim);
+        }
+    }
+
+    ghost none = { noted-none };
+}
+
 /// The newest `most` of these deadlocks.
 pub(crate) fn newest_of(deadlocks: &[Deadlock], most: usize) -> &[Deadlock]
     ensures { result.now ≡ newest most deadlocks.now }
 {
     &deadlocks[deadlocks.len().saturating_sub(most)..]
-}
-
-/// Copies of these deadlocks. Fails if memory is refused.
-pub(crate) fn copies_of(alloc: Global, deadlocks: &[Deadlock]) -> Result<Vec<Deadlock>, AllocError>
-    ensures { IfOk result (λ list. AreAlike deadlocks.now list.items) }
-{
-    let mut list = Vec::new(alloc);
-    for deadlock in deadlocks {
-        let cycle = Vec::from_slice(alloc, &deadlock.cycle)?;
-        list.push(Deadlock {
-            place: deadlock.place,
-            session: deadlock.session,
-            cycle,
-        })?;
-    }
-    Ok(list)
 }

@@ -5,16 +5,17 @@ ghost use Rattle.lock_rules.specs.Step.{step};
 ghost use Rattle.lock_rules.specs.Ended.{has_ended};
 ghost use Rattle.lock_rules.specs.Legal.{state_of};
 ghost use Rattle.lock_desk.specs.Deadlocks.{AreDeadlocksTold, deadlocks_in, newest};
-ghost use Rattle.session_sets.specs.Ended.{is_ended};
+ghost use Rattle.lock_holders.specs.Ended.{is_ended};
 ghost use Rattle.lock_desk.specs.inner.Counting.{AreCallsCounted, AreWaitsCounted};
 ghost use Rattle.lock_desk.specs.inner.Noting.{IsLogFor};
 ghost use Rattle.lock_desk.specs.inner.Served.{AreKept};
 
-use crate::lock_table::LockTable;
 use crate::notes::Notes;
+use crate::serving::serve_call;
 use lock_rules::{Call, Entry, Reply};
+use lock_table::LockTable;
+use sequential::TrimmedList;
 use std::alloc::AllocError;
-use trimmed_list::TrimmedList;
 
 /// Serves one call of `session`, adds the call with its reply to the history, and lists the other sessions whose wait it has
 /// ended, notes the deadlocks that it made, and counts it. If memory is refused, history, list, log and counters are unchanged, and
@@ -56,7 +57,7 @@ pub(crate) fn serve_recorded(
     history.reserve(1)?;
     let asked = call;
     let served = history.count();
-    let reply = table.serve(session, call, served, notes)?;
+    let reply = serve_call(table, session, call, served, notes)?;
     history.push_reserved(Entry {
         session,
         call: asked,

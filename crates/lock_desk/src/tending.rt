@@ -29,17 +29,3 @@ impl Tends<Book> for Shrink {
         Ok(())
     }
 }
-
-/// Counts the cells that serve no resource, as [`Book::idle_cells`] does.
-#[derive(Clone, Copy, Debug)]
-pub struct CountIdle {
-    /// How many there were.
-    pub cells: usize,
-}
-
-impl Tends<Book> for CountIdle {
-    fn tend(&mut self, book: &mut Book) -> Result<(), NoMemory> {
-        self.cells = book.idle_cells();
-        Ok(())
-    }
-}

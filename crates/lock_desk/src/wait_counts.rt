@@ -1,7 +1,7 @@
 //! Counters of how waits end: of victims, and of the waits that their own sessions give up.
 
 ghost use Rattle.std.specs.Prelude.{◌≡◌, ◌||◌, ◌==◌};
-ghost use Rattle.lock_desk.specs.inner.Counting.{up_if, with_victim, with_abort, with_restart};
+ghost use Rattle.lock_desk.specs.inner.WaitCounts.{up_if, with_victim, with_abort, with_restart};
 
 /// Counters of victims and of the waits that ended with an abort or a restart of their own session.
 ///

@@ -17,3 +17,4 @@ pub mod FallingVictims
 pub mod ChosenVictims
 pub mod VictimsTold
 pub mod WaitsTold
+pub mod WaitTexts

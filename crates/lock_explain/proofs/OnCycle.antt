@@ -12,7 +12,7 @@ use Rattle.waits_for.proofs.Walks.{reaches-trans}
 use Rattle.lock_rules.specs.State.{State}
 use Rattle.lock_rules.specs.Waits.{waits_for, reaches}
 use Rattle.lock_rules.proofs.Settle.{reached-walk, reaches-walk}
-use Rattle.lock_desk.proofs.VictimRounds.{up, down}
+use Rattle.lock_table.proofs.VictimRounds.{up, down}
 use Rattle.lock_explain.specs.declared.explanation.Party.{Party}
 use Rattle.lock_explain.specs.Waiting.{party_of}
 use Rattle.lock_explain.specs.Cycles.{is_on_cycle, party_on_cycle, cycle_of, edge_of, edges_of}

@@ -17,7 +17,7 @@ use Rattle.lock_rules.proofs.Begins.{new, queue-fresh, queue-converted, queue-be
 use Rattle.lock_rules.proofs.Sound.{eqb-swap}
 use Rattle.lock_rules.proofs.Waiting.{request_of-filter}
 use Rattle.lock_rules.proofs.Listings.{request-in}
-use Rattle.lock_desk.proofs.WaitsOfTheState.{request-queued}
+use Rattle.lock_table.proofs.WaitsOfTheState.{request-queued}
 use Rattle.lock_explain.specs.Waiting.{held_in_conflict, request_ahead}
 use Rattle.lock_explain.specs.inner.Graph.{is_fresh, is_fresh_on, waits_behind}
 
@@ -132,10 +132,6 @@ module _ (s : ℕ) (r : List ℕ) (m : Mode) (t : Table) (idle : request_of s t.
           go : (b : Bool) → stands_before u s (queue after r) ≡ b → b ≡ is_some (cond b (option_map (λ (p : Claim). p.mode) (request_of u after.requests)) None)
           go true e = told (request_of u after.requests) (stands-some after r u s e)
           go false e = refl
-
-  -- the request waits for nobody of its own session
-  pub asker-self : (u : ℕ) → eqb u s ≡ true → waits_for after s u ≡ false
-  asker-self u e = ap (λ (b : Bool). not b && keeps_waiting after u (request_of s after.requests)) e
 
   -- another session without a request has none after
   pub idle-other : (i u : ℕ) → eqb i s ≡ false → request_of i t.requests ≡ None → waits_for after i u ≡ false

@@ -4,5 +4,9 @@ pub mod Refused
 pub mod Cycles
 pub mod Endings
 pub mod Explanations
+pub mod ExplanationText
+pub mod ExplanationRows
+pub mod ExplanationDot
+pub mod DeadlockText
 -- What only private contracts speak of.
 pub mod inner

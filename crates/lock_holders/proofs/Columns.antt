@@ -1,5 +1,5 @@
 -- Holders as two columns: what is read there, what is inserted and removed in both, and what a mask says of the codes.
-use Rattle.std.proofs.Common.{◌≡◌, ℕ, zero, suc, Some, None, position, ◌+◌, ◌<◌, ◌≤◌, Bool, true, false, not, eqb, ◌&&◌, ◌||◌, inl, inr, List, [], ◌∷◌, ◌++◌, length, get_or, take, drop, insert, remove, set, map, refl, sym, ◌∙◌, ap, subst, arith, bit_and, bit_or}
+use Rattle.std.proofs.Common.{◌≡◌, ℕ, zero, suc, Some, None, position, ◌+◌, ◌<◌, ◌≤◌, Bool, true, false, not, eqb, ◌&&◌, ◌||◌, inl, inr, List, [], ◌∷◌, ◌++◌, length, get_or, take, drop, insert, remove, set, map, refl, sym, ◌∙◌, ap, subst, arith, bit_and}
 use Rattle.std.specs.List.{list_any, position_or_len}
 use Rattle.std.proofs.lemmas.Bool.{cases_order, cases_Bool}
 use Rattle.std.proofs.lemmas.Nat.{and_comm}
@@ -11,7 +11,7 @@ use Rattle.std.proofs.lemmas.List.Folds.{list_any_at}
 use Rattle.std.proofs.lemmas.List.Quantifiers.{position-Some}
 use Rattle.std.proofs.lemmas.List.{get_or_default, take_more, length-map, get_or-map, map-append, map-set, take-map, drop-map}
 use Rattle.std.proofs.Math.Seq.{map-set_same}
-use Rattle.mode_lanes.specs.Masks.{meets, union_of}
+use Rattle.mode_lanes.specs.Masks.{meets}
 use Rattle.waits_for.specs.Pairs.{is_met}
 use Rattle.lock_modes.specs.declared.Mode.{Mode}
 use Rattle.lock_modes.specs.declared.Mode.TheVariants.{NL}
@@ -20,7 +20,7 @@ use Rattle.lock_modes.specs.Compatibility.{are_compatible}
 use Rattle.lock_modes.proofs.Codes.{mode_of_code-code, mask-same}
 use Rattle.lock_holders.specs.declared.session_mode.SessionMode.{SessionMode}
 use Rattle.lock_holders.specs.declared.holder_columns.Columns.TheInside.{Inside}
-use Rattle.lock_holders.specs.SessionModes.{Ascends, with_holder, without, go_with, holder_blocks, AreOfSessions, codes_among}
+use Rattle.lock_holders.specs.SessionModes.{Ascends, with_holder, without, go_with, holder_blocks, AreOfSessions}
 use Rattle.lock_holders.specs.inner.Columns.{number_at, code_at, side_by_side, holders_of, AreColumns, DoRise, AreBelow, AreNotBelow}
 use Rattle.lock_holders.specs.Holders.{HolderList, AreLesser, IsOwn, IsBetween}
 use Rattle.lock_holders.proofs.Rising.{rising-at, ascends-with, ascends-without, with-own, with-between, left-own}
@@ -313,8 +313,3 @@ numbered-of n ss hs e all k lt =
     let at = reads number_at ss hs e k 0 nobody within in
     let p = All-get_or (λ (h : SessionMode). (1 ≤ h.session) × (h.session ≤ n)) hs k nobody within all in
     (omega (arith, p.0, at), omega (arith, p.1, at))
-
--- the bitwise or of a column of codes is that of the modes of the holders
-pub codes-column : (hs : List SessionMode) → union_of (map code_at hs) ≡ codes_among hs
-codes-column [] = refl
-codes-column (h ∷ hs) = ap (bit_or (code_of h.mode)) (codes-column hs)

@@ -4,3 +4,7 @@ pub mod SessionModes
 pub mod Rising
 -- holders as two columns
 pub mod Columns
+-- the list of ended waits: places, and which sessions are listed
+pub mod EndedList
+-- the numbers of a range that pass a test
+pub mod FilteredNumbers

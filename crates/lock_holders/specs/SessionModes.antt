@@ -1,9 +1,8 @@
 -- Lists of sessions, each with a mode: the holders or the queue of one resource.
-use Rattle.std.specs.Prelude.{◌≡◌, ℕ, ◌+◌, ◌≤◌, Bool, true, false, not, ◌&&◌, ◌||◌, if◌then◌else◌, ◌==◌, nat_lt, List, [], ◌∷◌, filter, map, Option, Some, None, bit_or}
+use Rattle.std.specs.Prelude.{◌≡◌, ℕ, ◌+◌, ◌≤◌, Bool, true, false, not, ◌&&◌, ◌||◌, if◌then◌else◌, ◌==◌, nat_lt, List, [], ◌∷◌, filter, map, Option, Some, None}
 use Rattle.std.specs.List.{list_any, list_all, All}
 use Rattle.lock_modes.specs.declared.Mode.{Mode}
 use Rattle.lock_modes.specs.Compatibility.{are_compatible}
-use Rattle.lock_modes.specs.Codes.{code_of}
 use Rattle.lock_rules.specs.Sound.{ascend}
 use Rattle.lock_holders.specs.declared.session_mode.SessionMode.{SessionMode}
 
@@ -49,11 +48,6 @@ fits_among c hs = list_all (λ h. (h.session == c.session) || are_compatible c.m
 -- mode `m` is compatible with the modes of all these holders
 abbrev pub go_with : Mode → List SessionMode → Bool
 go_with m hs = list_all (λ h. are_compatible m h.mode) hs
-
--- the bitwise or of the mode codes of these holders
-abbrev pub codes_among : List SessionMode → ℕ
-codes_among [] = 0
-codes_among (h ∷ hs) = bit_or (code_of h.mode) (codes_among hs)
 
 -- the session numbers are strictly increasing
 abbrev pub Ascends : List SessionMode → Type 0

@@ -1,3 +1,4 @@
 -- what only private contracts cite
 pub mod Columns
 pub mod SingleHolder
+pub mod Places

@@ -6,16 +6,16 @@ ghost use Rattle.smallvec.specs.SmallVec.{small_vec_len, HasRoomFor};
 ghost use Rattle.std.specs.List.{list_any};
 ghost use Rattle.mode_lanes.specs.Masks.{meets};
 ghost use Rattle.waits_for.specs.Pairs.{pairs_of};
-ghost use Rattle.lock_holders.specs.SessionModes.{has_session, mode_of, pair_of, with_holder, without, codes_among, fits_among, holder_blocks, AreOfSessions};
+ghost use Rattle.lock_holders.specs.SessionModes.{has_session, mode_of, pair_of, with_holder, without, fits_among, holder_blocks, AreOfSessions};
 ghost use Rattle.lock_holders.specs.inner.Columns.{side_by_side};
 ghost use Rattle.lock_holders.specs.Holders.{IsPlaceOf};
 ghost use Rattle.lock_holders.specs.declared.session_mode.SessionMode.{SessionMode as SessionModeValue};
 
+use crate::positions::position_of;
 use crate::session_mode::SessionMode;
 use crate::session_rank::rank;
 use lock_modes::Mode;
-use mode_lanes::{any_meets, first_meets, union};
-use session_sets::position_of;
+use mode_lanes::{any_meets, first_meets};
 use smallvec::SmallVec;
 use std::alloc::{AllocError, Global};
 use std::default::MadeWith;
@@ -225,13 +225,6 @@ impl Columns {
         let _inline = (self.sessions.capacity(), self.codes.capacity());
         let _long = self.codes.len();
         SHORT.saturating_sub(self.sessions.len())
-    }
-
-    /// The bitwise or of the mode codes of the holders.
-    pub(crate) fn codes(&self) -> u8
-        ensures { result ≡ codes_among self.now.items }
-    {
-        union(self.codes.as_slice())
     }
 
     /// The place of `session` among the holders.

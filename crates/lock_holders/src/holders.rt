@@ -2,13 +2,13 @@
 
 ghost use Rattle.std.specs.Prelude.{◌≡◌, ℕ, ◌+◌, ◌<◌, ◌≤◌, ◌&&◌, ◌||◌, ◌==◌, true, false, [], ◌∷◌, ◌++◌, length, take, map, OnOk, OnErr};
 ghost use Rattle.waits_for.specs.Pairs.{pairs_of};
-ghost use Rattle.lock_holders.specs.SessionModes.{has_session, mode_of, pair_of, with_holder, without, codes_among, fits_among, holder_blocks, AreOfSessions};
+ghost use Rattle.lock_holders.specs.SessionModes.{has_session, mode_of, pair_of, with_holder, without, fits_among, holder_blocks, AreOfSessions};
 ghost use Rattle.lock_holders.specs.Holders.{IsPlaceOf};
 
 use crate::holder_columns::{Columns, HolderPlace};
+use crate::positions::position_of;
 use crate::session_mode::SessionMode;
 use lock_modes::Mode;
-use session_sets::position_of;
 use std::alloc::{AllocError, Global};
 use std::marker::Model;
 use waits_for::Rows;
@@ -108,16 +108,6 @@ impl Holders {
             return Err(AllocError);
         };
         self.columns.reserve(all)
-    }
-
-    /// The bitwise or of the mode codes of the holders.
-    pub fn codes(&self) -> u8
-        ensures { result ≡ codes_among self.now.items }
-    {
-        match self.single {
-            Some(holder) => holder.mode.code(),
-            None => self.columns.codes(),
-        }
     }
 
     /// The place of `session` among the holders.

@@ -26,14 +26,14 @@ use Rattle.lock_rules.proofs.Taken.{claims-taken, none}
 use Rattle.sequential.specs.Histories.{IsEntryWithin}
 use Rattle.session_locks.specs.Resources.{has_path}
 use Rattle.lock_holders.specs.SessionModes.{has_session, times, without}
-use Rattle.lock_desk.specs.declared.cells.GivenUp.TheVariants as claim
-use Rattle.lock_desk.specs.inner.Cells.{View, view_after_grants, view_after_freeing}
-use Rattle.lock_desk.specs.inner.Changes.{view_after_unlock}
-use Rattle.lock_desk.specs.inner.Shows.{short, claims_on, view}
-use Rattle.lock_desk.proofs.AfterStep.{ended-seen}
-use Rattle.lock_desk.proofs.LockCounts.{queue-has, waits_on-once}
+use Rattle.lock_table.specs.declared.cells.GivenUp.TheVariants as claim
+use Rattle.lock_table.specs.inner.Cells.{View, view_after_grants, view_after_freeing}
+use Rattle.lock_table.specs.Changes.{view_after_unlock}
+use Rattle.lock_table.specs.Shows.{short, claims_on, view}
+use Rattle.lock_table.proofs.AfterStep.{ended-seen}
+use Rattle.lock_table.proofs.LockCounts.{queue-has, waits_on-once}
 use Rattle.lock_explain.proofs.SessionsOfAHistory.{all-inside}
-use Rattle.dump_report.specs.Jam.{granted_by_abort, granted_on, jammed_behind}
+use Rattle.lock_report.specs.Jam.{granted_by_abort, granted_on, jammed_behind}
 use Rattle.lock_laws.specs.Listing.{AreSameSessions}
 use Rattle.lock_laws.proofs.JamLines.{granted-by-lines, lines-on}
 use Rattle.lock_laws.proofs.LinesGranted.{count, grants, grants-count, lines-granted}

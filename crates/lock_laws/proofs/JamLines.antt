@@ -18,8 +18,8 @@ use Rattle.lock_rules.proofs.Lists.{same_path-refl, same_path-true, same_path_te
 use Rattle.lock_rules.proofs.ResourceOrder.{contrary, is_among, not-behind, precedes, rise}
 use Rattle.lock_report.specs.Claims.{is_last}
 use Rattle.lock_report.specs.LocksDot.{claims_on, has_request}
-use Rattle.dump_report.specs.Blockers.{is_request}
-use Rattle.dump_report.specs.Jam.{claims_but, granted_by_abort, granted_of, granted_on, is_holder, jammed_at, jammed_behind, locks_among}
+use Rattle.lock_report.specs.Blockers.{is_request}
+use Rattle.lock_report.specs.Jam.{claims_but, granted_by_abort, granted_of, granted_on, is_holder, jammed_at, jammed_behind, locks_among}
 
 -- the claims are all on the resource
 abbrev are_on : List ℕ → List ListedClaim → Bool

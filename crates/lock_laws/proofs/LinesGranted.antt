@@ -20,12 +20,12 @@ use Rattle.lock_holders.specs.declared.session_mode.SessionMode.{SessionMode}
 use Rattle.lock_holders.specs.SessionModes.{Ascends, fits_among, has_session, pair_of, times, with_holder, without}
 use Rattle.lock_holders.proofs.SessionModes.{has_tells}
 use Rattle.lock_holders.proofs.Rising.{ascends-with, ascends-without}
-use Rattle.lock_desk.specs.inner.Cells.{view_after_grants}
-use Rattle.lock_desk.specs.inner.Shows.{claims_on, short}
-use Rattle.lock_desk.proofs.AfterStep.{ascends-seen}
-use Rattle.lock_desk.proofs.TableViews.{pairs-seen}
-use Rattle.dump_report.specs.Blockers.{is_request, requests_among}
-use Rattle.dump_report.specs.Jam.{claims_but, fits_beside, granted_of, granted_on, is_holder, locks_among}
+use Rattle.lock_table.specs.inner.Cells.{view_after_grants}
+use Rattle.lock_table.specs.Shows.{claims_on, short}
+use Rattle.lock_table.proofs.AfterStep.{ascends-seen}
+use Rattle.lock_table.proofs.TableViews.{pairs-seen}
+use Rattle.lock_report.specs.Blockers.{is_request, requests_among}
+use Rattle.lock_report.specs.Jam.{claims_but, fits_beside, granted_of, granted_on, is_holder, locks_among}
 
 -- the sessions granted, request by request
 

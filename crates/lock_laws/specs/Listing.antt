@@ -8,7 +8,7 @@ use Rattle.lock_rules.specs.Legal.{state_of}
 use Rattle.lock_rules.specs.Listing.{listing_of}
 use Rattle.lock_rules.specs.Ended.{ended_waits}
 use Rattle.sequential.specs.Histories.{IsEntryWithin}
-use Rattle.dump_report.specs.Jam.{granted_by_abort, jammed_behind}
+use Rattle.lock_report.specs.Jam.{granted_by_abort, jammed_behind}
 
 -- each session is as often in the one list as in the other
 abbrev pub AreSameSessions : List ℕ → List ℕ → Type 0

@@ -1,21 +1,10 @@
-//! Further laws of the rules, on which no other crate stands. The rules are those of `lock_rules`.
+//! Further laws of the rules, on which no other crate stands. The rules are those of `lock_rules`; of `lock_report` the laws of listings
+//! know how it finds what an abort would grant. There is no code.
 //!
-//! `ends.rt`: how waits end if sessions do no more than end their transactions. Whoever waits, waits in the end for a holder
-//! that doesn't wait, waits end in whatever order transactions end, and a deadlock victim is chosen only if they would not. In
-//! `specs/`, `Chains.antt` has the walks from waiting sessions to holders, `Ends.antt` the orders in which transactions end.
+//! The laws say how waits end, who becomes a victim, what a try does beside a lock, which of two holders was granted its mode later, how
+//! retried transactions grow old, and what a listing tells of an abort.
 //!
-//! `cycles.rt`: whoever a call dooms is on a cycle that its request closed, and on each of these cycles somebody is doomed
-//! (`Cycles.antt`).
-//!
-//! `tries.rt`: a Try does what a Lock does, as long as that Lock wouldn't wait (`Tries.antt`).
-//!
-//! `grants.rt`: of two holders' modes, the one granted later is compatible with the one granted earlier (`Grants.antt`).
-//!
-//! `retries.rt`: a transaction that is retried by restarts alone grows old, and the oldest is nobody's victim (`Retries.antt`).
-//!
-//! `listing_laws.rt`: an abort grants as many requests as the listing of the state says (`Listing.antt`).
-//!
-//! `Examples.antt` has histories worked by hand. There is no code.
+//! Begin with `ends.rt` and `specs/Ends.antt`; `specs/Examples.antt` has histories worked by hand. README.md has the other files.
 #![tactic(auto)]
 
 pub mod cycles;

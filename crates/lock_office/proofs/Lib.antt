@@ -3,6 +3,7 @@ pub mod Dumped
 pub mod Flats
 pub mod Held
 pub mod InTime
+pub mod Looks
 pub mod Places
 pub mod Together
 pub mod OneReplies

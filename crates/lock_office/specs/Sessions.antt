@@ -8,10 +8,11 @@ use Rattle.lock_desk.specs.Batches.{makes_room}
 use Rattle.programs.specs.Form.{first_goes_first}
 use Rattle.combining.specs.Sessions as any
 pub use Rattle.combining.specs.Sessions.{IsSessionOf, IsIdle, HasNothingPending, IsPendingServed}
-use Rattle.combining.specs.Looks.{HasLooked as HasLookedAt}
+use Rattle.combining.specs.Looks as looks
+use Rattle.publication.specs.Views.{BoardView}
 use Rattle.combining.specs.declared.office.Answer.{Answer as AnswerOf}
 use Rattle.combining.specs.declared.office.perform.Performed.{Performed as PerformedOf}
-use Rattle.lock_office.specs.ProgramBoards.{TicketView, program_object, flat_history}
+use Rattle.lock_office.specs.ProgramBoards.{Load, TicketView, program_object, flat_history}
 
 abbrev pub Answer : Type 0
 Answer = AnswerOf ProgramAnswer
@@ -36,5 +37,11 @@ IsRefused = any.IsRefused program_object
 abbrev pub HasTakenPiece : TicketView → TicketView → ℕ → List Entry → Type 0
 HasTakenPiece = any.HasTakenPiece program_object flat_history
 
+abbrev pub IsLooking : BoardView → TicketView → Load → Type 0
+IsLooking = looks.IsLooking program_object
+
+abbrev pub HasBegunToLook : TicketView → TicketView → Type 0
+HasBegunToLook = looks.HasBegunToLook program_object
+
 abbrev pub HasLooked : TicketView → TicketView → Type 0
-HasLooked = HasLookedAt program_object
+HasLooked = looks.HasLooked program_object

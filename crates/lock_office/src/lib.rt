@@ -1,27 +1,19 @@
-//! The lock office: threads share a lock table by flat combining, and each call that a session publishes is a program, which is one call of
-//! the lock table or several. It is the office of `combining`, with programs of a book of `lock_desk` as its object.
+//! The lock office: threads share a lock table by flat combining. It is the office of `combining` with programs of a book of `lock_desk` as
+//! its object: what a session publishes is a program, one call of the lock table or several (a commit, an abort or neither, a begin or not,
+//! the calls of a path), served one after another up to the first that isn't granted or done. Begin with `session.rt`.
 //!
-//! A session makes single calls and programs (`session.rt`). A program is a commit or abort or neither, a begin or not, and the calls
-//! of a path; its calls are served one after another, up to the first that isn't granted or done. Its answer has the place of the first
-//! call in the history of calls, and all replies follow from it.
+//! - `opening.rt` opens an office that lets go of its history, `single.rt` reads the answer to a program of one call, `dump.rt` copies the
+//!   lock table. A session looks at the lock table, and asks there what a book is asked.
+//! - `laws.rt` says what holds of locks, `told_laws.rt` what answers to calls tell.
 //!
-//! `opening.rt` opens an office that lets go of its history, `single.rt` reads the answer to a program of one call. `queries.rt`,
-//! `pages.rt`, `counts.rt`, `dump.rt` and `memory.rt` look at the lock table of an open office, of any object with a book (`has_book.rt`).
-//! `laws.rt` says what holds of locks, `told_laws.rt` what answers to calls tell.
-//!
-//! Proved, beside what `combining` proves of any object and `programs` of programs: in the history of calls, in which the calls of each
-//! program stand side by side, each reply is the one that the sequential lock manager gives at its place, no two transactions ever have
-//! incompatible access to a resource, no waits form a circle, and no wake-up is lost ([`laws`]).
+//! Proved, beside what `combining` proves of any object and `programs` of programs: in the history of calls each reply is the one that the
+//! sequential lock manager gives at its place, no two transactions ever have incompatible access to a resource, no waits form a circle, and
+//! no wake-up is lost ([`laws`]).
 #![tactic(auto)]
 
-pub mod counts;
 pub mod dump;
-mod has_book;
 pub mod laws;
-pub mod memory;
 mod opening;
-pub mod pages;
-pub mod queries;
 mod session;
 mod single;
 pub mod told_laws;
@@ -31,7 +23,6 @@ pub use combining::{
     call, look, resume, turn,
 };
 pub use dump::dump_book;
-pub use has_book::HasBook;
 use lock_desk::{Book, Entry, Reply};
 pub use lock_programs::{Answer as ProgramAnswer, CALLS, Last, Program, Start, Stop};
 pub use opening::{open_keeping, open_telling};

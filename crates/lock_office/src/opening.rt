@@ -84,7 +84,7 @@ pub fn open_keeping(
     }
 }
 
-/// Opens an office as `open_keeping` does, whose lock table keeps the newest `deadlocks` deadlocks, which `queries::deadlocks` tells.
+/// Opens an office as `open_keeping` does, whose lock table keeps the newest `deadlocks` deadlocks, which `Book::newest_deadlocks` tells.
 pub fn open_telling(
     alloc: Global,
     sessions: u16,

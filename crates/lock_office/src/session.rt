@@ -1,8 +1,8 @@
 //! A session that makes single calls and programs at the office: each single call is a program of one call.
 //!
-//! Its single calls are those of `combining`, in its files `performing.rt`, `turning.rt`, `calling.rt` and `looking.rt`, and are answered with
-//! the place of the call in the history of calls, and the reply. `running.rt` makes a whole program, turn by turn. `dumping.rt` copies the lock table, `counters.rt` tells its counters, its gauges and the office's
-//! passes. `sleeping.rt` is for callers whose threads park by themselves.
+//! Its single calls are those of `combining`, in its files `performing.rt`, `turning.rt` and `calling.rt`, and are answered with the place of
+//! the call in the history of calls, and the reply. `running.rt` makes a whole program, turn by turn. `looking.rt` hands out the lock table for
+//! questions. `sleeping.rt` is for callers whose threads park by themselves.
 //!
 //! What is pending may be a program of several calls. A call that takes its answer as that of a single call tells the last reply and its place.
 
@@ -24,12 +24,9 @@ ghost use Rattle.lock_office.specs.Sessions.{IsSessionOf, IsIdle, IsPendingServe
 ghost use Rattle.lock_office.specs.SingleCalls.{MakesOneCall, IsCollected};
 
 mod calling;
-mod counters;
 mod counting;
-mod dumping;
 mod knowing;
 mod looking;
-mod paging;
 mod performing;
 mod running;
 mod sleeping;

@@ -3,6 +3,8 @@ use Rattle.std.proofs.Common.{◌≡◌, ℕ, zero, suc, ◌+◌, ◌-◌, ◌�
 use Rattle.lock_modes.specs.declared.Mode.{Mode}
 use Rattle.lock_rules.specs.declared.calls.Call.{Call}
 use Rattle.lock_rules.specs.declared.calls.Call.TheVariants.{Begin, Lock, Convert, Poll, Release, Commit, Abort, Try, Withdraw, Restart}
+use Rattle.lock_rules.specs.declared.calls.Reply.TheVariants.{Granted}
+use Rattle.lock_programs.specs.Answers.{done_with}
 use Rattle.lock_programs.specs.declared.program.Start.{Start}
 use Rattle.lock_programs.specs.declared.program.Start.TheVariants.{Nothing, Begins, Commits, Aborts, CommitsAndBegins, AbortsAndBegins, Restarts}
 use Rattle.lock_programs.specs.declared.program.Last.{Last}
@@ -11,7 +13,7 @@ use Rattle.lock_programs.specs.declared.path.StartedPath.{StartedPath}
 use Rattle.lock_programs.specs.declared.program.Calls.{Calls}
 use Rattle.lock_programs.specs.declared.program.Calls.TheVariants.{One, Path}
 use Rattle.lock_programs.specs.declared.program.Program.{Program}
-use Rattle.lock_programs.specs.Starts.{start_calls, last_call, call_before, path_calls}
+use Rattle.lock_programs.specs.Starts.{start_calls, last_call, ancestor_call, call_before, path_calls}
 use Rattle.lock_programs.specs.Calls.{path_of, calls_started, calls_in, calls_of}
 
 -- as many calls on a path as were counted
@@ -78,9 +80,26 @@ last-no_turn Releases r = refl
 last-no_turn Polls r = refl
 last-no_turn Withdraws r = refl
 
+ancestor-no_turn : (above : Mode) (l : Last) (r : List ℕ) → is_turn (ancestor_call above l r) ≡ false
+ancestor-no_turn above (Locks m) r = refl
+ancestor-no_turn above (Converts m) r = refl
+ancestor-no_turn above (Tries m) r = refl
+ancestor-no_turn above Releases r = refl
+ancestor-no_turn above Polls r = refl
+ancestor-no_turn above Withdraws r = refl
+
+-- the reply to it, if it was granted
+pub ancestor-done : (above : Mode) (l : Last) (r : List ℕ) (began ended : ℕ) (mode : Mode) → Granted mode ≡ done_with began ended mode (ancestor_call above l r)
+ancestor-done above (Locks m) r began ended mode = refl
+ancestor-done above (Converts m) r began ended mode = refl
+ancestor-done above (Tries m) r began ended mode = refl
+ancestor-done above Releases r began ended mode = refl
+ancestor-done above Polls r began ended mode = refl
+ancestor-done above Withdraws r began ended mode = refl
+
 call-no_turn : (above : Mode) (last : Last) (n : ℕ) (r : List ℕ) → is_turn (call_before above last n r) ≡ false
 call-no_turn above last zero r = last-no_turn last r
-call-no_turn above last (suc n) r = refl
+call-no_turn above last (suc n) r = ancestor-no_turn above last r
 
 -- none of them is on a path
 path-no_turn : (r : List ℕ) (above : Mode) (last : Last) (from n i : ℕ) (c : Call) → slice_get (path_calls r above last from n) i ≡ Some c → is_turn c ≡ false

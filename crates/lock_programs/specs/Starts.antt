@@ -27,10 +27,15 @@ last_call Releases r = Release r
 last_call Polls r = Poll
 last_call Withdraws r = Withdraw
 
+-- the call on an ancestor: a path that ends with a try tries the ancestors, too, so that none of its requests waits
+abbrev pub ancestor_call : Mode → Last → List ℕ → Call
+ancestor_call above (Tries m) r = Try r above
+ancestor_call above _ r = Lock r above
+
 -- the call on a resource of a path with so many calls behind it: an ancestor is locked in the mode above
 abbrev pub call_before : Mode → Last → ℕ → List ℕ → Call
 call_before above last zero r = last_call last r
-call_before above last (suc n) r = Lock r above
+call_before above last (suc n) r = ancestor_call above last r
 
 -- so many calls on the path to resource r, from this level on downwards: the resource of level k is the first k numbers of r
 abbrev pub path_calls : List ℕ → Mode → Last → ℕ → ℕ → List Call

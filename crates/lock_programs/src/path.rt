@@ -83,7 +83,7 @@ impl StartedPath {
         if level == self.resource.level() as usize {
             return self.last.call(&self.resource);
         }
-        Call::Lock(self.resource.at_level(level), self.above)
+        self.last.above(self.resource.at_level(level), self.above)
     }
 
     /// The reply to the call at index `at`, from 0 on, if it was granted or done, as `done_with` has it.

@@ -86,7 +86,7 @@ pub enum Last {
 
 impl Last {
     ghost use Rattle.std.specs.Prelude.{ℕ, List};
-    ghost use Rattle.lock_programs.specs.Starts.{last_call};
+    ghost use Rattle.lock_programs.specs.Starts.{last_call, ancestor_call};
     ghost use Rattle.lock_programs.specs.Answers.{done_with};
 
     /// The call, on this resource.
@@ -101,6 +101,17 @@ impl Last {
             Last::Releases => Call::Release(*resource),
             Last::Polls => Call::Poll,
             Last::Withdraws => Call::Withdraw,
+        }
+    }
+
+    /// The call that locks an ancestor on the way to it: a try, if it is one.
+    #[inline(always)]
+    pub(crate) fn above(self, ancestor: Resource, mode: Mode) -> Call
+        ensures { result ≡ ancestor_call mode self ancestor }
+    {
+        match self {
+            Last::Tries(_) => Call::Try(ancestor, mode),
+            _ => Call::Lock(ancestor, mode),
         }
     }
 
@@ -128,7 +139,7 @@ enum Calls {
 }
 
 /// Several calls of a session, in order: one call of any kind; or what `Start` says, then a lock on each ancestor of a resource from a
-/// level on, in one mode, then a call on the resource.
+/// level on, in one mode, then a call on the resource. A path that ends with a try tries the ancestors, too: none of its requests waits.
 pub struct Program {
     /// The calls.
     calls: Calls,
@@ -150,8 +161,8 @@ impl Program {
     ghost use Rattle.lock_programs.specs.Starts.{start_calls, last_call, path_calls};
     ghost use Rattle.lock_programs.specs.Calls.{calls_of};
 
-    /// A program that begins with `start`, locks the ancestors of `resource` from the level `from` on in the mode `above`, and
-    /// makes the call `last` on the resource. Levels are counted from 1, that of a database.
+    /// A program that begins with `start`, locks the ancestors of `resource` from the level `from` on in the mode `above`, each by a
+    /// lock, or by a try if `last` is one, and makes the call `last` on the resource. Levels are counted from 1, that of a database.
     pub fn path(start: Start, resource: &Resource, from: u8, above: Mode, last: Last) -> Program
         requires some { 1 ≤ from }
         requires within { from ≤ length resource.now }

@@ -4,3 +4,17 @@ pub mod Suffixes
 pub mod QueueLines
 -- a text that is written piece by piece
 pub mod Pieces
+pub mod ReadTexts
+pub mod ReadRows
+pub mod ReadLines
+pub mod ReadOrder
+pub mod ReadPrefixes
+pub mod ReadWhole
+pub mod Ahead
+pub mod CountedSessions
+pub mod Firsts
+pub mod Jammed
+pub mod DumpSessions
+pub mod RowsOfWaits
+pub mod Walks
+pub mod Wanted

@@ -39,3 +39,9 @@ pub mod Ended
 pub mod ResourceOrder
 pub mod Listings
 pub mod KeptCycles
+pub mod Counting
+pub mod CountThinned
+pub mod CountBalance
+pub mod CountNumbers
+pub mod CountTallies
+pub mod CountEnds

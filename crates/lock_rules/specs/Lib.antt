@@ -16,3 +16,6 @@ pub mod Names
 pub mod Kinds
 pub mod Ended
 pub mod Listing
+pub mod Counts
+pub mod CountBalance
+pub mod CountTallies

@@ -36,8 +36,3 @@ not_read_loaded n fault (loaded.Failed line) some k = inr (inr (fault, (some, k)
 pub not_read_read : (n : ℕ) (bytes : List ℕ) (fault : TraceFault) (x : Loaded) → Tells n bytes fault → IsNotRead fault x → AreRead n bytes x
 not_read_read n bytes fault (loaded.Rows found) tells k = absurd k
 not_read_read n bytes fault (loaded.Failed line) tells k = inr (fault, (tells, k))
-
--- rows that were served were loaded
-pub served_loaded : {E : Type 0} (n : ℕ) (rows : List TraceRow) (old new : Kept) (r : Result (Vec ℕ) E) → IfOk r (λ text. HasLoaded n rows old new text.items)
-    → IfOk r (λ text. IsLoaded n old new text.items)
-served_loaded {E} n rows old new r served = IfOk-weaker r _ _ (λ text h. inr (rows, h)) served

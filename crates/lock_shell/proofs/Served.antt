@@ -19,7 +19,7 @@ use Rattle.lock_trace.specs.declared.trace_row.TraceRow.{TraceRow}
 use Rattle.lock_trace.specs.Histories.{row_of_entry}
 use Rattle.lock_shell.specs.Replies.{IsReplied, text_of_reply}
 use Rattle.lock_desk.specs.BookView.{BookView}
-use Rattle.history_commands.proofs.IsVerdict.{fewer, grown as grown_front, one_more}
+use Rattle.replay_commands.proofs.IsVerdict.{fewer, grown as grown_front, one_more}
 use Rattle.lock_desk.specs.Paths.{grants, lock_of_level}
 use Rattle.lock_desk.proofs.Blockers.{one-behind}
 use Rattle.lock_shell.specs.Turns.{AreGranted, AreReplied, HasServed, HasServedPath, HasServedRows, IsUndone, path_row}

@@ -22,7 +22,7 @@ use Rattle.lock_explain.specs.declared.explanation.Party.{Party}
 use Rattle.lock_explain.specs.declared.explanation.Refusal.{Refusal}
 use Rattle.lock_explain.specs.declared.explanation.Wait.{Wait}
 use Rattle.lock_explain.specs.Explanations.{IsExplanation}
-use Rattle.explain_report.specs.ExplanationText.{words_of_ahead, words_of_request, words_of_why}
+use Rattle.lock_explain.specs.ExplanationText.{words_of_ahead, words_of_request, words_of_why}
 
 -- a resource and a mode behind an op
 abbrev pub words_of_request_at : List ℕ → Mode → List ℕ

@@ -7,8 +7,9 @@ ghost use Rattle.lock_rules.specs.Kinds.{op_of_call};
 ghost use Rattle.lock_trace.specs.Words.{word_of};
 ghost use Rattle.lock_shell.specs.Replies.{line_of_doomed, line_of_granted, line_of_victim, lines_of_others, text_of_reply, words_of_blocker, words_of_blockers, words_of_fate, words_of_lock, words_of_need, words_of_operands, words_of_refusal, words_of_reply, words_of_start, words_of_wait};
 
-use explain_report::{put_ahead, put_request, words_of_why};
-use lock_explain::{Blocker, Explanation, MissedParent, Party, Refusal, Wait};
+use lock_explain::{
+    Blocker, Explanation, MissedParent, Party, Refusal, Wait, put_ahead, put_request, words_of_why,
+};
 use lock_modes::Mode;
 use lock_report::put_words;
 use lock_rules::{Call, Claim, Entry, Reply, Why};

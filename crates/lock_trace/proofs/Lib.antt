@@ -18,3 +18,4 @@ pub mod ReadBack
 pub mod HistoryLaws
 pub mod ReadShown
 pub mod Skipped
+pub mod HintTexts

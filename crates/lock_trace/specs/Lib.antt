@@ -12,5 +12,7 @@ pub mod ReadHistories
 pub mod HistoryReaders
 pub mod Comments
 pub mod SkippingComments
+pub mod HintTexts
+pub mod KeptReaders
 -- What only private contracts speak of.
 pub mod inner

@@ -1,1 +1,4 @@
 pub mod Reading
+pub mod PrintableBytes
+pub mod HintSpots
+pub mod WordLists

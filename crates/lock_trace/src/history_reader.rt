@@ -7,8 +7,8 @@ ghost use Rattle.lock_trace.specs.HistoryReaders.{IsNextEntry, IsOpen, IsReading
 use crate::faults::{TraceFault, TraceKind};
 use crate::reading::{next_row, record_reader, sized_record};
 use csv::{ByteRecord, Reader};
-use ghost_list::GhostList;
 use lock_rules::Entry;
+use sequential::GhostList;
 use std::alloc::Global;
 use std::io::Read;
 

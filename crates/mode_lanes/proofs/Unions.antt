@@ -1,5 +1,5 @@
 -- The union of a list of numbers: the bitwise or of its items.
-use Rattle.std.proofs.Common.{◌≡◌, ℕ, zero, suc, ◌+◌, ◌-◌, ◌<◌, ◌≤◌, ◌↔◌, ◌≢◌, Bool, true, not, ◌||◌, eqb, List, [], ◌∷◌, ◌++◌, length, get_or, take, drop, replicate, refl, sym, ◌∙◌, ap, arith}
+use Rattle.std.proofs.Common.{◌≡◌, ℕ, zero, suc, ◌+◌, ◌-◌, ◌<◌, ◌≤◌, ◌↔◌, ◌≢◌, Bool, true, not, ◌||◌, eqb, List, [], ◌∷◌, ◌++◌, length, get_or, take, drop, refl, sym, ◌∙◌, ap, arith}
 use Rattle.std.specs.Prelude.{bit_and, bit_or, bit_xor, ◌==◌, SomeIndex}
 use Rattle.std.specs.List.{list_any}
 use Rattle.std.proofs.lemmas.Nat.{le_or_l, le_or_r}
@@ -41,11 +41,6 @@ union-zip2 [] [] e = refl
 union-zip2 [] (y ∷ ys) e = absurd (omega (arith, e))
 union-zip2 (x ∷ xs) [] e = absurd (omega (arith, e))
 union-zip2 (x ∷ xs) (y ∷ ys) e = ap (bit_or (bit_or x y)) (union-zip2 xs ys (omega (arith, e))) ∙ or_swap x y (union_of xs) (union_of ys)
-
--- The union of zeros is 0.
-pub union-zeros : (n : ℕ) → union_of (replicate n 0) ≡ 0
-union-zeros zero = refl
-union-zeros (suc n) = union-zeros n
 
 -- If an or is 0, both parts are.
 pub or-zero_parts : (a b : ℕ) → bit_or a b ≡ 0 → (a ≡ 0) × (b ≡ 0)

@@ -19,10 +19,6 @@ pub record WrittenBelow (f : ℕ → ℕ → ℕ) (n : ℕ) (old other now : Lis
 abbrev pub AddsNothingBelow : ℕ → List ℕ → List ℕ → Type 0
 AddsNothingBelow n old other = (k : ℕ) → k < n → bit_or (get_or old k 0) (get_or other k 0) ≡ get_or old k 0
 
--- Before the first item, nothing is written.
-pub written-none : (f : ℕ → ℕ → ℕ) (old other : List ℕ) → WrittenBelow f 0 old other old
-written-none f old other = record { room = refl; written = λ k lt. absurd (omega (arith, lt)); open_yet = λ k le. refl }
-
 module _ (f : ℕ → ℕ → ℕ) (old other now : List ℕ) (n : ℕ) (h : WrittenBelow f n old other now) where
   -- After one more item, the items are written one further.
   pub written-item : n < length old → WrittenBelow f (n + 1) old other (set now n (f (get_or now n 0) (get_or other n 0)))

@@ -12,7 +12,7 @@ const LANES: usize = 16;
 
 /// The bits that are set in any byte of the column; 0 if it is empty.
 #[inline]
-pub fn union(column: &[u8]) -> u8
+fn union(column: &[u8]) -> u8
     ensures { result ≡ union_of column.now }
 {
     let mut all = u8x16::splat(0);

@@ -1,8 +1,7 @@
 //! Vector kernels over columns of bytes, such as the modes of a resource's holders, and over rows of words, such as the
 //! rows of a waits-for graph.
 //!
-//! `columns.rt` has the kernels over bytes: the or of all, whether and where one meets a mask, and a mark for each that
-//! does. `rows.rt` has those over words: or and and of two rows, and whether two rows have a common bit.
+//! `columns.rt` has the kernels over bytes: whether and where one meets a mask, and a mark for each that does. `rows.rt` has those over words: or and and of two rows, and whether two rows have a common bit.
 //!
 //! Each kernel takes a chunk of items at a time, 16 bytes or 4 words, one in each lane of a vector, and then the tail
 //! that fills no whole chunk, one item at a time.
@@ -12,7 +11,7 @@
 //! modes or waits.
 #![tactic(auto)]
 
-pub use columns::{any_meets, first_meets, mark_meets, union};
+pub use columns::{any_meets, first_meets, mark_meets};
 pub use rows::{and_into, any_common, or_into};
 
 mod columns;

@@ -4,7 +4,7 @@ ghost use Rattle.std.specs.Prelude.{◌≡◌, ◌++◌, ◌∷◌, [], false, N
 ghost use Rattle.publication.specs.Views.{answer};
 ghost use Rattle.publication.specs.Boards.{IsOf, OpensNone, new_ticket, new_tickets};
 
-use counter::Counter;
+use example_objects::Counter;
 use publication::{Board, Ticket};
 use sequential::{Sequential, Serving};
 use std::alloc::{AllocError, Global};

@@ -5,7 +5,7 @@ ghost use Rattle.combining.specs.Sessions.{IsSessionOf, IsIdle};
 ghost use Rattle.combining.specs.Rounds.{IsBound};
 
 use combining::{Answer, Nobody, Office, PassBound, Performed, Session, Told, Turn};
-use counter::Counter;
+use example_objects::Counter;
 use std::process::Abort;
 use std::test::Fail;
 

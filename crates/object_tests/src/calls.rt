@@ -1,12 +1,11 @@
 //! Each call of the traits, with success.
 
 use crate::asking::{ask, ask_all, item};
-use bounded_queue::{BoundedQueue, CAPACITY, QueueCall, QueueReply};
-use counter::Counter;
+use example_objects::{
+    BoundedQueue, CAPACITY, Counter, MapCall, MapReply, OrderedMap, QueueCall, QueueReply,
+};
 use lock_desk::{Book, Call, Mode, Reply, Resource};
-use ordered_map::{MapCall, MapReply, OrderedMap};
-use recording::Recording;
-use sequential::{Entry, Fresh, Sequential, Serving, Telling, Trimming, are_within};
+use sequential::{Entry, Fresh, Recording, Sequential, Serving, Telling, Trimming, are_within};
 use std::alloc::{AllocError, Global};
 use std::process::Abort;
 use std::test::Fail;

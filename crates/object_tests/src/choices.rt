@@ -1,7 +1,6 @@
 //! How threads choose their calls by pseudorandom numbers.
 
-use bounded_queue::QueueCall;
-use ordered_map::MapCall;
+use example_objects::{MapCall, QueueCall};
 
 /// The keys of the map are below this number, so that many calls are refused.
 const KEYS: u64 = 8;

@@ -4,7 +4,7 @@ ghost use Rattle.std.specs.Prelude.{◌≡◌};
 ghost use Rattle.combining.specs.Sessions.{IsSessionOf, IsIdle};
 
 use combining::{Nobody, Office, OpenFault, Session, Turn, UNBOUNDED};
-use counter::Counter;
+use example_objects::Counter;
 use sequential::Sequential;
 use std::process::Abort;
 use std::test::Fail;

@@ -2,10 +2,8 @@
 //! and also if none is; it prints a line if one was, for the check that refuses each allocation in turn.
 
 use crate::asking::{ask, ask_all, item};
-use bounded_queue::{BoundedQueue, QueueCall, QueueReply};
-use ordered_map::{MapCall, MapReply, OrderedMap};
-use recording::Recording;
-use sequential::{Sequential, Trimming};
+use example_objects::{BoundedQueue, MapCall, MapReply, OrderedMap, QueueCall, QueueReply};
+use sequential::{Recording, Sequential, Trimming};
 use std::alloc::{AllocError, Global};
 use std::process::Abort;
 use std::test::Fail;

@@ -10,12 +10,9 @@ use crate::asking::ask;
 use crate::workers::{
     ALL_CALLS, CALLERS, Notes, Worked, call_often, call_or_take, finish, no_notes,
 };
-use bounded_queue::{BoundedQueue, QueueReply};
 use combining::{Answer, Office, Session};
-use counter::Counter;
-use ordered_map::{MapReply, OrderedMap};
-use recording::Recording;
-use sequential::{Batching, Entry, Sequential, Trimming};
+use example_objects::{BoundedQueue, Counter, MapReply, OrderedMap, QueueReply};
+use sequential::{Batching, Entry, Recording, Sequential, Trimming};
 use std::alloc::{AllocError, Global};
 use std::process::Abort;
 use std::test::Fail;

@@ -1,84 +1,83 @@
 //! The exports over a book: the lock table for one thread.
 
-ghost use Rattle.std.specs.Prelude.{◌≡◌, ◌≢◌, ◌-◌, ◌≤◌, ◌↔◌, ◌⊎◌, ℕ, List, [], Some, None, if◌then◌else◌, length};
+ghost use Rattle.std.specs.Prelude.{◌≡◌, ◌≢◌, ◌-◌, ◌≤◌, ◌↔◌, ◌⊎◌, ℕ, List, Some, None, length};
 ghost use denote.RawPtr.{null_ptr};
 ghost use Rattle.lock_modes.specs.Codes.{code_of};
 ghost use Rattle.lock_rules.specs.Legal.{state_of};
 ghost use Rattle.lock_rules.specs.State.{held_mode, mode_or_nothing, holders};
-ghost use Rattle.lock_rules.specs.Waits.{waits_for};
 ghost use Rattle.lock_rules.specs.declared.calls.Call.{Call};
 ghost use Rattle.lock_desk.specs.BookView.{BookView};
 ghost use Rattle.library_books.specs.Behind.{IsNullList};
 ghost use Rattle.library_books.specs.Numbers.{IsCall, IsCallFault, IsLevel, IsPath, numbers_of_holder};
-ghost use Rattle.library_books.specs.Calls.{IsSession, IsServed, AreListedOnce, are_written};
+ghost use Rattle.library_books.specs.Calls.{IsSession, IsServed, AreListedOnce, are_written, opened_book};
 ghost use Rattle.library_books.specs.Batches.{AreItems, IsBatchServed, IsFirstFault};
 ghost use Rattle.lock_desk.specs.Batches.{Item};
+ghost use Rattle.library_sessions.specs.Tables.{IsClosed, IsOpen, IsSameBook, shown};
 
+use library_books::option_numbers::OptionNumbers;
 use library_books::pointers::{
-    BookPointer, CallPointer, EntryList, HolderList, ReplyPointer, ResourcePointer, SessionList,
-    SizePointer, U32Pointer,
+    CallPointer, EntryList, HolderList, ReplyPointer, ResourcePointer, SessionList, SizePointer,
+    U32Pointer,
 };
 use library_books::status::{
-    CLOSED, NO_MEMORY, NO_SUCH_COUNT, NO_SUCH_LEVEL, NO_SUCH_MODE, NO_SUCH_OP, NO_SUCH_SESSION,
-    NULL_POINTER, OK, OPEN,
+    CLOSED, LOOKS, NO_MEMORY, NO_SUCH_COUNT, NO_SUCH_LEVEL, NO_SUCH_MODE, NO_SUCH_OP,
+    NO_SUCH_SESSION, NULL_POINTER, OK, OPEN,
 };
 use library_books::{batch, book_calls};
-use lock_desk::{Book, NO_BOUND};
+use library_sessions::pointers::BookPointer;
 use lock_rules::MAX_SESSIONS;
 use std::alloc::Global;
 
-/// Opens the handle with an empty book for sessions 1 to `sessions`, whose resources are hashed with the seed. The handle must be closed.
+/// Opens the handle with an empty book, which has these options. The handle must be closed.
 #[unsafe(no_mangle)]
 pub extern "C" fn pelgaisti_raw_book_open(
     alloc: Global,
     book: &mut BookPointer,
-    sessions: u32,
-    seed: u64,
+    options: &OptionNumbers,
 ) -> u32
     ensures null { result ≡ NULL_POINTER ↔ (book.old.at ≡ null_ptr) }
-    ensures ok { result ≡ OK → (book.new.behind.is_open ≡ 1) × (book.new.behind.held.book ≡ Some (record { sessions = sessions; history = []; cut = 0; bound = NO_BOUND; ended = []; deadlocks = 0 })) }
+    ensures ok { result ≡ OK → (book.new.behind.is_open ≡ 1) × (book.new.behind.held.book ≡ Some (opened_book options.now.sessions options.now)) }
     ensures failed { result ≢ OK → book.new.behind ≡ book.old.behind }
-    ensures open { result ≢ NULL_POINTER → (result ≡ OPEN ↔ (book.old.behind.is_open ≡ 1)) }
-    ensures count { result ≡ NO_SUCH_COUNT → (book.old.behind.is_open ≢ 1) × ¬ ((1 ≤ sessions) × (sessions ≤ MAX_SESSIONS)) }
-    ensures possible { (result ≤ NO_MEMORY) → (book.old.behind.is_open ≢ 1) × (1 ≤ sessions) × (sessions ≤ MAX_SESSIONS) }
+    ensures open { result ≢ NULL_POINTER → (result ≡ OPEN ↔ IsOpen book.old.behind) }
+    ensures count { result ≡ NO_SUCH_COUNT → IsClosed book.old.behind × ¬ ((1 ≤ options.now.sessions) × (options.now.sessions ≤ MAX_SESSIONS)) }
+    ensures possible { (result ≤ NO_MEMORY) → IsClosed book.old.behind × (1 ≤ options.now.sessions) × (options.now.sessions ≤ MAX_SESSIONS) }
     ensures statuses { (result ≡ NULL_POINTER) ⊎ ((result ≤ NO_MEMORY) ⊎ ((result ≡ OPEN) ⊎ (result ≡ NO_SUCH_COUNT))) }
 {
     let Some(book) = book.get() else {
         return NULL_POINTER;
     };
-    if book.is_open == 1 {
+    if book.has_table() {
         return OPEN;
     }
+    let sessions = options.sessions;
     if sessions == 0 || sessions > u32::from(MAX_SESSIONS) {
         return NO_SUCH_COUNT;
     }
-    let Ok(made) = Book::with_seed(alloc, sessions as u16, seed) else {
-        return NO_MEMORY;
-    };
-    match Box::new(alloc, made) {
-        Ok(boxed) => {
-            book.put(boxed);
+    match book_calls::new_book(alloc, sessions as u16, options) {
+        Some(boxed) => {
+            book.put_own(alloc, boxed);
             OK
         }
-        Err(_) => NO_MEMORY,
+        None => NO_MEMORY,
     }
 }
 
-/// Closes the handle and frees the book.
+/// Closes the handle and frees the book of its own.
 #[unsafe(no_mangle)]
 pub extern "C" fn pelgaisti_raw_book_close(alloc: Global, book: &mut BookPointer) -> u32
     ensures null { result ≡ NULL_POINTER ↔ (book.old.at ≡ null_ptr) }
-    ensures after { result ≢ NULL_POINTER → (book.new.behind.is_open ≢ 1) × (book.new.behind.held.book ≡ None) }
+    ensures after { result ≡ OK → IsClosed book.new.behind × (book.new.behind.held.book ≡ None) }
     ensures failed { result ≢ OK → book.new.behind ≡ book.old.behind }
-    ensures closed { result ≢ NULL_POINTER → (result ≡ CLOSED ↔ (book.old.behind.is_open ≢ 1)) }
-    ensures statuses { (result ≡ NULL_POINTER) ⊎ ((result ≡ OK) ⊎ (result ≡ CLOSED)) }
+    ensures closed { result ≢ NULL_POINTER → (result ≡ CLOSED ↔ IsClosed book.old.behind) }
+    ensures looks { result ≢ NULL_POINTER → (result ≡ LOOKS ↔ (book.old.behind.is_open ≡ 2)) }
+    ensures statuses { (result ≡ NULL_POINTER) ⊎ ((result ≡ OK) ⊎ ((result ≡ CLOSED) ⊎ (result ≡ LOOKS))) }
 {
     let Some(book) = book.get() else {
         return NULL_POINTER;
     };
-    match book.take(alloc) {
+    match book.take_own(alloc) {
         Some(_) => OK,
-        None => CLOSED,
+        None => book.refusal(),
     }
 }
 
@@ -94,13 +93,14 @@ pub extern "C" fn pelgaisti_raw_book_serve(
     ensures null { result ≡ NULL_POINTER ↔ ((book.old.at ≡ null_ptr) ⊎ ((call.old.at ≡ null_ptr) ⊎ (reply.old.at ≡ null_ptr))) }
     ensures served { result ≡ OK → (before after : BookView) × (book.old.behind.held.book ≡ Some before) × (book.new.behind.held.book ≡ Some after)
         × IsSession before session × IsServed before after session call.old.behind reply.new.behind }
-    ensures failed { result ≢ OK → (book.new.behind.held.book ≡ book.old.behind.held.book) × (reply.new.behind ≡ reply.old.behind) }
+    ensures failed { result ≢ OK → IsSameBook book.old.behind book.new.behind × (reply.new.behind ≡ reply.old.behind) }
     ensures open { book.new.behind.is_open ≡ book.old.behind.is_open }
-    ensures closed { result ≢ NULL_POINTER → (result ≡ CLOSED ↔ (book.old.behind.is_open ≢ 1)) }
+    ensures closed { result ≢ NULL_POINTER → (result ≡ CLOSED ↔ IsClosed book.old.behind) }
+    ensures looks { result ≢ NULL_POINTER → (result ≡ LOOKS ↔ (book.old.behind.is_open ≡ 2)) }
     ensures session { result ≡ NO_SUCH_SESSION → (view : BookView) × (book.old.behind.held.book ≡ Some view) × ¬ (IsSession view session) }
     ensures call { NO_SUCH_OP ≤ result → result ≤ NO_SUCH_MODE → (view : BookView) × (book.old.behind.held.book ≡ Some view) × IsSession view session × IsCallFault call.old.behind result }
     ensures memory { result ≡ NO_MEMORY → (view : BookView) × (book.old.behind.held.book ≡ Some view) × IsSession view session × ((asked : Call) × IsCall call.old.behind asked) }
-    ensures statuses { (result ≡ NULL_POINTER) ⊎ (result ≤ NO_SUCH_MODE) }
+    ensures statuses { (result ≡ NULL_POINTER) ⊎ ((result ≡ LOOKS) ⊎ (result ≤ NO_SUCH_MODE)) }
 {
     let Some(book) = book.get() else {
         return NULL_POINTER;
@@ -111,11 +111,11 @@ pub extern "C" fn pelgaisti_raw_book_serve(
     let Some(reply) = reply.get() else {
         return NULL_POINTER;
     };
-    let Some(mut boxed) = book.take(alloc) else {
-        return CLOSED;
+    let Some(mut boxed) = book.take_own(alloc) else {
+        return book.refusal();
     };
     let status = book_calls::serve(&mut boxed, session, &call, reply);
-    book.put(boxed);
+    book.put_own(alloc, boxed);
     status
 }
 
@@ -131,12 +131,13 @@ pub extern "C" fn pelgaisti_raw_book_serve_batch(
     ensures null { result ≡ NULL_POINTER ↔ ((book.old.at ≡ null_ptr) ⊎ (IsNullList calls.old.at calls.old.room ⊎ (count.old.at ≡ null_ptr))) }
     ensures served { result ≡ OK → (before after : BookView) × (book.old.behind.held.book ≡ Some before) × (book.new.behind.held.book ≡ Some after)
         × IsBatchServed before after calls.old.behind calls.new.behind count.new.behind }
-    ensures failed { result ≢ OK → (book.new.behind.held.book ≡ book.old.behind.held.book) × (calls.new.behind ≡ calls.old.behind) × (count.new.behind ≡ count.old.behind) }
+    ensures failed { result ≢ OK → IsSameBook book.old.behind book.new.behind × (calls.new.behind ≡ calls.old.behind) × (count.new.behind ≡ count.old.behind) }
     ensures open { book.new.behind.is_open ≡ book.old.behind.is_open }
-    ensures closed { result ≢ NULL_POINTER → (result ≡ CLOSED ↔ (book.old.behind.is_open ≢ 1)) }
+    ensures closed { result ≢ NULL_POINTER → (result ≡ CLOSED ↔ IsClosed book.old.behind) }
+    ensures looks { result ≢ NULL_POINTER → (result ≡ LOOKS ↔ (book.old.behind.is_open ≡ 2)) }
     ensures fault { NO_SUCH_SESSION ≤ result → result ≤ NO_SUCH_MODE → (view : BookView) × (book.old.behind.held.book ≡ Some view) × IsFirstFault view calls.old.behind result }
     ensures memory { result ≡ NO_MEMORY → (view : BookView) × (book.old.behind.held.book ≡ Some view) × ((items : List Item) × AreItems view calls.old.behind items) }
-    ensures statuses { (result ≡ NULL_POINTER) ⊎ (result ≤ NO_SUCH_MODE) }
+    ensures statuses { (result ≡ NULL_POINTER) ⊎ ((result ≡ LOOKS) ⊎ (result ≤ NO_SUCH_MODE)) }
 {
     let Some(book) = book.get() else {
         return NULL_POINTER;
@@ -148,11 +149,11 @@ pub extern "C" fn pelgaisti_raw_book_serve_batch(
         return NULL_POINTER;
     };
     let calls = calls.items();
-    let Some(mut boxed) = book.take(alloc) else {
-        return CLOSED;
+    let Some(mut boxed) = book.take_own(alloc) else {
+        return book.refusal();
     };
     let status = batch::serve(alloc, &mut boxed, calls, count);
-    book.put(boxed);
+    book.put_own(alloc, boxed);
     status
 }
 
@@ -167,13 +168,13 @@ pub extern "C" fn pelgaisti_raw_book_held(
     mode: &mut U32Pointer,
 ) -> u32
     ensures null { result ≡ NULL_POINTER ↔ ((book.old.at ≡ null_ptr) ⊎ ((resource.old.at ≡ null_ptr) ⊎ (mode.old.at ≡ null_ptr))) }
-    ensures ok { result ≡ OK → (view : BookView) × (book.old.behind.held.book ≡ Some view) × IsSession view session
+    ensures ok { result ≡ OK → (view : BookView) × (shown book.old.behind ≡ Some view) × IsSession view session
         × ((r : List ℕ) × IsPath resource.old.behind r × (mode.new.behind ≡ code_of (mode_or_nothing (held_mode (state_of view.history).table session r)))) }
     ensures failed { result ≢ OK → mode.new.behind ≡ mode.old.behind }
-    ensures same { (book.new.behind.is_open ≡ book.old.behind.is_open) × (book.new.behind.held.book ≡ book.old.behind.held.book) }
-    ensures closed { result ≢ NULL_POINTER → (result ≡ CLOSED ↔ (book.old.behind.is_open ≢ 1)) }
-    ensures session { result ≡ NO_SUCH_SESSION → (view : BookView) × (book.old.behind.held.book ≡ Some view) × ¬ (IsSession view session) }
-    ensures level { result ≡ NO_SUCH_LEVEL → (view : BookView) × (book.old.behind.held.book ≡ Some view) × IsSession view session × ¬ (IsLevel resource.old.behind.level) }
+    ensures same { IsSameBook book.old.behind book.new.behind }
+    ensures closed { result ≢ NULL_POINTER → (result ≡ CLOSED ↔ IsClosed book.old.behind) }
+    ensures session { result ≡ NO_SUCH_SESSION → (view : BookView) × (shown book.old.behind ≡ Some view) × ¬ (IsSession view session) }
+    ensures level { result ≡ NO_SUCH_LEVEL → (view : BookView) × (shown book.old.behind ≡ Some view) × IsSession view session × ¬ (IsLevel resource.old.behind.level) }
     ensures statuses { (result ≡ NULL_POINTER) ⊎ ((result ≡ OK) ⊎ ((result ≡ CLOSED) ⊎ ((result ≡ NO_SUCH_SESSION) ⊎ (result ≡ NO_SUCH_LEVEL)))) }
 {
     let Some(book) = book.get() else {
@@ -185,43 +186,11 @@ pub extern "C" fn pelgaisti_raw_book_held(
     let Some(mode) = mode.get() else {
         return NULL_POINTER;
     };
-    let Some(boxed) = book.take(alloc) else {
+    let Some(table) = book.take(alloc) else {
         return CLOSED;
     };
-    let status = book_calls::held(&boxed, session, &resource, mode);
-    book.put(boxed);
-    status
-}
-
-/// Writes 1 to `edge` if `session` waits for `other` directly, else 0: whether the waits-for graph has this edge.
-#[unsafe(no_mangle)]
-pub extern "C" fn pelgaisti_raw_book_waits_for(
-    alloc: Global,
-    book: &mut BookPointer,
-    session: u32,
-    other: u32,
-    edge: &mut U32Pointer,
-) -> u32
-    ensures null { result ≡ NULL_POINTER ↔ ((book.old.at ≡ null_ptr) ⊎ (edge.old.at ≡ null_ptr)) }
-    ensures ok { result ≡ OK → (view : BookView) × (book.old.behind.held.book ≡ Some view) × IsSession view session × IsSession view other
-        × (edge.new.behind ≡ if waits_for (state_of view.history).table session other then 1 else 0) }
-    ensures failed { result ≢ OK → edge.new.behind ≡ edge.old.behind }
-    ensures same { (book.new.behind.is_open ≡ book.old.behind.is_open) × (book.new.behind.held.book ≡ book.old.behind.held.book) }
-    ensures closed { result ≢ NULL_POINTER → (result ≡ CLOSED ↔ (book.old.behind.is_open ≢ 1)) }
-    ensures session { result ≡ NO_SUCH_SESSION → (view : BookView) × (book.old.behind.held.book ≡ Some view) × ¬ (IsSession view session × IsSession view other) }
-    ensures statuses { (result ≡ NULL_POINTER) ⊎ ((result ≡ OK) ⊎ ((result ≡ CLOSED) ⊎ (result ≡ NO_SUCH_SESSION))) }
-{
-    let Some(book) = book.get() else {
-        return NULL_POINTER;
-    };
-    let Some(edge) = edge.get() else {
-        return NULL_POINTER;
-    };
-    let Some(boxed) = book.take(alloc) else {
-        return CLOSED;
-    };
-    let status = book_calls::waits_for(&boxed, session, other, edge);
-    book.put(boxed);
+    let status = book_calls::held(table.book(), session, &resource, mode);
+    book.put(alloc, table);
     status
 }
 
@@ -236,14 +205,14 @@ pub extern "C" fn pelgaisti_raw_book_holders(
     count: &mut SizePointer,
 ) -> u32
     ensures null { result ≡ NULL_POINTER ↔ ((book.old.at ≡ null_ptr) ⊎ ((resource.old.at ≡ null_ptr) ⊎ (IsNullList list.old.at list.old.room ⊎ (count.old.at ≡ null_ptr)))) }
-    ensures ok { result ≡ OK → (view : BookView) × (book.old.behind.held.book ≡ Some view) × ((r : List ℕ) × IsPath resource.old.behind r
+    ensures ok { result ≡ OK → (view : BookView) × (shown book.old.behind ≡ Some view) × ((r : List ℕ) × IsPath resource.old.behind r
         × (let all = holders r (state_of view.history).table.held in
         (list.new.behind ≡ are_written numbers_of_holder all list.old.behind) × (count.new.behind ≡ length all))) }
     ensures failed { result ≢ OK → (list.new.behind ≡ list.old.behind) × (count.new.behind ≡ count.old.behind) }
-    ensures same { (book.new.behind.is_open ≡ book.old.behind.is_open) × (book.new.behind.held.book ≡ book.old.behind.held.book) }
-    ensures closed { result ≢ NULL_POINTER → (result ≡ CLOSED ↔ (book.old.behind.is_open ≢ 1)) }
-    ensures level { result ≡ NO_SUCH_LEVEL → (book.old.behind.is_open ≡ 1) × ¬ (IsLevel resource.old.behind.level) }
-    ensures memory { result ≡ NO_MEMORY → (book.old.behind.is_open ≡ 1) × IsLevel resource.old.behind.level }
+    ensures same { IsSameBook book.old.behind book.new.behind }
+    ensures closed { result ≢ NULL_POINTER → (result ≡ CLOSED ↔ IsClosed book.old.behind) }
+    ensures level { result ≡ NO_SUCH_LEVEL → IsOpen book.old.behind × ¬ (IsLevel resource.old.behind.level) }
+    ensures memory { result ≡ NO_MEMORY → IsOpen book.old.behind × IsLevel resource.old.behind.level }
     ensures statuses { (result ≡ NULL_POINTER) ⊎ ((result ≡ OK) ⊎ ((result ≡ NO_MEMORY) ⊎ ((result ≡ CLOSED) ⊎ (result ≡ NO_SUCH_LEVEL)))) }
 {
     let Some(book) = book.get() else {
@@ -259,11 +228,11 @@ pub extern "C" fn pelgaisti_raw_book_holders(
         return NULL_POINTER;
     };
     let list = list.items();
-    let Some(boxed) = book.take(alloc) else {
+    let Some(table) = book.take(alloc) else {
         return CLOSED;
     };
-    let status = book_calls::holders(alloc, &boxed, &resource, list, count);
-    book.put(boxed);
+    let status = book_calls::holders(alloc, table.book(), &resource, list, count);
+    book.put(alloc, table);
     status
 }
 
@@ -281,8 +250,9 @@ pub extern "C" fn pelgaisti_raw_book_ended(
         × (list.new.behind ≡ are_written (λ u. u) told list.old.behind) × (count.new.behind ≡ length told)) }
     ensures failed { result ≢ OK → (list.new.behind ≡ list.old.behind) × (count.new.behind ≡ count.old.behind) }
     ensures same { (book.new.behind.is_open ≡ book.old.behind.is_open) × (book.new.behind.held.book ≡ book.old.behind.held.book) }
-    ensures closed { result ≢ NULL_POINTER → (result ≡ CLOSED ↔ (book.old.behind.is_open ≢ 1)) }
-    ensures statuses { (result ≡ NULL_POINTER) ⊎ ((result ≡ OK) ⊎ (result ≡ CLOSED)) }
+    ensures closed { result ≢ NULL_POINTER → (result ≡ CLOSED ↔ IsClosed book.old.behind) }
+    ensures looks { result ≢ NULL_POINTER → (result ≡ LOOKS ↔ (book.old.behind.is_open ≡ 2)) }
+    ensures statuses { (result ≡ NULL_POINTER) ⊎ ((result ≡ LOOKS) ⊎ ((result ≡ OK) ⊎ (result ≡ CLOSED))) }
 {
     let Some(book) = book.get() else {
         return NULL_POINTER;
@@ -294,10 +264,10 @@ pub extern "C" fn pelgaisti_raw_book_ended(
         return NULL_POINTER;
     };
     let list = list.items();
-    let Some(boxed) = book.take(alloc) else {
-        return CLOSED;
+    let Some(boxed) = book.take_own(alloc) else {
+        return book.refusal();
     };
     book_calls::ended(&boxed, list, count);
-    book.put(boxed);
+    book.put_own(alloc, boxed);
     OK
 }

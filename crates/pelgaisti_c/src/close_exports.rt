@@ -6,15 +6,15 @@ ghost use Rattle.lock_desk.specs.BookView.{BookView};
 ghost use Rattle.publication.specs.Boards.{IsEachOnce};
 ghost use Rattle.lock_office.specs.Sessions.{HasNothingPending};
 ghost use Rattle.library_sessions.specs.Offices.{all_of, IsClosed};
+ghost use Rattle.library_sessions.specs.Tables.{IsClosed as IsShut, IsOpen};
 ghost use Rattle.library_sessions.specs.Sessions.{IsKept, IsHandedIn};
 ghost use Rattle.library_sessions.specs.declared.session_share.SessionShare.{SessionShare as ShareValue};
 
-use library_books::pointers::BookPointer;
 use library_books::status::{
     CLOSED, COPIED, MISSING, NO_MEMORY, NULL_POINTER, OK, OPEN, OTHER_OFFICE, PENDING,
 };
 use library_sessions::hand_in;
-use library_sessions::pointers::SessionPointer;
+use library_sessions::pointers::{BookPointer, SessionPointer};
 use std::alloc::Global;
 
 /// Hands the session, with all sessions that were handed in to it, in to the session `to` of its office, and closes its
@@ -81,8 +81,8 @@ pub extern "C" fn pelgaisti_raw_office_close(
     ensures done { (result ≡ OK) ⊎ (result ≡ COPIED) → session.new.behind.held.share ≡ None }
     ensures book { result ≢ OK → book.new.behind ≡ book.old.behind }
     ensures same { result ≢ OK → result ≢ COPIED → (session.new.behind.is_open ≡ session.old.behind.is_open) × IsKept session.old.behind.held.share session.new.behind.held.share }
-    ensures open { result ≢ NULL_POINTER → (result ≡ OPEN ↔ (book.old.behind.is_open ≡ 1)) }
-    ensures closed { result ≢ NULL_POINTER → (result ≡ CLOSED ↔ ((book.old.behind.is_open ≢ 1) × (session.old.behind.is_open ≢ 1))) }
+    ensures open { result ≢ NULL_POINTER → (result ≡ OPEN ↔ IsOpen book.old.behind) }
+    ensures closed { result ≢ NULL_POINTER → (result ≡ CLOSED ↔ (IsShut book.old.behind × (session.old.behind.is_open ≢ 1))) }
     ensures missing { result ≡ MISSING → (share : ShareValue) × (session.old.behind.held.share ≡ Some share) × ¬ (IsEachOnce share.sessions (all_of share)) }
     ensures pending { result ≡ PENDING → (share : ShareValue) × (session.old.behind.held.share ≡ Some share) × IsEachOnce share.sessions (all_of share) × (share.session.pending ≢ None) }
     ensures whole { (result ≡ NO_MEMORY) ⊎ (result ≡ COPIED) → (share : ShareValue) × (session.old.behind.held.share ≡ Some share) × IsEachOnce share.sessions (all_of share) × HasNothingPending share.session }
@@ -94,7 +94,7 @@ pub extern "C" fn pelgaisti_raw_office_close(
     let Some(book) = book.get() else {
         return NULL_POINTER;
     };
-    if book.is_open == 1 {
+    if book.has_table() {
         return OPEN;
     }
     let Some(share) = session.take(alloc) else {
@@ -102,7 +102,7 @@ pub extern "C" fn pelgaisti_raw_office_close(
     };
     match hand_in::close(alloc, share) {
         Ok(made) => {
-            book.put(made);
+            book.put_own(alloc, made);
             OK
         }
         Err((fault, Some(share))) => {

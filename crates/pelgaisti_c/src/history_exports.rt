@@ -6,65 +6,47 @@ ghost use Rattle.lock_desk.specs.BookView.{BookView, first_kept_by, kept_by};
 ghost use Rattle.library_books.specs.Behind.{IsNullList};
 ghost use Rattle.library_books.specs.Numbers.{numbers_of_entry};
 ghost use Rattle.library_books.specs.Calls.{are_written};
+ghost use Rattle.library_sessions.specs.Tables.{IsClosed, IsSameBook, shown};
 
 use library_books::book_calls;
-use library_books::pointers::{BookPointer, EntryList, SizePointer, U64Pointer};
-use library_books::status::{CLOSED, LET_GO, NULL_POINTER, OK};
+use library_books::pointers::{EntryList, SizePointer, U64Pointer};
+use library_books::status::{CLOSED, LET_GO, LOOKS, NULL_POINTER, OK};
+use library_sessions::pointers::BookPointer;
 use std::alloc::Global;
 
-/// Writes the number of calls that the book has served, also of those whose entries were let go.
+/// Writes the place of the first entry of the history that is kept, which is how many were let go, and the number of calls that the book has
+/// served, also of those whose entries were let go.
 #[unsafe(no_mangle)]
 pub extern "C" fn pelgaisti_raw_book_length(
     alloc: Global,
     book: &mut BookPointer,
+    first_kept: &mut U64Pointer,
     count: &mut U64Pointer,
 ) -> u32
-    ensures null { result ≡ NULL_POINTER ↔ ((book.old.at ≡ null_ptr) ⊎ (count.old.at ≡ null_ptr)) }
-    ensures ok { result ≡ OK → (view : BookView) × (book.old.behind.held.book ≡ Some view) × (count.new.behind ≡ length view.history) }
-    ensures failed { result ≢ OK → count.new.behind ≡ count.old.behind }
-    ensures same { (book.new.behind.is_open ≡ book.old.behind.is_open) × (book.new.behind.held.book ≡ book.old.behind.held.book) }
-    ensures closed { result ≢ NULL_POINTER → (result ≡ CLOSED ↔ (book.old.behind.is_open ≢ 1)) }
+    ensures null { result ≡ NULL_POINTER ↔ ((book.old.at ≡ null_ptr) ⊎ ((first_kept.old.at ≡ null_ptr) ⊎ (count.old.at ≡ null_ptr))) }
+    ensures ok { result ≡ OK → (view : BookView) × (shown book.old.behind ≡ Some view) × (first_kept.new.behind ≡ first_kept_by view)
+        × (count.new.behind ≡ length view.history) }
+    ensures failed { result ≢ OK → (first_kept.new.behind ≡ first_kept.old.behind) × (count.new.behind ≡ count.old.behind) }
+    ensures same { IsSameBook book.old.behind book.new.behind }
+    ensures closed { result ≢ NULL_POINTER → (result ≡ CLOSED ↔ IsClosed book.old.behind) }
     ensures statuses { (result ≡ NULL_POINTER) ⊎ ((result ≡ OK) ⊎ (result ≡ CLOSED)) }
 {
     let Some(book) = book.get() else {
+        return NULL_POINTER;
+    };
+    let Some(first_kept) = first_kept.get() else {
         return NULL_POINTER;
     };
     let Some(count) = count.get() else {
         return NULL_POINTER;
     };
-    let Some(boxed) = book.take(alloc) else {
+    let Some(table) = book.take(alloc) else {
         return CLOSED;
     };
-    *count = boxed.served();
-    book.put(boxed);
-    OK
-}
-
-/// Writes the place of the first entry of the history that is kept: how many entries were let go.
-#[unsafe(no_mangle)]
-pub extern "C" fn pelgaisti_raw_book_first_kept(
-    alloc: Global,
-    book: &mut BookPointer,
-    first: &mut U64Pointer,
-) -> u32
-    ensures null { result ≡ NULL_POINTER ↔ ((book.old.at ≡ null_ptr) ⊎ (first.old.at ≡ null_ptr)) }
-    ensures ok { result ≡ OK → (view : BookView) × (book.old.behind.held.book ≡ Some view) × (first.new.behind ≡ first_kept_by view) }
-    ensures failed { result ≢ OK → first.new.behind ≡ first.old.behind }
-    ensures same { (book.new.behind.is_open ≡ book.old.behind.is_open) × (book.new.behind.held.book ≡ book.old.behind.held.book) }
-    ensures closed { result ≢ NULL_POINTER → (result ≡ CLOSED ↔ (book.old.behind.is_open ≢ 1)) }
-    ensures statuses { (result ≡ NULL_POINTER) ⊎ ((result ≡ OK) ⊎ (result ≡ CLOSED)) }
-{
-    let Some(book) = book.get() else {
-        return NULL_POINTER;
-    };
-    let Some(first) = first.get() else {
-        return NULL_POINTER;
-    };
-    let Some(boxed) = book.take(alloc) else {
-        return CLOSED;
-    };
-    *first = boxed.first_kept();
-    book.put(boxed);
+    let shown = table.book();
+    *first_kept = shown.first_kept();
+    *count = shown.served();
+    book.put(alloc, table);
     OK
 }
 
@@ -79,12 +61,12 @@ pub extern "C" fn pelgaisti_raw_book_history(
     count: &mut SizePointer,
 ) -> u32
     ensures null { result ≡ NULL_POINTER ↔ ((book.old.at ≡ null_ptr) ⊎ (IsNullList entries.old.at entries.old.room ⊎ (count.old.at ≡ null_ptr))) }
-    ensures ok { result ≡ OK → (view : BookView) × (book.old.behind.held.book ≡ Some view) × (let rest = drop first view.history in
+    ensures ok { result ≡ OK → (view : BookView) × (shown book.old.behind ≡ Some view) × (let rest = drop first view.history in
         (entries.new.behind ≡ are_written numbers_of_entry rest entries.old.behind) × (count.new.behind ≡ min (length rest) (length entries.old.behind))) }
     ensures failed { result ≢ OK → (entries.new.behind ≡ entries.old.behind) × (count.new.behind ≡ count.old.behind) }
-    ensures same { (book.new.behind.is_open ≡ book.old.behind.is_open) × (book.new.behind.held.book ≡ book.old.behind.held.book) }
-    ensures closed { result ≢ NULL_POINTER → (result ≡ CLOSED ↔ (book.old.behind.is_open ≢ 1)) }
-    ensures let_go { result ≢ NULL_POINTER → (result ≡ LET_GO ↔ ((view : BookView) × (book.old.behind.held.book ≡ Some view) × (first < first_kept_by view))) }
+    ensures same { IsSameBook book.old.behind book.new.behind }
+    ensures closed { result ≢ NULL_POINTER → (result ≡ CLOSED ↔ IsClosed book.old.behind) }
+    ensures let_go { result ≢ NULL_POINTER → (result ≡ LET_GO ↔ ((view : BookView) × (shown book.old.behind ≡ Some view) × (first < first_kept_by view))) }
     ensures statuses { (result ≡ NULL_POINTER) ⊎ ((result ≡ OK) ⊎ ((result ≡ CLOSED) ⊎ (result ≡ LET_GO))) }
 {
     let Some(book) = book.get() else {
@@ -97,11 +79,11 @@ pub extern "C" fn pelgaisti_raw_book_history(
         return NULL_POINTER;
     };
     let entries = entries.items();
-    let Some(boxed) = book.take(alloc) else {
+    let Some(table) = book.take(alloc) else {
         return CLOSED;
     };
-    let status = book_calls::history(&boxed, first, entries, count);
-    book.put(boxed);
+    let status = book_calls::history(table.book(), first, entries, count);
+    book.put(alloc, table);
     status
 }
 
@@ -115,19 +97,20 @@ pub extern "C" fn pelgaisti_raw_book_keep_at_most(
     ensures null { result ≡ NULL_POINTER ↔ (book.old.at ≡ null_ptr) }
     ensures ok { result ≡ OK → (view : BookView) × (book.old.behind.held.book ≡ Some view)
         × (book.new.behind.held.book ≡ Some (record view { cut = first_kept_by view; bound = bound })) }
-    ensures failed { result ≢ OK → book.new.behind.held.book ≡ book.old.behind.held.book }
+    ensures failed { result ≢ OK → IsSameBook book.old.behind book.new.behind }
     ensures open { book.new.behind.is_open ≡ book.old.behind.is_open }
-    ensures closed { result ≢ NULL_POINTER → (result ≡ CLOSED ↔ (book.old.behind.is_open ≢ 1)) }
-    ensures statuses { (result ≡ NULL_POINTER) ⊎ ((result ≡ OK) ⊎ (result ≡ CLOSED)) }
+    ensures closed { result ≢ NULL_POINTER → (result ≡ CLOSED ↔ IsClosed book.old.behind) }
+    ensures looks { result ≢ NULL_POINTER → (result ≡ LOOKS ↔ (book.old.behind.is_open ≡ 2)) }
+    ensures statuses { (result ≡ NULL_POINTER) ⊎ ((result ≡ LOOKS) ⊎ ((result ≡ OK) ⊎ (result ≡ CLOSED))) }
 {
     let Some(book) = book.get() else {
         return NULL_POINTER;
     };
-    let Some(mut boxed) = book.take(alloc) else {
-        return CLOSED;
+    let Some(mut boxed) = book.take_own(alloc) else {
+        return book.refusal();
     };
     boxed.keep_at_most(bound);
-    book.put(boxed);
+    book.put_own(alloc, boxed);
     OK
 }
 
@@ -146,10 +129,11 @@ pub extern "C" fn pelgaisti_raw_book_take_history(
         × (entries.new.behind ≡ are_written numbers_of_entry (kept_by view) entries.old.behind)
         × (count.new.behind ≡ min (length (kept_by view)) (length entries.old.behind))
         × (book.new.behind.held.book ≡ Some (record view { cut = first_kept_by view + count.new.behind })) }
-    ensures failed { result ≢ OK → (book.new.behind.held.book ≡ book.old.behind.held.book) × (first.new.behind ≡ first.old.behind) × (entries.new.behind ≡ entries.old.behind) × (count.new.behind ≡ count.old.behind) }
+    ensures failed { result ≢ OK → IsSameBook book.old.behind book.new.behind × (first.new.behind ≡ first.old.behind) × (entries.new.behind ≡ entries.old.behind) × (count.new.behind ≡ count.old.behind) }
     ensures open { book.new.behind.is_open ≡ book.old.behind.is_open }
-    ensures closed { result ≢ NULL_POINTER → (result ≡ CLOSED ↔ (book.old.behind.is_open ≢ 1)) }
-    ensures statuses { (result ≡ NULL_POINTER) ⊎ ((result ≡ OK) ⊎ (result ≡ CLOSED)) }
+    ensures closed { result ≢ NULL_POINTER → (result ≡ CLOSED ↔ IsClosed book.old.behind) }
+    ensures looks { result ≢ NULL_POINTER → (result ≡ LOOKS ↔ (book.old.behind.is_open ≡ 2)) }
+    ensures statuses { (result ≡ NULL_POINTER) ⊎ ((result ≡ LOOKS) ⊎ ((result ≡ OK) ⊎ (result ≡ CLOSED))) }
 {
     let Some(book) = book.get() else {
         return NULL_POINTER;
@@ -164,12 +148,12 @@ pub extern "C" fn pelgaisti_raw_book_take_history(
         return NULL_POINTER;
     };
     let entries = entries.items();
-    let Some(mut boxed) = book.take(alloc) else {
-        return CLOSED;
+    let Some(mut boxed) = book.take_own(alloc) else {
+        return book.refusal();
     };
     let place = boxed.first_kept();
     *count = book_calls::take_history(&mut boxed, entries);
     *first = place;
-    book.put(boxed);
+    book.put_own(alloc, boxed);
     OK
 }

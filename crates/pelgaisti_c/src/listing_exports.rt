@@ -1,20 +1,20 @@
 //! The exports that tell what a book's sessions hold and wait for, and whom they wait for.
 
-ghost use Rattle.std.specs.Prelude.{◌≡◌, ◌≢◌, ◌↔◌, ◌⊎◌, Some, length, drop};
+ghost use Rattle.std.specs.Prelude.{◌≡◌, ◌≢◌, ◌↔◌, ◌⊎◌, Some, length};
 ghost use denote.RawPtr.{null_ptr};
 ghost use Rattle.lock_rules.specs.Legal.{state_of};
-ghost use Rattle.lock_rules.specs.Listing.{listing_of, waiting_line};
+ghost use Rattle.lock_rules.specs.Listing.{waiting_line};
 ghost use Rattle.lock_desk.specs.BookView.{BookView};
 ghost use Rattle.lock_desk.specs.Queries.{blockers_among};
 ghost use Rattle.library_books.specs.Behind.{IsNullList};
 ghost use Rattle.library_books.specs.Calls.{IsSession, are_written};
-ghost use Rattle.library_books.specs.Claims.{numbers_of_claim, numbers_of_request, numbers_of_transaction};
+ghost use Rattle.library_books.specs.Claims.{numbers_of_request, numbers_of_transaction};
+ghost use Rattle.library_sessions.specs.Tables.{IsClosed, IsSameBook, shown};
 
 use library_books::listing;
-use library_books::pointers::{
-    BookPointer, ClaimList, ClaimPointer, SessionList, SizePointer, TransactionPointer,
-};
-use library_books::status::{CLOSED, NO_MEMORY, NO_SUCH_SESSION, NULL_POINTER, OK};
+use library_books::pointers::{ClaimPointer, SessionList, SizePointer, TransactionPointer};
+use library_books::status::{CLOSED, NO_SUCH_SESSION, NULL_POINTER, OK};
+use library_sessions::pointers::BookPointer;
 use std::alloc::Global;
 
 /// Writes the number of the session's open transaction, and whether it is a deadlock victim. Number 0 means that none is open.
@@ -26,12 +26,12 @@ pub extern "C" fn pelgaisti_raw_book_transaction(
     open: &mut TransactionPointer,
 ) -> u32
     ensures null { result ≡ NULL_POINTER ↔ ((book.old.at ≡ null_ptr) ⊎ (open.old.at ≡ null_ptr)) }
-    ensures ok { result ≡ OK → (view : BookView) × (book.old.behind.held.book ≡ Some view) × IsSession view session
+    ensures ok { result ≡ OK → (view : BookView) × (shown book.old.behind ≡ Some view) × IsSession view session
         × (open.new.behind ≡ numbers_of_transaction ((state_of view.history).begun session)) }
     ensures failed { result ≢ OK → open.new.behind ≡ open.old.behind }
-    ensures same { (book.new.behind.is_open ≡ book.old.behind.is_open) × (book.new.behind.held.book ≡ book.old.behind.held.book) }
-    ensures closed { result ≢ NULL_POINTER → (result ≡ CLOSED ↔ (book.old.behind.is_open ≢ 1)) }
-    ensures session { result ≡ NO_SUCH_SESSION → (view : BookView) × (book.old.behind.held.book ≡ Some view) × ¬ (IsSession view session) }
+    ensures same { IsSameBook book.old.behind book.new.behind }
+    ensures closed { result ≢ NULL_POINTER → (result ≡ CLOSED ↔ IsClosed book.old.behind) }
+    ensures session { result ≡ NO_SUCH_SESSION → (view : BookView) × (shown book.old.behind ≡ Some view) × ¬ (IsSession view session) }
     ensures statuses { (result ≡ NULL_POINTER) ⊎ ((result ≡ OK) ⊎ ((result ≡ CLOSED) ⊎ (result ≡ NO_SUCH_SESSION))) }
 {
     let Some(book) = book.get() else {
@@ -40,11 +40,11 @@ pub extern "C" fn pelgaisti_raw_book_transaction(
     let Some(open) = open.get() else {
         return NULL_POINTER;
     };
-    let Some(boxed) = book.take(alloc) else {
+    let Some(table) = book.take(alloc) else {
         return CLOSED;
     };
-    let status = listing::transaction(&boxed, session, open);
-    book.put(boxed);
+    let status = listing::transaction(table.book(), session, open);
+    book.put(alloc, table);
     status
 }
 
@@ -57,12 +57,12 @@ pub extern "C" fn pelgaisti_raw_book_request(
     waiting: &mut ClaimPointer,
 ) -> u32
     ensures null { result ≡ NULL_POINTER ↔ ((book.old.at ≡ null_ptr) ⊎ (waiting.old.at ≡ null_ptr)) }
-    ensures ok { result ≡ OK → (view : BookView) × (book.old.behind.held.book ≡ Some view) × IsSession view session
+    ensures ok { result ≡ OK → (view : BookView) × (shown book.old.behind ≡ Some view) × IsSession view session
         × (waiting.new.behind ≡ numbers_of_request (waiting_line (state_of view.history) session)) }
     ensures failed { result ≢ OK → waiting.new.behind ≡ waiting.old.behind }
-    ensures same { (book.new.behind.is_open ≡ book.old.behind.is_open) × (book.new.behind.held.book ≡ book.old.behind.held.book) }
-    ensures closed { result ≢ NULL_POINTER → (result ≡ CLOSED ↔ (book.old.behind.is_open ≢ 1)) }
-    ensures session { result ≡ NO_SUCH_SESSION → (view : BookView) × (book.old.behind.held.book ≡ Some view) × ¬ (IsSession view session) }
+    ensures same { IsSameBook book.old.behind book.new.behind }
+    ensures closed { result ≢ NULL_POINTER → (result ≡ CLOSED ↔ IsClosed book.old.behind) }
+    ensures session { result ≡ NO_SUCH_SESSION → (view : BookView) × (shown book.old.behind ≡ Some view) × ¬ (IsSession view session) }
     ensures statuses { (result ≡ NULL_POINTER) ⊎ ((result ≡ OK) ⊎ ((result ≡ CLOSED) ⊎ (result ≡ NO_SUCH_SESSION))) }
 {
     let Some(book) = book.get() else {
@@ -71,47 +71,11 @@ pub extern "C" fn pelgaisti_raw_book_request(
     let Some(waiting) = waiting.get() else {
         return NULL_POINTER;
     };
-    let Some(boxed) = book.take(alloc) else {
+    let Some(table) = book.take(alloc) else {
         return CLOSED;
     };
-    let status = listing::request(&boxed, session, waiting);
-    book.put(boxed);
-    status
-}
-
-/// Writes all locks and waiting requests, resource by resource, from the line `first` on, as many as `list` has room for, and
-/// the number of all lines to `count`.
-#[unsafe(no_mangle)]
-pub extern "C" fn pelgaisti_raw_book_locks(
-    alloc: Global,
-    book: &mut BookPointer,
-    first: usize,
-    list: &mut ClaimList,
-    count: &mut SizePointer,
-) -> u32
-    ensures null { result ≡ NULL_POINTER ↔ ((book.old.at ≡ null_ptr) ⊎ (IsNullList list.old.at list.old.room ⊎ (count.old.at ≡ null_ptr))) }
-    ensures ok { result ≡ OK → (view : BookView) × (book.old.behind.held.book ≡ Some view) × (let all = listing_of (state_of view.history) in
-        (list.new.behind ≡ are_written numbers_of_claim (drop first all) list.old.behind) × (count.new.behind ≡ length all)) }
-    ensures failed { result ≢ OK → (list.new.behind ≡ list.old.behind) × (count.new.behind ≡ count.old.behind) }
-    ensures same { (book.new.behind.is_open ≡ book.old.behind.is_open) × (book.new.behind.held.book ≡ book.old.behind.held.book) }
-    ensures closed { result ≢ NULL_POINTER → (result ≡ CLOSED ↔ (book.old.behind.is_open ≢ 1)) }
-    ensures statuses { (result ≡ NULL_POINTER) ⊎ ((result ≡ OK) ⊎ ((result ≡ NO_MEMORY) ⊎ (result ≡ CLOSED))) }
-{
-    let Some(book) = book.get() else {
-        return NULL_POINTER;
-    };
-    if list.is_null() {
-        return NULL_POINTER;
-    }
-    let Some(count) = count.get() else {
-        return NULL_POINTER;
-    };
-    let list = list.items();
-    let Some(boxed) = book.take(alloc) else {
-        return CLOSED;
-    };
-    let status = listing::locks(alloc, &boxed, first, list, count);
-    book.put(boxed);
+    let status = listing::request(table.book(), session, waiting);
+    book.put(alloc, table);
     status
 }
 
@@ -126,13 +90,13 @@ pub extern "C" fn pelgaisti_raw_book_blockers(
     count: &mut SizePointer,
 ) -> u32
     ensures null { result ≡ NULL_POINTER ↔ ((book.old.at ≡ null_ptr) ⊎ (IsNullList list.old.at list.old.room ⊎ (count.old.at ≡ null_ptr))) }
-    ensures ok { result ≡ OK → (view : BookView) × (book.old.behind.held.book ≡ Some view) × IsSession view session
+    ensures ok { result ≡ OK → (view : BookView) × (shown book.old.behind ≡ Some view) × IsSession view session
         × (let all = blockers_among view.sessions (state_of view.history).table session in
         (list.new.behind ≡ are_written (λ u. u) all list.old.behind) × (count.new.behind ≡ length all)) }
     ensures failed { result ≢ OK → (list.new.behind ≡ list.old.behind) × (count.new.behind ≡ count.old.behind) }
-    ensures same { (book.new.behind.is_open ≡ book.old.behind.is_open) × (book.new.behind.held.book ≡ book.old.behind.held.book) }
-    ensures closed { result ≢ NULL_POINTER → (result ≡ CLOSED ↔ (book.old.behind.is_open ≢ 1)) }
-    ensures session { result ≡ NO_SUCH_SESSION → (view : BookView) × (book.old.behind.held.book ≡ Some view) × ¬ (IsSession view session) }
+    ensures same { IsSameBook book.old.behind book.new.behind }
+    ensures closed { result ≢ NULL_POINTER → (result ≡ CLOSED ↔ IsClosed book.old.behind) }
+    ensures session { result ≡ NO_SUCH_SESSION → (view : BookView) × (shown book.old.behind ≡ Some view) × ¬ (IsSession view session) }
     ensures statuses { (result ≡ NULL_POINTER) ⊎ ((result ≡ OK) ⊎ ((result ≡ CLOSED) ⊎ (result ≡ NO_SUCH_SESSION))) }
 {
     let Some(book) = book.get() else {
@@ -145,10 +109,10 @@ pub extern "C" fn pelgaisti_raw_book_blockers(
         return NULL_POINTER;
     };
     let list = list.items();
-    let Some(boxed) = book.take(alloc) else {
+    let Some(table) = book.take(alloc) else {
         return CLOSED;
     };
-    let status = listing::blockers(&boxed, session, list, count);
-    book.put(boxed);
+    let status = listing::blockers(table.book(), session, list, count);
+    book.put(alloc, table);
     status
 }

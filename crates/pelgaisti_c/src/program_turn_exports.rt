@@ -81,7 +81,7 @@ pub extern "C" fn pelgaisti_raw_session_run_turn(
 /// as that of a program: of a pending call it is a program of this one call. It writes `wait` and `told` as `pelgaisti_raw_session_turn`
 /// does.
 #[unsafe(no_mangle)]
-pub extern "C" fn pelgaisti_raw_session_run_look(
+pub extern "C" fn pelgaisti_raw_session_run_resume(
     alloc: Global,
     session: &mut SessionPointer,
     looked: u64,

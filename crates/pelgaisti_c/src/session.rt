@@ -1,25 +1,24 @@
 //! The exports over a session of an office.
 
-ghost use Rattle.std.specs.Prelude.{◌≡◌, ◌≢◌, ◌<◌, ◌≤◌, ◌↔◌, ◌⊎◌, true, Some, None, length};
+ghost use Rattle.std.specs.Prelude.{◌≡◌, ◌≢◌, ◌≤◌, ◌↔◌, ◌⊎◌, true, Some, None};
 ghost use denote.RawPtr.{null_ptr};
 ghost use Rattle.lock_office.specs.Sessions.{IsPendingServed};
 ghost use Rattle.lock_office.specs.ProgramTurns.{HasSeveralPending};
 ghost use Rattle.lock_rules.specs.declared.calls.Call.{Call};
 ghost use Rattle.library_books.specs.Behind.{IsNullList};
 ghost use Rattle.library_books.specs.Numbers.{IsCall, IsCallFault};
-ghost use Rattle.library_sessions.specs.Sessions.{IsPublished, IsTurn, AreToWake, HasToldNone, IsToldTurn, IsPerformedAtOnce, IsRefusedAtOnce, IsToldPerformed, IsToldRefused, HasToldNobody, MayCall, IsElsewhere, IsAnswered, IsPieceTaken, IsRetired};
+ghost use Rattle.library_sessions.specs.Sessions.{IsPublished, IsTurn, AreToWake, IsElsewhere, IsAnswered, IsPieceTaken, IsRetired};
 ghost use Rattle.library_sessions.specs.declared.session_share.SessionShare.{SessionShare};
 
 use library_books::pointers::{
-    AnswerPointer, CallPointer, EntryList, PassPointer, SessionList, SizePointer, U32Pointer,
-    U64Pointer,
+    AnswerPointer, CallPointer, EntryList, PassPointer, SizePointer, U32Pointer, U64Pointer,
 };
 use library_books::status::{
-    CLOSED, ELSEWHERE, NO_MEMORY, NO_ROOM, NO_SUCH_MODE, NO_SUCH_OP, NOT_SERVED, NOTHING_PENDING,
+    CLOSED, ELSEWHERE, NO_MEMORY, NO_SUCH_MODE, NO_SUCH_OP, NOT_SERVED, NOTHING_PENDING,
     NULL_POINTER, OK, PENDING, RETIRED,
 };
 use library_sessions::pointers::SessionPointer;
-use library_sessions::{perform_calls, session_calls};
+use library_sessions::session_calls;
 use std::alloc::Global;
 
 /// Publishes the call that the numbers encode. The call is pending until the session collects its answer. Writes 1 to
@@ -95,162 +94,6 @@ pub extern "C" fn pelgaisti_raw_session_serve(
         return CLOSED;
     };
     let status = session_calls::serve(&mut share, pass, told);
-    session.put(share);
-    status
-}
-
-/// Serves as `pelgaisti_raw_session_serve` does, and writes the sessions whose wait the pass has ended, each once, to `list`,
-/// and how many they are to `count`. `list` has to have room for all sessions of the office.
-#[unsafe(no_mangle)]
-pub extern "C" fn pelgaisti_raw_session_serve_telling(
-    alloc: Global,
-    session: &mut SessionPointer,
-    pass: &mut PassPointer,
-    list: &mut SessionList,
-    count: &mut SizePointer,
-) -> u32
-    ensures null { result ≡ NULL_POINTER ↔ ((session.old.at ≡ null_ptr) ⊎ ((pass.old.at ≡ null_ptr) ⊎ (IsNullList list.old.at list.old.room ⊎ (count.old.at ≡ null_ptr)))) }
-    ensures ok { result ≡ OK → (before after : SessionShare) × (session.old.behind.held.share ≡ Some before) × (session.new.behind.held.share ≡ Some after)
-        × IsToldTurn before after pass.new.behind.served pass.new.behind.starved list.old.behind list.new.behind count.new.behind }
-    ensures failed { result ≢ OK → (pass.new.behind ≡ pass.old.behind) × (list.new.behind ≡ list.old.behind) × (count.new.behind ≡ count.old.behind) }
-    ensures open { session.new.behind.is_open ≡ session.old.behind.is_open }
-    ensures closed { result ≢ NULL_POINTER → (result ≡ CLOSED ↔ (session.old.behind.is_open ≢ 1)) }
-    ensures room { result ≢ NULL_POINTER → (result ≡ NO_ROOM ↔ ((share : SessionShare) × (session.old.behind.held.share ≡ Some share) × (length list.old.behind < share.sessions))) }
-    ensures kept { (result ≡ NULL_POINTER) ⊎ ((result ≡ CLOSED) ⊎ ((result ≡ NO_ROOM) ⊎ (result ≡ NO_MEMORY))) → session.new.behind.held.share ≡ session.old.behind.held.share }
-    ensures elsewhere { result ≡ ELSEWHERE → (before after : SessionShare) × (session.old.behind.held.share ≡ Some before) × (session.new.behind.held.share ≡ Some after)
-        × IsElsewhere before after }
-    ensures statuses { (result ≡ NULL_POINTER) ⊎ ((result ≡ OK) ⊎ ((result ≡ CLOSED) ⊎ ((result ≡ NO_ROOM) ⊎ ((result ≡ NO_MEMORY) ⊎ (result ≡ ELSEWHERE))))) }
-{
-    let Some(session) = session.get() else {
-        return NULL_POINTER;
-    };
-    let Some(pass) = pass.get() else {
-        return NULL_POINTER;
-    };
-    if list.is_null() {
-        return NULL_POINTER;
-    }
-    let Some(count) = count.get() else {
-        return NULL_POINTER;
-    };
-    let list = list.items();
-    let Some(mut share) = session.take(alloc) else {
-        return CLOSED;
-    };
-    let status = session_calls::serve_telling(alloc, &mut share, pass, list, count);
-    session.put(share);
-    status
-}
-
-/// Tries once to take the lock table and, if that succeeds, performs the call that the numbers encode at once, in a pass over the
-/// publication list. The session has to be idle, and is idle afterwards. With ELSEWHERE nothing has changed, and with NO_MEMORY the
-/// call is not in the history: in both cases it may be published instead. Writes how many sessions the office's waker is to wake to
-/// `told`, as `pelgaisti_raw_session_serve` does, with NO_MEMORY too.
-#[unsafe(no_mangle)]
-pub extern "C" fn pelgaisti_raw_session_perform_at_once(
-    alloc: Global,
-    session: &mut SessionPointer,
-    call: &mut CallPointer,
-    pass: &mut PassPointer,
-    answer: &mut AnswerPointer,
-    told: &mut usize,
-) -> u32
-    ensures null { result ≡ NULL_POINTER ↔ ((session.old.at ≡ null_ptr) ⊎ ((call.old.at ≡ null_ptr) ⊎ ((pass.old.at ≡ null_ptr) ⊎ (answer.old.at ≡ null_ptr)))) }
-    ensures ok { result ≡ OK → (before after : SessionShare) × (session.old.behind.held.share ≡ Some before) × (session.new.behind.held.share ≡ Some after)
-        × IsPerformedAtOnce before after call.old.behind answer.new.behind pass.new.behind.served pass.new.behind.starved }
-    ensures told { (result ≡ OK) ⊎ (result ≡ NO_MEMORY) → (before after : SessionShare) × (session.old.behind.held.share ≡ Some before) × (session.new.behind.held.share ≡ Some after)
-        × AreToWake before after told.new }
-    ensures untold { result ≡ ELSEWHERE → told.new ≡ 0 }
-    ensures unread { result ≢ OK → result ≢ NO_MEMORY → result ≢ ELSEWHERE → told.new ≡ told.old }
-    ensures failed { result ≢ OK → (pass.new.behind ≡ pass.old.behind) × (answer.new.behind ≡ answer.old.behind) }
-    ensures same { result ≢ OK → result ≢ NO_MEMORY → (result ≢ ELSEWHERE) ⊎ ((share : SessionShare) × (session.old.behind.held.share ≡ Some share) × (share.waker ≡ 0))
-        → session.new.behind.held.share ≡ session.old.behind.held.share }
-    ensures emptied { result ≡ ELSEWHERE → (before after : SessionShare) × (session.old.behind.held.share ≡ Some before) × (session.new.behind.held.share ≡ Some after)
-        × HasToldNone before after }
-    ensures open { session.new.behind.is_open ≡ session.old.behind.is_open }
-    ensures closed { result ≢ NULL_POINTER → (result ≡ CLOSED ↔ (session.old.behind.is_open ≢ 1)) }
-    ensures call { NO_SUCH_OP ≤ result → result ≤ NO_SUCH_MODE → (session.old.behind.is_open ≡ 1) × IsCallFault call.old.behind result }
-    ensures retired { result ≡ RETIRED → (share : SessionShare) × (session.old.behind.held.share ≡ Some share) × (share.session.retired ≡ true) × ((asked : Call) × IsCall call.old.behind asked) }
-    ensures pending { result ≡ PENDING → (share : SessionShare) × (session.old.behind.held.share ≡ Some share) × (share.session.pending ≢ None) × ((asked : Call) × IsCall call.old.behind asked) }
-    ensures memory { result ≡ NO_MEMORY → (before after : SessionShare) × (session.old.behind.held.share ≡ Some before) × (session.new.behind.held.share ≡ Some after)
-        × IsRefusedAtOnce before after call.old.behind }
-    ensures elsewhere { result ≡ ELSEWHERE → (share : SessionShare) × (session.old.behind.held.share ≡ Some share) × (2 ≤ share.sessions) × MayCall share call.old.behind }
-    ensures statuses { (result ≡ NULL_POINTER) ⊎ ((result ≡ OK) ⊎ ((result ≡ CLOSED) ⊎ ((result ≡ RETIRED) ⊎ ((result ≡ PENDING) ⊎ ((result ≡ NO_MEMORY) ⊎ ((result ≡ ELSEWHERE) ⊎ ((NO_SUCH_OP ≤ result) × (result ≤ NO_SUCH_MODE)))))))) }
-{
-    let Some(session) = session.get() else {
-        return NULL_POINTER;
-    };
-    let Some(call) = call.get() else {
-        return NULL_POINTER;
-    };
-    let Some(pass) = pass.get() else {
-        return NULL_POINTER;
-    };
-    let Some(answer) = answer.get() else {
-        return NULL_POINTER;
-    };
-    let Some(mut share) = session.take(alloc) else {
-        return CLOSED;
-    };
-    let status = perform_calls::perform_at_once(&mut share, &call, pass, answer, told);
-    session.put(share);
-    status
-}
-
-/// Performs a call as `pelgaisti_raw_session_perform_at_once` does, and writes the sessions whose wait the call and its pass have
-/// ended, each once, to `list`, and how many they are to `count`. `list` has to have room for all sessions of the office. It writes
-/// them with NO_MEMORY too, since a pass in which memory was refused for the call has ended waits as well.
-#[unsafe(no_mangle)]
-pub extern "C" fn pelgaisti_raw_session_perform_telling(
-    alloc: Global,
-    session: &mut SessionPointer,
-    call: &mut CallPointer,
-    pass: &mut PassPointer,
-    answer: &mut AnswerPointer,
-    list: &mut SessionList,
-    count: &mut SizePointer,
-) -> u32
-    ensures null { result ≡ NULL_POINTER ↔ ((session.old.at ≡ null_ptr) ⊎ ((call.old.at ≡ null_ptr) ⊎ ((pass.old.at ≡ null_ptr) ⊎ ((answer.old.at ≡ null_ptr) ⊎ (IsNullList list.old.at list.old.room ⊎ (count.old.at ≡ null_ptr)))))) }
-    ensures ok { result ≡ OK → (before after : SessionShare) × (session.old.behind.held.share ≡ Some before) × (session.new.behind.held.share ≡ Some after)
-        × IsToldPerformed before after call.old.behind answer.new.behind pass.new.behind.served pass.new.behind.starved list.old.behind list.new.behind count.new.behind }
-    ensures failed { result ≢ OK → (pass.new.behind ≡ pass.old.behind) × (answer.new.behind ≡ answer.old.behind) }
-    ensures same { result ≢ OK → result ≢ NO_MEMORY → (session.new.behind.held.share ≡ session.old.behind.held.share) × (list.new.behind ≡ list.old.behind) × (count.new.behind ≡ count.old.behind) }
-    ensures open { session.new.behind.is_open ≡ session.old.behind.is_open }
-    ensures closed { result ≢ NULL_POINTER → (result ≡ CLOSED ↔ (session.old.behind.is_open ≢ 1)) }
-    ensures room { result ≢ NULL_POINTER → (result ≡ NO_ROOM ↔ ((share : SessionShare) × (session.old.behind.held.share ≡ Some share) × (length list.old.behind < share.sessions))) }
-    ensures call { NO_SUCH_OP ≤ result → result ≤ NO_SUCH_MODE → (session.old.behind.is_open ≡ 1) × IsCallFault call.old.behind result }
-    ensures retired { result ≡ RETIRED → (share : SessionShare) × (session.old.behind.held.share ≡ Some share) × (share.session.retired ≡ true) × ((asked : Call) × IsCall call.old.behind asked) }
-    ensures pending { result ≡ PENDING → (share : SessionShare) × (session.old.behind.held.share ≡ Some share) × (share.session.pending ≢ None) × ((asked : Call) × IsCall call.old.behind asked) }
-    ensures memory { result ≡ NO_MEMORY → (before after : SessionShare) × (session.old.behind.held.share ≡ Some before) × (session.new.behind.held.share ≡ Some after)
-        × (HasToldNobody before after call.old.behind list.old.behind list.new.behind count.new.behind ⊎ IsToldRefused before after call.old.behind list.old.behind list.new.behind count.new.behind) }
-    ensures elsewhere { result ≡ ELSEWHERE → (share : SessionShare) × (session.old.behind.held.share ≡ Some share) × (2 ≤ share.sessions) × MayCall share call.old.behind }
-    ensures statuses { (result ≡ NULL_POINTER) ⊎ ((result ≡ OK) ⊎ ((result ≡ CLOSED) ⊎ ((result ≡ NO_ROOM) ⊎ ((result ≡ RETIRED) ⊎ ((result ≡ PENDING) ⊎ ((result ≡ NO_MEMORY) ⊎ ((result ≡ ELSEWHERE) ⊎ ((NO_SUCH_OP ≤ result) × (result ≤ NO_SUCH_MODE))))))))) }
-{
-    let Some(session) = session.get() else {
-        return NULL_POINTER;
-    };
-    let Some(call) = call.get() else {
-        return NULL_POINTER;
-    };
-    let Some(pass) = pass.get() else {
-        return NULL_POINTER;
-    };
-    let Some(answer) = answer.get() else {
-        return NULL_POINTER;
-    };
-    if list.is_null() {
-        return NULL_POINTER;
-    }
-    let Some(count) = count.get() else {
-        return NULL_POINTER;
-    };
-    let list = list.items();
-    let Some(mut share) = session.take(alloc) else {
-        return CLOSED;
-    };
-    let status = perform_calls::perform_telling(
-        alloc, &mut share, &call, pass, answer, list, count,
-    );
     session.put(share);
     status
 }

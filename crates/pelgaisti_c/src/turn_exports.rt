@@ -77,9 +77,9 @@ pub extern "C" fn pelgaisti_raw_session_turn(
 
 /// Makes turn number `looked` of the session's pending call, of which the caller makes `turns` at most, counted from 0: serves, at every
 /// eighth turn, and looks for the answer. It writes `wait` and `told` as `pelgaisti_raw_session_turn` does. PENDING: what is pending is a
-/// program of several calls, whose answer `pelgaisti_raw_session_run_look` tells.
+/// program of several calls, whose answer `pelgaisti_raw_session_run_resume` tells.
 #[unsafe(no_mangle)]
-pub extern "C" fn pelgaisti_raw_session_look(
+pub extern "C" fn pelgaisti_raw_session_resume(
     alloc: Global,
     session: &mut SessionPointer,
     looked: u64,

@@ -62,12 +62,6 @@ module _ {P A C R : Type 0} (form : Form P A C R) where
         refused = e;
       }
 
-  -- nothing was served before the first call
-  pub running-unchanged : (s : ℕ) (p : P) (old new : List (Entry C R)) (a : A) (at : ℕ) → IsRunning form s p old new a at → at ≡ 0 → new ≡ old
-  running-unchanged s p old new a at h z =
-      let n : length (form.replies p a) ≡ 0 = h.count ∙ z in
-      h.history ∙ sym (same-history s (form.calls p) (form.replies p a) old n)
-
   -- the history with the entry of one more call
   longer : (s : ℕ) (p : P) (old new newer : List (Entry C R)) (a b : A) (at : ℕ) (c : C) (r : R) → IsRunning form s p old new a at → slice_get (form.calls p) at ≡ Some c
       → newer ≡ new ++ entry s c r ∷ [] → form.replies p b ≡ form.replies p a ++ r ∷ [] → newer ≡ old ++ entries s (form.calls p) (form.replies p b)
@@ -127,11 +121,6 @@ module _ {P A C R : Type 0} (form : Form P A C R) where
       λ x. absurd (let y = h.refused in cc),
     );
   }
-
-  -- a program of no calls
-  pub run-none : (s : ℕ) (p : P) (old new : List (Entry C R)) (a : A) → form.first a ≡ length old → form.replies p a ≡ [] → form.refused a ≡ false → length (form.calls p) ≡ 0 → new ≡ old → HasRun form s p old new a
-  run-none s p old new a f n e z same =
-      subst (λ (l : List (Entry C R)). HasRun form s p old l a) (sym same) (run-at-end s p old old a 0 (running-new s p old a f n e) (sym z))
 
   -- a program with a first call has calls
   pub some-calls : (cs : List C) (c : C) → slice_get cs 0 ≡ Some c → 0 < length cs

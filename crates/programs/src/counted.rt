@@ -2,7 +2,7 @@
 
 ghost use Rattle.std.specs.Prelude.{◌≡◌, ◌+◌, ◌^◌, ◌<◌, [], ◌∷◌, ◌++◌, false, length};
 
-use ghost_list::GhostList;
+use sequential::GhostList;
 use std::marker::Model;
 
 /// A list that only contracts see, with its length, which is below 2^64.

@@ -7,7 +7,7 @@ use mathlib.Core.List.{IsPrefix}
 use lib.ListN.{get_elem?}
 use Rattle.atomic_table.specs.Table.{State}
 use Rattle.std.specs.Global.{Box}
-use Rattle.trimmed_list.specs.declared.trimmed_list.TheConstants.{NO_BOUND}
+use Rattle.sequential.specs.declared.trimmed_list.TheConstants.{NO_BOUND}
 use Rattle.sequential.specs.declared.entry.Entry.{Entry}
 use Rattle.sequential.specs.Histories.{calls_of}
 use Rattle.sequential.specs.Linearizable.{Event, Calls, calls_in, IsWellFormed, IsLinearization}

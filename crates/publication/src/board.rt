@@ -23,9 +23,8 @@ use crate::view::View;
 use crate::words::{END, HEAD, WORDS_APART};
 use crate::{list_steps, steps};
 use atomic_table::{Refused, Table};
-use ghost_list::GhostList;
 pub use knowledge::Knowledge;
-use sequential::Sequential;
+use sequential::{GhostList, Sequential};
 use std::alloc::{AllocError as NoMemory, Global};
 use std::marker::Model;
 

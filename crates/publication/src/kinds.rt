@@ -7,8 +7,7 @@ ghost use Rattle.sequential.specs.Bounds.{Bounds, keeping_nothing};
 use crate::slot::SlotValue;
 use crate::view::View;
 use atomic_table::{Join, Play, Split, TableRule};
-use ghost_list::GhostList;
-use sequential::Sequential;
+use sequential::{GhostList, Sequential};
 use std::marker::{Brand, PhantomData};
 
 /// What is fixed when a board is made.

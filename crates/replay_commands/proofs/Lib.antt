@@ -2,3 +2,8 @@ pub mod PartsWritten
 pub mod ServedRows
 pub mod UnderWay
 pub mod Written
+pub mod StatsParts
+pub mod StatsLines
+pub mod FindingBehind
+pub mod IsVerdict
+pub mod WrongReplies

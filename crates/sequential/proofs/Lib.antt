@@ -1,5 +1,4 @@
 pub mod Members
 pub mod SessionCalls
 pub mod Batches
-pub mod Replies
 pub mod Ranges

@@ -5,3 +5,9 @@ pub mod Batches
 pub mod Replies
 pub mod EndedWaits
 pub mod Linearizable
+pub mod Kept
+pub mod TrimmedView
+pub mod Recorded
+pub mod RecordingFields
+pub mod ReplyLaws
+pub mod inner

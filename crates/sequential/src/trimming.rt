@@ -1,12 +1,12 @@
 //! A sequential object that keeps what it has answered in memory, hands it out, and lets go of it.
 
 ghost use Rattle.std.specs.Prelude.{◌≡◌, ◌+◌, ◌-◌, ◌^◌, ◌<◌, ◌≤◌, List, ◌++◌, [], min, length};
-ghost use Rattle.trimmed_list.specs.Kept.{first_kept, kept};
+ghost use Rattle.sequential.specs.Kept.{first_kept, kept};
 ghost use Rattle.sequential.specs.declared.entry.Entry.{Entry as EntryValue};
 
 use crate::batching::Batching;
+use crate::trimmed_list::MOST_DROPPED;
 use std::alloc::Global;
-use trimmed_list::MOST_DROPPED;
 
 /// An object that writes down its history as a list, of which it keeps a part in memory, hands it out, and lets go of it. The
 /// history that contracts see stays what it is.

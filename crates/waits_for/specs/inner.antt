@@ -1,3 +1,5 @@
 pub mod Bits
 pub mod CircleSearch
 pub mod Search
+pub mod CycleMeeting
+pub mod CycleRoom

@@ -6,9 +6,8 @@ ghost use Rattle.combining.specs.Sessions.{IsSessionOf, HasTakenPiece};
 
 use crate::office::Office;
 use publication::{Piece, Ticket as Session};
-use sequential::Trimming;
+use sequential::{MOST_DROPPED, Trimming};
 use std::alloc::{AllocError as NoMemory, Global};
-use trimmed_list::MOST_DROPPED;
 
 /// A piece of the history that a session took.
 #[derive(Drop)]

@@ -1,8 +1,6 @@
 -- How pointers of C lend what lies behind them.
 use Rattle.std.specs.Prelude.{ℕ, List, Option}
 use Rattle.std.specs.Borrow.{Lends, LendsIf, MutBor, Fml, Array, u32, u64, usize}
-use Rattle.library_books.specs.declared.book_handle.BookHandle.{BookHandle}
-use Rattle.library_books.specs.contracts.book_handle.BookHandle.{the_row as book_handle_row}
 use Rattle.library_books.specs.declared.numbers.AnswerNumbers.{AnswerNumbers}
 use Rattle.library_books.specs.contracts.numbers.AnswerNumbers.{the_row as answer_row}
 use Rattle.library_books.specs.declared.claims.ClaimNumbers.{ClaimNumbers}
@@ -23,8 +21,6 @@ use Rattle.library_books.specs.declared.numbers.ReplyNumbers.{ReplyNumbers}
 use Rattle.library_books.specs.contracts.numbers.ReplyNumbers.{the_row as reply_row}
 use Rattle.library_books.specs.declared.claims.TransactionNumbers.{TransactionNumbers}
 use Rattle.library_books.specs.contracts.claims.TransactionNumbers.{the_row as transaction_row}
-use Rattle.library_books.specs.declared.pointers.handles.BookPointer.{BookPointer}
-use Rattle.library_books.specs.contracts.pointers.handles.BookPointer.{the_row as book_pointer_row}
 use Rattle.library_books.specs.declared.pointers.structs.AnswerPointer.{AnswerPointer}
 use Rattle.library_books.specs.contracts.pointers.structs.AnswerPointer.{the_row as answer_pointer_row}
 use Rattle.library_books.specs.declared.pointers.structs.ClaimPointer.{ClaimPointer}
@@ -65,9 +61,6 @@ use Rattle.library_books.specs.declared.pointers.lists.SessionList.{SessionList}
 use Rattle.library_books.specs.contracts.pointers.lists.SessionList.{the_row as session_list_row}
 
 -- the pointer ends with what lies behind it replaced by the reference's last value, and at null unchanged
-abbrev pub lends_of_book_pointer : MutBor BookPointer → Option (MutBor BookHandle) → Fml
-lends_of_book_pointer p r = LendsIf book_pointer_row book_handle_row p r (λ x. record p.now { behind = x }) p.now
-
 abbrev pub lends_of_answer_pointer : MutBor AnswerPointer → Option (MutBor AnswerNumbers) → Fml
 lends_of_answer_pointer p r = LendsIf answer_pointer_row answer_row p r (λ x. record p.now { behind = x }) p.now
 

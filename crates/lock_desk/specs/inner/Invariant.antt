@@ -6,12 +6,12 @@ use Rattle.lock_rules.specs.Legal.{state_of, IsLegal}
 use Rattle.lock_desk.specs.BookView.{BookView}
 use Rattle.lock_desk.specs.Deadlocks.{AreDeadlocksTold, deadlocks_in, newest}
 use Rattle.sequential.specs.Histories.{IsEntryWithin}
-use Rattle.session_sets.specs.Ended.{ended_in}
-use Rattle.lock_desk.specs.inner.Changes.{IsWhole}
+use Rattle.lock_holders.specs.Ended.{ended_in}
+use Rattle.lock_table.specs.Changes.{IsWhole}
 use Rattle.lock_desk.specs.inner.Counting.{AreCallsCounted, AreWaitsCounted}
 use Rattle.lock_desk.specs.inner.Noting.{IsLogFor}
-use Rattle.lock_desk.specs.inner.Ready.{IsReadyTable}
-use Rattle.lock_desk.specs.inner.Shows.{Shows}
+use Rattle.lock_table.specs.Ready.{IsReadyTable}
+use Rattle.lock_table.specs.Shows.{Shows}
 use Rattle.lock_desk.specs.declared.book.Book.TheInside.{Inside}
 
 -- what contracts see of a book: its number of sessions, its history, which entries are kept, whose wait has ended, and how many

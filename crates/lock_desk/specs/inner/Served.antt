@@ -4,12 +4,12 @@ use Rattle.std.specs.List.{All}
 use Rattle.lock_rules.specs.Entries.{Entry}
 use Rattle.lock_rules.specs.Legal.{state_of, IsLegal}
 use Rattle.lock_desk.specs.Batches.{Item, entries_from, ended_waits_in}
-use Rattle.lock_desk.specs.declared.lock_table.LockTable.{LockTable}
+use Rattle.lock_table.specs.declared.table.LockTable.{LockTable}
 use Rattle.sequential.specs.Histories.{IsEntryWithin}
 use Rattle.sequential.specs.Batches.{item_of}
-use Rattle.lock_desk.specs.inner.Changes.{IsWhole}
-use Rattle.lock_desk.specs.inner.Ready.{IsReadyTable}
-use Rattle.lock_desk.specs.inner.Shows.{Shows}
+use Rattle.lock_table.specs.Changes.{IsWhole}
+use Rattle.lock_table.specs.Ready.{IsReadyTable}
+use Rattle.lock_table.specs.Shows.{Shows}
 
 -- a lock table with its history: the history is legal, and the table represents the state that the history leads to
 pub record AreKept (d : LockTable) (h : List Entry) : Type 0 where

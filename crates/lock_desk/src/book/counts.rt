@@ -3,7 +3,7 @@
 ghost use Rattle.std.specs.Prelude.{◌≡◌, ◌<◌, ◌^◌, List, length};
 ghost use Rattle.lock_rules.specs.Entries.{Entry as EntryValue};
 ghost use Rattle.lock_rules.specs.Legal.{IsLegal};
-ghost use Rattle.lock_counts.specs.Counts.{still_waiting};
+ghost use Rattle.lock_rules.specs.Counts.{still_waiting};
 ghost use Rattle.lock_desk.specs.Counts.{calls_of, refusals_of, counts_of};
 ghost use Rattle.lock_desk.specs.inner.Counting.{AreCallsCounted, AreWaitsCounted};
 

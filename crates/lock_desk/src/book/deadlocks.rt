@@ -4,21 +4,23 @@ ghost use Rattle.std.specs.Prelude.{◌≡◌, [], length, OnOk, OnErr};
 ghost use Rattle.lock_desk.specs.Deadlocks.{AreDeadlocksTold, deadlocks_in, newest};
 
 use crate::book::Book;
-use crate::deadlock_log::{Deadlock, DeadlockLog, copies_of, newest_of};
+use crate::deadlock_log::{Deadlock, DeadlockLog, newest_of};
 use std::alloc::{AllocError as NoMemory, Global};
 
 impl Book {
     /// Keeps the newest `most` deadlocks from now on, for `deadlocks` to tell. No call may have been served yet.
     ///
     /// Takes all memory for them at once: for each deadlock that of a cycle of all sessions, some 56 bytes a session, and a bit for each
-    /// pair of sessions. So no call takes memory for a deadlock, and a call that makes none costs the same with and without. A book keeps
+    /// pair of sessions; none if it keeps so many already. So no call takes memory for a deadlock, and a call that makes none costs the same with and without. A book keeps
     /// none unless it is asked for. Fails with `NoMemory` if memory is refused; the book is unchanged then.
     pub fn keep_deadlocks(&mut self, alloc: Global, most: usize) -> Result<(), NoMemory>
         requires fresh { self.old.history ≡ [] }
         ensures ok { OnOk result (self.new ≡ record self.old { deadlocks = most }) }
         ensures err { OnErr result (self.new ≡ self.old) }
     {
-        self.notes.log = DeadlockLog::keeping(alloc, self.sessions, most)?;
+        if most != self.deadlocks_kept() {
+            self.notes.log = DeadlockLog::keeping(alloc, self.sessions, most)?;
+        }
         Ok(())
     }
 
@@ -53,21 +55,5 @@ impl Book {
         ensures { AreDeadlocksTold (newest most (newest self.now.deadlocks (deadlocks_in self.now.history))) result.now }
     {
         newest_of(self.deadlocks(), most)
-    }
-
-    /// Replaces the contents of `list` by copies of the deadlocks that `newest_deadlocks` tells. (Its clause is met by another cycle through
-    /// the same victim, too.) Its cost grows with those, however many are kept. Fails with `NoMemory` if memory is refused; the contents of
-    /// `list` are unchanged then.
-    pub fn copy_deadlocks(
-        &self,
-        alloc: Global,
-        most: usize,
-        list: &mut Vec<Deadlock>,
-    ) -> Result<(), NoMemory>
-        ensures ok { OnOk result (AreDeadlocksTold (newest most (newest self.now.deadlocks (deadlocks_in self.now.history))) list.new.items) }
-        ensures err { OnErr result (list.new.items ≡ list.old.items) }
-    {
-        *list = copies_of(alloc, self.newest_deadlocks(most))?;
-        Ok(())
     }
 }

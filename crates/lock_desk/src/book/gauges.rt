@@ -3,7 +3,7 @@
 ghost use Rattle.std.specs.Prelude.{◌≡◌, ◌≤◌};
 ghost use Rattle.lock_rules.specs.State.{is_open, request_of};
 ghost use Rattle.lock_rules.specs.Legal.{state_of};
-ghost use Rattle.lock_counts.specs.Counts.{one_if};
+ghost use Rattle.lock_rules.specs.Counts.{one_if};
 ghost use Rattle.lock_desk.specs.Gauges.{open_up_to, locks_up_to, queue_length, longest_up_to, gauges_of};
 
 use crate::book::Book;

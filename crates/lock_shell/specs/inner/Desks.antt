@@ -1,7 +1,7 @@
 -- The books of a shell, between two calls.
 use Rattle.std.specs.Prelude.{◌≡◌, ℕ, List}
 use Rattle.lock_desk.specs.BookView.{BookView}
-use Rattle.trimmed_list.specs.declared.trimmed_list.TheConstants.{NO_BOUND}
+use Rattle.sequential.specs.declared.trimmed_list.TheConstants.{NO_BOUND}
 use Rattle.lock_shell.specs.Turns.{Kept}
 
 -- the two books have the same history of the sessions 1 to n, all of which the second keeps in memory

@@ -6,7 +6,7 @@ use mathlib.Core.List.{IsPrefix}
 use lib.ListN.{get_elem?}
 use Rattle.sequential.specs.declared.entry.Entry.{Entry}
 use Rattle.sequential.specs.Histories.{calls_of}
-use Rattle.trimmed_list.specs.declared.trimmed_list.TheConstants.{NO_BOUND}
+use Rattle.sequential.specs.declared.trimmed_list.TheConstants.{NO_BOUND}
 use Rattle.publication.specs.declared.piece.Piece.{Piece}
 use Rattle.publication.specs.Pieces.{pieces_of, AreInOrder, AreInARow}
 use Rattle.publication.specs.Views.{TicketView, Handed}

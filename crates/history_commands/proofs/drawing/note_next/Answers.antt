@@ -2,7 +2,7 @@ use Rattle.std.proofs.Common.{◌≡◌, refl}
 use Rattle.lock_rules.specs.Legal.{state_of}
 use Rattle.lock_rules.specs.Step.{step}
 use Rattle.history_commands.proofs.ExplainedParts.{of_none, of_some}
-use Rattle.history_commands.proofs.IsVerdict.{first_wrong, right}
+use Rattle.replay_commands.proofs.IsVerdict.{first_wrong, right}
 use Rattle.history_commands.proofs.drawing.note_next.Goals as goal
 
 pub returns-in_default-clause-wrong : goal.returns-in_default-clause-wrong

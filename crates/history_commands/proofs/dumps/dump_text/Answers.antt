@@ -2,8 +2,8 @@ use Rattle.std.proofs.Common.{List, sym, subst}
 use Rattle.std.specs.Prelude.{All}
 use Rattle.lock_report.specs.declared.snapshot.OpenTransaction.{OpenTransaction}
 use Rattle.lock_report.specs.declared.snapshot.Wait.{Wait}
-use Rattle.state_rows.specs.Rows.{IsSession, IsWait}
-use Rattle.dump_report.proofs.Parts.{opens_within, waits_within}
+use Rattle.lock_report.specs.ReadRows.{IsSession, IsWait}
+use Rattle.lock_report.proofs.DumpSessions.{opens_within, waits_within}
 use Rattle.history_commands.proofs.dumps.dump_text.Goals as goal
 
 pub form_text-requires-clause-opens : goal.form_text-requires-clause-opens

@@ -5,8 +5,8 @@ use Rattle.std.specs.Io.KnownBytes.{Appends}
 use Rattle.std.proofs.lemmas.Bool.{false≢true}
 use Rattle.replay_commands.specs.Written.{AppendsPart}
 use Rattle.command_line.specs.declared.args.Form.{Form}
-use Rattle.state_rows.specs.declared.reading.StateLists.{StateLists}
-use Rattle.state_rows.specs.States.{AreLists, text_of}
+use Rattle.lock_report.specs.declared.reading.state.StateLists.{StateLists}
+use Rattle.lock_report.specs.ReadStates.{AreLists, text_of}
 use Rattle.history_commands.specs.Dumps.{IsMistold, ShowsDump}
 use Rattle.history_commands.specs.declared.dump_fault.DumpFault.{DumpFault}
 use Rattle.history_commands.specs.declared.dump_fault.DumpFault.TheVariants as fault

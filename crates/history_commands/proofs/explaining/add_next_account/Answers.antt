@@ -7,7 +7,7 @@ use Rattle.lock_rules.specs.Legal.{state_of}
 use Rattle.lock_rules.specs.Step.{step}
 use Rattle.lock_explain.specs.Explanations.{is_eventful}
 use Rattle.history_commands.proofs.ExplainedParts.{told_more}
-use Rattle.history_commands.proofs.IsVerdict.{first_wrong, one_more, right, within_at}
+use Rattle.replay_commands.proofs.IsVerdict.{first_wrong, one_more, right, within_at}
 use Rattle.history_commands.proofs.WithinFront.{within_front}
 use Rattle.history_commands.proofs.explaining.add_next_account.Goals as goal
 

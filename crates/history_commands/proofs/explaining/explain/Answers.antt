@@ -1,5 +1,5 @@
 use Rattle.std.proofs.Common.{Ok, sym, subst}
-use Rattle.history_commands.specs.declared.checking.Verdict.{Verdict}
+use Rattle.replay_commands.specs.declared.checking.Verdict.{Verdict}
 use Rattle.history_commands.specs.Explaining.{Explains}
 use Rattle.history_commands.proofs.explaining.explain.Goals as goal
 

@@ -8,11 +8,11 @@ use Rattle.lock_rules.specs.Step.{step}
 use Rattle.sequential.specs.Histories.{IsEntryWithin}
 use Rattle.lock_trace.specs.Entries.{IsEntry}
 use Rattle.lock_explain.specs.Explanations.{IsExplanation}
-use Rattle.history_commands.specs.declared.checking.Verdict.{Verdict}
+use Rattle.replay_commands.specs.declared.checking.Verdict.{Verdict}
 use Rattle.history_commands.specs.Explaining.{IsAccount}
-use Rattle.history_commands.specs.Verdicts.{IsVerdict}
+use Rattle.replay_commands.specs.Verdicts.{IsVerdict}
 use Rattle.history_commands.proofs.ExplainedParts.{of_none, of_some}
-use Rattle.history_commands.proofs.IsVerdict.{first_wrong, right}
+use Rattle.replay_commands.proofs.IsVerdict.{first_wrong, right}
 use Rattle.history_commands.proofs.WithinFront.{within_front}
 use Rattle.history_commands.proofs.explaining.report_on_call.Goals as goal
 

@@ -4,7 +4,7 @@ use Rattle.lock_rules.specs.Legal.{state_of}
 use Rattle.lock_desk.specs.declared.gauges.Gauges.{Gauges}
 use Rattle.lock_report.specs.declared.snapshot.OpenTransaction.{OpenTransaction}
 use Rattle.lock_report.specs.declared.snapshot.Wait.{Wait}
-use Rattle.state_rows.specs.Rows.{IsSession, IsWait}
+use Rattle.lock_report.specs.ReadRows.{IsSession, IsWait}
 use Rattle.history_commands.specs.Forms.{form_of_lists}
 use Rattle.history_commands.specs.Showing.{opens_of, waits_of}
 use Rattle.history_commands.proofs.StateTold.{form-told, lists-within}

@@ -1,6 +1,6 @@
 use Rattle.std.proofs.Common.{◌≡◌, ℕ, IfOk, string_bytes, subst}
 use Rattle.history_commands.specs.Showing.{text_shown}
-use Rattle.history_commands.specs.Verdicts.{IsVerdict}
+use Rattle.replay_commands.specs.Verdicts.{IsVerdict}
 use Rattle.history_commands.proofs.showing.shown_text.Goals as goal
 
 pub returns : goal.returns

@@ -5,7 +5,6 @@ pub returns-clause-ok : goal.returns-clause-ok
 returns-clause-ok c = λ _. record {
   bound = c.in-Some.ensures.some.0;
   session = refl;
-  ended = refl;
   told = refl;
   office = refl;
   handed = refl;

@@ -12,7 +12,7 @@ invariant_of-to-2 c =
     let share = c.args.share.value in
     let settled : TicketView → Type 0 = λ one. IsSessionOf to.office.value one × HasNothingPending one in
     let theirs : All settled share.handed.items = λ k d few. (subst (λ (o : BoardView). IsSessionOf o (slice_index_or share.handed.items k d)) c.requires.one_office (share.theirs k d few).0, (share.theirs k d few).1) in
-    let own : settled share.session = (subst (λ (o : BoardView). IsSessionOf o share.session) c.requires.one_office share.ours, c.requires.settled) in
+    let own : settled share.session = (subst (λ (o : BoardView). IsSessionOf o share.session) c.requires.one_office (share.ours c.requires.free), c.requires.settled) in
     let joined : c.append.new.self.items ≡ to.handed.items ++ share.handed.items = search rules in
     let pushed : c.push_reserved.new.self.items ≡ c.append.new.self.items ++ share.session ∷ [] = search rules in
     let items : c.push_reserved.new.self.items ≡ (to.handed.items ++ share.handed.items) ++ share.session ∷ [] = pushed ∙ ap (λ (l : List TicketView). l ++ share.session ∷ []) joined in
@@ -21,7 +21,6 @@ invariant_of-to-2 c =
       theirs = subst (λ (l : List TicketView). All settled l) (sym items) (All-push settled (to.handed.items ++ share.handed.items) share.session (All-append settled to.handed.items share.handed.items to.theirs theirs) own);
       count = to.count;
       few = to.few;
-      room = to.room;
-      waking = to.waking;
+      telling = to.telling;
       silent = to.silent;
     }

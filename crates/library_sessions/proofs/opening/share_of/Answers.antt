@@ -8,7 +8,7 @@ use Rattle.library_sessions.proofs.opening.share_of.Goals as goal
 pub invariant_of-share-clause-ours : goal.invariant_of-share-clause-ours
 invariant_of-share-clause-ours c =
     let same : c.in_ok-office.office.value ≡ c.args.shared.now.value = search rules in
-    subst (λ (o : BoardView). IsSessionOf o c.call_session_of.result) (sym same)
+    λ _. subst (λ (o : BoardView). IsSessionOf o c.call_session_of.result) (sym same)
     (subst (λ (t : TicketView). IsSessionOf c.args.shared.now.value t) (sym c.call_session_of.ensures) c.requires.ours.0)
 
 pub invariant_of-share-clause-theirs : goal.invariant_of-share-clause-theirs

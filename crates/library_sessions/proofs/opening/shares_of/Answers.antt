@@ -14,10 +14,10 @@ loop-session-preserved c =
     let inv = c.loop-session.invariant in
     let made = c.loop-session.made.items in
     let b : Box SessionShare = c.in_ok-share.share in
-    let P : Box SessionShare → Type 0 = λ share. IsOfOffice c.args.office c.args.mark c.args.waker share.value in
+    let P : Box SessionShare → Type 0 = λ share. IsOfOffice c.args.office c.args.mark c.args.waker c.args.bound share.value in
     let pushed : c.push.new.self.items ≡ made ++ b ∷ [] = search rules in
     let session : b.value.session ≡ c.in-Some.session = c.in_ok-share.ensures.session in
-    let one : P b = subst (λ (o : BoardView). IsOfOffice o c.args.mark c.args.waker b.value) inv.2 c.in_ok-share.ensures.office in
+    let one : P b = subst (λ (o : BoardView). IsOfOffice o c.args.mark c.args.waker c.args.bound b.value) inv.2 c.in_ok-share.ensures.office in
     let none : All P [] = λ k d few. absurd (omega (arith, few)) in (
       ap (map (λ (share : Box SessionShare). share.value.session)) pushed
           ∙ (map_push (λ (share : Box SessionShare). share.value.session) made b

@@ -2,8 +2,8 @@ use Rattle.std.proofs.Common.{◌≡◌, ℕ, true, Some, sym, ap, ◌∙◌, su
 use Rattle.lock_rules.specs.Waits.{waits_for}
 use Rattle.lock_rules.specs.Listing.{waiting_line}
 use Rattle.lock_desk.proofs.CyclesTold.{line-session, line-some}
-use Rattle.lock_desk.proofs.Listings.{request-shown}
-use Rattle.lock_desk.proofs.Simulation.{mode-shown}
+use Rattle.lock_table.proofs.Listings.{request-shown}
+use Rattle.lock_table.proofs.Simulation.{mode-shown}
 use Rattle.lock_desk.proofs.deadlock_log.push_member.Goals as goal
 
 pub returns-clause-told : goal.returns-clause-told

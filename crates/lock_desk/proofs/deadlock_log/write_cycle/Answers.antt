@@ -1,6 +1,6 @@
 use Rattle.std.proofs.Common.{◌≡◌, ◌+◌, ℕ, length, get_or, true, refl, sym, ap, ◌∙◌, subst, arith}
 use Rattle.lock_rules.specs.Waits.{waits_for}
-use Rattle.wait_cycles.proofs.Cycles.{cycle-within}
+use Rattle.waits_for.proofs.CyclesFound.{cycle-within}
 use Rattle.lock_desk.specs.Deadlocks.{IsMember}
 use Rattle.lock_desk.proofs.CyclesTold.{AreFirstTold, session_behind, behind-within, first-none, first-more, waits-behind, cycle-told}
 use Rattle.lock_desk.proofs.deadlock_log.write_cycle.Goals as goal

@@ -2,7 +2,7 @@ use Rattle.std.proofs.Common.{◌≡◌, ◌≤◌, length}
 use Rattle.std.specs.Prelude.{vec_capacity}
 use Rattle.lock_rules.specs.State.{State}
 use Rattle.lock_rules.specs.Sound.{IsSound}
-use Rattle.lock_desk.specs.inner.Shows.{Shows}
+use Rattle.lock_table.specs.Shows.{Shows}
 use Rattle.lock_desk.proofs.CyclesTold.{AreFirstTold}
 use Rattle.lock_desk.proofs.deadlock_log.write_cycle.Given as goal
 

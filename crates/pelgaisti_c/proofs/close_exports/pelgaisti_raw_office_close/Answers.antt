@@ -8,7 +8,7 @@ use Rattle.pelgaisti_c.proofs.close_exports.pelgaisti_raw_office_close.Goals as 
 pub returns-in-Ok-clause-ok : goal.returns-in-Ok-clause-ok
 returns-in-Ok-clause-ok c = λ _.
     let was : c.args.session.now.behind.held.share ≡ Some c.in-Some-take.share.value = search rules in
-    (c.in-Some-take.share.value, c.in-Ok.made.value, was, c.put.ensures.1, c.in-Ok.ensures.ok)
+    (c.in-Some-take.share.value, c.in-Ok.made.value, was, c.put_own.ensures.1, c.in-Ok.ensures.ok)
 
 pub returns-in-Err-default-Some-clause-same : goal.returns-in-Err-default-Some-clause-same
 returns-in-Err-default-Some-clause-same c = λ _ here.
@@ -17,7 +17,7 @@ returns-in-Err-default-Some-clause-same c = λ _ here.
     let was : c.args.session.now.behind.held.share ≡ Some before = search rules in
     let back : IfSome (Some refused.share) (λ share. IsSameShare before share.value)
     = subst (λ (o : Option (Box SessionShare)). IfSome o (λ share. IsSameShare before share.value)) refused.field-0-1-is (refused.ensures.back here).0 in
-    let put : c.put-in-Err-default-Some.new.self.held.share ≡ Some refused.share.value = search rules in
+    let put : c.put.new.self.held.share ≡ Some refused.share.value = search rules in
     (search rules, inr (before, refused.share.value, was, put, back))
 
 pub returns-in-Err-default-Some-clause-missing : goal.returns-in-Err-default-Some-clause-missing

@@ -5,8 +5,11 @@ use Rattle.library_sessions.specs.declared.session_handle.SessionHandle.{Session
 use Rattle.library_sessions.proofs.Handles.{new_tickets_count, are_unknowing}
 use Rattle.pelgaisti_c.proofs.office.pelgaisti_raw_office_open.Goals as goal
 
-pub open_handles-requires : goal.open_handles-requires
-open_handles-requires c =
+pub open_handles-requires-clause-free : goal.open_handles-requires-clause-free
+open_handles-requires-clause-free c = λ k d few. (c.in-Ok-shares_of.ensures.office k d few).free
+
+pub open_handles-requires-clause-as_many : goal.open_handles-requires-clause-as_many
+open_handles-requires-clause-as_many c =
     let ws = c.in-Ok-shares_of.shares.items in
     let made : length c.in-Ok.made.items ≡ length c.items-sessions.result.now = ap length c.in-Ok.ensures.sessions ∙ new_tickets_count _ _ _ in
     let same : length c.has_open.new.handles ≡ length c.items-sessions.result.now = ap length c.has_open.ensures.same in

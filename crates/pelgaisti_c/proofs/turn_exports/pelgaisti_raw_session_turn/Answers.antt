@@ -41,12 +41,12 @@ returns-clause-late c = λ e.
 pub returns-clause-told : goal.returns-clause-told
 returns-clause-told c = λ e.
     let was : c.args.session.now.behind.held.share ≡ Some c.deref_mut.result.now = search rules in
-    (c.deref_mut.result.now, c.turn-status.new.share, was, c.put.ensures.1, c.turn-status.ensures.told e)
+    (c.deref_mut.result.now, c.turn-status.new.share, was, c.put.ensures.1, (c.turn-status.ensures.told e).0)
 
 pub returns-clause-few : goal.returns-clause-few
 returns-clause-few c = λ e.
     let was : c.args.session.now.behind.held.share ≡ Some c.deref_mut.result.now = search rules in
-    (c.deref_mut.result.now, c.turn-status.new.share, was, c.put.ensures.1, c.turn-status.ensures.few e)
+    (c.deref_mut.result.now, c.turn-status.new.share, was, c.put.ensures.1, (c.turn-status.ensures.told e).1)
 
 pub returns-clause-first : goal.returns-clause-first
 returns-clause-first c = λ e none.

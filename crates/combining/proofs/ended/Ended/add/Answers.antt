@@ -1,43 +1,55 @@
-use Rattle.std.proofs.Common.{rules, ◌≡◌, ◌↔◌, ◌⊎◌, ◌≤◌, ◌<◌, ◌-◌, ◌∷◌, ◌++◌, [], true, false, List, ℕ, length, length-append, vec_len, vec_capacity, get_or, set, subst, sym, ap, ◌∙◌, arith}
+use Rattle.std.proofs.Common.{◌≡◌, ◌⊎◌, ℕ, ◌-◌, ◌↔◌, ◌∙◌, List, true, false, sym, ap, subst, arith}
 use Rattle.std.specs.List.{Contains}
-use Rattle.std.proofs.lemmas.List.{length-set, get_or_default}
 use Rattle.combining.specs.Ended.{EndedView}
-use Rattle.combining.proofs.EndedList.{AreMarked, few-marked, marked-pushed, push-members}
+use Rattle.combining.specs.inner.EndedList.{has_bit, marked}
+use Rattle.combining.proofs.EndedList.{marked-already, marked-with, marked-longer, marked-few}
 use Rattle.combining.proofs.ended.Ended.add.Goals as goal
 
-pub unreachable-requires : goal.unreachable-requires
-unreachable-requires c =
+pub returns-then-has-clause-members : goal.returns-then-has-clause-members
+returns-then-has-clause-members c u =
+    let words = c.self.inside.words.items in
+    let at = c.from-place.result - 1 in
+    let s = c.args.session in
+    let room = ap (λ (v : EndedView). v.room) c.self.view_is in
+    let is : has_bit words at ≡ true = ap (λ (l : List ℕ). has_bit l at) (sym c.deref.ensures.value) ∙ (sym c.has.ensures ∙ c.if-has.true) in
+    subst (λ (l : List ℕ). Contains l u ↔ (Contains l u ⊎ (u ≡ s))) (ap (λ (v : EndedView). v.list) c.self.view_is)
+    (marked-already words c.self.inside.room at s (ap (λ (w : ℕ). w - 1) c.from-place.ensures) c.requires.some (omega (arith, room, c.requires.within)) is u)
+
+pub overflow_add-self : goal.overflow_add-self
+overflow_add-self c =
     let k = c.self.invariant in
-    let marks = c.self.inside.is_in.items in
-    let xs = c.self.inside.list.items in
-    let u = c.args.session in
-    let long = ap (λ (v : EndedView). v.room) c.self.view_is in
-    let within : u ≤ length marks = omega (arith, long, c.requires.within) in
-    let off : get_or marks (u - 1) false ≡ false
-    = get_or_default marks (u - 1) false c.index.result.now (omega (arith, within, c.requires.some))
-    ∙ (ap (λ (w : ℕ). get_or marks (w - 1) c.index.result.now) (sym c.from-place.ensures) ∙ (sym c.index.ensures ∙ c.if-index.false)) in
-    let few = few-marked (set marks (u - 1) true) (xs ++ u ∷ []) (marked-pushed marks xs u (record { once = k.once; members = k.members }) c.requires.some within off) in
-    let len : vec_len c.self.inside.list ≡ length xs = search rules in
-    let room : vec_len c.self.inside.list < vec_capacity c.self.inside.list
-    = omega (arith, few, len, length-append xs (u ∷ []), length-set marks (u - 1) true, k.room) in
-    search rules
+    let words = c.self.inside.words.items in
+    let new = c.set.new.words.items in
+    let n = c.self.inside.room in
+    let at = c.from-place.result - 1 in
+    let room = ap (λ (v : EndedView). v.room) c.self.view_is in
+    let off : has_bit words at ≡ false = ap (λ (l : List ℕ). has_bit l at) (sym c.deref.ensures.value) ∙ (sym c.has.ensures ∙ c.if-has.false) in
+    let longer = marked-longer words new at c.set.ensures.bits n (omega (arith, room, c.requires.within, c.requires.some, c.from-place.ensures)) off in
+    omega (arith, longer, marked-few new n, k.small, k.count)
 
 pub invariant_of-self : goal.invariant_of-self
 invariant_of-self c =
     let k = c.self.invariant in
-    let marks = c.self.inside.is_in.items in
-    let xs = c.self.inside.list.items in
-    let u = c.args.session in
-    let long = ap (λ (v : EndedView). v.room) c.self.view_is in
-    let within : u ≤ length marks = omega (arith, long, c.requires.within) in
-    let off : get_or marks (u - 1) false ≡ false
-    = get_or_default marks (u - 1) false c.index.result.now (omega (arith, within, c.requires.some))
-    ∙ (ap (λ (w : ℕ). get_or marks (w - 1) c.index.result.now) (sym c.from-place.ensures) ∙ (sym c.index.ensures ∙ c.if-index.false)) in
-    let m = marked-pushed marks xs u (record { once = k.once; members = k.members }) c.requires.some within off in
-    let n = subst (λ (w : ℕ). AreMarked (set marks (w - 1) true) c.push.new.self.items) (sym c.from-place.ensures) (subst (λ (l : List ℕ). AreMarked (set marks (u - 1) true) l) (sym c.in-Ok.ensures.items) m) in
-    let capacity : vec_capacity c.self.inside.list ≤ vec_capacity c.push.new.self = search rules in
-    record { room = omega (arith, k.room, length-set marks (c.from-place.result - 1) true, capacity); once = n.once; members = n.members }
+    let words = c.self.inside.words.items in
+    let new = c.set.new.words.items in
+    let n = c.self.inside.room in
+    let at = c.from-place.result - 1 in
+    let room = ap (λ (v : EndedView). v.room) c.self.view_is in
+    let off : has_bit words at ≡ false = ap (λ (l : List ℕ). has_bit l at) (sym c.deref.ensures.value) ∙ (sym c.has.ensures ∙ c.if-has.false) in
+    let longer = marked-longer words new at c.set.ensures.bits n (omega (arith, room, c.requires.within, c.requires.some, c.from-place.ensures)) off in
+    record {
+      bits = omega (arith, k.bits, c.set.ensures.len);
+      small = k.small;
+      count = omega (arith, longer, k.count);
+    }
 
 pub returns-clause-members : goal.returns-clause-members
-returns-clause-members c u = subst (λ (l : List ℕ). Contains l u ↔ (Contains c.args.self.now.list u ⊎ (u ≡ c.args.session))) (sym c.in-Ok.ensures.items)
-    (subst (λ (l : List ℕ). Contains (c.self.inside.list.items ++ c.args.session ∷ []) u ↔ (Contains l u ⊎ (u ≡ c.args.session))) (ap (λ (v : EndedView). v.list) c.self.view_is) (push-members c.self.inside.list.items c.args.session u))
+returns-clause-members c u =
+    let words = c.self.inside.words.items in
+    let new = c.set.new.words.items in
+    let n = c.self.inside.room in
+    let at = c.from-place.result - 1 in
+    let s = c.args.session in
+    let room = ap (λ (v : EndedView). v.room) c.self.view_is in
+    subst (λ (l : List ℕ). Contains (marked new n) u ↔ (Contains l u ⊎ (u ≡ s))) (ap (λ (v : EndedView). v.list) c.self.view_is)
+    (marked-with words new at c.set.ensures.bits n s (ap (λ (w : ℕ). w - 1) c.from-place.ensures) c.requires.some (omega (arith, room, c.requires.within)) u)

@@ -1,7 +1,8 @@
-use Rattle.std.proofs.Common.{◌↔◌, ◌⊎◌, ◌∙◌, List, ℕ, subst}
+use Rattle.std.proofs.Common.{◌↔◌, ◌⊎◌, ◌∙◌, List, ℕ, ap, subst}
 use Rattle.std.specs.List.{Contains}
 use Rattle.std.proofs.lemmas.List.{take_all}
-use Rattle.combining.proofs.EndedList.{added-next}
+use Rattle.combining.specs.Ended.{EndedView, IsOnce}
+use Rattle.combining.proofs.EndedList.{added-next, marked-once}
 use Rattle.combining.proofs.ended.Ended.add_all.Goals as goal
 
 pub loop-session-preserved : goal.loop-session-preserved
@@ -14,3 +15,6 @@ loop-session-preserved c =
 
 pub returns-clause-members : goal.returns-clause-members
 returns-clause-members c u = subst (λ (l : List ℕ). Contains c.loop-session.self.list u ↔ (Contains c.args.self.now.list u ⊎ Contains l u)) (take_all c.loop-session.session-index c.args.sessions.now c.loop-session-test.false) (c.loop-session.invariant.members u)
+
+pub returns-clause-once : goal.returns-clause-once
+returns-clause-once c = subst (λ (l : List ℕ). IsOnce l) (ap (λ (v : EndedView). v.list) c.self.view_is) (marked-once c.self.inside.words.items c.self.inside.room)

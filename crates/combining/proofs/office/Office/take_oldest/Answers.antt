@@ -1,6 +1,6 @@
 use Rattle.std.proofs.Common.{rules, ◌≡◌, ◌∙◌, ◌+◌, ◌-◌, ◌^◌, max, ◌<◌, ◌≤◌, ◌++◌, ◌∷◌, List, [], take, drop, min, length, sym, ap, subst, arith}
 use mathlib.Core.List.{IsPrefix}
-use Rattle.trimmed_list.specs.declared.trimmed_list.TheConstants.{NO_BOUND}
+use Rattle.sequential.specs.declared.trimmed_list.TheConstants.{NO_BOUND}
 use Rattle.sequential.specs.declared.entry.Entry.{Entry}
 use Rattle.publication.specs.declared.piece.Piece.{Piece}
 use Rattle.publication.proofs.PieceLaws.{one_more_in_order, one_more_in_a_row}

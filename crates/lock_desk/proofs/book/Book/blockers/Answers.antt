@@ -4,7 +4,7 @@ use Rattle.lock_rules.specs.State.{is_waiting}
 use Rattle.lock_rules.specs.Waits.{waits_for}
 use Rattle.lock_desk.specs.BookView.{BookView}
 use Rattle.lock_desk.specs.Queries.{blockers_among}
-use Rattle.lock_desk.proofs.Simulation.{waits-shown}
+use Rattle.lock_table.proofs.Simulation.{waits-shown}
 use Rattle.lock_desk.proofs.Blockers.{over, entered, skipped, one-written, none-written, nobody}
 use Rattle.lock_desk.proofs.BookInvariant.{behind}
 use Rattle.lock_desk.proofs.book.Book.blockers.Goals as goal

@@ -3,7 +3,7 @@ use Rattle.std.specs.List.{All}
 use Rattle.sequential.specs.Histories.{IsEntryWithin}
 use Rattle.lock_rules.specs.Legal.{state_of}
 use Rattle.lock_rules.proofs.Steps.{state-lawful}
-use Rattle.lock_counts.proofs.Ends.{requests-within}
+use Rattle.lock_rules.proofs.CountEnds.{requests-within}
 use Rattle.lock_desk.specs.BookView.{BookView}
 use Rattle.lock_desk.specs.Counts.{counts_of}
 use Rattle.lock_desk.specs.inner.Counting.{AreWaitsCounted}

@@ -1,8 +1,8 @@
 use Rattle.std.proofs.Common.{refl, ap, ◌∙◌}
-use Rattle.lock_desk.specs.declared.lock_table.LockTable.{LockTable}
-use Rattle.session_sets.specs.Ended.{ended_in}
+use Rattle.lock_table.specs.declared.table.LockTable.{LockTable}
+use Rattle.lock_holders.specs.Ended.{ended_in}
 use Rattle.lock_desk.proofs.BookInvariant.{behind, read_as, relisted-kept}
-use Rattle.session_sets.proofs.EndedList.{none-in}
+use Rattle.lock_holders.proofs.EndedList.{none-in}
 use Rattle.lock_desk.proofs.book.Book.forget_ended.Goals as goal
 
 pub invariant_of-self : goal.invariant_of-self

@@ -2,7 +2,7 @@ use Rattle.std.proofs.Common.{◌∙◌, ap}
 use Rattle.lock_rules.specs.State.{held_mode}
 use Rattle.lock_rules.specs.Legal.{state_of}
 use Rattle.lock_desk.specs.BookView.{BookView}
-use Rattle.lock_desk.proofs.Simulation.{mode-shown}
+use Rattle.lock_table.proofs.Simulation.{mode-shown}
 use Rattle.lock_desk.proofs.BookInvariant.{behind}
 use Rattle.lock_desk.proofs.book.Book.held.Goals as goal
 

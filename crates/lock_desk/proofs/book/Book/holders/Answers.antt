@@ -3,7 +3,7 @@ use Rattle.lock_rules.specs.State.{holders}
 use Rattle.lock_rules.specs.Legal.{state_of}
 use Rattle.lock_desk.specs.BookView.{BookView}
 use Rattle.lock_desk.proofs.Results.{to-ok}
-use Rattle.lock_desk.proofs.Simulation.{holders-shown}
+use Rattle.lock_table.proofs.Simulation.{holders-shown}
 use Rattle.lock_desk.proofs.BookInvariant.{behind}
 use Rattle.lock_desk.proofs.book.Book.holders.Goals as goal
 

@@ -2,7 +2,7 @@ use Rattle.std.proofs.Common.{◌∙◌, ap}
 use Rattle.lock_rules.specs.Legal.{state_of}
 use Rattle.lock_rules.specs.State.{is_waiting}
 use Rattle.lock_desk.specs.BookView.{BookView}
-use Rattle.lock_desk.proofs.Simulation.{waits-shown}
+use Rattle.lock_table.proofs.Simulation.{waits-shown}
 use Rattle.lock_desk.proofs.BookInvariant.{behind}
 use Rattle.lock_desk.proofs.book.Book.is_waiting.Goals as goal
 

@@ -2,7 +2,7 @@ use Rattle.std.proofs.Common.{◌∙◌, ap}
 use Rattle.lock_rules.specs.Legal.{state_of}
 use Rattle.lock_rules.specs.Listing.{listing_of}
 use Rattle.lock_desk.specs.BookView.{BookView}
-use Rattle.lock_desk.proofs.Listings.{listing-shown}
+use Rattle.lock_table.proofs.Listings.{listing-shown}
 use Rattle.lock_desk.proofs.Results.{to-ok}
 use Rattle.lock_desk.proofs.BookInvariant.{behind}
 use Rattle.lock_desk.proofs.book.Book.locks.Goals as goal

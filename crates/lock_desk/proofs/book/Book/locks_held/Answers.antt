@@ -4,7 +4,7 @@ use Rattle.lock_rules.specs.Legal.{state_of}
 use Rattle.lock_rules.proofs.Lawful.{lawful}
 use Rattle.lock_rules.proofs.Steps.{state-lawful}
 use Rattle.lock_desk.specs.BookView.{BookView}
-use Rattle.lock_desk.proofs.Simulation.{locks-shown}
+use Rattle.lock_table.proofs.Simulation.{locks-shown}
 use Rattle.lock_desk.proofs.BookInvariant.{behind}
 use Rattle.lock_desk.proofs.book.Book.locks_held.Goals as goal
 

@@ -3,10 +3,10 @@ use Rattle.lock_rules.specs.State.{request_of}
 use Rattle.lock_rules.specs.Legal.{state_of}
 use Rattle.lock_rules.proofs.Steps.{state-lawful}
 use Rattle.lock_desk.specs.BookView.{BookView}
-use Rattle.lock_desk.specs.declared.lock_table.LockTable.{LockTable}
-use Rattle.lock_desk.specs.inner.Changes.{view_at}
+use Rattle.lock_table.specs.declared.table.LockTable.{LockTable}
+use Rattle.lock_table.specs.Changes.{view_at}
 use Rattle.lock_desk.specs.Gauges.{queue_length}
-use Rattle.lock_desk.proofs.Listings.{request-shown}
+use Rattle.lock_table.proofs.Listings.{request-shown}
 use Rattle.lock_desk.proofs.QueuesTold.{queue-told, none-told}
 use Rattle.lock_desk.proofs.BookInvariant.{behind}
 use Rattle.lock_desk.proofs.book.Book.queue_of.Goals as goal

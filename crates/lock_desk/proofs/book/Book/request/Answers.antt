@@ -3,7 +3,7 @@ use Rattle.lock_rules.specs.Legal.{state_of}
 use Rattle.lock_rules.specs.Listing.{waiting_line}
 use Rattle.lock_rules.proofs.Steps.{state-lawful}
 use Rattle.lock_desk.specs.BookView.{BookView}
-use Rattle.lock_desk.proofs.Listings.{request-shown}
+use Rattle.lock_table.proofs.Listings.{request-shown}
 use Rattle.lock_desk.proofs.BookInvariant.{behind}
 use Rattle.lock_desk.proofs.book.Book.request.Goals as goal
 

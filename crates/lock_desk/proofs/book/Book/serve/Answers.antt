@@ -2,11 +2,11 @@ use Rattle.std.proofs.Common.{◌≡◌, ◌∙◌, refl, sym, ap, subst, arith,
 use Rattle.lock_rules.specs.Step.{step}
 use Rattle.lock_rules.specs.Legal.{state_of}
 use Rattle.lock_desk.specs.BookView.{BookView}
-use Rattle.lock_desk.specs.declared.lock_table.LockTable.{LockTable}
+use Rattle.lock_table.specs.declared.table.LockTable.{LockTable}
 use Rattle.lock_desk.specs.inner.Served.{AreKept}
 use Rattle.lock_desk.specs.inner.Invariant.{IsKept}
 use Rattle.lock_desk.proofs.BookInvariant.{behind, kept-of, of-kept, kept-relisted, read_as, view-behind, waits_ended-alone, entry-view}
-use Rattle.lock_desk.specs.inner.Changes.{with_ended_count}
+use Rattle.lock_table.specs.Changes.{with_ended_count}
 use Rattle.lock_desk.proofs.book.Book.serve.Goals as goal
 
 pub serve_recorded-requires-clause-within : goal.serve_recorded-requires-clause-within

@@ -4,7 +4,7 @@ use Rattle.lock_rules.specs.Legal.{state_of}
 use Rattle.lock_desk.specs.inner.Counting.{AreCallsCounted, AreWaitsCounted}
 use Rattle.lock_desk.specs.Deadlocks.{AreDeadlocksTold, deadlocks_in, newest}
 use Rattle.lock_desk.proofs.BookInvariant.{behind, kept-of, kept-same, of-kept, read_as}
-use Rattle.lock_desk.proofs.Simulation.{same-shown}
+use Rattle.lock_table.proofs.Simulation.{same-shown}
 use Rattle.lock_desk.proofs.book.Book.shrink.Goals as goal
 
 pub invariant_of-self : goal.invariant_of-self

@@ -3,8 +3,8 @@ use Rattle.lock_rules.specs.Waits.{waits_for}
 use Rattle.lock_rules.specs.Legal.{state_of}
 use Rattle.lock_rules.proofs.Steps.{state-lawful}
 use Rattle.lock_desk.specs.BookView.{BookView}
-use Rattle.lock_desk.proofs.RowsOfTheTable.{written-blocks}
-use Rattle.lock_desk.proofs.WaitsOfTheState.{pairs-shown}
+use Rattle.lock_table.proofs.RowsOfTheTable.{written-blocks}
+use Rattle.lock_table.proofs.WaitsOfTheState.{pairs-shown}
 use Rattle.lock_desk.proofs.BookInvariant.{behind}
 use Rattle.lock_desk.proofs.book.Book.waits_for.Goals as goal
 

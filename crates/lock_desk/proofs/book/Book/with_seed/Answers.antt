@@ -3,9 +3,9 @@ use Rattle.std.specs.List.{All}
 use Rattle.sequential.specs.Histories.{IsEntryWithin}
 use Rattle.lock_rules.specs.Entries.{Entry}
 use Rattle.lock_rules.specs.Legal.{IsLegal, state_of}
-use Rattle.lock_desk.specs.inner.Shows.{Shows}
+use Rattle.lock_table.specs.Shows.{Shows}
 use Rattle.lock_desk.specs.Deadlocks.{AreDeadlocksTold, deadlocks_in, newest}
-use Rattle.session_sets.proofs.EndedList.{none-in}
+use Rattle.lock_holders.proofs.EndedList.{none-in}
 use Rattle.lock_desk.specs.inner.Counting.{AreCallsCounted, AreWaitsCounted}
 use Rattle.lock_desk.proofs.CallsCounted.{none-counted}
 use Rattle.lock_desk.proofs.book.Book.with_seed.Goals as goal

@@ -1,8 +1,8 @@
 use Rattle.std.proofs.Common.{◌≡◌, ◌+◌, ◌<◌, ◌^◌, length, ◌∙◌, arith}
-use Rattle.lock_counts.specs.Counts.{requests, waits_begun, waits_granted, waits_doomed, waits_withdrawn, waits_aborted, waits_restarted, still_waiting, deadlocks, is_request}
-use Rattle.lock_counts.proofs.Counting.{count-le-length}
-use Rattle.lock_counts.proofs.Balance.{waits-end-once, requests-answered, counts-bounded}
-use Rattle.lock_counts.proofs.Tallies.{begun-with}
+use Rattle.lock_rules.specs.Counts.{requests, waits_begun, waits_granted, waits_doomed, waits_withdrawn, waits_aborted, waits_restarted, still_waiting, deadlocks, is_request}
+use Rattle.lock_rules.proofs.Counting.{count-le-length}
+use Rattle.lock_rules.proofs.CountBalance.{waits-end-once, requests-answered, counts-bounded}
+use Rattle.lock_rules.proofs.CountTallies.{begun-with}
 use Rattle.lock_desk.proofs.VictimsOfCalls.{all-victims, all-closings}
 use Rattle.lock_desk.proofs.book.counts.counts_told.Goals as goal
 

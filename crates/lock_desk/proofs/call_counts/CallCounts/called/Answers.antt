@@ -1,7 +1,7 @@
 use Rattle.std.proofs.Common.{◌≡◌, ◌∙◌, ℕ, ◌+◌, ◌*◌, get_or, ap, arith}
-use Rattle.lock_counts.specs.Counts.{count_if}
-use Rattle.lock_counts.proofs.Counting.{count-le-length}
-use Rattle.lock_counts.proofs.Tallies.{below, called-next, called-all, called-none}
+use Rattle.lock_rules.specs.Counts.{count_if}
+use Rattle.lock_rules.proofs.Counting.{count-le-length}
+use Rattle.lock_rules.proofs.CountTallies.{below, called-next, called-all, called-none}
 use Rattle.lock_desk.proofs.call_counts.CallCounts.called.Goals as goal
 
 pub returns : goal.returns

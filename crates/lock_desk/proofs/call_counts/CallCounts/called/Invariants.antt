@@ -1,7 +1,7 @@
 use Rattle.std.proofs.Common.{◌≡◌, ◌<◌, ◌^◌, length, List}
 use Rattle.lock_rules.specs.Entries.{Entry}
-use Rattle.lock_counts.specs.Counts.{count_if}
-use Rattle.lock_counts.proofs.Tallies.{below}
+use Rattle.lock_rules.specs.Counts.{count_if}
+use Rattle.lock_rules.proofs.CountTallies.{below}
 use Rattle.lock_desk.specs.inner.Counting.{AreCallsCounted}
 use Rattle.lock_desk.proofs.call_counts.CallCounts.called.Given as goal
 

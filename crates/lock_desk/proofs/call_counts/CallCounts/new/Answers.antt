@@ -1,5 +1,5 @@
-use Rattle.lock_counts.proofs.Tallies.{zeros}
-use Rattle.lock_counts.specs.Tallies.{cell_of}
+use Rattle.lock_rules.proofs.CountTallies.{zeros}
+use Rattle.lock_rules.specs.CountTallies.{cell_of}
 use Rattle.lock_desk.proofs.call_counts.CallCounts.new.Goals as goal
 
 pub returns : goal.returns

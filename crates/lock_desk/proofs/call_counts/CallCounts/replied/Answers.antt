@@ -1,6 +1,6 @@
 use Rattle.std.proofs.Common.{ℕ, get_or, ap, ◌∙◌}
 use Rattle.lock_rules.specs.Kinds.{number_of_kind}
-use Rattle.lock_counts.proofs.Numbers.{kind_few}
+use Rattle.lock_rules.proofs.CountNumbers.{kind_few}
 use Rattle.lock_desk.proofs.call_counts.CallCounts.replied.Goals as goal
 
 pub returns : goal.returns

@@ -1,8 +1,8 @@
 use Rattle.std.proofs.Common.{◌&&◌, arith}
 use Rattle.lock_rules.specs.Entries.{Entry}
-use Rattle.lock_counts.specs.Counts.{is_kind, is_request}
-use Rattle.lock_counts.proofs.Counting.{count-le-length}
-use Rattle.lock_counts.proofs.Tallies.{requests-with}
+use Rattle.lock_rules.specs.Counts.{is_kind, is_request}
+use Rattle.lock_rules.proofs.Counting.{count-le-length}
+use Rattle.lock_rules.proofs.CountTallies.{requests-with}
 use Rattle.lock_desk.proofs.call_counts.CallCounts.requests_replied.Goals as goal
 
 pub returns : goal.returns

@@ -2,10 +2,11 @@ use Rattle.std.proofs.Common.{◌≡◌, ℕ, zero, suc, ◌+◌, ◌<◌, ◌�
 use Rattle.std.specs.Prelude.{vec_capacity}
 use Rattle.std.specs.List.{All}
 use Rattle.std.proofs.lemmas.Bool.{cases_lt, lt-ltb, le-ltb, false≢true}
-use Rattle.wait_cycles.proofs.Cycles.{cycle-few}
+use Rattle.waits_for.proofs.CyclesFound.{cycle-few}
 use Rattle.lock_desk.specs.declared.deadlock_log.Deadlock.{Deadlock}
 use Rattle.lock_desk.specs.declared.deadlock_log.DeadlockLog.TheInside.{Inside}
-use Rattle.lock_desk.specs.inner.Noting.{LogView, log_view_of, IsCopyFor, IsLogFor, HasTold}
+use Rattle.lock_table.specs.Noting.{IsCopyFor}
+use Rattle.lock_desk.specs.inner.Noting.{LogView, log_view_of, IsLogFor, HasTold}
 use Rattle.lock_desk.proofs.CyclesTold.{told-slot}
 use Rattle.lock_desk.proofs.deadlock_log.DeadlockLog.keep.Goals as goal
 

@@ -1,7 +1,6 @@
-use Rattle.std.proofs.Common.{◌≡◌, ◌+◌, ◌-◌, suc, refl, arith, length, take}
-use Rattle.lock_rules.specs.declared.calls.Call.TheVariants.{Lock}
-use Rattle.lock_programs.specs.Starts.{last_call}
-use Rattle.lock_programs.proofs.Shapes.{path-at}
+use Rattle.std.proofs.Common.{◌≡◌, ◌+◌, ◌-◌, suc, arith, length, take}
+use Rattle.lock_programs.specs.Starts.{last_call, ancestor_call}
+use Rattle.lock_programs.proofs.Shapes.{path-at, ancestor-done}
 use Rattle.lock_programs.proofs.path.StartedPath.done_on_path.Goals as goal
 
 pub returns-then-self-at : goal.returns-then-self-at
@@ -13,4 +12,4 @@ returns-then-self-at c =
 pub returns : goal.returns
 returns c =
     let p = c.args.self.now in
-    λ began ended. (Lock (take (p.from + c.args.at) p.resource) p.above, path-at p.resource p.above p.last p.from (length p.resource + 1 - p.from) c.args.at (suc (length p.resource - (p.from + c.args.at) - 1)) (omega (arith, c.requires, c.if-self-at.false, c.level.ensures)), refl)
+    λ began ended. (ancestor_call p.above p.last (take (p.from + c.args.at) p.resource), path-at p.resource p.above p.last p.from (length p.resource + 1 - p.from) c.args.at (suc (length p.resource - (p.from + c.args.at) - 1)) (omega (arith, c.requires, c.if-self-at.false, c.level.ensures)), ancestor-done p.above p.last (take (p.from + c.args.at) p.resource) began ended c.args.mode)

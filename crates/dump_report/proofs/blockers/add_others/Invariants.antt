@@ -1,8 +1,0 @@
-use Rattle.std.proofs.Common.{◌≡◌, ◌++◌, take}
-use Rattle.std.specs.List.{flat_map}
-use Rattle.dump_report.specs.Blockers.{other_wait}
-use Rattle.dump_report.proofs.blockers.add_others.Given as goal
-
--- the waits so far are listed
-abbrev pub invariant-loop-wait : goal.invariant-loop-wait
-invariant-loop-wait l = l.told.items ≡ l.fn.told.items ++ flat_map (other_wait l.first) (take l.wait-index l.waits)

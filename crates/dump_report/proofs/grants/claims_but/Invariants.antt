@@ -1,7 +1,0 @@
-use Rattle.std.proofs.Common.{◌≡◌, take}
-use Rattle.dump_report.specs.Jam.{claims_but}
-use Rattle.dump_report.proofs.grants.claims_but.Given as goal
-
--- of the claims so far, those of other sessions are listed
-abbrev pub invariant-loop-claim : goal.invariant-loop-claim
-invariant-loop-claim l = l.others.items ≡ claims_but l.session (take l.claim-index l.claims)

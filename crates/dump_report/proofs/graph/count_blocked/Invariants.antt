@@ -1,7 +1,0 @@
-use Rattle.std.proofs.Common.{◌≡◌, ◌≤◌, length}
-use Rattle.dump_report.specs.Jam.{blocked_by}
-use Rattle.dump_report.proofs.graph.count_blocked.Given as goal
-
--- of the sessions so far, those that are blocked are counted
-abbrev pub invariant-loop-below : goal.invariant-loop-below
-invariant-loop-below l = record { count : l.count ≡ length (blocked_by l.below l.waits l.session); few : l.count ≤ l.below; same : l.rows ≡ l.fn.rows }

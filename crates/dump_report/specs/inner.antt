@@ -1,3 +1,0 @@
-pub mod Blocking
-pub mod Contended
-pub mod Graph

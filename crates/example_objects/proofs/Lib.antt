@@ -1,0 +1,3 @@
+pub mod CounterPushes
+pub mod QueuePushes
+pub mod MapsBehind

@@ -1,0 +1,4 @@
+pub mod Counting
+pub mod CounterFields
+pub mod Queues
+pub mod Maps

@@ -1,8 +1,0 @@
-use Rattle.std.proofs.Common.{◌≡◌, ◌++◌, take, string_bytes}
-use Rattle.std.specs.List.{flat_map}
-use Rattle.explain_report.specs.ExplanationDot.{node_of_victim}
-use Rattle.explain_report.proofs.dot.put_nodes_of_victims.Given as goal
-
--- The nodes of the victims before this one are written.
-abbrev pub invariant-loop-victim : goal.invariant-loop-victim
-invariant-loop-victim l = string_bytes l.out ≡ string_bytes l.fn.out ++ flat_map node_of_victim (take l.victim-index l.victims)

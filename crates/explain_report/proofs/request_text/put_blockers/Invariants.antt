@@ -1,8 +1,0 @@
-use Rattle.std.proofs.Common.{◌≡◌, ◌++◌, take, string_bytes}
-use Rattle.std.specs.List.{flat_map}
-use Rattle.explain_report.specs.ExplanationText.{line_of_blocker}
-use Rattle.explain_report.proofs.request_text.put_blockers.Given as goal
-
--- The lines of the blockers before this one are written.
-abbrev pub invariant-loop-blocker : goal.invariant-loop-blocker
-invariant-loop-blocker l = string_bytes l.out ≡ string_bytes l.fn.out ++ flat_map (line_of_blocker l.start) (take l.blocker-index l.blockers)

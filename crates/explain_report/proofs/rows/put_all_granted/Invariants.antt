@@ -1,8 +1,0 @@
-use Rattle.std.proofs.Common.{◌≡◌, ◌++◌, take, string_bytes}
-use Rattle.std.specs.List.{flat_map}
-use Rattle.explain_report.specs.ExplanationRows.{row_of_granted}
-use Rattle.explain_report.proofs.rows.put_all_granted.Given as goal
-
--- The rows of the requests before this one are written.
-abbrev pub invariant-loop-request : goal.invariant-loop-request
-invariant-loop-request l = string_bytes l.out ≡ string_bytes l.fn.out ++ flat_map (row_of_granted l.place) (take l.request-index l.requests)

@@ -1,8 +1,0 @@
-use Rattle.std.proofs.Common.{◌≡◌, ◌++◌, take, string_bytes}
-use Rattle.std.specs.List.{flat_map}
-use Rattle.explain_report.specs.ExplanationRows.{row_of_lock_below}
-use Rattle.explain_report.proofs.rows.put_locks_below.Given as goal
-
--- The rows of the locks before this one are written.
-abbrev pub invariant-loop-lock : goal.invariant-loop-lock
-invariant-loop-lock l = string_bytes l.out ≡ string_bytes l.fn.out ++ flat_map (row_of_lock_below l.place) (take l.lock-index l.locks)

@@ -1,3 +1,0 @@
-pub mod Counts
-pub mod Balance
-pub mod Tallies

@@ -1,7 +1,0 @@
-use Rattle.std.proofs.Common.{◌≡◌, ◌++◌, map, take}
-use Rattle.lock_desk.specs.inner.Cells.{view_of}
-use Rattle.lock_desk.specs.inner.Listing.{request_line}
-use Rattle.lock_desk.proofs.lock_table.LockTable.push_queue.Given as goal
-
-abbrev pub invariant-loop-index : goal.invariant-loop-index
-invariant-loop-index l = l.list.items ≡ l.initial.list.items ++ map (request_line l.self l.resource (view_of l.cell).holders) (take l.index l.queue)

@@ -1,9 +1,0 @@
-use Rattle.std.proofs.Common.{◌≡◌, is_some, take}
-use Rattle.lock_counts.specs.Counts.{count_if}
-use Rattle.lock_desk.specs.declared.lockers.Locker.{Locker}
-use Rattle.lock_desk.specs.inner.Lockers.{standing_of}
-use Rattle.lock_desk.proofs.lock_table.LockTable.waiting.Given as goal
-
--- those of the first lockers that wait are counted
-abbrev pub invariant-loop-index : goal.invariant-loop-index
-invariant-loop-index l = l.count ≡ count_if (λ (w : Locker). is_some (standing_of w).wanted) (take l.index l.fn.self.lockers.items)

@@ -1,0 +1,8 @@
+use Rattle.std.proofs.Common.{◌≡◌, ◌++◌, take, string_bytes}
+use Rattle.std.specs.List.{flat_map}
+use Rattle.lock_explain.specs.ExplanationRows.{row_of_edge}
+use Rattle.lock_explain.proofs.rows.put_edges.Given as goal
+
+-- The rows of the waits before this one are written.
+abbrev pub invariant-loop-edge : goal.invariant-loop-edge
+invariant-loop-edge l = string_bytes l.out ≡ string_bytes l.fn.out ++ flat_map (row_of_edge l.place) (take l.edge-index l.edges)

@@ -1,0 +1,18 @@
+use Rattle.std.proofs.Common.{rules, [], refl, ap}
+use Rattle.lock_table.specs.inner.Lockers.{standing_of}
+use Rattle.lock_table.proofs.CellTable.{became-same}
+use Rattle.lock_table.proofs.Asking.{within, room-same, room-whole}
+use Rattle.lock_table.proofs.RowsOfTheTable.{ready-same}
+use Rattle.lock_table.proofs.table.LockTable.likely_converted.Goals as goal
+
+pub returns-clause-same : goal.returns-clause-same
+returns-clause-same c =
+    room-same c.args.self.now c.args.session c.index_mut-locker.result.now c.likely_converted.new.self c.requires.may_serve.whole (within c.args.self.now c.args.session c.position_of.ensures c.requires.may_serve.session) c.index_mut-locker.ensures.value (ap standing_of c.likely_converted.ensures) [] _ refl refl refl (became-same [] c.args.self.now.cells.entries c.requires.may_serve.whole.cells)
+
+pub returns-clause-kept : goal.returns-clause-kept
+returns-clause-kept c =
+    record {
+      whole = room-whole c.args.self.now c.args.session c.index_mut-locker.result.now c.likely_converted.new.self c.requires.may_serve.whole (within c.args.self.now c.args.session c.position_of.ensures c.requires.may_serve.session) c.index_mut-locker.ensures.value (ap standing_of c.likely_converted.ensures) [] _ refl refl refl (became-same [] c.args.self.now.cells.entries c.requires.may_serve.whole.cells);
+      lockers = search rules;
+      ready = ready-same c.args.self.now _ (room-same c.args.self.now c.args.session c.index_mut-locker.result.now c.likely_converted.new.self c.requires.may_serve.whole (within c.args.self.now c.args.session c.position_of.ensures c.requires.may_serve.session) c.index_mut-locker.ensures.value (ap standing_of c.likely_converted.ensures) [] _ refl refl refl (became-same [] c.args.self.now.cells.entries c.requires.may_serve.whole.cells)) (search rules) refl c.requires.may_serve.ready;
+    }

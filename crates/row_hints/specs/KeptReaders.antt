@@ -1,6 +1,0 @@
--- Readers that keep the last rows of what they read.
-use Rattle.row_hints.specs.declared.kept.Kept.{Kept}
-
--- The reader that is read from.
-abbrev pub reader_of : {R : Type 0} → Kept R → R
-reader_of kept = kept.input

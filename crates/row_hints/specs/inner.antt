@@ -1,3 +1,0 @@
-pub mod PrintableBytes
-pub mod Spots
-pub mod WordLists

@@ -1,2 +1,0 @@
--- what only private contracts cite
-pub mod Places

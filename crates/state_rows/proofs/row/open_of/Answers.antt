@@ -1,8 +1,0 @@
-use Rattle.std.proofs.Common.{rules}
-use Rattle.state_rows.proofs.Rows.{open-iff}
-use Rattle.state_rows.proofs.row.open_of.Goals as goal
-
-pub returns : goal.returns
-returns c =
-    open-iff c.args.sessions c.args.session.now c.args.number.now c.args.victim.now c.session_of.result c.transaction_of.result c.in_ok-session.session c.in_ok-transaction.transaction
-    c.session_of.ensures c.transaction_of.ensures (search rules) (search rules)

@@ -1,2 +1,0 @@
-pub mod CountedParts
-pub mod Lines

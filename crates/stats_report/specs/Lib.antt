@@ -1,2 +1,0 @@
-pub mod StatsText
-pub mod Stats

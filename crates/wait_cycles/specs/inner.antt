@@ -1,3 +1,0 @@
--- what only private contracts cite
-pub mod Meeting
-pub mod Room
