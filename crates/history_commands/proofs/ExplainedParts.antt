@@ -1,20 +1,14 @@
 -- Explanations of calls: what `explain` ensures of a text that was written in part, and the accounts of one entry more.
-use Rattle.std.proofs.Common.{◌≡◌, ◌∙◌, ℕ, ◌+◌, ◌<◌, Bool, true, false, List, [], ◌∷◌, ◌++◌, Option, Some, None, IfSome, IfNone, Result, Ok, Err, length, take, get_or, refl, sym, ap, ap₂, subst, append_assoc, append-nil}
+use Rattle.std.proofs.Common.{◌≡◌, ◌∙◌, ℕ, ◌+◌, ◌<◌, Bool, true, false, List, [], ◌∷◌, ◌++◌, Option, Some, None, IfSome, IfNone, Ok, Err, length, take, get_or, refl, sym, ap, subst, append_assoc, append-nil}
 use Rattle.std.specs.List.{All}
-use Rattle.std.specs.Result.{IfOk}
 use Rattle.lock_rules.specs.Entries.{Entry}
-use Rattle.lock_rules.specs.Ended.{ended_waits}
-use Rattle.lock_rules.specs.Legal.{state_of}
-use Rattle.lock_rules.specs.Step.{step}
 use Rattle.lock_trace.specs.Entries.{IsEntry}
 use Rattle.lock_trace.specs.ReadHistories.{history_of}
-use Rattle.history_commands.specs.Explaining.{AreAccounts, Explains, HasExplainedPart, IsAccount, IsAccountIfEventful, IsExplained, IsTextExplained, is_entry_eventful}
-use Rattle.replay_commands.specs.Verdicts.{text_of_verdict}
+use Rattle.history_commands.specs.Explaining.{AreAccounts, Explains, HasExplainedPart, IsAccount, IsAccountIfEventful, IsExplained, is_entry_eventful}
 use Rattle.replay_commands.specs.Written.{AppendsPart}
 use Rattle.replay_commands.proofs.IsVerdict.{one_more}
 use Rattle.command_line.specs.declared.args.Form.{Form}
 use Rattle.replay_commands.specs.declared.checking.Verdict.{Verdict}
-use Rattle.replay_commands.specs.declared.checking.Verdict.TheVariants as verdict
 use Rattle.history_commands.specs.declared.show_fault.ShowFault.TheVariants as show
 
 -- an explanation whose writer failed was written in part

@@ -232,6 +232,47 @@ fn note_all(
     first_wrong(after, entries, drawn.upto, entries.len())
 }
 
+/// Notes what is drawn of the entries, up to the first wrong reply, as `note_all` does on two new books. Fails if memory is refused.
+fn note_history(
+    alloc: Global,
+    entries: &[Entry],
+    sessions: u16,
+    drawn: Drawn,
+    timeline: &mut Timeline,
+) -> Result<Option<u64>, NoMemory>
+    requires some { 0 < sessions }
+    requires few_sessions { sessions ≤ MAX_SESSIONS }
+    requires within { All (IsEntry sessions) entries.now }
+    requires order { drawn.from ≤ drawn.upto }
+    requires few { drawn.upto ≤ length entries.now }
+    ensures wrong { IfOk result (λ found. IfSome found (IsFirstWrong entries.now)) }
+    ensures legal { IfOk result (λ found. IfNone found (IsLegal entries.now)) }
+{
+    let mut before = fresh_book(alloc, sessions)?;
+    let mut after = fresh_book(alloc, sessions)?;
+    note_all(alloc, &mut before, &mut after, entries, drawn, timeline)
+}
+
+/// The picture of the entries, which are legal, and of which all has been noted. Fails if memory is refused.
+fn legal_picture(
+    alloc: Global,
+    entries: &[Entry],
+    asked: usize,
+    timeline: &mut Timeline,
+) -> Result<Shown, NoMemory>
+    requires legal { IsLegal entries.now }
+    ensures verdict { IfOk result (λ shown. IsVerdict entries.now shown.verdict) }
+    ensures text { IfOk result (λ shown. IsTextDrawn shown.verdict (string_bytes shown.text)) }
+{
+    let count = entries.len() as u64;
+    timeline.finish(alloc)?;
+    let text = timeline_svg(alloc, timeline, asked as u64, count)?;
+    Ok(Shown {
+        verdict: Verdict::Legal(count),
+        text,
+    })
+}
+
 /// The picture of the entries if the history is legal, else the line of its verdict. Fails if memory is refused.
 fn picture(alloc: Global, entries: &[Entry], sessions: u16, drawn: Drawn) -> Result<Shown, NoMemory>
     requires some { 0 < sessions }
@@ -243,25 +284,10 @@ fn picture(alloc: Global, entries: &[Entry], sessions: u16, drawn: Drawn) -> Res
     ensures text { IfOk result (λ shown. IsTextDrawn shown.verdict (string_bytes shown.text)) }
 {
     let mut timeline = Timeline::new(alloc, sessions, drawn.from as u64)?;
-    let mut before = fresh_book(alloc, sessions)?;
-    let mut after = fresh_book(alloc, sessions)?;
-    if let Some(first) = note_all(
-        alloc,
-        &mut before,
-        &mut after,
-        entries,
-        drawn,
-        &mut timeline,
-    )? {
-        return illegal_text(alloc, first);
+    match note_history(alloc, entries, sessions, drawn, &mut timeline)? {
+        Some(first) => illegal_text(alloc, first),
+        None => legal_picture(alloc, entries, drawn.asked, &mut timeline),
     }
-    let count = entries.len() as u64;
-    timeline.finish(alloc)?;
-    let text = timeline_svg(alloc, &timeline, drawn.asked as u64, count)?;
-    Ok(Shown {
-        verdict: Verdict::Legal(count),
-        text,
-    })
 }
 
 /// The picture of the entries from `from` to `to` if the history is legal, else the line of its verdict. Fails if memory is refused.
