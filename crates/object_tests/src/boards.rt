@@ -4,7 +4,8 @@ ghost use Rattle.std.specs.Prelude.{◌≡◌, ◌++◌, ◌∷◌, [], false, N
 ghost use Rattle.publication.specs.Views.{answer};
 ghost use Rattle.publication.specs.Boards.{IsOf, OpensNone, new_ticket, new_tickets};
 
-use example_objects::Counter;
+use flat_combining::examples::Counter;
+use flat_combining::{Shared, shared};
 use publication::{Board, Ticket};
 use sequential::{Sequential, Serving};
 use std::alloc::{AllocError, Global};
@@ -41,18 +42,20 @@ fn call_alone<O: Serving>(
 }
 
 /// Makes a board of a counter for two sessions, with their tickets.
-fn new_board(alloc: Global) -> Result<(Board<Counter>, Vec<Ticket<Counter>>), AllocError>
+fn new_board(
+    alloc: Global,
+) -> Result<(Board<Shared<Counter>>, Vec<Ticket<Shared<Counter>>>), AllocError>
     ensures { IfOk result (λ made. made.1.items ≡ new_tickets made.0.id 2 2) }
 {
-    Board::new(alloc, Counter::new(2))
+    Board::new(alloc, shared(alloc, Counter::new(), 2))
 }
 
 /// The sessions take turns, and each reply is the sum before.
 fn want_turns(
     rt: &impl Abort,
-    board: &Board<Counter>,
-    first: &mut Ticket<Counter>,
-    second: &mut Ticket<Counter>,
+    board: &Board<Shared<Counter>>,
+    first: &mut Ticket<Shared<Counter>>,
+    second: &mut Ticket<Shared<Counter>>,
 )
     requires first { first.old ≡ new_ticket board.now.id 2 1 }
     requires second { second.old ≡ new_ticket board.now.id 2 2 }

@@ -1,19 +1,26 @@
 //! Bounded passes of an office of a counter, on one thread.
 
-ghost use Rattle.std.specs.Prelude.{◌<◌};
+ghost use Rattle.std.specs.Prelude.{◌≡◌, ◌<◌, ◌≤◌, IfOk, All};
+ghost use Rattle.publication.specs.Boards.{new_tickets};
 ghost use Rattle.combining.specs.Sessions.{IsSessionOf, IsIdle};
 ghost use Rattle.combining.specs.Rounds.{IsBound};
 
 use combining::{Answer, Nobody, Office, PassBound, Performed, Session, Told, Turn};
-use example_objects::Counter;
+use flat_combining::examples::Counter;
+use flat_combining::{Shared, shared};
+use sequential::MAX_SESSIONS;
+use std::alloc::{AllocError, Global};
 use std::process::Abort;
 use std::test::Fail;
+
+/// A counter that an office shares.
+type Counting = Shared<Counter>;
 
 /// Tells nobody, and weighs a call of the counter by what it adds, up to `MAX_WEIGHT`.
 #[derive(Clone, Copy)]
 struct Weighing;
 
-impl Told<Counter> for Weighing {
+impl Told<Counting> for Weighing {
     ghost use Rattle.std.specs.Prelude.{[], None, min};
 
     ghost list = { λ _. [] };
@@ -26,20 +33,33 @@ impl Told<Counter> for Weighing {
 
     ghost weight = { λ _ _ adds. min adds 65535 };
 
-    fn weigh(_object: &Counter, _session: u16, adds: &u32) -> u16 {
+    fn weigh(_object: &Counting, _session: u16, adds: &u32) -> u16 {
         u32::min(*adds, 65_535) as u16
     }
 
     fn clear(&mut self) {}
 
-    fn add(&mut self, _object: &Counter, _served: u32) {}
+    fn add(&mut self, _object: &Counting, _served: u32) {}
+}
+
+/// Opens an office of a counter.
+fn share_counter(
+    alloc: Global,
+    sessions: u16,
+) -> Result<(Office<Counting>, Vec<Session<Counting>>), AllocError>
+    requires some { (1 ≤ sessions) × (sessions ≤ MAX_SESSIONS) }
+    ensures office { IfOk result (λ made. made.0.sessions ≡ sessions) }
+    ensures sessions { IfOk result (λ made. made.1.items ≡ new_tickets made.0.id sessions sessions) }
+    ensures ready { IfOk result (λ made. All (λ session. IsSessionOf made.0 session × IsIdle session) made.1.items) }
+{
+    Office::share(alloc, shared(alloc, Counter::new(), sessions))
 }
 
 /// A pass of the session in at most `rounds` rounds of at most `calls` calls each, whatever they weigh, has this outcome.
 fn want_pass(
     rt: &impl Abort,
-    office: &Office<Counter>,
-    session: &mut Session<Counter>,
+    office: &Office<Counting>,
+    session: &mut Session<Counting>,
     calls: u16,
     rounds: u16,
     want: Turn,
@@ -68,8 +88,8 @@ fn passed(served: u32, left: bool) -> Turn {
 /// The session collects its answer, which has this place and reply.
 fn want_answer(
     rt: &impl Abort,
-    office: &Office<Counter>,
-    session: &mut Session<Counter>,
+    office: &Office<Counting>,
+    session: &mut Session<Counting>,
     place: u64,
     reply: u64,
 )
@@ -83,10 +103,10 @@ fn want_answer(
 /// serve these, the last published first, and a third pass finds none.
 fn want_rounds(
     rt: &impl Abort,
-    office: &Office<Counter>,
-    first: &mut Session<Counter>,
-    second: &mut Session<Counter>,
-    third: &mut Session<Counter>,
+    office: &Office<Counting>,
+    first: &mut Session<Counting>,
+    second: &mut Session<Counting>,
+    third: &mut Session<Counting>,
 )
     requires first { IsSessionOf office.now first.old × IsIdle first.old }
     requires second { IsSessionOf office.now second.old × IsIdle second.old }
@@ -113,7 +133,7 @@ fn want_rounds(
 fn a_bounded_pass_serves_so_many_calls_and_tells_whether_some_are_left(
     rt: HostRuntime,
 ) -> Result<(), Fail> {
-    let (office, mut sessions) = Office::<Counter>::open(rt.alloc(), 3)?;
+    let (office, mut sessions) = share_counter(rt.alloc(), 3)?;
     let mut third = sessions.pop().expect(&rt, "session 3");
     let mut second = sessions.pop().expect(&rt, "session 2");
     let mut first = sessions.pop().expect(&rt, "session 1");
@@ -127,8 +147,8 @@ fn a_bounded_pass_serves_so_many_calls_and_tells_whether_some_are_left(
 /// A round of the session that takes no call once those that it has taken weigh `weight` has this outcome.
 fn want_weighed(
     rt: &impl Abort,
-    office: &Office<Counter>,
-    session: &mut Session<Counter>,
+    office: &Office<Counting>,
+    session: &mut Session<Counting>,
     weight: u32,
     want: Turn,
 )
@@ -145,7 +165,7 @@ fn want_weighed(
 }
 
 /// An idle session publishes a call that adds so much.
-fn post(rt: &impl Abort, office: &Office<Counter>, session: &mut Session<Counter>, adds: u32)
+fn post(rt: &impl Abort, office: &Office<Counting>, session: &mut Session<Counting>, adds: u32)
     requires ours { IsSessionOf office.now session.old }
     ensures ours { IsSessionOf office.now session.new }
 {
@@ -157,11 +177,11 @@ fn post(rt: &impl Abort, office: &Office<Counter>, session: &mut Session<Counter
 /// which makes 4, and that of session 3, which makes 8; session 2 is left.
 fn want_round_of_weight(
     rt: &impl Abort,
-    office: &Office<Counter>,
-    first: &mut Session<Counter>,
-    second: &mut Session<Counter>,
-    third: &mut Session<Counter>,
-    fourth: &mut Session<Counter>,
+    office: &Office<Counting>,
+    first: &mut Session<Counting>,
+    second: &mut Session<Counting>,
+    third: &mut Session<Counting>,
+    fourth: &mut Session<Counting>,
 )
     requires first { IsSessionOf office.now first.old }
     requires second { IsSessionOf office.now second.old }
@@ -187,10 +207,10 @@ fn want_round_of_weight(
 /// first the own call of session 1 alone; then that of session 4 and, since it weighs nothing, that of session 2; and then none.
 fn want_rounds_of_weight_one(
     rt: &impl Abort,
-    office: &Office<Counter>,
-    first: &mut Session<Counter>,
-    second: &mut Session<Counter>,
-    fourth: &mut Session<Counter>,
+    office: &Office<Counting>,
+    first: &mut Session<Counting>,
+    second: &mut Session<Counting>,
+    fourth: &mut Session<Counting>,
 )
     requires first { IsSessionOf office.now first.old }
     requires second { IsSessionOf office.now second.old }
@@ -213,7 +233,7 @@ fn want_rounds_of_weight_one(
 /// A round takes no further call once those that it has taken weigh as much as it may take, and it serves the one by which they do.
 #[test]
 fn a_round_stops_at_its_weight(rt: HostRuntime) -> Result<(), Fail> {
-    let (office, mut sessions) = Office::<Counter>::open(rt.alloc(), 4)?;
+    let (office, mut sessions) = share_counter(rt.alloc(), 4)?;
     let mut fourth = sessions.pop().expect(&rt, "session 4");
     let mut third = sessions.pop().expect(&rt, "session 3");
     let mut second = sessions.pop().expect(&rt, "session 2");
@@ -233,8 +253,8 @@ fn a_round_stops_at_its_weight(rt: HostRuntime) -> Result<(), Fail> {
 /// An idle session performs a call that adds 10 within a bound. The call has this answer, behind so many published ones.
 fn want_performed(
     rt: &impl Abort,
-    office: &Office<Counter>,
-    session: &mut Session<Counter>,
+    office: &Office<Counting>,
+    session: &mut Session<Counting>,
     bound: PassBound,
     answer: Answer<u64>,
     served: u32,
@@ -261,11 +281,11 @@ fn answer(place: u64, reply: u64) -> Answer<u64> {
 /// published another, behind a round up to a weight of 5, which that call reaches; and then behind that of session 2, which is left.
 fn want_bounded_calls(
     rt: &impl Abort,
-    office: &Office<Counter>,
-    first: &mut Session<Counter>,
-    second: &mut Session<Counter>,
-    third: &mut Session<Counter>,
-    fourth: &mut Session<Counter>,
+    office: &Office<Counting>,
+    first: &mut Session<Counting>,
+    second: &mut Session<Counting>,
+    third: &mut Session<Counting>,
+    fourth: &mut Session<Counting>,
 )
     requires first { IsSessionOf office.now first.old }
     requires second { IsSessionOf office.now second.old }
@@ -304,7 +324,7 @@ fn want_bounded_calls(
 /// A call that is performed with a bounded pass is behind no more published calls than the bound, and leaves the others.
 #[test]
 fn a_call_at_once_serves_no_more_than_its_bound(rt: HostRuntime) -> Result<(), Fail> {
-    let (office, mut sessions) = Office::<Counter>::open(rt.alloc(), 4)?;
+    let (office, mut sessions) = share_counter(rt.alloc(), 4)?;
     let mut fourth = sessions.pop().expect(&rt, "session 4");
     let mut third = sessions.pop().expect(&rt, "session 3");
     let mut second = sessions.pop().expect(&rt, "session 2");

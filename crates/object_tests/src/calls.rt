@@ -1,11 +1,12 @@
 //! Each call of the traits, with success.
 
 use crate::asking::{ask, ask_all, item};
-use example_objects::{
+use flat_combining::examples::{
     BoundedQueue, CAPACITY, Counter, MapCall, MapReply, OrderedMap, QueueCall, QueueReply,
 };
+use flat_combining::{Shared, machine_of, shared};
 use lock_desk::{Book, Call, Mode, Reply, Resource};
-use sequential::{Entry, Fresh, Recording, Sequential, Serving, Telling, Trimming, are_within};
+use sequential::{Entry, Fresh, NO_BOUND, Sequential, Serving, Telling, Trimming, are_within};
 use std::alloc::{AllocError, Global};
 use std::process::Abort;
 use std::test::Fail;
@@ -20,7 +21,7 @@ fn entry<C: Copy, R: Copy>(session: u16, call: C, reply: R) -> Entry<C, R> {
 }
 
 /// A counter of two sessions serves two calls and a batch of two: each reply is the sum before.
-fn want_counted(rt: &impl Abort, counter: &mut Counter) {
+fn want_counted(rt: &impl Abort, counter: &mut Shared<Counter>) {
     assert_eq!(rt; counter.sessions(), 2);
     assert_eq!(rt; ask(counter, 1, 5), Some(0));
     assert_eq!(rt; ask(counter, 2, 7), Some(5));
@@ -30,25 +31,25 @@ fn want_counted(rt: &impl Abort, counter: &mut Counter) {
     assert_eq!(rt; first.reply, Some(12));
     assert_eq!(rt; second.reply, Some(13));
     assert_eq!(rt; counter.served(), 4);
-    assert!(rt; !Counter::goes_first(&5));
 }
 
 /// A counter replies with the sum before.
 #[test]
 fn counters_reply_with_the_sum_before(rt: HostRuntime) -> Result<(), Fail> {
-    let mut counter = Counter::fresh(rt.alloc(), 2)?;
+    let mut counter = shared(rt.alloc(), Counter::new(), 2);
     want_counted(&rt, &mut counter);
     Ok(())
 }
 
 /// A queue of two sessions, with the history of its calls.
-fn new_queue(alloc: Global) -> Result<Recording<BoundedQueue>, AllocError> {
-    let queue = BoundedQueue::new(alloc)?;
-    Ok(Recording::new(alloc, queue, 2))
+fn new_queue(alloc: Global) -> Result<Shared<BoundedQueue>, AllocError> {
+    let mut queue = shared(alloc, BoundedQueue::new(alloc)?, 2);
+    queue.keep_at_most(NO_BOUND);
+    Ok(queue)
 }
 
 /// Fills the queue: each item has room, up to `CAPACITY`, and one more hasn't. The first item comes out first.
-fn want_queued(rt: &impl Abort, queue: &mut Recording<BoundedQueue>) {
+fn want_queued(rt: &impl Abort, queue: &mut Shared<BoundedQueue>) {
     assert_eq!(rt; ask(queue, 1, QueueCall::Pop), Some(QueueReply::Empty));
     for number in 0..CAPACITY as u64 {
         assert_eq!(rt;
@@ -65,7 +66,7 @@ fn want_queued(rt: &impl Abort, queue: &mut Recording<BoundedQueue>) {
 }
 
 /// The queue has served 68 calls. Its history is kept, let go and handed out.
-fn want_kept(rt: &impl Abort, alloc: Global, queue: &mut Recording<BoundedQueue>) {
+fn want_kept(rt: &impl Abort, alloc: Global, queue: &mut Shared<BoundedQueue>) {
     assert_eq!(rt; queue.sessions(), 2);
     assert_eq!(rt; queue.served(), 68);
     assert_eq!(rt; queue.kept_from(), 0);
@@ -79,7 +80,7 @@ fn want_kept(rt: &impl Abort, alloc: Global, queue: &mut Recording<BoundedQueue>
     let kept = queue.take_kept(alloc);
     assert_eq!(rt; kept.len(), 2);
     assert_eq!(rt; queue.kept_from(), 68);
-    assert!(rt; !Recording::<BoundedQueue>::goes_first(&QueueCall::Pop));
+    assert!(rt; !Shared::<BoundedQueue>::goes_first(&QueueCall::Pop));
 }
 
 /// An object that is given by one function keeps the history of its calls.
@@ -88,13 +89,13 @@ fn queues_keep_the_history_of_their_calls(rt: HostRuntime) -> Result<(), Fail> {
     let mut queue = new_queue(rt.alloc())?;
     want_queued(&rt, &mut queue);
     want_kept(&rt, rt.alloc(), &mut queue);
-    let _behind: &BoundedQueue = queue.object();
+    let _behind: &BoundedQueue = machine_of(&queue);
     Ok(())
 }
 
 /// Adds two keys, the greater one first, and takes the least one out. A key that is there isn't added, one that isn't there isn't
 /// taken.
-fn want_mapped(rt: &impl Abort, map: &mut Recording<OrderedMap>) {
+fn want_mapped(rt: &impl Abort, map: &mut Shared<OrderedMap>) {
     assert_eq!(rt; ask(map, 1, MapCall::First), Some(MapReply::Absent));
     assert_eq!(rt; ask(map, 1, MapCall::Add(5, 50)), Some(MapReply::Added));
     assert_eq!(rt;
@@ -113,10 +114,8 @@ fn want_mapped(rt: &impl Abort, map: &mut Recording<OrderedMap>) {
 /// A map has each key once, and tells the least one.
 #[test]
 fn maps_keep_their_keys_in_order(rt: HostRuntime) -> Result<(), Fail> {
-    let map = OrderedMap::new(rt.alloc());
-    let mut recorded = Recording::new(rt.alloc(), map, 2);
-    want_mapped(&rt, &mut recorded);
-    assert!(rt; !Recording::<OrderedMap>::goes_first(&MapCall::First));
+    let mut map = shared(rt.alloc(), OrderedMap::new(rt.alloc()), 2);
+    want_mapped(&rt, &mut map);
     Ok(())
 }
 

@@ -1,6 +1,6 @@
 //! How threads choose their calls by pseudorandom numbers.
 
-use example_objects::{MapCall, QueueCall};
+use flat_combining::examples::{MapCall, QueueCall};
 
 /// The keys of the map are below this number, so that many calls are refused.
 const KEYS: u64 = 8;

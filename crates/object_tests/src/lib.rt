@@ -18,5 +18,3 @@ mod offices;
 mod refusals;
 #[cfg(test)]
 mod threads;
-#[cfg(test)]
-mod workers;

@@ -4,7 +4,9 @@ ghost use Rattle.std.specs.Prelude.{◌≡◌};
 ghost use Rattle.combining.specs.Sessions.{IsSessionOf, IsIdle};
 
 use combining::{Nobody, Office, OpenFault, Session, Turn, UNBOUNDED};
-use example_objects::Counter;
+use flat_combining::examples::Counter;
+use flat_combining::{Shared, apply, shared};
+use lock_desk::Book;
 use sequential::Sequential;
 use std::process::Abort;
 use std::test::Fail;
@@ -13,11 +15,11 @@ use std::test::Fail;
 #[test]
 fn an_office_is_opened_for_1_to_1024_sessions(rt: HostRuntime) -> Result<(), Fail> {
     let alloc = rt.alloc();
-    let none = Office::<Counter>::open(alloc, 0).err();
+    let none = Office::<Book>::open(alloc, 0).err();
     assert!(rt; none == Some(OpenFault::NoSessions));
-    let many = Office::<Counter>::open(alloc, 1025).err();
+    let many = Office::<Book>::open(alloc, 1025).err();
     assert!(rt; many == Some(OpenFault::TooManySessions));
-    let (office, sessions) = Office::<Counter>::open(alloc, 1024)?;
+    let (office, sessions) = Office::<Book>::open(alloc, 1024)?;
     assert!(rt; office.sessions() == 1024 && sessions.len() == 1024);
     Ok(())
 }
@@ -26,9 +28,9 @@ fn an_office_is_opened_for_1_to_1024_sessions(rt: HostRuntime) -> Result<(), Fai
 /// sleeps until session 1 has given the counter back and ends its sleep.
 fn want_look(
     rt: &impl Abort,
-    office: &Office<Counter>,
-    first: &mut Session<Counter>,
-    second: &mut Session<Counter>,
+    office: &Office<Shared<Counter>>,
+    first: &mut Session<Shared<Counter>>,
+    second: &mut Session<Shared<Counter>>,
 )
     requires first { IsSessionOf office.now first.old }
     requires second { IsSessionOf office.now second.old × IsIdle second.old }
@@ -36,7 +38,7 @@ fn want_look(
     ensures first { IsSessionOf office.now first.new }
     ensures second { IsSessionOf office.now second.new }
 {
-    let _performed = office.perform(second, 7, UNBOUNDED, &mut Nobody);
+    assert!(rt; apply(office, second, 7) == Ok(0));
     let load = office.look(first).expect(rt, "the counter");
     assert!(rt; load.object.served() == 1);
     assert!(rt; office.serve(second, UNBOUNDED, &mut Nobody) == Turn::Elsewhere);
@@ -51,7 +53,7 @@ fn want_look(
 /// An office of a counter lets a session look at the counter, and gives it back when it is closed.
 #[test]
 fn an_office_is_looked_into_and_closed(rt: HostRuntime) -> Result<(), Fail> {
-    let (office, mut sessions) = Office::<Counter>::open(rt.alloc(), 2)?;
+    let (office, mut sessions) = Office::share(rt.alloc(), shared(rt.alloc(), Counter::new(), 2))?;
     let mut second = sessions.pop().expect(&rt, "session 2");
     let mut first = sessions.pop().expect(&rt, "session 1");
     want_look(&rt, &office, &mut first, &mut second);

@@ -2,24 +2,29 @@
 //! and also if none is; it prints a line if one was, for the check that refuses each allocation in turn.
 
 use crate::asking::{ask, ask_all, item};
-use example_objects::{BoundedQueue, MapCall, MapReply, OrderedMap, QueueCall, QueueReply};
-use sequential::{Recording, Sequential, Trimming};
+use flat_combining::examples::{
+    BoundedQueue, MapCall, MapReply, OrderedMap, QueueCall, QueueReply,
+};
+use flat_combining::{Shared, shared};
+use sequential::{NO_BOUND, Sequential, Trimming};
 use std::alloc::{AllocError, Global};
 use std::process::Abort;
 use std::test::Fail;
 
 /// Makes a queue of one session, a second time if memory is refused.
-fn new_queue(alloc: Global) -> Result<Recording<BoundedQueue>, AllocError> {
+fn new_queue(alloc: Global) -> Result<Shared<BoundedQueue>, AllocError> {
     let queue = match BoundedQueue::new(alloc) {
         Ok(queue) => queue,
         Err(AllocError) => BoundedQueue::new(alloc)?,
     };
-    Ok(Recording::new(alloc, queue, 1))
+    let mut recorded = shared(alloc, queue, 1);
+    recorded.keep_at_most(NO_BOUND);
+    Ok(recorded)
 }
 
 /// Puts an item into the queue, a second time if memory is refused; the history must then be unchanged. Returns whether memory was
 /// refused.
-fn want_pushed(rt: &impl Abort, queue: &mut Recording<BoundedQueue>) -> bool {
+fn want_pushed(rt: &impl Abort, queue: &mut Shared<BoundedQueue>) -> bool {
     let before = queue.served();
     let told = ask(queue, 1, QueueCall::Push(7));
     if told.is_some() {
@@ -43,7 +48,7 @@ fn a_refused_call_of_an_object_is_made_at_the_second_try(rt: HostRuntime) -> Res
 
 /// Serves a batch of six calls. If it ends early, the items behind are unchanged, and are served by a second batch. Returns whether
 /// it did.
-fn want_batch(rt: &impl Abort, queue: &mut Recording<BoundedQueue>) -> bool {
+fn want_batch(rt: &impl Abort, queue: &mut Shared<BoundedQueue>) -> bool {
     let mut items = [
         item(1, QueueCall::Push(1)),
         item(1, QueueCall::Push(2)),
@@ -84,7 +89,7 @@ fn a_refused_batch_goes_on_at_the_second_try(rt: HostRuntime) -> Result<(), Fail
 }
 
 /// Adds a key, a second time if memory is refused; the key must not be there then. Returns whether memory was refused.
-fn want_added(rt: &impl Abort, map: &mut Recording<OrderedMap>, key: u32) -> bool {
+fn want_added(rt: &impl Abort, map: &mut Shared<OrderedMap>, key: u32) -> bool {
     let told = ask(map, 1, MapCall::Add(key, 7));
     if told.is_some() {
         assert_eq!(rt; told, Some(MapReply::Added));
@@ -99,7 +104,7 @@ fn want_added(rt: &impl Abort, map: &mut Recording<OrderedMap>, key: u32) -> boo
 #[test]
 fn a_refused_key_is_added_at_the_second_try(rt: HostRuntime) -> Result<(), Fail> {
     let map = OrderedMap::new(rt.alloc());
-    let mut recorded = Recording::new(rt.alloc(), map, 1);
+    let mut recorded = shared(rt.alloc(), map, 1);
     let mut was_refused = false;
     for key in 0..12 {
         was_refused |= want_added(&rt, &mut recorded, key);

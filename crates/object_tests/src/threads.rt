@@ -1,174 +1,159 @@
-//! One history has the answers of all threads that share an object.
-//!
-//! Each object has a function of its own that starts the threads, since threads that share an office of a type parameter have no
-//! proof.
+//! One history has the calls of all threads that share a machine.
 
-ghost use Rattle.std.specs.Prelude.{All, IfOk};
-ghost use Rattle.combining.specs.Sessions.{IsSessionOf, IsIdle};
+ghost use Rattle.std.specs.Prelude.{◌≡◌};
 
 use crate::asking::ask;
-use crate::workers::{
-    ALL_CALLS, CALLERS, Notes, Worked, call_often, call_or_take, finish, no_notes,
-};
-use combining::{Answer, Office, Session};
-use example_objects::{BoundedQueue, Counter, MapReply, OrderedMap, QueueReply};
-use sequential::{Batching, Entry, Recording, Sequential, Trimming};
+use crate::choices::Chosen;
+use flat_combining::examples::{BoundedQueue, Counter, MapReply, OrderedMap, QueueReply};
+use flat_combining::{Caller, Machine, Shared, run, shared};
+use sequential::{Entry, NO_BOUND, Sequential, Serving, Trimming};
 use std::alloc::{AllocError, Global};
 use std::process::Abort;
 use std::test::Fail;
-use std::thread;
 use std::thread::Threads;
 
-/// A queue with the history of its calls.
-type Queue = Recording<BoundedQueue>;
+/// How many threads make calls.
+const CALLERS: u16 = 8;
 
-/// A map with the history of its calls.
-type Map = Recording<OrderedMap>;
+/// How many calls each of them makes.
+const CALLS: u64 = 2000;
 
-/// Starts a thread for each session of an office of a counter, and returns what they noted.
-fn work_on_counter<R: Threads + Sync>(
-    rt: &R,
-    alloc: Global,
-    office: &Office<Counter>,
-    sessions: Vec<Session<Counter>>,
-) -> Result<Vec<Worked<Counter>>, AllocError>
-    requires ours { All (λ session. IsSessionOf office.now session × IsIdle session) sessions.items }
-    ensures ours { IfOk result (λ all. All (λ worked. IsSessionOf office.now worked.session) all.items) }
-{
-    thread::map_vec(
-        rt,
-        sessions,
-        &|session: Session<Counter>| call_often(alloc, office, session),
-    )
+/// Makes `CALLS` calls of a session, chosen by pseudorandom numbers, and notes them with their replies. Stops early if memory is refused
+/// for a note.
+#[derive(Drop)]
+struct Noting<C, Y> {
+    /// The session's number.
+    number: u16,
+    /// How many calls it has made.
+    made: u64,
+    /// The last pseudorandom number, of which the upper half is used.
+    state: u64,
+    /// Its calls, in order.
+    calls: Vec<C>,
+    /// Their replies.
+    replies: Vec<Y>,
 }
 
-/// Starts a thread for each session of an office of a queue, and returns what they noted.
-fn work_on_queue<R: Threads + Sync>(
-    rt: &R,
-    alloc: Global,
-    office: &Office<Queue>,
-    sessions: Vec<Session<Queue>>,
-) -> Result<Vec<Worked<Queue>>, AllocError>
-    requires ours { All (λ session. IsSessionOf office.now session × IsIdle session) sessions.items }
-    ensures ours { IfOk result (λ all. All (λ worked. IsSessionOf office.now worked.session) all.items) }
-{
-    thread::map_vec(
-        rt,
-        sessions,
-        &|session: Session<Queue>| call_or_take(alloc, office, session),
-    )
-}
-
-/// Starts a thread for each session of an office of a map, and returns what they noted.
-fn work_on_map<R: Threads + Sync>(
-    rt: &R,
-    alloc: Global,
-    office: &Office<Map>,
-    sessions: Vec<Session<Map>>,
-) -> Result<Vec<Worked<Map>>, AllocError>
-    requires ours { All (λ session. IsSessionOf office.now session × IsIdle session) sessions.items }
-    ensures ours { IfOk result (λ all. All (λ worked. IsSessionOf office.now worked.session) all.items) }
-{
-    thread::map_vec(
-        rt,
-        sessions,
-        &|session: Session<Map>| call_or_take(alloc, office, session),
-    )
-}
-
-/// Expects `ALL_CALLS` answers, one at each place from 0 on, and the same replies from a fresh object that serves the calls in this
-/// order.
-fn want_replies<O: Batching>(
-    rt: &impl Abort,
-    fresh: &mut O,
-    answers: &[Entry<O::Call, Answer<O::Reply>>],
-)
-where
-    O::Reply: PartialEq,
-{
-    assert!(rt; answers.len() as u64 == ALL_CALLS);
-    for (place, answered) in answers.iter().enumerate() {
-        let answer = answered.reply;
-        let reply = ask(fresh, answered.session, answered.call).expect(rt, "a reply");
-        assert!(rt; answer.place == place as u64 && answer.reply == reply);
+/// Empty notes of a session.
+fn no_notes<C: Copy, Y: Copy>(alloc: Global, number: u16) -> Noting<C, Y> {
+    Noting {
+        number,
+        made: 0,
+        state: u64::from(number),
+        calls: Vec::new(alloc),
+        replies: Vec::new(alloc),
     }
 }
 
-/// Expects the history of a closed object to be that of the fresh object, which has served the same calls. A session took its front,
-/// and the closed object keeps the rest.
-fn want_history<
-    C: Copy + PartialEq,
-    Y: Copy + PartialEq,
-    O: Trimming<Call = C, Reply = Y, Line = Entry<C, Y>>,
->(rt: &impl Abort, object: &O, taken: &mut Vec<Entry<C, Y>>, fresh: &O) -> Result<(), AllocError> {
-    assert!(rt; object.kept_from() == taken.len() as u64);
-    taken.extend_from_slice(object.kept())?;
-    assert!(rt; taken.as_slice() == fresh.kept());
-    Ok(())
+impl<M: Machine> Caller<M> for Noting<M::Call, M::Reply>
+where
+    M::Call: Chosen,
+{
+    fn next(&mut self, last: Option<M::Reply>) -> Option<M::Call> {
+        if let Some(reply) = last {
+            self.replies.push(reply).ok()?;
+        }
+        if self.made >= CALLS {
+            return None;
+        }
+        self.state = self
+            .state
+            .wrapping_mul(6_364_136_223_846_793_005)
+            .wrapping_add(1_442_695_040_888_963_407);
+        let call = M::Call::choose(self.made / (CALLS / 4), self.state >> 33);
+        self.made += 1;
+        self.calls.push(call).ok()?;
+        Some(call)
+    }
 }
 
-/// Whether an answer has this reply.
-fn has<C: Copy, Y: Copy + PartialEq>(notes: &Notes<C, Y>, reply: &Y) -> bool {
-    for answered in &notes.answers {
-        if answered.reply.reply == *reply {
+/// The session's entries of the history are the calls that it noted, in order, with their replies.
+fn want_noted<C: Copy + PartialEq, Y: Copy + PartialEq>(
+    rt: &impl Abort,
+    history: &[Entry<C, Y>],
+    noted: &Noting<C, Y>,
+) {
+    let mut calls = noted.calls.iter();
+    let mut replies = noted.replies.iter();
+    for entry in history {
+        if entry.session == noted.number {
+            assert!(rt; calls.next() == Some(&entry.call));
+            assert!(rt; replies.next() == Some(&entry.reply));
+        }
+    }
+    assert!(rt; noted.made == CALLS && calls.next().is_none() && replies.next().is_none());
+}
+
+/// A fresh object of one thread gives the same replies to the calls of the history, in its order.
+fn want_replies<O: Serving>(rt: &impl Abort, fresh: &mut O, history: &[Entry<O::Call, O::Reply>])
+where
+    O::Reply: PartialEq,
+{
+    for entry in history {
+        let reply = ask(fresh, entry.session, entry.call).expect(rt, "a reply");
+        assert!(rt; reply == entry.reply);
+    }
+}
+
+/// Eight threads share the machine, which keeps the history of their calls. Each finds its calls in it with the replies that it got, and
+/// the fresh machine gives the same replies. Returns the object.
+fn want_one_history<R: Threads + Sync + Abort, M: Machine + Send>(
+    rt: &R,
+    alloc: Global,
+    machine: M,
+    fresh: M,
+) -> Result<Shared<M>, AllocError>
+where
+    M::Call: Chosen + Send + PartialEq,
+    M::Reply: Send + PartialEq,
+    requires initial { machine ≡ M.initial }
+    requires fresh { fresh ≡ M.initial }
+{
+    let mut object = shared(alloc, machine, CALLERS);
+    object.keep_at_most(NO_BOUND);
+    let (object, all) = run(rt, alloc, object, &|number: u16| no_notes(alloc, number))?;
+    assert!(rt; object.served() == u64::from(CALLERS) * CALLS);
+    for noted in &all {
+        want_noted(rt, object.kept(), noted);
+    }
+    want_replies(rt, &mut shared(alloc, fresh, CALLERS), object.kept());
+    Ok(object)
+}
+
+/// Whether an entry has this reply.
+fn has<C: Copy, Y: Copy + PartialEq>(history: &[Entry<C, Y>], reply: &Y) -> bool {
+    for entry in history {
+        if entry.reply == *reply {
             return true;
         }
     }
     false
 }
 
-/// Eight threads add to one counter. Their answers have the places from 0 on, each once, and a counter of one thread gives the same
-/// replies.
+/// Eight threads add to one counter.
 #[test]
 fn eight_threads_add_to_one_counter(rt: HostRuntime) -> Result<(), Fail> {
-    let alloc = rt.alloc();
-    let mut notes = no_notes(alloc);
-    let (office, sessions) = Office::share(alloc, Counter::new(CALLERS))?;
-    let all = work_on_counter(&rt, alloc, &office, sessions)?;
-    let counter = finish(&rt, alloc, office, all, &mut notes)?;
-    assert!(rt; counter.served() == ALL_CALLS);
-    want_replies(&rt, &mut Counter::new(CALLERS), &notes.answers);
+    let _counter = want_one_history(&rt, rt.alloc(), Counter::new(), Counter::new())?;
     Ok(())
 }
 
-/// Eight threads put items into one queue and take them out. Their answers have the places from 0 on, each once. A queue of one thread
-/// gives the same replies, and the history that the queue keeps has the same entries.
-///
-/// Some calls find the queue full, and some find it empty, however the threads run: in the first quarter of its calls each session
-/// puts in more items than the queue holds, and in the last quarter it tries to take out as many.
+/// Eight threads put items into one queue and take them out. Some calls find the queue full, and some find it empty, however the threads
+/// run: in the first quarter of its calls each session puts in more items than the queue holds, and in the last quarter it tries to take
+/// out as many.
 #[test]
 fn eight_threads_fill_and_empty_one_queue(rt: HostRuntime) -> Result<(), Fail> {
     let alloc = rt.alloc();
-    let mut notes = no_notes(alloc);
-    let queue = Recording::new(alloc, BoundedQueue::new(alloc)?, CALLERS);
-    let (office, sessions) = Office::share(alloc, queue)?;
-    let all = work_on_queue(&rt, alloc, &office, sessions)?;
-    let queue = finish(&rt, alloc, office, all, &mut notes)?;
-    assert!(rt; notes.taken.is_empty());
-    let mut fresh = Recording::new(alloc, BoundedQueue::new(alloc)?, CALLERS);
-    want_replies(&rt, &mut fresh, &notes.answers);
-    want_history(&rt, &queue, &mut notes.taken, &fresh)?;
-    assert!(rt; has(&notes, &QueueReply::Full) && has(&notes, &QueueReply::Empty));
+    let machine = BoundedQueue::new(alloc)?;
+    let queue = want_one_history(&rt, alloc, machine, BoundedQueue::new(alloc)?)?;
+    assert!(rt; has(queue.kept(), &QueueReply::Full) && has(queue.kept(), &QueueReply::Empty));
     Ok(())
 }
 
-/// Eight threads add, take and look up a few keys of one map, while a ninth thread takes the history: by turns the oldest entries and
-/// all that are kept. The answers have the places from 0 on, each once, and a map of one thread gives the same replies. The pieces of
-/// the history, with what the map still keeps, have the same entries. Some calls are refused, since their key isn't there.
+/// Eight threads add, take and look up a few keys of one map. Some calls are refused, since their key isn't there.
 #[test]
-fn eight_threads_share_one_map_while_a_ninth_takes_its_history(
-    rt: HostRuntime,
-) -> Result<(), Fail> {
+fn eight_threads_share_one_map(rt: HostRuntime) -> Result<(), Fail> {
     let alloc = rt.alloc();
-    let mut notes = no_notes(alloc);
-    let map = Recording::new(alloc, OrderedMap::new(alloc), CALLERS + 1);
-    let (office, sessions) = Office::share(alloc, map)?;
-    let all = work_on_map(&rt, alloc, &office, sessions)?;
-    let map = finish(&rt, alloc, office, all, &mut notes)?;
-    assert!(rt; !notes.taken.is_empty());
-    let mut fresh = Recording::new(alloc, OrderedMap::new(alloc), CALLERS);
-    want_replies(&rt, &mut fresh, &notes.answers);
-    want_history(&rt, &map, &mut notes.taken, &fresh)?;
-    assert!(rt; has(&notes, &MapReply::Absent));
+    let map = want_one_history(&rt, alloc, OrderedMap::new(alloc), OrderedMap::new(alloc))?;
+    assert!(rt; has(map.kept(), &MapReply::Absent));
     Ok(())
 }

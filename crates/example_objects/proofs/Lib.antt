@@ -1,3 +1,0 @@
-pub mod CounterPushes
-pub mod QueuePushes
-pub mod MapsBehind

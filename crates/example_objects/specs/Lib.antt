@@ -1,4 +1,0 @@
-pub mod Counting
-pub mod CounterFields
-pub mod Queues
-pub mod Maps

@@ -1,0 +1,3 @@
+pub mod Queues
+pub mod QueueLaws
+pub mod Maps
