@@ -64,8 +64,8 @@ uint32_t pelgaisti_raw_book_run(pelgaisti_book **book, uint32_t session, const p
    open office has. Of the options' waker the archive reads the address alone, which pelgaisti_raw_session_waker tells; NULL for none. */
 uint32_t pelgaisti_raw_office_open(pelgaisti_raw_list *sessions, uint64_t mark, const pelgaisti_options *options);
 uint32_t pelgaisti_raw_session_publish(pelgaisti_session **session, const pelgaisti_call **call, uint32_t **posted);
-/* `told` gets how many sessions the waker is to wake after the pass, 0 in an office without one: it is written with OK, with NO_MEMORY,
-   and with ELSEWHERE, which is 0. pelgaisti_raw_session_told tells which they are, until the session's next try to make a pass. */
+/* `told` gets how many sessions are to be woken after the pass: it is written with OK, and with ELSEWHERE, which is 0.
+   pelgaisti_raw_session_told tells which they are, until the session's next try to make a pass. */
 uint32_t pelgaisti_raw_session_serve(pelgaisti_session **session, pelgaisti_pass **pass, size_t *told);
 /* One turn of a call, behind `made` turns, of at most `turns`. PENDING comes only if `made` is 0. `told` is written with OK, NO_MEMORY and
    NOT_SERVED. With NO_MEMORY the call is pending. With NOT_SERVED there is no answer yet, and `wait` is written: what to do before

@@ -62,6 +62,19 @@ pub record PointerTo (T : RattleType) : Type 2 where
   pub testable : (d : D) → Testable (at d)
   pub behind : D → T.Denot
 
+-- one by its type
+abbrev pub pointer_of : (T : RattleType) (o : Owning) (at : o.D → Ptr) → ((d : o.D) → Testable (at d)) → (o.D → T.Denot) → PointerTo T
+pointer_of T o at testable behind = record {
+  name = o.name;
+  D = o.D;
+  coded = o.coded;
+  exit = o.exit;
+  shr_at = o.shr_at;
+  at = at;
+  testable = testable;
+  behind = behind;
+}
+
 -- the type of one with no other field, by what it owns beside its field
 abbrev pub pointing : (T : RattleType) → PointerTo T → (Ptr → T.Denot → Fml) → Owning
 pointing T P own = record {

@@ -42,7 +42,7 @@ use denote.Triple.Clauses.{Clauses, Ended, closing}
 use denote.Triple.Spec.{Meets}
 use denote.Triple.Walked.{Stays, walk_of, says, stay_dropped, stay_ref, Goes-ref, Goes-spent_ref, ends_at}
 use Rattle.library_books.specs.Behind.{items_at, list_at}
-use Rattle.library_books.proofs.Behind.{PointerTo, null_or_block, says_both, not_null, first_of, sized}
+use Rattle.library_books.proofs.Behind.{PointerTo, null_or_block, says_both, not_null, first_of, sized, pointer_of}
 
 module _ {M : Type 1} {𝓤 : Ura M} {𝓛 : Logic 𝓤} {K : Type 0} {Γ : List (Item 𝓤)} {G : Goal 𝓤 𝓛.H} where
   -- by whether a number is 0
@@ -87,6 +87,18 @@ pub record ListOf (T : RattleType) : Type 2 where
   pub at_stays : (d : pointer.D) (xs : List T.Denot) → pointer.at (with_behind d xs) ≡ pointer.at d
   pub room_stays : (d : pointer.D) (xs : List T.Denot) → room (with_behind d xs) ≡ room d
   pub is_behind : (d : pointer.D) (xs : List T.Denot) → pointer.behind (with_behind d xs) ≡ xs
+
+-- one by its type
+abbrev pub list_of : (T : RattleType) (o : Owning) (at : o.D → Ptr) → ((d : o.D) → Testable (at d)) → (behind : o.D → List T.Denot) (room : o.D → ℕ) (with_behind : o.D → List T.Denot → o.D)
+    → ((d : o.D) (xs : List T.Denot) → at (with_behind d xs) ≡ at d) → ((d : o.D) (xs : List T.Denot) → room (with_behind d xs) ≡ room d) → ((d : o.D) (xs : List T.Denot) → behind (with_behind d xs) ≡ xs) → ListOf T
+list_of T o at testable behind room with_behind at_stays room_stays is_behind = record {
+  pointer = pointer_of (Array T 0) o at testable behind;
+  room = room;
+  with_behind = with_behind;
+  at_stays = at_stays;
+  room_stays = room_stays;
+  is_behind = is_behind;
+}
 
 module _ (X : RattleType) (ty : Ty) (P : ListOf (sized X ty)) where
   abbrev T : RattleType

@@ -10,15 +10,16 @@ ghost use Rattle.lock_desk.specs.BookView.{first_kept_by, kept_by};
 ghost use Rattle.library_books.specs.Numbers.{IsCall, IsCallFault, IsLevel, IsPath, numbers_of_entry, numbers_of_holder};
 ghost use Rattle.library_books.specs.Calls.{IsSession, IsServed, opened_book, AreListedOnce, are_written};
 
+use crate::arrays::write_all;
 use crate::numbers::{
-    CallNumbers, EntryNumbers, HolderNumbers, ReplyNumbers, ResourceNumbers, entry_numbers,
-    holder_numbers, read_call, read_resource, reply_numbers,
+    CallNumbers, EntryNumbers, HolderNumbers, ReplyNumbers, ResourceNumbers, read_call,
+    read_resource, reply_numbers,
 };
 use crate::option_numbers::OptionNumbers;
 use crate::status::{
     LET_GO, NO_MEMORY, NO_SUCH_LEVEL, NO_SUCH_MODE, NO_SUCH_OP, NO_SUCH_SESSION, OK,
 };
-use lock_desk::{Book, Entry, Mode};
+use lock_desk::Book;
 use std::alloc::Global;
 
 /// The session number as the book takes it. Returns `None` if the book has no such session.
@@ -98,16 +99,6 @@ pub fn held(book: &Book, session: u32, path: &ResourceNumbers, mode: &mut u32) -
     OK
 }
 
-/// Writes the numbers of the first holders, as many as `list` has room for.
-pub fn write_holders(found: &[(u16, Mode)], list: &mut [HolderNumbers])
-    ensures { list.new ≡ are_written numbers_of_holder found.now list.old }
-{
-    let count = usize::min(found.len(), list.len());
-    for k in 0..count {
-        list[k] = holder_numbers(&found[k]);
-    }
-}
-
 /// Writes the holders of the resource, as many as `list` has room for, and the number of all holders to `count`.
 pub fn holders(
     alloc: Global,
@@ -130,19 +121,9 @@ pub fn holders(
     if book.holders(resource, &mut found).is_err() {
         return NO_MEMORY;
     }
-    write_holders(found.as_slice(), list);
+    write_all(found.as_slice(), list);
     *count = found.len();
     OK
-}
-
-/// Writes the numbers of the first of these sessions, as many as `list` has room for.
-pub fn write_sessions(found: &[u16], list: &mut [u32])
-    ensures { list.new ≡ are_written (λ u. u) found.now list.old }
-{
-    let count = usize::min(found.len(), list.len());
-    for k in 0..count {
-        list[k] = u32::from(found[k]);
-    }
 }
 
 /// Writes the sessions whose wait the last call or batch has ended, as many as `list` has room for, and the number of all of
@@ -151,20 +132,8 @@ pub fn ended(book: &Book, list: &mut [u32], count: &mut usize)
     ensures { (told : List ℕ) × AreListedOnce book.now.ended told × (list.new ≡ are_written (λ u. u) told list.old) × (count.new ≡ length told) }
 {
     let found = book.ended();
-    write_sessions(found, list);
+    write_all(found, list);
     *count = found.len();
-}
-
-/// Writes the numbers of the first entries, as many as `places` has room for. Returns the number of entries written.
-pub fn write_entries(entries: &[Entry], places: &mut [EntryNumbers]) -> usize
-    ensures count { result ≡ min (length entries.now) (length places.old) }
-    ensures entries { places.new ≡ are_written numbers_of_entry entries.now places.old }
-{
-    let count = usize::min(entries.len(), places.len());
-    for k in 0..count {
-        places[k] = entry_numbers(&entries[k]);
-    }
-    count
 }
 
 /// Writes the entries of the history from index `first` on, as many as `places` has room for, and the number of entries
@@ -182,7 +151,7 @@ pub fn history(book: &Book, first: u64, places: &mut [EntryNumbers], count: &mut
         return LET_GO;
     }
     let start = u64::min(first - first_kept, kept.len() as u64) as usize;
-    *count = write_entries(&kept[start..], places);
+    *count = write_all(&kept[start..], places);
     OK
 }
 
@@ -193,7 +162,7 @@ pub fn take_history(book: &mut Book, places: &mut [EntryNumbers]) -> usize
     ensures entries { places.new ≡ are_written numbers_of_entry (kept_by book.old) places.old }
     ensures book { book.new ≡ record book.old { cut = first_kept_by book.old + result } }
 {
-    let count = write_entries(book.history(), places);
+    let count = write_all(book.history(), places);
     book.let_go(count as u64);
     count
 }

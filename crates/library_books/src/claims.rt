@@ -1,9 +1,9 @@
 //! Transactions, locks and waiting requests in numbers, and how they are written to C's structs.
 
 ghost use Rattle.std.specs.Prelude.{◌≡◌};
-ghost use Rattle.library_books.specs.Calls.{are_written};
 ghost use Rattle.library_books.specs.Claims.{number_of_kind, number_of_bool, numbers_of_claim, numbers_of_request, numbers_of_transaction};
 
+use crate::arrays::NumbersOf;
 use crate::numbers::{NOWHERE, ResourceNumbers, place_of};
 use lock_rules::{Claim, ClaimKind, Transaction};
 
@@ -76,6 +76,22 @@ pub fn claim_numbers(claim: &Claim) -> ClaimNumbers
     }
 }
 
+impl NumbersOf<Claim> for ClaimNumbers {
+    ghost numbers = { numbers_of_claim };
+
+    fn of(claim: &Claim) -> ClaimNumbers {
+        claim_numbers(claim)
+    }
+}
+
+impl NumbersOf<ClaimNumbers> for ClaimNumbers {
+    ghost numbers = { λ row. row };
+
+    fn of(row: &ClaimNumbers) -> ClaimNumbers {
+        *row
+    }
+}
+
 /// The numbers of a session's waiting request, or of none.
 pub fn request_numbers(request: Option<Claim>) -> ClaimNumbers
     ensures { result ≡ numbers_of_request request }
@@ -90,15 +106,5 @@ pub fn request_numbers(request: Option<Claim>) -> ClaimNumbers
             transaction: 0,
             resource: NOWHERE,
         },
-    }
-}
-
-/// Writes the numbers of the first lines, as many as `places` has room for.
-pub fn write_claims(lines: &[Claim], places: &mut [ClaimNumbers])
-    ensures { places.new ≡ are_written numbers_of_claim lines.now places.old }
-{
-    let count = usize::min(lines.len(), places.len());
-    for k in 0..count {
-        places[k] = claim_numbers(&lines[k]);
     }
 }

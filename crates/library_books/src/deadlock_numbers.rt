@@ -6,6 +6,7 @@ ghost use Rattle.lock_rules.specs.State.{mode_or_nothing};
 ghost use Rattle.library_books.specs.Calls.{are_written};
 ghost use Rattle.library_books.specs.Deadlocks.{members_of, numbers_of_deadlock, numbers_of_member};
 
+use crate::arrays::{NumbersOf, write_all};
 use crate::claims::{ClaimNumbers, claim_numbers};
 use crate::status::{NO_MEMORY, OK};
 use lock_desk::{Deadlock, Member, Mode};
@@ -39,44 +40,26 @@ fn held_number(held: Option<Mode>) -> u32
     }
 }
 
-/// The numbers of a session on a cycle.
-fn member_numbers(member: &Member) -> MemberNumbers
-    ensures { result ≡ numbers_of_member member.now }
-{
-    MemberNumbers {
-        request: claim_numbers(&member.request),
-        held: held_number(member.held),
+impl NumbersOf<Member> for MemberNumbers {
+    ghost numbers = { numbers_of_member };
+
+    fn of(member: &Member) -> MemberNumbers {
+        MemberNumbers {
+            request: claim_numbers(&member.request),
+            held: held_number(member.held),
+        }
     }
 }
 
-/// The numbers of a deadlock.
-fn deadlock_numbers(deadlock: &Deadlock) -> DeadlockNumbers
-    ensures { result ≡ numbers_of_deadlock deadlock.now }
-{
-    DeadlockNumbers {
-        place: deadlock.place,
-        session: u32::from(deadlock.session),
-        members: deadlock.cycle.len(),
-    }
-}
+impl NumbersOf<Deadlock> for DeadlockNumbers {
+    ghost numbers = { numbers_of_deadlock };
 
-/// Writes the numbers of the first deadlocks, as many as `places` has room for.
-fn write_deadlocks(deadlocks: &[Deadlock], places: &mut [DeadlockNumbers])
-    ensures { places.new ≡ are_written numbers_of_deadlock deadlocks.now places.old }
-{
-    let count = usize::min(deadlocks.len(), places.len());
-    for k in 0..count {
-        places[k] = deadlock_numbers(&deadlocks[k]);
-    }
-}
-
-/// Writes the numbers of the first members, as many as `places` has room for.
-fn write_members(members: &[Member], places: &mut [MemberNumbers])
-    ensures { places.new ≡ are_written numbers_of_member members.now places.old }
-{
-    let count = usize::min(members.len(), places.len());
-    for k in 0..count {
-        places[k] = member_numbers(&members[k]);
+    fn of(deadlock: &Deadlock) -> DeadlockNumbers {
+        DeadlockNumbers {
+            place: deadlock.place,
+            session: u32::from(deadlock.session),
+            members: deadlock.cycle.len(),
+        }
     }
 }
 
@@ -120,8 +103,8 @@ pub fn write_told(
     let Ok(members) = all_members(alloc, deadlocks) else {
         return NO_MEMORY;
     };
-    write_deadlocks(deadlocks, list);
-    write_members(members.as_slice(), places);
+    write_all(deadlocks, list);
+    write_all(members.as_slice(), places);
     *member_count = members.len();
     OK
 }

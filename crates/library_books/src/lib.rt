@@ -2,10 +2,12 @@
 //! which C speaks of it. It knows no office.
 //!
 //! Pointers of C and what lies behind them: `pointers.rt` and the files in `pointers/`. Numbers of C's structs: `numbers.rt`,
-//! `program_numbers.rt`, `option_numbers.rt`, `claims.rt`, `count_numbers.rt`, `deadlock_numbers.rt`, `status.rt`. What a handle holds: `held_book.rt` over
+//! `program_numbers.rt`, `option_numbers.rt`, `claims.rt`, `count_numbers.rt`, `deadlock_numbers.rt`, `status.rt`; `arrays.rt` writes those of
+//! many things. What a handle holds: `held_book.rt` over
 //! `raw_box.rt`. The calls, on a book: `book_calls.rt`, `batch.rt`, `listing.rt`, `program_calls.rt`.
 #![tactic(auto)]
 
+pub mod arrays;
 pub mod batch;
 pub mod book_calls;
 pub mod claims;

@@ -7,7 +7,8 @@ ghost use Rattle.lock_desk.specs.Queries.{blockers_among};
 ghost use Rattle.library_books.specs.Calls.{IsSession, are_written};
 ghost use Rattle.library_books.specs.Claims.{numbers_of_request, numbers_of_transaction};
 
-use crate::book_calls::{session_of, write_sessions};
+use crate::arrays::write_all;
+use crate::book_calls::session_of;
 use crate::claims::{ClaimNumbers, TransactionNumbers, request_numbers, transaction_numbers};
 use crate::status::{NO_SUCH_SESSION, OK};
 use lock_desk::Book;
@@ -57,7 +58,7 @@ pub fn blockers(book: &Book, session: u32, list: &mut [u32], count: &mut usize) 
     let _sessions = book.sessions();
     let mut found = [0; MAX_SESSIONS as usize];
     let all = book.blockers(number, &mut found);
-    write_sessions(&found[..all], list);
+    write_all(&found[..all], list);
     *count = all;
     OK
 }

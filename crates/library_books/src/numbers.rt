@@ -5,6 +5,7 @@ ghost use Rattle.lock_modes.specs.Codes.{code_of};
 ghost use Rattle.lock_rules.specs.Kinds.{number_of_op};
 ghost use Rattle.library_books.specs.Numbers.{IsOp, IsLevel, HasLevelBehind, IsModeCode, IsPath, IsCall, IsCallFault, value_of, place_of, numbers_of_call, numbers_of_reply, numbers_of_entry, numbers_of_holder};
 
+use crate::arrays::NumbersOf;
 use crate::status::{NO_SUCH_LEVEL, NO_SUCH_MODE, NO_SUCH_OP};
 use lock_modes::Mode;
 use lock_rules::{Call, Entry, Op, Reply};
@@ -221,23 +222,25 @@ pub fn reply_numbers(reply: Reply) -> ReplyNumbers
     }
 }
 
-/// The numbers of an entry.
-pub fn entry_numbers(entry: &Entry) -> EntryNumbers
-    ensures { result ≡ numbers_of_entry entry.now }
-{
-    EntryNumbers {
-        session: u32::from(entry.session),
-        call: call_numbers(&entry.call),
-        reply: reply_numbers(entry.reply),
+impl NumbersOf<Entry> for EntryNumbers {
+    ghost numbers = { numbers_of_entry };
+
+    fn of(entry: &Entry) -> EntryNumbers {
+        EntryNumbers {
+            session: u32::from(entry.session),
+            call: call_numbers(&entry.call),
+            reply: reply_numbers(entry.reply),
+        }
     }
 }
 
-/// The numbers of a holder.
-pub fn holder_numbers(holder: &(u16, Mode)) -> HolderNumbers
-    ensures { result ≡ numbers_of_holder holder.now }
-{
-    HolderNumbers {
-        session: u32::from(holder.0),
-        mode: u32::from(holder.1.code()),
+impl NumbersOf<(u16, Mode)> for HolderNumbers {
+    ghost numbers = { numbers_of_holder };
+
+    fn of(holder: &(u16, Mode)) -> HolderNumbers {
+        HolderNumbers {
+            session: u32::from(holder.0),
+            mode: u32::from(holder.1.code()),
+        }
     }
 }

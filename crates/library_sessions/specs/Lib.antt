@@ -4,7 +4,6 @@ pub mod Looks
 pub mod Tables
 pub mod Bounds
 pub mod Turns
-pub mod ProgramTurns
 pub mod Pages
 pub mod Dumps
 pub mod Offices

@@ -37,3 +37,7 @@ pub record IsClosed (office : BoardView) (sessions : List TicketView) (book : Bo
   pub closed : any.IsClosed office sessions programs
   pub book_is : book ≡ programs.object
   pub history : book.history ≡ flat_history programs.history
+
+-- the open handle holds a share before and after, of which this is true
+abbrev pub HasDone : SessionHandle → SessionHandle → (SessionShare → SessionShare → Type 0) → Type 0
+HasDone before after outcome = (a b : SessionShare) × (before.held.share ≡ Some a) × (after.held.share ≡ Some b) × outcome a b

@@ -57,12 +57,11 @@ IsTurn before after served starved = IsPassed before.session after.session serve
     × (starved ≡ 0 → (j : ℕ) → 0 < j → j ≤ before.sessions → heard_from before.session j ≤ length (calls_of j after.session.front))
     × IsSameOffice before after
 
--- so many sessions are to be woken, which the share lists: with a waker exactly those whose wait the entries have ended whose places the
--- session has entered meanwhile, each once; without a waker none
+-- so many sessions are to be woken, which the share lists: exactly those whose wait the entries have ended whose places the session has entered
+-- meanwhile, each once
 pub record AreToWake (before after : SessionShare) (count : ℕ) : Type 0 where
   pub count_is : count ≡ length after.told.told.list
-  pub waking : after.waker ≢ 0 → AreToldBy after.sessions after.session.front (entered_since before.session after.session) after.told.told.list
-  pub silent : after.waker ≡ 0 → count ≡ 0
+  pub waking : AreToldBy after.sessions after.session.front (entered_since before.session after.session) after.told.told.list
 
 -- the answer to the pending call, a program of one call, is collected: the index of its entry in the history, and the reply there
 abbrev pub IsAnswered : SessionShare → SessionShare → AnswerNumbers → Type 0

@@ -1,91 +1,134 @@
--- The outcomes of one turn of a session's call, as the exports state them.
-use Rattle.std.specs.Prelude.{◌≡◌, ◌≢◌, ℕ, ◌%◌, ◌<◌, ◌≤◌, None}
+-- The outcomes of one turn of what a session asks by numbers, a call or a program, as the exports state them. A call is a program of one
+-- call. `is_asked` says which program the numbers encode, and `tells` which numbers tell its answer.
+use Rattle.std.specs.Prelude.{◌≡◌, ◌≢◌, ℕ, ◌%◌, ◌<◌, ◌≤◌, ◌⊎◌, Bool, true, false, Some, None, length}
 use Rattle.lock_rules.specs.declared.calls.Call.{Call}
 use Rattle.lock_rules.specs.declared.calls.Reply.{Reply}
+use Rattle.publication.specs.Views.{asks}
+use Rattle.lock_programs.specs.declared.program.Program.{Program}
+use Rattle.lock_programs.specs.declared.answer.Answer.{Answer}
+use Rattle.lock_programs.specs.Calls.{calls_of}
+use Rattle.lock_office.specs.ProgramBoards.{TicketView}
 use Rattle.lock_office.specs.Sessions.{IsIdle}
-use Rattle.lock_office.specs.SingleCalls.{IsCalled, IsCalling, IsAnswered}
-use Rattle.lock_office.specs.ProgramTurns.{IsPendingSingle}
-use Rattle.combining.specs.Calls.{IsWaitingOn}
+use Rattle.lock_office.specs.ProgramTurns.{IsCalled, IsAnswered}
+use Rattle.lock_office.specs.SingleCalls.{MakesOneCall, IsLastReply}
+use Rattle.combining.specs.Calls.{IsCalling, IsWaitingOn}
 use Rattle.combining.specs.Waits.{IsWaitAfterLook, IsWaitAfterTurn}
 use Rattle.combining.specs.declared.backoff.TheConstants.{TRIES_AT_ONCE, LOOKS_PER_TRY}
 use Rattle.combining.specs.declared.backoff.Wait.{Wait}
 use Rattle.library_books.specs.declared.numbers.CallNumbers.{CallNumbers}
 use Rattle.library_books.specs.declared.numbers.AnswerNumbers.{AnswerNumbers}
+use Rattle.library_books.specs.declared.program_numbers.ProgramNumbers.{ProgramNumbers}
+use Rattle.library_books.specs.declared.program_numbers.ProgramAnswerNumbers.{ProgramAnswerNumbers}
+use Rattle.library_books.specs.declared.status.TheConstants.{OK, NO_MEMORY, NO_SUCH_OP, NO_SUCH_MODE, PENDING, NOTHING_PENDING, NOT_SERVED, RETIRED, NO_SUCH_START, NO_SUCH_ABOVE}
+use Rattle.library_books.specs.Numbers.{IsCall, numbers_of_reply}
+use Rattle.library_books.specs.Programs.{IsProgram, IsProgramFault, numbers_of_answer}
 use Rattle.library_sessions.specs.declared.session_share.SessionShare.{SessionShare}
 use Rattle.library_sessions.specs.declared.turn_calls.TheConstants.{NO_TURN, YIELD}
-use Rattle.library_books.specs.Numbers.{IsCall, numbers_of_reply}
-use Rattle.library_sessions.specs.Sessions.{IsSameOffice}
+use Rattle.library_sessions.specs.Bounds.{HasServedWithin}
+use Rattle.library_sessions.specs.Sessions.{IsSameOffice, AreToWake}
 
 -- the number of a wait: of pause instructions how many there are
 abbrev pub number_of_wait : Wait → ℕ
 number_of_wait (Wait.Pause pauses) = pauses
 number_of_wait Wait.Yield = YIELD
 
--- the session's call is answered: this one if it had none pending, and else what it had, by the last reply. The answer has the index of the
--- entry in the history, and the reply there
-pub record IsCallAnswered (before after : SessionShare) (call : Call) (answer : AnswerNumbers) : Type 0 where
-  pub reply : Reply
-  pub reply_is : answer.reply ≡ numbers_of_reply reply
-  pub called : before.session.pending ≡ None → IsCalled before.session after.session call answer.place reply
-  pub answered : before.session.pending ≢ None → IsAnswered before.session after.session answer.place reply
-  pub idle : IsIdle after.session
+-- the numbers encode a call, and the program makes this one call
+abbrev pub IsOfCall : CallNumbers → Program → Type 0
+IsOfCall asked program = (call : Call) × IsCall asked call × MakesOneCall program call
+
+-- the numbers encode a program, which makes a call
+abbrev pub IsOfCalls : ProgramNumbers → Program → Type 0
+IsOfCalls asked program = IsProgram asked program × (0 < length (calls_of program))
+
+-- the status for numbers that encode no program, or one of no calls
+abbrev pub IsRunFault : ProgramNumbers → ℕ → Type 0
+IsRunFault asked fault = IsProgramFault asked fault ⊎ ((fault ≡ NO_SUCH_OP) × ((program : Program) × IsProgram asked program × (length (calls_of program) ≡ 0)))
+
+-- a status for numbers that encode no call or no program
+abbrev pub IsFaultNumber : ℕ → Type 0
+IsFaultNumber fault = ((NO_SUCH_OP ≤ fault) × (fault ≤ NO_SUCH_MODE)) ⊎ ((NO_SUCH_START ≤ fault) × (fault ≤ NO_SUCH_ABOVE))
+
+-- the numbers tell the last reply, and the place of its entry in the history: of a program of one call the reply to this call
+abbrev pub TellsLast : Program → Answer → AnswerNumbers → Type 0
+TellsLast program made answer = (reply : Reply) × IsLastReply program made answer.place reply × (answer.reply ≡ numbers_of_reply reply)
+
+-- the numbers tell the whole answer
+abbrev pub TellsAll : Program → Answer → ProgramAnswerNumbers → Type 0
+TellsAll program made answer = answer ≡ numbers_of_answer program made
+
+-- the turn was made
+abbrev pub IsMade : ℕ → Type 0
+IsMade status = (status ≡ OK) ⊎ ((status ≡ NO_MEMORY) ⊎ (status ≡ NOT_SERVED))
+
+-- turn number `made` of an idle session, of at most `turns`, with its program. The numbers of the answer and of the wait before the next turn
+-- are written, and how many sessions are to be woken
+pub record HasBegun {N : Type 0} (tells : Program → Answer → N → Type 0) (before after : SessionShare) (program : Program) (made turns : ℕ) (unanswered answer : N) (unread wait told status : ℕ) : Type 0 where
+  -- the session was idle, and has entered at most one call more than a pass may serve
+  pub idle : IsIdle before.session
+  pub few : HasServedWithin 1 before after
+  -- the program is answered
+  pub ok : status ≡ OK → ((at : ℕ) × (reply : Answer) × IsCalled before.session after.session program at reply × tells program reply answer) × IsIdle after.session
+  -- memory was refused in a pass of the session, and the program is pending
+  pub memory : status ≡ NO_MEMORY → IsCalling before.session after.session program
+  -- another session has the lock table: the program was tried at once in the first turns, and then published
+  pub tried : status ≡ NOT_SERVED → made < turns → made < TRIES_AT_ONCE → (after.session ≡ before.session) × (2 ≤ before.sessions)
+  pub published : status ≡ NOT_SERVED → made < turns → TRIES_AT_ONCE ≤ made → IsCalling before.session after.session program × (2 ≤ before.sessions)
+  pub waits : status ≡ NOT_SERVED → made < turns → (w : Wait) × IsWaitAfterTurn (before.session.pending ≡ None) made w × (wait ≡ number_of_wait w)
+  -- no turn is left, and the program is published
+  pub last : status ≡ NOT_SERVED → turns ≤ made → (wait ≡ NO_TURN) × IsCalling before.session after.session program
+  pub failed : status ≢ OK → answer ≡ unanswered
+  pub not_late : status ≢ NOT_SERVED → wait ≡ unread
+  pub told_is : AreToWake before after told
   pub office : IsSameOffice before after
+  pub statuses : IsMade status
 
--- memory was refused in a pass of the session, and its call is pending: if it had none pending, the one that it was given (`is_calling`)
-pub record IsTurnStarvedOf (is_calling : Type 0) (before after : SessionShare) : Type 0 where
-  pub published : before.session.pending ≡ None → is_calling
-  pub waits : before.session.pending ≢ None → IsWaitingOn before.session after.session
-  pub put_back : before.session.pending ≢ None → before.session.put_backs < after.session.put_backs
+-- turn number `made` of a session with a program pending, of at most `turns`. It writes as that of an idle one
+pub record HasResumed {N : Type 0} (tells : Program → Answer → N → Type 0) (before after : SessionShare) (made turns : ℕ) (unanswered answer : N) (unread wait told status : ℕ) : Type 0 where
+  -- a program was pending, and the session has entered at most as many calls as a pass may serve
+  pub pending : before.session.pending ≢ None
+  pub few : HasServedWithin 0 before after
+  -- the program is answered
+  pub ok : status ≡ OK → ((at : ℕ) × (reply : Answer) × (is : IsAnswered before.session after.session at reply) × tells is.0 reply answer) × IsIdle after.session
+  -- memory was refused in a pass of the session, and the program is still pending
+  pub memory : status ≡ NO_MEMORY → IsWaitingOn before.session after.session × (before.session.put_backs < after.session.put_backs)
+  -- there is no answer yet. In the turns in which the session tried to serve, the office has other sessions
+  pub waits : status ≡ NOT_SERVED → made < turns → IsWaitingOn before.session after.session × ((w : Wait) × IsWaitAfterLook made w × (wait ≡ number_of_wait w))
+  pub others : status ≡ NOT_SERVED → made < turns → made % LOOKS_PER_TRY ≡ 0 → 2 ≤ before.sessions
+  -- no turn is left
+  pub last : status ≡ NOT_SERVED → turns ≤ made → (wait ≡ NO_TURN) × (after.session ≡ before.session)
+  pub failed : status ≢ OK → answer ≡ unanswered
+  pub not_late : status ≢ NOT_SERVED → wait ≡ unread
+  pub told_is : AreToWake before after told
   pub office : IsSameOffice before after
+  pub statuses : IsMade status
 
--- the call has no answer yet, behind `made` turns of at most `turns`. A session with no call pending has tried to perform the call at once in
--- the first turns, and then published it (`is_calling`); in an office with other sessions. If no turn was left, it has published the call, and
--- one that had it pending is unchanged. The number says what to do before the next turn
-pub record IsTurnLateOf (is_calling : Type 0) (before after : SessionShare) (made turns number : ℕ) : Type 0 where
-  pub tried : made < turns → before.session.pending ≡ None → made < TRIES_AT_ONCE → (after.session ≡ before.session) × (2 ≤ before.sessions)
-  pub published : made < turns → before.session.pending ≡ None → TRIES_AT_ONCE ≤ made → is_calling × (2 ≤ before.sessions)
-  pub waits : made < turns → before.session.pending ≢ None → IsWaitingOn before.session after.session
-  pub wait : made < turns → (wait : Wait) × IsWaitAfterTurn (before.session.pending ≡ None) made wait × (number ≡ number_of_wait wait)
-  pub last : turns ≤ made → (number ≡ NO_TURN) × (before.session.pending ≡ None → is_calling) × (before.session.pending ≢ None → after.session ≡ before.session)
-  pub office : IsSameOffice before after
+-- nothing is changed or written
+abbrev pub IsUntouched : {S N : Type 0} → S → S → N → N → ℕ → ℕ → ℕ → ℕ → Type 0
+IsUntouched before after unanswered answer unread wait untold told = (after ≡ before) × (answer ≡ unanswered) × (wait ≡ unread) × (told ≡ untold)
 
--- these, of a call
-abbrev pub IsCallStarved : SessionShare → SessionShare → Call → Type 0
-IsCallStarved before after call = IsTurnStarvedOf (IsCalling before.session after.session call) before after
+-- the session may not make turn number `made` of what the numbers ask: the status is that of the first test that fails
+pub record IsRefused {Q : Type 0} (is_asked : Q → Program → Type 0) (is_fault : Q → ℕ → Type 0) (session : TicketView) (asked : Q) (made status : ℕ) : Type 0 where
+  pub fault : status ≢ RETIRED → status ≢ PENDING → is_fault asked status
+  pub retired : status ≡ RETIRED → (session.retired ≡ true) × ((program : Program) × is_asked asked program)
+  pub pending : status ≡ PENDING → (made ≡ 0) × (session.pending ≢ None) × ((program : Program) × is_asked asked program)
 
-abbrev pub IsCallLate : SessionShare → SessionShare → Call → ℕ → ℕ → ℕ → Type 0
-IsCallLate before after call = IsTurnLateOf (IsCalling before.session after.session call) before after
+-- a turn of what the numbers ask: of their program, if the session was idle; of what is pending, if it had something pending, behind the first
+-- turn; or it was refused
+abbrev pub HasMadeTurn : {Q N : Type 0} → (Q → Program → Type 0) → (Q → ℕ → Type 0) → (Program → Answer → N → Type 0) → SessionShare → SessionShare → Q → ℕ → ℕ → N → N → ℕ → ℕ → ℕ → ℕ → ℕ → Type 0
+HasMadeTurn is_asked is_fault tells before after asked made turns unanswered answer unread wait untold told status =
+    ((program : Program) × is_asked asked program × (HasBegun tells before after program made turns unanswered answer unread wait told status
+    ⊎ ((made ≢ 0) × HasResumed tells before after made turns unanswered answer unread wait told status)))
+    ⊎ (IsRefused is_asked is_fault before.session asked made status × IsUntouched before after unanswered answer unread wait untold told)
 
--- these, of the call that the numbers encode
-abbrev pub IsTurnAnswered : SessionShare → SessionShare → CallNumbers → AnswerNumbers → Type 0
-IsTurnAnswered before after asked answer = (call : Call) × IsCall asked call × IsCallAnswered before after call answer
+-- the numbers of the answer can't go on with what is pending: nothing is, or a program whose answer they don't tell as a whole
+pub record IsNotResumed (whole : Program → Bool) (session : TicketView) (status : ℕ) : Type 0 where
+  pub nothing : status ≡ NOTHING_PENDING → session.pending ≡ None
+  pub several : status ≡ PENDING → (program : Program) × (floor : ℕ) × (session.pending ≡ Some (asks program floor)) × (0 < length (calls_of program)) × (whole program ≡ false)
+  pub statuses : (status ≡ NOTHING_PENDING) ⊎ (status ≡ PENDING)
 
-abbrev pub IsTurnStarved : SessionShare → SessionShare → CallNumbers → Type 0
-IsTurnStarved before after asked = (call : Call) × IsCall asked call × IsCallStarved before after call
-
-abbrev pub IsTurnMade : SessionShare → SessionShare → CallNumbers → ℕ → ℕ → ℕ → Type 0
-IsTurnMade before after asked made turns number = (call : Call) × IsCall asked call × IsCallLate before after call made turns number
-
--- the session's pending call, a program of one call, is answered, by the index of its entry in the history and the reply there
-pub record IsLookAnswered (before after : SessionShare) (answer : AnswerNumbers) : Type 0 where
-  pub single : IsPendingSingle before.session
-  pub reply : Reply
-  pub reply_is : answer.reply ≡ numbers_of_reply reply
-  pub answered : IsAnswered before.session after.session answer.place reply
-  pub idle : IsIdle after.session
-  pub office : IsSameOffice before after
-
--- memory was refused in a pass of the session, whose call is still pending
-pub record IsLookStarved (before after : SessionShare) : Type 0 where
-  pub waits : IsWaitingOn before.session after.session
-  pub put_back : before.session.put_backs < after.session.put_backs
-  pub office : IsSameOffice before after
-
--- the pending call has no answer yet, behind `looked` turns of at most `turns`. The number says what to do before the next turn. In the turns
--- in which the session tried to serve, the office has other sessions
-pub record IsLookMade (before after : SessionShare) (looked turns number : ℕ) : Type 0 where
-  pub waits : looked < turns → IsWaitingOn before.session after.session
-      × ((wait : Wait) × IsWaitAfterLook looked wait × (number ≡ number_of_wait wait))
-  pub others : looked < turns → looked % LOOKS_PER_TRY ≡ 0 → 2 ≤ before.sessions
-  pub last : turns ≤ looked → (number ≡ NO_TURN) × (after.session ≡ before.session)
-  pub office : IsSameOffice before after
+-- a turn of what is pending, whose answer the numbers tell as a whole; or it was refused
+abbrev pub HasMadeLook : {N : Type 0} → (Program → Answer → N → Type 0) → (Program → Bool) → SessionShare → SessionShare → ℕ → ℕ → N → N → ℕ → ℕ → ℕ → ℕ → ℕ → Type 0
+HasMadeLook tells whole before after looked turns unanswered answer unread wait untold told status =
+    (((program : Program) (floor : ℕ) → before.session.pending ≡ Some (asks program floor) → whole program ≡ true)
+    × HasResumed tells before after looked turns unanswered answer unread wait told status)
+    ⊎ (IsNotResumed whole before.session status × IsUntouched before after unanswered answer unread wait untold told)

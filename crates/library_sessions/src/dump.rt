@@ -2,10 +2,10 @@
 
 ghost use Rattle.std.specs.Prelude.{◌≡◌, ◌≢◌, ◌⊎◌, ◌++◌, IfOk, OnOk, length, map};
 ghost use Rattle.lock_rules.specs.Legal.{state_of};
-ghost use Rattle.library_books.specs.Calls.{are_written};
 ghost use Rattle.library_books.specs.Claims.{numbers_of_claim};
 ghost use Rattle.library_sessions.specs.Dumps.{IsDumped, numbers_of_open};
 
+use library_books::arrays::write_all;
 use library_books::claims::{ClaimNumbers, claim_numbers, transaction_numbers};
 use library_books::numbers::NOWHERE;
 use library_books::status::{NO_MEMORY, OK};
@@ -62,16 +62,6 @@ fn rows_of(
     Ok(rows)
 }
 
-/// Writes the first rows, as many as `places` has room for.
-fn write_rows(rows: &[ClaimNumbers], places: &mut [ClaimNumbers])
-    ensures { places.new ≡ are_written (λ row. row) rows.now places.old }
-{
-    let count = usize::min(rows.len(), places.len());
-    for k in 0..count {
-        places[k] = rows[k];
-    }
-}
-
 /// Writes the rows of a dump of the book, as many as `list` has room for, the number of all rows to `count`, and how many calls the history
 /// has.
 pub fn dump_of_book(
@@ -93,7 +83,7 @@ pub fn dump_of_book(
     let Ok(rows) = rows_of(alloc, opens.as_slice(), claims.as_slice()) else {
         return NO_MEMORY;
     };
-    write_rows(rows.as_slice(), list);
+    write_all(rows.as_slice(), list);
     *count = rows.len();
     *place = book.served();
     OK

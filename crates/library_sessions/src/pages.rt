@@ -6,8 +6,9 @@ ghost use Rattle.lock_rules.specs.State.{claims_of};
 ghost use Rattle.library_books.specs.Calls.{IsSession};
 ghost use Rattle.library_sessions.specs.Pages.{IsAfter, IsAfterLevel, IsPageOf};
 
+use library_books::arrays::write_all;
 use library_books::book_calls;
-use library_books::claims::{ClaimNumbers, write_claims};
+use library_books::claims::ClaimNumbers;
 use library_books::numbers::{ResourceNumbers, read_resource};
 use library_books::status::{NO_MEMORY, NO_SUCH_LEVEL, NO_SUCH_SESSION, OK};
 use lock_desk::{Book, Resource};
@@ -71,7 +72,7 @@ pub fn locks_of(
     {
         return NO_MEMORY;
     }
-    write_claims(page.as_slice(), list);
+    write_all(page.as_slice(), list);
     *count = page.len();
     OK
 }

@@ -30,12 +30,12 @@ impl Model for BookPointer {
 }
 
 impl BookPointer {
-    ghost use Rattle.std.specs.Borrow.{sem};
-    ghost use Rattle.library_sessions.specs.inner.Lending.{lends_of_book_pointer};
+    ghost use Rattle.std.specs.Borrow.{sem, LendsIf};
+    ghost use Rattle.library_sessions.specs.contracts.pointers.BookPointer.{the_row};
 
     /// What lies behind the pointer, or `None` at null.
     pub fn get(&mut self) -> Option<&mut BookHandle>
-        ensures* lends { sem 𝓛 (lends_of_book_pointer self.entry result) }
+        ensures* lends { sem 𝓛 (LendsIf the_row book_handle_row self.entry result (λ x. record self.entry.now { behind = x }) self.entry.now) }
         ensures value { MatchOption result (self.old.at ≡ null_ptr) (λ r. (self.old.at ≢ null_ptr) × (r.now ≡ self.old.behind)) }
     {
         let at = self.at;
@@ -59,12 +59,12 @@ impl Model for SessionPointer {
 }
 
 impl SessionPointer {
-    ghost use Rattle.std.specs.Borrow.{sem};
-    ghost use Rattle.library_sessions.specs.inner.Lending.{lends_of_session_pointer};
+    ghost use Rattle.std.specs.Borrow.{sem, LendsIf};
+    ghost use Rattle.library_sessions.specs.contracts.pointers.SessionPointer.{the_row};
 
     /// What lies behind the pointer, or `None` at null.
     pub fn get(&mut self) -> Option<&mut SessionHandle>
-        ensures* lends { sem 𝓛 (lends_of_session_pointer self.entry result) }
+        ensures* lends { sem 𝓛 (LendsIf the_row session_handle_row self.entry result (λ x. record self.entry.now { behind = x }) self.entry.now) }
         ensures value { MatchOption result (self.old.at ≡ null_ptr) (λ r. (self.old.at ≢ null_ptr) × (r.now ≡ self.old.behind)) }
     {
         let at = self.at;
@@ -88,12 +88,12 @@ impl Model for PassCountsPointer {
 }
 
 impl PassCountsPointer {
-    ghost use Rattle.std.specs.Borrow.{sem};
-    ghost use Rattle.library_sessions.specs.inner.Lending.{lends_of_pass_counts_pointer};
+    ghost use Rattle.std.specs.Borrow.{sem, LendsIf};
+    ghost use Rattle.library_sessions.specs.contracts.pointers.PassCountsPointer.{the_row};
 
     /// What lies behind the pointer, or `None` at null.
     pub fn get(&mut self) -> Option<&mut PassCountNumbers>
-        ensures* lends { sem 𝓛 (lends_of_pass_counts_pointer self.entry result) }
+        ensures* lends { sem 𝓛 (LendsIf the_row pass_counts_row self.entry result (λ x. record self.entry.now { behind = x }) self.entry.now) }
         ensures value { MatchOption result (self.old.at ≡ null_ptr) (λ r. (self.old.at ≢ null_ptr) × (r.now ≡ self.old.behind)) }
     {
         let at = self.at;
@@ -118,8 +118,8 @@ impl Model for HandleList {
 }
 
 impl HandleList {
-    ghost use Rattle.std.specs.Borrow.{sem};
-    ghost use Rattle.library_sessions.specs.inner.Lending.{lends_of_handle_list};
+    ghost use Rattle.std.specs.Borrow.{sem, Lends, Array};
+    ghost use Rattle.library_sessions.specs.contracts.pointers.HandleList.{the_row};
 
     /// Whether the pointer is null.
     pub fn is_null(&mut self) -> bool
@@ -133,7 +133,7 @@ impl HandleList {
     /// The `room` sessions' handles. The pointer must not be null.
     pub fn items(&mut self) -> &mut [SessionHandle]
         requires not_null { self.old.at ≢ null_ptr }
-        ensures* lends { sem 𝓛 (lends_of_handle_list self.entry result) }
+        ensures* lends { sem 𝓛 (Lends the_row (Array session_handle_row 0) self.entry result (λ xs. record self.entry.now { behind = xs })) }
         ensures value { result.now ≡ self.old.behind }
     {
         let room = self.room;

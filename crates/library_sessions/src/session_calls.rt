@@ -14,7 +14,7 @@ ghost use Rattle.library_books.specs.Numbers.{IsCall, IsCallFault};
 ghost use Rattle.library_sessions.specs.Sessions.{IsSameOffice, IsPublished, IsElsewhere, AreToWake, IsAnswered, IsPieceTaken, IsHeard, IsRetired};
 
 use crate::session_share::SessionShare;
-use library_books::book_calls::{write_entries, write_sessions};
+use library_books::arrays::write_all;
 use library_books::numbers::{
     AnswerNumbers, CallNumbers, EntryNumbers, PassNumbers, read_call, reply_numbers,
 };
@@ -22,7 +22,7 @@ use library_books::status::{
     ELSEWHERE, NO_MEMORY, NO_SUCH_MODE, NO_SUCH_OP, NOT_SERVED, NOTHING_PENDING, OK, OTHER_OFFICE,
     PENDING, RETIRED,
 };
-use lock_office::{Counted, Nobody, Posted, Turn, UNBOUNDED};
+use lock_office::{Posted, Turn, UNBOUNDED};
 use lock_rules::MAX_SESSIONS;
 use std::alloc::Global;
 
@@ -98,31 +98,8 @@ fn write_turn(turn: Turn, pass: &mut PassNumbers) -> u32
     }
 }
 
-/// Tries once to become the combiner, and makes a pass if that succeeds. In an office with a waker it lists whom to wake in the share.
-fn make_pass(share: &mut SessionShare) -> Turn
-    requires free { is_some share.old.looking ≡ false }
-    ensures free { is_some share.new.looking ≡ false }
-    ensures pass { (served : _) (starved left : _) → result ≡ Turn.Pass served starved left → IsPassed share.old.session share.new.session served }
-    ensures starved { (served : _) (starved left : _) → result ≡ Turn.Pass served starved left → IsTrue starved ↔ (share.old.session.put_backs < share.new.session.put_backs) }
-    ensures rises { (j : _) → heard_from share.old.session j ≤ heard_from share.new.session j }
-    ensures calls { HasCallsOf share.new.session.front share.new.session }
-    ensures own { (served : _) (left : _) → result ≡ Turn.Pass served false left → share.old.session.pending ≢ None → IsPendingServed share.new.session }
-    ensures heard { (served j : _) (left : _) → result ≡ Turn.Pass served false left → 0 < j → j ≤ share.old.sessions
-        → heard_from share.old.session j ≤ length (calls_of j share.new.session.front) }
-    ensures told { share.new.waker ≢ 0 → AreToldBy share.new.sessions share.new.session.front (entered_since share.old.session share.new.session) share.new.told.told.list }
-    ensures same { IsSameOffice share.old share.new }
-    ensures elsewhere { result ≡ Turn.Elsewhere → IsElsewhere share.old share.new × (share.new.told.told.list ≡ []) }
-{
-    if share.waker == 0 {
-        let mut nobody = Counted::new(Nobody);
-        return share.session.serve(&share.office, UNBOUNDED, &mut nobody);
-    }
-    share
-        .session
-        .serve(&share.office, UNBOUNDED, &mut share.told)
-}
-
-/// Makes a pass as `make_pass` does. Writes how many sessions are to be woken to `told`.
+/// Tries once to become the combiner, and makes a pass if that succeeds. Writes how many sessions are to be woken to `told`: the share lists
+/// them.
 pub fn serve(share: &mut SessionShare, pass: &mut PassNumbers, told: &mut usize) -> u32
     requires free { is_some share.old.looking ≡ false }
     ensures free { is_some share.new.looking ≡ false }
@@ -140,7 +117,9 @@ pub fn serve(share: &mut SessionShare, pass: &mut PassNumbers, told: &mut usize)
     ensures elsewhere { result ≡ ELSEWHERE → IsElsewhere share.old share.new × (told.new ≡ 0) }
     ensures statuses { (result ≡ OK) ⊎ (result ≡ ELSEWHERE) }
 {
-    let turn = make_pass(share);
+    let turn = share
+        .session
+        .serve(&share.office, UNBOUNDED, &mut share.told);
     *told = share.told.told.count();
     write_turn(turn, pass)
 }
@@ -155,7 +134,7 @@ pub fn told(share: &SessionShare, first: usize, list: &mut [u32], count: &mut us
     let told = share.told.told.write(&mut all);
     let sessions = &all[..told];
     let start = usize::min(first, sessions.len());
-    write_sessions(&sessions[start..], list);
+    write_all(&sessions[start..], list);
     *count = sessions.len();
 }
 
@@ -185,7 +164,7 @@ pub fn take_history(
         return ELSEWHERE;
     };
     *first = piece.first;
-    *count = write_entries(piece.lines.as_slice(), places);
+    *count = write_all(piece.lines.as_slice(), places);
     OK
 }
 

@@ -1,6 +1,6 @@
 //! What a session's handle holds.
 
-ghost use Rattle.std.specs.Prelude.{◌≡◌, ◌≢◌, ◌≤◌, [], None, All, false, is_some};
+ghost use Rattle.std.specs.Prelude.{◌≡◌, ◌≤◌, All, false, is_some};
 ghost use Rattle.lock_rules.specs.declared.calls.TheConstants.{MAX_SESSIONS};
 ghost use Rattle.lock_office.specs.Sessions.{IsSessionOf, HasNothingPending};
 
@@ -23,11 +23,11 @@ pub struct SessionShare {
     pub sessions: u16,
     /// The caller's number for the office. The caller gives no two open offices the same.
     pub mark: u64,
-    /// The address of the office's waker, or 0 if it has none.
+    /// The address of what wakes the office's sessions, for the caller alone.
     pub waker: u64,
     /// How much a pass in a whole call of the session serves at most.
     pub bound: PassBound,
-    /// The sessions whose wait the session's last pass has ended. In an office without a waker it stays empty.
+    /// The sessions whose wait the session's last pass has ended.
     pub told: Counted<Ended>,
     /// The lock table of the office, while the session looks at it.
     pub looking: Option<Box<Load<Programs<Book>>>>,
@@ -36,5 +36,4 @@ pub struct SessionShare {
     ghost count: { sessions ≡ office.value.sessions },
     ghost few: { sessions ≤ MAX_SESSIONS },
     ghost telling: { told.told.room ≡ sessions },
-    ghost silent: { waker ≡ 0 → told.told.list ≡ [] },
 }

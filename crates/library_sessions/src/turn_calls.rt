@@ -1,30 +1,28 @@
-//! One turn of a session's call in numbers, on the share that a handle holds.
+//! One turn of what a session asks by numbers, a call or a program, on the share that a handle holds. A call is a program of one call.
 
-ghost use Rattle.std.specs.Prelude.{◌≡◌, ◌≢◌, ◌<◌, ◌≤◌, ◌%◌, ◌⊎◌, ◌↔◌, [], true, false, None, is_some};
-ghost use Rattle.lock_rules.specs.declared.calls.Call.{Call as CallValue};
-ghost use Rattle.lock_rules.specs.declared.calls.Reply.{Reply as ReplyValue};
-ghost use Rattle.combining.specs.declared.office.Answer.{Answer};
+ghost use Rattle.std.specs.Prelude.{◌≡◌, ◌≢◌, ℕ, ◌<◌, ◌≤◌, ◌⊎◌, ◌==◌, Bool, true, false, None, IfOk, IfErr, length, is_some};
+ghost use Rattle.programs.specs.Flat.{IsAnswer};
+ghost use Rattle.lock_programs.specs.declared.program.Program.{Program as ProgramValue};
+ghost use Rattle.lock_programs.specs.declared.answer.Answer.{Answer as AnswerValue};
+ghost use Rattle.lock_programs.specs.Calls.{calls_of};
+ghost use Rattle.lock_programs.specs.Answers.{program_form};
+ghost use Rattle.combining.specs.declared.office.Answer.{Answer as AnswerOf};
 ghost use Rattle.lock_office.specs.Sessions.{IsIdle};
-ghost use Rattle.lock_office.specs.SingleCalls.{IsCalled, IsCalling, IsAnswered, HasStarvedCalling};
-ghost use Rattle.lock_office.specs.ProgramTurns.{HasSeveralPending};
-ghost use Rattle.lock_office.specs.Ended.{AreToldBy};
-ghost use Rattle.combining.specs.Ended.{entered_since};
-ghost use Rattle.combining.specs.Waits.{IsWaitAfterLook, IsWaitAfterTurn};
-ghost use Rattle.combining.specs.Turns.{HasAwaited, HasTurned};
-ghost use Rattle.library_sessions.specs.Bounds.{HasServedWithin};
-ghost use Rattle.library_books.specs.Numbers.{IsCall, IsCallFault, numbers_of_reply};
-ghost use Rattle.library_sessions.specs.Sessions.{IsSameOffice, AreToWake};
-ghost use Rattle.library_sessions.specs.Turns.{number_of_wait, IsCallAnswered, IsCallStarved, IsCallLate, IsTurnAnswered, IsTurnStarved, IsTurnMade, IsLookAnswered, IsLookStarved, IsLookMade};
+ghost use Rattle.library_books.specs.Numbers.{IsCallFault};
+ghost use Rattle.library_sessions.specs.Turns.{number_of_wait, IsOfCall, IsOfCalls, IsRunFault, IsFaultNumber, TellsLast, TellsAll, IsMade, HasBegun, HasResumed, HasMadeTurn, HasMadeLook, IsRefused};
 
 use crate::session_share::SessionShare;
-use combining::{LOOKS_PER_TRY, Next, Told, Wait};
+use combining::{Next, Told, Wait};
 use library_books::numbers::{AnswerNumbers, CallNumbers, read_call, reply_numbers};
+use library_books::program_numbers::{
+    ProgramAnswerNumbers, ProgramNumbers, read_program, write_answer,
+};
 use library_books::status::{
-    NO_MEMORY, NO_SUCH_MODE, NO_SUCH_OP, NOT_SERVED, NOTHING_PENDING, OK, PENDING, RETIRED,
+    NO_MEMORY, NO_SUCH_OP, NOT_SERVED, NOTHING_PENDING, OK, PENDING, RETIRED,
 };
 use lock_desk::Book;
-use lock_office::{Counted, Nobody};
-use lock_rules::{Call, Reply};
+use lock_office::last_of;
+use lock_programs::{Answer, Program};
 use programs::Programs;
 
 /// No turn is left.
@@ -33,8 +31,103 @@ pub const NO_TURN: u32 = 0;
 /// The processor is to be yielded before the next turn.
 pub const YIELD: u32 = u32::MAX;
 
+/// Numbers that ask something of a session.
+pub trait Asks {
+    // What they ask, and the status if it is nothing.
+    ghost is_asked: { Self → ProgramValue → Type 0 };
+
+    ghost is_fault: { Self → ℕ → Type 0 };
+
+    /// The program that the numbers encode, which makes a call. Else the status of the first test that fails.
+    fn program(&self) -> Result<Program, u32>
+        ensures ok { IfOk result (λ program. is_asked self.now program × (0 < length (calls_of program))) }
+        ensures err { IfErr result (λ fault. is_fault self.now fault × IsFaultNumber fault) };
+}
+
+impl Asks for CallNumbers {
+    ghost is_asked = { IsOfCall };
+
+    ghost is_fault = { IsCallFault };
+
+    #[inline(always)]
+    fn program(&self) -> Result<Program, u32> {
+        let call = read_call(self)?;
+        Ok(Program::one(call))
+    }
+}
+
+impl Asks for ProgramNumbers {
+    ghost is_asked = { IsOfCalls };
+
+    ghost is_fault = { IsRunFault };
+
+    /// A program of no calls fails the test of its last call.
+    #[inline(always)]
+    fn program(&self) -> Result<Program, u32> {
+        let program = read_program(self)?;
+        if program.length() == 0 {
+            return Err(NO_SUCH_OP);
+        }
+        Ok(program)
+    }
+}
+
+/// Numbers that tell the answer to a program.
+pub trait Tells {
+    // What they tell, and of which programs it is the whole answer.
+    ghost tells: { ProgramValue → AnswerValue → Self → Type 0 };
+
+    ghost whole: { ProgramValue → Bool };
+
+    /// Whether the numbers tell the whole answer to the program.
+    fn is_whole(program: &Program) -> bool
+        ensures { result ≡ whole program.now };
+
+    /// Writes the answer.
+    fn tell(&mut self, program: &Program, answer: &Answer)
+        requires some { 0 < length (calls_of program.now) }
+        requires fits { IsAnswer program_form program.now answer.now }
+        ensures { tells program.now answer.now self.new };
+}
+
+impl Tells for AnswerNumbers {
+    ghost tells = { TellsLast };
+
+    ghost whole = { λ program. length (calls_of program) == 1 };
+
+    #[inline(always)]
+    fn is_whole(program: &Program) -> bool {
+        program.length() == 1
+    }
+
+    #[inline(always)]
+    fn tell(&mut self, program: &Program, answer: &Answer) {
+        let last = last_of(program, answer);
+        *self = AnswerNumbers {
+            place: last.place,
+            reply: reply_numbers(last.reply),
+        };
+    }
+}
+
+impl Tells for ProgramAnswerNumbers {
+    ghost tells = { TellsAll };
+
+    ghost whole = { λ program. true };
+
+    #[inline(always)]
+    fn is_whole(_program: &Program) -> bool {
+        true
+    }
+
+    #[inline(always)]
+    fn tell(&mut self, program: &Program, answer: &Answer) {
+        write_answer(program, answer, self);
+    }
+}
+
 /// The number of a wait.
-pub fn wait_number(wait: Wait) -> u32
+fn wait_number(wait: Wait) -> u32
     ensures { result ≡ number_of_wait wait }
 {
     match wait {
@@ -43,23 +136,25 @@ pub fn wait_number(wait: Wait) -> u32
     }
 }
 
-/// Writes the answer, or how to wait, in numbers. Returns the status.
+/// Writes the answer to the program, or how to wait, in numbers. Returns the status.
 #[inline(always)]
-fn write_next(next: Next<Reply>, answer: &mut AnswerNumbers, wait: &mut u32) -> u32
-    ensures ok { result ≡ OK → (found : Answer ReplyValue) × (next ≡ Next.Answered found)
-        × (answer.new.place ≡ found.place) × (answer.new.reply ≡ numbers_of_reply found.reply) }
+fn write_next<A: Tells>(
+    next: Next<Answer>,
+    program: &Program,
+    answer: &mut A,
+    wait: &mut u32,
+) -> u32
+    requires { (found : _) → next ≡ Next.Answered found → (0 < length (calls_of program.now)) × IsAnswer program_form program.now found.reply }
+    ensures ok { result ≡ OK → (found : AnswerOf AnswerValue) × (next ≡ Next.Answered found) × A.tells program.now found.reply answer.new }
     ensures memory { result ≡ NO_MEMORY → next ≡ Next.Starved }
     ensures waits { result ≡ NOT_SERVED → (w : _) × (next ≡ Next.Wait w) × (wait.new ≡ number_of_wait w) }
     ensures failed { result ≢ OK → answer.new ≡ answer.old }
-    ensures unread { result ≢ NOT_SERVED → wait.new ≡ wait.old }
-    ensures statuses { (result ≡ OK) ⊎ ((result ≡ NO_MEMORY) ⊎ (result ≡ NOT_SERVED)) }
+    ensures not_late { result ≢ NOT_SERVED → wait.new ≡ wait.old }
+    ensures statuses { IsMade result }
 {
     match next {
         Next::Answered(found) => {
-            *answer = AnswerNumbers {
-                place: found.place,
-                reply: reply_numbers(found.reply),
-            };
+            answer.tell(program, &found.reply);
             OK
         }
         Next::Starved => NO_MEMORY,
@@ -70,199 +165,138 @@ fn write_next(next: Next<Reply>, answer: &mut AnswerNumbers, wait: &mut u32) -> 
     }
 }
 
-/// Forgets whom the last pass told of.
+/// Makes turn number `made` of an idle session, of which there are `turns` at most: makes one of the program, as `Session::run_turn` does, or,
+/// if no turn is left, publishes the program. Writes the answer; or how to wait before the next turn, 0 if none is left; and how many
+/// sessions are to be woken to `told`, which the share lists.
 #[inline(always)]
-pub fn forget_told(share: &mut SessionShare)
-    requires free { is_some share.old.looking ≡ false }
-    ensures free { is_some share.new.looking ≡ false }
-    ensures none { share.new.told.told.list ≡ [] }
-    ensures session { share.new.session ≡ share.old.session }
-    ensures same { IsSameOffice share.old share.new }
-{
-    if share.waker != 0 {
-        Told::<Programs<Book>>::clear(&mut share.told);
-    }
-}
-
-/// Makes one turn of a call, as `Session::turn` does. In an office with a waker it lists whom to wake in the share.
-#[inline(always)]
-fn make_turn(share: &mut SessionShare, call: &Call, made: u64) -> Next<Reply>
-    requires free { is_some share.old.looking ≡ false }
-    requires live { share.old.session.retired ≡ false }
-    requires none { share.old.told.told.list ≡ [] }
-    ensures free { is_some share.new.looking ≡ false }
-    ensures turned { HasTurned share.old.session share.new.session share.old.sessions made (IsCalled share.old.session share.new.session call.now)
-        (IsAnswered share.old.session share.new.session) (IsCalling share.old.session share.new.session call.now)
-        (HasStarvedCalling share.old.session share.new.session call.now) result }
-    ensures wait { (w : _) → result ≡ Next.Wait w → IsWaitAfterTurn (share.old.session.pending ≡ None) made w }
-    ensures told { share.new.waker ≢ 0 → AreToldBy share.new.sessions share.new.session.front (entered_since share.old.session share.new.session) share.new.told.told.list }
-    ensures few { HasServedWithin 1 share.old share.new }
-    ensures same { IsSameOffice share.old share.new }
-{
-    if share.waker == 0 {
-        let mut nobody = Counted::new(Nobody);
-        return share
-            .session
-            .turn(&share.office, call, made, share.bound, &mut nobody);
-    }
-    share
-        .session
-        .turn(&share.office, call, made, share.bound, &mut share.told)
-}
-
-/// Makes one turn of the pending call, as `Session::look` does. In an office with a waker it lists whom to wake in the share.
-#[inline(always)]
-fn make_look(share: &mut SessionShare, looked: u64) -> Next<Reply>
-    requires free { is_some share.old.looking ≡ false }
-    requires pending { share.old.session.pending ≢ None }
-    requires none { share.old.told.told.list ≡ [] }
-    ensures free { is_some share.new.looking ≡ false }
-    ensures awaited { HasAwaited share.old.session share.new.session (IsAnswered share.old.session share.new.session) result }
-    ensures others { (w : _) → result ≡ Next.Wait w → looked % LOOKS_PER_TRY ≡ 0 → 1 < share.old.sessions }
-    ensures wait { (w : _) → result ≡ Next.Wait w → IsWaitAfterLook looked w }
-    ensures told { share.new.waker ≢ 0 → AreToldBy share.new.sessions share.new.session.front (entered_since share.old.session share.new.session) share.new.told.told.list }
-    ensures few { HasServedWithin 0 share.old share.new }
-    ensures same { IsSameOffice share.old share.new }
-{
-    if share.waker == 0 {
-        let mut nobody = Counted::new(Nobody);
-        return share
-            .session
-            .look(&share.office, looked, share.bound, &mut nobody);
-    }
-    share
-        .session
-        .look(&share.office, looked, share.bound, &mut share.told)
-}
-
-/// Publishes the call of a session that has none pending, and may make one.
-#[inline(never)]
-fn publish_last(share: &mut SessionShare, call: Call)
-    requires free { is_some share.old.looking ≡ false }
-    requires live { share.old.session.retired ≡ false }
-    ensures free { is_some share.new.looking ≡ false }
-    ensures published { share.old.session.pending ≡ None → IsCalling share.old.session share.new.session call }
-    ensures same { share.old.session.pending ≢ None → share.new.session ≡ share.old.session }
-    ensures told { share.new.told ≡ share.old.told }
-    ensures entered { share.new.session.entered ≡ share.old.session.entered }
-    ensures office { IsSameOffice share.old share.new }
-{
-    share.session.publish_if_idle(&share.office, call);
-}
-
-/// Makes turn number `made` of a call, of which there are `turns` at most: as `Session::turn` makes it, or, if no turn is left, publishes
-/// the call unless it is pending. Writes the answer; or how to wait before the next turn, 0 if none is left; and how many sessions are to be
-/// woken to `told`.
-#[inline(always)]
-fn turn_of(
+fn begin<A: Tells>(
     share: &mut SessionShare,
-    call: &Call,
+    program: &Program,
     made: u64,
     turns: u64,
-    answer: &mut AnswerNumbers,
+    answer: &mut A,
     wait: &mut u32,
     told: &mut usize,
 ) -> u32
     requires free { is_some share.old.looking ≡ false }
-    requires live { share.old.session.retired ≡ false }
+    requires idle { IsIdle share.old.session }
+    requires some { 0 < length (calls_of program.now) }
     ensures free { is_some share.new.looking ≡ false }
-    ensures ok { result ≡ OK → IsCallAnswered share.old share.new call.now answer.new }
-    ensures memory { result ≡ NO_MEMORY → IsCallStarved share.old share.new call.now }
-    ensures late { result ≡ NOT_SERVED → IsCallLate share.old share.new call.now made turns wait.new }
-    ensures told { AreToWake share.old share.new told.new }
-    ensures few { HasServedWithin 1 share.old share.new }
-    ensures failed { result ≢ OK → answer.new ≡ answer.old }
-    ensures unread { result ≢ NOT_SERVED → wait.new ≡ wait.old }
-    ensures statuses { (result ≡ OK) ⊎ ((result ≡ NO_MEMORY) ⊎ (result ≡ NOT_SERVED)) }
+    ensures begun { HasBegun A.tells share.old share.new program.now made turns answer.old answer.new wait.old wait.new told.new result }
 {
-    forget_told(share);
+    Told::<Programs<Book>>::clear(&mut share.told);
     if made >= turns {
-        publish_last(share, *call);
+        share
+            .session
+            .publish_program_if_idle(&share.office, *program);
         *told = 0;
         *wait = NO_TURN;
         return NOT_SERVED;
     }
-    let next = make_turn(share, call, made);
+    let next = share
+        .session
+        .run_turn(&share.office, program, made, share.bound, &mut share.told);
     *told = share.told.told.count();
-    write_next(next, answer, wait)
+    write_next(next, program, answer, wait)
 }
 
-/// Makes turn number `made` of the call that the numbers encode, as `turn_of` does. A session that has another call pending before the first
-/// turn is refused.
-pub fn turn(
+/// Makes turn number `made` of the session's pending program, as `Session::run_look` does, and writes as `begin` does. It stands apart, so that
+/// a program that is answered by its first turn is quick.
+#[inline(never)]
+fn resume<A: Tells>(
     share: &mut SessionShare,
-    asked: &CallNumbers,
     made: u64,
     turns: u64,
-    answer: &mut AnswerNumbers,
+    answer: &mut A,
+    wait: &mut u32,
+    told: &mut usize,
+) -> u32
+    requires free { is_some share.old.looking ≡ false }
+    requires pending { share.old.session.pending ≢ None }
+    ensures free { is_some share.new.looking ≡ false }
+    ensures resumed { HasResumed A.tells share.old share.new made turns answer.old answer.new wait.old wait.new told.new result }
+{
+    Told::<Programs<Book>>::clear(&mut share.told);
+    if made >= turns {
+        *told = 0;
+        *wait = NO_TURN;
+        return NOT_SERVED;
+    }
+    let asked = share.session.pending_program();
+    let next = share
+        .session
+        .run_look(&share.office, made, share.bound, &mut share.told);
+    *told = share.told.told.count();
+    write_next(next, &asked, answer, wait)
+}
+
+/// The program that the numbers encode, if the session may make turn number `made` of it. Else why it may not: before the first turn nothing
+/// may be pending.
+#[inline(always)]
+fn program_of<Q: Asks>(share: &SessionShare, asked: &Q, made: u64) -> Result<Program, u32>
+    ensures asked { IfOk result (λ program. Q.is_asked asked.now program × (0 < length (calls_of program))) }
+    ensures live { IfOk result (λ _. share.now.session.retired ≡ false) }
+    ensures first { IfOk result (λ _. made ≡ 0 → share.now.session.pending ≡ None) }
+    ensures refused { IfErr result (λ status. IsRefused Q.is_asked Q.is_fault share.now.session asked.now made status) }
+    ensures statuses { IfErr result (λ status. (status ≡ RETIRED) ⊎ ((status ≡ PENDING) ⊎ IsFaultNumber status)) }
+{
+    let program = asked.program()?;
+    if share.session.is_retired() {
+        return Err(RETIRED);
+    }
+    if made == 0 && !share.session.is_idle() {
+        return Err(PENDING);
+    }
+    Ok(program)
+}
+
+/// Makes turn number `made` of what the numbers ask, of which there are `turns` at most: of their program, if the session is idle, or else of
+/// what is pending. It writes as `begin` does. A session that has something pending before the first turn is refused.
+pub fn turn<Q: Asks, A: Tells>(
+    share: &mut SessionShare,
+    asked: &Q,
+    made: u64,
+    turns: u64,
+    answer: &mut A,
     wait: &mut u32,
     told: &mut usize,
 ) -> u32
     requires free { is_some share.old.looking ≡ false }
     ensures free { is_some share.new.looking ≡ false }
-    ensures ok { result ≡ OK → IsTurnAnswered share.old share.new asked.now answer.new }
-    ensures memory { result ≡ NO_MEMORY → IsTurnStarved share.old share.new asked.now }
-    ensures late { result ≡ NOT_SERVED → IsTurnMade share.old share.new asked.now made turns wait.new }
-    ensures told { (result ≡ OK) ⊎ ((result ≡ NO_MEMORY) ⊎ (result ≡ NOT_SERVED)) → AreToWake share.old share.new told.new × HasServedWithin 1 share.old share.new }
-    ensures first { (result ≡ OK) ⊎ ((result ≡ NO_MEMORY) ⊎ (result ≡ NOT_SERVED)) → made ≡ 0 → share.old.session.pending ≡ None }
-    ensures failed { result ≢ OK → answer.new ≡ answer.old }
-    ensures unread { result ≢ NOT_SERVED → wait.new ≡ wait.old }
-    ensures same { result ≢ OK → result ≢ NO_MEMORY → result ≢ NOT_SERVED → (share.new ≡ share.old) × (told.new ≡ told.old) }
-    ensures call { NO_SUCH_OP ≤ result → result ≤ NO_SUCH_MODE → IsCallFault asked.now result }
-    ensures retired { result ≡ RETIRED → (share.old.session.retired ≡ true) × ((call : CallValue) × IsCall asked.now call) }
-    ensures pending { result ≡ PENDING → (made ≡ 0) × (share.old.session.pending ≢ None) × ((call : CallValue) × IsCall asked.now call) }
-    ensures statuses { (result ≡ OK) ⊎ ((result ≡ RETIRED) ⊎ ((result ≡ PENDING) ⊎ ((result ≡ NO_MEMORY) ⊎ ((result ≡ NOT_SERVED) ⊎ ((NO_SUCH_OP ≤ result) × (result ≤ NO_SUCH_MODE)))))) }
+    ensures turn { HasMadeTurn Q.is_asked Q.is_fault A.tells share.old share.new asked.now made turns answer.old answer.new wait.old wait.new told.old told.new result }
+    ensures statuses { IsMade result ⊎ ((result ≡ RETIRED) ⊎ ((result ≡ PENDING) ⊎ IsFaultNumber result)) }
 {
-    let call = match read_call(asked) {
-        Ok(call) => call,
-        Err(fault) => return fault,
+    let program = match program_of(share, asked, made) {
+        Ok(program) => program,
+        Err(status) => return status,
     };
-    if share.session.is_retired() {
-        return RETIRED;
+    if share.session.is_idle() {
+        return begin(share, &program, made, turns, answer, wait, told);
     }
-    if made == 0 && !share.session.is_idle() {
-        return PENDING;
-    }
-    turn_of(share, &call, made, turns, answer, wait, told)
+    resume(share, made, turns, answer, wait, told)
 }
 
-/// Makes turn number `looked` of the pending call, of which there are `turns` at most, as `Session::look` makes it. Writes as `turn` does.
-/// A pending program of several calls is refused.
-pub fn look(
+/// Makes turn number `looked` of what the session has pending, of which there are `turns` at most. It writes as `begin` does. A pending
+/// program is refused if the numbers don't tell the whole answer to it.
+pub fn look<A: Tells>(
     share: &mut SessionShare,
     looked: u64,
     turns: u64,
-    answer: &mut AnswerNumbers,
+    answer: &mut A,
     wait: &mut u32,
     told: &mut usize,
 ) -> u32
     requires free { is_some share.old.looking ≡ false }
     ensures free { is_some share.new.looking ≡ false }
-    ensures ok { result ≡ OK → IsLookAnswered share.old share.new answer.new }
-    ensures memory { result ≡ NO_MEMORY → IsLookStarved share.old share.new }
-    ensures late { result ≡ NOT_SERVED → IsLookMade share.old share.new looked turns wait.new }
-    ensures told { result ≢ NOTHING_PENDING → result ≢ PENDING → AreToWake share.old share.new told.new }
-    ensures few { result ≢ NOTHING_PENDING → result ≢ PENDING → HasServedWithin 0 share.old share.new }
-    ensures failed { result ≢ OK → answer.new ≡ answer.old }
-    ensures unread { result ≢ NOT_SERVED → wait.new ≡ wait.old }
-    ensures same { (result ≡ NOTHING_PENDING) ⊎ (result ≡ PENDING) → (share.new ≡ share.old) × (told.new ≡ told.old) }
-    ensures nothing { result ≡ NOTHING_PENDING ↔ (share.old.session.pending ≡ None) }
-    ensures several { result ≡ PENDING → HasSeveralPending share.old.session }
-    ensures statuses { (result ≡ OK) ⊎ ((result ≡ NOTHING_PENDING) ⊎ ((result ≡ PENDING) ⊎ ((result ≡ NO_MEMORY) ⊎ (result ≡ NOT_SERVED)))) }
+    ensures look { HasMadeLook A.tells A.whole share.old share.new looked turns answer.old answer.new wait.old wait.new told.old told.new result }
+    ensures statuses { IsMade result ⊎ ((result ≡ NOTHING_PENDING) ⊎ (result ≡ PENDING)) }
 {
     if share.session.is_idle() || share.session.is_retired() {
         return NOTHING_PENDING;
     }
-    if !share.session.is_single() {
+    let asked = share.session.pending_program();
+    if !A::is_whole(&asked) {
         return PENDING;
     }
-    forget_told(share);
-    if looked >= turns {
-        *told = 0;
-        *wait = NO_TURN;
-        return NOT_SERVED;
-    }
-    let next = make_look(share, looked);
-    *told = share.told.told.count();
-    write_next(next, answer, wait)
+    resume(share, looked, turns, answer, wait, told)
 }

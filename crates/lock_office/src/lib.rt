@@ -27,7 +27,7 @@ use lock_desk::{Book, Entry, Reply};
 pub use lock_programs::{Answer as ProgramAnswer, CALLS, Last, Program, Start, Stop};
 pub use opening::{open_keeping, open_telling};
 use programs::Programs;
-pub use session::{Counted, Knowledge, Session};
+pub use session::{Counted, Knowledge, Session, last_of};
 pub use single::reply_of_one;
 
 /// A lock table that threads share by reference, each with sessions of its own, which make programs.

@@ -80,7 +80,7 @@ fn answer_of(asked: &Program, answer: &ProgramAnswer) -> Answer
 
 /// The last reply to a program of which a call was served, and its place in the history of calls.
 #[inline(always)]
-fn last_of(program: &Program, answer: &ProgramAnswer) -> Answer
+pub fn last_of(program: &Program, answer: &ProgramAnswer) -> Answer
     requires served { 0 < length (replies_of program.now answer.now) }
     ensures last { (earlier : List ReplyValue) × (replies_of program.now answer.now ≡ earlier ++ result.reply ∷ [])
         × (result.place ≡ min (answer.now.first + length earlier) (2 ^ 64 - 1)) }

@@ -43,9 +43,7 @@ pub extern "C" fn pelgaisti_raw_book_open(
     ensures possible { (result ≤ NO_MEMORY) → IsClosed book.old.behind × (1 ≤ options.now.sessions) × (options.now.sessions ≤ MAX_SESSIONS) }
     ensures statuses { (result ≡ NULL_POINTER) ⊎ ((result ≤ NO_MEMORY) ⊎ ((result ≡ OPEN) ⊎ (result ≡ NO_SUCH_COUNT))) }
 {
-    let Some(book) = book.get() else {
-        return NULL_POINTER;
-    };
+    let book = given!(book.get(), NULL_POINTER);
     if book.has_table() {
         return OPEN;
     }
@@ -72,9 +70,7 @@ pub extern "C" fn pelgaisti_raw_book_close(alloc: Global, book: &mut BookPointer
     ensures looks { result ≢ NULL_POINTER → (result ≡ LOOKS ↔ (book.old.behind.is_open ≡ 2)) }
     ensures statuses { (result ≡ NULL_POINTER) ⊎ ((result ≡ OK) ⊎ ((result ≡ CLOSED) ⊎ (result ≡ LOOKS))) }
 {
-    let Some(book) = book.get() else {
-        return NULL_POINTER;
-    };
+    let book = given!(book.get(), NULL_POINTER);
     match book.take_own(alloc) {
         Some(_) => OK,
         None => book.refusal(),
@@ -102,18 +98,10 @@ pub extern "C" fn pelgaisti_raw_book_serve(
     ensures memory { result ≡ NO_MEMORY → (view : BookView) × (book.old.behind.held.book ≡ Some view) × IsSession view session × ((asked : Call) × IsCall call.old.behind asked) }
     ensures statuses { (result ≡ NULL_POINTER) ⊎ ((result ≡ LOOKS) ⊎ (result ≤ NO_SUCH_MODE)) }
 {
-    let Some(book) = book.get() else {
-        return NULL_POINTER;
-    };
-    let Some(call) = call.get() else {
-        return NULL_POINTER;
-    };
-    let Some(reply) = reply.get() else {
-        return NULL_POINTER;
-    };
-    let Some(mut boxed) = book.take_own(alloc) else {
-        return book.refusal();
-    };
+    let book = given!(book.get(), NULL_POINTER);
+    let call = given!(call.get(), NULL_POINTER);
+    let reply = given!(reply.get(), NULL_POINTER);
+    let mut boxed = given!(book.take_own(alloc), book.refusal());
     let status = book_calls::serve(&mut boxed, session, &call, reply);
     book.put_own(alloc, boxed);
     status
@@ -139,19 +127,13 @@ pub extern "C" fn pelgaisti_raw_book_serve_batch(
     ensures memory { result ≡ NO_MEMORY → (view : BookView) × (book.old.behind.held.book ≡ Some view) × ((items : List Item) × AreItems view calls.old.behind items) }
     ensures statuses { (result ≡ NULL_POINTER) ⊎ ((result ≡ LOOKS) ⊎ (result ≤ NO_SUCH_MODE)) }
 {
-    let Some(book) = book.get() else {
-        return NULL_POINTER;
-    };
+    let book = given!(book.get(), NULL_POINTER);
     if calls.is_null() {
         return NULL_POINTER;
     }
-    let Some(count) = count.get() else {
-        return NULL_POINTER;
-    };
+    let count = given!(count.get(), NULL_POINTER);
     let calls = calls.items();
-    let Some(mut boxed) = book.take_own(alloc) else {
-        return book.refusal();
-    };
+    let mut boxed = given!(book.take_own(alloc), book.refusal());
     let status = batch::serve(alloc, &mut boxed, calls, count);
     book.put_own(alloc, boxed);
     status
@@ -177,18 +159,10 @@ pub extern "C" fn pelgaisti_raw_book_held(
     ensures level { result ≡ NO_SUCH_LEVEL → (view : BookView) × (shown book.old.behind ≡ Some view) × IsSession view session × ¬ (IsLevel resource.old.behind.level) }
     ensures statuses { (result ≡ NULL_POINTER) ⊎ ((result ≡ OK) ⊎ ((result ≡ CLOSED) ⊎ ((result ≡ NO_SUCH_SESSION) ⊎ (result ≡ NO_SUCH_LEVEL)))) }
 {
-    let Some(book) = book.get() else {
-        return NULL_POINTER;
-    };
-    let Some(resource) = resource.get() else {
-        return NULL_POINTER;
-    };
-    let Some(mode) = mode.get() else {
-        return NULL_POINTER;
-    };
-    let Some(table) = book.take(alloc) else {
-        return CLOSED;
-    };
+    let book = given!(book.get(), NULL_POINTER);
+    let resource = given!(resource.get(), NULL_POINTER);
+    let mode = given!(mode.get(), NULL_POINTER);
+    let table = given!(book.take(alloc), CLOSED);
     let status = book_calls::held(table.book(), session, &resource, mode);
     book.put(alloc, table);
     status
@@ -215,22 +189,14 @@ pub extern "C" fn pelgaisti_raw_book_holders(
     ensures memory { result ≡ NO_MEMORY → IsOpen book.old.behind × IsLevel resource.old.behind.level }
     ensures statuses { (result ≡ NULL_POINTER) ⊎ ((result ≡ OK) ⊎ ((result ≡ NO_MEMORY) ⊎ ((result ≡ CLOSED) ⊎ (result ≡ NO_SUCH_LEVEL)))) }
 {
-    let Some(book) = book.get() else {
-        return NULL_POINTER;
-    };
-    let Some(resource) = resource.get() else {
-        return NULL_POINTER;
-    };
+    let book = given!(book.get(), NULL_POINTER);
+    let resource = given!(resource.get(), NULL_POINTER);
     if list.is_null() {
         return NULL_POINTER;
     }
-    let Some(count) = count.get() else {
-        return NULL_POINTER;
-    };
+    let count = given!(count.get(), NULL_POINTER);
     let list = list.items();
-    let Some(table) = book.take(alloc) else {
-        return CLOSED;
-    };
+    let table = given!(book.take(alloc), CLOSED);
     let status = book_calls::holders(alloc, table.book(), &resource, list, count);
     book.put(alloc, table);
     status
@@ -254,19 +220,13 @@ pub extern "C" fn pelgaisti_raw_book_ended(
     ensures looks { result ≢ NULL_POINTER → (result ≡ LOOKS ↔ (book.old.behind.is_open ≡ 2)) }
     ensures statuses { (result ≡ NULL_POINTER) ⊎ ((result ≡ LOOKS) ⊎ ((result ≡ OK) ⊎ (result ≡ CLOSED))) }
 {
-    let Some(book) = book.get() else {
-        return NULL_POINTER;
-    };
+    let book = given!(book.get(), NULL_POINTER);
     if list.is_null() {
         return NULL_POINTER;
     }
-    let Some(count) = count.get() else {
-        return NULL_POINTER;
-    };
+    let count = given!(count.get(), NULL_POINTER);
     let list = list.items();
-    let Some(boxed) = book.take_own(alloc) else {
-        return book.refusal();
-    };
+    let boxed = given!(book.take_own(alloc), book.refusal());
     book_calls::ended(&boxed, list, count);
     book.put_own(alloc, boxed);
     OK

@@ -38,18 +38,12 @@ pub extern "C" fn pelgaisti_raw_session_hand_in(
     ensures memory { result ≡ NO_MEMORY → (a b : ShareValue) × (session.old.behind.held.share ≡ Some a) × (to.old.behind.held.share ≡ Some b) × (a.mark ≡ b.mark) × HasNothingPending a.session }
     ensures statuses { (result ≡ NULL_POINTER) ⊎ ((result ≤ CLOSED) ⊎ ((result ≡ OTHER_OFFICE) ⊎ (result ≡ PENDING))) }
 {
-    let Some(session) = session.get() else {
-        return NULL_POINTER;
-    };
-    let Some(to) = to.get() else {
-        return NULL_POINTER;
-    };
+    let session = given!(session.get(), NULL_POINTER);
+    let to = given!(to.get(), NULL_POINTER);
     if session.is_open != 1 || to.is_open != 1 {
         return CLOSED;
     }
-    let Some(share) = session.take(alloc) else {
-        return CLOSED;
-    };
+    let share = given!(session.take(alloc), CLOSED);
     let Some(mut other) = to.take(alloc) else {
         session.put(share);
         return CLOSED;
@@ -88,18 +82,12 @@ pub extern "C" fn pelgaisti_raw_office_close(
     ensures whole { (result ≡ NO_MEMORY) ⊎ (result ≡ COPIED) → (share : ShareValue) × (session.old.behind.held.share ≡ Some share) × IsEachOnce share.sessions (all_of share) × HasNothingPending share.session }
     ensures statuses { (result ≡ NULL_POINTER) ⊎ ((result ≤ CLOSED) ⊎ ((result ≡ OPEN) ⊎ ((result ≡ MISSING) ⊎ ((result ≡ PENDING) ⊎ (result ≡ COPIED))))) }
 {
-    let Some(session) = session.get() else {
-        return NULL_POINTER;
-    };
-    let Some(book) = book.get() else {
-        return NULL_POINTER;
-    };
+    let session = given!(session.get(), NULL_POINTER);
+    let book = given!(book.get(), NULL_POINTER);
     if book.has_table() {
         return OPEN;
     }
-    let Some(share) = session.take(alloc) else {
-        return CLOSED;
-    };
+    let share = given!(session.take(alloc), CLOSED);
     match hand_in::close(alloc, share) {
         Ok(made) => {
             book.put_own(alloc, made);

@@ -31,15 +31,9 @@ pub extern "C" fn pelgaisti_raw_book_counts(
     ensures closed { result ≢ NULL_POINTER → (result ≡ CLOSED ↔ IsClosed book.old.behind) }
     ensures statuses { (result ≡ NULL_POINTER) ⊎ ((result ≡ OK) ⊎ (result ≡ CLOSED)) }
 {
-    let Some(book) = book.get() else {
-        return NULL_POINTER;
-    };
-    let Some(counts) = counts.get() else {
-        return NULL_POINTER;
-    };
-    let Some(table) = book.take(alloc) else {
-        return CLOSED;
-    };
+    let book = given!(book.get(), NULL_POINTER);
+    let counts = given!(counts.get(), NULL_POINTER);
+    let table = given!(book.take(alloc), CLOSED);
     *counts = count_numbers(&table.book().counts());
     book.put(alloc, table);
     OK
@@ -60,15 +54,9 @@ pub extern "C" fn pelgaisti_raw_book_gauges(
     ensures closed { result ≢ NULL_POINTER → (result ≡ CLOSED ↔ IsClosed book.old.behind) }
     ensures statuses { (result ≡ NULL_POINTER) ⊎ ((result ≡ OK) ⊎ (result ≡ CLOSED)) }
 {
-    let Some(book) = book.get() else {
-        return NULL_POINTER;
-    };
-    let Some(gauges) = gauges.get() else {
-        return NULL_POINTER;
-    };
-    let Some(table) = book.take(alloc) else {
-        return CLOSED;
-    };
+    let book = given!(book.get(), NULL_POINTER);
+    let gauges = given!(gauges.get(), NULL_POINTER);
+    let table = given!(book.take(alloc), CLOSED);
     let shown = table.book();
     *gauges = gauge_numbers(shown.gauges(), shown.idle_cells());
     book.put(alloc, table);
@@ -90,15 +78,9 @@ pub extern "C" fn pelgaisti_raw_book_passes(
     ensures closed { result ≢ NULL_POINTER → (result ≡ CLOSED ↔ IsClosed book.old.behind) }
     ensures statuses { (result ≡ NULL_POINTER) ⊎ ((result ≡ OK) ⊎ (result ≡ CLOSED)) }
 {
-    let Some(book) = book.get() else {
-        return NULL_POINTER;
-    };
-    let Some(passes) = passes.get() else {
-        return NULL_POINTER;
-    };
-    let Some(table) = book.take(alloc) else {
-        return CLOSED;
-    };
+    let book = given!(book.get(), NULL_POINTER);
+    let passes = given!(passes.get(), NULL_POINTER);
+    let table = given!(book.take(alloc), CLOSED);
     *passes = table.passes();
     book.put(alloc, table);
     OK

@@ -35,26 +35,18 @@ pub extern "C" fn pelgaisti_raw_book_deadlocks(
     ensures closed { result ≢ NULL_POINTER → (result ≡ CLOSED ↔ IsClosed book.old.behind) }
     ensures statuses { (result ≡ NULL_POINTER) ⊎ ((result ≡ OK) ⊎ ((result ≡ NO_MEMORY) ⊎ (result ≡ CLOSED))) }
 {
-    let Some(book) = book.get() else {
-        return NULL_POINTER;
-    };
+    let book = given!(book.get(), NULL_POINTER);
     if list.is_null() {
         return NULL_POINTER;
     }
-    let Some(count) = count.get() else {
-        return NULL_POINTER;
-    };
+    let count = given!(count.get(), NULL_POINTER);
     if members.is_null() {
         return NULL_POINTER;
     }
-    let Some(member_count) = member_count.get() else {
-        return NULL_POINTER;
-    };
+    let member_count = given!(member_count.get(), NULL_POINTER);
     let list = list.items();
     let members = members.items();
-    let Some(table) = book.take(alloc) else {
-        return CLOSED;
-    };
+    let table = given!(book.take(alloc), CLOSED);
     let status = deadlocks::told(
         alloc,
         table.book(),

@@ -32,22 +32,14 @@ pub extern "C" fn pelgaisti_raw_book_dump(
     ensures closed { result ≢ NULL_POINTER → (result ≡ CLOSED ↔ IsClosed book.old.behind) }
     ensures statuses { (result ≡ NULL_POINTER) ⊎ ((result ≡ OK) ⊎ ((result ≡ NO_MEMORY) ⊎ (result ≡ CLOSED))) }
 {
-    let Some(book) = book.get() else {
-        return NULL_POINTER;
-    };
+    let book = given!(book.get(), NULL_POINTER);
     if list.is_null() {
         return NULL_POINTER;
     }
-    let Some(count) = count.get() else {
-        return NULL_POINTER;
-    };
-    let Some(place) = place.get() else {
-        return NULL_POINTER;
-    };
+    let count = given!(count.get(), NULL_POINTER);
+    let place = given!(place.get(), NULL_POINTER);
     let list = list.items();
-    let Some(table) = book.take(alloc) else {
-        return CLOSED;
-    };
+    let table = given!(book.take(alloc), CLOSED);
     let status = dump::dump_of_book(alloc, table.book(), list, count, place);
     book.put(alloc, table);
     status

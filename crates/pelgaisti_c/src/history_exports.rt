@@ -31,18 +31,10 @@ pub extern "C" fn pelgaisti_raw_book_length(
     ensures closed { result ≢ NULL_POINTER → (result ≡ CLOSED ↔ IsClosed book.old.behind) }
     ensures statuses { (result ≡ NULL_POINTER) ⊎ ((result ≡ OK) ⊎ (result ≡ CLOSED)) }
 {
-    let Some(book) = book.get() else {
-        return NULL_POINTER;
-    };
-    let Some(first_kept) = first_kept.get() else {
-        return NULL_POINTER;
-    };
-    let Some(count) = count.get() else {
-        return NULL_POINTER;
-    };
-    let Some(table) = book.take(alloc) else {
-        return CLOSED;
-    };
+    let book = given!(book.get(), NULL_POINTER);
+    let first_kept = given!(first_kept.get(), NULL_POINTER);
+    let count = given!(count.get(), NULL_POINTER);
+    let table = given!(book.take(alloc), CLOSED);
     let shown = table.book();
     *first_kept = shown.first_kept();
     *count = shown.served();
@@ -69,19 +61,13 @@ pub extern "C" fn pelgaisti_raw_book_history(
     ensures let_go { result ≢ NULL_POINTER → (result ≡ LET_GO ↔ ((view : BookView) × (shown book.old.behind ≡ Some view) × (first < first_kept_by view))) }
     ensures statuses { (result ≡ NULL_POINTER) ⊎ ((result ≡ OK) ⊎ ((result ≡ CLOSED) ⊎ (result ≡ LET_GO))) }
 {
-    let Some(book) = book.get() else {
-        return NULL_POINTER;
-    };
+    let book = given!(book.get(), NULL_POINTER);
     if entries.is_null() {
         return NULL_POINTER;
     }
-    let Some(count) = count.get() else {
-        return NULL_POINTER;
-    };
+    let count = given!(count.get(), NULL_POINTER);
     let entries = entries.items();
-    let Some(table) = book.take(alloc) else {
-        return CLOSED;
-    };
+    let table = given!(book.take(alloc), CLOSED);
     let status = book_calls::history(table.book(), first, entries, count);
     book.put(alloc, table);
     status
@@ -103,12 +89,8 @@ pub extern "C" fn pelgaisti_raw_book_keep_at_most(
     ensures looks { result ≢ NULL_POINTER → (result ≡ LOOKS ↔ (book.old.behind.is_open ≡ 2)) }
     ensures statuses { (result ≡ NULL_POINTER) ⊎ ((result ≡ LOOKS) ⊎ ((result ≡ OK) ⊎ (result ≡ CLOSED))) }
 {
-    let Some(book) = book.get() else {
-        return NULL_POINTER;
-    };
-    let Some(mut boxed) = book.take_own(alloc) else {
-        return book.refusal();
-    };
+    let book = given!(book.get(), NULL_POINTER);
+    let mut boxed = given!(book.take_own(alloc), book.refusal());
     boxed.keep_at_most(bound);
     book.put_own(alloc, boxed);
     OK
@@ -135,22 +117,14 @@ pub extern "C" fn pelgaisti_raw_book_take_history(
     ensures looks { result ≢ NULL_POINTER → (result ≡ LOOKS ↔ (book.old.behind.is_open ≡ 2)) }
     ensures statuses { (result ≡ NULL_POINTER) ⊎ ((result ≡ LOOKS) ⊎ ((result ≡ OK) ⊎ (result ≡ CLOSED))) }
 {
-    let Some(book) = book.get() else {
-        return NULL_POINTER;
-    };
-    let Some(first) = first.get() else {
-        return NULL_POINTER;
-    };
+    let book = given!(book.get(), NULL_POINTER);
+    let first = given!(first.get(), NULL_POINTER);
     if entries.is_null() {
         return NULL_POINTER;
     }
-    let Some(count) = count.get() else {
-        return NULL_POINTER;
-    };
+    let count = given!(count.get(), NULL_POINTER);
     let entries = entries.items();
-    let Some(mut boxed) = book.take_own(alloc) else {
-        return book.refusal();
-    };
+    let mut boxed = given!(book.take_own(alloc), book.refusal());
     let place = boxed.first_kept();
     *count = book_calls::take_history(&mut boxed, entries);
     *first = place;

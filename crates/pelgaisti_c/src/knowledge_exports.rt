@@ -27,15 +27,9 @@ pub extern "C" fn pelgaisti_raw_session_seen(
     ensures closed { result ≢ NULL_POINTER → (result ≡ CLOSED ↔ (session.old.behind.is_open ≢ 1)) }
     ensures statuses { (result ≡ NULL_POINTER) ⊎ ((result ≡ OK) ⊎ (result ≡ CLOSED)) }
 {
-    let Some(session) = session.get() else {
-        return NULL_POINTER;
-    };
-    let Some(seen) = seen.get() else {
-        return NULL_POINTER;
-    };
-    let Some(share) = session.take(alloc) else {
-        return CLOSED;
-    };
+    let session = given!(session.get(), NULL_POINTER);
+    let seen = given!(seen.get(), NULL_POINTER);
+    let share = given!(session.take(alloc), CLOSED);
     *seen = share.session.seen();
     session.put(share);
     OK
@@ -57,15 +51,9 @@ pub extern "C" fn pelgaisti_raw_session_mark(
     ensures closed { result ≢ NULL_POINTER → (result ≡ CLOSED ↔ (session.old.behind.is_open ≢ 1)) }
     ensures statuses { (result ≡ NULL_POINTER) ⊎ ((result ≡ OK) ⊎ (result ≡ CLOSED)) }
 {
-    let Some(session) = session.get() else {
-        return NULL_POINTER;
-    };
-    let Some(mark) = mark.get() else {
-        return NULL_POINTER;
-    };
-    let Some(share) = session.take(alloc) else {
-        return CLOSED;
-    };
+    let session = given!(session.get(), NULL_POINTER);
+    let mark = given!(mark.get(), NULL_POINTER);
+    let share = given!(session.take(alloc), CLOSED);
     *mark = share.mark;
     *number = u32::from(share.session.number());
     session.put(share);
@@ -86,19 +74,15 @@ pub extern "C" fn pelgaisti_raw_session_waker(
     ensures closed { result ≢ NULL_POINTER → (result ≡ CLOSED ↔ (session.old.behind.is_open ≢ 1)) }
     ensures statuses { (result ≡ NULL_POINTER) ⊎ ((result ≡ OK) ⊎ (result ≡ CLOSED)) }
 {
-    let Some(session) = session.get() else {
-        return NULL_POINTER;
-    };
-    let Some(share) = session.take(alloc) else {
-        return CLOSED;
-    };
+    let session = given!(session.get(), NULL_POINTER);
+    let share = given!(session.take(alloc), CLOSED);
     *waker = share.waker;
     session.put(share);
     OK
 }
 
 /// Writes the sessions that the waker of the session's office is to wake after the session's last pass, from index `first` on, as many
-/// as `list` has room for, and the number of all of them to `count`. Of an office without a waker there are none.
+/// as `list` has room for, and the number of all of them to `count`.
 #[unsafe(no_mangle)]
 pub extern "C" fn pelgaisti_raw_session_told(
     alloc: Global,
@@ -115,12 +99,8 @@ pub extern "C" fn pelgaisti_raw_session_told(
     ensures closed { result ≢ NULL_POINTER → (result ≡ CLOSED ↔ (session.old.behind.is_open ≢ 1)) }
     ensures statuses { (result ≡ NULL_POINTER) ⊎ ((result ≡ OK) ⊎ (result ≡ CLOSED)) }
 {
-    let Some(session) = session.get() else {
-        return NULL_POINTER;
-    };
-    let Some(share) = session.take(alloc) else {
-        return CLOSED;
-    };
+    let session = given!(session.get(), NULL_POINTER);
+    let share = given!(session.take(alloc), CLOSED);
     session_calls::told(&share, first, list, count);
     session.put(share);
     OK
@@ -145,18 +125,12 @@ pub extern "C" fn pelgaisti_raw_session_hear(
     ensures other_office { result ≡ OTHER_OFFICE → (a b : SessionShare) × (session.old.behind.held.share ≡ Some a) × (other.old.behind.held.share ≡ Some b) × (a.mark ≢ b.mark) }
     ensures statuses { (result ≡ NULL_POINTER) ⊎ ((result ≡ OK) ⊎ ((result ≡ CLOSED) ⊎ (result ≡ OTHER_OFFICE))) }
 {
-    let Some(session) = session.get() else {
-        return NULL_POINTER;
-    };
-    let Some(other) = other.get() else {
-        return NULL_POINTER;
-    };
+    let session = given!(session.get(), NULL_POINTER);
+    let other = given!(other.get(), NULL_POINTER);
     if session.is_open != 1 || other.is_open != 1 {
         return CLOSED;
     }
-    let Some(mut share) = session.take(alloc) else {
-        return CLOSED;
-    };
+    let mut share = given!(session.take(alloc), CLOSED);
     let Some(mut heard) = other.take(alloc) else {
         session.put(share);
         return CLOSED;

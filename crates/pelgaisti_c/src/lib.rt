@@ -3,13 +3,23 @@
 //! `library_sessions`, puts the value back, and returns a status. `bindings/c` makes a whole call of turns. Begin with `book.rt`.
 //!
 //! - Over a book: `book.rt`, `program_exports.rt`, `path_step_exports.rt`. Over sessions: `office.rt`, `session.rt`, `turn_exports.rt`,
-//!   `program_turn_exports.rt`, and `bound`, `close`, `knowledge`, `look` and `sleep_exports.rt`. Over a book or a look: all others.
+//!   and `bound`, `close`, `knowledge`, `look` and `sleep_exports.rt`. Over a book or a look: all others.
 //!
 //! Proved: each export states the clauses of its call again, in numbers; one that failed has changed nothing, but for the exceptions told
 //! where `library_books` has the statuses. Of what it is given by reference C says that it isn't null: numbers that C keeps for itself, and
 //! all of `path_step_exports.rt`. C must keep to the rules for callers in `include/pelgaisti.h`. Only tested: `bindings/c`, and that a
 //! status of refused memory means refused memory.
 #![tactic(auto)]
+
+/// What the option has. If it has nothing, the export returns the status.
+macro_rules! given {
+    ($option:expr, $status:expr) => {
+        match $option {
+            Some(value) => value,
+            None => return $status,
+        }
+    };
+}
 
 mod book;
 mod bound_exports;
@@ -26,7 +36,6 @@ mod office;
 mod page_exports;
 mod path_step_exports;
 mod program_exports;
-mod program_turn_exports;
 mod session;
 mod sleep_exports;
 mod turn_exports;

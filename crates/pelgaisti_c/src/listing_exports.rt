@@ -34,15 +34,9 @@ pub extern "C" fn pelgaisti_raw_book_transaction(
     ensures session { result ≡ NO_SUCH_SESSION → (view : BookView) × (shown book.old.behind ≡ Some view) × ¬ (IsSession view session) }
     ensures statuses { (result ≡ NULL_POINTER) ⊎ ((result ≡ OK) ⊎ ((result ≡ CLOSED) ⊎ (result ≡ NO_SUCH_SESSION))) }
 {
-    let Some(book) = book.get() else {
-        return NULL_POINTER;
-    };
-    let Some(open) = open.get() else {
-        return NULL_POINTER;
-    };
-    let Some(table) = book.take(alloc) else {
-        return CLOSED;
-    };
+    let book = given!(book.get(), NULL_POINTER);
+    let open = given!(open.get(), NULL_POINTER);
+    let table = given!(book.take(alloc), CLOSED);
     let status = listing::transaction(table.book(), session, open);
     book.put(alloc, table);
     status
@@ -65,15 +59,9 @@ pub extern "C" fn pelgaisti_raw_book_request(
     ensures session { result ≡ NO_SUCH_SESSION → (view : BookView) × (shown book.old.behind ≡ Some view) × ¬ (IsSession view session) }
     ensures statuses { (result ≡ NULL_POINTER) ⊎ ((result ≡ OK) ⊎ ((result ≡ CLOSED) ⊎ (result ≡ NO_SUCH_SESSION))) }
 {
-    let Some(book) = book.get() else {
-        return NULL_POINTER;
-    };
-    let Some(waiting) = waiting.get() else {
-        return NULL_POINTER;
-    };
-    let Some(table) = book.take(alloc) else {
-        return CLOSED;
-    };
+    let book = given!(book.get(), NULL_POINTER);
+    let waiting = given!(waiting.get(), NULL_POINTER);
+    let table = given!(book.take(alloc), CLOSED);
     let status = listing::request(table.book(), session, waiting);
     book.put(alloc, table);
     status
@@ -99,19 +87,13 @@ pub extern "C" fn pelgaisti_raw_book_blockers(
     ensures session { result ≡ NO_SUCH_SESSION → (view : BookView) × (shown book.old.behind ≡ Some view) × ¬ (IsSession view session) }
     ensures statuses { (result ≡ NULL_POINTER) ⊎ ((result ≡ OK) ⊎ ((result ≡ CLOSED) ⊎ (result ≡ NO_SUCH_SESSION))) }
 {
-    let Some(book) = book.get() else {
-        return NULL_POINTER;
-    };
+    let book = given!(book.get(), NULL_POINTER);
     if list.is_null() {
         return NULL_POINTER;
     }
-    let Some(count) = count.get() else {
-        return NULL_POINTER;
-    };
+    let count = given!(count.get(), NULL_POINTER);
     let list = list.items();
-    let Some(table) = book.take(alloc) else {
-        return CLOSED;
-    };
+    let table = given!(book.take(alloc), CLOSED);
     let status = listing::blockers(table.book(), session, list, count);
     book.put(alloc, table);
     status

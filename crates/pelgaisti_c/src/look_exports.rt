@@ -30,18 +30,12 @@ pub extern "C" fn pelgaisti_raw_session_look(
     ensures elsewhere { result ≡ ELSEWHERE → (share : SessionShare) × (session.old.behind.held.share ≡ Some share) × (2 ≤ share.sessions) }
     ensures statuses { (result ≡ NULL_POINTER) ⊎ ((result ≡ OK) ⊎ ((result ≡ OPEN) ⊎ ((result ≡ CLOSED) ⊎ (result ≡ ELSEWHERE)))) }
 {
-    let Some(session) = session.get() else {
-        return NULL_POINTER;
-    };
-    let Some(view) = view.get() else {
-        return NULL_POINTER;
-    };
+    let session = given!(session.get(), NULL_POINTER);
+    let view = given!(view.get(), NULL_POINTER);
     if view.has_table() {
         return OPEN;
     }
-    let Some(mut share) = session.take(alloc) else {
-        return CLOSED;
-    };
+    let mut share = given!(session.take(alloc), CLOSED);
     if share.begin_look() {
         view.put_look(alloc, share);
         return OK;
@@ -67,22 +61,19 @@ pub extern "C" fn pelgaisti_raw_look_end(
     ensures not_a_look { result ≢ NULL_POINTER → (result ≡ NOT_A_LOOK ↔ ((session.old.behind.is_open ≢ 1) × (view.old.behind.is_open ≡ 1))) }
     ensures statuses { (result ≡ NULL_POINTER) ⊎ ((result ≡ OK) ⊎ ((result ≡ OPEN) ⊎ ((result ≡ CLOSED) ⊎ (result ≡ NOT_A_LOOK)))) }
 {
-    let Some(session) = session.get() else {
-        return NULL_POINTER;
-    };
-    let Some(view) = view.get() else {
-        return NULL_POINTER;
-    };
+    let session = given!(session.get(), NULL_POINTER);
+    let view = given!(view.get(), NULL_POINTER);
     if session.is_open == 1 {
         return OPEN;
     }
-    let Some(mut share) = view.take_look(alloc) else {
-        return if view.is_open == 1 {
+    let mut share = given!(
+        view.take_look(alloc),
+        if view.is_open == 1 {
             NOT_A_LOOK
         } else {
             CLOSED
-        };
-    };
+        }
+    );
     share.end_look();
     session.put(share);
     OK

@@ -24,12 +24,8 @@ pub extern "C" fn pelgaisti_raw_book_reserve(
     ensures closed { result ≢ NULL_POINTER → (result ≡ CLOSED ↔ IsClosed book.old.behind) }
     ensures statuses { (result ≡ NULL_POINTER) ⊎ ((result ≡ OK) ⊎ ((result ≡ NO_MEMORY) ⊎ (result ≡ CLOSED))) }
 {
-    let Some(book) = book.get() else {
-        return NULL_POINTER;
-    };
-    let Some(mut table) = book.take(alloc) else {
-        return CLOSED;
-    };
+    let book = given!(book.get(), NULL_POINTER);
+    let mut table = given!(book.take(alloc), CLOSED);
     let made = table.tend(&mut Reserve { resources, entries });
     book.put(alloc, table);
     if made.is_err() { NO_MEMORY } else { OK }
@@ -43,12 +39,8 @@ pub extern "C" fn pelgaisti_raw_book_shrink(alloc: Global, book: &mut BookPointe
     ensures closed { result ≢ NULL_POINTER → (result ≡ CLOSED ↔ IsClosed book.old.behind) }
     ensures statuses { (result ≡ NULL_POINTER) ⊎ ((result ≡ OK) ⊎ (result ≡ CLOSED)) }
 {
-    let Some(book) = book.get() else {
-        return NULL_POINTER;
-    };
-    let Some(mut table) = book.take(alloc) else {
-        return CLOSED;
-    };
+    let book = given!(book.get(), NULL_POINTER);
+    let mut table = given!(book.take(alloc), CLOSED);
     let _made = table.tend(&mut Shrink);
     book.put(alloc, table);
     OK

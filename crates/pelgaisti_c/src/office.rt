@@ -45,9 +45,10 @@ pub extern "C" fn pelgaisti_raw_office_open(
     if count == 0 || count > usize::from(MAX_SESSIONS) {
         return NO_SUCH_COUNT;
     }
-    let Some(bound) = bound_of(options.pass_calls, options.pass_locks, options.pass_rounds) else {
-        return NO_SUCH_COUNT;
-    };
+    let bound = given!(
+        bound_of(options.pass_calls, options.pass_locks, options.pass_rounds),
+        NO_SUCH_COUNT
+    );
     if has_open(sessions) {
         return OPEN;
     }

@@ -34,15 +34,9 @@ pub extern "C" fn pelgaisti_raw_book_locks_held(
     ensures session { result ≡ NO_SUCH_SESSION → (view : BookView) × (shown book.old.behind ≡ Some view) × ¬ (IsSession view session) }
     ensures statuses { (result ≡ NULL_POINTER) ⊎ ((result ≡ OK) ⊎ ((result ≡ CLOSED) ⊎ (result ≡ NO_SUCH_SESSION))) }
 {
-    let Some(book) = book.get() else {
-        return NULL_POINTER;
-    };
-    let Some(count) = count.get() else {
-        return NULL_POINTER;
-    };
-    let Some(table) = book.take(alloc) else {
-        return CLOSED;
-    };
+    let book = given!(book.get(), NULL_POINTER);
+    let count = given!(count.get(), NULL_POINTER);
+    let table = given!(book.take(alloc), CLOSED);
     let status = pages::locks_held(table.book(), session, count);
     book.put(alloc, table);
     status
@@ -70,22 +64,14 @@ pub extern "C" fn pelgaisti_raw_book_locks_of(
     ensures memory { result ≡ NO_MEMORY → (view : BookView) × (shown book.old.behind ≡ Some view) × IsSession view session × IsAfterLevel after.old.behind.level }
     ensures statuses { (result ≡ NULL_POINTER) ⊎ ((result ≡ OK) ⊎ ((result ≡ NO_MEMORY) ⊎ ((result ≡ CLOSED) ⊎ ((result ≡ NO_SUCH_SESSION) ⊎ (result ≡ NO_SUCH_LEVEL))))) }
 {
-    let Some(book) = book.get() else {
-        return NULL_POINTER;
-    };
-    let Some(after) = after.get() else {
-        return NULL_POINTER;
-    };
+    let book = given!(book.get(), NULL_POINTER);
+    let after = given!(after.get(), NULL_POINTER);
     if list.is_null() {
         return NULL_POINTER;
     }
-    let Some(count) = count.get() else {
-        return NULL_POINTER;
-    };
+    let count = given!(count.get(), NULL_POINTER);
     let list = list.items();
-    let Some(table) = book.take(alloc) else {
-        return CLOSED;
-    };
+    let table = given!(book.take(alloc), CLOSED);
     let status = pages::locks_of(alloc, table.book(), session, &after, list, count);
     book.put(alloc, table);
     status

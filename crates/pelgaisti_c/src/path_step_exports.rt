@@ -39,12 +39,8 @@ pub extern "C" fn pelgaisti_raw_path_call(
     ensures mode { result ≡ NO_SUCH_MODE → HasLevelBehind resource.now level × ¬ (IsModeCode mode) }
     ensures statuses { (result ≡ OK) ⊎ ((result ≡ NO_SUCH_LEVEL) ⊎ (result ≡ NO_SUCH_MODE)) }
 {
-    let Some(path) = read_path(resource, level) else {
-        return NO_SUCH_LEVEL;
-    };
-    let Some(wanted) = read_mode(mode) else {
-        return NO_SUCH_MODE;
-    };
+    let path = given!(read_path(resource, level), NO_SUCH_LEVEL);
+    let wanted = given!(read_mode(mode), NO_SUCH_MODE);
     *call = call_numbers(&lock_of_level(&path, wanted, level as u8 + 1));
     OK
 }

@@ -45,18 +45,10 @@ pub extern "C" fn pelgaisti_raw_book_run(
         × ((asked : Program) × IsProgram program.old.behind asked) }
     ensures statuses { (result ≡ NULL_POINTER) ⊎ ((result ≡ LOOKS) ⊎ ((result ≤ NO_SUCH_MODE) ⊎ ((NO_SUCH_START ≤ result) × (result ≤ NO_SUCH_ABOVE)))) }
 {
-    let Some(book) = book.get() else {
-        return NULL_POINTER;
-    };
-    let Some(program) = program.get() else {
-        return NULL_POINTER;
-    };
-    let Some(answer) = answer.get() else {
-        return NULL_POINTER;
-    };
-    let Some(mut boxed) = book.take_own(alloc) else {
-        return book.refusal();
-    };
+    let book = given!(book.get(), NULL_POINTER);
+    let program = given!(program.get(), NULL_POINTER);
+    let answer = given!(answer.get(), NULL_POINTER);
+    let mut boxed = given!(book.take_own(alloc), book.refusal());
     let status = program_calls::run_program(&mut boxed, session, &program, answer);
     book.put_own(alloc, boxed);
     status

@@ -42,18 +42,10 @@ pub extern "C" fn pelgaisti_raw_session_publish(
     ensures pending { result ≡ PENDING → (share : SessionShare) × (session.old.behind.held.share ≡ Some share) × (share.session.pending ≢ None) × ((asked : Call) × IsCall call.old.behind asked) }
     ensures statuses { (result ≡ NULL_POINTER) ⊎ ((result ≡ OK) ⊎ ((result ≡ CLOSED) ⊎ ((result ≡ RETIRED) ⊎ ((result ≡ PENDING) ⊎ ((NO_SUCH_OP ≤ result) × (result ≤ NO_SUCH_MODE)))))) }
 {
-    let Some(session) = session.get() else {
-        return NULL_POINTER;
-    };
-    let Some(call) = call.get() else {
-        return NULL_POINTER;
-    };
-    let Some(posted) = posted.get() else {
-        return NULL_POINTER;
-    };
-    let Some(mut share) = session.take(alloc) else {
-        return CLOSED;
-    };
+    let session = given!(session.get(), NULL_POINTER);
+    let call = given!(call.get(), NULL_POINTER);
+    let posted = given!(posted.get(), NULL_POINTER);
+    let mut share = given!(session.take(alloc), CLOSED);
     let status = session_calls::publish(&mut share, &call, posted);
     session.put(share);
     status
@@ -84,15 +76,9 @@ pub extern "C" fn pelgaisti_raw_session_serve(
         × IsElsewhere before after }
     ensures statuses { (result ≡ NULL_POINTER) ⊎ ((result ≡ OK) ⊎ ((result ≡ CLOSED) ⊎ (result ≡ ELSEWHERE))) }
 {
-    let Some(session) = session.get() else {
-        return NULL_POINTER;
-    };
-    let Some(pass) = pass.get() else {
-        return NULL_POINTER;
-    };
-    let Some(mut share) = session.take(alloc) else {
-        return CLOSED;
-    };
+    let session = given!(session.get(), NULL_POINTER);
+    let pass = given!(pass.get(), NULL_POINTER);
+    let mut share = given!(session.take(alloc), CLOSED);
     let status = session_calls::serve(&mut share, pass, told);
     session.put(share);
     status
@@ -116,15 +102,9 @@ pub extern "C" fn pelgaisti_raw_session_collect(
     ensures several { result ≡ PENDING → (share : SessionShare) × (session.old.behind.held.share ≡ Some share) × HasSeveralPending share.session }
     ensures statuses { (result ≡ NULL_POINTER) ⊎ ((result ≡ OK) ⊎ ((result ≡ CLOSED) ⊎ ((result ≡ NOTHING_PENDING) ⊎ ((result ≡ PENDING) ⊎ (result ≡ NOT_SERVED))))) }
 {
-    let Some(session) = session.get() else {
-        return NULL_POINTER;
-    };
-    let Some(answer) = answer.get() else {
-        return NULL_POINTER;
-    };
-    let Some(mut share) = session.take(alloc) else {
-        return CLOSED;
-    };
+    let session = given!(session.get(), NULL_POINTER);
+    let answer = given!(answer.get(), NULL_POINTER);
+    let mut share = given!(session.take(alloc), CLOSED);
     let status = session_calls::collect(&mut share, answer);
     session.put(share);
     status
@@ -149,22 +129,14 @@ pub extern "C" fn pelgaisti_raw_session_take_history(
     ensures elsewhere { result ≡ ELSEWHERE → (share : SessionShare) × (session.old.behind.held.share ≡ Some share) × (2 ≤ share.sessions) }
     ensures statuses { (result ≡ NULL_POINTER) ⊎ ((result ≡ OK) ⊎ ((result ≡ CLOSED) ⊎ ((result ≡ NO_MEMORY) ⊎ (result ≡ ELSEWHERE)))) }
 {
-    let Some(session) = session.get() else {
-        return NULL_POINTER;
-    };
-    let Some(first) = first.get() else {
-        return NULL_POINTER;
-    };
+    let session = given!(session.get(), NULL_POINTER);
+    let first = given!(first.get(), NULL_POINTER);
     if entries.is_null() {
         return NULL_POINTER;
     }
-    let Some(count) = count.get() else {
-        return NULL_POINTER;
-    };
+    let count = given!(count.get(), NULL_POINTER);
     let entries = entries.items();
-    let Some(mut share) = session.take(alloc) else {
-        return CLOSED;
-    };
+    let mut share = given!(session.take(alloc), CLOSED);
     let status = session_calls::take_history(alloc, &mut share, first, entries, count);
     session.put(share);
     status
@@ -183,12 +155,8 @@ pub extern "C" fn pelgaisti_raw_session_retire(alloc: Global, session: &mut Sess
     ensures pending { result ≡ PENDING → (share : SessionShare) × (session.old.behind.held.share ≡ Some share) × (share.session.pending ≢ None) }
     ensures statuses { (result ≡ NULL_POINTER) ⊎ ((result ≡ OK) ⊎ ((result ≡ CLOSED) ⊎ ((result ≡ RETIRED) ⊎ (result ≡ PENDING)))) }
 {
-    let Some(session) = session.get() else {
-        return NULL_POINTER;
-    };
-    let Some(mut share) = session.take(alloc) else {
-        return CLOSED;
-    };
+    let session = given!(session.get(), NULL_POINTER);
+    let mut share = given!(session.take(alloc), CLOSED);
     let status = session_calls::retire(&mut share);
     session.put(share);
     status

@@ -1,19 +1,15 @@
-//! The exports of one turn of a session's call. A whole call is a loop of turns, with waits between them, which no archive may make.
+//! The exports of one turn of a session's call or program. A whole call is a loop of turns, with waits between them, which no archive may make.
 
-ghost use Rattle.std.specs.Prelude.{◌≡◌, ◌≢◌, ◌≤◌, ◌⊎◌, ◌↔◌, true, Some, None};
+ghost use Rattle.std.specs.Prelude.{◌≡◌, ◌≢◌, ◌≤◌, ◌⊎◌, ◌↔◌, ◌==◌, true, length};
 ghost use denote.RawPtr.{null_ptr};
-ghost use Rattle.lock_rules.specs.declared.calls.Call.{Call};
-ghost use Rattle.lock_office.specs.ProgramTurns.{HasSeveralPending};
-ghost use Rattle.library_sessions.specs.Bounds.{HasServedWithin};
-ghost use Rattle.library_books.specs.Numbers.{IsCall, IsCallFault};
-ghost use Rattle.library_sessions.specs.Sessions.{AreToWake};
-ghost use Rattle.library_sessions.specs.Turns.{IsTurnAnswered, IsTurnStarved, IsTurnMade, IsLookAnswered, IsLookStarved, IsLookMade};
-ghost use Rattle.library_sessions.specs.declared.session_share.SessionShare.{SessionShare};
+ghost use Rattle.lock_programs.specs.Calls.{calls_of};
+ghost use Rattle.library_books.specs.Numbers.{IsCallFault};
+ghost use Rattle.library_sessions.specs.Offices.{HasDone};
+ghost use Rattle.library_sessions.specs.Turns.{IsOfCall, IsOfCalls, IsRunFault, IsFaultNumber, TellsLast, TellsAll, IsMade, IsUntouched, HasMadeTurn, HasMadeLook};
 
-use library_books::pointers::{AnswerPointer, CallPointer};
+use library_books::pointers::{AnswerPointer, CallPointer, ProgramAnswerPointer, ProgramPointer};
 use library_books::status::{
-    CLOSED, NO_MEMORY, NO_SUCH_MODE, NO_SUCH_OP, NOT_SERVED, NOTHING_PENDING, NULL_POINTER, OK,
-    PENDING, RETIRED,
+    CLOSED, NO_SUCH_MODE, NO_SUCH_OP, NOTHING_PENDING, NULL_POINTER, PENDING, RETIRED,
 };
 use library_sessions::pointers::SessionPointer;
 use library_sessions::turn_calls;
@@ -37,39 +33,17 @@ pub extern "C" fn pelgaisti_raw_session_turn(
     told: &mut usize,
 ) -> u32
     ensures null { result ≡ NULL_POINTER ↔ ((session.old.at ≡ null_ptr) ⊎ ((call.old.at ≡ null_ptr) ⊎ (answer.old.at ≡ null_ptr))) }
-    ensures ok { result ≡ OK → (before after : SessionShare) × (session.old.behind.held.share ≡ Some before) × (session.new.behind.held.share ≡ Some after)
-        × IsTurnAnswered before after call.old.behind answer.new.behind }
-    ensures memory { result ≡ NO_MEMORY → (before after : SessionShare) × (session.old.behind.held.share ≡ Some before) × (session.new.behind.held.share ≡ Some after)
-        × IsTurnStarved before after call.old.behind }
-    ensures late { result ≡ NOT_SERVED → (before after : SessionShare) × (session.old.behind.held.share ≡ Some before) × (session.new.behind.held.share ≡ Some after)
-        × IsTurnMade before after call.old.behind made turns wait.new }
-    ensures told { (result ≡ OK) ⊎ ((result ≡ NO_MEMORY) ⊎ (result ≡ NOT_SERVED)) → (before after : SessionShare) × (session.old.behind.held.share ≡ Some before) × (session.new.behind.held.share ≡ Some after)
-        × AreToWake before after told.new }
-    ensures few { (result ≡ OK) ⊎ ((result ≡ NO_MEMORY) ⊎ (result ≡ NOT_SERVED)) → (before after : SessionShare) × (session.old.behind.held.share ≡ Some before) × (session.new.behind.held.share ≡ Some after)
-        × HasServedWithin 1 before after }
-    ensures first { (result ≡ OK) ⊎ ((result ≡ NO_MEMORY) ⊎ (result ≡ NOT_SERVED)) → made ≡ 0 → (share : SessionShare) × (session.old.behind.held.share ≡ Some share) × (share.session.pending ≡ None) }
-    ensures failed { result ≢ OK → answer.new.behind ≡ answer.old.behind }
-    ensures unread { result ≢ NOT_SERVED → wait.new ≡ wait.old }
-    ensures same { result ≢ OK → result ≢ NO_MEMORY → result ≢ NOT_SERVED → (session.new.behind.held.share ≡ session.old.behind.held.share) × (told.new ≡ told.old) }
+    ensures turn { result ≢ NULL_POINTER → result ≢ CLOSED → HasDone session.old.behind session.new.behind (λ before after.
+        HasMadeTurn IsOfCall IsCallFault TellsLast before after call.old.behind made turns answer.old.behind answer.new.behind wait.old wait.new told.old told.new result) }
+    ensures untouched { (result ≡ NULL_POINTER) ⊎ (result ≡ CLOSED) → IsUntouched session.old.behind.held.share session.new.behind.held.share answer.old.behind answer.new.behind wait.old wait.new told.old told.new }
     ensures open { session.new.behind.is_open ≡ session.old.behind.is_open }
     ensures closed { result ≢ NULL_POINTER → (result ≡ CLOSED ↔ (session.old.behind.is_open ≢ 1)) }
-    ensures call { NO_SUCH_OP ≤ result → result ≤ NO_SUCH_MODE → (session.old.behind.is_open ≡ 1) × IsCallFault call.old.behind result }
-    ensures retired { result ≡ RETIRED → (share : SessionShare) × (session.old.behind.held.share ≡ Some share) × (share.session.retired ≡ true) × ((asked : Call) × IsCall call.old.behind asked) }
-    ensures pending { result ≡ PENDING → (made ≡ 0) × ((share : SessionShare) × (session.old.behind.held.share ≡ Some share) × (share.session.pending ≢ None) × ((asked : Call) × IsCall call.old.behind asked)) }
-    ensures statuses { (result ≡ NULL_POINTER) ⊎ ((result ≡ OK) ⊎ ((result ≡ CLOSED) ⊎ ((result ≡ RETIRED) ⊎ ((result ≡ PENDING) ⊎ ((result ≡ NO_MEMORY) ⊎ ((result ≡ NOT_SERVED) ⊎ ((NO_SUCH_OP ≤ result) × (result ≤ NO_SUCH_MODE)))))))) }
+    ensures statuses { (result ≡ NULL_POINTER) ⊎ ((result ≡ CLOSED) ⊎ (IsMade result ⊎ ((result ≡ RETIRED) ⊎ ((result ≡ PENDING) ⊎ ((NO_SUCH_OP ≤ result) × (result ≤ NO_SUCH_MODE)))))) }
 {
-    let Some(session) = session.get() else {
-        return NULL_POINTER;
-    };
-    let Some(call) = call.get() else {
-        return NULL_POINTER;
-    };
-    let Some(answer) = answer.get() else {
-        return NULL_POINTER;
-    };
-    let Some(mut share) = session.take(alloc) else {
-        return CLOSED;
-    };
+    let session = given!(session.get(), NULL_POINTER);
+    let call = given!(call.get(), NULL_POINTER);
+    let answer = given!(answer.get(), NULL_POINTER);
+    let mut share = given!(session.take(alloc), CLOSED);
     let status = turn_calls::turn(&mut share, &call, made, turns, answer, wait, told);
     session.put(share);
     status
@@ -89,34 +63,78 @@ pub extern "C" fn pelgaisti_raw_session_resume(
     told: &mut usize,
 ) -> u32
     ensures null { result ≡ NULL_POINTER ↔ ((session.old.at ≡ null_ptr) ⊎ (answer.old.at ≡ null_ptr)) }
-    ensures ok { result ≡ OK → (before after : SessionShare) × (session.old.behind.held.share ≡ Some before) × (session.new.behind.held.share ≡ Some after)
-        × IsLookAnswered before after answer.new.behind }
-    ensures memory { result ≡ NO_MEMORY → (before after : SessionShare) × (session.old.behind.held.share ≡ Some before) × (session.new.behind.held.share ≡ Some after)
-        × IsLookStarved before after }
-    ensures late { result ≡ NOT_SERVED → (before after : SessionShare) × (session.old.behind.held.share ≡ Some before) × (session.new.behind.held.share ≡ Some after)
-        × IsLookMade before after looked turns wait.new }
-    ensures told { (result ≡ OK) ⊎ ((result ≡ NO_MEMORY) ⊎ (result ≡ NOT_SERVED)) → (before after : SessionShare) × (session.old.behind.held.share ≡ Some before) × (session.new.behind.held.share ≡ Some after)
-        × AreToWake before after told.new }
-    ensures few { (result ≡ OK) ⊎ ((result ≡ NO_MEMORY) ⊎ (result ≡ NOT_SERVED)) → (before after : SessionShare) × (session.old.behind.held.share ≡ Some before) × (session.new.behind.held.share ≡ Some after)
-        × HasServedWithin 0 before after }
-    ensures failed { result ≢ OK → answer.new.behind ≡ answer.old.behind }
-    ensures unread { result ≢ NOT_SERVED → wait.new ≡ wait.old }
-    ensures same { (result ≡ NULL_POINTER) ⊎ ((result ≡ CLOSED) ⊎ ((result ≡ NOTHING_PENDING) ⊎ (result ≡ PENDING))) → (session.new.behind.held.share ≡ session.old.behind.held.share) × (told.new ≡ told.old) }
+    ensures look { result ≢ NULL_POINTER → result ≢ CLOSED → HasDone session.old.behind session.new.behind (λ before after.
+        HasMadeLook TellsLast (λ program. length (calls_of program) == 1) before after looked turns answer.old.behind answer.new.behind wait.old wait.new told.old told.new result) }
+    ensures untouched { (result ≡ NULL_POINTER) ⊎ (result ≡ CLOSED) → IsUntouched session.old.behind.held.share session.new.behind.held.share answer.old.behind answer.new.behind wait.old wait.new told.old told.new }
     ensures open { session.new.behind.is_open ≡ session.old.behind.is_open }
     ensures closed { result ≢ NULL_POINTER → (result ≡ CLOSED ↔ (session.old.behind.is_open ≢ 1)) }
-    ensures nothing { result ≢ NULL_POINTER → (result ≡ NOTHING_PENDING ↔ ((share : SessionShare) × (session.old.behind.held.share ≡ Some share) × (share.session.pending ≡ None))) }
-    ensures several { result ≡ PENDING → (share : SessionShare) × (session.old.behind.held.share ≡ Some share) × HasSeveralPending share.session }
-    ensures statuses { (result ≡ NULL_POINTER) ⊎ ((result ≡ OK) ⊎ ((result ≡ CLOSED) ⊎ ((result ≡ NOTHING_PENDING) ⊎ ((result ≡ PENDING) ⊎ ((result ≡ NO_MEMORY) ⊎ (result ≡ NOT_SERVED)))))) }
+    ensures statuses { (result ≡ NULL_POINTER) ⊎ ((result ≡ CLOSED) ⊎ (IsMade result ⊎ ((result ≡ NOTHING_PENDING) ⊎ (result ≡ PENDING)))) }
 {
-    let Some(session) = session.get() else {
-        return NULL_POINTER;
-    };
-    let Some(answer) = answer.get() else {
-        return NULL_POINTER;
-    };
-    let Some(mut share) = session.take(alloc) else {
-        return CLOSED;
-    };
+    let session = given!(session.get(), NULL_POINTER);
+    let answer = given!(answer.get(), NULL_POINTER);
+    let mut share = given!(session.take(alloc), CLOSED);
+    let status = turn_calls::look(&mut share, looked, turns, answer, wait, told);
+    session.put(share);
+    status
+}
+
+/// Makes turn number `made` of a program, of which the caller makes `turns` at most, counted from 0, as `pelgaisti_raw_session_turn` makes
+/// a turn of a call: the program is tried at once, then published as one, and its calls are served one after another, with nobody's call
+/// between them, up to the first reply behind which it doesn't go on. NOT_SERVED and NO_MEMORY leave the program pending as that leaves the
+/// call, and `wait` and `told` are written so. Memory that is refused to a later call of the program is told by the answer. PENDING: the
+/// session has a call or program pending, before the first turn. A program of no calls is refused with NO_SUCH_OP.
+#[unsafe(no_mangle)]
+pub extern "C" fn pelgaisti_raw_session_run_turn(
+    alloc: Global,
+    session: &mut SessionPointer,
+    program: &mut ProgramPointer,
+    made: u64,
+    turns: u64,
+    answer: &mut ProgramAnswerPointer,
+    wait: &mut u32,
+    told: &mut usize,
+) -> u32
+    ensures null { result ≡ NULL_POINTER ↔ ((session.old.at ≡ null_ptr) ⊎ ((program.old.at ≡ null_ptr) ⊎ (answer.old.at ≡ null_ptr))) }
+    ensures turn { result ≢ NULL_POINTER → result ≢ CLOSED → HasDone session.old.behind session.new.behind (λ before after.
+        HasMadeTurn IsOfCalls IsRunFault TellsAll before after program.old.behind made turns answer.old.behind answer.new.behind wait.old wait.new told.old told.new result) }
+    ensures untouched { (result ≡ NULL_POINTER) ⊎ (result ≡ CLOSED) → IsUntouched session.old.behind.held.share session.new.behind.held.share answer.old.behind answer.new.behind wait.old wait.new told.old told.new }
+    ensures open { session.new.behind.is_open ≡ session.old.behind.is_open }
+    ensures closed { result ≢ NULL_POINTER → (result ≡ CLOSED ↔ (session.old.behind.is_open ≢ 1)) }
+    ensures statuses { (result ≡ NULL_POINTER) ⊎ ((result ≡ CLOSED) ⊎ (IsMade result ⊎ ((result ≡ RETIRED) ⊎ ((result ≡ PENDING) ⊎ IsFaultNumber result)))) }
+{
+    let session = given!(session.get(), NULL_POINTER);
+    let program = given!(program.get(), NULL_POINTER);
+    let answer = given!(answer.get(), NULL_POINTER);
+    let mut share = given!(session.take(alloc), CLOSED);
+    let status = turn_calls::turn(&mut share, &program, made, turns, answer, wait, told);
+    session.put(share);
+    status
+}
+
+/// Makes turn number `looked` of what the session has pending, of which the caller makes `turns` at most, counted from 0, and tells the answer
+/// as that of a program: of a pending call it is a program of this one call. It writes `wait` and `told` as `pelgaisti_raw_session_turn`
+/// does.
+#[unsafe(no_mangle)]
+pub extern "C" fn pelgaisti_raw_session_run_resume(
+    alloc: Global,
+    session: &mut SessionPointer,
+    looked: u64,
+    turns: u64,
+    answer: &mut ProgramAnswerPointer,
+    wait: &mut u32,
+    told: &mut usize,
+) -> u32
+    ensures null { result ≡ NULL_POINTER ↔ ((session.old.at ≡ null_ptr) ⊎ (answer.old.at ≡ null_ptr)) }
+    ensures look { result ≢ NULL_POINTER → result ≢ CLOSED → HasDone session.old.behind session.new.behind (λ before after.
+        HasMadeLook TellsAll (λ _. true) before after looked turns answer.old.behind answer.new.behind wait.old wait.new told.old told.new result) }
+    ensures untouched { (result ≡ NULL_POINTER) ⊎ (result ≡ CLOSED) → IsUntouched session.old.behind.held.share session.new.behind.held.share answer.old.behind answer.new.behind wait.old wait.new told.old told.new }
+    ensures open { session.new.behind.is_open ≡ session.old.behind.is_open }
+    ensures closed { result ≢ NULL_POINTER → (result ≡ CLOSED ↔ (session.old.behind.is_open ≢ 1)) }
+    ensures statuses { (result ≡ NULL_POINTER) ⊎ ((result ≡ CLOSED) ⊎ (IsMade result ⊎ (result ≡ NOTHING_PENDING))) }
+{
+    let session = given!(session.get(), NULL_POINTER);
+    let answer = given!(answer.get(), NULL_POINTER);
+    let mut share = given!(session.take(alloc), CLOSED);
     let status = turn_calls::look(&mut share, looked, turns, answer, wait, told);
     session.put(share);
     status

@@ -5,7 +5,10 @@ ghost use denote.RawPtr.{Testable, null_ptr};
 ghost use Rattle.library_books.specs.declared.numbers.CallNumbers.{CallNumbers};
 ghost use Rattle.library_books.specs.declared.numbers.ResourceNumbers.{ResourceNumbers};
 ghost use Rattle.library_books.specs.declared.program_numbers.ProgramNumbers.{ProgramNumbers};
-ghost use Rattle.library_books.specs.Behind.{call_coded, program_coded, resource_coded};
+ghost use Rattle.library_books.specs.Behind.{maybe_shared};
+ghost use Rattle.library_books.specs.contracts.numbers.CallNumbers.{the_row as call_row};
+ghost use Rattle.library_books.specs.contracts.numbers.ResourceNumbers.{the_row as resource_row};
+ghost use Rattle.library_books.specs.contracts.program_numbers.ProgramNumbers.{the_row as program_row};
 
 use crate::numbers::{CallNumbers, ResourceNumbers};
 use crate::program_numbers::ProgramNumbers;
@@ -16,13 +19,11 @@ use std::marker::Model;
 pub struct CallPointer {
     pub at: *const CallNumbers,
     ghost testable: { Testable at },
-    pub ghost behind: { CallNumbers } by { call_coded },
+    pub ghost behind: { CallNumbers } by { call_row.coded },
 }
 
 impl Model for CallPointer {
-    ghost use Rattle.library_books.specs.Behind.{call_shared};
-
-    ghost also_owns = { λ p. call_shared p.at p.behind };
+    ghost also_owns = { λ p. maybe_shared call_row p.at p.behind };
 }
 
 impl CallPointer {
@@ -44,13 +45,11 @@ impl CallPointer {
 pub struct ProgramPointer {
     pub at: *const ProgramNumbers,
     ghost testable: { Testable at },
-    pub ghost behind: { ProgramNumbers } by { program_coded },
+    pub ghost behind: { ProgramNumbers } by { program_row.coded },
 }
 
 impl Model for ProgramPointer {
-    ghost use Rattle.library_books.specs.Behind.{program_shared};
-
-    ghost also_owns = { λ p. program_shared p.at p.behind };
+    ghost also_owns = { λ p. maybe_shared program_row p.at p.behind };
 }
 
 impl ProgramPointer {
@@ -72,13 +71,11 @@ impl ProgramPointer {
 pub struct ResourcePointer {
     pub at: *const ResourceNumbers,
     ghost testable: { Testable at },
-    pub ghost behind: { ResourceNumbers } by { resource_coded },
+    pub ghost behind: { ResourceNumbers } by { resource_row.coded },
 }
 
 impl Model for ResourcePointer {
-    ghost use Rattle.library_books.specs.Behind.{resource_shared};
-
-    ghost also_owns = { λ p. resource_shared p.at p.behind };
+    ghost also_owns = { λ p. maybe_shared resource_row p.at p.behind };
 }
 
 impl ResourcePointer {

@@ -1,7 +1,9 @@
 //! Pointers of C to integers.
 
 ghost use Rattle.std.specs.Prelude.{◌≡◌, ◌≢◌, ℕ, MatchOption};
+ghost use denote.Builtin.{usize, u32, u64};
 ghost use denote.RawPtr.{Testable, null_ptr};
+ghost use Rattle.library_books.specs.Behind.{maybe_at};
 
 use std::marker::Model;
 
@@ -14,18 +16,16 @@ pub struct SizePointer {
 }
 
 impl Model for SizePointer {
-    ghost use Rattle.library_books.specs.Behind.{size_behind};
-
-    ghost also_owns = { λ p. size_behind p.at p.behind };
+    ghost also_owns = { λ p. maybe_at usize p.at p.behind };
 }
 
 impl SizePointer {
-    ghost use Rattle.std.specs.Borrow.{sem};
-    ghost use Rattle.library_books.specs.inner.Lending.{lends_of_size_pointer};
+    ghost use Rattle.std.specs.Borrow.{sem, LendsIf};
+    ghost use Rattle.library_books.specs.contracts.pointers.integers.SizePointer.{the_row};
 
     /// What lies behind the pointer, or `None` at null.
     pub fn get(&mut self) -> Option<&mut usize>
-        ensures* lends { sem 𝓛 (lends_of_size_pointer self.entry result) }
+        ensures* lends { sem 𝓛 (LendsIf the_row usize self.entry result (λ x. record self.entry.now { behind = x }) self.entry.now) }
         ensures value { MatchOption result (self.old.at ≡ null_ptr) (λ r. (self.old.at ≢ null_ptr) × (r.now ≡ self.old.behind)) }
     {
         let at = self.at;
@@ -45,18 +45,16 @@ pub struct U32Pointer {
 }
 
 impl Model for U32Pointer {
-    ghost use Rattle.library_books.specs.Behind.{u32_behind};
-
-    ghost also_owns = { λ p. u32_behind p.at p.behind };
+    ghost also_owns = { λ p. maybe_at u32 p.at p.behind };
 }
 
 impl U32Pointer {
-    ghost use Rattle.std.specs.Borrow.{sem};
-    ghost use Rattle.library_books.specs.inner.Lending.{lends_of_u32_pointer};
+    ghost use Rattle.std.specs.Borrow.{sem, LendsIf};
+    ghost use Rattle.library_books.specs.contracts.pointers.integers.U32Pointer.{the_row};
 
     /// What lies behind the pointer, or `None` at null.
     pub fn get(&mut self) -> Option<&mut u32>
-        ensures* lends { sem 𝓛 (lends_of_u32_pointer self.entry result) }
+        ensures* lends { sem 𝓛 (LendsIf the_row u32 self.entry result (λ x. record self.entry.now { behind = x }) self.entry.now) }
         ensures value { MatchOption result (self.old.at ≡ null_ptr) (λ r. (self.old.at ≢ null_ptr) × (r.now ≡ self.old.behind)) }
     {
         let at = self.at;
@@ -76,18 +74,16 @@ pub struct U64Pointer {
 }
 
 impl Model for U64Pointer {
-    ghost use Rattle.library_books.specs.Behind.{u64_behind};
-
-    ghost also_owns = { λ p. u64_behind p.at p.behind };
+    ghost also_owns = { λ p. maybe_at u64 p.at p.behind };
 }
 
 impl U64Pointer {
-    ghost use Rattle.std.specs.Borrow.{sem};
-    ghost use Rattle.library_books.specs.inner.Lending.{lends_of_u64_pointer};
+    ghost use Rattle.std.specs.Borrow.{sem, LendsIf};
+    ghost use Rattle.library_books.specs.contracts.pointers.integers.U64Pointer.{the_row};
 
     /// What lies behind the pointer, or `None` at null.
     pub fn get(&mut self) -> Option<&mut u64>
-        ensures* lends { sem 𝓛 (lends_of_u64_pointer self.entry result) }
+        ensures* lends { sem 𝓛 (LendsIf the_row u64 self.entry result (λ x. record self.entry.now { behind = x }) self.entry.now) }
         ensures value { MatchOption result (self.old.at ≡ null_ptr) (λ r. (self.old.at ≢ null_ptr) × (r.now ≡ self.old.behind)) }
     {
         let at = self.at;

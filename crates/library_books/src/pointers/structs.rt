@@ -10,7 +10,15 @@ ghost use Rattle.library_books.specs.declared.numbers.PassNumbers.{PassNumbers};
 ghost use Rattle.library_books.specs.declared.numbers.ReplyNumbers.{ReplyNumbers};
 ghost use Rattle.library_books.specs.declared.claims.TransactionNumbers.{TransactionNumbers};
 ghost use Rattle.library_books.specs.declared.program_numbers.ProgramAnswerNumbers.{ProgramAnswerNumbers};
-ghost use Rattle.library_books.specs.Behind.{answer_coded, claim_coded, counts_coded, gauges_coded, pass_coded, program_answer_coded, reply_coded, transaction_coded};
+ghost use Rattle.library_books.specs.Behind.{maybe_at};
+ghost use Rattle.library_books.specs.contracts.claims.ClaimNumbers.{the_row as claim_row};
+ghost use Rattle.library_books.specs.contracts.claims.TransactionNumbers.{the_row as transaction_row};
+ghost use Rattle.library_books.specs.contracts.count_numbers.CountNumbers.{the_row as counts_row};
+ghost use Rattle.library_books.specs.contracts.count_numbers.GaugeNumbers.{the_row as gauges_row};
+ghost use Rattle.library_books.specs.contracts.numbers.AnswerNumbers.{the_row as answer_row};
+ghost use Rattle.library_books.specs.contracts.numbers.PassNumbers.{the_row as pass_row};
+ghost use Rattle.library_books.specs.contracts.numbers.ReplyNumbers.{the_row as reply_row};
+ghost use Rattle.library_books.specs.contracts.program_numbers.ProgramAnswerNumbers.{the_row as program_answer_row};
 
 use crate::claims::{ClaimNumbers, TransactionNumbers};
 use crate::count_numbers::{CountNumbers, GaugeNumbers};
@@ -23,22 +31,20 @@ use std::marker::Model;
 pub struct AnswerPointer {
     pub at: *mut AnswerNumbers,
     ghost testable: { Testable at },
-    pub ghost behind: { AnswerNumbers } by { answer_coded },
+    pub ghost behind: { AnswerNumbers } by { answer_row.coded },
 }
 
 impl Model for AnswerPointer {
-    ghost use Rattle.library_books.specs.Behind.{answer_behind};
-
-    ghost also_owns = { λ p. answer_behind p.at p.behind };
+    ghost also_owns = { λ p. maybe_at answer_row p.at p.behind };
 }
 
 impl AnswerPointer {
-    ghost use Rattle.std.specs.Borrow.{sem};
-    ghost use Rattle.library_books.specs.inner.Lending.{lends_of_answer_pointer};
+    ghost use Rattle.std.specs.Borrow.{sem, LendsIf};
+    ghost use Rattle.library_books.specs.contracts.pointers.structs.AnswerPointer.{the_row};
 
     /// What lies behind the pointer, or `None` at null.
     pub fn get(&mut self) -> Option<&mut AnswerNumbers>
-        ensures* lends { sem 𝓛 (lends_of_answer_pointer self.entry result) }
+        ensures* lends { sem 𝓛 (LendsIf the_row answer_row self.entry result (λ x. record self.entry.now { behind = x }) self.entry.now) }
         ensures value { MatchOption result (self.old.at ≡ null_ptr) (λ r. (self.old.at ≢ null_ptr) × (r.now ≡ self.old.behind)) }
     {
         let at = self.at;
@@ -54,22 +60,20 @@ impl AnswerPointer {
 pub struct ClaimPointer {
     pub at: *mut ClaimNumbers,
     ghost testable: { Testable at },
-    pub ghost behind: { ClaimNumbers } by { claim_coded },
+    pub ghost behind: { ClaimNumbers } by { claim_row.coded },
 }
 
 impl Model for ClaimPointer {
-    ghost use Rattle.library_books.specs.Behind.{claim_behind};
-
-    ghost also_owns = { λ p. claim_behind p.at p.behind };
+    ghost also_owns = { λ p. maybe_at claim_row p.at p.behind };
 }
 
 impl ClaimPointer {
-    ghost use Rattle.std.specs.Borrow.{sem};
-    ghost use Rattle.library_books.specs.inner.Lending.{lends_of_claim_pointer};
+    ghost use Rattle.std.specs.Borrow.{sem, LendsIf};
+    ghost use Rattle.library_books.specs.contracts.pointers.structs.ClaimPointer.{the_row};
 
     /// What lies behind the pointer, or `None` at null.
     pub fn get(&mut self) -> Option<&mut ClaimNumbers>
-        ensures* lends { sem 𝓛 (lends_of_claim_pointer self.entry result) }
+        ensures* lends { sem 𝓛 (LendsIf the_row claim_row self.entry result (λ x. record self.entry.now { behind = x }) self.entry.now) }
         ensures value { MatchOption result (self.old.at ≡ null_ptr) (λ r. (self.old.at ≢ null_ptr) × (r.now ≡ self.old.behind)) }
     {
         let at = self.at;
@@ -85,22 +89,20 @@ impl ClaimPointer {
 pub struct CountsPointer {
     pub at: *mut CountNumbers,
     ghost testable: { Testable at },
-    pub ghost behind: { CountNumbers } by { counts_coded },
+    pub ghost behind: { CountNumbers } by { counts_row.coded },
 }
 
 impl Model for CountsPointer {
-    ghost use Rattle.library_books.specs.Behind.{counts_behind};
-
-    ghost also_owns = { λ p. counts_behind p.at p.behind };
+    ghost also_owns = { λ p. maybe_at counts_row p.at p.behind };
 }
 
 impl CountsPointer {
-    ghost use Rattle.std.specs.Borrow.{sem};
-    ghost use Rattle.library_books.specs.inner.Lending.{lends_of_counts_pointer};
+    ghost use Rattle.std.specs.Borrow.{sem, LendsIf};
+    ghost use Rattle.library_books.specs.contracts.pointers.structs.CountsPointer.{the_row};
 
     /// What lies behind the pointer, or `None` at null.
     pub fn get(&mut self) -> Option<&mut CountNumbers>
-        ensures* lends { sem 𝓛 (lends_of_counts_pointer self.entry result) }
+        ensures* lends { sem 𝓛 (LendsIf the_row counts_row self.entry result (λ x. record self.entry.now { behind = x }) self.entry.now) }
         ensures value { MatchOption result (self.old.at ≡ null_ptr) (λ r. (self.old.at ≢ null_ptr) × (r.now ≡ self.old.behind)) }
     {
         let at = self.at;
@@ -116,22 +118,20 @@ impl CountsPointer {
 pub struct GaugesPointer {
     pub at: *mut GaugeNumbers,
     ghost testable: { Testable at },
-    pub ghost behind: { GaugeNumbers } by { gauges_coded },
+    pub ghost behind: { GaugeNumbers } by { gauges_row.coded },
 }
 
 impl Model for GaugesPointer {
-    ghost use Rattle.library_books.specs.Behind.{gauges_behind};
-
-    ghost also_owns = { λ p. gauges_behind p.at p.behind };
+    ghost also_owns = { λ p. maybe_at gauges_row p.at p.behind };
 }
 
 impl GaugesPointer {
-    ghost use Rattle.std.specs.Borrow.{sem};
-    ghost use Rattle.library_books.specs.inner.Lending.{lends_of_gauges_pointer};
+    ghost use Rattle.std.specs.Borrow.{sem, LendsIf};
+    ghost use Rattle.library_books.specs.contracts.pointers.structs.GaugesPointer.{the_row};
 
     /// What lies behind the pointer, or `None` at null.
     pub fn get(&mut self) -> Option<&mut GaugeNumbers>
-        ensures* lends { sem 𝓛 (lends_of_gauges_pointer self.entry result) }
+        ensures* lends { sem 𝓛 (LendsIf the_row gauges_row self.entry result (λ x. record self.entry.now { behind = x }) self.entry.now) }
         ensures value { MatchOption result (self.old.at ≡ null_ptr) (λ r. (self.old.at ≢ null_ptr) × (r.now ≡ self.old.behind)) }
     {
         let at = self.at;
@@ -147,22 +147,20 @@ impl GaugesPointer {
 pub struct PassPointer {
     pub at: *mut PassNumbers,
     ghost testable: { Testable at },
-    pub ghost behind: { PassNumbers } by { pass_coded },
+    pub ghost behind: { PassNumbers } by { pass_row.coded },
 }
 
 impl Model for PassPointer {
-    ghost use Rattle.library_books.specs.Behind.{pass_behind};
-
-    ghost also_owns = { λ p. pass_behind p.at p.behind };
+    ghost also_owns = { λ p. maybe_at pass_row p.at p.behind };
 }
 
 impl PassPointer {
-    ghost use Rattle.std.specs.Borrow.{sem};
-    ghost use Rattle.library_books.specs.inner.Lending.{lends_of_pass_pointer};
+    ghost use Rattle.std.specs.Borrow.{sem, LendsIf};
+    ghost use Rattle.library_books.specs.contracts.pointers.structs.PassPointer.{the_row};
 
     /// What lies behind the pointer, or `None` at null.
     pub fn get(&mut self) -> Option<&mut PassNumbers>
-        ensures* lends { sem 𝓛 (lends_of_pass_pointer self.entry result) }
+        ensures* lends { sem 𝓛 (LendsIf the_row pass_row self.entry result (λ x. record self.entry.now { behind = x }) self.entry.now) }
         ensures value { MatchOption result (self.old.at ≡ null_ptr) (λ r. (self.old.at ≢ null_ptr) × (r.now ≡ self.old.behind)) }
     {
         let at = self.at;
@@ -178,22 +176,20 @@ impl PassPointer {
 pub struct ProgramAnswerPointer {
     pub at: *mut ProgramAnswerNumbers,
     ghost testable: { Testable at },
-    pub ghost behind: { ProgramAnswerNumbers } by { program_answer_coded },
+    pub ghost behind: { ProgramAnswerNumbers } by { program_answer_row.coded },
 }
 
 impl Model for ProgramAnswerPointer {
-    ghost use Rattle.library_books.specs.Behind.{program_answer_behind};
-
-    ghost also_owns = { λ p. program_answer_behind p.at p.behind };
+    ghost also_owns = { λ p. maybe_at program_answer_row p.at p.behind };
 }
 
 impl ProgramAnswerPointer {
-    ghost use Rattle.std.specs.Borrow.{sem};
-    ghost use Rattle.library_books.specs.inner.Lending.{lends_of_program_answer_pointer};
+    ghost use Rattle.std.specs.Borrow.{sem, LendsIf};
+    ghost use Rattle.library_books.specs.contracts.pointers.structs.ProgramAnswerPointer.{the_row};
 
     /// What lies behind the pointer, or `None` at null.
     pub fn get(&mut self) -> Option<&mut ProgramAnswerNumbers>
-        ensures* lends { sem 𝓛 (lends_of_program_answer_pointer self.entry result) }
+        ensures* lends { sem 𝓛 (LendsIf the_row program_answer_row self.entry result (λ x. record self.entry.now { behind = x }) self.entry.now) }
         ensures value { MatchOption result (self.old.at ≡ null_ptr) (λ r. (self.old.at ≢ null_ptr) × (r.now ≡ self.old.behind)) }
     {
         let at = self.at;
@@ -209,22 +205,20 @@ impl ProgramAnswerPointer {
 pub struct ReplyPointer {
     pub at: *mut ReplyNumbers,
     ghost testable: { Testable at },
-    pub ghost behind: { ReplyNumbers } by { reply_coded },
+    pub ghost behind: { ReplyNumbers } by { reply_row.coded },
 }
 
 impl Model for ReplyPointer {
-    ghost use Rattle.library_books.specs.Behind.{reply_behind};
-
-    ghost also_owns = { λ p. reply_behind p.at p.behind };
+    ghost also_owns = { λ p. maybe_at reply_row p.at p.behind };
 }
 
 impl ReplyPointer {
-    ghost use Rattle.std.specs.Borrow.{sem};
-    ghost use Rattle.library_books.specs.inner.Lending.{lends_of_reply_pointer};
+    ghost use Rattle.std.specs.Borrow.{sem, LendsIf};
+    ghost use Rattle.library_books.specs.contracts.pointers.structs.ReplyPointer.{the_row};
 
     /// What lies behind the pointer, or `None` at null.
     pub fn get(&mut self) -> Option<&mut ReplyNumbers>
-        ensures* lends { sem 𝓛 (lends_of_reply_pointer self.entry result) }
+        ensures* lends { sem 𝓛 (LendsIf the_row reply_row self.entry result (λ x. record self.entry.now { behind = x }) self.entry.now) }
         ensures value { MatchOption result (self.old.at ≡ null_ptr) (λ r. (self.old.at ≢ null_ptr) × (r.now ≡ self.old.behind)) }
     {
         let at = self.at;
@@ -240,22 +234,20 @@ impl ReplyPointer {
 pub struct TransactionPointer {
     pub at: *mut TransactionNumbers,
     ghost testable: { Testable at },
-    pub ghost behind: { TransactionNumbers } by { transaction_coded },
+    pub ghost behind: { TransactionNumbers } by { transaction_row.coded },
 }
 
 impl Model for TransactionPointer {
-    ghost use Rattle.library_books.specs.Behind.{transaction_behind};
-
-    ghost also_owns = { λ p. transaction_behind p.at p.behind };
+    ghost also_owns = { λ p. maybe_at transaction_row p.at p.behind };
 }
 
 impl TransactionPointer {
-    ghost use Rattle.std.specs.Borrow.{sem};
-    ghost use Rattle.library_books.specs.inner.Lending.{lends_of_transaction_pointer};
+    ghost use Rattle.std.specs.Borrow.{sem, LendsIf};
+    ghost use Rattle.library_books.specs.contracts.pointers.structs.TransactionPointer.{the_row};
 
     /// What lies behind the pointer, or `None` at null.
     pub fn get(&mut self) -> Option<&mut TransactionNumbers>
-        ensures* lends { sem 𝓛 (lends_of_transaction_pointer self.entry result) }
+        ensures* lends { sem 𝓛 (LendsIf the_row transaction_row self.entry result (λ x. record self.entry.now { behind = x }) self.entry.now) }
         ensures value { MatchOption result (self.old.at ≡ null_ptr) (λ r. (self.old.at ≢ null_ptr) × (r.now ≡ self.old.behind)) }
     {
         let at = self.at;

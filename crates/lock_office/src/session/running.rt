@@ -30,19 +30,6 @@ impl Session {
         self.asked
     }
 
-    /// The program that a turn goes on with: the pending one, or else this one.
-    #[inline(always)]
-    pub fn program_for(&self, program: &Program) -> Program
-        requires live { self.now.retired ≡ false }
-        ensures idle { self.now.pending ≡ None → result ≡ program.now }
-        ensures pending { (asked : ProgramValue) (floor : ℕ) → self.now.pending ≡ Some (asks asked floor) → asked ≡ result }
-    {
-        if self.is_idle() {
-            return *program;
-        }
-        self.pending_program()
-    }
-
     /// Whether what is pending is a single call. If nothing is pending, it says nothing.
     #[inline(always)]
     pub fn is_single(&self) -> bool
@@ -53,7 +40,7 @@ impl Session {
     }
 
     /// Makes one turn of a program that makes a call, as `combining::turn` does: it goes on with the pending program, if there is one, whatever
-    /// `program` is. The answer is read by the program that the turn goes on with (`program_for`, before the turn).
+    /// `program` is. The answer is read by the program that the turn goes on with.
     #[inline(always)]
     pub fn run_turn<T: Told<Programs<Book>>>(
         &mut self,

@@ -76,22 +76,4 @@ impl Session {
             Next::Wait(wait) => Next::Wait(wait),
         }
     }
-
-    /// Publishes the call of a session that has none pending, as `combining::publish_if_idle` does.
-    pub fn publish_if_idle(&mut self, office: &Office, call: Call)
-        requires ours { IsSessionOf office.now self.old }
-        requires live { self.old.retired ≡ false }
-        ensures ours { IsSessionOf office.now self.new }
-        ensures published { self.old.pending ≡ None → IsCalling self.old self.new call }
-        ensures same { self.old.pending ≢ None → self.new ≡ self.old }
-        ensures known { (self.new.front ≡ self.old.front) × (self.new.entered ≡ self.old.entered) }
-        ensures tries { self.new.tries ≤ self.old.tries + 1 }
-    {
-        if !self.session.is_idle() {
-            return;
-        }
-        self.asked = Program::one(call);
-        let asked = self.asked;
-        combining::publish_if_idle(office, &mut self.session, asked);
-    }
 }

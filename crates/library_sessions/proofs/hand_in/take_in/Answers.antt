@@ -22,5 +22,4 @@ invariant_of-to-2 c =
       count = to.count;
       few = to.few;
       telling = to.telling;
-      silent = to.silent;
     }

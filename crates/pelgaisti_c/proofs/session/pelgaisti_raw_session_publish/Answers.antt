@@ -8,7 +8,7 @@ use Rattle.pelgaisti_c.proofs.session.pelgaisti_raw_session_publish.Goals as goa
 pub returns-clause-ok : goal.returns-clause-ok
 returns-clause-ok c = λ e.
     let was : c.args.session.now.behind.held.share ≡ Some c.deref_mut.result.now = search rules in
-    let same : c.in-Some-get.call ≡ c.args.call.now.behind = search rules in (
+    let same : c.in-Some-get.value ≡ c.args.call.now.behind = search rules in (
       c.deref_mut.result.now,
       c.publish-status.new.share,
       was,
@@ -19,11 +19,11 @@ returns-clause-ok c = λ e.
 pub returns-clause-retired : goal.returns-clause-retired
 returns-clause-retired c = λ e.
     let was : c.args.session.now.behind.held.share ≡ Some c.deref_mut.result.now = search rules in
-    let same : c.in-Some-get.call ≡ c.args.call.now.behind = search rules in
+    let same : c.in-Some-get.value ≡ c.args.call.now.behind = search rules in
     let s = c.publish-status.ensures.retired e in (c.deref_mut.result.now, was, s.0, subst (λ (asked : CallNumbers). (call : Call) × IsCall asked call) same s.1)
 
 pub returns-clause-pending : goal.returns-clause-pending
 returns-clause-pending c = λ e.
     let was : c.args.session.now.behind.held.share ≡ Some c.deref_mut.result.now = search rules in
-    let same : c.in-Some-get.call ≡ c.args.call.now.behind = search rules in
+    let same : c.in-Some-get.value ≡ c.args.call.now.behind = search rules in
     let s = c.publish-status.ensures.pending e in (c.deref_mut.result.now, was, s.0, subst (λ (asked : CallNumbers). (call : Call) × IsCall asked call) same s.1)

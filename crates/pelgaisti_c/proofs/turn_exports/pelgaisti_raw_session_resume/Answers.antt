@@ -1,36 +1,19 @@
-use Rattle.std.proofs.Common.{rules, ◌≡◌, ◌≢◌, ◌∙◌, None, Some, arith, sym, subst, ⊎_elim}
-use Rattle.library_sessions.specs.declared.session_share.SessionShare.{SessionShare}
+use Rattle.std.proofs.Common.{rules, ◌≡◌, Some, subst, ◌==◌, length}
+use Rattle.lock_programs.specs.Calls.{calls_of}
+use Rattle.lock_programs.specs.declared.program.Program.{Program}
+use Rattle.library_books.specs.declared.numbers.AnswerNumbers.{AnswerNumbers}
+use Rattle.library_sessions.specs.Turns.{TellsLast, HasMadeLook}
 use Rattle.pelgaisti_c.proofs.turn_exports.pelgaisti_raw_session_resume.Goals as goal
 
-pub returns-clause-ok : goal.returns-clause-ok
-returns-clause-ok c = λ e. let was : c.args.session.now.behind.held.share ≡ Some c.deref_mut.result.now = search rules in
-    (c.deref_mut.result.now, c.look-status.new.share, was, c.put.ensures.1, c.look-status.ensures.ok e)
-
-pub returns-clause-memory : goal.returns-clause-memory
-returns-clause-memory c = λ e. let was : c.args.session.now.behind.held.share ≡ Some c.deref_mut.result.now = search rules in
-    (c.deref_mut.result.now, c.look-status.new.share, was, c.put.ensures.1, c.look-status.ensures.memory e)
-
-pub returns-clause-late : goal.returns-clause-late
-returns-clause-late c = λ e. let was : c.args.session.now.behind.held.share ≡ Some c.deref_mut.result.now = search rules in
-    (c.deref_mut.result.now, c.look-status.new.share, was, c.put.ensures.1, c.look-status.ensures.late e)
-
-pub returns-clause-told : goal.returns-clause-told
-returns-clause-told c = λ e. let was : c.args.session.now.behind.held.share ≡ Some c.deref_mut.result.now = search rules in
-    let some : c.look-status.result ≢ 10 = λ none. ⊎_elim (λ a. absurd (omega (arith, a, none))) (λ b. ⊎_elim (λ a. absurd (omega (arith, a, none))) (λ a. absurd (omega (arith, a, none))) b) e in
-    let single : c.look-status.result ≢ 9 = λ is. ⊎_elim (λ a. absurd (omega (arith, a, is))) (λ b. ⊎_elim (λ a. absurd (omega (arith, a, is))) (λ a. absurd (omega (arith, a, is))) b) e in
-    (c.deref_mut.result.now, c.look-status.new.share, was, c.put.ensures.1, c.look-status.ensures.told some single)
-
-pub returns-clause-few : goal.returns-clause-few
-returns-clause-few c = λ e. let was : c.args.session.now.behind.held.share ≡ Some c.deref_mut.result.now = search rules in
-    let some : c.look-status.result ≢ 10 = λ none. ⊎_elim (λ a. absurd (omega (arith, a, none))) (λ b. ⊎_elim (λ a. absurd (omega (arith, a, none))) (λ a. absurd (omega (arith, a, none))) b) e in
-    let single : c.look-status.result ≢ 9 = λ is. ⊎_elim (λ a. absurd (omega (arith, a, is))) (λ b. ⊎_elim (λ a. absurd (omega (arith, a, is))) (λ a. absurd (omega (arith, a, is))) b) e in
-    (c.deref_mut.result.now, c.look-status.new.share, was, c.put.ensures.1, c.look-status.ensures.few some single)
-
-pub returns-clause-nothing : goal.returns-clause-nothing
-returns-clause-nothing c = λ here. let was : c.args.session.now.behind.held.share ≡ Some c.deref_mut.result.now = search rules in (
-  (λ e. (c.deref_mut.result.now, was, c.look-status.ensures.nothing.0 e)),
-  (λ is. let same : is.0 ≡ c.deref_mut.result.now = cc (sym is.1 ∙ was) in c.look-status.ensures.nothing.1 (subst (λ (s : SessionShare). s.session.pending ≡ None) same is.2)),
-)
-
-pub returns-clause-several : goal.returns-clause-several
-returns-clause-several c = λ e. let was : c.args.session.now.behind.held.share ≡ Some c.deref_mut.result.now = search rules in (c.deref_mut.result.now, was, c.look-status.ensures.several e)
+pub returns-clause-look : goal.returns-clause-look
+returns-clause-look c = λ _ _.
+    let was : c.args.session.now.behind.held.share ≡ Some c.deref_mut.result.now = search rules in
+    let before : c.in-Some-get.value.now ≡ c.args.answer.now.behind = search rules in
+    let made = c.look-status in (
+      c.deref_mut.result.now,
+      made.new.share,
+      was,
+      c.put.ensures.1,
+      subst (λ (unanswered : AnswerNumbers). HasMadeLook TellsLast (λ (program : Program). length (calls_of program) == 1) c.deref_mut.result.now made.new.share
+          c.args.looked c.args.turns unanswered made.new.answer c.args.wait.now made.new.wait c.args.told.now made.new.told made.result) before made.ensures.look,
+    )

@@ -1,7 +1,0 @@
-use Rattle.std.specs.Prelude.{All}
-use Rattle.combining.specs.Sessions.{IsSessionOf}
-use Rattle.object_tests.proofs.workers.gather.Given as goal
-
--- the gathered sessions and those to come belong to the office
-abbrev pub invariant-loop-worked : goal.invariant-loop-worked
-invariant-loop-worked g l = All (IsSessionOf l.office) l.sessions.items × All (λ worked. IsSessionOf l.office worked.session) l.worked-iterator.rest.items
