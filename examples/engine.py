@@ -38,7 +38,7 @@ ACCOUNTS, BALANCE, THREADS = 6, 100, 4
 
 HEADER = (INCLUDE / "pelgaisti.h").read_text(encoding="utf-8")
 # the numbers of the header's enums, by their names without PELGAISTI_
-N = {name: int(number) for name, number in re.findall(r"^ +PELGAISTI_(\w+) = (\d+)", HEADER, re.MULTILINE)}
+N = {name: int(number) for name, number in re.findall(r"\bPELGAISTI_(\w+) = (\d+)", HEADER)}
 VERSION = int(re.search(r"^#define PELGAISTI_HEADER_VERSION (\d+)$", HEADER, re.MULTILINE)[1])
 
 
@@ -188,4 +188,5 @@ def main():
         sys.exit("engine.py: money was made or lost")
 
 
-main()
+if __name__ == "__main__":
+    main()

@@ -17,6 +17,7 @@ static void make(int me, uint32_t op) {
     const pelgaisti_call call = {op, 0, {0, {0}}};
     pelgaisti_answer answer;
     if (pelgaisti_session_perform(&sessions[me], &call, UINT64_MAX, &answer) != PELGAISTI_OK) exit(1);
+    if (answer.reply.kind == PELGAISTI_REFUSED) exit(1);
 }
 
 /* Locks record `record` of table 1 in database 1. Returns 0 if the transaction is a victim. */
@@ -47,11 +48,13 @@ static void *work(void *session) {
 
 int main(void) {
     const pelgaisti_options options = PELGAISTI_OPTIONS(2);
+    pelgaisti_book book = PELGAISTI_EMPTY;
     pthread_t threads[2];
     if (pelgaisti_office_open(sessions, &options) != PELGAISTI_OK) return 1;
     for (int k = 0; k < 2; k++)
         if (pthread_create(&threads[k], NULL, work, &sessions[k]) != 0) return 1;
     for (int k = 0; k < 2; k++) pthread_join(threads[k], NULL);
+    if (pelgaisti_session_hand_in(&sessions[1], &sessions[0]) || pelgaisti_office_close(&sessions[0], &book)) return 1;
     printf("%ld and %ld\n", accounts[0], accounts[1]);
-    return accounts[0] != 1000 || accounts[1] != 1000;
+    return pelgaisti_book_close(&book) || accounts[0] != 1000 || accounts[1] != 1000;
 }

@@ -238,7 +238,8 @@ typedef struct pelgaisti_counts {
     uint64_t waits_begun;     /* with the reply WAITING or DEADLOCK */
     uint64_t waits_granted;   /* by a call of another session */
     uint64_t victims;         /* waits that a deadlock ended: how many victims there were */
-    uint64_t waits_withdrawn, waits_aborted, waits_restarted, waiting; /* ended by a call of their session; and those that wait now */
+    uint64_t waits_withdrawn, waits_aborted, waits_restarted; /* ended by a call of their session; withdrawn also by a time-out */
+    uint64_t waiting;         /* those that wait now */
     uint64_t deadlocks;       /* calls that closed a cycle of waits, each once, however many victims it made */
 } pelgaisti_counts;
 
@@ -275,7 +276,7 @@ typedef struct pelgaisti_waker {
 typedef struct pelgaisti_options {
     uint32_t sessions; /* 1 to PELGAISTI_MAX_SESSIONS; their numbers are from 1 on */
     uint32_t pass_calls, pass_locks, pass_rounds; /* the bound of a pass (pelgaisti_session_bound_passes): 64, 4,096, 4 */
-    uint64_t keep;      /* how many entries of the history are kept, the newest: 1,024 by default; UINT64_MAX for all */
+    uint64_t keep;      /* how many entries of the history are kept, the newest: 1,024 by default, 0 for none, UINT64_MAX for all */
     uint64_t deadlocks; /* how many deadlocks are kept, the newest, with some 56 bytes a session for each; 0, the default */
     uint64_t seed;      /* of the hash of resources. 0, the default: drawn anew, so that nobody can choose numbers that collide */
     const pelgaisti_waker *waker; /* of an office, which keeps its place and fields until that is closed. NULL, the default: none */
@@ -346,10 +347,11 @@ pelgaisti_call pelgaisti_path_call(const pelgaisti_resource *resource, uint32_t 
 
 /* ---- Wait for locks: victims, time-outs. ---- */
 #define PELGAISTI_FOREVER UINT64_MAX
-/* Locks a resource in a mode, and its ancestors before it in the mode that this needs of them, and sleeps while a request waits.
+/* Locks a resource in a mode, and its ancestors before it in the mode that this needs of them, and sleeps while a request waits. It asks
+   for all levels; pelgaisti_session_run with `level`, and then pelgaisti_session_wait, doesn't ask for those that are held.
        OK          the session holds them.
        VICTIM      the transaction is a deadlock's victim. It keeps its locks: undo, then PELGAISTI_ABORT or PELGAISTI_RESTART.
-       TIMED_OUT   the request of level `level` + 1 wasn't granted in time, and was taken back. The transaction goes on.
+       TIMED_OUT   the request of level `level` + 1 wasn't granted in time, and was taken back. The transaction goes on, or restarts.
        DENIED      that request was refused for `why`, such as NO_TRANSACTION.
        NO_MEMORY   a call or a program may be pending: pelgaisti_session_wait goes on; behind its OK the same call may be made again.
    The answer is written with each of these five. `timeout_ms` runs from the first request that waits, by CLOCK_MONOTONIC, and bounds the
@@ -410,7 +412,7 @@ pelgaisti_status pelgaisti_book_holders(pelgaisti_book *book, const pelgaisti_re
 /* Lists the sessions for which the session waits directly, by number: those that hold what it waits for in a mode that conflicts, or
    have a request ahead in the queue. -> NULL, CLOSED, NO_SUCH_SESSION */
 pelgaisti_status pelgaisti_book_blockers(pelgaisti_book *book, uint32_t session, uint32_t *list, size_t room, size_t *count);
-/* Write the session's open transaction, and its waiting request. -> NULL, CLOSED, NO_SUCH_SESSION */
+/* Write the session's open transaction, and its waiting request, of kind 0 if it doesn't wait. -> NULL, CLOSED, NO_SUCH_SESSION */
 pelgaisti_status pelgaisti_book_transaction(pelgaisti_book *book, uint32_t session, pelgaisti_transaction *open);
 pelgaisti_status pelgaisti_book_request(pelgaisti_book *book, uint32_t session, pelgaisti_claim *waiting);
 /* Writes how many locks the session holds. -> NULL, CLOSED, NO_SUCH_SESSION */
@@ -423,7 +425,8 @@ pelgaisti_status pelgaisti_book_locks_of(pelgaisti_book *book, uint32_t session,
 
 /* Lists the whole state: a row for each open transaction, by session number; then each resource, in the order of paths, with its holders
    by session number and its queue in the order of grants. `place` gets the length of the history. A dump with more rows than `room`
-   isn't whole. Its cost is that of sorting all claims. -> NULL, CLOSED, NO_MEMORY */
+   isn't whole; it has as many as the gauges' transactions, locks and waiting requests. Its cost is that of sorting all claims.
+   -> NULL, CLOSED, NO_MEMORY */
 pelgaisti_status pelgaisti_book_dump(pelgaisti_book *book, pelgaisti_claim *rows, size_t room, size_t *count, uint64_t *place);
 
 /* Writes the next line of a whole dump as text, as snprintf does; 100 bytes are enough. Returns its length, 0 behind the last one. The

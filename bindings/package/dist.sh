@@ -80,7 +80,7 @@ fit_document() {
                 up = "../../../"
                 for (k = 1; k <= count; k++) up = up "../"
                 written[++lines] = ""
-                written[++lines] = "*This document is that of the checkout, of which the archive has a part. What lies where in the archive: [README.md](" up "README.md). Files below `bench/`, `bindings/`, `checks/` and `crates/` that are named here, `./embed`, `./glm` and `./test` are in the checkout.*"
+                written[++lines] = "*This document is that of the checkout, of which the archive has a part. What lies where in the archive: [README.md](" up "README.md). What is told of `out/` holds of `include` and `lib` here, of `bindings/rust` of `share/pelgaisti/rust`. Files below `bench/`, `bindings/c`, `checks/` and `crates/`, `./embed`, `./glm` and `./test` are in the checkout.*"
             }
         }
         END { for (k = 1; k <= lines; k++) print written[k] }' - "$doc/$file" > "$work/fitted" && mv "$work/fitted" "$doc/$file"

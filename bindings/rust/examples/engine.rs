@@ -92,7 +92,7 @@ fn main() {
         })
         .collect();
     let (sessions, victims): (Vec<_>, Vec<u32>) = threads.into_iter().map(|it| it.join().expect("a thread")).unzip();
-    let book = Office::close(sessions).unwrap_or_else(|_| panic!("the office has all its sessions"));
+    let book = Office::close(sessions).expect("the office has all its sessions");
     let sum: i64 = accounts.iter().flatten().map(|it| it.load(Ordering::Relaxed)).sum();
     assert_eq!(sum, 2 * i64::from(ACCOUNTS) * BALANCE);
     println!(

@@ -11,6 +11,7 @@ use crate::programs::{Program, ProgramAnswer};
 use crate::shared::Shared;
 use crate::table::Table;
 use crate::waker::PlacedWaker;
+use std::fmt;
 use std::marker::PhantomData;
 use std::ptr;
 
@@ -67,6 +68,20 @@ pub struct NotClosed {
     pub sessions: Vec<Session>,
 }
 
+impl fmt::Debug for NotClosed {
+    fn fmt(&self, f: &mut fmt::Formatter<'_>) -> fmt::Result {
+        write!(f, "NotClosed({:?}, {} sessions)", self.error, self.sessions.len())
+    }
+}
+
+impl fmt::Display for NotClosed {
+    fn fmt(&self, f: &mut fmt::Formatter<'_>) -> fmt::Result {
+        write!(f, "the office wasn't closed: {}", self.error)
+    }
+}
+
+impl std::error::Error for NotClosed {}
+
 impl Office {
     /// Opens an office with an empty lock table, for so many sessions, at most 1024, or as [`Options`] say, and returns its sessions in the
     /// order of their numbers.
@@ -76,7 +91,7 @@ impl Office {
     ///     for call in [Call::Begin, Call::Poll, Call::Commit] {
     ///         let _ = sessions[0].perform(&call)?;
     ///     }
-    ///     let book = Office::close(sessions).ok().unwrap();
+    ///     let book = Office::close(sessions).unwrap();
     ///     assert_eq!((book.length(), book.first_kept()), (3, 1));
     ///     # Ok::<(), pelgaisti::Error>(())
     pub fn open(options: impl Into<Options>) -> Result<Vec<Session>, Error> {
@@ -137,7 +152,7 @@ impl Office {
     ///     assert_eq!(refused.error, Error::Missing);
     ///     let mut sessions = refused.sessions;
     ///     sessions.push(last);
-    ///     assert_eq!(Office::close(sessions).ok().unwrap().length(), 0);
+    ///     assert_eq!(Office::close(sessions).unwrap().length(), 0);
     ///     # Ok::<(), pelgaisti::Error>(())
     pub fn close(mut sessions: Vec<Session>) -> Result<Book, NotClosed> {
         match Office::hand_over(&mut sessions) {

@@ -182,7 +182,7 @@ fn offices_tell() {
         }
         assert_eq!(reply(&mut sessions[1], Call::Abort), Reply::Aborted(1));
         assert_eq!(reply(&mut sessions[0], Call::Commit), Reply::Committed(2));
-        let book = Office::close(sessions).ok().unwrap();
+        let book = Office::close(sessions).unwrap();
         let told = book.deadlocks().unwrap();
         assert_eq!(told.len(), kept);
         told.iter().for_each(|it| want_cross(it, 5, [1, 2]));

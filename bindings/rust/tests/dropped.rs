@@ -76,7 +76,7 @@ fn dropped_sessions() {
     let mut orphans = Office::orphans(&sessions[0]).unwrap();
     assert_eq!(numbers(&orphans), [3, 4]);
     sessions.append(&mut orphans);
-    assert_eq!(Office::close(sessions).ok().unwrap().length(), 10);
+    assert_eq!(Office::close(sessions).unwrap().length(), 10);
 
     // an office whose sessions are all dropped gives its memory back: pending calls or not, handed in or not, whichever was closed
     let drop_office = |round: usize| {
@@ -163,7 +163,7 @@ fn orphans_that_have_retired() {
     assert_eq!(orphans[0].serve().unwrap().served, 0);
     assert_eq!(sessions[0].look().unwrap().held(2, page).unwrap(), Mode::X);
     sessions.append(&mut orphans);
-    assert_eq!(Office::close(sessions).ok().unwrap().held(2, page), Ok(Mode::X));
+    assert_eq!(Office::close(sessions).unwrap().held(2, page), Ok(Mode::X));
 }
 
 /// Threads that ask for orphans at the same time get each of them once between them.

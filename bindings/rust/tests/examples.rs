@@ -106,7 +106,7 @@ fn offices_write_the_stored_histories() {
             assert!(!session.serve().unwrap().starved);
             let _ = session.collect().unwrap();
         }
-        let book = Office::close(sessions).ok().unwrap();
+        let book = Office::close(sessions).unwrap();
         assert_eq!(text(&book.history(0, usize::MAX).unwrap()), history);
     }
 }
@@ -176,7 +176,7 @@ fn threads_share_an_office() {
         })
         .collect();
     let (sessions, calls): (Vec<_>, Vec<u64>) = workers.into_iter().map(|it| it.join().unwrap()).unzip();
-    let book = Office::close(sessions).ok().unwrap();
+    let book = Office::close(sessions).unwrap();
     assert_eq!(book.length(), calls.iter().sum::<u64>());
     assert!(book.holders(database).unwrap().is_empty());
 }

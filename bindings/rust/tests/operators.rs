@@ -147,6 +147,6 @@ fn asked_sessions_obey() {
             sessions.push(session);
         }
     }
-    let book = Office::close(sessions).ok().unwrap();
+    let book = Office::close(sessions).unwrap();
     assert_eq!(book.dump().unwrap().claims().count(), 0);
 }

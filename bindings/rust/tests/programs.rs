@@ -95,7 +95,7 @@ fn sessions_run_programs() {
     two.publish(&Call::Poll).unwrap();
     assert!(two.resume_program(9).unwrap().replies(&Program::one(&Call::Poll)).eq([Reply::Clear]));
     assert_eq!(two.run_within(&Program::start(Start::Nothing), 9).err(), Some(Error::NoCalls));
-    assert_eq!(Office::close(sessions).ok().unwrap().length(), 10);
+    assert_eq!(Office::close(sessions).unwrap().length(), 10);
 }
 
 /// An office that is dropped with a pending program of several calls is closed all the same.

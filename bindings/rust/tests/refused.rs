@@ -80,7 +80,7 @@ fn openings() {
         let (mut sessions, refused) = each_in_turn(open);
         assert_eq!(refused, allocations);
         assert_eq!(reply(&mut sessions[7], Call::Begin), Reply::Began(1));
-        assert_eq!(Office::close(sessions).ok().unwrap().length(), 1);
+        assert_eq!(Office::close(sessions).unwrap().length(), 1);
     }
     // no closure is kept of an office that isn't open
     assert_eq!(Arc::strong_count(&bell), 1);

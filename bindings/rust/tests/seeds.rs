@@ -50,7 +50,7 @@ fn in_an_office(mut sessions: Vec<pelgaisti::Session>) -> Vec<Entry> {
             _ => (),
         }
     }
-    let book = Office::close(sessions).ok().unwrap();
+    let book = Office::close(sessions).unwrap();
     book.history(0, usize::MAX).unwrap()
 }
 
@@ -92,7 +92,7 @@ fn a_seeded_office_wakes_and_has_its_bound() {
     }
     let _ = sessions[0].perform(&Call::Commit).unwrap();
     assert_eq!(told.try_recv(), Ok(2));
-    assert_eq!(Office::close(sessions).ok().unwrap().first_kept(), 2);
+    assert_eq!(Office::close(sessions).unwrap().first_kept(), 2);
 }
 
 #[test]

@@ -158,7 +158,7 @@ fn the_waker_goes_with_the_office() {
         assert_eq!(Arc::strong_count(&woken), 2);
         if is_closed {
             assert_eq!(sessions[0].resume(9).unwrap().reply, Reply::Committed(1));
-            assert_eq!(Office::close(sessions).ok().unwrap().length(), 7);
+            assert_eq!(Office::close(sessions).unwrap().length(), 7);
         } else {
             drop(sessions);
         }
