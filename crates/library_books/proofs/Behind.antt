@@ -1,20 +1,8 @@
 -- What the walks of pointers that may be null share. Assumes `Logic`.
 use Rattle.std.proofs.Common.{◌≡◌, ℕ, List, [], ◌∷◌, refl, subst}
-use seplogic.Ra.Ura.{Ura}
-use mir.Syntax.{Ty, Sym, ty_bool}
-use mir.Val.{Val}
-use base.Logic.{SProp, sep, emp, via, never_e}
-use base.Stored.{Coded}
-use base.Fml.{Lft, Share, Fml, ftrue, fat}
-use contract.Monad.{fact, fact_i}
-use types.Logic.{Logic}
-use types.Kit.{Item, Goal, Seq, Step, step, prop, raw, ‵, given, learn, ◌$◌, !, qed, done, move, use0, use1}
-use denote.Exit.{Kept, Exit}
-use denote.Memory.{cell_raw}
-use denote.RattleType.{RattleType}
-use denote.RawPtr.{Ptr, block_ptr, null_ptr, InBlock, Testable}
+use Rattle.library_books.proofs.Walking.{Ura, Ty, ty_bool, Val, SProp, sep, emp, via, never_e, Share, Fml, ftrue, fat, fact, fact_i, Logic, Item, Goal, Seq, Step, step, prop, raw, ‵, given, learn, ◌$◌, !, qed, done}
+use Rattle.library_books.proofs.Walking.{move, use0, use1, cell_raw, RattleType, Ptr, block_ptr, null_ptr, InBlock, Testable, Owning}
 use denote.Struct.Field.{RawPtr-field}
-use denote.Struct.Owning.{Owning}
 
 module _ {M : Type 1} {𝓤 : Ura M} {𝓛 : Logic 𝓤} {K : Type 0} {Γ : List (Item 𝓤)} {G : Goal 𝓤 𝓛.H} where
   -- by the pointer's form
@@ -53,39 +41,26 @@ sized X ty = record X { mir = ty ∷ [] }
 
 -- a struct that begins with a pointer, and has what lies behind it as a ghost field
 pub record PointerTo (T : RattleType) : Type 2 where
-  pub name : Sym
-  pub D : Type 0
-  pub coded : Coded D
-  pub exit : Kept → Exit D
-  pub shr_at : D → ℕ → ℕ → Lft → Fml
-  pub at : D → Ptr
-  pub testable : (d : D) → Testable (at d)
-  pub behind : D → T.Denot
+  pub owning : Owning
+  pub at : owning.D → Ptr
+  pub testable : (d : owning.D) → Testable (at d)
+  pub behind : owning.D → T.Denot
 
 -- one by its type
 abbrev pub pointer_of : (T : RattleType) (o : Owning) (at : o.D → Ptr) → ((d : o.D) → Testable (at d)) → (o.D → T.Denot) → PointerTo T
-pointer_of T o at testable behind = record {
-  name = o.name;
-  D = o.D;
-  coded = o.coded;
-  exit = o.exit;
-  shr_at = o.shr_at;
-  at = at;
-  testable = testable;
-  behind = behind;
-}
+pointer_of T o at testable behind = record { owning = o; at = at; testable = testable; behind = behind }
 
 -- the type of one with no other field, by what it owns beside its field
 abbrev pub pointing : (T : RattleType) → PointerTo T → (Ptr → T.Denot → Fml) → Owning
 pointing T P own = record {
-  name = P.name;
+  name = P.owning.name;
   args = [];
   types = [];
   parts = RawPtr-field ∷ [];
-  D = P.D;
+  D = P.owning.D;
   as_values = λ d. (P.at d, tt);
-  coded = P.coded;
+  coded = P.owning.coded;
   heap = λ d. own (P.at d) (P.behind d);
-  exit = P.exit;
-  shr_at = P.shr_at;
+  exit = P.owning.exit;
+  shr_at = P.owning.shr_at;
 }

@@ -1,52 +1,30 @@
 -- The walk of `get` of a pointer that may be null to what is only read, at all pointees at once: it copies what lies behind. Assumes `Logic`.
-use Rattle.std.proofs.Common.{◌≡◌, ◌≢◌, List, [], ◌∷◌, refl, sym, ap, ◌∙◌, subst, lit<, w8, w64, Bool, true, false, ◌&&◌, T as Holds, Some, None, MatchOption}
-use Rattle.std.proofs.raw_atomic.Walks.{proved}
-use seplogic.Ra.Ura.{Ura}
-use mir.Syntax.{Ty, Fn, Body, Callee, named, ty_ptr, ty_bool, local, value_local, place, deref, field, copy, int, assign, rv_opd, op2, ptr_eq, cond, seq, aggregate, return, skip, block}
+use Rattle.std.proofs.Common.{◌≡◌, ◌≢◌, List, [], ◌∷◌, refl, sym, ap, ◌∙◌, subst, lit<, w8, w64, T as Holds, Some, None, MatchOption}
+use Rattle.library_books.proofs.Walking.{proved, Ura, Ty, Fn, Body, Callee, named, ty_ptr, ty_bool, local, value_local, place, deref, field, copy, int, assign, rv_opd, op2, ptr_eq, cond, seq, aggregate, return, skip, block, Val}
+use Rattle.library_books.proofs.Walking.{of_list, has_ty, WT, full_share, sep, emp, Share, ftrue, fsep, fat, flft, Model, Closed, fact, Running, tables, Logic, whole, sub, look_in, agg, ‵, ◌⊛◌, at_ret, ◌$◌, ◌∵◌, !, qed, done}
+use Rattle.library_books.proofs.Walking.{move, keep, use0, use1, split, join, fsplit, fsplit3, fjoin, fpick, fpack, rewrite, suffices, frame, group, enter, of_opd, lit, bin, load, look, stop, fld, no_more, and_then, first, blocks}
+use Rattle.library_books.proofs.Walking.{branches, skips, exec, returns, returns_within, well_typed, is, alloc_all, pass_all, free_all, look_at, get, through, sets, sets_last, env, RefMutOf, yes, shows, cell_at, cell_raw}
+use Rattle.library_books.proofs.Walking.{RattleType, Ptr, block_ptr, null_ptr, ptr_val, Testable, tests_null, lies_at, MutRef, mut_vals, mut_Tells, Signature, plain, nothing, opens, closes, peeks, RawPtr-laws, layout, Owning, row}
+use Rattle.library_books.proofs.Walking.{shape, Tells-lowered, Clauses, Ended, closing, Meets, Stays, walk_of, stay_ref, Goes-ref, ends_at}
 use mir.Raw.{raw as raw_ty}
-use mir.Val.{Val, of_list, has_ty, WT}
-use base.Fraction.{full_share}
-use base.Logic.{sep, emp}
-use base.Fml.{Share, ftrue, fsep, fat, flft}
-use prog.Model.{Model}
-use prog.Wp.{Closed}
-use contract.Monad.{fact}
-use contract.Running.{Running, tables}
-use types.Logic.{Logic}
-use types.Part.{whole, sub, look_in, agg}
-use types.Kit.{‵, ◌⊛◌, at_ret, ◌$◌, ◌∵◌, !, qed, done, move, keep, use0, use1, split, join, fsplit, fsplit3, fjoin, fpick, fpack, rewrite, suffices, frame, group}
 use types.Match.{live}
-use types.Run.{enter, of_opd, lit, bin, load, look, stop, fld, no_more, and_then, first, blocks, branches, skips, exec, returns, returns_within, well_typed}
-use types.ByLocal.{is, alloc_all, pass_all, free_all, look_at, get, through, sets, sets_last, env}
-use denote.Builtin.{RefMutOf}
-use denote.Exit.{yes}
-use denote.Laws.{shows}
-use denote.Memory.{cell_at, cell_raw, part_of}
+use denote.Memory.{part_of}
 use denote.Param.Laws.{IsCopy}
-use denote.RattleType.{RattleType}
-use denote.RawPtr.{Ptr, block_ptr, null_ptr, ptr_val, Testable, tests_null, lies_at}
-use denote.Ref.{MutRef, mut_vals, mut_Tells}
-use denote.Signature.{Signature, plain}
-use denote.Steps.{nothing, opens, closes, peeks}
-use denote.Struct.Laws.{RawPtr-laws}
-use denote.Struct.Struct.{layout}
-use denote.Struct.Owning.{Owning, row, shape}
-use denote.Struct.OwningLaws.{Tells-lowered}
-use denote.Triple.Clauses.{Clauses, Ended, closing}
-use denote.Triple.Spec.{Meets}
-use denote.Triple.Walked.{Stays, walk_of, stay_ref, Goes-ref, ends_at}
 use Rattle.core.specs.contracts.option.Option as OP
 use Rattle.core.proofs.option.Made.{Some-of, none_of}
+use Rattle.std_alloc.proofs.ResultValues.{and_tt}
 use Rattle.library_books.specs.Behind.{maybe_shared}
-use Rattle.library_books.proofs.Behind.{PointerTo, pointing, null_or_block, one_value, says_both, not_null, first_of, sized}
+use Rattle.library_books.proofs.Behind.{PointerTo, pointing, null_or_block, one_value, says_both, not_null, first_of, sized, pointer_of}
 
-and_true : (x : Bool) → Holds x → Holds (x && true)
-and_true true t = t
-and_true false t = t
+module _ (X : RattleType) (copies : IsCopy (sized X (first_of X.mir))) (O : Owning) (at : O.D → Ptr) (testable : (d : O.D) → Testable (at d)) (behind : O.D → X.Denot) where
+  abbrev ty : Ty
+  ty = first_of X.mir
 
-module _ (X : RattleType) (ty : Ty) (copies : IsCopy (sized X ty)) (P : PointerTo (sized X ty)) where
   abbrev T : RattleType
   T = sized X ty
+
+  abbrev P : PointerTo T
+  P = pointer_of T O at testable behind
 
   abbrev pub the_type : Owning
   the_type = pointing T P (maybe_shared T)
@@ -98,7 +76,7 @@ module _ (X : RattleType) (ty : Ty) (copies : IsCopy (sized X ty)) (P : PointerT
         (seq (cond (copy (place 3 [])) (seq (assign (place 0 []) (aggregate (int w8 0 ∷ []))) return) skip) t-4));
   }
 
-  module _ {M : Type 1} (𝓤 : Ura M) (𝓛 : Logic 𝓤) (𝓜 : Model 𝓤 𝓛.H) (𝓡 : Running 𝓤 𝓛.H 𝓜) (k : Callee) where
+  module _ {M : Type 1} (𝓤 : Ura M) (𝓛 : Logic 𝓤) (𝓜 : Model 𝓤 𝓛.H) (𝓡 : Running 𝓤 𝓛.H 𝓜) {k : Callee} where
     pub copies_out : Closed 𝓤 𝓛.H (tables 𝓤 𝓛.H 𝓜 𝓡 𝓡.env).C (tables 𝓤 𝓛.H 𝓜 𝓡 𝓡.env).Λ k function
         → Meets 𝓛 signature (𝓡.run (𝓡.env k)) (closing 𝓛 ended (clauses 𝓛))
     unfolding part_of
@@ -140,7 +118,7 @@ module _ (X : RattleType) (ty : Ty) (copies : IsCopy (sized X ty)) (P : PointerT
         sets ! (bin ! (get ! refl) (lit ! tt) (tests_null (block_ptr b' o') (subst Testable e (P.testable h)))) refl (tt, tt) $
         first ! $ branches ! (get ! refl) (λ t. absurd t)
         (λ t. skips ! $ exec ! 𝓣.C 𝓣.Λ (env function.locals l) t-4 (at_ret (env function.locals l) (W.post y)) $
-        let is_some : Holds (has_ty option_ty (live 1 (of_list (v ∷ [])))) × WT (live 1 (of_list (v ∷ []))) = (and_true _ good.0, (record { fits = lit< tt }, (good.1, tt))) in
+        let is_some : Holds (has_ty option_ty (live 1 (of_list (v ∷ [])))) × WT (live 1 (of_list (v ∷ []))) = (and_tt _ good.0, (record { fits = lit< tt }, (good.1, tt))) in
         first ! $ blocks ! $ sets ! (of_opd ! (load ! (through ! refl (stop !)) (look ! 0 refl))) refl good $
         sets_last ! (agg ! (and_then ! (lit ! tt) (and_then ! (get ! refl) (no_more !)))) refl is_some $
         exec ! 𝓣.C 𝓣.Λ (env function.locals l) t-5 (at_ret (env function.locals l) (W.post y)) $

@@ -1,47 +1,24 @@
 -- The walks of lists that may be null, at all items at once: `is_null`, and `items`, which lends them. Assumes `Logic`.
-use Rattle.std.proofs.Common.{◌≡◌, ℕ, zero, suc, ◌*◌, ◌^◌, ◌<◌, List, [], ◌∷◌, length, refl, sym, ap, ◌∙◌, subst, lit<, arith, zero-mul, eqb→eq, true≢false, true, false, IsTrue, ◌↔◌, w64, T as Holds, MutBor}
+use Rattle.std.proofs.Common.{◌≡◌, ℕ, zero, suc, ◌*◌, ◌^◌, ◌<◌, List, [], ◌∷◌, length, refl, sym, ap, ◌∙◌, subst, lit<, arith, zero-mul, eqb→eq, true≢false, true, false, IsTrue, ◌↔◌, w64, MutBor}
+use Rattle.library_books.proofs.Walking.{proved, Ura, Fn, Body, Callee, named, erased, ty_ptr, ty_bool, ty_int, local, value_local, place, deref, field, copy, int, assign, rv_opd, opd_false, op2, eq, ptr_eq, cond, seq}
+use Rattle.library_books.proofs.Walking.{aggregate, return, skip, block, addr_of, Val, vint, vbool, full_share, ent, sep, emp, GName, Fml, ftrue, fsep, feq, flft, Model, Closed, fact, Running, tables, Logic, sem}
+use Rattle.library_books.proofs.Walking.{whole, sub, look_in, agg, Item, Goal, Seq, ‵, raw, ◌⊛◌, some, later, at_ret, ◌$◌, ◌∵◌, !, qed, done, move, keep, drop, use1, split, split3, join, fsplit, fsplit3, fjoin, fpack, feq_l}
+use Rattle.library_books.proofs.Walking.{feq_i, flt_l, flt_i, pick, await, rewrite, suffices, frame, group, enter, of_opd, lit, false_lit, bin, addr, load, stop, fld, no_more, and_then, first, blocks, branches, skips, exec}
+use Rattle.library_books.proofs.Walking.{returns, returns_within, is, alloc_all, pass_all, free_all, look_at, get, through, sets, sets_last, env, bool, RefMutOf, SliceRefMutOf, yes, no, shows, mem, cell_at, part_at, RattleType}
+use Rattle.library_books.proofs.Walking.{Ptr, block_ptr, null_ptr, ptr_val, Testable, tests_null, MutRef, mut_vals, mut_Tells, Signature, plain, mut_ref_to, nothing, heard, opens, closes, peeks, RawPtr-laws, usize-laws, Struct}
+use Rattle.library_books.proofs.Walking.{layout, Owning, row, shape, Tells-lowered, Clauses, Ended, closing, Meets, Stays, walk_of, says, stay_dropped, stay_ref, Goes-ref, Goes-spent_ref, ends_at}
 use Rattle.std.proofs.lemmas.List.{nil_from_length}
-use Rattle.std.proofs.raw_atomic.Walks.{proved}
 use Rattle.std.specs.Borrow.{Lends}
-use seplogic.Ra.Ura.{Ura}
-use mir.Syntax.{Ty, Fn, Body, Callee, named, erased, ty_ptr, ty_bool, ty_int, local, value_local, place, deref, field, copy, int, assign, rv_opd, opd_false, op2, eq, ptr_eq, cond, seq, aggregate, return, skip, block, addr_of}
-use mir.Val.{Val, vint, vbool, has_ty, WT}
-use base.Fraction.{full_share}
-use base.Logic.{ent, sep, emp}
-use base.Fml.{GName, Fml, ftrue, fsep, feq, flft}
-use prog.Model.{Model}
-use prog.Wp.{Closed}
-use contract.Monad.{fact}
-use contract.Running.{Running, tables}
-use types.Logic.{Logic, sem}
-use types.Part.{whole, sub, look_in, agg}
-use types.Kit.{Item, Goal, Seq, ‵, raw, ◌⊛◌, some, later, at_ret, ◌$◌, ◌∵◌, !, qed, done, move, keep, drop, use1, split, split3, join, fsplit, fsplit3, fjoin, fpack, feq_l, feq_i, flt_l, flt_i, pick, await, rewrite, suffices, frame, group}
-use types.Run.{enter, of_opd, lit, false_lit, bin, addr, load, stop, fld, no_more, and_then, first, blocks, branches, skips, exec, returns, returns_within}
-use types.ByLocal.{is, alloc_all, pass_all, free_all, look_at, get, through, sets, sets_last, env}
 use types.SemTy.{Arr, cells}
 use denote.Array.{Array}
 use denote.ArrayMemory.{Array-apart, Array-whole}
-use denote.Builtin.{bool, RefMutOf, SliceRefMutOf}
-use denote.Exit.{yes, no}
 use denote.Follow.{follows}
 use denote.FollowSlice.{lends_Elements}
-use denote.Laws.{shows}
-use denote.Memory.{mem, cell_at, part_of, part_at}
-use denote.RattleType.{RattleType}
-use denote.RawPtr.{Ptr, block_ptr, null_ptr, ptr_val, Testable, tests_null}
-use denote.Ref.{MutRef, mut_vals, mut_Tells}
-use denote.Signature.{Signature, plain, mut_ref_to}
+use denote.Memory.{part_of}
 use denote.Slice.{MutSlice, slice_val}
-use denote.Steps.{nothing, heard, opens, closes, peeks}
 use denote.Struct.Field.{RawPtr-field, usize-field}
-use denote.Struct.Laws.{RawPtr-laws, usize-laws}
-use denote.Struct.Struct.{Struct, layout}
-use denote.Struct.Owning.{Owning, row, shape}
-use denote.Struct.OwningLaws.{Tells-lowered}
-use denote.Triple.Clauses.{Clauses, Ended, closing}
-use denote.Triple.Spec.{Meets}
-use denote.Triple.Walked.{Stays, walk_of, says, stay_dropped, stay_ref, Goes-ref, Goes-spent_ref, ends_at}
 use Rattle.library_books.specs.Behind.{items_at, list_at}
+use Rattle.library_books.proofs.PointerValues.{ptr_typed}
 use Rattle.library_books.proofs.Behind.{PointerTo, null_or_block, says_both, not_null, first_of, sized, pointer_of}
 
 module _ {M : Type 1} {𝓤 : Ura M} {𝓛 : Logic 𝓤} {K : Type 0} {Γ : List (Item 𝓤)} {G : Goal 𝓤 𝓛.H} where
@@ -60,11 +37,6 @@ module _ {X : Type 1} where
   by_pointer null_ptr k h = k refl
   by_pointer (block_ptr b o) k h = h b o refl
 
--- a pointer's machine value has the type of pointers
-pub ptr_good : (p : Ptr) → Holds (has_ty ty_ptr (ptr_val p)) × WT (ptr_val p)
-ptr_good (block_ptr b o) = (tt, tt)
-ptr_good null_ptr = (tt, record { fits = lit< tt })
-
 module _ {M : Type 1} {𝓤 : Ura M} (𝓛 : Logic 𝓤) (R T : RattleType) (F : List T.Denot → R.Denot) (A : Fml) (us : List Val) (b o b' o' : ℕ) (xs : List T.Denot) where
   -- all but the items
   abbrev pub Rest : Fml
@@ -80,19 +52,19 @@ module _ {M : Type 1} {𝓤 : Ura M} (𝓛 : Logic 𝓤) (R T : RattleType) (F :
       fpack ! (List Val) (λ vs. fsep (cell_at full_share R.mir vs b o) (R.own_val (F ws) vs)) us $ done !
 
 -- a struct of a pointer and a number, with the items behind the pointer as a ghost field
-pub record ListOf (T : RattleType) : Type 2 where
-  pub pointer : PointerTo (Array T 0)
-  pub room : pointer.D → ℕ
-  pub with_behind : pointer.D → List T.Denot → pointer.D
-  pub at_stays : (d : pointer.D) (xs : List T.Denot) → pointer.at (with_behind d xs) ≡ pointer.at d
-  pub room_stays : (d : pointer.D) (xs : List T.Denot) → room (with_behind d xs) ≡ room d
-  pub is_behind : (d : pointer.D) (xs : List T.Denot) → pointer.behind (with_behind d xs) ≡ xs
+pub record ListOf (X : RattleType) : Type 2 where
+  pub pointer : PointerTo (Array (sized X (first_of X.mir)) 0)
+  pub room : pointer.owning.D → ℕ
+  pub with_behind : pointer.owning.D → List X.Denot → pointer.owning.D
+  pub at_stays : (d : pointer.owning.D) (xs : List X.Denot) → pointer.at (with_behind d xs) ≡ pointer.at d
+  pub room_stays : (d : pointer.owning.D) (xs : List X.Denot) → room (with_behind d xs) ≡ room d
+  pub is_behind : (d : pointer.owning.D) (xs : List X.Denot) → pointer.behind (with_behind d xs) ≡ xs
 
 -- one by its type
-abbrev pub list_of : (T : RattleType) (o : Owning) (at : o.D → Ptr) → ((d : o.D) → Testable (at d)) → (behind : o.D → List T.Denot) (room : o.D → ℕ) (with_behind : o.D → List T.Denot → o.D)
-    → ((d : o.D) (xs : List T.Denot) → at (with_behind d xs) ≡ at d) → ((d : o.D) (xs : List T.Denot) → room (with_behind d xs) ≡ room d) → ((d : o.D) (xs : List T.Denot) → behind (with_behind d xs) ≡ xs) → ListOf T
-list_of T o at testable behind room with_behind at_stays room_stays is_behind = record {
-  pointer = pointer_of (Array T 0) o at testable behind;
+abbrev pub list_of : (X : RattleType) (o : Owning) (at : o.D → Ptr) → ((d : o.D) → Testable (at d)) → (behind : o.D → List X.Denot) (room : o.D → ℕ) (with_behind : o.D → List X.Denot → o.D)
+    → ((d : o.D) (xs : List X.Denot) → at (with_behind d xs) ≡ at d) → ((d : o.D) (xs : List X.Denot) → room (with_behind d xs) ≡ room d) → ((d : o.D) (xs : List X.Denot) → behind (with_behind d xs) ≡ xs) → ListOf X
+list_of X o at testable behind room with_behind at_stays room_stays is_behind = record {
+  pointer = pointer_of (Array (sized X (first_of X.mir)) 0) o at testable behind;
   room = room;
   with_behind = with_behind;
   at_stays = at_stays;
@@ -100,22 +72,22 @@ list_of T o at testable behind room with_behind at_stays room_stays is_behind = 
   is_behind = is_behind;
 }
 
-module _ (X : RattleType) (ty : Ty) (P : ListOf (sized X ty)) where
+module _ {X : RattleType} (P : ListOf X) where
   abbrev T : RattleType
-  T = sized X ty
+  T = sized X (first_of X.mir)
 
   abbrev pub the_type : Owning
   the_type = record {
-    name = P.pointer.name;
+    name = P.pointer.owning.name;
     args = [];
     types = [];
     parts = RawPtr-field ∷ usize-field ∷ [];
-    D = P.pointer.D;
+    D = P.pointer.owning.D;
     as_values = λ d. (P.pointer.at d, (P.room d, tt));
-    coded = P.pointer.coded;
+    coded = P.pointer.owning.coded;
     heap = λ d. list_at T (P.room d) (P.pointer.at d) (P.pointer.behind d);
-    exit = P.pointer.exit;
-    shr_at = P.pointer.shr_at;
+    exit = P.pointer.owning.exit;
+    shr_at = P.pointer.owning.shr_at;
   }
 
   abbrev pub R : RattleType
@@ -125,7 +97,7 @@ module _ (X : RattleType) (ty : Ty) (P : ListOf (sized X ty)) where
   abbrev fields_own : Ptr → ℕ → List Val → Fml
   fields_own p n us = (Struct (shape the_type)).own_val (p, (n, tt)) us
 
-  abbrev pub IsNull : P.pointer.D → Type 0
+  abbrev pub IsNull : P.pointer.owning.D → Type 0
   IsNull d = (P.pointer.at d ≡ null_ptr) × (0 < P.room d)
 
   -- the items
@@ -143,7 +115,7 @@ module _ (X : RattleType) (ty : Ty) (P : ListOf (sized X ty)) where
   abbrev items_stayed : Stays items_ended.signature.params items_ended.kept
   items_stayed = (stay_dropped (mut_ref_to (0 ∷ []) tt (plain (λ _. R))) no, tt)
 
-  abbrev pub items_clauses : {M : Type 1} {𝓤 : Ura M} (𝓛 : Logic 𝓤) → (P.pointer.D → Type 0) → Clauses 𝓤 items_ended
+  abbrev pub items_clauses : {M : Type 1} {𝓤 : Ura M} (𝓛 : Logic 𝓤) → (P.pointer.owning.D → Type 0) → Clauses 𝓤 items_ended
   items_clauses {𝓤 = 𝓤} 𝓛 Null κs a = record {
     ghost = Unit {0};
     requires = λ _. fact 𝓤 (Null a.0.now → ⊥);
@@ -176,14 +148,14 @@ module _ (X : RattleType) (ty : Ty) (P : ListOf (sized X ty)) where
   }
 
   -- the list with other items, of the same pointer and number
-  opened : (h : P.pointer.D) (us : List Val) (ws : List X.Denot) → R.own_val (P.with_behind h ws) us ≡ fsep (fields_own (P.pointer.at h) (P.room h) us) (list_at T (P.room h) (P.pointer.at h) ws)
+  opened : (h : P.pointer.owning.D) (us : List Val) (ws : List X.Denot) → R.own_val (P.with_behind h ws) us ≡ fsep (fields_own (P.pointer.at h) (P.room h) us) (list_at T (P.room h) (P.pointer.at h) ws)
   opened h us ws =
       ap (λ (p : Ptr). fsep (fields_own p (P.room (P.with_behind h ws)) us) (list_at T (P.room (P.with_behind h ws)) p (P.pointer.behind (P.with_behind h ws)))) (P.at_stays h ws)
       ∙ ap (λ (n : ℕ). fsep (fields_own (P.pointer.at h) n us) (list_at T n (P.pointer.at h) (P.pointer.behind (P.with_behind h ws)))) (P.room_stays h ws)
       ∙ ap (λ (zs : List X.Denot). fsep (fields_own (P.pointer.at h) (P.room h) us) (list_at T (P.room h) (P.pointer.at h) zs)) (P.is_behind h ws)
 
-  module _ {M : Type 1} (𝓤 : Ura M) (𝓛 : Logic 𝓤) (𝓜 : Model 𝓤 𝓛.H) (𝓡 : Running 𝓤 𝓛.H 𝓜) (k : Callee) where
-    pub items_lent : (Null : P.pointer.D → Type 0) → ((d : P.pointer.D) → IsNull d → Null d)
+  module _ {M : Type 1} (𝓤 : Ura M) (𝓛 : Logic 𝓤) (𝓜 : Model 𝓤 𝓛.H) (𝓡 : Running 𝓤 𝓛.H 𝓜) {k : Callee} where
+    pub items_lent : (Null : P.pointer.owning.D → Type 0) → ((d : P.pointer.owning.D) → IsNull d → Null d)
         → Closed 𝓤 𝓛.H (tables 𝓤 𝓛.H 𝓜 𝓡 𝓡.env).C (tables 𝓤 𝓛.H 𝓜 𝓡 𝓡.env).Λ k items_function
         → Meets 𝓛 items_signature (𝓡.run (𝓡.env k)) (closing 𝓛 items_ended (items_clauses 𝓛 Null))
     items_lent Null nulls closed =
@@ -209,7 +181,7 @@ module _ (X : RattleType) (ty : Ty) (P : ListOf (sized X ty)) where
         (λ e. feq_l ! (λ none. rewrite ! 1 Cell word refl $
         -- [the fields; the struct's cell; the open borrow, in three entries]
         sets ! (is ! (of_opd ! (load ! (through ! refl (fld ! refl (stop !))) (look_in ! 1 (sub ! 1 refl (whole !))))) (ap (vint w64) e)) refl (tt, record { fits = lit< tt }) $
-        sets ! (of_opd ! (load ! (through ! refl (fld ! refl (stop !))) (look_in ! 1 (sub ! 0 refl (whole !))))) refl (ptr_good (P.pointer.at h)) $
+        sets ! (of_opd ! (load ! (through ! refl (fld ! refl (stop !))) (look_in ! 1 (sub ! 0 refl (whole !))))) refl (ptr_typed (P.pointer.at h)) $
         sets ! (bin ! (get ! refl) (lit ! tt) tt) refl (tt, tt) $
         first ! $ branches ! (get ! refl)
         (λ t. rewrite ! 1 Cell (sym word) refl $ sets ! (addr ! (through ! refl (stop !))) refl (tt, tt) $ sets_last ! (of_opd ! (get ! refl)) refl (tt, tt) $
@@ -276,7 +248,7 @@ module _ (X : RattleType) (ty : Ty) (P : ListOf (sized X ty)) where
   abbrev null_stayed : Stays null_ended.signature.params null_ended.kept
   null_stayed = (stay_ref (0 ∷ []) tt (plain (λ _. R)), tt)
 
-  abbrev pub null_clauses : {M : Type 1} {𝓤 : Ura M} (𝓛 : Logic 𝓤) → (P.pointer.D → Type 0) → Clauses 𝓤 null_ended
+  abbrev pub null_clauses : {M : Type 1} {𝓤 : Ura M} (𝓛 : Logic 𝓤) → (P.pointer.owning.D → Type 0) → Clauses 𝓤 null_ended
   null_clauses {𝓤 = 𝓤} 𝓛 Null κs a = record {
     ghost = Unit {0};
     requires = λ _. emp 𝓤;
@@ -314,7 +286,7 @@ module _ (X : RattleType) (ty : Ty) (P : ListOf (sized X ty)) where
         (seq (cond (copy (place 4 [])) (seq (assign (place 0 []) (rv_opd opd_false)) return) skip) null-4));
   }
 
-  module _ {M : Type 1} (𝓤 : Ura M) (𝓛 : Logic 𝓤) (𝓜 : Model 𝓤 𝓛.H) (𝓡 : Running 𝓤 𝓛.H 𝓜) (k : Callee) where
+  module _ {M : Type 1} (𝓤 : Ura M) (𝓛 : Logic 𝓤) (𝓜 : Model 𝓤 𝓛.H) (𝓡 : Running 𝓤 𝓛.H 𝓜) {k : Callee} where
     pub tells_null_at : Closed 𝓤 𝓛.H (tables 𝓤 𝓛.H 𝓜 𝓡 𝓡.env).C (tables 𝓤 𝓛.H 𝓜 𝓡 𝓡.env).Λ k at_function
         → Meets 𝓛 null_signature (𝓡.run (𝓡.env k)) (closing 𝓛 null_ended (null_clauses 𝓛 (λ d. P.pointer.at d ≡ null_ptr)))
     tells_null_at closed =
@@ -323,9 +295,7 @@ module _ (X : RattleType) (ty : Ty) (P : ListOf (sized X ty)) where
         k at_function closed
         (λ κs. (mut_vals, tt)) (λ κs. (mut_Tells (named 0) κs.0 R, tt)) (λ κs qs bounds a _ are.
         let b = a.0.ref_ptr.0 in let o = a.0.ref_ptr.1 in let γ = a.0.ghost_name in let h = a.0.now in let vs = mut_vals a.0 in
-        let xs = P.pointer.behind h in
         let y : W.Ghost = ((κs, qs, bounds, a, (vs, tt)), tt) in
-        let Lent : RattleType = MutSlice (named 0) κs.0 T in
         qed 𝓛 (((‵ (flft κs.0 qs.0) ⊛ ‵ ftrue) ⊛ ‵ ((MutRef (named 0) κs.0 R).own_val a.0 vs) ⊛ ‵ ftrue) ∷ ‵ ftrue ∷ []) ∵
         split ! $ split ! $ move ! (2 ∷ []) $ split ! $ keep ! (0 ∷ 2 ∷ []) $
         enter ! _ _ _ _ _ $ alloc_all ! (λ l. pass_all ! refl ((tt, tt), tt) $
@@ -334,8 +304,6 @@ module _ (X : RattleType) (ty : Ty) (P : ListOf (sized X ty)) where
         move ! (1 ∷ []) $ peeks ! R _ (shows 𝓛 R) h us (λ is_us.
         let Cell = λ (ws : List Val). ‵ (cell_at full_share R.mir ws b o) in
         let word = Tells-lowered the_type (RawPtr-laws, (usize-laws, tt)) h us is_us in
-        let A : Fml = fields_own (P.pointer.at h) (P.room h) us in
-        let fits : P.room h < 2 ^ 64 = is_us.0.1.1.1.0.1 in
         rewrite ! 1 Cell word refl $
         -- [the value; the struct's cell; the open borrow, in three entries]
         by_pointer (P.pointer.at h)
@@ -362,9 +330,7 @@ module _ (X : RattleType) (ty : Ty) (P : ListOf (sized X ty)) where
         k null_function closed
         (λ κs. (mut_vals, tt)) (λ κs. (mut_Tells (named 0) κs.0 R, tt)) (λ κs qs bounds a _ are.
         let b = a.0.ref_ptr.0 in let o = a.0.ref_ptr.1 in let γ = a.0.ghost_name in let h = a.0.now in let vs = mut_vals a.0 in
-        let xs = P.pointer.behind h in
         let y : W.Ghost = ((κs, qs, bounds, a, (vs, tt)), tt) in
-        let Lent : RattleType = MutSlice (named 0) κs.0 T in
         qed 𝓛 (((‵ (flft κs.0 qs.0) ⊛ ‵ ftrue) ⊛ ‵ ((MutRef (named 0) κs.0 R).own_val a.0 vs) ⊛ ‵ ftrue) ∷ ‵ ftrue ∷ []) ∵
         split ! $ split ! $ move ! (2 ∷ []) $ split ! $ keep ! (0 ∷ 2 ∷ []) $
         enter ! _ _ _ _ _ $ alloc_all ! (λ l. pass_all ! refl ((tt, tt), tt) $
@@ -373,7 +339,6 @@ module _ (X : RattleType) (ty : Ty) (P : ListOf (sized X ty)) where
         move ! (1 ∷ []) $ peeks ! R _ (shows 𝓛 R) h us (λ is_us.
         let Cell = λ (ws : List Val). ‵ (cell_at full_share R.mir ws b o) in
         let word = Tells-lowered the_type (RawPtr-laws, (usize-laws, tt)) h us is_us in
-        let A : Fml = fields_own (P.pointer.at h) (P.room h) us in
         let fits : P.room h < 2 ^ 64 = is_us.0.1.1.1.0.1 in
         rewrite ! 1 Cell word refl $
         -- [the value; the struct's cell; the open borrow, in three entries]

@@ -1,45 +1,20 @@
 -- The walk of `get` of a pointer that may be null and lends what lies behind it, at all pointees at once. Assumes `Logic`.
 use Rattle.std.proofs.Common.{◌≡◌, ◌≢◌, ℕ, List, [], ◌∷◌, refl, sym, ap, ap₂, ◌∙◌, subst, lit<, w8, w64, Some, None, MatchOption}
-use Rattle.std.proofs.raw_atomic.Walks.{proved}
+use Rattle.library_books.proofs.Walking.{proved, Ura, Ty, Fn, Body, Callee, named, erased, ty_ptr, ty_bool, local, value_local, place, deref, field, copy, int, assign, rv_opd, op2, ptr_eq, cond, seq, aggregate, return, skip}
+use Rattle.library_books.proofs.Walking.{block, addr_of, Val, vptr, of_list, full_share, ent, sep, emp, id⊢, GName, Fml, ftrue, fsep, fres, flft, Model, Closed, fact, Running, tables, Logic, sem, whole, sub, look_in, agg, ‵, ◌⊛◌}
+use Rattle.library_books.proofs.Walking.{some, later, at_ret, ◌$◌, ◌∵◌, !, qed, done, move, keep, use0, use1, split, split3, join, fsplit, fsplit3, fjoin, fpack, pick, await, rewrite, suffices, frame, group, enter, of_opd, lit}
+use Rattle.library_books.proofs.Walking.{bin, addr, load, stop, fld, no_more, and_then, first, blocks, branches, skips, exec, returns, returns_within, is, alloc_all, pass_all, free_all, look_at, get, through, sets, sets_last, env}
+use Rattle.library_books.proofs.Walking.{RefMutOf, no, shows, mem, cell_at, RattleType, Ptr, block_ptr, null_ptr, ptr_val, Testable, tests_null, lies_at, MutRef, mut_vals, mut_Tells, Signature, plain, type_at, mut_ref_to, nothing}
+use Rattle.library_books.proofs.Walking.{opens, closes, peeks, RawPtr-laws, Struct, layout, Owning, row, shape, Tells-lowered, Clauses, Ended, closing, Meets, Stays, walk_of, says, stay_dropped, Goes-spent_ref, ends_at}
 use Rattle.std.specs.Borrow.{LendsIf}
 use mathlib.Core.Option as maybe
-use seplogic.Ra.Ura.{Ura}
-use mir.Syntax.{Ty, Fn, Body, Callee, named, erased, ty_ptr, ty_bool, local, value_local, place, deref, field, copy, int, assign, rv_opd, op2, ptr_eq, cond, seq, aggregate, return, skip, block, addr_of}
-use mir.Val.{Val, vptr, of_list}
-use base.Fraction.{full_share}
-use base.Logic.{ent, sep, emp, id⊢}
-use base.Fml.{GName, Fml, ftrue, fsep, fres, flft}
-use prog.Model.{Model}
-use prog.Wp.{Closed}
-use contract.Monad.{fact}
-use contract.Running.{Running, tables}
-use types.Logic.{Logic, sem}
-use types.Part.{whole, sub, look_in, agg}
-use types.Kit.{‵, ◌⊛◌, some, later, at_ret, ◌$◌, ◌∵◌, !, qed, done, move, keep, use0, use1, split, split3, join, fsplit, fsplit3, fjoin, fpack, pick, await, rewrite, suffices, frame, group}
 use types.Match.{live}
-use types.Run.{enter, of_opd, lit, bin, addr, load, stop, fld, no_more, and_then, first, blocks, branches, skips, exec, returns, returns_within}
-use types.ByLocal.{is, alloc_all, pass_all, free_all, look_at, get, through, sets, sets_last, env}
-use denote.Builtin.{RefMutOf}
-use denote.Exit.{no}
 use denote.Follow.{follows, follows_if, follows_by, lends_Part}
-use denote.Laws.{shows}
-use denote.Memory.{mem, cell_at, part_of}
-use denote.RattleType.{RattleType}
-use denote.RawPtr.{Ptr, block_ptr, null_ptr, ptr_val, Testable, tests_null, lies_at}
-use denote.Ref.{MutRef, mut_vals, mut_Tells}
-use denote.Signature.{Signature, plain, type_at, mut_ref_to}
-use denote.Steps.{nothing, opens, closes, peeks}
-use denote.Struct.Laws.{RawPtr-laws}
-use denote.Struct.Struct.{Struct, layout}
-use denote.Struct.Owning.{Owning, row, shape}
-use denote.Struct.OwningLaws.{Tells-lowered}
-use denote.Triple.Clauses.{Clauses, Ended, closing}
-use denote.Triple.Spec.{Meets}
-use denote.Triple.Walked.{Stays, walk_of, says, stay_dropped, Goes-spent_ref, ends_at}
+use denote.Memory.{part_of}
 use Rattle.core.specs.contracts.option.Option as OP
 use Rattle.core.proofs.option.Made.{Some-of, none_of}
 use Rattle.library_books.specs.Behind.{maybe_at}
-use Rattle.library_books.proofs.Behind.{PointerTo, pointing, null_or_block, not_null, first_of, sized}
+use Rattle.library_books.proofs.Behind.{PointerTo, pointing, null_or_block, not_null, first_of, sized, pointer_of}
 
 module _ {M : Type 1} {𝓤 : Ura M} (𝓛 : Logic 𝓤) (R T : RattleType) (F : T.Denot → R.Denot) where
   -- what a reference that lends nothing ends as
@@ -64,10 +39,16 @@ module _ {M : Type 1} {𝓤 : Ura M} (𝓛 : Logic 𝓤) (R T : RattleType) (F :
         rewrite ! 0 (λ (X : Fml). ‵ X) (sym (e w)) refl $ move ! (1 ∷ 0 ∷ []) $ fjoin ! $
         fpack ! (List Val) (λ vs. fsep (cell_at full_share R.mir vs b o) (R.own_val (F w) vs)) us $ done !
 
-module _ (X : RattleType) (ty : Ty) (P : PointerTo (sized X ty)) (with_behind : P.D → X.Denot → P.D)
-    (at_stays : (d : P.D) (x : X.Denot) → P.at (with_behind d x) ≡ P.at d) (is_behind : (d : P.D) (x : X.Denot) → P.behind (with_behind d x) ≡ x) where
+module _ (X : RattleType) (O : Owning) (at : O.D → Ptr) (testable : (d : O.D) → Testable (at d)) (behind : O.D → X.Denot) (with_behind : O.D → X.Denot → O.D)
+    (at_stays : (d : O.D) (x : X.Denot) → at (with_behind d x) ≡ at d) (is_behind : (d : O.D) (x : X.Denot) → behind (with_behind d x) ≡ x) where
+  abbrev ty : Ty
+  ty = first_of X.mir
+
   abbrev T : RattleType
   T = sized X ty
+
+  abbrev P : PointerTo T
+  P = pointer_of T O at testable behind
 
   abbrev pub the_type : Owning
   the_type = pointing T P (maybe_at T)
@@ -127,7 +108,7 @@ module _ (X : RattleType) (ty : Ty) (P : PointerTo (sized X ty)) (with_behind : 
         (seq (cond (copy (place 3 [])) (seq (assign (place 0 []) (aggregate (int w8 0 ∷ []))) return) skip) t-4));
   }
 
-  module _ {M : Type 1} (𝓤 : Ura M) (𝓛 : Logic 𝓤) (𝓜 : Model 𝓤 𝓛.H) (𝓡 : Running 𝓤 𝓛.H 𝓜) (k : Callee) where
+  module _ {M : Type 1} (𝓤 : Ura M) (𝓛 : Logic 𝓤) (𝓜 : Model 𝓤 𝓛.H) (𝓡 : Running 𝓤 𝓛.H 𝓜) {k : Callee} where
     pub gets : Closed 𝓤 𝓛.H (tables 𝓤 𝓛.H 𝓜 𝓡 𝓡.env).C (tables 𝓤 𝓛.H 𝓜 𝓡 𝓡.env).Λ k function
         → Meets 𝓛 signature (𝓡.run (𝓡.env k)) (closing 𝓛 ended (clauses 𝓛))
     gets closed =

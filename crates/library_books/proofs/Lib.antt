@@ -1,3 +1,4 @@
+pub mod Walking
 pub mod PointerValues
 pub mod Moving
 pub mod HeldValues

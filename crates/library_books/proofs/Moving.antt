@@ -1,26 +1,11 @@
 -- Moving a pointer and an allocator from one struct to another. Assumes `Logic`.
 use Rattle.std.proofs.Common.{◌≡◌, ℕ, List, [], ◌∷◌, refl}
-use seplogic.Ra.Ura.{Ura}
-use mir.Syntax.{Fn, Ty, ty_ptr, ty_struct, tcons, tnil, local, value_local, seq, assign, return, place, field, copy, rv_opd, aggregate}
-use mir.Val.{Val}
-use base.Logic.{SProp, ent, emp, id⊢}
-use prog.Wp.{WpFn, Calls, Loops}
-use types.Logic.{Logic, sem}
-use types.Kit.{suffices, ‵, raw, ◌⊛◌, prop, ◌$◌, ◌∵◌, !, qed, by, move, drop, keep, use0, use1, split, regoal, fsplit, fjoin}
-use types.Part.{whole, sub, agg}
-use types.Run.{stop, fld, of_opd, no_more, and_then, returns, enter}
-use types.ByLocal.{alloc_all, pass_all, free_all, look_at, get, get_in, sets}
-use denote.Memory.{lone}
-use denote.RawPtr.{Ptr}
-use base.Fml.{Fml, ftrue, fsep}
-use denote.RattleType.{owns}
-use denote.Signature.{types_at, type_at}
-use denote.Steps.{nothing}
-use denote.Triple.Clauses.{Ended, Clauses, Lasts, at_exit}
+use Rattle.library_books.proofs.Walking.{Ura, Fn, Ty, ty_ptr, ty_struct, tcons, tnil, local, value_local, seq, assign, return, place, field, copy, rv_opd, aggregate, Val, SProp, ent, emp, id⊢, WpFn, Calls, Loops, Logic, sem}
+use Rattle.library_books.proofs.Walking.{suffices, ‵, raw, ◌⊛◌, prop, ◌$◌, ◌∵◌, !, qed, by, move, drop, keep, use0, use1, split, regoal, fsplit, fjoin, whole, sub, agg, stop, fld, of_opd, no_more, and_then, returns, enter}
+use Rattle.library_books.proofs.Walking.{alloc_all, pass_all, free_all, look_at, get, get_in, sets, lone, Ptr, Fml, ftrue, fsep, owns, types_at, type_at, nothing, Ended, Clauses, Lasts, at_exit, Stays, Fit, has_of, walk_of}
+use Rattle.library_books.proofs.Walking.{leaves}
 use denote.Triple.Entry.{Res, alive}
-use denote.Triple.Walked.{Stays, Fit, has_of, walk_of}
 use Rattle.std.specs.declared.alloc.Global.{Global}
-use Rattle.std.proofs.raw_atomic.Walks.{leaves}
 use Rattle.std.specs.contracts.alloc.Global as heap
 use Rattle.library_books.proofs.PointerValues.{word, own, made, ptr_typed, typed}
 

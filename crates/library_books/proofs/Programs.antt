@@ -1,7 +1,7 @@
 -- Why numbers encode no program, at which reply a program has stopped, and what was run on a book.
-use Rattle.std.proofs.Common.{◌≡◌, ◌≢◌, ◌⊎◌, inl, inr, ℕ, zero, suc, ◌+◌, List, [], ◌∷◌, ◌++◌, length, Some, slice_get, sym, ap, arith}
+use Rattle.std.proofs.Common.{◌≡◌, ◌⊎◌, inl, inr, ℕ, zero, suc, ◌+◌, List, [], ◌∷◌, ◌++◌, length, Some, slice_get, sym, ap, arith}
 use Rattle.lock_modes.specs.declared.Mode.{Mode}
-use Rattle.lock_rules.specs.declared.calls.Call.TheVariants.{Lock, Convert, Try, Release}
+use Rattle.lock_rules.specs.declared.calls.Call.TheVariants.{Lock, Convert, Try}
 use Rattle.lock_rules.specs.declared.calls.Reply.{Reply}
 use Rattle.lock_rules.specs.Entries.{Entry}
 use Rattle.lock_rules.specs.Legal.{IsLegal}
@@ -15,9 +15,8 @@ use Rattle.lock_programs.specs.Answers.{replies_of, program_form}
 use Rattle.lock_desk.specs.BookView.{BookView}
 use Rattle.lock_desk.specs.Batches.{TellsFrom}
 use Rattle.library_books.specs.declared.program_numbers.ProgramNumbers.{ProgramNumbers}
-use Rattle.library_books.specs.declared.program_numbers.TheConstants.{NO_CALL}
 use Rattle.library_books.specs.declared.status.TheConstants.{NOT_ON_PATH, NO_SUCH_ABOVE}
-use Rattle.library_books.specs.Numbers.{IsModeCode, IsCall, IsCallFault}
+use Rattle.library_books.specs.Numbers.{IsModeCode, IsCall}
 use Rattle.library_books.specs.Programs.{IsStart, IsOnPath, LeadsTo, IsProgramFault, HasRun, stop_number, stop_of}
 
 -- the last call is one on the resource that it names

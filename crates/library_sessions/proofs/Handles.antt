@@ -1,5 +1,5 @@
 -- Lists of handles, shares and sessions.
-use Rattle.std.proofs.Common.{◌≡◌, ℕ, zero, suc, ◌+◌, ◌<◌, List, [], ◌∷◌, ◌++◌, length, map, drop, set, refl, sym, ap, subst, ◌∙◌, arith}
+use Rattle.std.proofs.Common.{◌≡◌, ℕ, zero, suc, ◌+◌, List, [], ◌∷◌, ◌++◌, length, refl, sym, ap, subst, ◌∙◌, arith}
 use Rattle.std.proofs.lemmas.List.{length-append}
 use Rattle.std.proofs.lemmas.List.Elements.{All-append, All-cons}
 use Rattle.std.specs.Prelude.{Bool, true, false, ◌||◌, ◌==◌, All}
@@ -26,14 +26,6 @@ has_number_last n (y ∷ ys) x = ap (λ b. (y.number == n) || b) (has_number_las
     or_assoc : (a b c : Bool) → a || (b || c) ≡ (a || b) || c
     or_assoc true b c = refl
     or_assoc false b c = refl
-
--- after the last share of a list is written to the handle at its index, the written part is one handle longer
-pub next_opened : {A B C : Type 0} (f : A → C) (g : B → C) (ws : List A) (w : A) (hs : List B) (h : B) → length ws < length hs → f w ≡ g h
-    → map f ws ++ map g (drop (length ws) (set hs (length ws) h)) ≡ map f (ws ++ w ∷ []) ++ map g (drop (length (ws ++ w ∷ [])) hs)
-next_opened f g [] w [] h few is = absurd (omega (arith, few))
-next_opened f g [] w (y ∷ ys) h few is = ap (λ c. c ∷ map g ys) (sym is)
-next_opened f g (x ∷ xs) w [] h few is = absurd (omega (arith, few))
-next_opened f g (x ∷ xs) w (y ∷ ys) h few is = ap (λ l. f x ∷ l) (next_opened f g xs w ys h (omega (arith, few)) is)
 
 -- new sessions know no entry of the history
 new_tickets_unknowing : (id : TableId) (sessions k : ℕ) → All (λ ticket. ticket.front ≡ []) (new_tickets id sessions k)

@@ -1,4 +1,4 @@
-use Rattle.std.proofs.Common.{rules, ◌≡◌, ◌∙◌, [], inr, length, refl, ap, sym, arith}
+use Rattle.std.proofs.Common.{rules, ◌≡◌, inr, length, refl, ap, sym, arith}
 use Rattle.combining.proofs.EndedWaits.{told-self}
 use Rattle.lock_office.proofs.Sessions.{answered-at}
 use Rattle.combining.specs.Rounds.{most_of}

@@ -1,4 +1,4 @@
-use Rattle.std.proofs.Common.{rules, ◌≡◌, ◌≢◌, ◌∙◌, Bool, true, false, None, inl, inr, ap, sym, refl}
+use Rattle.std.proofs.Common.{rules, ◌≡◌, ◌≢◌, ◌∙◌, true, false, None, inl, inr, ap, sym, refl}
 use Rattle.lock_programs.specs.declared.program.Program.{Program}
 use Rattle.lock_office.proofs.Sessions.{option-cases}
 use Rattle.library_books.specs.declared.status.TheConstants.{PENDING}

@@ -1,4 +1,4 @@
-use Rattle.std.proofs.Common.{rules, ◌≡◌, ◌≢◌, None, inl, inr, refl}
+use Rattle.std.proofs.Common.{rules, ◌≢◌, None, inl, inr, refl}
 use Rattle.library_sessions.proofs.turn_calls.turn.Goals as goal
 
 pub returns-in-Err-clause-turn : goal.returns-in-Err-clause-turn

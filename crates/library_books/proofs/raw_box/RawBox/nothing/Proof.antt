@@ -1,39 +1,12 @@
 -- `nothing` puts a null pointer beside the allocator.
-use mathlib.Core.Path.{refl, sym, subst}
-use mathlib.Core.List.{List, [], ◌∷◌, ◌++◌}
+use Rattle.std.proofs.Common.{refl, sym, subst, List, [], ◌∷◌, ◌++◌}
+use Rattle.library_books.proofs.Walking.{Ura, Fn, inst_fn, Val, vstruct, vcons, vnil, has_ty, WT, SProp, ent, ftrue, fsep, flft, ◌⊑◌, fact, tables, Memory, Routine, Fun, WpFn, Tables, WpFn-mono, Logic, Item, ‵, raw, ◌⊛◌, ◌$◌, ◌∵◌}
+use Rattle.library_books.proofs.Walking.{ !, qed, by, move, drop, join, split, fsplit, fjoin, fpack, feq_i, suffices, done, agg, lit, of_opd, no_more, and_then, returns, enter, alloc_all, pass_all, free_all, look_at, get, sets}
+use Rattle.library_books.proofs.Walking.{RattleType, Valss, no, RawPtr, null_ptr, ptr_val, plain, nothing, within, shape, Ended, Clauses, triple_of, entered, says, Stays, stay_dropped, walk_of, ends_at, walk_Meets, α}
+use Rattle.library_books.proofs.Walking.{handle_tells, Goes-blank}
 use Rattle.std.specs.Prelude.{None}
 use lib.Dec.{T, lit<}
-use seplogic.Ra.Ura.{Ura}
-use mir.Syntax.{Fn}
-use mir.MapTy.{inst_fn}
-use mir.Val.{Val, vstruct, vcons, vnil, has_ty, WT}
-use base.Logic.{SProp, ent}
-use base.Fml.{ftrue, fsep, flft}
-use contract.BorrowLft.{◌⊑◌}
-use contract.Monad.{fact}
-use contract.Running.{tables, tables_of}
-use prog.Memory.{Memory}
-use prog.Routine.{Routine}
-use contract.Monad.{Fun}
-use prog.Wp.{WpFn, Tables}
-use sound.WpLaws.{WpFn-mono}
-use types.Logic.{Logic}
-use types.Kit.{Item, ‵, raw, ◌⊛◌, ◌$◌, ◌∵◌, !, qed, by, move, drop, join, split, fsplit, fjoin, fpack, feq_i, suffices, done}
-use types.Part.{agg}
-use types.Run.{lit, of_opd, no_more, and_then, returns, enter}
-use types.ByLocal.{alloc_all, pass_all, free_all, look_at, get, sets}
-use denote.RattleType.{RattleType, Valss}
-use denote.Exit.{no}
-use denote.RawPtr.{RawPtr, null_ptr, ptr_val}
-use denote.Signature.{plain}
-use denote.Steps.{nothing}
-use denote.Struct.Struct.{within}
-use denote.Struct.Owning.{shape}
-use denote.Triple.Clauses.{Ended, Clauses}
-use denote.Triple.Spec.{triple_of}
-use denote.Triple.Table.{entered}
-use denote.Triple.Walked.{says, Stays, stay_dropped, walk_of, ends_at, walk_Meets}
-use Rattle.core.proofs.alloc.Calls.{α, handle_tells, Goes-blank}
+use contract.Running.{tables_of}
 use Rattle.std_alloc.proofs.BoxSteps.Form.{Bx, R, P, args, box_ty}
 use Rattle.std_alloc.proofs.ResultValues.{and_tt}
 use Rattle.library_books.specs.contracts.raw_box.RawBox as raw_box

@@ -1,11 +1,8 @@
 -- `is_null` of a list that may be null. Assumes `Logic`.
-use Rattle.library_sessions.specs.contracts.session_handle.SessionHandle.{the_row as row}
-use Rattle.library_sessions.specs.contracts.pointers.HandleList.is_null.Key.{name}
-use Rattle.library_books.proofs.Behind.{first_of}
 use Rattle.library_sessions.proofs.ListKinds.{handle_list}
 use Rattle.library_books.proofs.ItemLists.{tells_null_at}
 use Rattle.library_sessions.proofs.pointers.HandleList.is_null.Code as code
 use Rattle.library_sessions.proofs.pointers.HandleList.is_null.Statement.{statement}
 
 pub is_null_spec : {M : Type 1} → statement M
-is_null_spec 𝓤 𝓛 𝓜 𝓡 wired = tells_null_at row (first_of row.mir) handle_list 𝓤 𝓛 𝓜 𝓡 name (code.unfolded 𝓤 𝓛.H 𝓜 𝓡 wired)
+is_null_spec 𝓤 𝓛 𝓜 𝓡 wired = tells_null_at handle_list 𝓤 𝓛 𝓜 𝓡 (code.unfolded 𝓤 𝓛.H 𝓜 𝓡 wired)

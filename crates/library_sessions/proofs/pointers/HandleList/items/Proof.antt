@@ -1,13 +1,8 @@
 -- `items` of a list that may be null. Assumes `Logic`.
-use Rattle.std.proofs.Common.{◌≡◌}
-use denote.RawPtr.{null_ptr}
-use Rattle.library_sessions.specs.contracts.session_handle.SessionHandle.{the_row as row}
-use Rattle.library_sessions.specs.contracts.pointers.HandleList.items.Key.{name}
-use Rattle.library_books.proofs.Behind.{first_of}
 use Rattle.library_sessions.proofs.ListKinds.{handle_list}
 use Rattle.library_books.proofs.ItemLists.{items_lent}
 use Rattle.library_sessions.proofs.pointers.HandleList.items.Code as code
 use Rattle.library_sessions.proofs.pointers.HandleList.items.Statement.{statement}
 
 pub items_spec : {M : Type 1} → statement M
-items_spec 𝓤 𝓛 𝓜 𝓡 wired = items_lent row (first_of row.mir) handle_list 𝓤 𝓛 𝓜 𝓡 name (λ p. p.at ≡ null_ptr) (λ p z. z.0) (code.unfolded 𝓤 𝓛.H 𝓜 𝓡 wired)
+items_spec 𝓤 𝓛 𝓜 𝓡 wired = items_lent handle_list 𝓤 𝓛 𝓜 𝓡 _ (λ p z. z.0) (code.unfolded 𝓤 𝓛.H 𝓜 𝓡 wired)

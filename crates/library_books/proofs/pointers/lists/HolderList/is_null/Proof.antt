@@ -1,11 +1,8 @@
 -- `is_null` of a list that may be null. Assumes `Logic`.
-use Rattle.library_books.specs.contracts.numbers.HolderNumbers.{the_row as row}
-use Rattle.library_books.specs.contracts.pointers.lists.HolderList.is_null.Key.{name}
-use Rattle.library_books.proofs.Behind.{first_of}
 use Rattle.library_books.proofs.ListKinds.{holder_list}
 use Rattle.library_books.proofs.ItemLists.{tells_null}
 use Rattle.library_books.proofs.pointers.lists.HolderList.is_null.Code as code
 use Rattle.library_books.proofs.pointers.lists.HolderList.is_null.Statement.{statement}
 
 pub is_null_spec : {M : Type 1} → statement M
-is_null_spec 𝓤 𝓛 𝓜 𝓡 wired = tells_null row (first_of row.mir) holder_list 𝓤 𝓛 𝓜 𝓡 name (code.unfolded 𝓤 𝓛.H 𝓜 𝓡 wired)
+is_null_spec 𝓤 𝓛 𝓜 𝓡 wired = tells_null holder_list 𝓤 𝓛 𝓜 𝓡 (code.unfolded 𝓤 𝓛.H 𝓜 𝓡 wired)

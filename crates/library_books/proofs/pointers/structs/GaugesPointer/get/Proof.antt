@@ -2,13 +2,9 @@
 use Rattle.std.proofs.Common.{refl}
 use Rattle.library_books.specs.contracts.count_numbers.GaugeNumbers.{the_row as row}
 use Rattle.library_books.specs.contracts.pointers.structs.GaugesPointer.{the_type}
-use Rattle.library_books.specs.contracts.pointers.structs.GaugesPointer.get.Key.{name}
-use Rattle.library_books.proofs.Behind.{sized, first_of, pointer_of}
 use Rattle.library_books.proofs.Lending.{gets}
 use Rattle.library_books.proofs.pointers.structs.GaugesPointer.get.Code as code
 use Rattle.library_books.proofs.pointers.structs.GaugesPointer.get.Statement.{statement}
 
 pub get_spec : {M : Type 1} → statement M
-get_spec 𝓤 𝓛 𝓜 𝓡 wired =
-    let pointer = pointer_of (sized row (first_of row.mir)) the_type (λ p. p.at) (λ p. p.testable) (λ p. p.behind) in
-    gets row (first_of row.mir) pointer (λ p x. record p { behind = x }) (λ p x. refl) (λ p x. refl) 𝓤 𝓛 𝓜 𝓡 name (code.unfolded 𝓤 𝓛.H 𝓜 𝓡 wired)
+get_spec 𝓤 𝓛 𝓜 𝓡 wired = gets row the_type (λ p. p.at) (λ p. p.testable) (λ p. p.behind) (λ p x. record p { behind = x }) (λ p x. refl) (λ p x. refl) 𝓤 𝓛 𝓜 𝓡 (code.unfolded 𝓤 𝓛.H 𝓜 𝓡 wired)
