@@ -1,17 +1,15 @@
-//! Programs of the lock table in a compact form: several calls of a session that are made as one.
+//! Programs of the lock table in a compact form: several calls of a session that are made as one. They know calls and replies of
+//! `lock_rules` and what `programs` asks of a program, and no lock table.
 //!
-//! A [`Program`] ends and begins a transaction, does either or neither, or restarts one, and then makes the calls of a path: a lock
-//! on each resource of it in one mode, and a call of any kind on the last. So commit, begin and five locks are one program, and so is
-//! each single call. Its calls are performed one after another until the first reply that isn't granted or done. An [`Answer`]
-//! has what was granted and done, and why the program stopped: all replies follow from the program and its answer.
+//! A [`Program`] is a call of any kind; or it ends and begins a transaction, does either or neither, or restarts one, and then locks or
+//! tries each ancestor of a resource from a level on, in one mode, and makes a call on the resource. Its calls are performed one after
+//! another until the first reply that isn't granted or done. An [`Answer`] has what was granted and done, and why the program stopped:
+//! all replies follow from the program and its answer.
 //!
-//! `program.rt` has programs and their calls, `path.rt` those of several calls; `answer.rt` answers and their replies, `notes.rt` those
-//! to programs of several calls. `noting.rt` says what such an answer notes of a reply, and which reply follows from that; `stop.rt`
-//! why a program stops. `laws.rt` has what is true of every legal history: each reply is one of which an answer can tell.
+//! Begin with `program.rt`, then `answer.rt`. README.md has the other files.
 //!
-//! Proved: a call at each place of a program, and a reply at each place of an answer, is that of `specs/Calls.antt` and
-//! `specs/Answers.antt`; an answer tells exactly the replies that it was given. Only tested: that a program takes at most 40 bytes,
-//! and an answer 48. No call takes memory.
+//! Proved: which call has each place of a program, which reply each place of an answer, and that an answer tells exactly the replies that
+//! it was given. No call takes memory.
 #![tactic(auto)]
 
 mod answer;

@@ -88,8 +88,8 @@ pub enum Reply {
     /// The session's request waits.
     Waiting,
     /// The transaction was chosen as a deadlock victim. Its request is cancelled, it keeps its locks, and it can only
-    /// abort or restart. A session that waited when it was chosen learns this by a poll, or from a lock, conversion,
-    /// release or commit, which is refused with `Why::IsDoomed`.
+    /// abort or restart. A session that waited when it was chosen learns this by a poll, or from a lock, conversion, try,
+    /// withdrawal, release or commit, which is refused with `Why::IsDoomed`.
     Deadlock,
     /// The session has a transaction, no waiting request, and isn't doomed.
     Clear,

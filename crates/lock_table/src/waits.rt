@@ -18,10 +18,10 @@ use waits_for::{MAX_SESSIONS, Rows};
 
 /// The waits-for graph, and the number of each session's transaction. Both go by position: session number less 1.
 ///
-/// A session waits for one resource at most, so a change of one cell changes only the rows of the sessions that wait
-/// there. A request that waits writes its own row, and adds an edge to it for each request behind it. When a session
-/// gives up a lock or a request, or is granted one, the rows of the others change only in their edge to it. After many
-/// grants at once, more than eight, the rows of all requests that still wait are written anew.
+/// A session waits for one resource at most, so a change of one cell changes only the rows of the sessions that wait there. A request that
+/// waits writes its own row, and adds an edge to it for each request behind it. When a session gives up a lock or a request, or is granted
+/// one, the rows of the others change only in their edge to it. After many grants at once, more than eight, the rows of all requests that
+/// still wait are written anew.
 ///
 /// ```text
 /// matrix    1 2 3        bit u of row t: t waits directly for u
@@ -129,9 +129,8 @@ fn write_full_row(rows: &mut Rows, cell: &Cell, index: usize)
 
 /// Like `write_full_row`, when the rows of the requests ahead are current.
 ///
-/// If a request ahead is for the same mode, copies the row of the nearest one, and adds an edge to it and to each
-/// request between the two. Reads all holders if there is none, or if that one waits for this session, which is a
-/// holder then.
+/// If a request ahead is for the same mode, copies the row of the nearest one, and adds an edge to it and to each request between the two.
+/// Reads all holders if there is none, or if that one waits for this session, which is a holder then.
 #[inline(never)]
 fn write_row_behind(rows: &mut Rows, cell: &Cell, index: usize)
     requires index { index < length (view_of cell.now).waiting }
@@ -217,8 +216,7 @@ fn fits_beside(held: Option<Mode>, target: Mode) -> bool
     }
 }
 
-/// Removes the edges to `session` from the requests of `queue` that fit beside it. `held` is the mode that `session`
-/// holds, if it holds one.
+/// Removes the edges to `session` from the requests of `queue` that fit beside it. `held` is the mode that `session` holds, if any.
 fn remove_edges(rows: &mut Rows, queue: &[SessionMode], session: u16, held: Option<Mode>)
     requires some { 1 ≤ session }
     requires own { session ≤ rows.old.sessions }
@@ -284,8 +282,7 @@ fn index_in(queue: &[SessionMode], session: u16) -> usize
 
 /// Updates the rows after `asker` has requested the resource of `cell`.
 ///
-/// If it is granted, only the edges to it change. If it waits, its own row is written, and the requests behind it get
-/// an edge to it.
+/// If it is granted, only the edges to it change. If it waits, its own row is written, and the requests behind it get an edge to it.
 pub(crate) fn update_rows(waits: &mut Waits, cell: &Cell, asker: SessionMode, status: RequestStatus)
     requires some { 1 ≤ asker.session }
     requires own { asker.session ≤ waits.old.rows.sessions }

@@ -73,7 +73,7 @@ reply_in w v = do
 abbrev pub with_reply : TraceRow → Reply → Entry
 with_reply row r = record { session = row.session; call = row.call; reply = r }
 
--- The entry of seven fields at a place of a history, or the first fault.
+-- The entry of seven fields at a place of a history, or the first fault: place, session, op, resource, mode, reply (a word), value.
 abbrev pub entry_in : ℕ → ℕ → List ℕ → List ℕ → List ℕ → List ℕ → List ℕ → List ℕ → List ℕ → Result Entry TraceKind
 entry_in n place p s o r m w v = do
   here ← place_in place p
