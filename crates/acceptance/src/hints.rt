@@ -125,14 +125,14 @@ fn show_and_explain_show_the_wrong_reply(rt: HostRuntime) {
 /// A state that is shown, and calls that are explained, come with the history's first wrong reply, or the number of its entries.
 #[test]
 fn show_and_explain_find_the_first_wrong_reply(rt: HostRuntime) -> Result<(), Fail> {
-    let told = Entry {
+    let said = Entry {
         session: 1,
         call: Call::Lock(Resource::parse("1")?, Mode::S),
         reply: Reply::Waiting,
     };
     let given = Reply::Granted(Mode::S);
     let place = 2;
-    let wrong = Ok(Finding::Wrong(WrongReply { place, told, given }));
+    let wrong = Ok(Finding::Wrong(WrongReply { place, said, given }));
     let mut output = Vec::new(rt.alloc());
     let text = ILLEGAL.as_bytes();
     assert!(rt;
@@ -181,14 +181,14 @@ fn a_failing_writer_of_hints_changes_nothing(rt: HostRuntime) {
 /// A check finds the first wrong reply, or counts the entries of a legal history.
 #[test]
 fn a_check_finds_the_first_wrong_reply(rt: HostRuntime) -> Result<(), Fail> {
-    let told = Entry {
+    let said = Entry {
         session: 1,
         call: Call::Lock(Resource::parse("1")?, Mode::S),
         reply: Reply::Waiting,
     };
     let given = Reply::Granted(Mode::S);
     let place = 2;
-    let wrong = Ok(Finding::Wrong(WrongReply { place, told, given }));
+    let wrong = Ok(Finding::Wrong(WrongReply { place, said, given }));
     assert!(rt;
         check_whole(rt.alloc(), ILLEGAL.as_bytes(), 2) == wrong,
         "whole"

@@ -3,8 +3,8 @@
 
 use lock_modes::Mode;
 use lock_report::{
-    FirstWait, NoMemory, OpenTransaction, Root, ToldWait, Wait, locks_dot, state_rows, state_text,
-    waits_dot,
+    FirstWait, NoMemory, OpenTransaction, Root, WaitFor, WaitLine, locks_dot, state_rows,
+    state_text, waits_dot,
 };
 use lock_rules::{Claim, ClaimKind, Transaction};
 use lock_tree::Resource;
@@ -21,7 +21,7 @@ const OPEN: OpenTransaction = OpenTransaction {
 };
 
 /// A wait of its session.
-const WAIT: Wait = Wait {
+const WAIT: WaitFor = WaitFor {
     session: 12,
     other: 1,
 };
@@ -34,15 +34,15 @@ const ROOT: Root = Root {
 };
 
 /// The wait for its first blocker.
-const FIRST: ToldWait = ToldWait {
+const FIRST: WaitLine = WaitLine {
     wait: WAIT,
     first: true,
     since: Some(7),
 };
 
 /// A wait for another blocker.
-const OTHER: ToldWait = ToldWait {
-    wait: Wait {
+const OTHER: WaitLine = WaitLine {
+    wait: WaitFor {
         session: 12,
         other: 3,
     },

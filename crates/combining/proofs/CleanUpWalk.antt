@@ -1,12 +1,12 @@
 -- The walk of a clean-up comes nearer to the end of the list with each record.
-use Rattle.std.proofs.Common.{◌≡◌, ◌⊎◌, inl, inr, ⊎_elim, ℕ, zero, suc, ◌+◌, ◌<◌, ◌==◌, Bool, true, false, cond, Some, None, List, [], ◌∷◌, ◌++◌, length, take, drop, set, refl, sym, ap, ◌∙◌, subst, arith, eq-eqb, ne_eqb}
+use Rattle.std.proofs.Common.{◌≡◌, ◌⊎◌, inl, inr, ⊎_elim, ℕ, zero, suc, ◌+◌, ◌<◌, Bool, true, cond, Some, None, List, [], ◌∷◌, ◌++◌, length, take, set, refl, sym, ap, ◌∙◌, subst, arith, eq-eqb, ne_eqb}
 use Rattle.std.specs.Prelude.{All}
 use Rattle.sequential.specs.declared.entry.Item.{Item}
 use Rattle.sequential.specs.Batches.{IsItemWithin}
 use Rattle.publication.specs.Views.{BoardView}
 use Rattle.publication.specs.Boards.{IsNumber}
 use Rattle.publication.specs.List.{IsOn, AreApart, first_of, behind, without}
-use Rattle.publication.specs.Kinds.{IsRoute}
+use Rattle.publication.specs.StepKinds.{IsRoute}
 use Rattle.publication.proofs.Chains.{on_right, splits, apart_front, drop_two}
 use Rattle.publication.proofs.Routes.{on_behind}
 use Rattle.combining.specs.inner.Passes.{AreOpened}
@@ -80,15 +80,6 @@ pub off-left : (b w : ℕ) (route : List ℕ) → IsOn b route → first_of (beh
 off-left b w route on next j there =
     let t = splits b w route on next in
     subst (λ (r : List ℕ). IsOn j r ⊎ (j ≡ w)) (sym t.without_is) (drop_two j t.front t.rest b w (subst (λ (r : List ℕ). IsOn j r) t.is there))
-
--- It leaves the first record first.
-pub off-first : (b : ℕ) (route : List ℕ) → first_of (without b route) ≡ first_of route
-off-first b [] = refl
-off-first b (x ∷ xs) = by_test (b == x)
-  where
-    by_test : (t : Bool) → first_of (cond t (x ∷ drop 1 xs) (x ∷ without b xs)) ≡ Some x
-    by_test true = refl
-    by_test false = refl
 
 -- A clean-up that takes off one unused record more.
 pub cleaned-more : (ages : List ℕ) (passes w : ℕ) (unused : Bool) (from before after : List ℕ) → IsCleaned ages passes from before → first_of after ≡ first_of before

@@ -1,56 +1,14 @@
 -- The bits in which a pass tells whose wait it has ended, and the sessions that they stand for.
-use Rattle.std.proofs.Common.{◌≡◌, ◌≢◌, ℕ, zero, suc, ◌+◌, ◌-◌, ◌*◌, ◌/◌, ◌%◌, ◌^◌, ◌<◌, ◌≤◌, ◌↔◌, ◌⊎◌, inl, inr, ⊎_elim, Bool, true, false, ◌||◌, eqb, List, [], ◌∷◌, ◌++◌, length, get_or, set, take, replicate, Contains, refl, sym, ap, ◌∙◌, subst, arith, w64, get_or-set_other, get_or-set_same}
-use Rattle.std.specs.Prelude.{bit_or, if◌then◌else◌}
-use Rattle.std.specs.Int.{bit_at}
-use Rattle.std.proofs.lemmas.Bool.{cases_lt, cases_eq, eq-eqb, ne_eqb, or_right, false≢true}
-use Rattle.std.proofs.lemmas.List.{get_or_past, get_or-replicate, append_assoc}
+use Rattle.std.proofs.Common.{◌≡◌, ◌≢◌, ℕ, zero, suc, ◌+◌, ◌-◌, ◌<◌, ◌≤◌, ◌↔◌, ◌⊎◌, inl, inr, ⊎_elim, Bool, true, false, ◌||◌, eqb, List, [], ◌∷◌, ◌++◌, length, get_or, take, replicate, Contains, refl, sym, ap, ◌∙◌, subst, arith}
+use Rattle.std.specs.Prelude.{if◌then◌else◌}
+use Rattle.std.proofs.Math.Bool.{or-false}
+use Rattle.std.proofs.lemmas.Bool.{cases_eq, eq-eqb, ne_eqb, or_right, false≢true}
+use Rattle.std.proofs.lemmas.List.{append_assoc}
 use Rattle.std.proofs.lemmas.List.Elements.{Contains-append_left, Contains-push, Contains-push_cases, Contains-get_or}
-use Rattle.std.proofs.lemmas.Nat.Bits.{bit_at-zero, bit_at_set_same, bit_at_set_other}
 use Rattle.std.proofs.Math.Seq.{take-suc}
-use Rattle.combining.specs.Ended.{IsOnce}
+use Rattle.sequential.proofs.BitRows.{no_bit-zeros}
+use Rattle.combining.specs.Woken.{IsOnce}
 use Rattle.combining.specs.inner.EndedList.{has_bit, marked}
-
--- ---- Bits.
-
--- `b || false` is `b`.
-or-false : (b : Bool) → (b || false) ≡ b
-or-false true = refl
-or-false false = refl
-
--- Setting bit k sets bit k and changes no other.
-pub bit-set : (words : List ℕ) (k : ℕ) → k / 64 < length words → (j : ℕ) → has_bit (set words (k / 64) (bit_or (get_or words (k / 64) 0) (1 * 2 ^ (k % 64) % 2 ^ 64))) j ≡ (has_bit words j || eqb j k)
-bit-set words k lt j = elim (cases_eq (j / 64) (k / 64)) [
-  | inr ne ↦ ap (λ (x : ℕ). eqb (bit_at x (j % 64)) 1) (get_or-set_other words (k / 64) (j / 64) more 0 ne) ∙ other (λ e. ne (ap (λ (x : ℕ). x / 64) e))
-  | inl e ↦
-      ap (λ (x : ℕ). eqb (bit_at (get_or (set words (k / 64) more) x 0) (j % 64)) 1) e ∙ (ap (λ (x : ℕ). eqb (bit_at x (j % 64)) 1) (get_or-set_same words (k / 64) more 0 lt)
-      ∙ elim (cases_eq (j % 64) (k % 64)) [
-        | inl h ↦ ap (λ (i : ℕ). eqb (bit_at more i) 1) h ∙ (ap (λ (x : ℕ). eqb x 1) (bit_at_set_same w64 (get_or words (k / 64) 0) (k % 64) small) ∙ sym (or_right (has_bit words j) (eqb j k) (eq-eqb j k (place j k e h))))
-        | inr ne ↦ ap (λ (x : ℕ). eqb x 1) (bit_at_set_other w64 (get_or words (k / 64) 0) (k % 64) small (j % 64) ne) ∙ (ap (λ (i : ℕ). eqb (bit_at (get_or words i 0) (j % 64)) 1) (sym e) ∙ other (λ same. ne (ap (λ (x : ℕ). x % 64) same)))
-      ])
-]
-  where
-    more : ℕ
-    more = bit_or (get_or words (k / 64) 0) (1 * 2 ^ (k % 64) % 2 ^ 64)
-
-    small : k % 64 < 64
-    small = omega arith
-
-    place : (j k : ℕ) → j / 64 ≡ k / 64 → j % 64 ≡ k % 64 → j ≡ k
-    place j k e h = omega (arith, e, h)
-
-    other : j ≢ k → has_bit words j ≡ (has_bit words j || eqb j k)
-    other apart = sym (rw (ne_eqb j k apart) (or-false (has_bit words j)))
-
--- In words that are 0 no bit is set.
-bit-zeros : (n j : ℕ) → has_bit (replicate n 0) j ≡ false
-bit-zeros n j = elim (cases_lt (j / 64) n) [
-  | inl lt ↦ rw (get_or-replicate {A = ℕ} n (j / 64) 0 0 lt) (rw (bit_at-zero (j % 64)) refl)
-  | inr le ↦ rw (get_or_past {X = ℕ} (replicate n 0) (j / 64) 0 (omega (arith, le, zeros n))) (rw (bit_at-zero (j % 64)) refl)
-]
-  where
-    zeros : (m : ℕ) → length (replicate {A = ℕ} m 0) ≡ m
-    zeros zero = refl
-    zeros (suc m) = omega (arith, zeros m)
 
 -- ---- The sessions whose bit is set.
 
@@ -128,7 +86,7 @@ marked-same old new (suc n) same =
 -- With no bit they are none.
 pub marked-none : (m n : ℕ) → marked (replicate m 0) n ≡ []
 marked-none m zero = refl
-marked-none m (suc n) = ap (λ (b : Bool). if b then suc n ∷ marked (replicate m 0) n else marked (replicate m 0) n) (bit-zeros m n) ∙ marked-none m n
+marked-none m (suc n) = ap (λ (b : Bool). if b then suc n ∷ marked (replicate m 0) n else marked (replicate m 0) n) (no_bit-zeros m n) ∙ marked-none m n
 
 module _ (old new : List ℕ) (k : ℕ) (more : (j : ℕ) → has_bit new j ≡ (has_bit old j || eqb j k)) where
   other : (j : ℕ) → j ≢ k → has_bit new j ≡ has_bit old j

@@ -11,8 +11,8 @@ use lib.ListN.{get_elem?}
 use Rattle.sequential.specs.declared.entry.Entry.{Entry}
 use Rattle.sequential.specs.EndedWaits.{HasEndedIn, HasEndedAt}
 use Rattle.publication.specs.Views.{TicketView}
-use Rattle.combining.specs.Ended.{IsEndedFrom, AreToldBy, IsOnce, entered_since}
-use Rattle.combining.specs.Ended.{HasAddedTold}
+use Rattle.combining.specs.Woken.{IsEndedFrom, AreToldBy, IsOnce, entered_since}
+use Rattle.combining.specs.Woken.{HasAddedTold}
 use Rattle.combining.proofs.Places.{entered-none, entered-both}
 
 -- What an empty list has once these were added.
@@ -35,25 +35,16 @@ module _ {A : Type 0} where
   pub elem-drop : (l : List A) (a i : ℕ) → get_elem? l (a + i) ≡ get_elem? (drop a l) i
   elem-drop l zero i = ap (get_elem? l) (omega arith)
   elem-drop [] (suc a) i = refl
-  elem-drop (x ∷ l) (suc a) i = ap (get_elem? (x ∷ l)) (next a i) ∙ elem-drop l a i
-    where
-      next : (a i : ℕ) → suc a + i ≡ suc (a + i)
-      next a i = omega arith
+  elem-drop (x ∷ l) (suc a) i = ap (get_elem? (x ∷ l)) (let e : suc a + i ≡ suc (a + i) = omega arith in e) ∙ elem-drop l a i
 
   pub take-add : (l : List A) (a i : ℕ) → take (a + i) l ≡ take a l ++ take i (drop a l)
-  take-add l zero i = ap (λ (k : ℕ). take k l) (here i)
-    where
-      here : (i : ℕ) → 0 + i ≡ i
-      here i = omega arith
+  take-add l zero i = ap (λ (k : ℕ). take k l) (let e : 0 + i ≡ i = omega arith in e)
   take-add [] (suc a) i = nothing (suc a + i) ∙ sym (nothing i)
     where
       nothing : (k : ℕ) → take {A = A} k [] ≡ []
       nothing zero = refl
       nothing (suc k) = refl
-  take-add (x ∷ l) (suc a) i = ap (λ (k : ℕ). take k (x ∷ l)) (next a i) ∙ ap (λ (m : List A). x ∷ m) (take-add l a i)
-    where
-      next : (a i : ℕ) → suc a + i ≡ suc (a + i)
-      next a i = omega arith
+  take-add (x ∷ l) (suc a) i = ap (λ (k : ℕ). take k (x ∷ l)) (let e : suc a + i ≡ suc (a + i) = omega arith in e) ∙ ap (λ (m : List A). x ∷ m) (take-add l a i)
 
   -- A list in front of the element at a place, the element, and what is behind it.
   pub split-at : (l : List A) (i : ℕ) (e : A) → get_elem? l i ≡ opt.some e → (later : List A) × (l ≡ take i l ++ e ∷ later)

@@ -8,7 +8,7 @@ use Rattle.sequential.specs.declared.entry.Item.{Item}
 use Rattle.sequential.specs.Batches.{item_of}
 use Rattle.publication.specs.Views.{TicketView, entry}
 use Rattle.publication.specs.Boards.{asked_at}
-use Rattle.publication.specs.Kinds.{called}
+use Rattle.publication.specs.StepKinds.{called}
 use Rattle.combining.specs.inner.Passes.{AreOpened, KeepsCalls, IsObjectInHand}
 use Rattle.combining.specs.inner.Ages.{sessions_of, sessions_since, noted}
 use Rattle.combining.proofs.CallsToServe.{answered, calls-answer}

@@ -5,32 +5,18 @@ use Rattle.std.proofs.Math.Seq.{drop-append_seam}
 use Rattle.std.proofs.lemmas.List.FromFn.{length-range_with_len}
 use mathlib.Core.List.{IsPrefix}
 use Rattle.publication.specs.Views.{TicketView}
-use Rattle.combining.specs.Ended.{entered_since}
+use Rattle.combining.specs.Woken.{entered_since}
 
 -- One place more in front.
 pub range-first : (a n : ℕ) → range_with_len a (n + 1) ≡ a ∷ range_with_len (a + 1) n
-range-first a n = ap (range_with_len a) (one-more n)
-  where
-    one-more : (n : ℕ) → n + 1 ≡ suc n
-    one-more n = omega arith
+range-first a n = ap (range_with_len a) (let e : n + 1 ≡ suc n = omega arith in e)
 
 -- Places behind places.
 pub range-append : (a m n : ℕ) → range_with_len a (m + n) ≡ range_with_len a m ++ range_with_len (a + m) n
-range-append a zero n = ap (range_with_len a) (none n) ∙ ap (λ (k : ℕ). range_with_len k n) (here a)
-  where
-    none : (n : ℕ) → 0 + n ≡ n
-    none n = omega arith
-
-    here : (a : ℕ) → a ≡ a + 0
-    here a = omega arith
+range-append a zero n = ap (range_with_len a) (let e : 0 + n ≡ n = omega arith in e) ∙ ap (λ (k : ℕ). range_with_len k n) (let e : a ≡ a + 0 = omega arith in e)
 range-append a (suc m) n =
-    ap (range_with_len a) (longer m n) ∙ (ap (λ (l : List ℕ). a ∷ l) (range-append (a + 1) m n) ∙ ap (λ (k : ℕ). (a ∷ range_with_len (a + 1) m) ++ range_with_len k n) (later a m))
-  where
-    longer : (m n : ℕ) → suc m + n ≡ suc (m + n)
-    longer m n = omega arith
-
-    later : (a m : ℕ) → a + 1 + m ≡ a + suc m
-    later a m = omega arith
+    ap (range_with_len a) (let e : suc m + n ≡ suc (m + n) = omega arith in e)
+    ∙ (ap (λ (l : List ℕ). a ∷ l) (range-append (a + 1) m n) ∙ ap (λ (k : ℕ). (a ∷ range_with_len (a + 1) m) ++ range_with_len k n) (let e : a + 1 + m ≡ a + suc m = omega arith in e))
 
 -- One place more at the end.
 pub range-last : (a n j : ℕ) → a + n ≡ j → range_with_len a (n + 1) ≡ range_with_len a n ++ j ∷ []

@@ -12,17 +12,17 @@ use Rattle.publication.specs.Views.{TicketView, Pending, entry, answer, asks}
 use Rattle.publication.specs.Boards.{publishing, enlisted, tried}
 use Rattle.publication.proofs.Lists.{prefix_self, prefix_trans}
 use Rattle.combining.proofs.EndedWaits.{elem-seam}
-use Rattle.combining.specs.declared.backoff.Wait.{Wait as Pause}
+use Rattle.combining.specs.declared.backoff.Backoff.{Backoff as Pause}
 use Rattle.combining.specs.declared.office.Answer.{Answer}
-use Rattle.combining.specs.declared.calling.Next.{Next}
-use Rattle.combining.specs.declared.calling.Next.TheVariants.{Answered as IsDone, Starved as HasNone, Wait as Waits}
+use Rattle.combining.specs.declared.calling.CallOutcome.{CallOutcome}
+use Rattle.combining.specs.declared.calling.CallOutcome.TheVariants.{Answered as IsDone, Starved as HasNone, Wait as Waits}
 use Rattle.combining.specs.Sessions.{HasTriedToList, IsPassed, IsCollected, IsPerformed, IsRefused}
 use Rattle.publication.specs.declared.board.Posted.{Posted}
 use Rattle.publication.specs.declared.board.Posted.TheVariants.{Listed, Unlisted}
 use Rattle.combining.specs.Calls.{HasGoneOn}
 use Rattle.combining.specs.Waits.{FitIntoLooks}
 use Rattle.combining.specs.Turns.{HasAwaited, HasTurned}
-use Rattle.combining.specs.Ended.{IsNotedUpTo}
+use Rattle.combining.specs.Woken.{IsNotedUpTo}
 use Rattle.combining.specs.declared.backoff.TheConstants.{LOOKS_PER_TRY}
 use Rattle.combining.specs.Calls.{later, IsWaitingOn, IsAnswered, IsCalled, IsCalling}
 use Rattle.sequential.specs.declared.object.Sequential.{Ghosts}
@@ -270,7 +270,7 @@ module _ {O C R : Type 0} {obj : Ghosts O C R} where
   called-on t u call place reply k = record { longer = k.longer; entered = k.entered }
 
 -- What holds whichever the outcome of a turn is.
-pub by-next : {R P : Type 0} (r : Next R) → ((a : Answer R) → r ≡ IsDone a → P) → (r ≡ HasNone → P) → ((w : Pause) → r ≡ Waits w → P) → P
+pub by-next : {R P : Type 0} (r : CallOutcome R) → ((a : Answer R) → r ≡ IsDone a → P) → (r ≡ HasNone → P) → ((w : Pause) → r ≡ Waits w → P) → P
 by-next (IsDone a) answered starved waits = answered a refl
 by-next HasNone answered starved waits = starved refl
 by-next (Waits w) answered starved waits = waits w refl
@@ -285,7 +285,7 @@ module _ {C R : Type 0} where
   calling-live t u call k = ap (λ (x : TicketView C R). x.retired) k.session
 
   -- A turn of the pending call of a session is a turn of this session, whatever call it is given.
-  pub awaited-turn : {A : Type 0} {is_called is_answered : ℕ → A → Type 0} {is_calling is_refused : Type 0} {n made : ℕ} {next : Next A} (t u : TicketView C R) → t.pending ≢ None → t.retired ≡ false
+  pub awaited-turn : {A : Type 0} {is_called is_answered : ℕ → A → Type 0} {is_calling is_refused : Type 0} {n made : ℕ} {next : CallOutcome A} (t u : TicketView C R) → t.pending ≢ None → t.retired ≡ false
       → HasAwaited t u is_answered next → HasTurned t u n made is_called is_answered is_calling is_refused next
   awaited-turn {next = next} t u some live e = record {
     awaited = λ _. e;

@@ -1,7 +1,7 @@
 -- What public contracts cite.
 pub mod Sessions
 pub mod Closed
-pub mod Ended
+pub mod Woken
 pub mod Calls
 pub mod Turns
 pub mod Looks

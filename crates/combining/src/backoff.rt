@@ -22,7 +22,7 @@ pub const LOOKS_PER_YIELD: u64 = 64;
 
 /// What a session does before the next turn of its call.
 #[derive(Clone, Copy, Debug, PartialEq, Eq)]
-pub enum Wait {
+pub enum Backoff {
     /// Makes so many pause instructions.
     Pause(u32),
     /// Yields the processor.
@@ -30,29 +30,29 @@ pub enum Wait {
 }
 
 /// What to do after a try to perform a call at once: the call is published in the next turn, which comes at once.
-pub fn after_try() -> Wait
+pub fn after_try() -> Backoff
     ensures { IsWaitAfterTry result }
 {
-    Wait::Pause(PAUSES_BEFORE_PUBLISHING)
+    Backoff::Pause(PAUSES_BEFORE_PUBLISHING)
 }
 
 /// What to do after a look for an answer, of which `looked` came before: a yield after every `LOOKS_PER_YIELD` looks, and pauses after
 /// the others.
-pub(crate) fn after_look(looked: u64) -> Wait
+pub(crate) fn after_look(looked: u64) -> Backoff
     ensures { IsWaitAfterLook looked result }
 {
     if looked % LOOKS_PER_YIELD == LOOKS_PER_YIELD - 1 {
-        Wait::Yield
+        Backoff::Yield
     } else {
-        Wait::Pause(PAUSES)
+        Backoff::Pause(PAUSES)
     }
 }
 
 /// Waits so, before the next turn of a call.
-pub fn back_off(wait: Wait) {
+pub fn back_off(wait: Backoff) {
     match wait {
-        Wait::Yield => thread::yield_now(),
-        Wait::Pause(pauses) => {
+        Backoff::Yield => thread::yield_now(),
+        Backoff::Pause(pauses) => {
             for _pause in 0..pauses {
                 hint::spin_loop();
             }

@@ -4,7 +4,7 @@ ghost use Rattle.std.specs.Prelude.{◌≡◌};
 ghost use Rattle.combining.specs.Rounds.{IsBound, at_least_one};
 
 /// How much a pass serves at most: in rounds, each of which takes so many published calls at most, and none once it has taken calls of so
-/// much weight. What a call weighs is said by `Told::weigh`: for a lock table, how many locks it gives back.
+/// much weight. What a call weighs is said by `Listener::weigh`: for a lock table, how many locks it gives back.
 ///
 /// A call is served whole, so a round may exceed the weight by that of its last call.
 #[derive(Clone, Copy, Debug, PartialEq, Eq)]

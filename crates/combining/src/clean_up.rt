@@ -5,7 +5,7 @@ ghost use Rattle.std.specs.Prelude.{◌≡◌, ◌≢◌, ◌≤◌, ◌<◌, �
 ghost use Rattle.sequential.specs.Batches.{IsItemWithin};
 ghost use Rattle.publication.specs.Boards.{IsOf, IsNumber};
 ghost use Rattle.publication.specs.List.{IsOn, first_of, behind};
-ghost use Rattle.publication.specs.Kinds.{IsRoute};
+ghost use Rattle.publication.specs.StepKinds.{IsRoute};
 ghost use Rattle.combining.specs.inner.Ages.{sessions_of, noted, IsUnused, IsCleaned};
 
 use publication::{Board, Ticket};

@@ -15,21 +15,21 @@ mod backoff;
 mod bounds;
 mod calling;
 mod clean_up;
-mod ended;
 pub mod laws;
+mod listener;
 mod office;
 mod own_call;
 mod pass;
 mod rounds;
-mod told;
+mod woken_set;
 
 pub use backoff::{
-    LOOKS_PER_TRY, LOOKS_PER_YIELD, PAUSES, PAUSES_BEFORE_PUBLISHING, TRIES_AT_ONCE, Wait,
+    Backoff, LOOKS_PER_TRY, LOOKS_PER_YIELD, PAUSES, PAUSES_BEFORE_PUBLISHING, TRIES_AT_ONCE,
     after_try, back_off,
 };
 pub use bounds::{MAX_WEIGHT, PassBound, UNBOUNDED};
-pub use calling::{Next, call, look, publish_if_idle, resume, turn};
-pub use ended::Ended;
-pub use office::{Answer, HistoryPiece, Office, OpenFault, Performed, Turn};
-pub use publication::{CloseFault, Knowledge, Load, Posted, Ticket as Session};
-pub use told::{Nobody, Told};
+pub use calling::{CallOutcome, call, look, publish_if_idle, resume, turn};
+pub use listener::{Listener, Nobody};
+pub use office::{Answer, HistoryPiece, Office, OpenFault, TryOutcome, Turn};
+pub use publication::{CloseFault, Load, Posted, Ticket as Session, TicketKnowledge};
+pub use woken_set::WokenSet;

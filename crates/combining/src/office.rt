@@ -4,11 +4,11 @@ ghost use Rattle.std.specs.Prelude.{◌≡◌, ◌≢◌, ◌⊎◌, ◌+◌, �
 ghost use Rattle.std.specs.List.{All};
 ghost use mathlib.Core.List.{IsPrefix};
 ghost use Rattle.sequential.specs.Histories.{calls_of};
-ghost use Rattle.publication.specs.Kinds.{longer, maxes};
+ghost use Rattle.publication.specs.StepKinds.{longer, maxes};
 ghost use Rattle.publication.specs.Boards.{HasCallsOf, heard_from, known_by, published_by, publishing, enlisted, tried, IsUnlisted, new_tickets, IsEachOnce};
 ghost use Rattle.combining.specs.Sessions.{IsSessionOf, IsIdle, HasNothingPending, IsPendingServed, HasTriedToList, IsPassed, IsCollected};
 ghost use Rattle.combining.specs.Closed.{IsClosed};
-ghost use Rattle.combining.specs.Ended.{AreToldBy, entered_since, HasRoom};
+ghost use Rattle.combining.specs.Woken.{AreToldBy, entered_since, HasRoom};
 ghost use Rattle.combining.specs.Rounds.{IsBound, IsUnmet, AreRounds, IsFull};
 
 mod looks;
@@ -18,9 +18,9 @@ mod sleeping;
 mod taking;
 
 use crate::bounds::PassBound;
-use crate::told::Told;
-pub use perform::Performed;
-use publication::{Board, CloseFault, Knowledge, Posted, Ticket as Session};
+use crate::listener::Listener;
+pub use perform::TryOutcome;
+use publication::{Board, CloseFault, Posted, Ticket as Session, TicketKnowledge};
 use sequential::{Batching, Fresh, MAX_SESSIONS};
 use std::alloc::{AllocError as NoMemory, Global};
 use std::marker::Model;
@@ -139,19 +139,19 @@ impl<O: Batching> Office<O> {
     /// Calls that go first are served before the others of their round. Both groups are served in the order of the publication list,
     /// behind the session's own call.
     ///
-    /// Tells whose wait a call of the pass has ended, as the object says: afterwards `told` has each of these sessions once, also one that
+    /// Tells whose wait a call of the pass has ended, as the object says: afterwards `listener` has each of these sessions once, also one that
     /// waits again since, and nobody else; with [`Nobody`](crate::Nobody) it tells nobody. A thread that waits need not ask until a pass
-    /// tells its session: whoever made that pass wakes it. `told` has room for all sessions of the office, so that telling takes no memory.
+    /// tells its session: whoever made that pass wakes it. `listener` has room for all sessions of the office, so that telling takes no memory.
     /// That a pass tells whose wait it has ended is this project's own.
-    pub fn serve<T: Told<O>>(
+    pub fn serve<T: Listener<O>>(
         &self,
         session: &mut Session<O>,
         bound: PassBound,
-        told: &mut T,
+        listener: &mut T,
     ) -> Turn
         requires ours { IsSessionOf self.now session.old }
         requires bound { IsBound bound }
-        requires room { HasRoom (T.room told.old) self.now.sessions }
+        requires room { HasRoom (T.room listener.old) self.now.sessions }
         ensures ours { IsSessionOf self.now session.new }
         ensures elsewhere { result ≡ Turn.Elsewhere → HasTriedToList session.old session.new × (1 < self.now.sessions) }
         ensures pass { (served : _) (starved left : _) → result ≡ Turn.Pass served starved left → IsPassed O.Sequential session.old session.new served }
@@ -165,13 +165,13 @@ impl<O: Batching> Office<O> {
         ensures own { (served : _) (left : _) → result ≡ Turn.Pass served false left → session.old.pending ≢ None → IsPendingServed session.new }
         ensures heard { (served j : _) → result ≡ Turn.Pass served false false → 0 < j → j ≤ self.now.sessions
             → heard_from session.old j ≤ length (calls_of j session.new.front) }
-        ensures told { AreToldBy T.ends self.now.sessions session.new.front (entered_since session.old session.new) (T.list told.new) }
-        ensures none { result ≡ Turn.Elsewhere → T.list told.new ≡ [] }
-        ensures room { T.room told.new ≡ T.room told.old }
-        ensures notes { T.notes told.old session.old.front → T.notes told.new session.new.front }
+        ensures told { AreToldBy T.ends self.now.sessions session.new.front (entered_since session.old session.new) (T.list listener.new) }
+        ensures none { result ≡ Turn.Elsewhere → T.list listener.new ≡ [] }
+        ensures room { T.room listener.new ≡ T.room listener.old }
+        ensures notes { T.notes listener.old session.old.front → T.notes listener.new session.new.front }
     {
-        told.clear();
-        self.pass(session, bound, told)
+        listener.clear();
+        self.pass(session, bound, listener)
     }
 
     /// Takes the answer to the session's published call; each answer is taken once. `None`, with nothing changed,
@@ -190,7 +190,7 @@ impl<O: Batching> Office<O> {
 
     /// What `session` knows, as a value that may move to another thread: the front of the history that it knows, and
     /// for each session the number of calls that it has heard of.
-    pub fn knowledge(&self, session: &mut Session<O>) -> Knowledge<O>
+    pub fn knowledge(&self, session: &mut Session<O>) -> TicketKnowledge<O>
         requires ours { IsSessionOf self.now session.old }
         ensures ours { IsSessionOf self.now session.new }
         ensures same { session.new ≡ session.old }
@@ -202,7 +202,7 @@ impl<O: Batching> Office<O> {
     /// Lets `session` learn what another session knew when its `knowledge` was taken: the longer of both fronts of the
     /// history, one of which begins the other, and for each session the larger number of calls that either had heard
     /// of. What `session` publishes from then on gets a place behind all that the other knew.
-    pub fn heed(&self, session: &mut Session<O>, knowledge: Knowledge<O>)
+    pub fn heed(&self, session: &mut Session<O>, knowledge: TicketKnowledge<O>)
         requires ours { IsSessionOf self.now session.old × (knowledge.board ≡ self.now.id) }
         ensures ours { IsSessionOf self.now session.new }
         ensures session { session.new ≡ record session.old {

@@ -4,12 +4,12 @@ ghost use Rattle.std.specs.Prelude.{◌≡◌, ◌+◌, ◌*◌, ◌<◌, ◌≤
 ghost use Rattle.combining.specs.Sessions.{IsIdle};
 ghost use Rattle.combining.specs.inner.OwnCalls.{IsOwnEntered, IsPassWithOwn};
 ghost use Rattle.combining.specs.inner.Passes.{IsAtWork, HasPassed, HasServed};
-ghost use Rattle.combining.specs.Ended.{HasAddedTold, HasRoom, entered_since};
+ghost use Rattle.combining.specs.Woken.{HasAddedTold, HasRoom, entered_since};
 ghost use Rattle.combining.specs.Rounds.{IsBound, IsUnmet};
 
 use crate::bounds::PassBound;
-use crate::rounds::{Pass, serve_rounds};
-use crate::told::Told;
+use crate::listener::Listener;
+use crate::rounds::{Pass, make_rounds};
 use publication::{Board, Load, Ticket};
 use sequential::Batching;
 
@@ -41,54 +41,54 @@ fn perform_own<O: Batching>(
 
 /// Performs a call as `perform_own` does, and tells whose wait it has ended.
 #[inline(always)]
-pub(crate) fn perform_own_telling<O: Batching, T: Told<O>>(
+pub(crate) fn perform_own_telling<O: Batching, T: Listener<O>>(
     board: &Board<O>,
     session: &mut Ticket<O>,
     load: &mut Load<O>,
     call: &O::Call,
-    told: &mut T,
+    listener: &mut T,
 ) -> Option<(u64, O::Reply)>
     requires work { IsAtWork O.Sequential board.now session.old load.old }
     requires idle { IsIdle session.old }
-    requires room { HasRoom (T.room told.old) board.now.sessions }
+    requires room { HasRoom (T.room listener.old) board.now.sessions }
     ensures some { IfSome result (λ r. IsOwnEntered session.old session.new call.now r.0 r.1) }
     ensures none { IfNone result (session.new ≡ session.old) }
     ensures work { IsAtWork O.Sequential board.now session.new load.new }
     ensures taken { load.new.pieces.items ≡ load.old.pieces.items }
-    ensures told { HasAddedTold T.ends board.now.sessions session.new.front (entered_since session.old session.new) (T.list told.old) (T.list told.new) }
-    ensures room { T.room told.new ≡ T.room told.old }
-    ensures notes { T.notes told.old session.old.front → T.notes told.new session.new.front }
+    ensures told { HasAddedTold T.ends board.now.sessions session.new.front (entered_since session.old session.new) (T.list listener.old) (T.list listener.new) }
+    ensures room { T.room listener.new ≡ T.room listener.old }
+    ensures notes { T.notes listener.old session.old.front → T.notes listener.new session.new.front }
 {
     let answer = perform_own(board, session, load, call)?;
-    told.add(&load.object, 1);
+    listener.add(&load.object, 1);
     Some(answer)
 }
 
-/// Makes a pass as `serve_rounds` does if `test` holds. Else it serves nothing, and changes nothing.
+/// Makes a pass as `make_rounds` does if `test` holds. Else it serves nothing, and changes nothing.
 #[inline(always)]
-fn serve_rounds_if<O: Batching, T: Told<O>>(
+fn make_rounds_if<O: Batching, T: Listener<O>>(
     test: bool,
     board: &Board<O>,
     session: &mut Ticket<O>,
     load: &mut Load<O>,
     bound: PassBound,
-    told: &mut T,
+    listener: &mut T,
 ) -> Pass
     requires bound { IsBound bound }
     requires work { IsAtWork O.Sequential board.now session.old load.old }
-    requires room { HasRoom (T.room told.old) board.now.sessions }
+    requires room { HasRoom (T.room listener.old) board.now.sessions }
     ensures work { IsAtWork O.Sequential board.now session.new load.new }
     ensures passed { test ≡ true → HasPassed session.old session.new result.served }
     ensures served { test ≡ true → HasServed board.now.sessions session.old session.new load.old load.new result.starved result.left }
     ensures few { result.served ≤ bound.rounds * bound.calls }
     ensures all { IsUnmet bound → result.left ≡ false }
-    ensures told { test ≡ true → HasAddedTold T.ends board.now.sessions session.new.front (entered_since session.old session.new) (T.list told.old) (T.list told.new) }
-    ensures noted { test ≡ true → T.notes told.new session.new.front }
-    ensures room { T.room told.new ≡ T.room told.old }
-    ensures none { test ≡ false → (session.new ≡ session.old) × (load.new ≡ load.old) × (told.new ≡ told.old) }
+    ensures told { test ≡ true → HasAddedTold T.ends board.now.sessions session.new.front (entered_since session.old session.new) (T.list listener.old) (T.list listener.new) }
+    ensures noted { test ≡ true → T.notes listener.new session.new.front }
+    ensures room { T.room listener.new ≡ T.room listener.old }
+    ensures none { test ≡ false → (session.new ≡ session.old) × (load.new ≡ load.old) × (listener.new ≡ listener.old) }
 {
     if test {
-        return serve_rounds(board, session, load, bound, told);
+        return make_rounds(board, session, load, bound, listener);
     }
     Pass {
         served: 0,
@@ -100,32 +100,32 @@ fn serve_rounds_if<O: Batching, T: Told<O>>(
 /// Runs a pass within the bound, in which the combiner performs a call of its own, which it has not published: ahead of the others if the
 /// call goes first, else behind them. Returns the pass, and of the own call what `perform_own` does. Tells whose waits they have ended.
 #[inline(always)]
-pub(crate) fn serve_with_own<O: Batching, T: Told<O>>(
+pub(crate) fn pass_with_own<O: Batching, T: Listener<O>>(
     board: &Board<O>,
     session: &mut Ticket<O>,
     load: &mut Load<O>,
     call: &O::Call,
     bound: PassBound,
-    told: &mut T,
+    listener: &mut T,
 ) -> (Pass, Option<(u64, O::Reply)>)
     requires bound { IsBound bound }
     requires work { IsAtWork O.Sequential board.now session.old load.old }
     requires idle { IsIdle session.old }
-    requires room { HasRoom (T.room told.old) board.now.sessions }
+    requires room { HasRoom (T.room listener.old) board.now.sessions }
     ensures performed { IfSome result.1 (λ r. IsPassWithOwn (O.goes_first call.now) session.old session.new call.now r.0 r.1 result.0.served) }
     ensures refused { IfNone result.1 (HasPassed session.old session.new result.0.served) }
     ensures work { IsAtWork O.Sequential board.now session.new load.new }
     ensures served { HasServed board.now.sessions session.old session.new load.old load.new result.0.starved result.0.left }
     ensures all { IsUnmet bound → result.0.left ≡ false }
     ensures few { result.0.served ≤ bound.rounds * bound.calls }
-    ensures told { HasAddedTold T.ends board.now.sessions session.new.front (entered_since session.old session.new) (T.list told.old) (T.list told.new) }
-    ensures room { T.room told.new ≡ T.room told.old }
-    ensures noted { T.notes told.new session.new.front }
+    ensures told { HasAddedTold T.ends board.now.sessions session.new.front (entered_since session.old session.new) (T.list listener.old) (T.list listener.new) }
+    ensures room { T.room listener.new ≡ T.room listener.old }
+    ensures noted { T.notes listener.new session.new.front }
 {
     let goes_first = O::goes_first(call);
-    let ahead = serve_rounds_if(!goes_first, board, session, load, bound, told);
-    let answer = perform_own_telling(board, session, load, call, told);
-    let behind = serve_rounds_if(goes_first, board, session, load, bound, told);
+    let ahead = make_rounds_if(!goes_first, board, session, load, bound, listener);
+    let answer = perform_own_telling(board, session, load, call, listener);
+    let behind = make_rounds_if(goes_first, board, session, load, bound, listener);
     if goes_first {
         return (behind, answer);
     }

@@ -7,7 +7,7 @@ ghost use Rattle.sequential.specs.Histories.{calls_of};
 ghost use Rattle.sequential.specs.Batches.{IsItemWithin, asked_by, asked_in};
 ghost use Rattle.publication.specs.Boards.{IsOf, IsNumber, OpensNone, heard_from, published_by};
 ghost use Rattle.publication.specs.List.{IsOn};
-ghost use Rattle.publication.specs.Kinds.{IsRoute};
+ghost use Rattle.publication.specs.StepKinds.{IsRoute};
 ghost use Rattle.combining.specs.inner.Passes.{AreOpened, HasCalls, KeepsCalls, IsVisited, HasVisitedOpened, IsNext, HasMet, IsSameSession, HasInserted, HasAnswered, HasPassed, IsObjectInHand, IsAtWork, HasRow, HasServed, HasServedRow};
 ghost use Rattle.combining.specs.inner.Ages.{sessions_of, sessions_since, noted};
 
@@ -198,11 +198,7 @@ fn put_back_row<O: Batching>(
 /// Performs the calls of the row, answers those that were performed, and posts the others again. Notes the round as the
 /// age of each session that it served.
 #[inline(never)]
-fn serve_opened<O: Batching>(
-    board: &Board<O>,
-    session: &mut Ticket<O>,
-    load: &mut Load<O>,
-) -> Served
+fn close_round<O: Batching>(board: &Board<O>, session: &mut Ticket<O>, load: &mut Load<O>) -> Served
     requires row { HasRow O.Sequential board.now session.old load.old }
     ensures served { HasServedRow O.Sequential O.tells_from board.now.sessions session.old session.new load.old load.new result.served result.starved }
 {
@@ -216,9 +212,9 @@ fn serve_opened<O: Batching>(
     }
 }
 
-/// Like `serve_opened`, but does nothing if the row is empty; what the object tells then still describes an earlier pass.
+/// Like `close_round`, but does nothing if the row is empty; what the object tells then still describes an earlier pass.
 #[inline(always)]
-pub(crate) fn serve_any<O: Batching>(
+pub(crate) fn close_round_if_any<O: Batching>(
     board: &Board<O>,
     session: &mut Ticket<O>,
     load: &mut Load<O>,
@@ -232,7 +228,7 @@ pub(crate) fn serve_any<O: Batching>(
             starved: false,
         };
     }
-    serve_opened(board, session, load)
+    close_round(board, session, load)
 }
 
 /// One more, if the test holds. It stops at the greatest u64.

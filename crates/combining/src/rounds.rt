@@ -5,8 +5,8 @@ ghost use mathlib.Core.List.{IsPrefix};
 ghost use Rattle.sequential.specs.Histories.{calls_of};
 ghost use Rattle.publication.specs.Boards.{IsOf, IsNumber, OpensNone, heard_from, published_by};
 ghost use Rattle.publication.specs.List.{IsOn};
-ghost use Rattle.publication.specs.Kinds.{IsRoute};
-ghost use Rattle.combining.specs.Ended.{HasAddedTold, HasRoom, entered_since};
+ghost use Rattle.publication.specs.StepKinds.{IsRoute};
+ghost use Rattle.combining.specs.Woken.{HasAddedTold, HasRoom, entered_since};
 ghost use Rattle.combining.specs.Rounds.{IsBound, IsUnmet, IsRound, IsFull};
 ghost use Rattle.combining.specs.declared.bounds.TheConstants.{MAX_WEIGHT};
 ghost use Rattle.combining.specs.inner.Ages.{sessions_since, noted};
@@ -15,8 +15,8 @@ ghost use Rattle.combining.specs.inner.BoundedPasses.{IsWithin, IsFilled, HasSer
 
 use crate::bounds::PassBound;
 use crate::clean_up::clean_up;
-use crate::pass::{one_more_if, open_record, serve_any};
-use crate::told::Told;
+use crate::listener::Listener;
+use crate::pass::{close_round_if_any, one_more_if, open_record};
 use publication::{Board, Load, Ticket};
 use sequential::Batching;
 
@@ -54,7 +54,7 @@ fn is_left<O: Batching>(board: &Board<O>, session: &mut Ticket<O>, whose: u16) -
 
 /// Opens record `whose` as `open_record` does, and adds the weight of its call.
 #[inline(always)]
-fn open_weighed<O: Batching, T: Told<O>>(
+fn open_weighed<O: Batching, T: Listener<O>>(
     board: &Board<O>,
     session: &mut Ticket<O>,
     load: &mut Load<O>,
@@ -95,7 +95,7 @@ fn open_weighed<O: Batching, T: Told<O>>(
 
 /// Opens record `whose` as `open_record` does, if the round may take one more call. Returns whether it left a call that is posted.
 #[inline(always)]
-fn open_if_room<O: Batching, T: Told<O>>(
+fn open_if_room<O: Batching, T: Listener<O>>(
     board: &Board<O>,
     session: &mut Ticket<O>,
     load: &mut Load<O>,
@@ -130,7 +130,7 @@ fn open_if_room<O: Batching, T: Told<O>>(
 /// Visits the records of the walk from `next` on, and opens each in which a call is posted, until the round may take no more. Then it only
 /// looks for a call that is left, and returns whether it found one.
 #[inline(always)]
-fn open_walked<O: Batching, T: Told<O>>(
+fn open_walked<O: Batching, T: Listener<O>>(
     board: &Board<O>,
     session: &mut Ticket<O>,
     load: &mut Load<O>,
@@ -169,7 +169,7 @@ fn open_walked<O: Batching, T: Told<O>>(
 /// Walks the publication list from the head word, and opens each record in which a call is posted, until the round may take no more. Then
 /// it only looks for a call that is left, and returns whether it found one.
 #[inline(always)]
-fn open_listed<O: Batching, T: Told<O>>(
+fn open_listed<O: Batching, T: Listener<O>>(
     board: &Board<O>,
     session: &mut Ticket<O>,
     load: &mut Load<O>,
@@ -202,7 +202,7 @@ fn open_listed<O: Batching, T: Told<O>>(
 /// Visits the combiner's own record first, and then those on the publication list, and opens each in which a call is posted, until the
 /// round may take no more. Returns whether it saw a call that it left.
 #[inline(always)]
-fn open_records<O: Batching, T: Told<O>>(
+fn open_records<O: Batching, T: Listener<O>>(
     board: &Board<O>,
     session: &mut Ticket<O>,
     load: &mut Load<O>,
@@ -237,7 +237,7 @@ fn open_records<O: Batching, T: Told<O>>(
 /// Makes a round for a combiner that has the load, and leaves the load fit to be given back: serves the session's own published call,
 /// and others within the bound.
 #[inline(always)]
-fn serve_round<O: Batching, T: Told<O>>(
+fn make_round<O: Batching, T: Listener<O>>(
     board: &Board<O>,
     session: &mut Ticket<O>,
     load: &mut Load<O>,
@@ -266,7 +266,7 @@ fn serve_round<O: Batching, T: Told<O>>(
 {
     load.passes = load.passes.saturating_add(1);
     let left = open_records::<O, T>(board, session, load, bound);
-    let pass = serve_any(board, session, load);
+    let pass = close_round_if_any(board, session, load);
     load.row.clear();
     load.served = load.served.saturating_add(u64::from(pass.served));
     load.starved = one_more_if(pass.starved, load.starved);
@@ -278,55 +278,55 @@ fn serve_round<O: Batching, T: Told<O>>(
     }
 }
 
-/// Makes a round as `serve_round` does, and tells whose waits it has ended.
+/// Makes a round as `make_round` does, and tells whose waits it has ended.
 #[inline(always)]
-fn serve_round_telling<O: Batching, T: Told<O>>(
+fn make_round_telling<O: Batching, T: Listener<O>>(
     board: &Board<O>,
     session: &mut Ticket<O>,
     load: &mut Load<O>,
     bound: PassBound,
-    told: &mut T,
+    listener: &mut T,
 ) -> Pass
     requires work { IsAtWork O.Sequential board.now session.old load.old }
     requires some { (0 < bound.calls) × (0 < bound.weight) }
-    requires room { HasRoom (T.room told.old) board.now.sessions }
+    requires room { HasRoom (T.room listener.old) board.now.sessions }
     ensures work { IsAtWork O.Sequential board.now session.new load.new }
     ensures round { HasServedWithin T.weight board.now.sessions bound 1 session.old session.new load.old load.new result.served result.starved result.left }
-    ensures told { HasAddedTold T.ends board.now.sessions session.new.front (entered_since session.old session.new) (T.list told.old) (T.list told.new) }
-    ensures room { T.room told.new ≡ T.room told.old }
-    ensures noted { T.notes told.new session.new.front }
+    ensures told { HasAddedTold T.ends board.now.sessions session.new.front (entered_since session.old session.new) (T.list listener.old) (T.list listener.new) }
+    ensures room { T.room listener.new ≡ T.room listener.old }
+    ensures noted { T.notes listener.new session.new.front }
 {
-    let round = serve_round::<O, T>(board, session, load, bound);
-    told.add(&load.object, round.served);
+    let round = make_round::<O, T>(board, session, load, bound);
+    listener.add(&load.object, round.served);
     round
 }
 
-/// Makes a pass: rounds as `serve_round` makes them, until one serves no call or has to put calls back, but no more than the bound has.
+/// Makes a pass: rounds as `make_round` makes them, until one serves no call or has to put calls back, but no more than the bound has.
 /// Tells whose waits they have ended.
-pub(crate) fn serve_rounds<O: Batching, T: Told<O>>(
+pub(crate) fn make_rounds<O: Batching, T: Listener<O>>(
     board: &Board<O>,
     session: &mut Ticket<O>,
     load: &mut Load<O>,
     bound: PassBound,
-    told: &mut T,
+    listener: &mut T,
 ) -> Pass
     requires work { IsAtWork O.Sequential board.now session.old load.old }
     requires bound { IsBound bound }
-    requires room { HasRoom (T.room told.old) board.now.sessions }
+    requires room { HasRoom (T.room listener.old) board.now.sessions }
     ensures work { IsAtWork O.Sequential board.now session.new load.new }
     ensures rounds { (made : ℕ) × (made ≤ bound.rounds)
         × HasServedWithin T.weight board.now.sessions bound made session.old session.new load.old load.new result.served result.starved result.left }
     ensures pass { HasPassed session.old session.new result.served }
     ensures served { HasServed board.now.sessions session.old session.new load.old load.new result.starved result.left }
     ensures few { result.served ≤ bound.rounds * bound.calls }
-    ensures told { HasAddedTold T.ends board.now.sessions session.new.front (entered_since session.old session.new) (T.list told.old) (T.list told.new) }
-    ensures room { T.room told.new ≡ T.room told.old }
-    ensures noted { T.notes told.new session.new.front }
+    ensures told { HasAddedTold T.ends board.now.sessions session.new.front (entered_since session.old session.new) (T.list listener.old) (T.list listener.new) }
+    ensures room { T.room listener.new ≡ T.room listener.old }
+    ensures noted { T.notes listener.new session.new.front }
 {
     let known = session.seen();
     let mut made = 0;
     loop {
-        let last = serve_round_telling(board, session, load, bound, told);
+        let last = make_round_telling(board, session, load, bound, listener);
         made += 1;
         if made >= bound.rounds || last.served == 0 || last.starved {
             return Pass {

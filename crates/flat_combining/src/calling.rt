@@ -8,7 +8,7 @@ ghost use Rattle.flat_combining.specs.Applied.{HasReply};
 
 use crate::machine::Machine;
 use crate::of::Shared;
-use combining::{Next, Nobody, Office, Session, UNBOUNDED};
+use combining::{CallOutcome, Nobody, Office, Session, UNBOUNDED};
 use std::alloc::AllocError as NoMemory;
 
 /// Makes a call of an idle session and waits for its reply, as long as it takes. Whoever has the machine meanwhile serves the published
@@ -29,8 +29,8 @@ pub fn apply<M: Machine>(
     ensures pending { IfErr result (λ _. IsCalling session.old session.new call) }
 {
     match combining::call(office, session, call, u64::MAX, UNBOUNDED, &mut Nobody) {
-        Next::Answered(answer) => Ok(answer.reply),
-        Next::Starved | Next::Wait(_) => Err(NoMemory),
+        CallOutcome::Answered(answer) => Ok(answer.reply),
+        CallOutcome::Starved | CallOutcome::Wait(_) => Err(NoMemory),
     }
 }
 
@@ -48,7 +48,7 @@ pub fn finish<M: Machine>(
     ensures waits { IfErr result (λ _. IsWaitingOn session.old session.new) }
 {
     match combining::resume(office, session, u64::MAX, UNBOUNDED, &mut Nobody) {
-        Next::Answered(answer) => Ok(answer.reply),
-        Next::Starved | Next::Wait(_) => Err(NoMemory),
+        CallOutcome::Answered(answer) => Ok(answer.reply),
+        CallOutcome::Starved | CallOutcome::Wait(_) => Err(NoMemory),
     }
 }

@@ -82,7 +82,7 @@ pub(crate) fn write_hints<E: Write>(
         return;
     }
     if let Some(wrong) = wrong {
-        let text = expected_text(alloc, wrong.place, &wrong.told, &wrong.given);
+        let text = expected_text(alloc, wrong.place, &wrong.said, &wrong.given);
         put(text, errors);
     }
 }

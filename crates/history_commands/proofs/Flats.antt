@@ -11,12 +11,7 @@ use Rattle.std.proofs.lemmas.List.Elements.{All-cons, All-head, All-nil, All-tai
 use Rattle.std.proofs.lemmas.List.Folds.{list_any-append}
 use Rattle.lock_rules.proofs.Lists.{eqb-refl}
 use Rattle.lock_rules.proofs.Walks.{any-find, any-from, has}
-
--- two tests of which each implies the other are equal
-pub both-ways : (b c : Bool) → (b ≡ true → c ≡ true) → (c ≡ true → b ≡ true) → b ≡ c
-both-ways true c f g = sym (f refl)
-both-ways false true f g = g refl
-both-ways false false f g = refl
+use Rattle.lock_rules.proofs.Ranges.{both-ways}
 
 -- whether one passes
 pub any-flat : {X : Type 0} (p : X → Bool) (f : ℕ → List X) (us : List ℕ) → list_any p (flat_map f us) ≡ list_any (λ u. list_any p (f u)) us

@@ -17,7 +17,7 @@ use Rattle.lock_rules.proofs.Listings.{listing-shows}
 use Rattle.lock_rules.proofs.Lists.{request_of-session}
 use Rattle.sequential.proofs.Members.{Member, contains-member, member-contains}
 use Rattle.lock_report.specs.Claims.{is_request_kind}
-use Rattle.lock_report.specs.declared.snapshot.Wait.{Wait}
+use Rattle.lock_report.specs.declared.snapshot.WaitFor.{WaitFor}
 use Rattle.lock_report.specs.Blockers.{first_blocker as first_listed, is_request, is_waited_for, request_of as request_listed, requests_among}
 use Rattle.history_commands.specs.Waits.{claimants, first_passing}
 
@@ -89,7 +89,7 @@ request-told es s = found (request_listed s (requests_among (listing_of (state_o
         e ∙ (sym (((listing-shows es).requests l (not-held l.kind i.1)).0 (member-contains l (listing_of (state_of es)) i.0)) ∙ ap (waiting_line (state_of es)) i.2)
 
 -- the first blocker in a listing is the first of those with a claim on the resource
-first-listed : (own : List Wait) (r : List ℕ) (cs : List ListedClaim)
+first-listed : (own : List WaitFor) (r : List ℕ) (cs : List ListedClaim)
     → first_listed own r cs ≡ first_passing (λ u. is_waited_for u own) (map (λ (c : ListedClaim). c.session) (filter (λ (c : ListedClaim). same_path c.resource r) cs))
 first-listed own r [] = refl
 first-listed own r (c ∷ cs) = go (same_path c.resource r) (first-listed own r cs)
@@ -126,7 +126,7 @@ claimants-told st r =
     ∙ ap (λ (l : List ℕ). holding ++ l) (sym (map-append (λ (q : Claim). q.session) (conversions st.table r) (fresh_requests st.table r)))))
 
 -- the first blocker by a state's listing, if these waits are for whom the test says
-pub first-told : (es : List Entry) (own : List Wait) (r : List ℕ) (test : ℕ → Bool) → ((u : ℕ) → is_waited_for u own ≡ test u)
+pub first-told : (es : List Entry) (own : List WaitFor) (r : List ℕ) (test : ℕ → Bool) → ((u : ℕ) → is_waited_for u own ≡ test u)
     → first_listed own r (listing_of (state_of es)) ≡ first_passing test (claimants (state_of es).table r)
 first-told es own r test same =
     first-listed own r (listing_of (state_of es))

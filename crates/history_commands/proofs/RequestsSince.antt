@@ -25,7 +25,7 @@ use Rattle.lock_rules.proofs.Promote.{request-fewer}
 use Rattle.lock_rules.proofs.Requests.{try-leaves}
 use Rattle.lock_rules.proofs.Steps.{all-pass, is-none}
 use Rattle.sequential.proofs.Members.{Member, contains-member}
-use Rattle.lock_report.specs.declared.snapshot.ToldWait.{ToldWait}
+use Rattle.lock_report.specs.declared.snapshot.WaitLine.{WaitLine}
 use Rattle.history_commands.specs.Since.{IsWaitingSince, request_after}
 use Rattle.history_commands.specs.Waits.{begins_wait, first_blocker, first_blocker_of, is_waiting_reply, may_wait, other_wait, waits_behind, waits_since, waits_told}
 use Rattle.history_commands.proofs.WaitsSince.{since-push}
@@ -245,13 +245,13 @@ member-flat : {A : Type 0} (f : ℕ → List A) (a : A) (ss : List ℕ) → Memb
 member-flat f a [] m = absurd m
 member-flat f a (s ∷ ss) m = elim (member-append a (f s) (flat_map f ss) m) [ inl k ↦ (s, k) | inr k ↦ member-flat f a ss k ]
 
-module _ (n : ℕ) (history : List Entry) (legal : IsLegal history) (w : ToldWait) (place : ℕ) (since : w.since ≡ Some place) where
+module _ (n : ℕ) (history : List Entry) (legal : IsLegal history) (w : WaitLine) (place : ℕ) (since : w.since ≡ Some place) where
   -- another wait than that for the first blocker has no place
   other-none : (s first u : ℕ) → Member w (other_wait (state_of history).table s first u) → ⊥
   other-none s first u m = go (not (eqb u first) && waits_for (state_of history).table s u) m
     where
       go : (b : Bool) → Member w (cond b (record { wait = record { session = s; other = u }; first = false; since = None } ∷ []) []) → ⊥
-      go true k = elim k [ inl e ↦ none (ap (λ (x : ToldWait). x.since) e) since | inr n ↦ n ]
+      go true k = elim k [ inl e ↦ none (ap (λ (x : WaitLine). x.since) e) since | inr n ↦ n ]
         where
           none : {o : Option ℕ} → None ≡ o → o ≡ Some place → ⊥
           none a b = cc
@@ -264,8 +264,8 @@ module _ (n : ℕ) (history : List Entry) (legal : IsLegal history) (w : ToldWai
   behind s None wants (Some first) is m = absurd (cc)
   behind s (Some q) wants (Some first) is m = elim m [
     | inl e ↦
-        let own : s ≡ w.wait.session = ap (λ (x : ToldWait). x.wait.session) e in
-        let here : Some (waits_since s history) ≡ Some place = ap (λ (x : ToldWait). x.since) e ∙ since in
+        let own : s ≡ w.wait.session = ap (λ (x : WaitLine). x.wait.session) e in
+        let here : Some (waits_since s history) ≡ Some place = ap (λ (x : WaitLine). x.since) e ∙ since in
         let at : waits_since s history ≡ place = cc in
         subst (λ (u : ℕ). (p : Claim) × (request_after u history ≡ Some p) × IsWaitingSince u p history place) own
         (q, wants, subst (λ (k : ℕ). IsWaitingSince s q history k) at (waits-since s history legal q wants))

@@ -17,8 +17,8 @@ use Rattle.lock_rules.proofs.Walks.{found, walk-found}
 use Rattle.waits_for.specs.Walks.{IsWalk}
 use Rattle.lock_report.specs.ReadRows.{IsSession, IsWait}
 use Rattle.lock_report.specs.declared.snapshot.OpenTransaction.{OpenTransaction}
-use Rattle.lock_report.specs.declared.snapshot.ToldWait.{ToldWait}
-use Rattle.lock_report.specs.declared.snapshot.Wait.{Wait}
+use Rattle.lock_report.specs.declared.snapshot.WaitLine.{WaitLine}
+use Rattle.lock_report.specs.declared.snapshot.WaitFor.{WaitFor}
 use Rattle.lock_report.specs.Blockers.{first_blocker as first_listed, is_waited_for, other_wait as other_listed, request_of as request_listed, requests_among, told_behind, told_of, told_waits, waits_by as waits_among}
 use Rattle.lock_report.specs.Jam.{does_wait, is_blocked, is_root as is_root_listed, jammed_behind, root_of as root_listed, roots_of as roots_listed, waiters}
 use Rattle.lock_report.proofs.Walks.{all-listed}
@@ -26,8 +26,9 @@ use Rattle.history_commands.specs.Roots.{is_root, root_of, roots_of}
 use Rattle.history_commands.specs.Showing.{open_of, opens_of, wait_of, waits_by, waits_of}
 use Rattle.history_commands.specs.Waits.{first_blocker_of, other_wait, waits_behind, waits_since, waits_told, with_since}
 use Rattle.history_commands.specs.Waits.{waits_of as waits_told_of}
-use Rattle.history_commands.proofs.Flats.{all-range, any-flat, any-one, any-some, both-ways, filter-flat, flat-flat, map-flat, none-any, none-flat, picked, picked-flat}
+use Rattle.history_commands.proofs.Flats.{all-range, any-flat, any-one, any-some, filter-flat, flat-flat, map-flat, none-any, none-flat, picked, picked-flat}
 use Rattle.history_commands.proofs.Requests.{first-told, request-told}
+use Rattle.lock_rules.proofs.Ranges.{both-ways}
 
 -- a session has a line of a waiting request exactly if it waits
 line-told : (st : State) (q : Option Claim) → is_some (listed_request st q) ≡ is_some q
@@ -35,7 +36,7 @@ line-told st None = refl
 line-told st (Some q) = refl
 
 -- the waits of one session among a list of one under a test
-kept : (s : ℕ) (b c : Bool) (w : Wait) → eqb w.session s ≡ c → filter (λ (x : Wait). eqb x.session s) (cond b (w ∷ []) []) ≡ cond c (cond b (w ∷ []) []) []
+kept : (s : ℕ) (b c : Bool) (w : WaitFor) → eqb w.session s ≡ c → filter (λ (x : WaitFor). eqb x.session s) (cond b (w ∷ []) []) ≡ cond c (cond b (w ∷ []) []) []
 kept s true c w e = ap (λ (d : Bool). cond d (w ∷ []) []) e
 kept s false true w e = refl
 kept s false false w e = refl
@@ -66,16 +67,16 @@ module _ (n : ℕ) (es : List Entry)
   other-told : (s u : ℕ) → is_waited_for u (waits_by n (state_of es) s) ≡ waits_for (state_of es).table s u
   other-told s u =
       let t = (state_of es).table in
-      any-flat (λ (w : Wait). eqb w.other u) (wait_of (state_of es) s) (range_with_len 1 n)
-      ∙ ((λ i. list_any (λ v. any-one (λ (w : Wait). eqb w.other u) (waits_for t s v) (record { session = s; other = v }) i) (range_with_len 1 n))
+      any-flat (λ (w : WaitFor). eqb w.other u) (wait_of (state_of es) s) (range_with_len 1 n)
+      ∙ ((λ i. list_any (λ v. any-one (λ (w : WaitFor). eqb w.other u) (waits_for t s v) (record { session = s; other = v }) i) (range_with_len 1 n))
       ∙ picked (waits_for t s) n u (λ h. (within s u h).1))
 
   -- who waits for whom, by the whole list
-  pair-told : (a b v : ℕ) (c : Bool) → eqb v a ≡ c → list_any (λ (w : Wait). eqb w.session a && eqb w.other b) (waits_by n (state_of es) v) ≡ (waits_for (state_of es).table v b && c)
+  pair-told : (a b v : ℕ) (c : Bool) → eqb v a ≡ c → list_any (λ (w : WaitFor). eqb w.session a && eqb w.other b) (waits_by n (state_of es) v) ≡ (waits_for (state_of es).table v b && c)
   pair-told a b v c e =
       let t = (state_of es).table in
-      any-flat (λ (w : Wait). eqb w.session a && eqb w.other b) (wait_of (state_of es) v) (range_with_len 1 n)
-      ∙ ((λ i. list_any (λ x. any-one (λ (w : Wait). eqb w.session a && eqb w.other b) (waits_for t v x) (record { session = v; other = x }) i) (range_with_len 1 n))
+      any-flat (λ (w : WaitFor). eqb w.session a && eqb w.other b) (wait_of (state_of es) v) (range_with_len 1 n)
+      ∙ ((λ i. list_any (λ x. any-one (λ (w : WaitFor). eqb w.session a && eqb w.other b) (waits_for t v x) (record { session = v; other = x }) i) (range_with_len 1 n))
       ∙ (ap (λ (d : Bool). list_any (λ x. waits_for t v x && (d && eqb x b)) (range_with_len 1 n)) e ∙ go c))
     where
       go : (d : Bool) → list_any (λ x. waits_for (state_of es).table v x && (d && eqb x b)) (range_with_len 1 n) ≡ (waits_for (state_of es).table v b && d)
@@ -89,7 +90,7 @@ module _ (n : ℕ) (es : List Entry)
   does-told : (a b : ℕ) → does_wait (waits_of n (state_of es)) a b ≡ waits_for (state_of es).table a b
   does-told a b =
       let t = (state_of es).table in
-      any-flat (λ (w : Wait). eqb w.session a && eqb w.other b) (waits_by n (state_of es)) (range_with_len 1 n)
+      any-flat (λ (w : WaitFor). eqb w.session a && eqb w.other b) (waits_by n (state_of es)) (range_with_len 1 n)
       ∙ ((λ i. list_any (λ v. pair-told a b v (eqb v a) refl i) (range_with_len 1 n))
       ∙ picked (λ v. waits_for t v b) n a (λ h. (within a b h).0))
 
@@ -97,7 +98,7 @@ module _ (n : ℕ) (es : List Entry)
   blocked-told : (u s : ℕ) → is_blocked (waits_of n (state_of es)) u s ≡ reaches (state_of es).table u s
   blocked-told u s = both-ways (is_blocked (waits_of n (state_of es)) u s) (reaches (state_of es).table u s) there back
     where
-      ws : List Wait
+      ws : List WaitFor
       ws = waits_of n (state_of es)
 
       same : does_wait (waits_of n (state_of es)) ≡ waits_for (state_of es).table
@@ -120,7 +121,7 @@ module _ (n : ℕ) (es : List Entry)
   is-root-told s =
       let t = (state_of es).table in
       let waited : is_waited_for s (waits_of n (state_of es)) ≡ ltb 0 (length (filter (λ u. waits_for t u s) (range_with_len 1 n))) =
-      any-flat (λ (w : Wait). eqb w.other s) (waits_by n (state_of es)) (range_with_len 1 n)
+      any-flat (λ (w : WaitFor). eqb w.other s) (waits_by n (state_of es)) (range_with_len 1 n)
       ∙ ((λ i. list_any (λ u. other-told u s i) (range_with_len 1 n)) ∙ any-some (λ u. waits_for t u s) (range_with_len 1 n)) in
       (λ i. not (is_some (request-told es s i)) && waited i) ∙ ap (λ (b : Bool). not b && ltb 0 (length (filter (λ u. waits_for t u s) (range_with_len 1 n)))) (line-told (state_of es) (request_of s t.requests))
 
@@ -152,10 +153,10 @@ module _ (n : ℕ) (es : List Entry)
       → map (with_since history) (told_behind s (waits_by n (state_of es) s) o) ≡ waits_behind n (state_of es).table s (waits_since s history) o
   behind-told history s None = refl
   behind-told history s (Some first) =
-      ap (λ (l : List ToldWait). record { wait = record { session = s; other = first }; first = true; since = Some (waits_since s history) } ∷ l) (others-told history s first)
+      ap (λ (l : List WaitLine). record { wait = record { session = s; other = first }; first = true; since = Some (waits_since s history) } ∷ l) (others-told history s first)
 
   -- the waits of a session with this transaction and this request, of a list in which its own are those of the state
-  told-by : (history : List Entry) (ws : List Wait) (s : ℕ) (x : Option Transaction) (q : Option Claim) → request_of s (state_of es).table.requests ≡ q → (is_some q ≡ true → is_some x ≡ true)
+  told-by : (history : List Entry) (ws : List WaitFor) (s : ℕ) (x : Option Transaction) (q : Option Claim) → request_of s (state_of es).table.requests ≡ q → (is_some q ≡ true → is_some x ≡ true)
       → (is_some q ≡ true → waits_among s ws ≡ waits_by n (state_of es) s)
       → map (with_since history) (told_waits (open_of s x) (listing_of (state_of es)) ws) ≡ waits_behind n (state_of es).table s (waits_since s history) (first_blocker_of (state_of es).table s q)
   told-by history ws s None None wants begun own = refl
@@ -176,16 +177,16 @@ module _ (n : ℕ) (es : List Entry)
           ∙ behind-told history s (first_blocker_of st.table s (Some p))))
 
   -- of its own list
-  own-kept : (s v : ℕ) → filter (λ (w : Wait). eqb w.session s) (waits_by n (state_of es) v) ≡ cond (eqb v s) (waits_by n (state_of es) v) []
+  own-kept : (s v : ℕ) → filter (λ (w : WaitFor). eqb w.session s) (waits_by n (state_of es) v) ≡ cond (eqb v s) (waits_by n (state_of es) v) []
   own-kept s v =
-      filter-flat (λ (w : Wait). eqb w.session s) (wait_of (state_of es) v) (range_with_len 1 n)
+      filter-flat (λ (w : WaitFor). eqb w.session s) (wait_of (state_of es) v) (range_with_len 1 n)
       ∙ ((λ i. flat_map (λ u. kept s (waits_for (state_of es).table v u) (eqb v s) (record { session = v; other = u }) refl i) (range_with_len 1 n))
       ∙ moved (eqb v s) (wait_of (state_of es) v) (range_with_len 1 n))
 
   -- of the whole list
   all-kept : (s : ℕ) → 1 ≤ s → s ≤ n → waits_among s (waits_of n (state_of es)) ≡ waits_by n (state_of es) s
   all-kept s some most =
-      filter-flat (λ (w : Wait). eqb w.session s) (waits_by n (state_of es)) (range_with_len 1 n)
+      filter-flat (λ (w : WaitFor). eqb w.session s) (waits_by n (state_of es)) (range_with_len 1 n)
       ∙ ((λ i. flat_map (λ v. own-kept s v i) (range_with_len 1 n)) ∙ picked-flat (waits_by n (state_of es)) s 1 n some (omega (arith, most)))
 
   -- who waits has a transaction

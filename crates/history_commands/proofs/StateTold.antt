@@ -14,8 +14,8 @@ use Rattle.sequential.specs.Histories.{IsEntryWithin}
 use Rattle.lock_explain.proofs.SessionsOfAHistory.{all-inside, inside, waits-open}
 use Rattle.lock_report.specs.ReadRows.{IsSession, IsWait}
 use Rattle.lock_report.specs.declared.snapshot.OpenTransaction.{OpenTransaction}
-use Rattle.lock_report.specs.declared.snapshot.ToldWait.{ToldWait}
-use Rattle.lock_report.specs.declared.snapshot.Wait.{Wait}
+use Rattle.lock_report.specs.declared.snapshot.WaitLine.{WaitLine}
+use Rattle.lock_report.specs.declared.snapshot.WaitFor.{WaitFor}
 use Rattle.lock_report.specs.Dot.{dot_of_waits}
 use Rattle.lock_report.specs.LocksDot.{dot_of_locks}
 use Rattle.lock_report.specs.StateRows.{rows_of_state}
@@ -34,11 +34,11 @@ use Rattle.history_commands.proofs.StateLists.{opens-within, roots-told, session
 use Rattle.history_commands.proofs.WaitsFollow.{waits-follow}
 
 -- the places since when sessions wait are in no row
-others-told : (front : List Entry) (ws : List ToldWait) → position_or_len (λ (v : ToldWait). v.first) (map (with_since front) ws) ≡ position_or_len (λ (v : ToldWait). v.first) ws
+others-told : (front : List Entry) (ws : List WaitLine) → position_or_len (λ (v : WaitLine). v.first) (map (with_since front) ws) ≡ position_or_len (λ (v : WaitLine). v.first) ws
 others-told front [] = refl
 others-told front (w ∷ ws) = ap (λ (k : ℕ). cond (not w.first) (1 + k) 0) (others-told front ws)
 
-rows-told : (front : List Entry) (ws : List ToldWait) → first_waits (map (with_since front) ws) ≡ first_waits ws
+rows-told : (front : List Entry) (ws : List WaitLine) → first_waits (map (with_since front) ws) ≡ first_waits ws
 rows-told front [] = refl
 rows-told front (w ∷ ws) = λ i. cond w.first (record { wait = w.wait; others = others-told front ws i } ∷ []) [] ++ rows-told front ws i
 
@@ -60,13 +60,13 @@ module _ (n : ℕ) (es : List Entry) (inner : All (IsEntryWithin n) es) where
   lists-within = (opens-within n es wait-within asker-within, waits-within n es wait-within asker-within)
 
   -- the waits of one session
-  pub waits-by-told : (front : List Entry) (s : ℕ) (opens : List OpenTransaction) (claims : List ListedClaim) (own : List Wait)
+  pub waits-by-told : (front : List Entry) (s : ℕ) (opens : List OpenTransaction) (claims : List ListedClaim) (own : List WaitFor)
       → opens ≡ open_of s ((state_of es).begun s) → claims ≡ listing_of (state_of es) → own ≡ waits_by n (state_of es) s
       → map (with_since front) (told_waits opens claims own) ≡ waits_told_of n (state_of es).table front s
   waits-by-told front s opens claims own o c w = (λ i. map (with_since front) (told_waits (o i) (c i) (w i))) ∙ session-told n es wait-within asker-within front s
 
   -- the lists in each form
-  pub form-told : (form : Form) (place waiting : ℕ) (front : List Entry) (opens : List OpenTransaction) (claims : List ListedClaim) (waits : List Wait) → es ≡ front
+  pub form-told : (form : Form) (place waiting : ℕ) (front : List Entry) (opens : List OpenTransaction) (claims : List ListedClaim) (waits : List WaitFor) → es ≡ front
       → waiting ≡ length (state_of es).table.requests → opens ≡ opens_of n (state_of es) → claims ≡ listing_of (state_of es) → waits ≡ waits_of n (state_of es)
       → form_of_lists form (record { sessions = n; place = Some place; waiting = waiting }) front opens claims waits ≡ text_in form n place front
   form-told form.Lines place waiting front opens claims waits served k o c w =

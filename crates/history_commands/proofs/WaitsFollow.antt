@@ -22,7 +22,7 @@ use Rattle.lock_rules.proofs.Lists.{mode_in-seek, request_of-session, seek}
 use Rattle.lock_rules.proofs.Steps.{state-lawful}
 use Rattle.lock_report.specs.Claims.{is_request_kind}
 use Rattle.lock_report.specs.declared.snapshot.OpenTransaction.{OpenTransaction}
-use Rattle.lock_report.specs.declared.snapshot.Wait.{Wait}
+use Rattle.lock_report.specs.declared.snapshot.WaitFor.{WaitFor}
 use Rattle.lock_report.specs.Blockers.{requests_among, request_of as request_listed}
 use Rattle.lock_report.specs.Blocking.{claims_on, is_ahead, waits_among, waits_of as waits_of_request}
 use Rattle.history_commands.specs.Showing.{open_of, opens_of, waits_by, waits_of}
@@ -142,8 +142,8 @@ module _ (es : List Entry) where
         go (Some p) f =
             let st = state_of es in
             let l = listed_as st (kind_of_request st p) p in
-            let made : ℕ → Wait = λ u. record { session = p.session; other = u } in
-            kept-flat (λ (w : Wait). is_ahead l w.other (claims_on p.resource (listing_of st))) made (range_with_len 1 n)
+            let made : ℕ → WaitFor = λ u. record { session = p.session; other = u } in
+            kept-flat (λ (w : WaitFor). is_ahead l w.other (claims_on p.resource (listing_of st))) made (range_with_len 1 n)
             ∙ (λ i. flat_map (λ u. cond (ahead-told s u p f i) (record { session = request_of-session s st.table.requests p f i; other = u } ∷ []) []) (range_with_len 1 n))
 
     asked : (s : ℕ) (q : Option Claim) → request_of s (state_of es).table.requests ≡ q → is_some q ≡ true → is_some ((state_of es).begun s) ≡ true

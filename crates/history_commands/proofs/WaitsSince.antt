@@ -3,7 +3,7 @@ use Rattle.std.proofs.Common.{◌≡◌, ℕ, ◌+◌, ◌<◌, cond, List, [], 
 use Rattle.std.proofs.lemmas.List.{map-append, take_more}
 use Rattle.lock_rules.specs.Entries.{Entry}
 use Rattle.lock_report.proofs.Pieces.{with_next}
-use Rattle.lock_report.specs.declared.snapshot.ToldWait.{ToldWait}
+use Rattle.lock_report.specs.declared.snapshot.WaitLine.{WaitLine}
 use Rattle.history_commands.specs.Waits.{AreSince, begins_wait, since_from, waits_since, with_since}
 
 -- the last of some entries tells, if a wait began with it
@@ -28,8 +28,8 @@ since-more i es e old new lt is same told so_far s below =
     told s there ∙ (ap (λ (k : ℕ). cond (begins_wait s e) i k) (so_far s there) ∙ sym (one-more s i es e lt is))
 
 -- one wait more is told
-pub waits-more : (es : List Entry) (ws : List ToldWait) (i : ℕ) (d : ToldWait) (old new : List ToldWait) (x : ToldWait) → i < length ws → x ≡ with_since es (get_or ws i d)
+pub waits-more : (es : List Entry) (ws : List WaitLine) (i : ℕ) (d : WaitLine) (old new : List WaitLine) (x : WaitLine) → i < length ws → x ≡ with_since es (get_or ws i d)
     → old ≡ map (with_since es) (take i ws) → new ≡ old ++ x ∷ [] → new ≡ map (with_since es) (take (i + 1) ws)
 waits-more es ws i d old new x lt is so_far more =
-    more ∙ (ap₂ (λ (l : List ToldWait) (y : ToldWait). l ++ y ∷ []) so_far is
+    more ∙ (ap₂ (λ (l : List WaitLine) (y : WaitLine). l ++ y ∷ []) so_far is
     ∙ sym (ap (map (with_since es)) (take_more ws i d lt) ∙ map-append (with_since es) (take i ws) (get_or ws i d ∷ [])))

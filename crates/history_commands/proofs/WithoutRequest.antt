@@ -2,7 +2,7 @@
 use Rattle.std.proofs.Common.{◌≡◌, ℕ, List, [], ◌∷◌, ◌++◌, Option, Some, None, refl, ap, ◌∙◌, arith}
 use Rattle.std.specs.List.{flat_map, range_with_len}
 use Rattle.std.proofs.lemmas.List.Concat.{flat_map-cons}
-use Rattle.lock_report.specs.declared.snapshot.Wait.{Wait}
+use Rattle.lock_report.specs.declared.snapshot.WaitFor.{WaitFor}
 use Rattle.lock_rules.specs.State.{Claim, State, request_of}
 use Rattle.lock_rules.specs.Listing.{listed_request}
 use Rattle.history_commands.specs.Showing.{wait_of, waits_by}
@@ -22,4 +22,4 @@ no-waits st s n none = go (range_with_len 1 n)
   where
     go : (us : List ℕ) → flat_map (wait_of st s) us ≡ []
     go [] = refl
-    go (u ∷ us) = flat_map-cons (wait_of st s) u us ∙ (ap (λ (l : List Wait). l ++ flat_map (wait_of st s) us) (no-wait st s u none) ∙ go us)
+    go (u ∷ us) = flat_map-cons (wait_of st s) u us ∙ (ap (λ (l : List WaitFor). l ++ flat_map (wait_of st s) us) (no-wait st s u none) ∙ go us)

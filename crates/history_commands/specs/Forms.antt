@@ -3,8 +3,8 @@ use Rattle.std.specs.Prelude.{ℕ, List, Option, Some, None, map}
 use Rattle.lock_rules.specs.declared.listing.Claim.{Claim}
 use Rattle.lock_rules.specs.Entries.{Entry}
 use Rattle.lock_report.specs.declared.snapshot.OpenTransaction.{OpenTransaction}
-use Rattle.lock_report.specs.declared.snapshot.ToldWait.{ToldWait}
-use Rattle.lock_report.specs.declared.snapshot.Wait.{Wait}
+use Rattle.lock_report.specs.declared.snapshot.WaitLine.{WaitLine}
+use Rattle.lock_report.specs.declared.snapshot.WaitFor.{WaitFor}
 use Rattle.lock_report.specs.Dot.{dot_of_waits}
 use Rattle.lock_report.specs.LocksDot.{dot_of_locks}
 use Rattle.lock_report.specs.StateRows.{rows_of_state}
@@ -18,12 +18,12 @@ use Rattle.history_commands.specs.Waits.{with_since}
 
 -- the waits of a state in front of a place, to which these entries have led, with the places since when sessions wait; of a dump, which has
 -- no place, without these
-abbrev pub told_at : Option ℕ → List Entry → List ToldWait → List ToldWait
+abbrev pub told_at : Option ℕ → List Entry → List WaitLine → List WaitLine
 told_at None front waits = waits
 told_at (Some place) front waits = map (with_since front) waits
 
 -- the lists in this form, of a moment to which these entries have led
-abbrev pub form_of_lists : Form → Moment → List Entry → List OpenTransaction → List Claim → List Wait → List ℕ
+abbrev pub form_of_lists : Form → Moment → List Entry → List OpenTransaction → List Claim → List WaitFor → List ℕ
 form_of_lists form.Lines m front opens claims waits =
     text_of_lists m.sessions m.place m.waiting opens claims waits (told_at m.place front (told_waits opens claims waits))
 form_of_lists form.Rows m front opens claims waits = rows_of_state opens claims (first_waits (told_waits opens claims waits))

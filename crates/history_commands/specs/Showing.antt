@@ -11,7 +11,7 @@ use Rattle.lock_rules.specs.Listing.{listing_of}
 use Rattle.lock_trace.specs.Entries.{IsEntry}
 use Rattle.lock_trace.specs.ReadHistories.{history_of, TellsOfHistory}
 use Rattle.lock_report.specs.declared.snapshot.OpenTransaction.{OpenTransaction}
-use Rattle.lock_report.specs.declared.snapshot.Wait.{Wait}
+use Rattle.lock_report.specs.declared.snapshot.WaitFor.{WaitFor}
 use Rattle.lock_report.specs.StateText.{text_of_state}
 use Rattle.lock_report.specs.StateRows.{rows_of_state}
 use Rattle.lock_report.specs.Dot.{dot_of_waits}
@@ -38,15 +38,15 @@ abbrev pub opens_of : ℕ → State → List OpenTransaction
 opens_of n st = flat_map (λ s. open_of s (st.begun s)) (range_with_len 1 n)
 
 -- the edge of the waits-for graph from s to u in a list, the empty list if there is none
-abbrev pub wait_of : State → ℕ → ℕ → List Wait
+abbrev pub wait_of : State → ℕ → ℕ → List WaitFor
 wait_of st s u = if waits_for st.table s u then record { session = s; other = u } ∷ [] else []
 
 -- for whom session s waits directly, of the sessions 1 to n, by session number
-abbrev pub waits_by : ℕ → State → ℕ → List Wait
+abbrev pub waits_by : ℕ → State → ℕ → List WaitFor
 waits_by n st s = flat_map (wait_of st s) (range_with_len 1 n)
 
 -- who of the sessions 1 to n waits directly for whom, by session number
-abbrev pub waits_of : ℕ → State → List Wait
+abbrev pub waits_of : ℕ → State → List WaitFor
 waits_of n st = flat_map (waits_by n st) (range_with_len 1 n)
 
 -- the text for people of the state in front of a place, to which these entries have led

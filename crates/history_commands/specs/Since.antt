@@ -3,7 +3,7 @@ use Rattle.std.specs.Prelude.{◌≡◌, ℕ, ◌<◌, ◌≤◌, true, List, le
 use Rattle.lock_rules.specs.Entries.{Entry}
 use Rattle.lock_rules.specs.State.{Claim, request_of}
 use Rattle.lock_rules.specs.Legal.{state_of}
-use Rattle.lock_report.specs.declared.snapshot.ToldWait.{ToldWait}
+use Rattle.lock_report.specs.declared.snapshot.WaitLine.{WaitLine}
 use Rattle.history_commands.specs.Waits.{begins_wait, waits_told}
 
 -- the session's request, as it is after these entries
@@ -21,5 +21,5 @@ pub record IsWaitingSince (s : ℕ) (q : Claim) (history : List Entry) (place : 
 
 -- each wait that is told with a place is of a session that waits since there, with the request that it has at the end
 abbrev pub ArePlacesTold : ℕ → List Entry → Type 0
-ArePlacesTold n history = (w : ToldWait) (place : ℕ) → Contains (waits_told n (state_of history) history) w → w.since ≡ Some place
+ArePlacesTold n history = (w : WaitLine) (place : ℕ) → Contains (waits_told n (state_of history) history) w → w.since ≡ Some place
     → (q : Claim) × (request_after w.wait.session history ≡ Some q) × IsWaitingSince w.wait.session q history place

@@ -9,7 +9,7 @@ use Rattle.lock_rules.specs.Entries.{Entry}
 use Rattle.lock_rules.specs.State.{Claim, Table, State, holders, request_of}
 use Rattle.lock_rules.specs.Queue.{queue}
 use Rattle.lock_rules.specs.Waits.{waits_for}
-use Rattle.lock_report.specs.declared.snapshot.ToldWait.{ToldWait}
+use Rattle.lock_report.specs.declared.snapshot.WaitLine.{WaitLine}
 
 -- the call asks for a lock that it may wait for
 abbrev pub may_wait : Call → Bool
@@ -59,25 +59,25 @@ abbrev pub first_blocker : Table → ℕ → Option ℕ
 first_blocker t s = first_blocker_of t s (request_of s t.requests)
 
 -- the wait of session s for u in a list, the empty list if it doesn't wait for u, or u is its first blocker
-abbrev pub other_wait : Table → ℕ → ℕ → ℕ → List ToldWait
+abbrev pub other_wait : Table → ℕ → ℕ → ℕ → List WaitLine
 other_wait t s first u =
     if not (u == first) && waits_for t s u
     then record { wait = record { session = s; other = u }; first = false; since = None } ∷ [] else []
 
 -- the waits of a session that waits since this place: that for its first blocker, then those for others, by session number
-abbrev pub waits_behind : ℕ → Table → ℕ → ℕ → Option ℕ → List ToldWait
+abbrev pub waits_behind : ℕ → Table → ℕ → ℕ → Option ℕ → List WaitLine
 waits_behind n t s since None = []
 waits_behind n t s since (Some first) =
     record { wait = record { session = s; other = first }; first = true; since = Some since } ∷ [] ++ flat_map (other_wait t s first) (range_with_len 1 n)
 
 -- the waits of session s for others, of the sessions 1 to n, in this lock table, to which the history has led
-abbrev pub waits_of : ℕ → Table → List Entry → ℕ → List ToldWait
+abbrev pub waits_of : ℕ → Table → List Entry → ℕ → List WaitLine
 waits_of n t history s = waits_behind n t s (waits_since s history) (first_blocker t s)
 
 -- the waits of the sessions 1 to n in this state of the lock table, to which the history has led, by session number
-abbrev pub waits_told : ℕ → State → List Entry → List ToldWait
+abbrev pub waits_told : ℕ → State → List Entry → List WaitLine
 waits_told n st history = flat_map (λ s. waits_behind n st.table s (waits_since s history) (first_blocker st.table s)) (range_with_len 1 n)
 
 -- a wait that is told with the place since when its session waits, if it is for the first blocker
-abbrev pub with_since : List Entry → ToldWait → ToldWait
+abbrev pub with_since : List Entry → WaitLine → WaitLine
 with_since history w = record { wait = w.wait; first = w.first; since = if w.first then Some (waits_since w.wait.session history) else w.since }

@@ -13,7 +13,7 @@ use crate::since::with_places;
 use command_line::Form;
 use lock_desk::{Book, Call, Entry, NoMemory};
 use lock_explain::{Explanation, explanation_dot, explanation_rows, explanation_text};
-use lock_report::{Doom, ToldWait, answer_rows, answer_text, told_waits};
+use lock_report::{Doom, WaitLine, answer_rows, answer_text, told_waits};
 use lock_trace::piece_text;
 use std::alloc::Global;
 
@@ -82,7 +82,7 @@ fn waits_of(
     book: &Book,
     front: &[Entry],
     session: u16,
-) -> Result<Vec<ToldWait>, NoMemory>
+) -> Result<Vec<WaitLine>, NoMemory>
     requires within { All (IsEntryWithin book.now.sessions) front.now }
     requires front { book.now.history ≡ front.now }
     ensures { IfOk result (λ waits. waits.items ≡ waits_of book.now.sessions (state_of book.now.history).table book.now.history session) }

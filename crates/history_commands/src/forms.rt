@@ -10,7 +10,7 @@ use crate::since::with_places;
 use command_line::Form;
 use lock_desk::Entry;
 use lock_report::{
-    Lists, Moment, ToldWait, first_waits, lists_text, locks_dot, state_rows, told_waits, waits_dot,
+    Lists, Moment, WaitLine, first_waits, lists_text, locks_dot, state_rows, told_waits, waits_dot,
 };
 use std::alloc::{AllocError as NoMemory, Global};
 
@@ -20,7 +20,7 @@ fn told_at(
     place: Option<u64>,
     front: &[Entry],
     lists: &Lists,
-) -> Result<Vec<ToldWait>, NoMemory>
+) -> Result<Vec<WaitLine>, NoMemory>
     ensures { IfOk result (λ told. told.items ≡ told_at place front.now (told_waits lists.now.opens.items lists.now.claims.items lists.now.waits.items)) }
 {
     let told = told_waits(alloc, &lists.opens, &lists.claims, &lists.waits)?;

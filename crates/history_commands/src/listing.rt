@@ -6,7 +6,7 @@ ghost use Rattle.lock_rules.specs.Listing.{listing_of};
 ghost use Rattle.history_commands.specs.Showing.{open_of, opens_of, wait_of, waits_by, waits_of};
 
 use lock_desk::{Book, NoMemory};
-use lock_report::{Lists, OpenTransaction, Wait};
+use lock_report::{Lists, OpenTransaction, WaitFor};
 use std::alloc::Global;
 
 /// Adds the open transaction of `session` to the list, if it has one. Fails if memory is refused.
@@ -39,17 +39,17 @@ fn open_transactions(alloc: Global, book: &Book) -> Result<Vec<OpenTransaction>,
 }
 
 /// Adds the edge from `session` to `other` to the list, if the first waits for the second. Fails if memory is refused.
-fn add_wait(book: &Book, session: u16, other: u16, waits: &mut Vec<Wait>) -> Result<(), NoMemory>
+fn add_wait(book: &Book, session: u16, other: u16, waits: &mut Vec<WaitFor>) -> Result<(), NoMemory>
     ensures { OnOk result (waits.new.items ≡ waits.old.items ++ wait_of (state_of book.now.history) session other) }
 {
     if book.waits_for(session, other) {
-        waits.push(Wait { session, other })?;
+        waits.push(WaitFor { session, other })?;
     }
     Ok(())
 }
 
 /// For whom `session` waits directly, by session number. Fails if memory is refused.
-pub(crate) fn waits_by(alloc: Global, book: &Book, session: u16) -> Result<Vec<Wait>, NoMemory>
+pub(crate) fn waits_by(alloc: Global, book: &Book, session: u16) -> Result<Vec<WaitFor>, NoMemory>
     ensures { IfOk result (λ waits. waits.items ≡ waits_by book.now.sessions (state_of book.now.history) session) }
 {
     let mut waits = Vec::new(alloc);
@@ -64,7 +64,7 @@ pub(crate) fn waits_by(alloc: Global, book: &Book, session: u16) -> Result<Vec<W
 }
 
 /// Who of the book's sessions waits directly for whom, by session number. Fails if memory is refused.
-fn all_waits(alloc: Global, book: &Book) -> Result<Vec<Wait>, NoMemory>
+fn all_waits(alloc: Global, book: &Book) -> Result<Vec<WaitFor>, NoMemory>
     ensures { IfOk result (λ waits. waits.items ≡ waits_of book.now.sessions (state_of book.now.history)) }
 {
     let mut waits = Vec::new(alloc);

@@ -5,7 +5,7 @@ ghost use Rattle.lock_rules.specs.Entries.{Entry as EntryValue};
 ghost use Rattle.history_commands.specs.Waits.{AreSince, begins_wait, is_waiting_reply, may_wait, with_since};
 
 use lock_desk::{Call, Entry, Reply};
-use lock_report::ToldWait;
+use lock_report::WaitLine;
 use std::alloc::{AllocError as NoMemory, Global};
 
 /// Whether a lock may be waited for by the call.
@@ -53,7 +53,7 @@ fn places_since(alloc: Global, entries: &[Entry], most: u16) -> Result<Vec<u64>,
 }
 
 /// The highest number of a session that waits.
-fn highest(waits: &[ToldWait]) -> u16
+fn highest(waits: &[WaitLine]) -> u16
     ensures { All (λ told. told.wait.session ≤ result) waits.now }
 {
     let mut most = 0u16;
@@ -64,14 +64,14 @@ fn highest(waits: &[ToldWait]) -> u16
 }
 
 /// The wait with the place since when its session waits, if it is for the first blocker.
-fn with_since(places: &[u64], told: ToldWait) -> ToldWait
+fn with_since(places: &[u64], told: WaitLine) -> WaitLine
     requires { told.wait.session < length places.now }
     ensures { (entries : List EntryValue) → AreSince entries places.now → result ≡ with_since entries told }
 {
     if !told.first {
         return told;
     }
-    ToldWait {
+    WaitLine {
         since: Some(places[usize::from(told.wait.session)]),
         ..told
     }
@@ -82,8 +82,8 @@ fn with_since(places: &[u64], told: ToldWait) -> ToldWait
 pub(crate) fn with_places(
     alloc: Global,
     entries: &[Entry],
-    waits: &[ToldWait],
-) -> Result<Vec<ToldWait>, NoMemory>
+    waits: &[WaitLine],
+) -> Result<Vec<WaitLine>, NoMemory>
     ensures { IfOk result (λ told. told.items ≡ map (with_since entries.now) waits.now) }
 {
     if waits.is_empty() {

@@ -1,7 +1,9 @@
 -- What the walks of pointers that may be null share. Assumes `Logic`.
 use Rattle.std.proofs.Common.{◌≡◌, ℕ, List, [], ◌∷◌, refl, subst}
-use Rattle.library_books.proofs.Walking.{Ura, Ty, ty_bool, Val, SProp, sep, emp, via, never_e, Share, Fml, ftrue, fat, fact, fact_i, Logic, Item, Goal, Seq, Step, step, prop, raw, ‵, given, learn, ◌$◌, !, qed, done}
+use Rattle.library_books.proofs.Walking.{Ura, Ty, Body, Calls, Loops, at_ret, ty_bool, Val, SProp, sep, emp, via, never_e, Share, Fml, ftrue, fat, fact, fact_i, Logic, Item, Goal, Seq, Step, step, prop, raw, ‵, given, learn, ◌$◌, !, qed, done}
 use Rattle.library_books.proofs.Walking.{move, use0, use1, cell_raw, RattleType, Ptr, block_ptr, null_ptr, InBlock, Testable, Owning}
+use prog.Wp.{Env, Wp, after_seq, after_block}
+use types.Kit.{Post, any_q, post}
 use denote.Struct.Field.{RawPtr-field}
 
 module _ {M : Type 1} {𝓤 : Ura M} {𝓛 : Logic 𝓤} {K : Type 0} {Γ : List (Item 𝓤)} {G : Goal 𝓤 𝓛.H} where
@@ -25,6 +27,12 @@ module _ {M : Type 1} {𝓤 : Ura M} {𝓛 : Logic 𝓤} {K : Type 0} {Γ : List
     prf = via 𝓤 P s.prf (qed 𝓛 (raw P ∷ []) {P = sep 𝓤 P (sep 𝓤 (fact 𝓤 φ) (fact 𝓤 ψ))} (
         use0 𝓛 (raw (fact 𝓤 φ)) (fact_i 𝓤 φ (emp 𝓤) x) $ use0 𝓛 (raw (fact 𝓤 ψ)) (fact_i 𝓤 ψ (emp 𝓤) y) $ move ! (2 ∷ 1 ∷ 0 ∷ []) $ done !));
   })
+
+-- what runs behind a block with which a function begins
+abbrev pub behind_block : {M : Type 1} {𝓤 : Ura M} (𝓛 : Logic 𝓤) → Calls 𝓤 𝓛.H → Loops 𝓤 𝓛.H → Env 𝓤 𝓛.H → Body → (Val → SProp 𝓤) → Post 𝓤 𝓛.H
+behind_block {𝓤 = 𝓤} 𝓛 C Λ E rest Q =
+    let End = post 𝓤 𝓛.H (at_ret E Q) in
+    any_q (after_block 𝓤 𝓛.H (after_seq 𝓤 𝓛.H (Wp 𝓤 𝓛.H C Λ E rest End) End))
 
 -- the machine type of a type that has one
 abbrev pub first_of : List Ty → Ty

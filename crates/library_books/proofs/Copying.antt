@@ -14,7 +14,7 @@ use Rattle.core.specs.contracts.option.Option as OP
 use Rattle.core.proofs.option.Made.{Some-of, none_of}
 use Rattle.std_alloc.proofs.ResultValues.{and_tt}
 use Rattle.library_books.specs.Behind.{maybe_shared}
-use Rattle.library_books.proofs.Behind.{PointerTo, pointing, null_or_block, one_value, says_both, not_null, first_of, sized, pointer_of}
+use Rattle.library_books.proofs.Behind.{PointerTo, behind_block, pointing, null_or_block, one_value, says_both, not_null, first_of, sized, pointer_of}
 
 module _ (X : RattleType) (copies : IsCopy (sized X (first_of X.mir))) (O : Owning) (at : O.D → Ptr) (testable : (d : O.D) → Testable (at d)) (behind : O.D → X.Denot) where
   abbrev ty : Ty
@@ -57,11 +57,11 @@ module _ (X : RattleType) (copies : IsCopy (sized X (first_of X.mir))) (O : Owni
   abbrev option_ty : Ty
   option_ty = first_of (OP.the_row T).mir
 
-  abbrev t-5 : Body
-  t-5 = seq (assign (place 0 []) (rv_opd (copy (place 4 [])))) return
+  abbrev inside : Body
+  inside = seq (assign (place 5 []) (rv_opd (copy (place 2 (deref ty ∷ []))))) (assign (place 3 []) (aggregate (int w8 1 ∷ copy (place 5 []) ∷ [])))
 
-  abbrev t-4 : Body
-  t-4 = seq (block (seq (assign (place 5 []) (rv_opd (copy (place 2 (deref ty ∷ []))))) (assign (place 4 []) (aggregate (int w8 1 ∷ copy (place 5 []) ∷ []))))) t-5
+  abbrev t-2 : Body
+  t-2 = seq (assign (place 0 []) (rv_opd (copy (place 3 [])))) return
 
   abbrev pub function : Fn
   function = record {
@@ -70,10 +70,10 @@ module _ (X : RattleType) (copies : IsCopy (sized X (first_of X.mir))) (O : Owni
     ty_params = [];
     givens = 0;
     params = 1;
-    locals = local option_ty value_local ∷ local (first_of (MutRef (named 0) [] R).mir) value_local ∷ local ty_ptr value_local ∷ local ty_bool value_local
-        ∷ local option_ty value_local ∷ local ty value_local ∷ [];
-    body = seq (assign (place 2 []) (rv_opd (copy (place 1 (deref (layout (shape the_type)) ∷ field 0 ∷ []))))) (seq (assign (place 3 []) (op2 ptr_eq (copy (place 2 [])) (int w64 0)))
-        (seq (cond (copy (place 3 [])) (seq (assign (place 0 []) (aggregate (int w8 0 ∷ []))) return) skip) t-4));
+    locals = local option_ty value_local ∷ local (first_of (MutRef (named 0) [] R).mir) value_local ∷ local ty_ptr value_local
+        ∷ local option_ty value_local ∷ local ty_bool value_local ∷ local ty value_local ∷ [];
+    body = seq (block (seq (assign (place 2 []) (rv_opd (copy (place 1 (deref (layout (shape the_type)) ∷ field 0 ∷ []))))) (seq (assign (place 4 []) (op2 ptr_eq (copy (place 2 [])) (int w64 0)))
+        (seq (cond (copy (place 4 [])) (seq (assign (place 0 []) (aggregate (int w8 0 ∷ []))) return) skip) inside)))) t-2;
   }
 
   module _ {M : Type 1} (𝓤 : Ura M) (𝓛 : Logic 𝓤) (𝓜 : Model 𝓤 𝓛.H) (𝓡 : Running 𝓤 𝓛.H 𝓜) {k : Callee} where
@@ -94,6 +94,7 @@ module _ (X : RattleType) (copies : IsCopy (sized X (first_of X.mir))) (O : Owni
         move ! (1 ∷ []) $ peeks ! R _ (shows 𝓛 R) h us (λ is_us. fsplit ! $ move ! (1 ∷ []) $
         let Cell = λ (ws : List Val). ‵ (cell_at full_share R.mir ws b o) in
         let word = Tells-lowered the_type (RawPtr-laws, tt) h us is_us in
+        first ! $ blocks ! $
         null_or_block ! (P.at h) (λ p. maybe_shared T p (P.behind h))
         (λ e. rewrite ! 2 Cell word refl $
         -- [nothing; the fields; the struct's cell; the open borrow, in three entries]
@@ -117,11 +118,11 @@ module _ (X : RattleType) (copies : IsCopy (sized X (first_of X.mir))) (O : Owni
         sets ! (is ! (of_opd ! (load ! (through ! refl (fld ! refl (stop !))) (look_in ! 4 (sub ! 0 refl (whole !))))) (ap ptr_val e)) refl (tt, tt) $
         sets ! (bin ! (get ! refl) (lit ! tt) (tests_null (block_ptr b' o') (subst Testable e (P.testable h)))) refl (tt, tt) $
         first ! $ branches ! (get ! refl) (λ t. absurd t)
-        (λ t. skips ! $ exec ! 𝓣.C 𝓣.Λ (env function.locals l) t-4 (at_ret (env function.locals l) (W.post y)) $
+        (λ t. skips ! $ exec ! 𝓣.C 𝓣.Λ (env function.locals l) inside (behind_block 𝓛 𝓣.C 𝓣.Λ (env function.locals l) t-2 (W.post y)) $
         let is_some : Holds (has_ty option_ty (live 1 (of_list (v ∷ [])))) × WT (live 1 (of_list (v ∷ []))) = (and_tt _ good.0, (record { fits = lit< tt }, (good.1, tt))) in
-        first ! $ blocks ! $ sets ! (of_opd ! (load ! (through ! refl (stop !)) (look ! 0 refl))) refl good $
+        sets ! (of_opd ! (load ! (through ! refl (stop !)) (look ! 0 refl))) refl good $
         sets_last ! (agg ! (and_then ! (lit ! tt) (and_then ! (get ! refl) (no_more !)))) refl is_some $
-        exec ! 𝓣.C 𝓣.Λ (env function.locals l) t-5 (at_ret (env function.locals l) (W.post y)) $
+        exec ! 𝓣.C 𝓣.Λ (env function.locals l) t-2 (at_ret (env function.locals l) (W.post y)) $
         sets ! (of_opd ! (get ! refl)) refl is_some $
         use1 𝓛 (‵ (fat q (raw_ty ty) b' o' v)) (𝓛.laws.at_raw q ty b' o' v) $ fjoin ! $
         fpack ! (List Val) (λ us. fsep (cell_raw q (raw_ty ty ∷ []) us b' o') (T.own_val (P.behind h) us)) (v ∷ []) $

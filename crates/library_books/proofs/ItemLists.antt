@@ -1,10 +1,14 @@
 -- The walks of lists that may be null, at all items at once: `is_null`, and `items`, which lends them. Assumes `Logic`.
-use Rattle.std.proofs.Common.{◌≡◌, ℕ, zero, suc, ◌*◌, ◌^◌, ◌<◌, List, [], ◌∷◌, length, refl, sym, ap, ◌∙◌, subst, lit<, arith, zero-mul, eqb→eq, true≢false, true, false, IsTrue, ◌↔◌, w64, MutBor}
-use Rattle.library_books.proofs.Walking.{proved, Ura, Fn, Body, Callee, named, erased, ty_ptr, ty_bool, ty_int, local, value_local, place, deref, field, copy, int, assign, rv_opd, opd_false, op2, eq, ptr_eq, cond, seq}
+use Rattle.std.proofs.Common.{◌≡◌, ℕ, zero, suc, ◌*◌, ◌^◌, ◌<◌, List, [], ◌∷◌, length, refl, sym, ap, ◌∙◌, subst, lit<, arith, zero-mul, eqb→eq, true≢false, IsTrue, ◌↔◌, w64, MutBor}
+use Rattle.library_books.proofs.Walking.{proved, Ura, Fn, Body, Callee, named, erased, ty_ptr, ty_bool, ty_int, local, value_local, place, deref, field, copy, int, assign, rv_opd, op2, eq, ptr_eq, cond, seq}
+use mir.Syntax.{ne, bit_and}
+use mir.Val.{ptr_same}
+use mathlib.Core.Bool.{Bool, not, ◌&&◌}
+use lib.Dec.{eqb, eqb-suc-zero}
 use Rattle.library_books.proofs.Walking.{aggregate, return, skip, block, addr_of, Val, vint, vbool, full_share, ent, sep, emp, GName, Fml, ftrue, fsep, feq, flft, Model, Closed, fact, Running, tables, Logic, sem}
 use Rattle.library_books.proofs.Walking.{whole, sub, look_in, agg, Item, Goal, Seq, ‵, raw, ◌⊛◌, some, later, at_ret, ◌$◌, ◌∵◌, !, qed, done, move, keep, drop, use1, split, split3, join, fsplit, fsplit3, fjoin, fpack, feq_l}
-use Rattle.library_books.proofs.Walking.{feq_i, flt_l, flt_i, pick, await, rewrite, suffices, frame, group, enter, of_opd, lit, false_lit, bin, addr, load, stop, fld, no_more, and_then, first, blocks, branches, skips, exec}
-use Rattle.library_books.proofs.Walking.{returns, returns_within, is, alloc_all, pass_all, free_all, look_at, get, through, sets, sets_last, env, bool, RefMutOf, SliceRefMutOf, yes, no, shows, mem, cell_at, part_at, RattleType}
+use Rattle.library_books.proofs.Walking.{feq_i, flt_l, flt_i, pick, await, rewrite, suffices, frame, group, enter, of_opd, lit, bin, addr, load, stop, fld, no_more, and_then, first, blocks, branches, skips, exec}
+use Rattle.library_books.proofs.Walking.{returns, is, alloc_all, pass_all, free_all, look_at, get, through, sets, sets_last, env, bool, RefMutOf, SliceRefMutOf, yes, no, shows, mem, cell_at, part_at, RattleType}
 use Rattle.library_books.proofs.Walking.{Ptr, block_ptr, null_ptr, ptr_val, Testable, tests_null, MutRef, mut_vals, mut_Tells, Signature, plain, mut_ref_to, nothing, heard, opens, closes, peeks, RawPtr-laws, usize-laws, Struct}
 use Rattle.library_books.proofs.Walking.{layout, Owning, row, shape, Tells-lowered, Clauses, Ended, closing, Meets, Stays, walk_of, says, stay_dropped, stay_ref, Goes-ref, Goes-spent_ref, ends_at}
 use Rattle.std.proofs.lemmas.List.{nil_from_length}
@@ -19,7 +23,7 @@ use denote.Slice.{MutSlice, slice_val}
 use denote.Struct.Field.{RawPtr-field, usize-field}
 use Rattle.library_books.specs.Behind.{items_at, list_at}
 use Rattle.library_books.proofs.PointerValues.{ptr_typed}
-use Rattle.library_books.proofs.Behind.{PointerTo, null_or_block, says_both, not_null, first_of, sized, pointer_of}
+use Rattle.library_books.proofs.Behind.{PointerTo, behind_block, null_or_block, says_both, not_null, first_of, sized, pointer_of}
 
 module _ {M : Type 1} {𝓤 : Ura M} {𝓛 : Logic 𝓤} {K : Type 0} {Γ : List (Item 𝓤)} {G : Goal 𝓤 𝓛.H} where
   -- by whether a number is 0
@@ -28,14 +32,23 @@ module _ {M : Type 1} {𝓤 : Ura M} {𝓛 : Logic 𝓤} {K : Type 0} {Γ : List
   none_or_more t zero F k h = k refl
   none_or_more t (suc m) F k h = h m refl
 
-module _ {X : Type 1} where
-  pub by_number : (n : ℕ) → (n ≡ 0 → X) → ((m : ℕ) → n ≡ suc m → X) → X
-  by_number zero k h = k refl
-  by_number (suc m) k h = h m refl
+-- what the test of a pointer gives
+abbrev at_null : Ptr → Bool
+at_null p = ptr_same (ptr_val p) (vint w64 0)
 
-  pub by_pointer : (p : Ptr) → (p ≡ null_ptr → X) → ((b o : ℕ) → p ≡ block_ptr b o → X) → X
-  by_pointer null_ptr k h = k refl
-  by_pointer (block_ptr b o) k h = h b o refl
+at_null_told : (p : Ptr) → IsTrue (at_null p) ↔ (p ≡ null_ptr)
+at_null_told null_ptr = ((λ t. refl), (λ z. refl))
+at_null_told (block_ptr b o) = ((λ t. absurd (true≢false (sym t))), (λ z. absurd (not_null z)))
+
+-- what the tests of a pointer and of a number give
+abbrev is_null_list : Ptr → ℕ → Bool
+is_null_list p n = not (eqb n 0) && at_null p
+
+is_null_list_told : (p : Ptr) (n : ℕ) → IsTrue (is_null_list p n) ↔ ((p ≡ null_ptr) × (0 < n))
+is_null_list_told p zero = ((λ t. absurd (true≢false (sym t))), (λ z. absurd (omega (arith, z.1))))
+is_null_list_told p (suc m) =
+    subst (λ (b : Bool). IsTrue (not b && at_null p) ↔ ((p ≡ null_ptr) × (0 < suc m))) (sym (eqb-suc-zero m))
+    ((λ t. ((at_null_told p).0 t, omega arith)), (λ z. (at_null_told p).1 z.0))
 
 module _ {M : Type 1} {𝓤 : Ura M} (𝓛 : Logic 𝓤) (R T : RattleType) (F : List T.Denot → R.Denot) (A : Fml) (us : List Val) (b o b' o' : ℕ) (xs : List T.Denot) where
   -- all but the items
@@ -128,11 +141,11 @@ module _ {X : RattleType} (P : ListOf X) where
   abbrev self_field : ℕ → ℕ → Body
   self_field i k = assign (place i []) (rv_opd (copy (place 1 (deref (layout (shape the_type)) ∷ field k ∷ []))))
 
-  abbrev t-6 : Body
-  t-6 = seq (assign (place 0 []) (rv_opd (copy (place 6 [])))) return
+  abbrev made : Body
+  made = assign (place 4 []) (aggregate (copy (place 3 []) ∷ copy (place 2 []) ∷ []))
 
-  abbrev t-5 : Body
-  t-5 = seq (block (assign (place 6 []) (aggregate (copy (place 3 []) ∷ copy (place 2 []) ∷ [])))) t-6
+  abbrev t-2 : Body
+  t-2 = seq (assign (place 0 []) (rv_opd (copy (place 4 [])))) return
 
   abbrev pub items_function : Fn
   items_function = record {
@@ -141,10 +154,10 @@ module _ {X : RattleType} (P : ListOf X) where
     ty_params = [];
     givens = 0;
     params = 1;
-    locals = local (first_of (MutSlice (named 0) [] T).mir) value_local ∷ local (first_of (MutRef (named 0) [] R).mir) value_local ∷ local (ty_int w64) value_local ∷ local ty_ptr value_local ∷ local ty_bool value_local
-        ∷ local ty_ptr value_local ∷ local (first_of (MutSlice erased [] T).mir) value_local ∷ [];
-    body = seq (self_field 2 1) (seq (self_field 3 0) (seq (assign (place 4 []) (op2 eq (copy (place 2 [])) (int w64 0)))
-        (seq (cond (copy (place 4 [])) (seq (self_at 5) (assign (place 3 []) (rv_opd (copy (place 5 []))))) skip) t-5)));
+    locals = local (first_of (MutSlice (named 0) [] T).mir) value_local ∷ local (first_of (MutRef (named 0) [] R).mir) value_local ∷ local (ty_int w64) value_local ∷ local ty_ptr value_local
+        ∷ local (first_of (MutSlice erased [] T).mir) value_local ∷ local ty_bool value_local ∷ local ty_ptr value_local ∷ [];
+    body = seq (block (seq (self_field 2 1) (seq (self_field 3 0) (seq (assign (place 5 []) (op2 eq (copy (place 2 [])) (int w64 0)))
+        (seq (cond (copy (place 5 [])) (seq (self_at 6) (assign (place 3 []) (rv_opd (copy (place 6 []))))) skip) made))))) t-2;
   }
 
   -- the list with other items, of the same pointer and number
@@ -177,6 +190,7 @@ module _ {X : RattleType} (P : ListOf X) where
         let word = Tells-lowered the_type (RawPtr-laws, (usize-laws, tt)) h us is_us in
         let A : Fml = fields_own (P.pointer.at h) (P.room h) us in
         let fits : P.room h < 2 ^ 64 = is_us.0.1.1.1.0.1 in
+        first ! $ blocks ! $
         none_or_more ! (P.room h) (λ n. list_at T n (P.pointer.at h) xs)
         (λ e. feq_l ! (λ none. rewrite ! 1 Cell word refl $
         -- [the fields; the struct's cell; the open borrow, in three entries]
@@ -185,12 +199,11 @@ module _ {X : RattleType} (P : ListOf X) where
         sets ! (bin ! (get ! refl) (lit ! tt) tt) refl (tt, tt) $
         first ! $ branches ! (get ! refl)
         (λ t. rewrite ! 1 Cell (sym word) refl $ sets ! (addr ! (through ! refl (stop !))) refl (tt, tt) $ sets_last ! (of_opd ! (get ! refl)) refl (tt, tt) $
-        exec ! 𝓣.C 𝓣.Λ En t-5 (at_ret En (W.post y)) $
+        exec ! 𝓣.C 𝓣.Λ En made (behind_block 𝓛 𝓣.C 𝓣.Λ En t-2 (W.post y)) $
         let count : length xs ≡ 0 = ap length none in let roomy : length xs < 2 ^ 64 = omega (arith, count) in
         nothing ! $ rewrite ! 0 (λ (ws : List X.Denot). ‵ (cells (mem T) ws b o)) (sym none) refl $
-        first ! $ blocks ! $
         sets_last ! (is ! (agg ! (and_then ! (get ! refl) (and_then ! (get ! refl) (no_more !)))) (ap (slice_val (b, o)) (sym count))) refl (tt, (tt, (record { fits = roomy }, tt))) $
-        exec ! 𝓣.C 𝓣.Λ En t-6 (at_ret En (W.post y)) $
+        exec ! 𝓣.C 𝓣.Λ En t-2 (at_ret En (W.post y)) $
         sets ! (of_opd ! (get ! refl)) refl (tt, (tt, (record { fits = roomy }, tt))) $
         -- [the items; the fields; the struct's cell; the open borrow, in three entries]
         move ! (1 ∷ 2 ∷ []) $ fjoin ! $ move ! (2 ∷ 3 ∷ 4 ∷ 1 ∷ 0 ∷ []) $ group ! 5 $
@@ -213,12 +226,11 @@ module _ {X : RattleType} (P : ListOf X) where
         sets ! (is ! (of_opd ! (load ! (through ! refl (fld ! refl (stop !))) (look_in ! 2 (sub ! 0 refl (whole !))))) (ap ptr_val at_is)) refl (tt, tt) $
         sets ! (bin ! (get ! refl) (lit ! tt) tt) refl (tt, tt) $
         first ! $ branches ! (get ! refl) (λ t. absurd (omega (arith, eqb→eq (suc m) 0 t)))
-        (λ t. skips ! $ exec ! 𝓣.C 𝓣.Λ En t-5 (at_ret En (W.post y)) $
+        (λ t. skips ! $ exec ! 𝓣.C 𝓣.Λ En made (behind_block 𝓛 𝓣.C 𝓣.Λ En t-2 (W.post y)) $
         let roomy : length xs < 2 ^ 64 = omega (arith, count, fits_m) in
         rewrite ! 2 Cell (sym word) refl $
-        first ! $ blocks ! $
         sets_last ! (is ! (agg ! (and_then ! (get ! refl) (and_then ! (get ! refl) (no_more !)))) (ap (slice_val (b', o')) (sym count))) refl (tt, (tt, (record { fits = roomy }, tt))) $
-        exec ! 𝓣.C 𝓣.Λ En t-6 (at_ret En (W.post y)) $
+        exec ! 𝓣.C 𝓣.Λ En t-2 (at_ret En (W.post y)) $
         sets ! (of_opd ! (get ! refl)) refl (tt, (tt, (record { fits = roomy }, tt))) $
         -- [the items; the fields; the struct's cell; the open borrow, in three entries]
         move ! (1 ∷ 2 ∷ []) $ fjoin ! $ move ! (2 ∷ 3 ∷ 4 ∷ 1 ∷ 0 ∷ []) $ group ! 5 $
@@ -256,9 +268,6 @@ module _ {X : RattleType} (P : ListOf X) where
   }
 
   -- of the pointer alone
-  abbrev at-2 : Body
-  at-2 = seq (assign (place 0 []) (op2 ptr_eq (copy (place 2 [])) (int w64 0))) return
-
   abbrev pub at_function : Fn
   at_function = record {
     lifetimes = 1;
@@ -267,13 +276,10 @@ module _ {X : RattleType} (P : ListOf X) where
     givens = 0;
     params = 1;
     locals = local ty_bool value_local ∷ local (first_of (MutRef (named 0) [] R).mir) value_local ∷ local ty_ptr value_local ∷ [];
-    body = seq (self_field 2 0) at-2;
+    body = seq (self_field 2 0) (seq (assign (place 0 []) (op2 ptr_eq (copy (place 2 [])) (int w64 0))) return);
   }
 
   -- of the number too
-  abbrev null-4 : Body
-  null-4 = seq (self_field 2 0) at-2
-
   abbrev pub null_function : Fn
   null_function = record {
     lifetimes = 1;
@@ -281,9 +287,9 @@ module _ {X : RattleType} (P : ListOf X) where
     ty_params = [];
     givens = 0;
     params = 1;
-    locals = local ty_bool value_local ∷ local (first_of (MutRef (named 0) [] R).mir) value_local ∷ local ty_ptr value_local ∷ local (ty_int w64) value_local ∷ local ty_bool value_local ∷ [];
-    body = seq (self_field 3 1) (seq (assign (place 4 []) (op2 eq (copy (place 3 [])) (int w64 0)))
-        (seq (cond (copy (place 4 [])) (seq (assign (place 0 []) (rv_opd opd_false)) return) skip) null-4));
+    locals = local ty_bool value_local ∷ local (first_of (MutRef (named 0) [] R).mir) value_local ∷ local (ty_int w64) value_local ∷ local ty_bool value_local ∷ local ty_ptr value_local ∷ local ty_bool value_local ∷ [];
+    body = seq (self_field 2 1) (seq (assign (place 3 []) (op2 ne (copy (place 2 [])) (int w64 0))) (seq (self_field 4 0)
+        (seq (assign (place 5 []) (op2 ptr_eq (copy (place 4 [])) (int w64 0))) (seq (assign (place 0 []) (op2 bit_and (copy (place 3 [])) (copy (place 5 [])))) return))));
   }
 
   module _ {M : Type 1} (𝓤 : Ura M) (𝓛 : Logic 𝓤) (𝓜 : Model 𝓤 𝓛.H) (𝓡 : Running 𝓤 𝓛.H 𝓜) {k : Callee} where
@@ -306,21 +312,14 @@ module _ {X : RattleType} (P : ListOf X) where
         let word = Tells-lowered the_type (RawPtr-laws, (usize-laws, tt)) h us is_us in
         rewrite ! 1 Cell word refl $
         -- [the value; the struct's cell; the open borrow, in three entries]
-        by_pointer (P.pointer.at h)
-        (λ null. sets ! (is ! (of_opd ! (load ! (through ! refl (fld ! refl (stop !))) (look_in ! 1 (sub ! 0 refl (whole !))))) (ap ptr_val null)) refl (tt, record { fits = lit< tt }) $
-        sets ! (bin ! (get ! refl) (lit ! tt) (tests_null null_ptr (subst Testable null (P.pointer.testable h)))) refl (tt, tt) $
+        let told = at_null (P.pointer.at h) in
+        sets ! (of_opd ! (load ! (through ! refl (fld ! refl (stop !))) (look_in ! 1 (sub ! 0 refl (whole !))))) refl (ptr_typed (P.pointer.at h)) $
+        sets ! (bin ! (get ! refl) (lit ! tt) (tests_null (P.pointer.at h) (P.pointer.testable h))) refl (tt, tt) $
         rewrite ! 1 Cell (sym word) refl $ move ! (1 ∷ []) $ closes ! tt R h us b o $
         returns ! (look_at ! 0 refl) $ free_all ! refl $ move ! (3 ∷ []) $
-        suffices ! _ (ends_at 𝓛 null_ended null_stayed c y (vbool true) true (h, tt) (tt, tt)) $ says_both ! ((λ t. null), (λ z. refl)) refl $
+        suffices ! _ (ends_at 𝓛 null_ended null_stayed c y (vbool told) told (h, tt) (tt, tt)) $ says_both ! (at_null_told (P.pointer.at h)) refl $
         group ! 3 $ nothing ! $ move ! (1 ∷ 0 ∷ []) $ join ! $ nothing ! $ move ! (2 ∷ 0 ∷ []) $ join ! $ frame ! $ frame ! $
-        feq_i ! (List Val) (vbool true ∷ []) (vbool true ∷ []) refl $ done !)
-        (λ b' o' at_is. sets ! (is ! (of_opd ! (load ! (through ! refl (fld ! refl (stop !))) (look_in ! 1 (sub ! 0 refl (whole !))))) (ap ptr_val at_is)) refl (tt, tt) $
-        sets ! (bin ! (get ! refl) (lit ! tt) (tests_null (block_ptr b' o') (subst Testable at_is (P.pointer.testable h)))) refl (tt, tt) $
-        rewrite ! 1 Cell (sym word) refl $ move ! (1 ∷ []) $ closes ! tt R h us b o $
-        returns ! (look_at ! 0 refl) $ free_all ! refl $ move ! (3 ∷ []) $
-        suffices ! _ (ends_at 𝓛 null_ended null_stayed c y (vbool false) false (h, tt) (tt, tt)) $ says_both ! ((λ t. absurd (true≢false (sym t))), (λ z. absurd (not_null (sym at_is ∙ z)))) refl $
-        group ! 3 $ nothing ! $ move ! (1 ∷ 0 ∷ []) $ join ! $ nothing ! $ move ! (2 ∷ 0 ∷ []) $ join ! $ frame ! $ frame ! $
-        feq_i ! (List Val) (vbool false ∷ []) (vbool false ∷ []) refl $ done !)))))
+        feq_i ! (List Val) (vbool told ∷ []) (vbool told ∷ []) refl $ done !))))
 
     pub tells_null : Closed 𝓤 𝓛.H (tables 𝓤 𝓛.H 𝓜 𝓡 𝓡.env).C (tables 𝓤 𝓛.H 𝓜 𝓡 𝓡.env).Λ k null_function
         → Meets 𝓛 null_signature (𝓡.run (𝓡.env k)) (closing 𝓛 null_ended (null_clauses 𝓛 (IsNull)))
@@ -339,37 +338,16 @@ module _ {X : RattleType} (P : ListOf X) where
         move ! (1 ∷ []) $ peeks ! R _ (shows 𝓛 R) h us (λ is_us.
         let Cell = λ (ws : List Val). ‵ (cell_at full_share R.mir ws b o) in
         let word = Tells-lowered the_type (RawPtr-laws, (usize-laws, tt)) h us is_us in
-        let fits : P.room h < 2 ^ 64 = is_us.0.1.1.1.0.1 in
         rewrite ! 1 Cell word refl $
         -- [the value; the struct's cell; the open borrow, in three entries]
-        by_number (P.room h)
-        (λ e. sets ! (is ! (of_opd ! (load ! (through ! refl (fld ! refl (stop !))) (look_in ! 1 (sub ! 1 refl (whole !))))) (ap (vint w64) e)) refl (tt, record { fits = lit< tt }) $
+        let told = is_null_list (P.pointer.at h) (P.room h) in
+        sets ! (of_opd ! (load ! (through ! refl (fld ! refl (stop !))) (look_in ! 1 (sub ! 1 refl (whole !))))) refl (tt, record { fits = is_us.0.1.1.1.0.1 }) $
         sets ! (bin ! (get ! refl) (lit ! tt) tt) refl (tt, tt) $
-        first ! $ branches ! (get ! refl)
-        (λ t. sets ! (of_opd ! (false_lit !)) refl (tt, tt) $
-        rewrite ! 1 Cell (sym word) refl $ move ! (1 ∷ []) $ closes ! tt R h us b o $
-        returns_within ! (W.post y) refl (look_at ! 0 refl) $ free_all ! refl $ move ! (3 ∷ []) $
-        suffices ! _ (ends_at 𝓛 null_ended null_stayed c y (vbool false) false (h, tt) (tt, tt)) $ says_both ! ((λ t. absurd (true≢false (sym t))), (λ z. absurd (omega (arith, e, z.1)))) refl $
-        group ! 3 $ nothing ! $ move ! (1 ∷ 0 ∷ []) $ join ! $ nothing ! $ move ! (2 ∷ 0 ∷ []) $ join ! $ frame ! $ frame ! $
-        feq_i ! (List Val) (vbool false ∷ []) (vbool false ∷ []) refl $ done !)
-        (λ t. absurd t))
-        (λ m e. let fits_m : suc m < 2 ^ 64 = subst (λ (n : ℕ). n < 2 ^ 64) e fits in
-        sets ! (is ! (of_opd ! (load ! (through ! refl (fld ! refl (stop !))) (look_in ! 1 (sub ! 1 refl (whole !))))) (ap (vint w64) e)) refl (tt, record { fits = fits_m }) $
-        sets ! (bin ! (get ! refl) (lit ! tt) tt) refl (tt, tt) $
-        first ! $ branches ! (get ! refl) (λ t. absurd (omega (arith, eqb→eq (suc m) 0 t)))
-        (λ t. skips ! $ exec ! 𝓣.C 𝓣.Λ En null-4 (at_ret En (W.post y)) $
-        by_pointer (P.pointer.at h)
-        (λ null. sets ! (is ! (of_opd ! (load ! (through ! refl (fld ! refl (stop !))) (look_in ! 1 (sub ! 0 refl (whole !))))) (ap ptr_val null)) refl (tt, record { fits = lit< tt }) $
-        sets ! (bin ! (get ! refl) (lit ! tt) (tests_null null_ptr (subst Testable null (P.pointer.testable h)))) refl (tt, tt) $
+        sets ! (of_opd ! (load ! (through ! refl (fld ! refl (stop !))) (look_in ! 1 (sub ! 0 refl (whole !))))) refl (ptr_typed (P.pointer.at h)) $
+        sets ! (bin ! (get ! refl) (lit ! tt) (tests_null (P.pointer.at h) (P.pointer.testable h))) refl (tt, tt) $
+        sets ! (bin ! (get ! refl) (get ! refl) tt) refl (tt, tt) $
         rewrite ! 1 Cell (sym word) refl $ move ! (1 ∷ []) $ closes ! tt R h us b o $
         returns ! (look_at ! 0 refl) $ free_all ! refl $ move ! (3 ∷ []) $
-        suffices ! _ (ends_at 𝓛 null_ended null_stayed c y (vbool true) true (h, tt) (tt, tt)) $ says_both ! ((λ t. (null, subst (λ (n : ℕ). 0 < n) (sym e) (omega arith))), (λ z. refl)) refl $
+        suffices ! _ (ends_at 𝓛 null_ended null_stayed c y (vbool told) told (h, tt) (tt, tt)) $ says_both ! (is_null_list_told (P.pointer.at h) (P.room h)) refl $
         group ! 3 $ nothing ! $ move ! (1 ∷ 0 ∷ []) $ join ! $ nothing ! $ move ! (2 ∷ 0 ∷ []) $ join ! $ frame ! $ frame ! $
-        feq_i ! (List Val) (vbool true ∷ []) (vbool true ∷ []) refl $ done !)
-        (λ b' o' at_is. sets ! (is ! (of_opd ! (load ! (through ! refl (fld ! refl (stop !))) (look_in ! 1 (sub ! 0 refl (whole !))))) (ap ptr_val at_is)) refl (tt, tt) $
-        sets ! (bin ! (get ! refl) (lit ! tt) (tests_null (block_ptr b' o') (subst Testable at_is (P.pointer.testable h)))) refl (tt, tt) $
-        rewrite ! 1 Cell (sym word) refl $ move ! (1 ∷ []) $ closes ! tt R h us b o $
-        returns ! (look_at ! 0 refl) $ free_all ! refl $ move ! (3 ∷ []) $
-        suffices ! _ (ends_at 𝓛 null_ended null_stayed c y (vbool false) false (h, tt) (tt, tt)) $ says_both ! ((λ t. absurd (true≢false (sym t))), (λ z. absurd (not_null (sym at_is ∙ z.0)))) refl $
-        group ! 3 $ nothing ! $ move ! (1 ∷ 0 ∷ []) $ join ! $ nothing ! $ move ! (2 ∷ 0 ∷ []) $ join ! $ frame ! $ frame ! $
-        feq_i ! (List Val) (vbool false ∷ []) (vbool false ∷ []) refl $ done !)))))))
+        feq_i ! (List Val) (vbool told ∷ []) (vbool told ∷ []) refl $ done !))))

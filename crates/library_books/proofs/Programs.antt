@@ -9,7 +9,7 @@ use Rattle.sequential.specs.Bounds.{Bounds}
 use Rattle.programs.specs.Flat.{entries}
 use Rattle.programs.specs.Runs.{HasRun as RunOn}
 use Rattle.lock_programs.specs.declared.program.Program.{Program}
-use Rattle.lock_programs.specs.declared.answer.Answer.{Answer}
+use Rattle.lock_programs.specs.declared.answer.ProgramAnswer.{ProgramAnswer}
 use Rattle.lock_programs.specs.Calls.{calls_of}
 use Rattle.lock_programs.specs.Answers.{replies_of, program_form}
 use Rattle.lock_desk.specs.BookView.{BookView}
@@ -71,7 +71,7 @@ abbrev pub bounds : BookView → Bounds
 bounds b = record { lines = b.bound; notes = b.deadlocks }
 
 -- a program that was run on a history was run on the book
-pub run_on_book : (before after : BookView) (s : ℕ) (p : Program) (a : Answer) → RunOn program_form s p before.history after.history a
+pub run_on_book : (before after : BookView) (s : ℕ) (p : Program) (a : ProgramAnswer) → RunOn program_form s p before.history after.history a
     → after.sessions ≡ before.sessions → after.cut ≡ before.cut → bounds after ≡ bounds before → IsLegal after.history → TellsFrom after (length before.history)
     → HasRun before after s p a
 run_on_book before after s p a h i j k legal told = record {

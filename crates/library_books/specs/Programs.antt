@@ -16,7 +16,7 @@ use Rattle.lock_programs.specs.declared.program.Start.TheVariants.{Nothing, Begi
 use Rattle.lock_programs.specs.declared.program.Last.{Last}
 use Rattle.lock_programs.specs.declared.program.Last.TheVariants.{Locks, Converts, Tries, Releases}
 use Rattle.lock_programs.specs.declared.program.Program.{Program}
-use Rattle.lock_programs.specs.declared.answer.Answer.{Answer}
+use Rattle.lock_programs.specs.declared.answer.ProgramAnswer.{ProgramAnswer}
 use Rattle.lock_programs.specs.Starts.{start_calls, path_calls}
 use Rattle.lock_programs.specs.Calls.{calls_of}
 use Rattle.lock_programs.specs.Fits.{goes_on_behind}
@@ -111,7 +111,7 @@ abbrev pub value_of_reply : Reply → ℕ
 value_of_reply reply = (numbers_of_reply reply).value
 
 -- the numbers of the answer to a program
-abbrev pub numbers_of_answer : Program → Answer → ProgramAnswerNumbers
+abbrev pub numbers_of_answer : Program → ProgramAnswer → ProgramAnswerNumbers
 numbers_of_answer p a = record {
   place = a.first;
   served = length (replies_of p a);
@@ -123,7 +123,7 @@ numbers_of_answer p a = record {
 -- session s ran the program on the book: its calls were served one after another, up to the first reply behind which it doesn't go on, or
 -- to one for which memory was refused. Each reply is that of the sequential lock manager, since the history is legal, and the book tells
 -- whose wait these calls have ended
-pub record HasRun (before after : BookView) (s : ℕ) (p : Program) (a : Answer) : Type 0 where
+pub record HasRun (before after : BookView) (s : ℕ) (p : Program) (a : ProgramAnswer) : Type 0 where
   pub place : a.first ≡ length before.history
   pub run : IsAnswer program_form p a
   pub history : after ≡ record before { history = before.history ++ entries s (calls_of p) (replies_of p a); ended = after.ended }
@@ -133,7 +133,7 @@ pub record HasRun (before after : BookView) (s : ℕ) (p : Program) (a : Answer)
 -- the program that the numbers encode was run, and the answer tells of it
 pub record IsProgramRun (before after : BookView) (session : ℕ) (asked : ProgramNumbers) (answer : ProgramAnswerNumbers) : Type 0 where
   pub program : Program
-  pub made : Answer
+  pub made : ProgramAnswer
   pub is_asked : IsProgram asked program
   pub ran : HasRun before after session program made
   pub told : answer ≡ numbers_of_answer program made

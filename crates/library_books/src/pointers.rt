@@ -7,6 +7,49 @@
 //! through a `&` to a struct that owns memory. Their proofs are alike: those of `proofs/Lending.antt`, `proofs/Copying.antt` and
 //! `proofs/ItemLists.antt`.
 
+/// A copy of what lies at the pointer that isn't written through. At null the caller returns `None`.
+macro_rules! copied {
+    ($at:expr) => {
+        unsafe {
+            let at = $at;
+            if at == std::ptr::null() {
+                return None;
+            }
+            Some(*at)
+        }
+    };
+}
+
+/// What lies at the pointer. At null the caller returns `None`.
+#[macro_export]
+macro_rules! lent {
+    ($at:expr) => {
+        unsafe {
+            let at = $at;
+            if at == std::ptr::null_mut() {
+                return None;
+            }
+            Some(&mut *at)
+        }
+    };
+}
+
+/// The items of a list that isn't null.
+#[macro_export]
+macro_rules! items_of {
+    ($list:expr) => {
+        unsafe {
+            let room = $list.room;
+            let mut at = $list.at;
+            if room == 0 {
+                // A slice of no items must not begin at null either.
+                at = $list as *mut Self as *mut _;
+            }
+            std::slice::from_raw_parts_mut(at, room)
+        }
+    };
+}
+
 mod constants;
 mod integers;
 mod lists;

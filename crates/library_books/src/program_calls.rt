@@ -11,10 +11,10 @@ use crate::status::{
     NO_MEMORY, NO_SUCH_ABOVE, NO_SUCH_MODE, NO_SUCH_OP, NO_SUCH_SESSION, NO_SUCH_START, OK,
 };
 use lock_desk::{Book, NoMemory};
-use lock_programs::{Answer, Program};
+use lock_programs::{Program, ProgramAnswer};
 
 /// Runs a program, as `programs::run` does. The book tells whose wait its calls have ended.
-fn run(book: &mut Book, session: u16, program: &Program) -> Result<Answer, NoMemory>
+fn run(book: &mut Book, session: u16, program: &Program) -> Result<ProgramAnswer, NoMemory>
     requires some { 1 ≤ session }
     requires within { session ≤ book.old.sessions }
     ensures done { IfOk result (λ answer. HasRun book.old book.new session program.now answer) }

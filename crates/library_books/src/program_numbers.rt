@@ -13,7 +13,7 @@ ghost use Rattle.library_books.specs.Programs.{number_of_start, stop_number, sto
 use crate::numbers::{CallNumbers, read_call, read_mode, reply_numbers};
 use crate::status::{NO_SUCH_ABOVE, NO_SUCH_OP, NO_SUCH_START, NOT_ON_PATH};
 use lock_modes::Mode;
-use lock_programs::{Answer, CALLS, Last, Program, Start, goes_on_behind};
+use lock_programs::{CALLS, Last, Program, ProgramAnswer, Start, goes_on_behind};
 use lock_rules::{Call, Reply};
 use lock_tree::Resource;
 
@@ -133,7 +133,7 @@ fn stop_number(reply: &Reply) -> u32
 
 /// The kind of the last of an answer's `served` replies if the program stopped at it, otherwise 0.
 #[inline(always)]
-fn stop_of(program: &Program, answer: &Answer, served: usize) -> u32
+fn stop_of(program: &Program, answer: &ProgramAnswer, served: usize) -> u32
     requires { served ≡ length (replies_of program.now answer.now) }
     ensures { result ≡ stop_of (replies_of program.now answer.now) }
 {
@@ -145,7 +145,7 @@ fn stop_of(program: &Program, answer: &Answer, served: usize) -> u32
 
 /// Writes the values of an answer's `served` replies, from the first place on.
 #[inline(always)]
-fn write_values(program: &Program, answer: &Answer, served: usize, places: &mut [u64])
+fn write_values(program: &Program, answer: &ProgramAnswer, served: usize, places: &mut [u64])
     requires served { served ≡ length (replies_of program.now answer.now) }
     requires few { served ≤ CALLS }
     requires places { length places.old ≡ CALLS }
@@ -158,7 +158,7 @@ fn write_values(program: &Program, answer: &Answer, served: usize, places: &mut 
 
 /// Writes the numbers of the answer to a program.
 #[inline(always)]
-pub fn write_answer(program: &Program, answer: &Answer, numbers: &mut ProgramAnswerNumbers)
+pub fn write_answer(program: &Program, answer: &ProgramAnswer, numbers: &mut ProgramAnswerNumbers)
     ensures { numbers.new ≡ numbers_of_answer program.now answer.now }
 {
     let served = answer.served(program);

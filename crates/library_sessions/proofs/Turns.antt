@@ -1,6 +1,6 @@
 -- What a turn says of its share.
 use Rattle.std.proofs.Common.{◌≡◌, ℕ, ◌+◌, ◌≤◌, List, [], length, ap, subst, arith}
-use Rattle.combining.specs.Ended.{HasAddedTold, entered_since}
+use Rattle.combining.specs.Woken.{HasAddedTold, entered_since}
 use Rattle.combining.proofs.EndedWaits.{told-all}
 use Rattle.combining.proofs.Places.{entered-none}
 use Rattle.lock_office.specs.Ended.{AreToldBy, EndsWait}
@@ -13,11 +13,11 @@ pub within-none : (own most : ℕ) (t u : TicketView) → u.entered ≡ t.entere
 within-none own most t u same = let none = ap (λ (l : List ℕ). length l) (entered-none t u same) in omega (arith, none)
 
 -- Whom to wake, if nobody was listed before.
-pub to-wake : (before after : SessionShare) (n count : ℕ) (old : List ℕ) → n ≡ after.sessions → old ≡ [] → count ≡ length after.told.told.list
-    → HasAddedTold EndsWait n after.session.front (entered_since before.session after.session) old after.told.told.list → AreToWake before after count
+pub to-wake : (before after : SessionShare) (n count : ℕ) (old : List ℕ) → n ≡ after.sessions → old ≡ [] → count ≡ length after.told.listener.list
+    → HasAddedTold EndsWait n after.session.front (entered_since before.session after.session) old after.told.listener.list → AreToWake before after count
 to-wake before after n count old many none counted told =
     let places = entered_since before.session after.session in
-    let list = after.told.told.list in
+    let list = after.told.listener.list in
     record {
       count_is = counted;
       waking = subst (λ (m : ℕ). AreToldBy m after.session.front places list) many (told-all n after.session.front places old list none told);

@@ -1,7 +1,7 @@
 -- How much the passes of a session's whole calls serve, as the exports state it.
 use Rattle.std.specs.Prelude.{◌≡◌, ◌⊎◌, ℕ, ◌+◌, ◌<◌, ◌≤◌, length}
 use Rattle.combining.specs.declared.bounds.PassBound.{PassBound}
-use Rattle.combining.specs.Ended.{entered_since}
+use Rattle.combining.specs.Woken.{entered_since}
 use Rattle.combining.specs.Rounds.{most_of}
 use Rattle.library_sessions.specs.declared.session_share.SessionShare.{SessionShare}
 

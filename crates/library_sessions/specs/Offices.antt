@@ -19,7 +19,7 @@ pub record IsOfOffice (office : BoardView) (mark waker : ℕ) (bound : PassBound
   pub mark_is : share.mark ≡ mark
   pub waker_is : share.waker ≡ waker
   pub bound_is : share.bound ≡ bound
-  pub told : share.told.told.list ≡ []
+  pub told : share.told.listener.list ≡ []
   pub free : is_some share.looking ≡ false
   pub handed : share.handed.items ≡ []
 

@@ -6,10 +6,10 @@ use Rattle.lock_rules.specs.declared.calls.Reply.{Reply}
 use Rattle.lock_rules.specs.Entries.{Entry}
 use Rattle.sequential.specs.Histories.{calls_of}
 use Rattle.publication.specs.Boards.{HasCallsOf, heard_from, publishing, enlisted, tried}
-use Rattle.publication.specs.Kinds.{longer, maxes}
+use Rattle.publication.specs.StepKinds.{longer, maxes}
 use Rattle.publication.specs.Sleep.{AreRoused}
 use Rattle.combining.specs.Sessions.{HasTriedToList}
-use Rattle.combining.specs.Ended.{entered_since}
+use Rattle.combining.specs.Woken.{entered_since}
 use Rattle.lock_programs.specs.declared.program.Program.{Program}
 use Rattle.lock_office.specs.ProgramBoards.{IsLegal, flat_history}
 use Rattle.lock_office.specs.Sessions.{HasNothingPending, IsPassed, IsPendingServed, HasTakenPiece}
@@ -60,8 +60,8 @@ IsTurn before after served starved = IsPassed before.session after.session serve
 -- so many sessions are to be woken, which the share lists: exactly those whose wait the entries have ended whose places the session has entered
 -- meanwhile, each once
 pub record AreToWake (before after : SessionShare) (count : ℕ) : Type 0 where
-  pub count_is : count ≡ length after.told.told.list
-  pub waking : AreToldBy after.sessions after.session.front (entered_since before.session after.session) after.told.told.list
+  pub count_is : count ≡ length after.told.listener.list
+  pub waking : AreToldBy after.sessions after.session.front (entered_since before.session after.session) after.told.listener.list
 
 -- the answer to the pending call, a program of one call, is collected: the index of its entry in the history, and the reply there
 abbrev pub IsAnswered : SessionShare → SessionShare → AnswerNumbers → Type 0

@@ -5,7 +5,7 @@ use Rattle.lock_rules.specs.declared.calls.Call.{Call}
 use Rattle.lock_rules.specs.declared.calls.Reply.{Reply}
 use Rattle.publication.specs.Views.{asks}
 use Rattle.lock_programs.specs.declared.program.Program.{Program}
-use Rattle.lock_programs.specs.declared.answer.Answer.{Answer}
+use Rattle.lock_programs.specs.declared.answer.ProgramAnswer.{ProgramAnswer}
 use Rattle.lock_programs.specs.Calls.{calls_of}
 use Rattle.lock_office.specs.ProgramBoards.{TicketView}
 use Rattle.lock_office.specs.Sessions.{IsIdle}
@@ -14,7 +14,7 @@ use Rattle.lock_office.specs.SingleCalls.{MakesOneCall, IsLastReply}
 use Rattle.combining.specs.Calls.{IsCalling, IsWaitingOn}
 use Rattle.combining.specs.Waits.{IsWaitAfterLook, IsWaitAfterTurn}
 use Rattle.combining.specs.declared.backoff.TheConstants.{TRIES_AT_ONCE, LOOKS_PER_TRY}
-use Rattle.combining.specs.declared.backoff.Wait.{Wait}
+use Rattle.combining.specs.declared.backoff.Backoff.{Backoff}
 use Rattle.library_books.specs.declared.numbers.CallNumbers.{CallNumbers}
 use Rattle.library_books.specs.declared.numbers.AnswerNumbers.{AnswerNumbers}
 use Rattle.library_books.specs.declared.program_numbers.ProgramNumbers.{ProgramNumbers}
@@ -28,9 +28,9 @@ use Rattle.library_sessions.specs.Bounds.{HasServedWithin}
 use Rattle.library_sessions.specs.Sessions.{IsSameOffice, AreToWake}
 
 -- the number of a wait: of pause instructions how many there are
-abbrev pub number_of_wait : Wait → ℕ
-number_of_wait (Wait.Pause pauses) = pauses
-number_of_wait Wait.Yield = YIELD
+abbrev pub number_of_wait : Backoff → ℕ
+number_of_wait (Backoff.Pause pauses) = pauses
+number_of_wait Backoff.Yield = YIELD
 
 -- the numbers encode a call, and the program makes this one call
 abbrev pub IsOfCall : CallNumbers → Program → Type 0
@@ -49,11 +49,11 @@ abbrev pub IsFaultNumber : ℕ → Type 0
 IsFaultNumber fault = ((NO_SUCH_OP ≤ fault) × (fault ≤ NO_SUCH_MODE)) ⊎ ((NO_SUCH_START ≤ fault) × (fault ≤ NO_SUCH_ABOVE))
 
 -- the numbers tell the last reply, and the place of its entry in the history: of a program of one call the reply to this call
-abbrev pub TellsLast : Program → Answer → AnswerNumbers → Type 0
+abbrev pub TellsLast : Program → ProgramAnswer → AnswerNumbers → Type 0
 TellsLast program made answer = (reply : Reply) × IsLastReply program made answer.place reply × (answer.reply ≡ numbers_of_reply reply)
 
 -- the numbers tell the whole answer
-abbrev pub TellsAll : Program → Answer → ProgramAnswerNumbers → Type 0
+abbrev pub TellsAll : Program → ProgramAnswer → ProgramAnswerNumbers → Type 0
 TellsAll program made answer = answer ≡ numbers_of_answer program made
 
 -- the turn was made
@@ -62,18 +62,18 @@ IsMade status = (status ≡ OK) ⊎ ((status ≡ NO_MEMORY) ⊎ (status ≡ NOT_
 
 -- turn number `made` of an idle session, of at most `turns`, with its program. The numbers of the answer and of the wait before the next turn
 -- are written, and how many sessions are to be woken
-pub record HasBegun {N : Type 0} (tells : Program → Answer → N → Type 0) (before after : SessionShare) (program : Program) (made turns : ℕ) (unanswered answer : N) (unread wait told status : ℕ) : Type 0 where
+pub record HasBegun {N : Type 0} (tells : Program → ProgramAnswer → N → Type 0) (before after : SessionShare) (program : Program) (made turns : ℕ) (unanswered answer : N) (unread wait told status : ℕ) : Type 0 where
   -- the session was idle, and has entered at most one call more than a pass may serve
   pub idle : IsIdle before.session
   pub few : HasServedWithin 1 before after
   -- the program is answered
-  pub ok : status ≡ OK → ((at : ℕ) × (reply : Answer) × IsCalled before.session after.session program at reply × tells program reply answer) × IsIdle after.session
+  pub ok : status ≡ OK → ((at : ℕ) × (reply : ProgramAnswer) × IsCalled before.session after.session program at reply × tells program reply answer) × IsIdle after.session
   -- memory was refused in a pass of the session, and the program is pending
   pub memory : status ≡ NO_MEMORY → IsCalling before.session after.session program
   -- another session has the lock table: the program was tried at once in the first turns, and then published
   pub tried : status ≡ NOT_SERVED → made < turns → made < TRIES_AT_ONCE → (after.session ≡ before.session) × (2 ≤ before.sessions)
   pub published : status ≡ NOT_SERVED → made < turns → TRIES_AT_ONCE ≤ made → IsCalling before.session after.session program × (2 ≤ before.sessions)
-  pub waits : status ≡ NOT_SERVED → made < turns → (w : Wait) × IsWaitAfterTurn (before.session.pending ≡ None) made w × (wait ≡ number_of_wait w)
+  pub waits : status ≡ NOT_SERVED → made < turns → (w : Backoff) × IsWaitAfterTurn (before.session.pending ≡ None) made w × (wait ≡ number_of_wait w)
   -- no turn is left, and the program is published
   pub last : status ≡ NOT_SERVED → turns ≤ made → (wait ≡ NO_TURN) × IsCalling before.session after.session program
   pub failed : status ≢ OK → answer ≡ unanswered
@@ -83,16 +83,16 @@ pub record HasBegun {N : Type 0} (tells : Program → Answer → N → Type 0) (
   pub statuses : IsMade status
 
 -- turn number `made` of a session with a program pending, of at most `turns`. It writes as that of an idle one
-pub record HasResumed {N : Type 0} (tells : Program → Answer → N → Type 0) (before after : SessionShare) (made turns : ℕ) (unanswered answer : N) (unread wait told status : ℕ) : Type 0 where
+pub record HasResumed {N : Type 0} (tells : Program → ProgramAnswer → N → Type 0) (before after : SessionShare) (made turns : ℕ) (unanswered answer : N) (unread wait told status : ℕ) : Type 0 where
   -- a program was pending, and the session has entered at most as many calls as a pass may serve
   pub pending : before.session.pending ≢ None
   pub few : HasServedWithin 0 before after
   -- the program is answered
-  pub ok : status ≡ OK → ((at : ℕ) × (reply : Answer) × (is : IsAnswered before.session after.session at reply) × tells is.0 reply answer) × IsIdle after.session
+  pub ok : status ≡ OK → ((at : ℕ) × (reply : ProgramAnswer) × (is : IsAnswered before.session after.session at reply) × tells is.0 reply answer) × IsIdle after.session
   -- memory was refused in a pass of the session, and the program is still pending
   pub memory : status ≡ NO_MEMORY → IsWaitingOn before.session after.session × (before.session.put_backs < after.session.put_backs)
   -- there is no answer yet. In the turns in which the session tried to serve, the office has other sessions
-  pub waits : status ≡ NOT_SERVED → made < turns → IsWaitingOn before.session after.session × ((w : Wait) × IsWaitAfterLook made w × (wait ≡ number_of_wait w))
+  pub waits : status ≡ NOT_SERVED → made < turns → IsWaitingOn before.session after.session × ((w : Backoff) × IsWaitAfterLook made w × (wait ≡ number_of_wait w))
   pub others : status ≡ NOT_SERVED → made < turns → made % LOOKS_PER_TRY ≡ 0 → 2 ≤ before.sessions
   -- no turn is left
   pub last : status ≡ NOT_SERVED → turns ≤ made → (wait ≡ NO_TURN) × (after.session ≡ before.session)
@@ -114,7 +114,7 @@ pub record IsRefused {Q : Type 0} (is_asked : Q → Program → Type 0) (is_faul
 
 -- a turn of what the numbers ask: of their program, if the session was idle; of what is pending, if it had something pending, behind the first
 -- turn; or it was refused
-abbrev pub HasMadeTurn : {Q N : Type 0} → (Q → Program → Type 0) → (Q → ℕ → Type 0) → (Program → Answer → N → Type 0) → SessionShare → SessionShare → Q → ℕ → ℕ → N → N → ℕ → ℕ → ℕ → ℕ → ℕ → Type 0
+abbrev pub HasMadeTurn : {Q N : Type 0} → (Q → Program → Type 0) → (Q → ℕ → Type 0) → (Program → ProgramAnswer → N → Type 0) → SessionShare → SessionShare → Q → ℕ → ℕ → N → N → ℕ → ℕ → ℕ → ℕ → ℕ → Type 0
 HasMadeTurn is_asked is_fault tells before after asked made turns unanswered answer unread wait untold told status =
     ((program : Program) × is_asked asked program × (HasBegun tells before after program made turns unanswered answer unread wait told status
     ⊎ ((made ≢ 0) × HasResumed tells before after made turns unanswered answer unread wait told status)))
@@ -127,7 +127,7 @@ pub record IsNotResumed (whole : Program → Bool) (session : TicketView) (statu
   pub statuses : (status ≡ NOTHING_PENDING) ⊎ (status ≡ PENDING)
 
 -- a turn of what is pending, whose answer the numbers tell as a whole; or it was refused
-abbrev pub HasMadeLook : {N : Type 0} → (Program → Answer → N → Type 0) → (Program → Bool) → SessionShare → SessionShare → ℕ → ℕ → N → N → ℕ → ℕ → ℕ → ℕ → ℕ → Type 0
+abbrev pub HasMadeLook : {N : Type 0} → (Program → ProgramAnswer → N → Type 0) → (Program → Bool) → SessionShare → SessionShare → ℕ → ℕ → N → N → ℕ → ℕ → ℕ → ℕ → ℕ → Type 0
 HasMadeLook tells whole before after looked turns unanswered answer unread wait untold told status =
     (((program : Program) (floor : ℕ) → before.session.pending ≡ Some (asks program floor) → whole program ≡ true)
     × HasResumed tells before after looked turns unanswered answer unread wait told status)

@@ -7,7 +7,7 @@ ghost use Rattle.library_sessions.specs.Offices.{IsOfOffice};
 
 use crate::session_handle::SessionHandle;
 use crate::session_share::SessionShare;
-use lock_office::{Counted, Ended, Office, PassBound, Session, Ticket};
+use lock_office::{Office, PassBound, Session, Ticket, WithSeen, WokenSet};
 use std::alloc::{AllocError, Global};
 use std::sync::Arc;
 
@@ -53,7 +53,7 @@ fn share_of(
     ensures office { IfOk result (λ share. IsOfOffice shared.now.value mark waker bound share.value) }
 {
     let office = shared.clone()?;
-    let told = Ended::new(alloc, count)?;
+    let told = WokenSet::new(alloc, count)?;
     let share = SessionShare {
         office,
         session: call_session_of(session),
@@ -62,7 +62,7 @@ fn share_of(
         mark,
         waker,
         bound,
-        told: Counted::new(told),
+        told: WithSeen::new(told),
         looking: None,
     };
     let boxed = Box::new(alloc, share)?;

@@ -2,6 +2,7 @@
 
 ghost use Rattle.std.specs.Prelude.{◌≡◌, ◌≢◌, ◌↔◌, IsTrue, List, MatchOption};
 ghost use Rattle.std.specs.Coded.{coded_list};
+ghost use Rattle.std.specs.Borrow.{sem, Lends, LendsIf, Array};
 ghost use denote.RawPtr.{Testable, null_ptr};
 ghost use Rattle.library_books.specs.Behind.{IsNullList, list_at, maybe_at};
 ghost use Rattle.library_sessions.specs.declared.book_handle.BookHandle.{BookHandle};
@@ -14,8 +15,8 @@ ghost use Rattle.library_sessions.specs.contracts.session_handle.SessionHandle.{
 use crate::book_handle::BookHandle;
 use crate::pass_count_numbers::PassCountNumbers;
 use crate::session_handle::SessionHandle;
+use library_books::{items_of, lent};
 use std::marker::Model;
-use std::slice;
 
 /// A pointer of C, null or to a book's handle.
 #[repr(C)]
@@ -30,7 +31,6 @@ impl Model for BookPointer {
 }
 
 impl BookPointer {
-    ghost use Rattle.std.specs.Borrow.{sem, LendsIf};
     ghost use Rattle.library_sessions.specs.contracts.pointers.BookPointer.{the_row};
 
     /// What lies behind the pointer, or `None` at null.
@@ -38,11 +38,7 @@ impl BookPointer {
         ensures* lends { sem 𝓛 (LendsIf the_row book_handle_row self.entry result (λ x. record self.entry.now { behind = x }) self.entry.now) }
         ensures value { MatchOption result (self.old.at ≡ null_ptr) (λ r. (self.old.at ≢ null_ptr) × (r.now ≡ self.old.behind)) }
     {
-        let at = self.at;
-        if at == std::ptr::null_mut() {
-            return None;
-        }
-        unsafe { Some(&mut *at) }
+        lent!(self.at)
     }
 }
 
@@ -59,7 +55,6 @@ impl Model for SessionPointer {
 }
 
 impl SessionPointer {
-    ghost use Rattle.std.specs.Borrow.{sem, LendsIf};
     ghost use Rattle.library_sessions.specs.contracts.pointers.SessionPointer.{the_row};
 
     /// What lies behind the pointer, or `None` at null.
@@ -67,11 +62,7 @@ impl SessionPointer {
         ensures* lends { sem 𝓛 (LendsIf the_row session_handle_row self.entry result (λ x. record self.entry.now { behind = x }) self.entry.now) }
         ensures value { MatchOption result (self.old.at ≡ null_ptr) (λ r. (self.old.at ≢ null_ptr) × (r.now ≡ self.old.behind)) }
     {
-        let at = self.at;
-        if at == std::ptr::null_mut() {
-            return None;
-        }
-        unsafe { Some(&mut *at) }
+        lent!(self.at)
     }
 }
 
@@ -88,7 +79,6 @@ impl Model for PassCountsPointer {
 }
 
 impl PassCountsPointer {
-    ghost use Rattle.std.specs.Borrow.{sem, LendsIf};
     ghost use Rattle.library_sessions.specs.contracts.pointers.PassCountsPointer.{the_row};
 
     /// What lies behind the pointer, or `None` at null.
@@ -96,11 +86,7 @@ impl PassCountsPointer {
         ensures* lends { sem 𝓛 (LendsIf the_row pass_counts_row self.entry result (λ x. record self.entry.now { behind = x }) self.entry.now) }
         ensures value { MatchOption result (self.old.at ≡ null_ptr) (λ r. (self.old.at ≢ null_ptr) × (r.now ≡ self.old.behind)) }
     {
-        let at = self.at;
-        if at == std::ptr::null_mut() {
-            return None;
-        }
-        unsafe { Some(&mut *at) }
+        lent!(self.at)
     }
 }
 
@@ -118,7 +104,6 @@ impl Model for HandleList {
 }
 
 impl HandleList {
-    ghost use Rattle.std.specs.Borrow.{sem, Lends, Array};
     ghost use Rattle.library_sessions.specs.contracts.pointers.HandleList.{the_row};
 
     /// Whether the pointer is null.
@@ -126,8 +111,7 @@ impl HandleList {
         ensures value { IsTrue result ↔ (self.old.at ≡ null_ptr) }
         ensures same { self.new ≡ self.old }
     {
-        let at = self.at;
-        at == std::ptr::null_mut()
+        self.at == std::ptr::null_mut()
     }
 
     /// The `room` sessions' handles. The pointer must not be null.
@@ -136,12 +120,6 @@ impl HandleList {
         ensures* lends { sem 𝓛 (Lends the_row (Array session_handle_row 0) self.entry result (λ xs. record self.entry.now { behind = xs })) }
         ensures value { result.now ≡ self.old.behind }
     {
-        let room = self.room;
-        let mut at = self.at;
-        if room == 0 {
-            // A slice of no items must not begin at null either.
-            at = self as *mut HandleList as *mut SessionHandle;
-        }
-        unsafe { slice::from_raw_parts_mut(at, room) }
+        items_of!(self)
     }
 }

@@ -1,7 +1,7 @@
 //! The calls of a session in numbers, on the share that a handle holds.
 
 ghost use Rattle.std.specs.Prelude.{◌≡◌, ◌≢◌, ◌<◌, ◌≤◌, ◌⊎◌, ◌↔◌, ◌==◌, true, false, [], None, IsTrue, length, drop, is_some};
-ghost use Rattle.combining.specs.Ended.{entered_since};
+ghost use Rattle.combining.specs.Woken.{entered_since};
 ghost use Rattle.lock_office.specs.Sessions.{IsPassed, IsPendingServed};
 ghost use Rattle.lock_office.specs.ProgramTurns.{HasSeveralPending};
 ghost use Rattle.lock_office.specs.Ended.{AreToldBy};
@@ -120,18 +120,18 @@ pub fn serve(share: &mut SessionShare, pass: &mut PassNumbers, told: &mut usize)
     let turn = share
         .session
         .serve(&share.office, UNBOUNDED, &mut share.told);
-    *told = share.told.told.count();
+    *told = share.told.listener.count();
     write_turn(turn, pass)
 }
 
 /// Writes the sessions that the share lists to be woken, from index `first` on, as many as `list` has room for, and the number of all
 /// of them to `count`.
 pub fn told(share: &SessionShare, first: usize, list: &mut [u32], count: &mut usize)
-    ensures list { list.new ≡ are_written (λ u. u) (drop first share.now.told.told.list) list.old }
-    ensures count { count.new ≡ length share.now.told.told.list }
+    ensures list { list.new ≡ are_written (λ u. u) (drop first share.now.told.listener.list) list.old }
+    ensures count { count.new ≡ length share.now.told.listener.list }
 {
     let mut all = [0; MAX_SESSIONS as usize];
-    let told = share.told.told.write(&mut all);
+    let told = share.told.listener.write(&mut all);
     let sessions = &all[..told];
     let start = usize::min(first, sessions.len());
     write_all(&sessions[start..], list);

@@ -5,7 +5,7 @@ ghost use Rattle.lock_rules.specs.declared.calls.TheConstants.{MAX_SESSIONS};
 ghost use Rattle.lock_office.specs.Sessions.{IsSessionOf, HasNothingPending};
 
 use lock_desk::Book;
-use lock_office::{Counted, Ended, Office, PassBound, Session, Ticket};
+use lock_office::{Office, PassBound, Session, Ticket, WithSeen, WokenSet};
 use programs::Programs;
 use publication::Load;
 use std::sync::Arc;
@@ -28,12 +28,12 @@ pub struct SessionShare {
     /// How much a pass in a whole call of the session serves at most.
     pub bound: PassBound,
     /// The sessions whose wait the session's last pass has ended.
-    pub told: Counted<Ended>,
+    pub told: WithSeen<WokenSet>,
     /// The lock table of the office, while the session looks at it.
     pub looking: Option<Box<Load<Programs<Book>>>>,
     ghost ours: { is_some looking ≡ false → IsSessionOf office.value session },
     ghost theirs: { All (λ one. IsSessionOf office.value one × HasNothingPending one) handed.items },
     ghost count: { sessions ≡ office.value.sessions },
     ghost few: { sessions ≤ MAX_SESSIONS },
-    ghost telling: { told.told.room ≡ sessions },
+    ghost telling: { told.listener.room ≡ sessions },
 }

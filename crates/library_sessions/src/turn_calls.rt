@@ -3,7 +3,7 @@
 ghost use Rattle.std.specs.Prelude.{◌≡◌, ◌≢◌, ℕ, ◌<◌, ◌≤◌, ◌⊎◌, ◌==◌, Bool, true, false, None, IfOk, IfErr, length, is_some};
 ghost use Rattle.programs.specs.Flat.{IsAnswer};
 ghost use Rattle.lock_programs.specs.declared.program.Program.{Program as ProgramValue};
-ghost use Rattle.lock_programs.specs.declared.answer.Answer.{Answer as AnswerValue};
+ghost use Rattle.lock_programs.specs.declared.answer.ProgramAnswer.{ProgramAnswer as AnswerValue};
 ghost use Rattle.lock_programs.specs.Calls.{calls_of};
 ghost use Rattle.lock_programs.specs.Answers.{program_form};
 ghost use Rattle.combining.specs.declared.office.Answer.{Answer as AnswerOf};
@@ -12,7 +12,7 @@ ghost use Rattle.library_books.specs.Numbers.{IsCallFault};
 ghost use Rattle.library_sessions.specs.Turns.{number_of_wait, IsOfCall, IsOfCalls, IsRunFault, IsFaultNumber, TellsLast, TellsAll, IsMade, HasBegun, HasResumed, HasMadeTurn, HasMadeLook, IsRefused};
 
 use crate::session_share::SessionShare;
-use combining::{Next, Told, Wait};
+use combining::{Backoff, CallOutcome, Listener};
 use library_books::numbers::{AnswerNumbers, CallNumbers, read_call, reply_numbers};
 use library_books::program_numbers::{
     ProgramAnswerNumbers, ProgramNumbers, read_program, write_answer,
@@ -22,7 +22,7 @@ use library_books::status::{
 };
 use lock_desk::Book;
 use lock_office::last_of;
-use lock_programs::{Answer, Program};
+use lock_programs::{Program, ProgramAnswer};
 use programs::Programs;
 
 /// No turn is left.
@@ -84,7 +84,7 @@ pub trait Tells {
         ensures { result ≡ whole program.now };
 
     /// Writes the answer.
-    fn tell(&mut self, program: &Program, answer: &Answer)
+    fn tell(&mut self, program: &Program, answer: &ProgramAnswer)
         requires some { 0 < length (calls_of program.now) }
         requires fits { IsAnswer program_form program.now answer.now }
         ensures { tells program.now answer.now self.new };
@@ -101,7 +101,7 @@ impl Tells for AnswerNumbers {
     }
 
     #[inline(always)]
-    fn tell(&mut self, program: &Program, answer: &Answer) {
+    fn tell(&mut self, program: &Program, answer: &ProgramAnswer) {
         let last = last_of(program, answer);
         *self = AnswerNumbers {
             place: last.place,
@@ -121,44 +121,44 @@ impl Tells for ProgramAnswerNumbers {
     }
 
     #[inline(always)]
-    fn tell(&mut self, program: &Program, answer: &Answer) {
+    fn tell(&mut self, program: &Program, answer: &ProgramAnswer) {
         write_answer(program, answer, self);
     }
 }
 
 /// The number of a wait.
-fn wait_number(wait: Wait) -> u32
+fn wait_number(wait: Backoff) -> u32
     ensures { result ≡ number_of_wait wait }
 {
     match wait {
-        Wait::Pause(pauses) => pauses,
-        Wait::Yield => YIELD,
+        Backoff::Pause(pauses) => pauses,
+        Backoff::Yield => YIELD,
     }
 }
 
 /// Writes the answer to the program, or how to wait, in numbers. Returns the status.
 #[inline(always)]
 fn write_next<A: Tells>(
-    next: Next<Answer>,
+    next: CallOutcome<ProgramAnswer>,
     program: &Program,
     answer: &mut A,
     wait: &mut u32,
 ) -> u32
-    requires { (found : _) → next ≡ Next.Answered found → (0 < length (calls_of program.now)) × IsAnswer program_form program.now found.reply }
-    ensures ok { result ≡ OK → (found : AnswerOf AnswerValue) × (next ≡ Next.Answered found) × A.tells program.now found.reply answer.new }
-    ensures memory { result ≡ NO_MEMORY → next ≡ Next.Starved }
-    ensures waits { result ≡ NOT_SERVED → (w : _) × (next ≡ Next.Wait w) × (wait.new ≡ number_of_wait w) }
+    requires { (found : _) → next ≡ CallOutcome.Answered found → (0 < length (calls_of program.now)) × IsAnswer program_form program.now found.reply }
+    ensures ok { result ≡ OK → (found : AnswerOf AnswerValue) × (next ≡ CallOutcome.Answered found) × A.tells program.now found.reply answer.new }
+    ensures memory { result ≡ NO_MEMORY → next ≡ CallOutcome.Starved }
+    ensures waits { result ≡ NOT_SERVED → (w : _) × (next ≡ CallOutcome.Wait w) × (wait.new ≡ number_of_wait w) }
     ensures failed { result ≢ OK → answer.new ≡ answer.old }
     ensures not_late { result ≢ NOT_SERVED → wait.new ≡ wait.old }
     ensures statuses { IsMade result }
 {
     match next {
-        Next::Answered(found) => {
+        CallOutcome::Answered(found) => {
             answer.tell(program, &found.reply);
             OK
         }
-        Next::Starved => NO_MEMORY,
-        Next::Wait(before_next) => {
+        CallOutcome::Starved => NO_MEMORY,
+        CallOutcome::Wait(before_next) => {
             *wait = wait_number(before_next);
             NOT_SERVED
         }
@@ -184,7 +184,7 @@ fn begin<A: Tells>(
     ensures free { is_some share.new.looking ≡ false }
     ensures begun { HasBegun A.tells share.old share.new program.now made turns answer.old answer.new wait.old wait.new told.new result }
 {
-    Told::<Programs<Book>>::clear(&mut share.told);
+    Listener::<Programs<Book>>::clear(&mut share.told);
     if made >= turns {
         share
             .session
@@ -196,7 +196,7 @@ fn begin<A: Tells>(
     let next = share
         .session
         .run_turn(&share.office, program, made, share.bound, &mut share.told);
-    *told = share.told.told.count();
+    *told = share.told.listener.count();
     write_next(next, program, answer, wait)
 }
 
@@ -216,7 +216,7 @@ fn resume<A: Tells>(
     ensures free { is_some share.new.looking ≡ false }
     ensures resumed { HasResumed A.tells share.old share.new made turns answer.old answer.new wait.old wait.new told.new result }
 {
-    Told::<Programs<Book>>::clear(&mut share.told);
+    Listener::<Programs<Book>>::clear(&mut share.told);
     if made >= turns {
         *told = 0;
         *wait = NO_TURN;
@@ -226,7 +226,7 @@ fn resume<A: Tells>(
     let next = share
         .session
         .run_look(&share.office, made, share.bound, &mut share.told);
-    *told = share.told.told.count();
+    *told = share.told.listener.count();
     write_next(next, &asked, answer, wait)
 }
 

@@ -12,7 +12,7 @@ use Rattle.lock_rules.proofs.Histories.{state_after-append}
 use Rattle.lock_desk.specs.Batches.{Item, entries_from, has_ended_in, ended_waits_in}
 use Rattle.lock_desk.specs.BookView.{BookView}
 use Rattle.sequential.specs.Batches.{item_of}
-use Rattle.lock_holders.specs.Ended.{EndedView, is_ended, ended_in}
+use Rattle.lock_holders.specs.Woken.{WokenListView, is_ended, ended_in}
 use Rattle.lock_desk.specs.inner.Served.{AreServed}
 use Rattle.lock_holders.proofs.FilteredNumbers.{same-tests, same-numbers, no-numbers}
 
@@ -81,7 +81,7 @@ ends-also n start items st i old new same h =
     (λ u l k. h u ∙ ap (λ (b : Bool). b || item_ends st i u) (same-tests old (has_ended_in start items) n same u l (omega (arith, k))))
 
 -- so of the list of a lock table
-pub waits_ended-also : (n : ℕ) (start : State) (items : List Item) (st : State) (i : Item) (v w : EndedView) → length v.places ≡ n → length w.places ≡ n → ended_in v ≡ ended_waits_in n start items
+pub waits_ended-also : (n : ℕ) (start : State) (items : List Item) (st : State) (i : Item) (v w : WokenListView) → length v.places ≡ n → length w.places ≡ n → ended_in v ≡ ended_waits_in n start items
     → ((u : ℕ) → is_ended w u ≡ (is_ended v u || item_ends st i u)) → ended_in w ≡ ended_also n start items st i
 waits_ended-also n start items st i v w long still same adds =
     ap (λ (m : ℕ). filter (is_ended w) (range_with_len 1 m)) still

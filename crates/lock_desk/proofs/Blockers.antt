@@ -1,5 +1,5 @@
 -- The sessions for which one waits, entered one after another, by number.
-use Rattle.std.proofs.Common.{◌≡◌, ℕ, zero, suc, ◌+◌, Bool, true, false, cond, List, [], ◌∷◌, ◌++◌, filter, sym, ap, ◌∙◌, arith, append-nil, length, take, drop, set, ◌<◌, ◌≤◌, refl, if◌then◌else◌, not, ◌&&◌, Option, None, Some}
+use Rattle.std.proofs.Common.{◌≡◌, ℕ, suc, ◌+◌, Bool, true, false, cond, List, [], ◌∷◌, ◌++◌, filter, sym, ap, ◌∙◌, arith, append-nil, length, take, drop, set, ◌<◌, ◌≤◌, refl, if◌then◌else◌, not, ◌&&◌, Option, None, Some}
 use Rattle.std.specs.Prelude.{nat_lt, is_some, ◌==◌}
 use Rattle.std.proofs.lemmas.Bool.{ltb-true, ltb-false}
 use Rattle.std.proofs.Math.Bool.{and-false}
@@ -10,11 +10,7 @@ use Rattle.lock_holders.proofs.FilteredNumbers.{no-numbers}
 use Rattle.std.specs.List.{range_with_len}
 use Rattle.std.proofs.Math.Seq.{take-nil}
 use Rattle.std.proofs.lemmas.List.Elements.{filter-append}
-
--- One number more behind a range.
-pub one-behind : (a n j : ℕ) → a + n ≡ j → range_with_len a (suc n) ≡ range_with_len a n ++ j ∷ []
-one-behind a zero j e = let same : a ≡ j = omega (arith, e) in ap (λ (k : ℕ). k ∷ []) same
-one-behind a (suc n) j e = ap (λ (l : List ℕ). a ∷ l) (one-behind (a + 1) n j (omega (arith, e)))
+use Rattle.lock_rules.proofs.Ranges.{one-behind}
 
 -- One number more: it is entered if the test holds of it.
 one-more : (p : ℕ → Bool) (n : ℕ) → filter p (range_with_len 1 (n + 1)) ≡ filter p (range_with_len 1 n) ++ cond (p (n + 1)) ((n + 1) ∷ []) []

@@ -14,7 +14,7 @@ use Rattle.lock_rules.proofs.Histories.{legal-push, state_of-push}
 use Rattle.lock_table.specs.declared.lockers.Locker.{Locker}
 use Rattle.lock_table.specs.inner.Lockers.{no_standing, standing_of, standings_of, standing_at}
 use Rattle.lock_table.specs.Changes.{with_ended, with_ended_count, IsWhole, HasNotedEnded}
-use Rattle.lock_holders.specs.Ended.{EndedView, is_ended, ended_in}
+use Rattle.lock_holders.specs.Woken.{WokenListView, is_ended, ended_in}
 use Rattle.lock_table.specs.declared.table.LockTable.{LockTable}
 use Rattle.lock_table.specs.Ready.{IsReadyTable}
 use Rattle.lock_table.specs.Shows.{Shows}
@@ -100,7 +100,7 @@ of-kept a some few k lockers log told calls waits = record {
 }
 
 -- another list of ended waits makes no difference
-pub kept-relisted : (d : LockTable) (v : EndedView) (es : List Entry) → length v.places ≡ length d.ended.places → AreKept d es → AreKept (with_ended v d) es
+pub kept-relisted : (d : LockTable) (v : WokenListView) (es : List Entry) → length v.places ≡ length d.ended.places → AreKept d es → AreKept (with_ended v d) es
 kept-relisted d v es long k = record {
   legal = k.legal;
   within = k.within;
@@ -111,13 +111,13 @@ kept-relisted d v es long k = record {
 }
 
 -- in a table whose list was cleared, those are listed whose wait the call has ended
-pub waits_ended-alone : (n s : ℕ) (before after : rules.State) (v w : EndedView) → length w.places ≡ n → v.count ≡ 0 → ((u : ℕ) → is_ended w u ≡ (is_ended v u || has_ended s before after u)) → ended_in w ≡ ended_waits n s before after
+pub waits_ended-alone : (n s : ℕ) (before after : rules.State) (v w : WokenListView) → length w.places ≡ n → v.count ≡ 0 → ((u : ℕ) → is_ended w u ≡ (is_ended v u || has_ended s before after u)) → ended_in w ≡ ended_waits n s before after
 waits_ended-alone n s before after v w long none adds =
     same-numbers (is_ended w) (has_ended s before after) 1 (length w.places) (λ u l k. adds u ∙ ap (λ (b : Bool). b || has_ended s before after u) (none-waits_ended v none u))
     ∙ ap (λ (m : ℕ). ended_waits m s before after) long
 
 -- in one whose list was not cleared, they are listed beside those that were
-waits_ended-beside : (n s : ℕ) (before after : rules.State) (v w : EndedView) → length v.places ≡ n → length w.places ≡ n → ((u : ℕ) → is_ended w u ≡ (is_ended v u || has_ended s before after u))
+waits_ended-beside : (n s : ℕ) (before after : rules.State) (v w : WokenListView) → length v.places ≡ n → length w.places ≡ n → ((u : ℕ) → is_ended w u ≡ (is_ended v u || has_ended s before after u))
     → ended_in w ≡ ended_waits_beside n (ended_in v) s before after
 waits_ended-beside n s before after v w long still adds =
     let listed : ended_in v ≡ filter (is_ended v) (range_with_len 1 n) = ap (λ (m : ℕ). filter (is_ended v) (range_with_len 1 m)) long in
@@ -165,7 +165,7 @@ entry-view a b is s call reply es cut bound ended deadlocks entries cuts bounds 
     (ends ∙ ap (λ (t : BookView). ended_waits t.sessions s (state_of t.history) (step (state_of t.history) s call).state) is) most
 
 -- when they are listed beside those that were
-pub beside-view : (a : Inside) (b : BookView) → book_view_of a ≡ b → (s : ℕ) (call : Call) (reply : Reply) (es : List Entry) (cut bound : ℕ) (w : EndedView) (deadlocks : ℕ)
+pub beside-view : (a : Inside) (b : BookView) → book_view_of a ≡ b → (s : ℕ) (call : Call) (reply : Reply) (es : List Entry) (cut bound : ℕ) (w : WokenListView) (deadlocks : ℕ)
     → es ≡ a.history.items ++ record { session = s; call = call; reply = reply } ∷ [] → cut ≡ a.history.cut → bound ≡ a.history.bound
     → length a.lock_table.value.ended.places ≡ a.sessions → length w.places ≡ a.sessions
     → ((u : ℕ) → is_ended w u ≡ (is_ended a.lock_table.value.ended u || has_ended s (state_of a.history.items) (step (state_of a.history.items) s call).state u)) → deadlocks ≡ a.notes.log.most

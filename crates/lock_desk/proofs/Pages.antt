@@ -17,7 +17,7 @@ use Rattle.lock_rules.specs.Queue.{conversions, fresh_requests}
 use Rattle.lock_rules.specs.Sound.{IsOrdered, after, ascend}
 use Rattle.lock_rules.specs.Listing.{resources_of, transaction_of, listed_as, listed_on, lock_line, listed_resources}
 use Rattle.lock_rules.proofs.Lists.{seek, seek-after, mode_in-seek}
-use Rattle.lock_rules.proofs.ResourceOrder.{rise, same-lists, has-with, rise-with}
+use Rattle.lock_rules.proofs.ResourceOrder.{rise, same-lists, has-with}
 use Rattle.lock_table.specs.declared.table.LockTable.{LockTable}
 use Rattle.session_locks.specs.Resources.{is_behind, has_path, in_order, those_behind}
 use Rattle.lock_desk.specs.Pages.{is_lock_of, locks_of}
@@ -29,13 +29,9 @@ use Rattle.lock_table.proofs.Asking.{held-locker}
 use Rattle.session_locks.proofs.InOrder.{rise-in_order, has-in_order}
 use Rattle.lock_table.proofs.Simulation.{mode-shown}
 use Rattle.session_locks.proofs.FilteredResources.{has-filter, rise-filter, all-filter}
+use Rattle.lock_rules.proofs.Listings.{rise-resources}
 
 -- the resources that are listed
-
--- they rise
-rise-resources : (cs : List Claim) → rise (resources_of cs) ≡ true
-rise-resources [] = refl
-rise-resources (c ∷ cs) = rise-with c.resource (resources_of cs) (rise-resources cs)
 
 -- they are those of the claims
 has-resources : (r : List ℕ) (cs : List Claim) → has_path r (resources_of cs) ≡ list_any (λ (c : Claim). same_path c.resource r) cs

@@ -30,7 +30,7 @@ mod paths;
 
 use crate::call_counts::CallCounts;
 use crate::deadlock_log::DeadlockLog;
-use crate::notes::Notes;
+use crate::notes::BookNotes;
 use crate::recording::serve_recorded;
 use lock_modes::Mode;
 use lock_rules::{Call, Claim, Entry, MAX_SESSIONS, Reply, Transaction, laws};
@@ -51,7 +51,7 @@ use std::marker::Model;
 ///
 /// ```text
 /// Book ── history: TrimmedList<Entry>
-///  ├── notes: Notes ── the newest deadlocks and how waits ended; calls by operation and reply
+///  ├── notes: BookNotes ── the newest deadlocks and how waits ended; calls by operation and reply
 ///  └─ LockTable, in a box
 /// ```
 #[derive(Drop)]
@@ -63,7 +63,7 @@ pub struct Book {
     /// All served calls with their replies, oldest first. Only those that are kept can be read from memory.
     history: TrimmedList<Entry>,
     /// What is noted of the served calls.
-    notes: Notes,
+    notes: BookNotes,
 }
 
 /// An empty lock table, as `LockTable::new` makes it, in memory of its own. Fails if memory is refused.
@@ -136,7 +136,7 @@ impl Book {
             sessions,
             lock_table,
             history: TrimmedList::new(alloc),
-            notes: Notes {
+            notes: BookNotes {
                 log,
                 counts: CallCounts::new(),
             },

@@ -7,7 +7,7 @@ use crate::deadlock_log::DeadlockLog;
 ///
 /// It is passed on as one, so that a call of the lock table has few enough arguments for registers.
 #[derive(Drop)]
-pub struct Notes {
+pub struct BookNotes {
     /// The newest deadlocks, none unless they are asked for, and how waits ended.
     pub(crate) log: DeadlockLog,
     /// How many calls of each kind were served, and how they were answered.

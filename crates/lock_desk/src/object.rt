@@ -3,7 +3,7 @@
 ghost use Rattle.std.specs.Prelude.{◌≡◌};
 
 use crate::book::{Book, Item};
-use lock_programs::{Answer, Program, goes_on_behind};
+use lock_programs::{Program, ProgramAnswer, goes_on_behind};
 use lock_rules::{Call, Entry, Reply};
 use programs::{Continuing, Programmed};
 use sequential::{Batching, Fresh, Sequential, Serving, Telling, Trimming};
@@ -91,14 +91,14 @@ impl Continuing for Book {
 impl Programmed for Book {
     type Program = Program;
 
-    type Answer = Answer;
+    type Answer = ProgramAnswer;
 
     ghost use Rattle.lock_rules.specs.State.{empty};
     ghost use Rattle.lock_programs.specs.Answers.{program_form};
     ghost use Rattle.lock_programs.specs.Fits.{Fits};
     ghost use Rattle.lock_programs.specs.Nothing.{no_calls, no_replies};
     ghost use Rattle.lock_programs.proofs.Steps.{last-fits};
-    ghost use Rattle.lock_programs.proofs.Told.{runs_are_told};
+    ghost use Rattle.lock_programs.proofs.NotedReplies.{runs_are_told};
 
     ghost form = { program_form };
 
@@ -124,16 +124,16 @@ impl Programmed for Book {
     }
 
     #[inline(always)]
-    fn none_served(_program: &Program, first: u64) -> Answer {
-        Answer::none_served(first)
+    fn none_served(_program: &Program, first: u64) -> ProgramAnswer {
+        ProgramAnswer::none_served(first)
     }
 
     #[inline(always)]
-    fn append(answer: &mut Answer, program: &Program, reply: Reply) {
+    fn append(answer: &mut ProgramAnswer, program: &Program, reply: Reply) {
         answer.append(program, reply);
     }
 
-    fn refuse(answer: &mut Answer) {
+    fn refuse(answer: &mut ProgramAnswer) {
         answer.refuse();
     }
 

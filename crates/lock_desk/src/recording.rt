@@ -5,12 +5,12 @@ ghost use Rattle.lock_rules.specs.Step.{step};
 ghost use Rattle.lock_rules.specs.Ended.{has_ended};
 ghost use Rattle.lock_rules.specs.Legal.{state_of};
 ghost use Rattle.lock_desk.specs.Deadlocks.{AreDeadlocksTold, deadlocks_in, newest};
-ghost use Rattle.lock_holders.specs.Ended.{is_ended};
+ghost use Rattle.lock_holders.specs.Woken.{is_ended};
 ghost use Rattle.lock_desk.specs.inner.Counting.{AreCallsCounted, AreWaitsCounted};
 ghost use Rattle.lock_desk.specs.inner.Noting.{IsLogFor};
 ghost use Rattle.lock_desk.specs.inner.Served.{AreKept};
 
-use crate::notes::Notes;
+use crate::notes::BookNotes;
 use crate::serving::serve_call;
 use lock_rules::{Call, Entry, Reply};
 use lock_table::LockTable;
@@ -24,7 +24,7 @@ use std::alloc::AllocError;
 pub(crate) fn serve_recorded(
     table: &mut LockTable,
     history: &mut TrimmedList<Entry>,
-    notes: &mut Notes,
+    notes: &mut BookNotes,
     session: u16,
     call: Call,
 ) -> Result<Reply, AllocError>

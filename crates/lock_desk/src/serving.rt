@@ -11,7 +11,7 @@ ghost use Rattle.lock_desk.specs.inner.Noting.{HasNoted, IsLogFor};
 ghost use Rattle.lock_table.specs.Shows.{Shows, DoesAnswer};
 ghost use Rattle.lock_desk.specs.inner.Counting.{with_own_wait, AreCallsCounted};
 
-use crate::notes::Notes;
+use crate::notes::BookNotes;
 use lock_rules::{Call, Op, Reply};
 use lock_table::LockTable;
 use std::alloc::AllocError;
@@ -23,7 +23,7 @@ pub(crate) fn serve_call(
     session: u16,
     call: Call,
     served: u64,
-    notes: &mut Notes,
+    notes: &mut BookNotes,
 ) -> Result<Reply, AllocError>
     requires may_serve { MayServe session table.old }
     requires log { IsLogFor (vec_len table.old.lockers) notes.old.log }

@@ -1,29 +1,10 @@
 -- What is listed of each session, one session after another.
-use Rattle.std.proofs.Common.{◌≡◌, ℕ, zero, suc, ◌+◌, ◌<◌, ◌≤◌, ◌⊎◌, Bool, true, false, cond, eqb, inl, inr, List, [], ◌∷◌, ◌++◌, refl, sym, ap, subst, ◌∙◌, arith, append-nil}
+use Rattle.std.proofs.Common.{◌≡◌, ℕ, zero, suc, ◌+◌, ◌<◌, ◌≤◌, ◌⊎◌, Bool, true, false, cond, eqb, inl, inr, List, [], ◌∷◌, ◌++◌, refl, sym, subst, arith}
 use Rattle.std.specs.List.{flat_map, range_with_len}
 use Rattle.std.proofs.lemmas.Bool.{cases_Bool}
 use Rattle.std.proofs.lemmas.Bool.Decides.{nat_tests, Decides-eqb}
-use Rattle.std.proofs.lemmas.Grind.{flat_map-append}
 use Rattle.std.proofs.lemmas.List.Concat.{flat_map-cons}
 use Rattle.sequential.proofs.Members.{Member}
-
--- The last of the numbers from a on.
-last : (a n j : ℕ) → a + n ≡ j → range_with_len a (suc n) ≡ range_with_len a n ++ j ∷ []
-last a zero j e = let same : a ≡ j = omega (arith, e) in ap (λ (k : ℕ). k ∷ []) same
-last a (suc n) j e = ap (λ (l : List ℕ). a ∷ l) (last (a + 1) n j (omega (arith, e)))
-
--- What is listed of one session more is at the end.
-pub next-session : {X : Type 0} (f : ℕ → List X) (n : ℕ) → flat_map f (range_with_len 1 (n + 1)) ≡ flat_map f (range_with_len 1 n) ++ f (n + 1)
-next-session {X} f n =
-    let on : n + 1 ≡ suc n = omega arith in
-    ap (λ (k : ℕ). flat_map f (range_with_len 1 k)) on
-    ∙ ap (flat_map f) (last 1 n (n + 1) (omega arith))
-    ∙ flat_map-append f (range_with_len 1 n) ((n + 1) ∷ [])
-    ∙ ap (λ (xs : List X). flat_map f (range_with_len 1 n) ++ xs) (append-nil (f (n + 1)))
-
--- With the list of the next session, a list is that of one session more.
-pub session-more : {X : Type 0} (f : ℕ → List X) (n : ℕ) (xs ys : List X) → xs ≡ flat_map f (range_with_len 1 n) → ys ≡ xs ++ f (n + 1) → ys ≡ flat_map f (range_with_len 1 (n + 1))
-session-more {X} f n xs ys so_far more = more ∙ ap (λ (l : List X). l ++ f (n + 1)) so_far ∙ sym (next-session f n)
 
 -- Members of such a list.
 

@@ -17,6 +17,7 @@ use Rattle.lock_explain.specs.declared.explanation.Party.{Party}
 use Rattle.lock_explain.specs.Waiting.{party_of}
 use Rattle.lock_explain.specs.Cycles.{is_on_cycle, party_on_cycle, cycle_of, edge_of, edges_of}
 use Rattle.lock_explain.specs.inner.Graph.{AreWaitsOf, IsPartyWithin, edge_among, edges_from, edges_among}
+use Rattle.lock_rules.proofs.Ranges.{both-ways}
 
 -- two lists whose parts are the same
 same-parts : {A : Type 0} (f g : ℕ → List A) (a n : ℕ) → 1 ≤ a → ((u : ℕ) → 1 ≤ u → f u ≡ g u) → flat_map f (range_with_len a n) ≡ flat_map g (range_with_len a n)
@@ -76,13 +77,8 @@ module _ (p : Pairs) (st : State) (w : AreWaitsOf p st) where
 
   -- a session is on a cycle by positions exactly if it is in the state
   pub cycle-told : (s u : ℕ) → 1 ≤ s → 1 ≤ u → (b : Bool) → IsTrue b ↔ AreOnCircle (pairs_of p) (s - 1) (u - 1) → b ≡ is_on_cycle st s u
-  cycle-told s u one some b h = alike b (is_on_cycle st s u) there back_again
+  cycle-told s u one some b h = both-ways b (is_on_cycle st s u) there back_again
     where
-      alike : (x y : Bool) → (x ≡ true → y ≡ true) → (y ≡ true → x ≡ true) → x ≡ y
-      alike true y f g = sym (f refl)
-      alike false true f g = g refl
-      alike false false f g = refl
-
       there : b ≡ true → is_on_cycle st s u ≡ true
       there e =
           let c = h.0 e in

@@ -4,7 +4,7 @@ use Rattle.std.proofs.Math.Bool.{or-false, or-true, and-false, and-true}
 use Rattle.std.proofs.lemmas.Bool.{and_parts, and_from, cases_Bool, cases_eq, cases_lt, leb-true, le-ltb}
 use Rattle.std.proofs.lemmas.Bool.Decides.{nat_tests, Decides-eqb, Decides-ltb}
 use Rattle.std.proofs.lemmas.List.{get_or-set_same, get_or-set_other, length-set, get_or_default, get_or-take, length-take-le}
-use Rattle.lock_holders.specs.Ended.{EndedView, is_ended, ended_in}
+use Rattle.lock_holders.specs.Woken.{WokenListView, is_ended, ended_in}
 use Rattle.lock_holders.specs.inner.Places.{ArePlaced}
 use Rattle.lock_holders.proofs.FilteredNumbers.{no-numbers}
 
@@ -158,25 +158,6 @@ module _ (ss ps : List ℕ) (h : ArePlaced ss ps) (s j : ℕ) (some : 1 ≤ s) (
     there = λ q l. moved-there q (omega (arith, l, long-new));
   }
 
-  -- the place of each: the session is at j, and the one that was at j has its place
-  pub moved-places : (q : ℕ) → q < length ps → get_or ps-new q 0 ≡ cond (eqb q (s - 1)) j (cond (eqb (get_or ps q 0) j) from (get_or ps q 0))
-  moved-places q l = elim (cases_eq q own) [
-    | inl e ↦ ap (λ (k : ℕ). get_or ps-new k 0) e ∙ (of-own ∙ sym (ap (λ (b : Bool). cond b j (cond (eqb (get_or ps q 0) j) from (get_or ps q 0))) ((Decides-eqb q own).1 e)))
-    | inr n ↦
-        ap (λ (k : ℕ). k) (here n)
-        ∙ sym (ap (λ (b : Bool). cond b j (cond (eqb (get_or ps q 0) j) from (get_or ps q 0))) (eqb-apart q own n))
-  ]
-    where
-      here : q ≢ own → get_or ps-new q 0 ≡ cond (eqb (get_or ps q 0) j) from (get_or ps q 0)
-      here n = elim (cases_eq q (other - 1)) [
-        | inl e ↦
-            let at-it : get_or ps q 0 ≡ j = ap (λ (k : ℕ). get_or ps k 0) e ∙ other-back in
-            ap (λ (k : ℕ). get_or ps-new k 0) e ∙ (of-other (λ f. n (e ∙ f)) ∙ sym (ap (λ (b : Bool). cond b from (get_or ps q 0)) ((Decides-eqb (get_or ps q 0) j).1 at-it)))
-        | inr m ↦
-            let there = h.there q l in
-            of-rest q m n ∙ sym (ap (λ (b : Bool). cond b from (get_or ps q 0)) (eqb-apart (get_or ps q 0) j (λ f. m (omega (arith, there, ap (λ (k : ℕ). get_or ss k 0) f, h.some j lt)))))
-      ]
-
 -- the same, with the values that were read
 pub moved-by : (ss ps : List ℕ) → ArePlaced ss ps → (s j p x y o : ℕ) → 1 ≤ s → s ≤ length ps → j < length ps → p ≡ s - 1 → x ≡ get_or ps p x → y ≡ get_or ss j y → o ≡ y - 1 → ArePlaced (set (set ss x y) j s) (set (set ps o x) p j)
 moved-by ss ps h s j p x y o some within lt is read there at =
@@ -187,15 +168,6 @@ moved-by ss ps h s j p x y o some within lt is read there at =
     (subst (λ (q : ℕ). ArePlaced (set (set ss x y) j s) (set (set ps q x) (s - 1) j)) (sym own)
     (subst (λ (v : ℕ). ArePlaced (set (set ss x v) j s) (set (set ps (get_or ss j 0 - 1) x) (s - 1) j)) (sym other)
     (subst (λ (v : ℕ). ArePlaced (set (set ss v (get_or ss j 0)) j s) (set (set ps (get_or ss j 0 - 1) v) (s - 1) j)) (sym from) (moved ss ps h s j some within lt))))
-
--- and where each session is then
-pub placed-by : (ss ps : List ℕ) → ArePlaced ss ps → (s j p x y o : ℕ) → 1 ≤ s → s ≤ length ps → j < length ps → p ≡ s - 1 → x ≡ get_or ps p x → y ≡ get_or ss j y → o ≡ y - 1
-    → (q : ℕ) → q < length ps → get_or (set (set ps o x) p j) q 0 ≡ cond (eqb q (s - 1)) j (cond (eqb (get_or ps q 0) j) (get_or ps (s - 1) 0) (get_or ps q 0))
-placed-by ss ps h s j p x y o some within lt is read there at q l =
-    let from : x ≡ get_or ps (s - 1) 0 = read ∙ (get_or_default ps p x 0 (omega (arith, is, some, within)) ∙ ap (λ (q : ℕ). get_or ps q 0) is) in
-    let other : y ≡ get_or ss j 0 = there ∙ get_or_default ss j y 0 (omega (arith, lt, h.long)) in
-    let own : o ≡ get_or ss j 0 - 1 = at ∙ ap (λ (v : ℕ). v - 1) other in
-    (λ i. get_or (set (set ps (own i) (from i)) (is i) j) q 0) ∙ moved-places ss ps h s j some within lt q l
 
 -- no two sessions have the same place
 pub one-place : (ss ps : List ℕ) → ArePlaced ss ps → (q r : ℕ) → q < length ps → r < length ps → get_or ps q 0 ≡ get_or ps r 0 → q ≡ r
@@ -350,26 +322,18 @@ handed ss ps c h few u = (to, back_)
         let l : i < length ss = omega (arith, front, few, h.long) in
         (i, omega (arith, front, length-take-le c ss (omega (arith, few, h.long))), get_or-take c ss i u front ∙ (get_or_default ss i u 0 l ∙ omega (arith, h.there (u - 1) (omega (arith, some, within)), some)))
 
--- and none twice
-pub handed-once : (ss ps : List ℕ) (c : ℕ) → ArePlaced ss ps → c ≤ length ps → (j k : ℕ) → j < k → k < length (take c ss) → get_or (take c ss) j 0 ≢ get_or (take c ss) k 0
-handed-once ss ps c h few j k lt within e =
-    let front : k < c = omega (arith, within, length-take-le c ss (omega (arith, few, h.long))) in
-    let same : get_or ss j 0 ≡ get_or ss k 0 = sym (get_or-take c ss j 0 (omega (arith, lt, front))) ∙ (e ∙ get_or-take c ss k 0 front) in
-    let place : j ≡ k = sym (h.back j (omega (arith, lt, front, few))) ∙ (ap (λ (v : ℕ). get_or ps (v - 1) 0) same ∙ h.back k (omega (arith, front, few))) in
-    absurd (omega (arith, place, lt))
-
 -- a session that is listed is in the range
-pub waits_ended-within : (v : EndedView) (u : ℕ) → is_ended v u ≡ true → (1 ≤ u) × (u ≤ length v.places)
+pub waits_ended-within : (v : WokenListView) (u : ℕ) → is_ended v u ≡ true → (1 ≤ u) × (u ≤ length v.places)
 waits_ended-within v u e =
     let p = and_parts (leb 1 u && leb u (length v.places)) (ltb (get_or v.places (u - 1) 0) v.count) e in
     let r = and_parts (leb 1 u) (leb u (length v.places)) p.0 in
     (leb-true 1 u r.0, leb-true u (length v.places) r.1)
 
 -- nothing is listed once the list is cleared
-pub none-waits_ended : (v : EndedView) → v.count ≡ 0 → (u : ℕ) → is_ended v u ≡ false
+pub none-waits_ended : (v : WokenListView) → v.count ≡ 0 → (u : ℕ) → is_ended v u ≡ false
 none-waits_ended v e u =
     ap (λ (c : ℕ). (leb 1 u && leb u (length v.places)) && ltb (get_or v.places (u - 1) 0) c) e
     ∙ (ap (λ (b : Bool). (leb 1 u && leb u (length v.places)) && b) (le-ltb (get_or v.places (u - 1) 0) 0 (omega arith)) ∙ and-false (leb 1 u && leb u (length v.places)))
 
-pub none-in : (v : EndedView) → v.count ≡ 0 → ended_in v ≡ []
+pub none-in : (v : WokenListView) → v.count ≡ 0 → ended_in v ≡ []
 none-in v e = no-numbers (is_ended v) 1 (length v.places) (none-waits_ended v e)

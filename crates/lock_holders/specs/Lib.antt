@@ -1,6 +1,6 @@
 -- what public contracts cite
 pub mod SessionModes
 pub mod Holders
-pub mod Ended
+pub mod Woken
 -- what only private contracts cite
 pub mod inner

@@ -15,11 +15,11 @@ use Rattle.lock_rules.specs.Queue.{queue}
 use Rattle.lock_rules.specs.Waits.{resource_of_request}
 use Rattle.lock_rules.specs.Step.{step, outcome_of, after_end}
 use Rattle.lock_rules.specs.Legal.{state_of}
-use Rattle.lock_rules.specs.Listing.{listed_on, listed_resources, listing_of, resources_of}
+use Rattle.lock_rules.specs.Listing.{listed_on, listed_resources, listing_of}
 use Rattle.lock_rules.specs.Ended.{ended_waits, has_ended}
 use Rattle.lock_rules.specs.Sound.{IsOnce, IsSound, times as times_of}
 use Rattle.lock_rules.proofs.Lists.{other, same_path-refl, same_path_tells, times-append, times-apart}
-use Rattle.lock_rules.proofs.ResourceOrder.{contrary, has-with, is_among, not-behind, precedes, rise, rise-with}
+use Rattle.lock_rules.proofs.ResourceOrder.{contrary, is_among, not-behind, precedes, rise}
 use Rattle.lock_rules.proofs.Cuts.{ended-lawful}
 use Rattle.lock_rules.proofs.Steps.{state-lawful}
 use Rattle.lock_rules.proofs.Taken.{claims-taken, none}
@@ -37,6 +37,9 @@ use Rattle.lock_report.specs.Jam.{granted_by_abort, granted_on, jammed_behind}
 use Rattle.lock_laws.specs.Listing.{AreSameSessions}
 use Rattle.lock_laws.proofs.JamLines.{granted-by-lines, lines-on}
 use Rattle.lock_laws.proofs.LinesGranted.{count, grants, grants-count, lines-granted}
+use Rattle.lock_rules.proofs.Listings.{rise-resources, among-resources, or-true}
+use Rattle.session_locks.proofs.ResourceLists.{same_path-swap}
+use Rattle.lock_rules.proofs.Sound.{either-kind}
 
 -- sums
 
@@ -158,12 +161,6 @@ as-often n p xs told within u =
 
 -- resources
 
-path-flip : (r x : List ℕ) → same_path r x ≡ false → same_path x r ≡ false
-path-flip r x h = elim (same_path_tells x r) [
-  | inl p ↦ absurd (contrary (same_path r x) (ap (same_path r) p.1 ∙ same_path-refl r) h)
-  | inr n ↦ n
-]
-
 -- a sum of which only one resource has a part
 total-one : (g : List ℕ → ℕ) (x : List ℕ) (rs : List (List ℕ)) → rise rs ≡ true → ((r : List ℕ) → same_path x r ≡ false → g r ≡ 0) → total g rs ≡ cond (is_among x rs) (g x) 0
 total-one g x [] h zero_else = refl
@@ -176,20 +173,8 @@ total-one g x (r ∷ rs) h zero_else =
           let none_else : total g rs ≡ 0 = next ∙ ap (λ (b : Bool). cond b (g x) 0) gone in
           let here : g r ≡ g x = ap g e.1 in
           omega (arith, none_else, here) ∙ sym (ap (λ (b : Bool). cond (b || is_among x rs) (g x) 0) e.0)
-      | inr n ↦ let here : g r ≡ 0 = zero_else r (path-flip r x n) in omega (arith, here, next) ∙ sym (ap (λ (b : Bool). cond (b || is_among x rs) (g x) 0) n)
+      | inr n ↦ let here : g r ≡ 0 = zero_else r (same_path-swap r x n) in omega (arith, here, next) ∙ sym (ap (λ (b : Bool). cond (b || is_among x rs) (g x) 0) n)
     ]
-
-rise-resources : (cs : List Claim) → rise (resources_of cs) ≡ true
-rise-resources [] = refl
-rise-resources (c ∷ cs) = rise-with c.resource (resources_of cs) (rise-resources cs)
-
-among-resources : (r : List ℕ) (cs : List Claim) → is_among r (resources_of cs) ≡ list_any (λ (c : Claim). same_path c.resource r) cs
-among-resources r [] = refl
-among-resources r (c ∷ cs) = has-with r c.resource (resources_of cs) ∙ ap (λ (b : Bool). same_path c.resource r || b) (among-resources r cs)
-
-or-true : (b : Bool) → (b || true) ≡ true
-or-true true = refl
-or-true false = refl
 
 asked-among : (u : ℕ) (qs : List Claim) (q : Claim) → request_of u qs ≡ Some q → list_any (λ (c : Claim). same_path c.resource q.resource) qs ≡ true
 asked-among u [] q h = absurd (cc)
@@ -213,17 +198,12 @@ times-short : (u : ℕ) (qs : List Claim) → times u (map short qs) ≡ times_o
 times-short u [] = refl
 times-short u (q ∷ qs) = ap (λ (k : ℕ). cond (eqb q.session u) 1 0 + k) (times-short u qs)
 
-not-both : (a b : Bool) → (a && b) ≡ true → (a && not b) ≡ false
-not-both true true h = refl
-not-both true false h = absurd (cc)
-not-both false b h = refl
-
 -- no session is in a queue twice
 queue-once : (t : Table) (u : ℕ) (r : List ℕ) → IsOnce t.requests → times u (map short (queue t r)) ≤ 1
 queue-once t u r o =
     let p = λ (q : Claim). same_path q.resource r && is_some (held_mode t q.session r) in
     let p' = λ (q : Claim). same_path q.resource r && not (is_some (held_mode t q.session r)) in
-    omega (arith, times-short u (queue t r), times-append u (filter p t.requests) (filter p' t.requests), times-apart u p p' t.requests (λ q h. not-both (same_path q.resource r) (is_some (held_mode t q.session r)) h), o u)
+    omega (arith, times-short u (queue t r), times-append u (filter p t.requests) (filter p' t.requests), times-apart u p p' t.requests (λ q h. either-kind (same_path q.resource r) (is_some (held_mode t q.session r)) h), o u)
 
 -- a session is in the queue of the resource of its request, and in no other
 queue-seen : (t : Table) (u : ℕ) (r : List ℕ) → IsOnce t.requests → has_session u (map short (queue t r)) ≡ has_path r (resource_of_request (request_of u t.requests))

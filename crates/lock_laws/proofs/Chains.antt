@@ -1,10 +1,8 @@
 -- Whoever waits, waits in the end for a holder that doesn't wait.
 use Rattle.std.proofs.Common.{◌≡◌, ℕ, zero, suc, ◌<◌, ◌≤◌, Bool, true, false, cond, not, eqb, ◌&&◌, ◌||◌, ◌⊎◌, inl, inr, List, [], ◌∷◌, ◌++◌, length, Option, Some, None, refl, sym, ◌∙◌, ap, arith}
 use Rattle.std.specs.Prelude.{filter, is_some}
-use Rattle.std.proofs.Math.Bool.{not-not}
 use Rattle.std.proofs.lemmas.Bool.Decides.{Decides-eqb}
 use Rattle.std.proofs.lemmas.Bool.{and_from, or_left, or_right, cases_Bool}
-use Rattle.std.proofs.lemmas.List.Filters.{length-filter_both}
 use Rattle.waits_for.specs.Walks.{IsWalk, Reaches}
 use Rattle.waits_for.proofs.Walks.{reaches-step, reaches-trans}
 use Rattle.lock_tree.specs.Paths.{same_path}
@@ -15,7 +13,7 @@ use Rattle.lock_rules.specs.Laws.{StandsBefore, HoldsInConflict, AreOwnersOpen}
 use Rattle.lock_rules.specs.Lawful.{IsLawfulState}
 use Rattle.lock_rules.specs.Sound.{IsOnce, IsOrdered}
 use Rattle.lock_rules.proofs.Lists.{same_path-refl, eqb-refl, request_of-session, In}
-use Rattle.lock_rules.proofs.Walks.{has}
+use Rattle.lock_rules.proofs.Walks.{has, length-without}
 use Rattle.lock_rules.proofs.Alters.{true≢false, NoCircle, waits_for-waits}
 use Rattle.lock_rules.proofs.Sound.{UnfitAt, head-request, unfit-some, In-queue}
 use Rattle.lock_rules.proofs.Settle.{filter-has}
@@ -91,18 +89,6 @@ waits-somebody t o once unfit s q e = go (queue t q.resource) refl (in-queue t s
 abbrev without : ℕ → List ℕ → List ℕ
 without v vs = filter (λ x. not (eqb x v)) vs
 
--- a list with a session isn't empty
-has-some : (v : ℕ) (vs : List ℕ) → has v vs ≡ true → 0 < length vs
-has-some v [] h = absurd (cc)
-has-some v (x ∷ vs) h = omega arith
-
--- the list without v is shorter if v is in it
-without-less : (v : ℕ) (vs : List ℕ) → has v vs ≡ true → length (without v vs) < length vs
-without-less v vs h =
-    let both = length-filter_both (λ (x : ℕ). not (eqb x v)) (λ (x : ℕ). eqb x v) (λ x. sym (not-not (eqb x v))) vs in
-    let some = has-some v (filter (λ (x : ℕ). eqb x v) vs) (filter-has (λ (x : ℕ). eqb x v) v vs h (eqb-refl v)) in
-    omega (arith, both, some)
-
 -- a walk from s to a session without a request
 record WalkToEnd (t : Table) (s : ℕ) : Type 0 where
   others : List ℕ
@@ -130,7 +116,7 @@ module _ (t : Table) (next : (s : ℕ) (q : Claim) → request_of s t.requests �
       go None f = record { others = []; last = u; walk = step; free = f }
       go (Some p) f =
           let w = next u p f in
-          let r = more p f (without-less u vs (all u (reaches-step (waits_for t) s u step) (waits_for-waits t u w.0 w.1))) left in
+          let r = more p f (length-without u vs (all u (reaches-step (waits_for t) s u step) (waits_for-waits t u w.0 w.1))) left in
           record { others = u ∷ r.others; last = r.last; walk = (step, r.walk); free = r.free }
 
   -- a walk leads from each waiting session to one that doesn't wait

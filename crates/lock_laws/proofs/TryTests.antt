@@ -16,6 +16,7 @@ use Rattle.lock_rules.proofs.Lists.{request_of-claims_but}
 use Rattle.lock_rules.proofs.Steps.{all-pass}
 use Rattle.lock_rules.proofs.Taken.{passes}
 use Rattle.lock_laws.specs.Tries.{WouldLockWait, IsTryRefusedIfLockWaits, DoesTryActAsLock, AreConversionsTriedPastWaiters}
+use Rattle.lock_rules.proofs.Refusals.{ask-answers}
 
 -- no test of the list gives this refusal
 abbrev GivesNot : Why → List (Bool × Why) → Type 0
@@ -48,12 +49,6 @@ first-append (t ∷ ts) u = go t.0 (first-append ts u)
     go : (b : Bool) → first_failing (ts ++ u ∷ []) ≡ or_last (first_failing ts) u.0 u.1 → cond b (Some t.1) (first_failing (ts ++ u ∷ [])) ≡ or_last (cond b (Some t.1) (first_failing ts)) u.0 u.1
     go true e = refl
     go false e = e
-
--- the reply to a request that acts is no refusal
-no-refusal : (d w : Bool) (k : Mode) (why : Why) → cond d Deadlock (cond w Waiting (Granted k)) ≡ Refused why → ⊥
-no-refusal true w k why h = cc
-no-refusal false true k why h = cc
-no-refusal false false k why h = cc
 
 module _ (st : State) (s : ℕ) (r : List ℕ) (m : Mode) where
   -- a Try, by what the tests of a Lock give and whether its request would wait
@@ -89,7 +84,7 @@ module _ (st : State) (s : ℕ) (r : List ℕ) (m : Mode) where
       go None true e f = (target_of (held_mode st.table s r) m, record { asked = m; call = inl refl; target = refl; passes = e; waits = f })
       go None false e f =
           let after = after_asking st s r (target_of (held_mode st.table s r) m) in
-          absurd (no-refusal (is_doomed after s) (is_waiting after s) (target_of (held_mode st.table s r) m) WouldWait (sym (ap (λ (x : Outcome). x.reply) (try-step None false e f)) ∙ h))
+          absurd (ask-answers (is_doomed after s) (is_waiting after s) (target_of (held_mode st.table s r) m) WouldWait (sym (ap (λ (x : Outcome). x.reply) (try-step None false e f)) ∙ h))
 
   -- a Try whose Lock would begin to wait is refused with WouldWait
   waits-refused : WouldLockWait st s r m → (step st s (Try r m)).reply ≡ Refused WouldWait

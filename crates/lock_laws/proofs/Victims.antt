@@ -4,8 +4,6 @@ use Rattle.std.specs.Prelude.{◌↔◌}
 use Rattle.std.proofs.lemmas.Bool.{and_parts, not-true, not-false}
 use Rattle.lock_modes.specs.declared.Mode.{Mode}
 use Rattle.lock_modes.specs.Order.{at_or_below}
-use Rattle.waits_for.specs.Walks.{Reaches}
-use Rattle.waits_for.proofs.Walks.{reaches-trans}
 use Rattle.lock_rules.specs.declared.calls.Call.{Call}
 use Rattle.lock_rules.specs.declared.calls.Call.TheVariants.{Lock, Convert}
 use Rattle.lock_rules.specs.declared.calls.Why.{Why}
@@ -15,7 +13,7 @@ use Rattle.lock_rules.specs.Queue.{after_grant, is_granted_at_once}
 use Rattle.lock_rules.specs.Waits.{waits_for, after_victim}
 use Rattle.lock_rules.specs.Step.{is_nothing, lacks_parent, target_of, tests, first_failing, is_held, after_wait, after_asking, act, outcome_of, step}
 use Rattle.lock_rules.specs.Legal.{state_of}
-use Rattle.lock_rules.specs.Laws.{HasNoCircle, IsVictim, AreVictims}
+use Rattle.lock_rules.specs.Laws.{HasNoCircle, AreVictims}
 use Rattle.lock_rules.specs.Sound.{IsNumbered, IsOnce, IsSound, Stands}
 use Rattle.lock_rules.proofs.Alters.{NoCircle, beside, no_circle-from}
 use Rattle.lock_rules.proofs.Sound.{UnfitAt}
@@ -24,16 +22,12 @@ use Rattle.lock_rules.proofs.Owners.{state-numbered, victim-numbered, waiting-nu
 use Rattle.lock_rules.proofs.Begins.{new, begins-sound, begins-beside, begins-unfit}
 use Rattle.lock_rules.proofs.Marks.{below-sup, sup-some}
 use Rattle.lock_rules.proofs.Steps.{all-pass, is-none, state-lawful}
-use Rattle.lock_rules.proofs.Victims.{settled-victims}
+use Rattle.lock_rules.proofs.Victims.{settled-victims, victim-circle}
 use Rattle.lock_laws.specs.Ends.{DoWaitsEnd, AreOpenBelow}
 use Rattle.lock_laws.specs.Victims.{BeginsToWait, with_waiting, AreVictimsNeeded}
 use Rattle.lock_laws.proofs.Bounds.{victim-below, some-below}
 use Rattle.lock_laws.proofs.Circles.{circles-stay}
 use Rattle.lock_laws.proofs.WaitsEnd.{quiescent-ends, ends-exactly}
-
--- if there is a victim, the asker is on a cycle
-victim-circle : (st : State) (s v : ℕ) → IsVictim st s v → Reaches (waits_for st.table) s s
-victim-circle st s v a = reaches-trans (waits_for st.table) s v s a.on_circle.there a.on_circle.back
 
 -- no victim is chosen in a state from which waits end
 pub victim-needed : (st : State) (n s v : ℕ) (vs : List ℕ) (last : State) → AreOpenBelow n st → IsOnce st.table.requests → AreVictims s (v ∷ vs) st last → DoWaitsEnd st → ⊥

@@ -1,5 +1,4 @@
 pub mod by_calls
-pub mod Dumped
 pub mod Flats
 pub mod Held
 pub mod InTime

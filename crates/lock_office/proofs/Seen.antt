@@ -9,12 +9,12 @@ use Rattle.programs.specs.Flat.{entry, entries_of}
 use Rattle.programs.specs.Fronts.{flat-append}
 use Rattle.programs.proofs.Placed.{entries-length, run-few}
 use Rattle.publication.proofs.Lists.{at_there}
-use Rattle.publication.specs.Kinds.{longer}
+use Rattle.publication.specs.StepKinds.{longer}
 use Rattle.combining.proofs.EndedWaits.{split-at}
-use Rattle.combining.specs.Ended.{IsNotedUpTo}
+use Rattle.combining.specs.Woken.{IsNotedUpTo}
 use Rattle.lock_rules.specs.Entries.{Entry}
 use Rattle.lock_programs.specs.declared.program.Program.{Program}
-use Rattle.lock_programs.specs.declared.answer.Answer.{Answer as ProgramAnswer}
+use Rattle.lock_programs.specs.declared.answer.ProgramAnswer.{ProgramAnswer}
 use Rattle.lock_programs.specs.Calls.{calls_of}
 use Rattle.lock_programs.specs.Answers.{replies_of, program_form}
 use Rattle.lock_office.specs.ProgramBoards.{ProgramEntry, IsLegal, flat_history}

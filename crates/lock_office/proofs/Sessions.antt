@@ -10,15 +10,15 @@ use Rattle.lock_rules.specs.declared.calls.Reply.{Reply}
 use Rattle.lock_rules.specs.Legal.{IsLegal as IsLegalByCalls}
 use Rattle.lock_rules.proofs.Histories.{legal-front}
 use Rattle.lock_programs.specs.declared.program.Program.{Program}
-use Rattle.lock_programs.specs.declared.answer.Answer.{Answer as ProgramAnswer}
+use Rattle.lock_programs.specs.declared.answer.ProgramAnswer.{ProgramAnswer}
 use Rattle.lock_programs.specs.Calls.{calls_of}
 use Rattle.lock_programs.specs.Answers.{replies_of, program_form}
 use Rattle.publication.specs.Views.{asks}
 use Rattle.publication.specs.Boards.{publishing, enlisted, tried}
 use Rattle.publication.specs.declared.board.Posted.{Posted}
 use Rattle.combining.specs.Calls as any
-use Rattle.combining.specs.declared.office.perform.Performed.{Performed}
-use Rattle.combining.specs.declared.calling.Next.{Next}
+use Rattle.combining.specs.declared.office.perform.TryOutcome.{TryOutcome}
+use Rattle.combining.specs.declared.calling.CallOutcome.{CallOutcome}
 use Rattle.combining.proofs.EndedWaits.{split-at}
 use Rattle.lock_office.specs.declared.session.Session.TheInside.{Inside}
 use Rattle.lock_office.specs.inner.Sessions.{MakesACall, IsReadable}
@@ -140,14 +140,14 @@ asks-same p q a b o is also = sym (ap (asked-or p) (sym is ∙ also))
 
 -- What is said of an outcome is said of its parts.
 
-pub read-performed : (P : Answer → ℕ → Bool → Type 0) (x y : Answer) (n m : ℕ) (b d : Bool) → Performed.Answered x n b ≡ Performed.Answered y m d → P x n b → P y m d
+pub read-performed : (P : Answer → ℕ → Bool → Type 0) (x y : Answer) (n m : ℕ) (b d : Bool) → TryOutcome.Answered x n b ≡ TryOutcome.Answered y m d → P x n b → P y m d
 read-performed P x y n m b d is h =
     let e : x ≡ y = cc in
     let f : n ≡ m = cc in
     let g : b ≡ d = cc in
     subst (λ (z : Answer). P z m d) e (subst (λ (k : ℕ). P x k d) f (subst (λ (q : Bool). P x n q) g h))
 
-pub read-next : (P : Answer → Type 0) (x y : Answer) → Next.Answered x ≡ Next.Answered y → P x → P y
+pub read-next : (P : Answer → Type 0) (x y : Answer) → CallOutcome.Answered x ≡ CallOutcome.Answered y → P x → P y
 read-next P x y is h = let e : x ≡ y = cc in subst P e h
 
 -- a call that was published is pending

@@ -9,7 +9,7 @@ use Rattle.lock_desk.specs.Batches.{ends_wait}
 use Rattle.programs.specs.Views.{place_of}
 use Rattle.lock_programs.specs.Answers.{program_form}
 use Rattle.publication.specs.Entered.{AreEnteredOnce}
-use Rattle.combining.specs.Ended.{HasAddedTold}
+use Rattle.combining.specs.Woken.{HasAddedTold}
 use Rattle.combining.proofs.EndedWaits.{in-range, told-later}
 use Rattle.lock_office.specs.by_calls.WakeUps.{WasToldToWait}
 use Rattle.lock_office.proofs.by_calls.WakeUps.{told_so, waits-or-ended, ended-behind}

@@ -3,7 +3,7 @@ use Rattle.std.specs.Prelude.{ℕ, ◌+◌, ◌-◌, List}
 use Rattle.std.specs.List.{flat_map, range_with_len}
 use Rattle.programs.specs.Views.{place_of}
 use Rattle.programs.specs.Ended.{EndsWait as EndsWaitOf}
-use Rattle.combining.specs.Ended.{AreToldBy as AreToldByAny}
+use Rattle.combining.specs.Woken.{AreToldBy as AreToldByAny}
 use Rattle.lock_desk.specs.Batches.{ends_wait}
 use Rattle.lock_programs.specs.Answers.{program_form}
 use Rattle.lock_office.specs.ProgramBoards.{ProgramEntry}

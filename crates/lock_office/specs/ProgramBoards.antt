@@ -11,7 +11,7 @@ use Rattle.programs.specs.Answers.{AnswersAgree}
 use Rattle.lock_rules.specs.Entries.{Entry, Answered}
 use Rattle.lock_rules.specs.Legal.{IsLegal as IsLegalByCalls}
 use Rattle.lock_programs.specs.declared.program.Program.{Program}
-use Rattle.lock_programs.specs.declared.answer.Answer.{Answer}
+use Rattle.lock_programs.specs.declared.answer.ProgramAnswer.{ProgramAnswer}
 use Rattle.lock_programs.specs.Answers.{program_form}
 use Rattle.lock_programs.specs.Nothing.{no_calls, no_replies}
 use Rattle.lock_desk.specs.BookView.{BookView}
@@ -25,21 +25,21 @@ use Rattle.publication.specs.declared.slot.Load.{Load as LoadOf}
 
 -- A book whose calls are programs.
 abbrev pub ProgramsView : Type 0
-ProgramsView = ProgramsViewOf BookView Program Answer
+ProgramsView = ProgramsViewOf BookView Program ProgramAnswer
 
 -- A session's program with its answer, in a history; and with its place there, among the answers of one session.
 abbrev pub ProgramEntry : Type 0
-ProgramEntry = EntryOf Program Answer
+ProgramEntry = EntryOf Program ProgramAnswer
 
 abbrev pub AnsweredProgram : Type 0
-AnsweredProgram = AnsweredOf Program Answer
+AnsweredProgram = AnsweredOf Program ProgramAnswer
 
 -- The programs of a history are ones that the lock manager can have served, with these answers.
 abbrev pub IsLegal : List ProgramEntry → Type 0
 IsLegal = IsLegalOf program_form IsLegalByCalls
 
 -- What programs of a book say of themselves as a sequential object.
-abbrev pub program_object : Ghosts ProgramsView Program Answer
+abbrev pub program_object : Ghosts ProgramsView Program ProgramAnswer
 program_object = record {
   sessions = λ programs. programs.object.sessions;
   history = λ programs. programs.history;
@@ -65,16 +65,16 @@ abbrev pub Pending : Type 0
 Pending = PendingOf Program
 
 abbrev pub TicketView : Type 0
-TicketView = TicketViewOf Program Answer
+TicketView = TicketViewOf Program ProgramAnswer
 
 abbrev pub KnowledgeView : Type 0
-KnowledgeView = KnowledgeViewOf Program Answer
+KnowledgeView = KnowledgeViewOf Program ProgramAnswer
 
 abbrev pub Load : Type 0
-Load = LoadOf ProgramsView Program Answer
+Load = LoadOf ProgramsView Program ProgramAnswer
 
 abbrev pub BoardState : Type 0
-BoardState = BoardStateOf ProgramsView Program Answer
+BoardState = BoardStateOf ProgramsView Program ProgramAnswer
 
 abbrev pub IsHome : List ProgramEntry → ℕ → Load → Type 0
 IsHome = IsHomeOf program_object

@@ -1,7 +1,7 @@
 -- Sessions of the lock office that make whole programs, turn by turn.
 use Rattle.std.specs.Prelude.{◌≡◌, ℕ, ◌<◌, Some, length}
 use Rattle.lock_programs.specs.declared.program.Program.{Program}
-use Rattle.lock_programs.specs.declared.answer.Answer.{Answer as ProgramAnswer}
+use Rattle.lock_programs.specs.declared.answer.ProgramAnswer.{ProgramAnswer}
 use Rattle.lock_programs.specs.Calls.{calls_of}
 use Rattle.publication.specs.Views.{asks}
 use Rattle.combining.specs.Calls as any

@@ -2,7 +2,7 @@
 use Rattle.std.specs.Prelude.{ℕ, List}
 use Rattle.lock_rules.specs.Entries.{Entry}
 use Rattle.lock_programs.specs.declared.program.Program.{Program}
-use Rattle.lock_programs.specs.declared.answer.Answer.{Answer as ProgramAnswer}
+use Rattle.lock_programs.specs.declared.answer.ProgramAnswer.{ProgramAnswer}
 use Rattle.lock_programs.specs.Calls.{calls_of}
 use Rattle.lock_desk.specs.Batches.{makes_room}
 use Rattle.programs.specs.Form.{first_goes_first}
@@ -11,14 +11,14 @@ pub use Rattle.combining.specs.Sessions.{IsSessionOf, IsIdle, HasNothingPending,
 use Rattle.combining.specs.Looks as looks
 use Rattle.publication.specs.Views.{BoardView}
 use Rattle.combining.specs.declared.office.Answer.{Answer as AnswerOf}
-use Rattle.combining.specs.declared.office.perform.Performed.{Performed as PerformedOf}
+use Rattle.combining.specs.declared.office.perform.TryOutcome.{TryOutcome as TryOutcomeOf}
 use Rattle.lock_office.specs.ProgramBoards.{Load, TicketView, program_object, flat_history}
 
 abbrev pub Answer : Type 0
 Answer = AnswerOf ProgramAnswer
 
-abbrev pub Performed : Type 0
-Performed = PerformedOf ProgramAnswer
+abbrev pub TryOutcome : Type 0
+TryOutcome = TryOutcomeOf ProgramAnswer
 
 abbrev pub IsPassed : TicketView → TicketView → ℕ → Type 0
 IsPassed = any.IsPassed program_object

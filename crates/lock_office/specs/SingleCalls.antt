@@ -3,7 +3,7 @@ use Rattle.std.specs.Prelude.{◌≡◌, ℕ, ◌+◌, ◌-◌, ◌^◌, min, So
 use Rattle.lock_rules.specs.declared.calls.Call.{Call}
 use Rattle.lock_rules.specs.declared.calls.Reply.{Reply}
 use Rattle.lock_programs.specs.declared.program.Program.{Program}
-use Rattle.lock_programs.specs.declared.answer.Answer.{Answer as ProgramAnswer}
+use Rattle.lock_programs.specs.declared.answer.ProgramAnswer.{ProgramAnswer}
 use Rattle.lock_programs.specs.Calls.{calls_of}
 use Rattle.lock_programs.specs.Answers.{replies_of}
 use Rattle.publication.specs.Views.{asks}

@@ -19,15 +19,15 @@ mod single;
 pub mod told_laws;
 
 pub use combining::{
-    CloseFault, Ended, Nobody, OpenFault, PassBound, Posted, Told, Turn, UNBOUNDED, Wait, back_off,
-    call, look, resume, turn,
+    Backoff, CloseFault, Listener, Nobody, OpenFault, PassBound, Posted, Turn, UNBOUNDED, WokenSet,
+    back_off, call, look, resume, turn,
 };
 pub use dump::dump_book;
 use lock_desk::{Book, Entry, Reply};
-pub use lock_programs::{Answer as ProgramAnswer, CALLS, Last, Program, Start, Stop};
+pub use lock_programs::{CALLS, Last, Program, ProgramAnswer, Start, Stop};
 pub use opening::{open_keeping, open_telling};
 use programs::Programs;
-pub use session::{Counted, Knowledge, Session, last_of};
+pub use session::{Knowledge, Session, WithSeen, last_of};
 pub use single::reply_of_one;
 
 /// A lock table that threads share by reference, each with sessions of its own, which make programs.
@@ -43,10 +43,10 @@ pub type Answer = combining::Answer<ProgramAnswer>;
 pub type CallAnswer = combining::Answer<Reply>;
 
 /// The outcome of one call of `Office::perform`.
-pub type Performed = combining::Performed<ProgramAnswer>;
+pub type TryOutcome = combining::TryOutcome<ProgramAnswer>;
 
 /// The outcome of one turn of a program, and of `call` and `resume`.
-pub type Next = combining::Next<ProgramAnswer>;
+pub type CallOutcome = combining::CallOutcome<ProgramAnswer>;
 
 /// A piece of the history that a session took: its lines are the calls of the programs with their replies.
 pub type HistoryPiece = combining::HistoryPiece<Entry>;

@@ -9,13 +9,13 @@
 ghost use Rattle.std.specs.Prelude.{◌≡◌, ◌≢◌, ◌⊎◌, ◌+◌, ◌-◌, ◌*◌, ◌^◌, ◌<◌, ◌≤◌, ◌↔◌, ◌∷◌, ◌++◌, [], true, false, IsTrue, None, Some, Ok, IfOk, IfErr, IfSome, IfNone, List, length, slice_index, vec_len, min, max};
 ghost use mathlib.Core.List.{IsPrefix};
 ghost use Rattle.sequential.specs.Histories.{calls_of as calls_of_session};
-ghost use Rattle.publication.specs.Kinds.{longer, maxes};
+ghost use Rattle.publication.specs.StepKinds.{longer, maxes};
 ghost use Rattle.publication.specs.Boards.{HasCallsOf, heard_from, known_by, publishing, enlisted, tried};
 ghost use Rattle.lock_programs.specs.declared.program.Program.{Program as ProgramValue};
 ghost use Rattle.lock_programs.specs.Answers.{replies_of};
 ghost use Rattle.lock_rules.specs.declared.calls.Reply.{Reply as ReplyValue};
 ghost use Rattle.combining.specs.Sessions.{HasTriedToList};
-ghost use Rattle.combining.specs.Ended.{AreToldBy, HasRoom, entered_since};
+ghost use Rattle.combining.specs.Woken.{AreToldBy, HasRoom, entered_since};
 ghost use Rattle.combining.specs.Rounds.{IsBound, IsUnmet, AreRounds, IsFull};
 ghost use Rattle.lock_office.specs.Weights.{locks_given_back};
 ghost use Rattle.lock_office.specs.ProgramBoards.{IsLegal, flat_history};
@@ -33,12 +33,12 @@ mod sleeping;
 mod turning;
 
 use crate::{CallAnswer as Answer, HistoryPiece, Office, Ticket};
-use combining::{PassBound, Posted, Told, Turn};
-pub use counting::Counted;
+use combining::{Listener, PassBound, Posted, Turn};
+pub use counting::WithSeen;
 use counting::seen_behind;
 pub use knowing::Knowledge;
 use lock_desk::{Book, Call, Reply};
-use lock_programs::{Answer as ProgramAnswer, Program};
+use lock_programs::{Program, ProgramAnswer};
 use programs::Programs;
 use std::alloc::{AllocError as NoMemory, Global};
 use std::marker::Model;
@@ -166,15 +166,15 @@ impl Session {
 
     /// Serves and tells within a bound, as `Office::serve` does. The bound counts programs, each of which is one call or several, and weighs
     /// the locks that they give back.
-    pub fn serve<T: Told<Programs<Book>>>(
+    pub fn serve<T: Listener<Programs<Book>>>(
         &mut self,
         office: &Office,
         bound: PassBound,
-        told: &mut Counted<T>,
+        listener: &mut WithSeen<T>,
     ) -> Turn
         requires ours { IsSessionOf office.now self.old }
         requires bound { IsBound bound }
-        requires room { HasRoom (T.room told.old.told) office.now.sessions }
+        requires room { HasRoom (T.room listener.old.listener) office.now.sessions }
         ensures ours { IsSessionOf office.now self.new }
         ensures elsewhere { result ≡ Turn.Elsewhere → HasTriedToList self.old self.new × (1 < office.now.sessions) }
         ensures pass { (served : _) (starved left : _) → result ≡ Turn.Pass served starved left → IsPassed self.old self.new served }
@@ -188,13 +188,13 @@ impl Session {
         ensures own { (served : _) (left : _) → result ≡ Turn.Pass served false left → self.old.pending ≢ None → IsPendingServed self.new }
         ensures heard { (served j : _) → result ≡ Turn.Pass served false false → 0 < j → j ≤ office.now.sessions
             → heard_from self.old j ≤ length (calls_of_session j self.new.front) }
-        ensures told { AreToldBy T.ends office.now.sessions self.new.front (entered_since self.old self.new) (T.list told.new.told) }
-        ensures none { result ≡ Turn.Elsewhere → T.list told.new.told ≡ [] }
-        ensures room { T.room told.new.told ≡ T.room told.old.told }
+        ensures told { AreToldBy T.ends office.now.sessions self.new.front (entered_since self.old self.new) (T.list listener.new.listener) }
+        ensures none { result ≡ Turn.Elsewhere → T.list listener.new.listener ≡ [] }
+        ensures room { T.room listener.new.listener ≡ T.room listener.old.listener }
     {
-        told.seen = self.seen;
-        let turn = office.serve(&mut self.session, bound, told);
-        self.seen = told.seen;
+        listener.seen = self.seen;
+        let turn = office.serve(&mut self.session, bound, listener);
+        self.seen = listener.seen;
         turn
     }
 

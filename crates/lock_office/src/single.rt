@@ -5,7 +5,7 @@ ghost use Rattle.lock_office.specs.Single.{HasReplies};
 
 use crate::CallAnswer;
 use lock_desk::{Call, Reply};
-use lock_programs::{Answer as ProgramAnswer, Program};
+use lock_programs::{Program, ProgramAnswer};
 
 /// The answer to a program of this one call, `Program::one(call)`, the place of the call in the history of
 /// calls, and the reply. `None` if the answer has no reply to the call, which no answer in a legal history has

@@ -11,20 +11,20 @@ use Rattle.lock_programs.specs.declared.stop.Stop.{Stop}
 use Rattle.lock_programs.specs.declared.stop.Stop.TheVariants.{GoesOn, Waits, IsVictim, IsRefused}
 use Rattle.lock_programs.specs.declared.program.Program.{Program}
 use Rattle.lock_programs.specs.Calls.{calls_of}
-use Rattle.lock_programs.specs.Answers.{Told, done_with, done_reply, stop_at, stop_reply, reply_at, replies_from, program_form}
+use Rattle.lock_programs.specs.Answers.{NotedReplies, done_with, done_reply, stop_at, stop_reply, reply_at, replies_from, program_form}
 use Rattle.lock_programs.specs.Fits.{goes_on_behind, fits}
 use Rattle.lock_programs.specs.inner.Noting.{began_after, ended_after, granted_after}
 use Rattle.lock_programs.proofs.Lasts.{last-with}
 use Rattle.lock_programs.proofs.Shapes.{begin-once, commit-place, abort-place, restart-place}
 
 -- fewer replies than calls were served
-pub served-few : (a : Told) (cs : List Call) (k n : ℕ) → length (replies_from a cs k n) < length cs → n < length cs
+pub served-few : (a : NotedReplies) (cs : List Call) (k n : ℕ) → length (replies_from a cs k n) < length cs → n < length cs
 served-few a [] k n h = absurd (omega (arith, h))
 served-few a (c ∷ cs) k zero h = omega arith
 served-few a (c ∷ cs) k (suc n) h = omega (arith, served-few a cs (k + 1) n (omega (arith, h)))
 
 -- as many replies as were served
-pub served-length : (a : Told) (cs : List Call) (k n : ℕ) → n ≤ length cs → length (replies_from a cs k n) ≡ n
+pub served-length : (a : NotedReplies) (cs : List Call) (k n : ℕ) → n ≤ length cs → length (replies_from a cs k n) ≡ n
 served-length a [] k zero h = refl
 served-length a [] k (suc n) h = absurd (omega (arith, h))
 served-length a (c ∷ cs) k zero h = refl
@@ -38,22 +38,22 @@ no-stop IsVictim r h = absurd (cc)
 no-stop (IsRefused why) r h = absurd (cc)
 
 -- the program went on behind the last reply
-going-stop : (a : Told) (cs : List Call) (k n : ℕ) → suc n ≤ length cs → AllGoOn program_form (replies_from a cs k (suc n)) → a.stop ≡ GoesOn
+going-stop : (a : NotedReplies) (cs : List Call) (k n : ℕ) → suc n ≤ length cs → AllGoOn program_form (replies_from a cs k (suc n)) → a.stop ≡ GoesOn
 going-stop a [] k n l h = absurd (omega (arith, l))
 going-stop a (c ∷ cs) k zero l h = no-stop a.stop (done_reply a c k) h.0
 going-stop a (c ∷ cs) k (suc n) l h = going-stop a cs (k + 1) n (omega (arith, l)) h.1
 
 -- the reply before the one that is appended
-reply-before : (a : Told) (c : Call) (k n : ℕ) → (suc n ≢ 0 → a.stop ≡ GoesOn) → reply_at a c k n ≡ done_reply a c k
+reply-before : (a : NotedReplies) (c : Call) (k n : ℕ) → (suc n ≢ 0 → a.stop ≡ GoesOn) → reply_at a c k n ≡ done_reply a c k
 reply-before a c k zero h = ap (λ (s : Stop). stop_reply s (done_reply a c k)) (h (λ e. omega (arith, e)))
 reply-before a c k (suc n) h = refl
 
-pub none-from : (a : Told) (cs : List Call) (k : ℕ) → replies_from a cs k 0 ≡ []
+pub none-from : (a : NotedReplies) (cs : List Call) (k : ℕ) → replies_from a cs k 0 ≡ []
 none-from a [] k = refl
 none-from a (c ∷ cs) k = refl
 
 -- one more reply, if those before are told as they were
-push-from : (old new : Told) (cs : List Call) (k n : ℕ) (r : Reply) → n < length cs → (n ≢ 0 → old.stop ≡ GoesOn)
+push-from : (old new : NotedReplies) (cs : List Call) (k n : ℕ) (r : Reply) → n < length cs → (n ≢ 0 → old.stop ≡ GoesOn)
     → ((j : ℕ) (c : Call) → j < n → slice_get cs j ≡ Some c → done_reply new c (k + j) ≡ done_reply old c (k + j))
     → ((c : Call) → slice_get cs n ≡ Some c → stop_reply new.stop (done_reply new c (k + n)) ≡ r)
     → replies_from new cs k (suc n) ≡ replies_from old cs k n ++ r ∷ []
@@ -177,7 +177,7 @@ ended-kept p old (Restarted k) n j l f m =
     absurd (omega (arith, l, restart-place p n (c.1 ∙ ap Some b)))
 
 -- what was told of an earlier call is told still
-kept : (p : Program) (old new : Told) (r : Reply) (n : ℕ) → ((c : Call) → slice_get (calls_of p) n ≡ Some c → fits c r ≡ true) → n < length (calls_of p)
+kept : (p : Program) (old new : NotedReplies) (r : Reply) (n : ℕ) → ((c : Call) → slice_get (calls_of p) n ≡ Some c → fits c r ≡ true) → n < length (calls_of p)
     → new.began ≡ began_after old.began r → new.ended ≡ ended_after old.ended r → (m : Mode) → new.granted ≡ set old.granted n m
     → (j : ℕ) (c : Call) → j < n → slice_get (calls_of p) j ≡ Some c → done_reply new c (0 + j) ≡ done_reply old c (0 + j)
 kept p old new r n f l b e m g j Begin i h = ap Began (b ∙ began-kept p old.began r n j i f l h)
@@ -192,12 +192,12 @@ kept p old new r n f l b e m g j (Release q) i h = refl
 kept p old new r n f l b e m g j Withdraw i h = refl
 
 -- the program went on behind the replies before
-went : (cs : List Call) (a : Told) (n : ℕ) → AllGoOn program_form (replies_from a cs 0 n) → n < length cs → n ≢ 0 → a.stop ≡ GoesOn
+went : (cs : List Call) (a : NotedReplies) (n : ℕ) → AllGoOn program_form (replies_from a cs 0 n) → n < length cs → n ≢ 0 → a.stop ≡ GoesOn
 went cs a zero h l z = absurd (z refl)
 went cs a (suc n) h l z = going-stop a cs 0 n (omega (arith, l)) h
 
 -- the last reply is told as it is
-last : (p : Program) (old new : Told) (r : Reply) (n : ℕ) → n < length old.granted → new.began ≡ began_after old.began r → new.ended ≡ ended_after old.ended r
+last : (p : Program) (old new : NotedReplies) (r : Reply) (n : ℕ) → n < length old.granted → new.began ≡ began_after old.began r → new.ended ≡ ended_after old.ended r
     → new.granted ≡ set old.granted n (granted_after (slice_index_or old.granted n NL) r) → new.stop ≡ stop_at r
     → (c : Call) → fits c r ≡ true → stop_reply new.stop (done_reply new c (0 + n)) ≡ r
 last p old new r n w b e g t c f =
@@ -212,7 +212,7 @@ last p old new r n w b e g t c f =
     ∙ last-with c r old.began old.ended o f
 
 -- the answer with one more reply tells one more
-pub appended : (p : Program) (old new : Told) (n : ℕ) (r : Reply) → AllGoOn program_form (replies_from old (calls_of p) 0 n) → length (replies_from old (calls_of p) 0 n) < length (calls_of p)
+pub appended : (p : Program) (old new : NotedReplies) (n : ℕ) (r : Reply) → AllGoOn program_form (replies_from old (calls_of p) 0 n) → length (replies_from old (calls_of p) 0 n) < length (calls_of p)
     → ((c : Call) → slice_get (calls_of p) (length (replies_from old (calls_of p) 0 n)) ≡ Some c → fits c r ≡ true) → n < length old.granted
     → new.began ≡ began_after old.began r → new.ended ≡ ended_after old.ended r
     → new.granted ≡ set old.granted n (granted_after (slice_index_or old.granted n NL) r) → new.stop ≡ stop_at r

@@ -9,4 +9,4 @@ pub mod Readings
 -- each reply of the lock manager is one that its call can have
 pub mod Steps
 -- each run of a program is told by an answer
-pub mod Told
+pub mod NotedReplies

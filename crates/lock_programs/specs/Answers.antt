@@ -9,10 +9,10 @@ use Rattle.lock_rules.specs.declared.calls.Reply.{Reply}
 use Rattle.lock_rules.specs.declared.calls.Reply.TheVariants.{Began, Granted, Waiting, Deadlock, Clear, Released, Committed, Aborted, Refused, Withdrawn, Restarted}
 use Rattle.lock_programs.specs.declared.stop.Stop.{Stop}
 use Rattle.lock_programs.specs.declared.stop.Stop.TheVariants.{GoesOn, Waits, IsVictim, IsRefused}
-use Rattle.lock_programs.specs.declared.notes.Notes.{Notes}
+use Rattle.lock_programs.specs.declared.notes.ReplyNotes.{ReplyNotes}
 use Rattle.lock_programs.specs.declared.answer.Replies.{Replies}
 use Rattle.lock_programs.specs.declared.answer.Replies.TheVariants as told_by
-use Rattle.lock_programs.specs.declared.answer.Answer.{Answer}
+use Rattle.lock_programs.specs.declared.answer.ProgramAnswer.{ProgramAnswer}
 use Rattle.lock_programs.specs.declared.program.Program.{Program}
 use Rattle.lock_programs.specs.Calls.{calls_of}
 use Rattle.lock_programs.specs.Fits.{goes_on_behind}
@@ -33,17 +33,17 @@ done_with began ended mode Restart = Restarted ended
 
 -- what an answer tells of replies: the number of the transaction that was begun, how many locks were released as one ended or
 -- restarted, the mode granted at each place, and why the program stopped at the last one
-pub record Told : Type 0 where
+pub record NotedReplies : Type 0 where
   pub began : ℕ
   pub ended : ℕ
   pub granted : List Mode
   pub stop : Stop
 
-abbrev pub told_of : Notes → Told
-told_of a = record { began = a.began; ended = a.ended; granted = a.granted; stop = a.stop }
+abbrev pub noted_of : ReplyNotes → NotedReplies
+noted_of a = record { began = a.began; ended = a.ended; granted = a.granted; stop = a.stop }
 
 -- the reply to the call at place k, if it was granted or done
-abbrev pub done_reply : Told → Call → ℕ → Reply
+abbrev pub done_reply : NotedReplies → Call → ℕ → Reply
 done_reply t c k = done_with t.began t.ended (slice_index_or t.granted k NL) c
 
 -- the last reply, if it is this one where the program went on behind it
@@ -54,19 +54,19 @@ stop_reply IsVictim r = Deadlock
 stop_reply (IsRefused why) r = Refused why
 
 -- the reply to the call at place k, which has so many replies behind it: the program can have stopped at the last one alone
-abbrev pub reply_at : Told → Call → ℕ → ℕ → Reply
+abbrev pub reply_at : NotedReplies → Call → ℕ → ℕ → Reply
 reply_at t c k zero = stop_reply t.stop (done_reply t c k)
 reply_at t c k (suc n) = done_reply t c k
 
 -- n replies to these calls, the first of which has place k
-abbrev pub replies_from : Told → List Call → ℕ → ℕ → List Reply
+abbrev pub replies_from : NotedReplies → List Call → ℕ → ℕ → List Reply
 replies_from t [] k n = []
 replies_from t (c ∷ cs) k zero = []
 replies_from t (c ∷ cs) k (suc n) = reply_at t c k n ∷ replies_from t cs (k + 1) n
 
 -- the replies that notes tell to the first of these calls
-abbrev pub replies_told : List Call → Notes → List Reply
-replies_told cs n = replies_from (told_of n) cs 0 n.served
+abbrev pub replies_told : List Call → ReplyNotes → List Reply
+replies_told cs n = replies_from (noted_of n) cs 0 n.served
 
 -- the replies that are told to the first of these calls. A single reply is that to a single call
 abbrev pub replies_in : List Call → Replies → List Reply
@@ -77,7 +77,7 @@ replies_in (c ∷ d ∷ cs) (told_by.One r) = []
 replies_in cs (told_by.Several n) = replies_told cs n
 
 -- the replies to the calls of a program that were served
-abbrev pub replies_of : Program → Answer → List Reply
+abbrev pub replies_of : Program → ProgramAnswer → List Reply
 replies_of p a = replies_in (calls_of p) a.replies
 
 -- why a program stops at this reply
@@ -93,11 +93,11 @@ stop_told told_by.None = GoesOn
 stop_told (told_by.One r) = stop_at r
 stop_told (told_by.Several n) = n.stop
 
-abbrev pub stop_of : Answer → Stop
+abbrev pub stop_of : ProgramAnswer → Stop
 stop_of a = stop_told a.replies
 
 -- how programs and their answers are read
-abbrev pub program_form : Form Program Answer Call Reply
+abbrev pub program_form : Form Program ProgramAnswer Call Reply
 program_form = record {
   calls = calls_of;
   replies = replies_of;

@@ -11,7 +11,7 @@ ghost use Rattle.lock_programs.specs.Calls.{calls_of};
 ghost use Rattle.lock_programs.specs.Answers.{replies_of, replies_in, replies_told, stop_of, program_form};
 ghost use Rattle.lock_programs.specs.Fits.{Fits};
 
-use crate::notes::Notes;
+use crate::notes::ReplyNotes;
 use crate::noting::stop_after;
 use crate::program::{CALLS, Program};
 use crate::stop::Stop;
@@ -26,12 +26,12 @@ enum Replies {
     /// The reply to the call of a program of one.
     One(Reply),
     /// Notes of the replies to a program of several calls.
-    Several(Notes),
+    Several(ReplyNotes),
 }
 
 /// The answer to a program: what was granted and done, and why it stopped. The replies to its calls follow from it and from the
 /// program.
-pub struct Answer {
+pub struct ProgramAnswer {
     /// The place of the first call in the history.
     first: u64,
     /// Whether memory was refused to the next call.
@@ -40,23 +40,23 @@ pub struct Answer {
     replies: Replies,
 }
 
-impl Clone for Answer {
-    fn clone(&self) -> Result<Answer, NoMemory> {
+impl Clone for ProgramAnswer {
+    fn clone(&self) -> Result<ProgramAnswer, NoMemory> {
         Ok(*self)
     }
 }
 
-impl Copy for Answer {}
+impl Copy for ProgramAnswer {}
 
-impl Answer {
+impl ProgramAnswer {
     /// The answer with no replies to a program whose first call has the place `first` in the history.
     #[inline(always)]
-    pub fn none_served(first: u64) -> Answer
+    pub fn none_served(first: u64) -> ProgramAnswer
         ensures first { result.first ≡ first }
         ensures none { (p : ProgramValue) → replies_of p result ≡ [] }
         ensures refused { result.is_refused ≡ false }
     {
-        Answer {
+        ProgramAnswer {
             first,
             is_refused: false,
             replies: Replies::None,
@@ -143,7 +143,7 @@ impl Answer {
 }
 
 impl Replies {
-    /// The same with the reply to the next call of the program, as `Answer::append` appends it.
+    /// The same with the reply to the next call of the program, as `ProgramAnswer::append` appends it.
     #[inline(always)]
     fn with(self, program: &Program, reply: Reply) -> Replies
         requires going { AllGoOn program_form (replies_in (calls_of program.now) self) }
@@ -170,7 +170,7 @@ fn count_of_one(program: &Program) -> usize
 
 /// Notes with the reply to the next call of the program.
 #[inline(always)]
-fn noted(notes: Notes, program: &Program, reply: Reply) -> Notes
+fn noted(notes: ReplyNotes, program: &Program, reply: Reply) -> ReplyNotes
     requires going { AllGoOn program_form (replies_told (calls_of program.now) notes) }
     requires next { length (replies_told (calls_of program.now) notes) < length (calls_of program.now) }
     requires fits { (c : CallValue) → slice_get (calls_of program.now) (length (replies_told (calls_of program.now) notes)) ≡ Some c → Fits c reply }
@@ -191,5 +191,5 @@ fn first_reply(program: &Program, reply: Reply) -> Replies
     if program.length() == 1 {
         return Replies::One(reply);
     }
-    Replies::Several(noted(Notes::none(), program, reply))
+    Replies::Several(noted(ReplyNotes::none(), program, reply))
 }

@@ -3,7 +3,7 @@
 //!
 //! A [`Program`] is a call of any kind; or it ends and begins a transaction, does either or neither, or restarts one, and then locks or
 //! tries each ancestor of a resource from a level on, in one mode, and makes a call on the resource. Its calls are performed one after
-//! another until the first reply that isn't granted or done. An [`Answer`] has what was granted and done, and why the program stopped:
+//! another until the first reply that isn't granted or done. A [`ProgramAnswer`] has what was granted and done, and why the program stopped:
 //! all replies follow from the program and its answer.
 //!
 //! Begin with `program.rt`, then `answer.rt`. README.md has the other files.
@@ -20,7 +20,7 @@ mod path;
 mod program;
 mod stop;
 
-pub use answer::Answer;
+pub use answer::ProgramAnswer;
 pub use noting::goes_on_behind;
 pub use program::{CALLS, Last, Program, Start};
 pub use stop::Stop;

@@ -11,7 +11,7 @@ use lock_rules::Reply;
 use std::alloc::AllocError as NoMemory;
 
 /// What tells the replies to the calls that were served, in a compact form: they follow from it and from the program.
-pub struct Notes {
+pub struct ReplyNotes {
     /// The number of the transaction that was begun.
     began: u64,
     /// How many locks were released as a transaction ended or restarted.
@@ -25,15 +25,15 @@ pub struct Notes {
     ghost few: { served ≤ CALLS },
 }
 
-impl Clone for Notes {
-    fn clone(&self) -> Result<Notes, NoMemory> {
+impl Clone for ReplyNotes {
+    fn clone(&self) -> Result<ReplyNotes, NoMemory> {
         Ok(*self)
     }
 }
 
-impl Copy for Notes {}
+impl Copy for ReplyNotes {}
 
-impl Notes {
+impl ReplyNotes {
     ghost use Rattle.programs.specs.Form.{AllGoOn};
     ghost use Rattle.lock_rules.specs.declared.calls.Call.{Call as CallValue};
     ghost use Rattle.lock_programs.specs.declared.program.Program.{Program as ProgramValue};
@@ -43,10 +43,10 @@ impl Notes {
 
     /// Notes of no reply.
     #[inline(always)]
-    pub(crate) fn none() -> Notes
+    pub(crate) fn none() -> ReplyNotes
         ensures { (p : ProgramValue) → replies_told (calls_of p) result ≡ [] }
     {
-        Notes {
+        ReplyNotes {
             began: 0,
             ended: 0,
             granted: [Mode::NL; CALLS],
@@ -88,7 +88,7 @@ impl Notes {
         done
     }
 
-    /// Notes the reply to the next call of the program, as `Answer::append` appends it.
+    /// Notes the reply to the next call of the program, as `ProgramAnswer::append` appends it.
     #[inline(always)]
     pub(crate) fn append(&mut self, program: &Program, reply: Reply)
         requires going { AllGoOn program_form (replies_told (calls_of program.now) self.old) }

@@ -6,7 +6,7 @@ use Rattle.std.proofs.lemmas.List.{drop_all, drop_more}
 use Rattle.std.proofs.lemmas.List.FromFn.{filter_of_map_range_with_len_more}
 use Rattle.lock_tree.specs.Paths.{same_path}
 use Rattle.lock_rules.specs.declared.listing.Claim.{Claim}
-use Rattle.lock_report.specs.declared.snapshot.Wait.{Wait}
+use Rattle.lock_report.specs.declared.snapshot.WaitFor.{WaitFor}
 use Rattle.lock_report.specs.Blocking.{claims_on, is_ahead, is_in_the_way, is_own, waits_of}
 use Rattle.lock_report.specs.inner.Blocking.{wait_if}
 use Rattle.lock_report.specs.inner.Contended.{is_wanted}
@@ -41,13 +41,13 @@ pub one-wanted : (q : Claim) (claims : List Claim) → filter (λ (c : Claim). i
 one-wanted q claims = λ i. filter (λ (c : Claim). or-false (same_path c.resource q.resource) i) claims
 
 -- with the wait for the next session
-pub next-wait : (n : ℕ) (claims queue : List Claim) (q : Claim) (b : Bool) (start out out2 : List Wait) → queue ≡ claims_on q.resource claims → b ≡ is_ahead q (n + 1) queue
+pub next-wait : (n : ℕ) (claims queue : List Claim) (q : Claim) (b : Bool) (start out out2 : List WaitFor) → queue ≡ claims_on q.resource claims → b ≡ is_ahead q (n + 1) queue
     → out ≡ start ++ waits_of n claims (Some q) → out2 ≡ out ++ wait_if b q.session (n + 1) → out2 ≡ start ++ waits_of (n + 1) claims (Some q)
 next-wait n claims queue q b start out out2 on is so_far more =
-    let p = λ (w : Wait). is_ahead q w.other (claims_on q.resource claims) in
-    let f : ℕ → Wait = λ u. record { session = q.session; other = u } in
+    let p = λ (w : WaitFor). is_ahead q w.other (claims_on q.resource claims) in
+    let f : ℕ → WaitFor = λ u. record { session = q.session; other = u } in
     let told : b ≡ p (f (n + 1)) = is ∙ ap (is_ahead q (n + 1)) on in
     more
     ∙ ((λ i. so_far i ++ wait_if (told i) q.session (n + 1))
     ∙ (append_assoc start (filter p (map f (range_with_len 1 n))) (wait_if (p (f (n + 1))) q.session (n + 1))
-    ∙ ap (λ (l : List Wait). start ++ l) (sym (filter_of_map_range_with_len_more p f 1 n (n + 1) (omega arith)))))
+    ∙ ap (λ (l : List WaitFor). start ++ l) (sym (filter_of_map_range_with_len_more p f 1 n (n + 1) (omega arith)))))

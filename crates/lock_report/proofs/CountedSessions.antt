@@ -1,12 +1,8 @@
 -- How many sessions pass a test, counted one after another.
-use Rattle.std.proofs.Common.{◌≡◌, ℕ, zero, suc, ◌+◌, Bool, true, false, cond, List, [], ◌∷◌, ◌++◌, filter, length, length-append, refl, sym, ap, ◌∙◌, arith}
+use Rattle.std.proofs.Common.{◌≡◌, ℕ, suc, ◌+◌, Bool, true, false, cond, [], ◌∷◌, ◌++◌, filter, length, length-append, refl, sym, ap, ◌∙◌, arith}
 use Rattle.std.specs.List.{range_with_len}
 use Rattle.std.proofs.lemmas.List.Elements.{filter-append}
-
--- one number more behind a range
-behind : (a n j : ℕ) → a + n ≡ j → range_with_len a (suc n) ≡ range_with_len a n ++ j ∷ []
-behind a zero j e = let same : a ≡ j = omega (arith, e) in ap (λ (k : ℕ). k ∷ []) same
-behind a (suc n) j e = ap (λ (l : List ℕ). a ∷ l) (behind (a + 1) n j (omega (arith, e)))
+use Rattle.lock_rules.proofs.Ranges.{one-behind}
 
 -- how many of one number pass
 of-one : (p : ℕ → Bool) (j : ℕ) (b : Bool) → b ≡ p j → length (filter p (j ∷ [])) ≡ cond b 1 0
@@ -22,6 +18,6 @@ pub counted : (p : ℕ → Bool) (n k r : ℕ) (b : Bool) → k ≡ length (filt
 counted p n k r b so_far adds is =
     let on : n + 1 ≡ suc n = omega arith in
     let more : filter p (range_with_len 1 (n + 1)) ≡ filter p (range_with_len 1 n) ++ filter p ((n + 1) ∷ []) =
-    ap (λ (i : ℕ). filter p (range_with_len 1 i)) on ∙ (ap (filter p) (behind 1 n (n + 1) (omega arith)) ∙ filter-append p (range_with_len 1 n) ((n + 1) ∷ [])) in
+    ap (λ (i : ℕ). filter p (range_with_len 1 i)) on ∙ (ap (filter p) (one-behind 1 n (n + 1) (omega arith)) ∙ filter-append p (range_with_len 1 n) ((n + 1) ∷ [])) in
     let long : length (filter p (range_with_len 1 (n + 1))) ≡ length (filter p (range_with_len 1 n) ++ filter p ((n + 1) ∷ [])) = ap length more in
     omega (arith, so_far, adds, long, length-append (filter p (range_with_len 1 n)) (filter p ((n + 1) ∷ [])), of-one p (n + 1) b is)

@@ -7,7 +7,7 @@ use Rattle.std.proofs.lemmas.List.Elements.{All-append, All-cons, All-filter, Al
 use Rattle.std.proofs.lemmas.List.FromFn.{get_or-map-range_with_len, length-map-range_with_len}
 use Rattle.lock_rules.specs.declared.listing.Claim.{Claim}
 use Rattle.lock_report.specs.declared.snapshot.OpenTransaction.{OpenTransaction}
-use Rattle.lock_report.specs.declared.snapshot.Wait.{Wait}
+use Rattle.lock_report.specs.declared.snapshot.WaitFor.{WaitFor}
 use Rattle.lock_report.specs.declared.reading.row.StateRow.TheVariants as row
 use Rattle.lock_report.specs.declared.reading.state.StateLists.{StateLists}
 use Rattle.lock_report.specs.ReadRows.{IsOpen, IsRow, IsSession, IsWait}
@@ -45,8 +45,8 @@ own-request s (c ∷ qs) q e = go (eqb c.session s) refl e (own-request s qs q)
 one-within : (n : ℕ) (claims : List Claim) (s : ℕ) (o : Option Claim) → IsSession n s → request_of s (requests_among claims) ≡ o → All (IsWait n) (waits_of n claims o)
 one-within n claims s None is e = All-nil (IsWait n)
 one-within n claims s (Some q) is e =
-    let f : ℕ → Wait = λ u. record { session = q.session; other = u } in
-    All-filter (λ (w : Wait). is_ahead q w.other (claims_on q.resource claims)) (IsWait n) (map f (range_with_len 1 n)) (λ i d lt.
+    let f : ℕ → WaitFor = λ u. record { session = q.session; other = u } in
+    All-filter (λ (w : WaitFor). is_ahead q w.other (claims_on q.resource claims)) (IsWait n) (map f (range_with_len 1 n)) (λ i d lt.
     let below : i < n = subst (λ (k : ℕ). i < k) (length-map-range_with_len f 1 n) lt in
     subst (IsWait n) (sym (get_or-map-range_with_len f 1 n i (i + 1) d below (omega arith)))
     (subst (IsSession n) (sym (own-request s (requests_among claims) q e)) is, (omega arith, omega (arith, below))))

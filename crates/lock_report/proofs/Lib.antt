@@ -15,6 +15,5 @@ pub mod CountedSessions
 pub mod Firsts
 pub mod Jammed
 pub mod DumpSessions
-pub mod RowsOfWaits
 pub mod Walks
 pub mod Wanted

@@ -1,25 +1,24 @@
 -- The waits of a dump as edges, by sessions and by positions, and the walks along them.
-use Rattle.std.proofs.Common.{◌≡◌, ℕ, suc, ◌+◌, ◌-◌, ◌<◌, ◌≤◌, Bool, true, false, cond, eqb, ◌&&◌, ◌||◌, inl, inr, List, [], ◌∷◌, ◌++◌, length, take, take-suc, add-one, get_or, map, refl, sym, ap, ap₂, subst, ◌∙◌, arith}
+use Rattle.std.proofs.Common.{◌≡◌, ℕ, suc, ◌+◌, ◌-◌, ◌<◌, ◌≤◌, Bool, true, eqb, ◌&&◌, ◌||◌, inl, inr, List, [], ◌∷◌, ◌++◌, length, take, take-suc, add-one, get_or, map, sym, ap, ap₂, subst, ◌∙◌, arith}
 use Rattle.std.proofs.Math.Bool.{or-false}
 use Rattle.std.specs.Prelude.{IsTrue, ◌↔◌, All}
-use Rattle.std.specs.List.{list_any}
 use Rattle.std.proofs.lemmas.Bool.Decides.{nat_tests, Decides-eqb}
-use Rattle.std.proofs.lemmas.Bool.{and_parts, and_from, or_cases, or_left, or_right}
+use Rattle.std.proofs.lemmas.Bool.{and_parts, or_cases, or_left, or_right}
 use Rattle.std.proofs.lemmas.List.Elements.{All-get_or, All-head, All-tail}
 use Rattle.std.proofs.lemmas.List.Folds.{list_any-append}
 use Rattle.waits_for.specs.Pairs.{Pairs, pairs_of}
 use Rattle.waits_for.specs.Walks.{IsWalk, Reaches}
-use Rattle.lock_rules.specs.Waits.{walks_within}
 use Rattle.lock_rules.proofs.Walks.{has, AllIn, found, walk-found}
-use Rattle.lock_report.specs.declared.snapshot.Wait.{Wait}
+use Rattle.lock_report.specs.declared.snapshot.WaitFor.{WaitFor}
 use Rattle.lock_report.specs.ReadRows.{IsWait}
 use Rattle.lock_report.specs.Jam.{does_wait, is_blocked, waiters}
 use Rattle.lock_report.specs.inner.Graph.{AreWaitsOf}
+use Rattle.lock_rules.proofs.Ranges.{both-ways}
 
 -- one wait more is one edge more
-wait-more : (waits : List Wait) (w : Wait) (s u : ℕ) → does_wait (waits ++ w ∷ []) s u ≡ (does_wait waits s u || (eqb w.session s && eqb w.other u))
+wait-more : (waits : List WaitFor) (w : WaitFor) (s u : ℕ) → does_wait (waits ++ w ∷ []) s u ≡ (does_wait waits s u || (eqb w.session s && eqb w.other u))
 wait-more waits w s u =
-    list_any-append (λ (v : Wait). eqb v.session s && eqb v.other u) waits (w ∷ [])
+    list_any-append (λ (v : WaitFor). eqb v.session s && eqb v.other u) waits (w ∷ [])
     ∙ ap (λ (b : Bool). does_wait waits s u || b) (or-false (eqb w.session s && eqb w.other u))
 
 -- the position of a session
@@ -27,20 +26,20 @@ at-position : (a k : ℕ) → 1 ≤ k → eqb a (k - 1) ≡ eqb k (a + 1)
 at-position a k some = grind (arith, nat_tests)
 
 -- with the edge of the next wait, by position, the edges are those of one wait more
-pub next-edge : (n : ℕ) (waits : List Wait) (i : ℕ) (d : Wait) (old new : ℕ → ℕ → Bool) → All (IsWait n) waits → i < length waits
+pub next-edge : (n : ℕ) (waits : List WaitFor) (i : ℕ) (d : WaitFor) (old new : ℕ → ℕ → Bool) → All (IsWait n) waits → i < length waits
     → ((a b : ℕ) → old a b ≡ does_wait (take i waits) (a + 1) (b + 1))
     → ((a b : ℕ) → new a b ≡ (old a b || (eqb a ((get_or waits i d).session - 1) && eqb b ((get_or waits i d).other - 1))))
     → (a b : ℕ) → new a b ≡ does_wait (take (i + 1) waits) (a + 1) (b + 1)
 next-edge n waits i d old new all lt so_far more a b =
-    let w : Wait = get_or waits i d in
+    let w : WaitFor = get_or waits i d in
     let within = All-get_or (IsWait n) waits i d lt all in
     more a b
     ∙ ap₂ (λ (x y : Bool). x || y) (so_far a b) (ap₂ (λ (x y : Bool). x && y) (at-position a w.session within.0.0) (at-position b w.other within.1.0))
     ∙ sym (wait-more (take i waits) w (a + 1) (b + 1))
-    ∙ ap (λ (ws : List Wait). does_wait ws (a + 1) (b + 1)) (sym (ap (λ (k : ℕ). take k waits) (add-one i) ∙ take-suc waits i d lt))
+    ∙ ap (λ (ws : List WaitFor). does_wait ws (a + 1) (b + 1)) (sym (ap (λ (k : ℕ). take k waits) (add-one i) ∙ take-suc waits i d lt))
 
 -- who waits is a session of number 1 at least
-pub some-waits : (n : ℕ) (waits : List Wait) → All (IsWait n) waits → (s u : ℕ) → does_wait waits s u ≡ true → 1 ≤ s
+pub some-waits : (n : ℕ) (waits : List WaitFor) → All (IsWait n) waits → (s u : ℕ) → does_wait waits s u ≡ true → 1 ≤ s
 some-waits n [] all s u h = absurd (cc)
 some-waits n (w ∷ ws) all s u h = elim (or_cases (eqb w.session s && eqb w.other u) (does_wait ws s u) h) [
   | inl k ↦
@@ -52,7 +51,7 @@ some-waits n (w ∷ ws) all s u h = elim (or_cases (eqb w.session s && eqb w.oth
 ]
 
 -- who waits is among those who wait
-waiter-listed : (waits : List Wait) (s u : ℕ) → does_wait waits s u ≡ true → has s (waiters waits) ≡ true
+waiter-listed : (waits : List WaitFor) (s u : ℕ) → does_wait waits s u ≡ true → has s (waiters waits) ≡ true
 waiter-listed [] s u h = absurd (cc)
 waiter-listed (w ∷ ws) s u h = elim (or_cases (eqb w.session s && eqb w.other u) (does_wait ws s u) h) [
   | inl k ↦ or_left (eqb w.session s) (has s (waiters ws)) ((and_parts (eqb w.session s) (eqb w.other u) k).0)
@@ -60,12 +59,12 @@ waiter-listed (w ∷ ws) s u h = elim (or_cases (eqb w.session s && eqb w.other 
 ]
 
 -- who waits on a walk behind its first session is among those who wait
-pub all-listed : (waits : List Wait) (ws : List ℕ) (s u : ℕ) → IsWalk (does_wait waits) s ws u → AllIn ws (waiters waits)
+pub all-listed : (waits : List WaitFor) (ws : List ℕ) (s u : ℕ) → IsWalk (does_wait waits) s ws u → AllIn ws (waiters waits)
 all-listed waits [] s u walk = tt
 all-listed waits (w ∷ []) s u walk = (waiter-listed waits w u walk.1, tt)
 all-listed waits (w ∷ v ∷ ws) s u walk = (waiter-listed waits w v walk.1.0, all-listed waits (v ∷ ws) w u walk.1)
 
-module _ (p : Pairs) (waits : List Wait) (same : AreWaitsOf p waits) where
+module _ (p : Pairs) (waits : List WaitFor) (same : AreWaitsOf p waits) where
   -- a walk by positions is one by sessions
   up-walk : (a : ℕ) (vs : List ℕ) (b : ℕ) → IsWalk (pairs_of p) a vs b → IsWalk (does_wait waits) (a + 1) (map (λ v. v + 1) vs) (b + 1)
   up-walk a [] b w = sym (same.pairs a b) ∙ w
@@ -96,14 +95,8 @@ module _ (p : Pairs) (waits : List Wait) (same : AreWaitsOf p waits) where
       let w = walk-found (does_wait waits) (suc (length (waiters waits))) (waiters waits) (a + 1) (b + 1) h in
       record { others = map (λ v. v - 1) w.0; walk = down-walk a w.0 b w.1 }
 
--- two tests of which each implies the other are equal
-both-ways : (b c : Bool) → (b ≡ true → c ≡ true) → (c ≡ true → b ≡ true) → b ≡ c
-both-ways true c f g = sym (f refl)
-both-ways false true f g = g refl
-both-ways false false f g = refl
-
 -- a search by positions tells who is blocked
-pub search-told : (p : Pairs) (waits : List Wait) → AreWaitsOf p waits → (s u : ℕ) (r : Bool) → 1 ≤ s → 1 ≤ u → IsTrue r ↔ Reaches (pairs_of p) (s - 1) (u - 1) → r ≡ is_blocked waits s u
+pub search-told : (p : Pairs) (waits : List WaitFor) → AreWaitsOf p waits → (s u : ℕ) (r : Bool) → 1 ≤ s → 1 ≤ u → IsTrue r ↔ Reaches (pairs_of p) (s - 1) (u - 1) → r ≡ is_blocked waits s u
 search-told p waits same s u r s_some u_some h =
     let here : s - 1 + 1 ≡ s = omega (arith, s_some) in
     let there : u - 1 + 1 ≡ u = omega (arith, u_some) in

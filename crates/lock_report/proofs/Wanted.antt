@@ -11,7 +11,7 @@ use Rattle.lock_report.proofs.Pieces.{with_next}
 use Rattle.lock_rules.specs.declared.listing.Claim.{Claim}
 use Rattle.lock_rules.proofs.Lists.{same_path-refl, same_path-true}
 use Rattle.lock_report.specs.declared.snapshot.OpenTransaction.{OpenTransaction}
-use Rattle.lock_report.specs.declared.snapshot.Wait.{Wait}
+use Rattle.lock_report.specs.declared.snapshot.WaitFor.{WaitFor}
 use Rattle.lock_report.specs.Blockers.{first_blocker, is_waited_for, request_of, requests_among, told_behind, told_of, waits_by}
 use Rattle.lock_report.specs.Blocking.{claims_on, is_ahead, waits_of}
 use Rattle.lock_report.specs.inner.Contended.{is_wanted}
@@ -60,7 +60,7 @@ kept_more p cs i c b out out2 lt at is so_far more =
 -- who waits
 
 -- the first blocker is on the resource that is waited for, so other claims don't tell of it
-blocker-kept : (waits : List Wait) (r : List ℕ) (p : Claim → Bool) → ((c : Claim) → same_path c.resource r ≡ true → p c ≡ true) → (cs : List Claim) → first_blocker waits r (filter p cs) ≡ first_blocker waits r cs
+blocker-kept : (waits : List WaitFor) (r : List ℕ) (p : Claim → Bool) → ((c : Claim) → same_path c.resource r ≡ true → p c ≡ true) → (cs : List Claim) → first_blocker waits r (filter p cs) ≡ first_blocker waits r cs
 blocker-kept waits r p on [] = refl
 blocker-kept waits r p on (c ∷ cs) = go (p c) (same_path c.resource r) (on c) (blocker-kept waits r p on cs) refl
   where
@@ -96,7 +96,7 @@ wanted-on : (qs : List Claim) (s : ℕ) (q : Claim) → request_of s qs ≡ Some
 wanted-on qs s q is c on = let same : c.resource ≡ q.resource = same_path-true c.resource q.resource on in ap (is_wanted qs) same ∙ found-wanted s qs q is
 
 -- the waits of a request that is found
-pub told-kept : (waits : List Wait) (claims qs : List Claim) (s : ℕ) (o : Option Claim) → request_of s qs ≡ o
+pub told-kept : (waits : List WaitFor) (claims qs : List Claim) (s : ℕ) (o : Option Claim) → request_of s qs ≡ o
     → told_of (filter (λ (c : Claim). is_wanted qs c.resource) claims) waits o ≡ told_of claims waits o
 told-kept waits claims qs s None is = refl
 told-kept waits claims qs s (Some q) is =
@@ -106,7 +106,7 @@ told-kept waits claims qs s (Some q) is =
 pub waits-kept : (n : ℕ) (claims qs : List Claim) (s : ℕ) (o : Option Claim) → request_of s qs ≡ o → waits_of n (filter (λ (c : Claim). is_wanted qs c.resource) claims) o ≡ waits_of n claims o
 waits-kept n claims qs s None is = refl
 waits-kept n claims qs s (Some q) is =
-    ap (λ (l : List Claim). filter (λ (w : Wait). is_ahead q w.other l) (map (λ u. record { session = q.session; other = u }) (range_with_len 1 n))) (on-kept q.resource (λ (c : Claim). is_wanted qs c.resource) (wanted-on qs s q is) claims)
+    ap (λ (l : List Claim). filter (λ (w : WaitFor). is_ahead q w.other l) (map (λ u. record { session = q.session; other = u }) (range_with_len 1 n))) (on-kept q.resource (λ (c : Claim). is_wanted qs c.resource) (wanted-on qs s q is) claims)
 
 -- with what is listed of the next session, it is listed of one session more; the requests are looked through in two places
 pub next_listed : {X : Type 0} (f : List Claim → Option Claim → List X)

@@ -2,11 +2,11 @@
 use Rattle.std.specs.Prelude.{ℕ, List, [], ◌++◌, Option, Some, None, codes, decimal}
 use Rattle.std.specs.List.{flat_map}
 use Rattle.lock_report.specs.declared.snapshot.Doom.{Doom}
-use Rattle.lock_report.specs.declared.snapshot.ToldWait.{ToldWait}
+use Rattle.lock_report.specs.declared.snapshot.WaitLine.{WaitLine}
 use Rattle.lock_report.specs.JamText.{line_of_wait}
 
 -- the line of a wait, as in the section of the waits, but indented
-abbrev pub line_of_answer : ToldWait → List ℕ
+abbrev pub line_of_answer : WaitLine → List ℕ
 line_of_answer w = codes "  " ++ line_of_wait w
 
 -- the place at which a transaction was made a victim
@@ -23,7 +23,7 @@ line_of_doom None = []
 line_of_doom (Some d) = words_of_place d.place ++ words_of_caller d.session
 
 -- the answer as lines for people
-abbrev pub text_of_answer : List ToldWait → Option Doom → List ℕ
+abbrev pub text_of_answer : List WaitLine → Option Doom → List ℕ
 text_of_answer waits doom = flat_map line_of_answer waits ++ line_of_doom doom
 
 -- the row of the place since when the session waits, nothing for None
@@ -32,7 +32,7 @@ row_of_since place s None = []
 row_of_since place s (Some since) = decimal place ++ codes ",since," ++ decimal s ++ codes ",,,," ++ decimal since ++ codes "\n"
 
 -- the rows of a wait
-abbrev pub rows_of_told : ℕ → ToldWait → List ℕ
+abbrev pub rows_of_told : ℕ → WaitLine → List ℕ
 rows_of_told place w =
     decimal place ++ codes ",waits," ++ decimal w.wait.session ++ codes ",,,," ++ decimal w.wait.other ++ codes "\n"
     ++ row_of_since place w.wait.session w.since
@@ -43,5 +43,5 @@ row_of_doom place None = []
 row_of_doom place (Some d) = decimal place ++ codes ",doomed," ++ decimal d.session ++ codes ",,,," ++ decimal d.place ++ codes "\n"
 
 -- the answer to the poll at this place as rows
-abbrev pub rows_of_answer : ℕ → List ToldWait → Option Doom → List ℕ
+abbrev pub rows_of_answer : ℕ → List WaitLine → Option Doom → List ℕ
 rows_of_answer place waits doom = flat_map (rows_of_told place) waits ++ row_of_doom place doom

@@ -6,7 +6,7 @@ use Rattle.lock_rules.specs.declared.listing.Claim.{Claim}
 use Rattle.lock_rules.specs.Waits.{walks_within}
 use Rattle.lock_report.specs.declared.snapshot.OpenTransaction.{OpenTransaction}
 use Rattle.lock_report.specs.declared.snapshot.Root.{Root}
-use Rattle.lock_report.specs.declared.snapshot.Wait.{Wait}
+use Rattle.lock_report.specs.declared.snapshot.WaitFor.{WaitFor}
 use Rattle.lock_report.specs.LocksDot.{begins_queue, claims_on}
 use Rattle.lock_report.specs.Blockers.{is_request, is_waited_for, request_of, requests_among}
 
@@ -49,27 +49,27 @@ abbrev pub granted_by_abort : ℕ → List (List Claim) → List ℕ
 granted_by_abort s jammed = flat_map (granted_on s) jammed
 
 -- one of the waits says that session s waits for session u
-abbrev pub does_wait : List Wait → ℕ → ℕ → Bool
+abbrev pub does_wait : List WaitFor → ℕ → ℕ → Bool
 does_wait waits s u = list_any (λ w. (w.session == s) && (w.other == u)) waits
 
 -- the sessions that wait, once for each wait
-abbrev pub waiters : List Wait → List ℕ
+abbrev pub waiters : List WaitFor → List ℕ
 waiters waits = map (λ w. w.session) waits
 
 -- session s waits for session u, directly or through others
-abbrev pub is_blocked : List Wait → ℕ → ℕ → Bool
+abbrev pub is_blocked : List WaitFor → ℕ → ℕ → Bool
 is_blocked waits s u = walks_within (does_wait waits) (waiters waits) (suc (length (waiters waits))) s u
 
 -- the sessions, of 1 to n, that wait for session s, directly or through others
-abbrev pub blocked_by : ℕ → List Wait → ℕ → List ℕ
+abbrev pub blocked_by : ℕ → List WaitFor → ℕ → List ℕ
 blocked_by n waits s = filter (λ u. is_blocked waits u s) (range_with_len 1 n)
 
 -- session s doesn't wait, and others wait for it
-abbrev pub is_root : List Claim → List Wait → ℕ → Bool
+abbrev pub is_root : List Claim → List WaitFor → ℕ → Bool
 is_root requests waits s = not (is_some (request_of s requests)) && is_waited_for s waits
 
 -- the root in a list, the empty list if the session is none
-abbrev pub root_of : ℕ → List Claim → List (List Claim) → List Wait → OpenTransaction → List Root
+abbrev pub root_of : ℕ → List Claim → List (List Claim) → List WaitFor → OpenTransaction → List Root
 root_of n requests jammed waits o =
     if is_root requests waits o.session
     then record {
@@ -80,5 +80,5 @@ root_of n requests jammed waits o =
     else []
 
 -- the roots, in the order of the open transactions
-abbrev pub roots_of : ℕ → List OpenTransaction → List Claim → List Wait → List Root
+abbrev pub roots_of : ℕ → List OpenTransaction → List Claim → List WaitFor → List Root
 roots_of n opens claims waits = flat_map (root_of n (requests_among claims) (jammed_behind None claims) waits) opens

@@ -4,7 +4,7 @@ use Rattle.std.specs.List.{flat_map}
 use Rattle.lock_rules.specs.declared.calls.Transaction.{Transaction}
 use Rattle.lock_report.specs.declared.snapshot.OpenTransaction.{OpenTransaction}
 use Rattle.lock_report.specs.declared.snapshot.Root.{Root}
-use Rattle.lock_report.specs.declared.snapshot.ToldWait.{ToldWait}
+use Rattle.lock_report.specs.declared.snapshot.WaitLine.{WaitLine}
 
 -- the mark of a deadlock victim, at the end of what is said of its transaction
 abbrev pub victim_mark : Transaction → List ℕ
@@ -55,7 +55,7 @@ abbrev pub wait_verb : Bool → List ℕ
 wait_verb first = if first then codes "waits for" else codes "waits also for"
 
 -- the line of a wait
-abbrev pub line_of_wait : ToldWait → List ℕ
+abbrev pub line_of_wait : WaitLine → List ℕ
 line_of_wait w =
     codes "session " ++ decimal w.wait.session ++ codes " " ++ wait_verb w.first ++ codes " session " ++ decimal w.wait.other
     ++ since_mark w.since

@@ -10,7 +10,7 @@ use Rattle.lock_rules.specs.declared.listing.ClaimKind.{ClaimKind}
 use Rattle.lock_rules.specs.declared.listing.ClaimKind.TheVariants.{Held, Conversion, Fresh}
 use Rattle.lock_report.specs.Claims.{is_last, is_lock_kind, is_request_kind}
 use Rattle.lock_report.specs.declared.snapshot.OpenTransaction.{OpenTransaction}
-use Rattle.lock_report.specs.declared.snapshot.ToldWait.{ToldWait}
+use Rattle.lock_report.specs.declared.snapshot.WaitLine.{WaitLine}
 use Rattle.lock_report.specs.declared.rows_of_boxes.TheConstants.{BOXES_IN_A_ROW}
 use Rattle.lock_report.specs.StateText.{resource_verb, mode_word}
 use Rattle.lock_report.specs.Dot.{node_of, edge_of}
@@ -110,7 +110,7 @@ places_of boxed zero = []
 places_of boxed (suc count) = places_of boxed count ++ placed_behind boxed count
 
 -- the edge of a wait for a first blocker, nothing for another wait
-abbrev pub edge_if_first : ToldWait → List ℕ
+abbrev pub edge_if_first : WaitLine → List ℕ
 edge_if_first w = if w.first then edge_of w.wait else []
 
 -- the first lines of the graph: edges lead to the right, what isn't joined is laid out apart and then put together, and little room is
@@ -125,5 +125,5 @@ boxed_graph opens claims =
     start_of_graph ++ flat_map node_of opens ++ boxes_behind None claims ++ places_of (boxed_behind None claims) (length (boxed_behind None claims))
 
 -- the graph, with an edge from each session that waits to its first blocker
-abbrev pub dot_of_locks : List OpenTransaction → List Claim → List ToldWait → List ℕ
+abbrev pub dot_of_locks : List OpenTransaction → List Claim → List WaitLine → List ℕ
 dot_of_locks opens claims waits = boxed_graph opens claims ++ flat_map edge_if_first waits ++ codes "}\n"

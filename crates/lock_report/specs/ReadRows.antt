@@ -7,7 +7,7 @@ use Rattle.lock_rules.specs.declared.calls.Transaction.{Transaction}
 use Rattle.lock_rules.specs.declared.listing.Claim.{Claim}
 use Rattle.lock_report.specs.declared.snapshot.FirstWait.{FirstWait}
 use Rattle.lock_report.specs.declared.snapshot.OpenTransaction.{OpenTransaction}
-use Rattle.lock_report.specs.declared.snapshot.Wait.{Wait}
+use Rattle.lock_report.specs.declared.snapshot.WaitFor.{WaitFor}
 use Rattle.lock_report.specs.StateRows.{fields_of_claim, fields_of_transaction, fields_of_wait}
 use Rattle.lock_report.specs.declared.reading.row.StateRow.{StateRow}
 use Rattle.lock_report.specs.declared.reading.row.StateRow.TheVariants as row
@@ -29,7 +29,7 @@ abbrev pub IsClaim : ℕ → Claim → Type 0
 IsClaim n c = IsSession n c.session × IsNumbered c.transaction × IsResource c.resource × (c.mode ≢ mode.NL)
 
 -- both sessions are of the sessions 1 to n
-abbrev pub IsWait : ℕ → Wait → Type 0
+abbrev pub IsWait : ℕ → WaitFor → Type 0
 IsWait n w = IsSession n w.session × IsSession n w.other
 
 -- likewise, and the number of others has 64 bits

@@ -10,7 +10,7 @@ use Rattle.lock_rules.specs.declared.listing.ClaimKind.TheVariants.{Held, Conver
 use Rattle.lock_report.specs.Claims.{is_last}
 use Rattle.lock_report.specs.declared.snapshot.OpenTransaction.{OpenTransaction}
 use Rattle.lock_report.specs.declared.snapshot.Root.{Root}
-use Rattle.lock_report.specs.declared.snapshot.ToldWait.{ToldWait}
+use Rattle.lock_report.specs.declared.snapshot.WaitLine.{WaitLine}
 use Rattle.lock_report.specs.JamText.{session_heading, lines_of_jam, line_of_wait}
 
 -- the text of a section, or the line `none` if the section has nothing to show
@@ -74,7 +74,7 @@ abbrev pub resources_section : List Claim → List ℕ
 resources_section claims = text_or_none claims (resource_lines None claims)
 
 -- the section of the waits
-abbrev pub waits_section : List ToldWait → List ℕ
+abbrev pub waits_section : List WaitLine → List ℕ
 waits_section waits = text_or_none waits (flat_map line_of_wait waits)
 
 -- the sections of the jam, of the open transactions and of the claims in the order of a listing, and the heading of the waits
@@ -91,6 +91,6 @@ state_heading None = codes "state of a dump\n"
 state_heading (Some place) = codes "state in front of place " ++ decimal place ++ codes "\n"
 
 -- the state in front of a place, or of a dump: the jam, the open transactions, the claims in the order of a listing, and the waits
-abbrev pub text_of_state : Option ℕ → ℕ → List Root → List OpenTransaction → List Claim → List ToldWait → List ℕ
+abbrev pub text_of_state : Option ℕ → ℕ → List Root → List OpenTransaction → List Claim → List WaitLine → List ℕ
 text_of_state place waiting roots opens claims waits =
     state_heading place ++ sections_of waiting roots opens claims ++ waits_section waits

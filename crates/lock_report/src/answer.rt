@@ -5,12 +5,12 @@ ghost use Rattle.std.specs.List.{flat_map};
 ghost use Rattle.lock_report.specs.Answers.{line_of_answer, line_of_doom, row_of_doom, row_of_since, rows_of_answer, rows_of_told, text_of_answer, words_of_caller, words_of_place};
 
 use crate::jam::put_line_of_wait;
-use crate::snapshot::{Doom, ToldWait};
+use crate::snapshot::{Doom, WaitLine};
 use std::alloc::{AllocError as NoMemory, Global};
 use std::fmt::Write;
 
 /// Writes the line of a wait.
-fn put_line(out: &mut String, told: &ToldWait) -> Result<(), NoMemory>
+fn put_line(out: &mut String, told: &WaitLine) -> Result<(), NoMemory>
     ensures { OnOk result (string_bytes out.new ≡ string_bytes out.old ++ line_of_answer told.now) }
 {
     out.push_str("  ")?;
@@ -18,7 +18,7 @@ fn put_line(out: &mut String, told: &ToldWait) -> Result<(), NoMemory>
 }
 
 /// Writes the lines of the waits.
-fn put_lines(out: &mut String, waits: &[ToldWait]) -> Result<(), NoMemory>
+fn put_lines(out: &mut String, waits: &[WaitLine]) -> Result<(), NoMemory>
     ensures { OnOk result (string_bytes out.new ≡ string_bytes out.old ++ flat_map line_of_answer waits.now) }
 {
     for told in waits {
@@ -63,7 +63,7 @@ fn put_doom(out: &mut String, doom: Option<Doom>) -> Result<(), NoMemory>
 /// Fails only with `NoMemory`.
 pub fn answer_text(
     alloc: Global,
-    waits: &[ToldWait],
+    waits: &[WaitLine],
     doom: Option<Doom>,
 ) -> Result<String, NoMemory>
     ensures { IfOk result (λ text. string_bytes text ≡ text_of_answer waits.now doom) }
@@ -85,7 +85,7 @@ fn put_since(out: &mut String, place: u64, session: u16, since: Option<u64>) -> 
 }
 
 /// Writes the rows of a wait.
-fn put_told(out: &mut String, place: u64, told: &ToldWait) -> Result<(), NoMemory>
+fn put_told(out: &mut String, place: u64, told: &WaitLine) -> Result<(), NoMemory>
     ensures { OnOk result (string_bytes out.new ≡ string_bytes out.old ++ rows_of_told place told.now) }
 {
     let session = told.wait.session;
@@ -95,7 +95,7 @@ fn put_told(out: &mut String, place: u64, told: &ToldWait) -> Result<(), NoMemor
 }
 
 /// Writes the rows of the waits.
-fn put_all_told(out: &mut String, place: u64, waits: &[ToldWait]) -> Result<(), NoMemory>
+fn put_all_told(out: &mut String, place: u64, waits: &[WaitLine]) -> Result<(), NoMemory>
     ensures { OnOk result (string_bytes out.new ≡ string_bytes out.old ++ flat_map (rows_of_told place) waits.now) }
 {
     for told in waits {
@@ -119,7 +119,7 @@ fn put_row_of_doom(out: &mut String, place: u64, doom: Option<Doom>) -> Result<(
 pub fn answer_rows(
     alloc: Global,
     place: u64,
-    waits: &[ToldWait],
+    waits: &[WaitLine],
     doom: Option<Doom>,
 ) -> Result<String, NoMemory>
     ensures { IfOk result (λ text. string_bytes text ≡ rows_of_answer place waits.now doom) }

@@ -8,7 +8,7 @@ use crate::claims::{is_lock_kind, is_request_kind};
 use crate::dot::{put_edge, put_nodes};
 use crate::queues::{begins_queue, claims_on, waited};
 use crate::rows_of_boxes::{put_name, put_places};
-use crate::snapshot::{OpenTransaction, ToldWait};
+use crate::snapshot::{OpenTransaction, WaitLine};
 use crate::text::{mode_word, resource_verb};
 use lock_rules::{Claim, ClaimKind};
 use lock_tree::Resource;
@@ -120,7 +120,7 @@ fn put_boxes(out: &mut String, claims: &[Claim]) -> Result<(), NoMemory>
 }
 
 /// Writes the edge of a wait for a first blocker.
-fn put_edge_if_first(out: &mut String, told: &ToldWait) -> Result<(), NoMemory>
+fn put_edge_if_first(out: &mut String, told: &WaitLine) -> Result<(), NoMemory>
     ensures { OnOk result (string_bytes out.new ≡ string_bytes out.old ++ edge_if_first told.now) }
 {
     if told.first {
@@ -130,7 +130,7 @@ fn put_edge_if_first(out: &mut String, told: &ToldWait) -> Result<(), NoMemory>
 }
 
 /// Writes the edges.
-fn put_first_edges(out: &mut String, waits: &[ToldWait]) -> Result<(), NoMemory>
+fn put_first_edges(out: &mut String, waits: &[WaitLine]) -> Result<(), NoMemory>
     ensures { OnOk result (string_bytes out.new ≡ string_bytes out.old ++ flat_map edge_if_first waits.now) }
 {
     for told in waits {
@@ -164,7 +164,7 @@ pub fn locks_dot(
     alloc: Global,
     opens: &[OpenTransaction],
     claims: &[Claim],
-    waits: &[ToldWait],
+    waits: &[WaitLine],
 ) -> Result<String, NoMemory>
     ensures { IfOk result (λ text. string_bytes text ≡ dot_of_locks opens.now claims.now waits.now) }
 {

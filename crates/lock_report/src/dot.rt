@@ -5,7 +5,7 @@ ghost use Rattle.std.specs.List.{flat_map};
 ghost use Rattle.lock_report.specs.Dot.{end_of_node, node_of, edge_of, dot_of_waits};
 
 use crate::nodes::{put_edge_with, put_start_of_node};
-use crate::snapshot::{OpenTransaction, Wait};
+use crate::snapshot::{OpenTransaction, WaitFor};
 use lock_rules::Transaction;
 use std::alloc::{AllocError as NoMemory, Global};
 
@@ -29,7 +29,7 @@ fn put_node(out: &mut String, begun: &OpenTransaction) -> Result<(), NoMemory>
 }
 
 /// Writes the edge of a wait.
-pub(crate) fn put_edge(out: &mut String, wait: &Wait) -> Result<(), NoMemory>
+pub(crate) fn put_edge(out: &mut String, wait: &WaitFor) -> Result<(), NoMemory>
     ensures { OnOk result (string_bytes out.new ≡ string_bytes out.old ++ edge_of wait.now) }
 {
     put_edge_with(out, wait.session, wait.other, ";\n")
@@ -46,7 +46,7 @@ pub(crate) fn put_nodes(out: &mut String, opens: &[OpenTransaction]) -> Result<(
 }
 
 /// Writes the edges.
-fn put_edges(out: &mut String, waits: &[Wait]) -> Result<(), NoMemory>
+fn put_edges(out: &mut String, waits: &[WaitFor]) -> Result<(), NoMemory>
     ensures { OnOk result (string_bytes out.new ≡ string_bytes out.old ++ flat_map edge_of waits.now) }
 {
     for wait in waits {
@@ -60,7 +60,7 @@ fn put_edges(out: &mut String, waits: &[Wait]) -> Result<(), NoMemory>
 pub fn waits_dot(
     alloc: Global,
     opens: &[OpenTransaction],
-    waits: &[Wait],
+    waits: &[WaitFor],
 ) -> Result<String, NoMemory>
     ensures { IfOk result (λ text. string_bytes text ≡ dot_of_waits opens.now waits.now) }
 {

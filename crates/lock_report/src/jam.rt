@@ -4,7 +4,7 @@ ghost use Rattle.std.specs.Prelude.{◌≡◌, ◌++◌, OnOk, string_bytes};
 ghost use Rattle.std.specs.List.{flat_map};
 ghost use Rattle.lock_report.specs.JamText.{line_if_victim, line_of_root, line_of_victim, line_of_wait, lines_of_jam, session_heading, since_mark, victim_mark, wait_verb, words_of_blocks, words_of_grants, words_of_open};
 
-use crate::snapshot::{OpenTransaction, Root, ToldWait};
+use crate::snapshot::{OpenTransaction, Root, WaitLine};
 use lock_rules::Transaction;
 use std::alloc::AllocError as NoMemory;
 use std::fmt::Write;
@@ -132,7 +132,7 @@ fn put_since(out: &mut String, since: Option<u64>) -> Result<(), NoMemory>
 }
 
 /// Writes the line of a wait.
-pub(crate) fn put_line_of_wait(out: &mut String, told: &ToldWait) -> Result<(), NoMemory>
+pub(crate) fn put_line_of_wait(out: &mut String, told: &WaitLine) -> Result<(), NoMemory>
     ensures { OnOk result (string_bytes out.new ≡ string_bytes out.old ++ line_of_wait told.now) }
 {
     let session = told.wait.session;
@@ -143,7 +143,7 @@ pub(crate) fn put_line_of_wait(out: &mut String, told: &ToldWait) -> Result<(), 
 }
 
 /// Writes the lines of the waits.
-pub(crate) fn put_lines_of_waits(out: &mut String, waits: &[ToldWait]) -> Result<(), NoMemory>
+pub(crate) fn put_lines_of_waits(out: &mut String, waits: &[WaitLine]) -> Result<(), NoMemory>
     ensures { OnOk result (string_bytes out.new ≡ string_bytes out.old ++ flat_map line_of_wait waits.now) }
 {
     for told in waits {

@@ -39,7 +39,7 @@ pub use nodes::{put_edge_with, put_start_of_node};
 pub use queues::{begins_queue, claims_on};
 pub use reading::{StateFault, StateLists, StateRow, read_state};
 pub use rows::state_rows;
-pub use snapshot::{Doom, FirstWait, OpenTransaction, Root, ToldWait, Wait};
+pub use snapshot::{Doom, FirstWait, OpenTransaction, Root, WaitFor, WaitLine};
 pub use std::alloc::AllocError as NoMemory;
 pub use text::state_text;
 pub use words::{one_if, put_words};

@@ -13,7 +13,7 @@ pub struct OpenTransaction {
 
 /// An edge of the waits-for graph: a session waits directly for another.
 #[derive(Clone, Copy, Debug, PartialEq, Eq, Hash)]
-pub struct Wait {
+pub struct WaitFor {
     /// The session that waits.
     pub session: u16,
     /// The session that it waits for.
@@ -24,7 +24,7 @@ pub struct Wait {
 #[derive(Clone, Copy, Debug, PartialEq, Eq, Hash)]
 pub struct FirstWait {
     /// The wait for its first blocker.
-    pub wait: Wait,
+    pub wait: WaitFor,
     /// For how many others the session waits.
     pub others: u64,
 }
@@ -42,9 +42,9 @@ pub struct Root {
 
 /// An edge of the waits-for graph, as the text for people tells it.
 #[derive(Clone, Copy, Debug, PartialEq, Eq, Hash)]
-pub struct ToldWait {
+pub struct WaitLine {
     /// The wait.
-    pub wait: Wait,
+    pub wait: WaitFor,
     /// Whether the other session is the first blocker of the one that waits.
     pub first: bool,
     /// The place of the call since which the session waits, if it is told; of a dump no place is known.

@@ -8,7 +8,7 @@ ghost use Rattle.lock_report.specs.inner.BySession.{Ascends};
 use crate::by_session::{claims_by_session, claims_of_session};
 use crate::claims::is_last;
 use crate::jam::{put_jam, put_lines_of_waits, put_session_heading};
-use crate::snapshot::{OpenTransaction, Root, ToldWait};
+use crate::snapshot::{OpenTransaction, Root, WaitLine};
 use lock_rules::{Claim, ClaimKind};
 use lock_tree::Resource;
 use std::alloc::{AllocError as NoMemory, Global};
@@ -104,7 +104,7 @@ fn put_resource_heading(
 }
 
 /// Writes the section of the waits.
-fn put_waits(out: &mut String, waits: &[ToldWait]) -> Result<(), NoMemory>
+fn put_waits(out: &mut String, waits: &[WaitLine]) -> Result<(), NoMemory>
     ensures { OnOk result (string_bytes out.new ≡ string_bytes out.old ++ waits_section waits.now) }
 {
     if waits.is_empty() {
@@ -216,7 +216,7 @@ pub fn state_text(
     roots: &[Root],
     opens: &[OpenTransaction],
     claims: &[Claim],
-    waits: &[ToldWait],
+    waits: &[WaitLine],
 ) -> Result<String, NoMemory>
     ensures { IfOk result (λ text. string_bytes text ≡ text_of_state place waiting roots.now opens.now claims.now waits.now) }
 {

@@ -33,6 +33,7 @@ pub mod WrongReplies
 pub mod Worked
 pub mod Updates
 pub mod Restarts
+pub mod Ranges
 pub mod RefusalNames
 pub mod OpNumbers
 pub mod Ended

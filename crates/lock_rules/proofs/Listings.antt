@@ -29,7 +29,7 @@ use Rattle.lock_rules.proofs.Steps.{state-lawful}
 use Rattle.lock_rules.proofs.Lawful.{lawful}
 
 -- either test, if the second passes
-or-true : (b : Bool) → (b || true) ≡ true
+pub or-true : (b : Bool) → (b || true) ≡ true
 or-true true = refl
 or-true false = refl
 
@@ -105,12 +105,12 @@ member-among r (x ∷ rs) h = elim h [
 ]
 
 -- the resources of some claims rise
-rise-resources : (cs : List Claim) → rise (resources_of cs) ≡ true
+pub rise-resources : (cs : List Claim) → rise (resources_of cs) ≡ true
 rise-resources [] = refl
 rise-resources (c ∷ cs) = rise-with c.resource (resources_of cs) (rise-resources cs)
 
 -- a resource is among them exactly if one of the claims is on it
-among-resources : (r : List ℕ) (cs : List Claim) → is_among r (resources_of cs) ≡ list_any (λ c. same_path c.resource r) cs
+pub among-resources : (r : List ℕ) (cs : List Claim) → is_among r (resources_of cs) ≡ list_any (λ c. same_path c.resource r) cs
 among-resources r [] = refl
 among-resources r (c ∷ cs) = has-with r c.resource (resources_of cs) ∙ ap (λ (b : Bool). same_path c.resource r || b) (among-resources r cs)
 

@@ -17,7 +17,7 @@ use Rattle.lock_rules.specs.declared.calls.Why.TheVariants.{NoTransaction, IsWai
 use Rattle.lock_rules.specs.declared.calls.TheConstants.{MAX_LOCKS}
 use Rattle.lock_rules.specs.State.{Claim, Table, State, mode_in, held_mode, mode_or_nothing, claims_of, is_open, is_waiting, is_doomed}
 use Rattle.lock_rules.specs.Step.{is_nothing, target_of, lacks_parent, holds_child, tests, first_failing, after_asking, act, outcome_of, step, would_wait, is_held}
-use Rattle.lock_rules.specs.Laws.{HasTransaction, AreLocksBounded, DoesRefusalKeep}
+use Rattle.lock_rules.specs.Laws.{AreLocksBounded, DoesRefusalKeep}
 use Rattle.lock_rules.specs.Effects.{IsTarget, IsFree}
 use Rattle.lock_rules.specs.Refusals.{LacksParent, HoldsBelow, Fails, refusals_of, AreRefusalsMeant, AreOthersAccepted, DoesAbortNeedTransaction, IsClearCommitAccepted, WaitsIfAsked}
 use Rattle.lock_rules.specs.Restarts.{DoesRestartNeedTransaction}
@@ -199,7 +199,7 @@ all-pass-none F (t ∷ ts) (w ∷ ws) a n =
 -- a call that passes its tests isn't refused
 
 -- the reply to a request isn't a refusal
-ask-answers : (d w : Bool) (k : Mode) (why : Why) → cond d Deadlock (cond w Waiting (Granted k)) ≡ Refused why → ⊥
+pub ask-answers : (d w : Bool) (k : Mode) (why : Why) → cond d Deadlock (cond w Waiting (Granted k)) ≡ Refused why → ⊥
 ask-answers true w k why e = cc
 ask-answers false true k why e = cc
 ask-answers false false k why e = cc

@@ -64,13 +64,6 @@ before-back a b h = elim (cases_Bool (comes_before b a)) [
   | inr k ↦ k
 ]
 
--- what comes before another is not the same
-before-differs : (a b : List ℕ) → comes_before a b ≡ true → same_path a b ≡ false
-before-differs a b h = elim (same_path_tells a b) [
-  | inl k ↦ absurd (contrary (comes_before a a) (ap (comes_before a) k.1 ∙ h) (before-self a))
-  | inr k ↦ k
-]
-
 -- lists that rise
 
 -- resource `r` is in the list

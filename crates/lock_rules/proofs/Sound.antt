@@ -135,7 +135,7 @@ head-request t x h hs o e =
     (In-request h t.requests (o h.session) i.0, i.1)
 
 -- a request isn't both a conversion and fresh
-either-kind : (b c : Bool) → (b && c) ≡ true → (b && not c) ≡ false
+pub either-kind : (b c : Bool) → (b && c) ≡ true → (b && not c) ≡ false
 either-kind true true h = refl
 either-kind true false h = cc
 either-kind false c h = refl

@@ -63,14 +63,14 @@ pub one-victim : (st : State) → IsNumbered st → (s v w : ℕ) → IsVictim s
 one-victim st i s v w a b = i.apart v w (on_circle-open st s v i a.on_circle) (on_circle-open st s w i b.on_circle) (omega (arith, a.youngest w b.on_circle, b.youngest v a.on_circle))
 
 -- if there is a victim for s, s is on a cycle
-round : (st : State) (s v : ℕ) → IsVictim st s v → Reaches (waits_for st.table) s s
-round st s v a = reaches-trans (waits_for st.table) s v s a.on_circle.there a.on_circle.back
+pub victim-circle : (st : State) (s v : ℕ) → IsVictim st s v → Reaches (waits_for st.table) s s
+victim-circle st s v a = reaches-trans (waits_for st.table) s v s a.on_circle.there a.on_circle.back
 
 -- two lists of victims are equal, and so are the states that they lead to
 pub same-victims : (s : ℕ) (vs ws : List ℕ) (st last end : State) → IsNumbered st → AreVictims s vs st last → AreVictims s ws st end → (vs ≡ ws) × (last ≡ end)
 same-victims s [] [] st last end i a b = (refl, a.1 ∙ sym b.1)
-same-victims s [] (w ∷ ws) st last end i a b = absurd (a.0 (round st s w b.0))
-same-victims s (v ∷ vs) [] st last end i a b = absurd (b.0 (round st s v a.0))
+same-victims s [] (w ∷ ws) st last end i a b = absurd (a.0 (victim-circle st s w b.0))
+same-victims s (v ∷ vs) [] st last end i a b = absurd (b.0 (victim-circle st s v a.0))
 same-victims s (v ∷ vs) (w ∷ ws) st last end i a b =
     let e = one-victim st i s v w a.0 b.0 in
     let r = same-victims s vs ws (after_victim v st) last end (victim-numbered v st i) a.1 (rw (← e) at b.1) in

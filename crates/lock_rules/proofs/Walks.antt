@@ -52,7 +52,7 @@ length-without_le v [] = omega arith
 length-without_le v (y ∷ vs) = grind (arith, nat_tests, length-without_le v vs)
 
 -- the list without v is shorter if v is in it
-length-without : (v : ℕ) (vs : List ℕ) → has v vs ≡ true → length (without v vs) < length vs
+pub length-without : (v : ℕ) (vs : List ℕ) → has v vs ≡ true → length (without v vs) < length vs
 length-without v [] h = absurd (cc)
 length-without v (y ∷ vs) h = grind (arith, nat_tests, length-without v vs, length-without_le v vs)
 

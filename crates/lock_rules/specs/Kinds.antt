@@ -1,5 +1,5 @@
--- The kinds of calls, of replies and of refusals, by their numbers.
-use Rattle.std.specs.Prelude.{ℕ, List, [], ◌∷◌}
+-- The kinds of calls, of replies and of refusals, by their numbers, and the words of operations and of kinds of replies.
+use Rattle.std.specs.Prelude.{ℕ, List, [], ◌∷◌, codes}
 use Rattle.lock_rules.specs.declared.calls.Call.{Call}
 use Rattle.lock_rules.specs.declared.calls.Call.TheVariants as call
 use Rattle.lock_rules.specs.declared.calls.Reply.{Reply}
@@ -45,6 +45,19 @@ number_of_op op.Try = 8
 number_of_op op.Withdraw = 9
 number_of_op op.Restart = 10
 
+-- the word of an operation, in traces and histories
+abbrev pub word_of : Op → List ℕ
+word_of op.Begin = codes "begin"
+word_of op.Lock = codes "lock"
+word_of op.Convert = codes "convert"
+word_of op.Poll = codes "poll"
+word_of op.Release = codes "release"
+word_of op.Commit = codes "commit"
+word_of op.Abort = codes "abort"
+word_of op.Try = codes "try"
+word_of op.Withdraw = codes "withdraw"
+word_of op.Restart = codes "restart"
+
 -- the kind of a reply
 abbrev pub kind_of_reply : Reply → ReplyKind
 kind_of_reply (reply.Began n) = kind.Began
@@ -72,6 +85,20 @@ number_of_kind kind.Aborted = 8
 number_of_kind kind.Refused = 9
 number_of_kind kind.Withdrawn = 10
 number_of_kind kind.Restarted = 11
+
+-- the word of a kind of replies, in histories
+abbrev pub word_of_reply : ReplyKind → List ℕ
+word_of_reply kind.Began = codes "began"
+word_of_reply kind.Granted = codes "granted"
+word_of_reply kind.Waiting = codes "waiting"
+word_of_reply kind.Deadlock = codes "deadlock"
+word_of_reply kind.Clear = codes "clear"
+word_of_reply kind.Released = codes "released"
+word_of_reply kind.Committed = codes "committed"
+word_of_reply kind.Aborted = codes "aborted"
+word_of_reply kind.Refused = codes "refused"
+word_of_reply kind.Withdrawn = codes "withdrawn"
+word_of_reply kind.Restarted = codes "restarted"
 
 -- the number of a refusal, by which the tests of a call are ordered; number 10 is retired
 abbrev pub number_of_why : Why → ℕ

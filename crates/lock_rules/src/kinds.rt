@@ -1,8 +1,8 @@
-//! The kinds of calls, of replies and of refusals, each kind in one list, with their numbers.
+//! The kinds of calls, of replies and of refusals, each kind in one list, with their numbers and words.
 
 ghost use Rattle.std.specs.Prelude.{◌≡◌, ◌↔◌, Some};
 ghost use Rattle.lock_rules.specs.declared.kinds.Op.{Op as OpValue};
-ghost use Rattle.lock_rules.specs.Kinds.{number_of_op, number_of_kind, number_of_why, op_of_call, kind_of_reply};
+ghost use Rattle.lock_rules.specs.Kinds.{number_of_op, number_of_kind, number_of_why, op_of_call, kind_of_reply, word_of, word_of_reply};
 
 use crate::calls::{Call, Reply, Why};
 
@@ -52,6 +52,25 @@ impl Op {
         ensures { result ≡ number_of_op self }
     {
         self as u32
+    }
+
+    /// The operation's word, in lower case.
+    #[inline]
+    pub fn word(self) -> &'static str
+        ensures { result.now ≡ word_of self }
+    {
+        match self {
+            Op::Begin => "begin",
+            Op::Lock => "lock",
+            Op::Convert => "convert",
+            Op::Poll => "poll",
+            Op::Release => "release",
+            Op::Commit => "commit",
+            Op::Abort => "abort",
+            Op::Try => "try",
+            Op::Withdraw => "withdraw",
+            Op::Restart => "restart",
+        }
     }
 
     /// Returns the operation with this number, `None` if no operation has it.
@@ -138,6 +157,26 @@ impl ReplyKind {
         ensures { result ≡ number_of_kind self }
     {
         self as u32
+    }
+
+    /// The kind's word, in lower case.
+    #[inline]
+    pub fn word(self) -> &'static str
+        ensures { result.now ≡ word_of_reply self }
+    {
+        match self {
+            ReplyKind::Began => "began",
+            ReplyKind::Granted => "granted",
+            ReplyKind::Waiting => "waiting",
+            ReplyKind::Deadlock => "deadlock",
+            ReplyKind::Clear => "clear",
+            ReplyKind::Released => "released",
+            ReplyKind::Committed => "committed",
+            ReplyKind::Aborted => "aborted",
+            ReplyKind::Refused => "refused",
+            ReplyKind::Withdrawn => "withdrawn",
+            ReplyKind::Restarted => "restarted",
+        }
     }
 }
 

@@ -5,8 +5,8 @@
 //! call does, `Legal.antt` the legal histories, `Counts.antt` the counters of a history. A step makes the tests of a call in order. The
 //! first that fails is the reason of the refusal, and the state stays; if none fails, the call acts on the state and is answered.
 //!
-//! In `src/`: `calls.rt` has calls, replies, refusals and limits, `kinds.rt` their kinds with numbers, `names.rt` the names of refusals,
-//! `listing.rt` the lines of a listing. Laws are in `laws.rt`, `restart_laws.rt`, `update_laws.rt` and `count_laws.rt`.
+//! In `src/`: `calls.rt` has calls, replies, refusals and limits, `kinds.rt` their kinds with numbers and words, `names.rt` the names of
+//! refusals, `listing.rt` the lines of a listing. Laws are in `laws.rt`, `restart_laws.rt`, `update_laws.rt` and `count_laws.rt`.
 //!
 //! Proved: the laws, for every history; among them that there is no incompatible access and no cycle of waits, and that a session that
 //! holds a resource holds its parent, if there is one. No call takes memory.

@@ -21,10 +21,10 @@ use Rattle.lock_shell.specs.Replies.{IsReplied, text_of_reply}
 use Rattle.lock_desk.specs.BookView.{BookView}
 use Rattle.replay_commands.proofs.IsVerdict.{fewer, grown as grown_front, one_more}
 use Rattle.lock_desk.specs.Paths.{grants, lock_of_level}
-use Rattle.lock_desk.proofs.Blockers.{one-behind}
 use Rattle.lock_shell.specs.Turns.{AreGranted, AreReplied, HasServed, HasServedPath, HasServedRows, IsUndone, path_row}
 use Rattle.lock_shell.specs.inner.Desks.{AreAlike, kept_in}
 use Rattle.lock_shell.specs.inner.Parts.{HasServedLevels}
+use Rattle.lock_rules.proofs.Ranges.{one-behind}
 
 -- the line of one entry, with what explains its reply
 pub one_served : (n : ℕ) (front back : List Entry) (e : Entry) (x : Explanation) (old new : List ℕ) → back ≡ front ++ e ∷ []

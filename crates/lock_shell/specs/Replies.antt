@@ -11,10 +11,9 @@ use Rattle.lock_rules.specs.declared.calls.Reply.TheVariants as reply
 use Rattle.lock_rules.specs.declared.calls.Why.{Why}
 use Rattle.lock_rules.specs.declared.listing.Claim.{Claim}
 use Rattle.lock_rules.specs.Entries.{Entry}
-use Rattle.lock_rules.specs.Kinds.{op_of_call}
+use Rattle.lock_rules.specs.Kinds.{kind_of_reply, op_of_call, word_of, word_of_reply}
 use Rattle.lock_rules.specs.Legal.{state_of}
 use Rattle.lock_rules.specs.Step.{step}
-use Rattle.lock_trace.specs.Words.{word_of}
 use Rattle.lock_explain.specs.declared.explanation.Blocker.{Blocker}
 use Rattle.lock_explain.specs.declared.explanation.Explanation.{Explanation}
 use Rattle.lock_explain.specs.declared.explanation.MissedParent.{MissedParent}
@@ -76,19 +75,21 @@ words_of_refusal w (Some f) = words_of_missed w f.missed
     words_of_missed w None = words_of_why w
     words_of_missed w (Some p) = words_of_need p
 
+-- what stands behind the word of a reply, and explains it
+abbrev pub words_behind : Reply → Explanation → List ℕ
+words_behind (reply.Began n) x = codes " transaction " ++ decimal n
+words_behind (reply.Granted m) x = codes " " ++ name_of m
+words_behind reply.Waiting x = words_of_wait x.wait
+words_behind reply.Clear x = codes ": it doesn't wait"
+words_behind (reply.Committed n) x = codes ", locks given back: " ++ decimal n
+words_behind (reply.Aborted n) x = codes ", locks given back: " ++ decimal n
+words_behind (reply.Refused w) x = codes ": " ++ words_of_refusal w x.refusal
+words_behind (reply.Restarted n) x = codes ", locks given back: " ++ decimal n
+words_behind _ x = []
+
 -- a reply, and what explains it
 abbrev pub words_of_reply : Reply → Explanation → List ℕ
-words_of_reply (reply.Began n) x = codes "began transaction " ++ decimal n
-words_of_reply (reply.Granted m) x = codes "granted " ++ name_of m
-words_of_reply reply.Waiting x = codes "waiting" ++ words_of_wait x.wait
-words_of_reply reply.Deadlock x = codes "deadlock"
-words_of_reply reply.Clear x = codes "clear: it doesn't wait"
-words_of_reply reply.Released x = codes "released"
-words_of_reply (reply.Committed n) x = codes "committed, locks given back: " ++ decimal n
-words_of_reply (reply.Aborted n) x = codes "aborted, locks given back: " ++ decimal n
-words_of_reply (reply.Refused w) x = codes "refused: " ++ words_of_refusal w x.refusal
-words_of_reply reply.Withdrawn x = codes "withdrawn"
-words_of_reply (reply.Restarted n) x = codes "restarted, locks given back: " ++ decimal n
+words_of_reply r x = word_of_reply (kind_of_reply r) ++ words_behind r x
 
 -- what becomes of a victim, and how to see why
 abbrev pub words_of_fate : ℕ → List ℕ

@@ -3,8 +3,6 @@
 ghost use Rattle.std.specs.Prelude.{◌≡◌, ◌++◌, OnOk, codes, decimal, string_bytes};
 ghost use Rattle.std.specs.List.{flat_map};
 ghost use Rattle.lock_modes.specs.Codes.{name_of};
-ghost use Rattle.lock_rules.specs.Kinds.{op_of_call};
-ghost use Rattle.lock_trace.specs.Words.{word_of};
 ghost use Rattle.lock_shell.specs.Replies.{line_of_doomed, line_of_granted, line_of_victim, lines_of_others, text_of_reply, words_of_blocker, words_of_blockers, words_of_fate, words_of_lock, words_of_need, words_of_operands, words_of_refusal, words_of_reply, words_of_start, words_of_wait};
 
 use lock_explain::{
@@ -16,29 +14,11 @@ use lock_rules::{Call, Claim, Entry, Reply, Why};
 use std::alloc::AllocError as NoMemory;
 use std::fmt::Write;
 
-/// The op of a call.
-pub(crate) fn op_word(call: &Call) -> &'static str
-    ensures { result.now ≡ word_of (op_of_call call.now) }
-{
-    match call {
-        Call::Begin => "begin",
-        Call::Lock(_, _) => "lock",
-        Call::Convert(_, _) => "convert",
-        Call::Poll => "poll",
-        Call::Release(_) => "release",
-        Call::Commit => "commit",
-        Call::Abort => "abort",
-        Call::Try(_, _) => "try",
-        Call::Withdraw => "withdraw",
-        Call::Restart => "restart",
-    }
-}
-
 /// Writes the place of a call, its session and its op.
 fn put_start(out: &mut String, place: u64, session: u16, call: &Call) -> Result<(), NoMemory>
     ensures { OnOk result (string_bytes out.new ≡ string_bytes out.old ++ words_of_start place session call.now) }
 {
-    let op = op_word(call);
+    let op = call.op().word();
     write!(out, "[{place}] {session} {op}")
 }
 
@@ -149,27 +129,20 @@ fn put_refusal(out: &mut String, why: Why, refusal: &Option<Refusal>) -> Result<
 fn put_reply(out: &mut String, reply: Reply, explanation: &Explanation) -> Result<(), NoMemory>
     ensures { OnOk result (string_bytes out.new ≡ string_bytes out.old ++ words_of_reply reply explanation.now) }
 {
+    put_words(out, reply.kind().word())?;
     match reply {
-        Reply::Began(number) => write!(out, "began transaction {number}"),
-        Reply::Granted(mode) => {
-            let name = mode.name();
-            write!(out, "granted {name}")
-        }
-        Reply::Waiting => {
-            put_words(out, "waiting")?;
-            put_wait(out, &explanation.wait)
-        }
-        Reply::Deadlock => { put_words(out, "deadlock") }
-        Reply::Clear => put_words(out, "clear: it doesn't wait"),
-        Reply::Released => put_words(out, "released"),
-        Reply::Committed(count) => write!(out, "committed, locks given back: {count}"),
-        Reply::Aborted(count) => write!(out, "aborted, locks given back: {count}"),
+        Reply::Began(number) => write!(out, " transaction {number}"),
+        Reply::Granted(mode) => put_mode(out, " ", mode),
+        Reply::Waiting => put_wait(out, &explanation.wait),
+        Reply::Clear => put_words(out, ": it doesn't wait"),
+        Reply::Committed(count) => write!(out, ", locks given back: {count}"),
+        Reply::Aborted(count) => write!(out, ", locks given back: {count}"),
+        Reply::Restarted(count) => write!(out, ", locks given back: {count}"),
         Reply::Refused(why) => {
-            put_words(out, "refused: ")?;
+            put_words(out, ": ")?;
             put_refusal(out, why, &explanation.refusal)
         }
-        Reply::Withdrawn => put_words(out, "withdrawn"),
-        Reply::Restarted(count) => write!(out, "restarted, locks given back: {count}"),
+        Reply::Deadlock | Reply::Released | Reply::Withdrawn => Ok(()),
     }
 }
 

@@ -4,7 +4,6 @@ ghost use Rattle.std.specs.Prelude.{◌≡◌, ◌++◌, IfOk, OnOk, string_byte
 ghost use Rattle.std.specs.List.{flat_map};
 ghost use Rattle.lock_shell.specs.inner.Traces.{row_of_call};
 
-use crate::reply_line::op_word;
 use lock_rules::{Call, Entry};
 use std::alloc::{AllocError as NoMemory, Global};
 use std::fmt::Write;
@@ -14,7 +13,7 @@ fn put_row(out: &mut String, entry: &Entry) -> Result<(), NoMemory>
     ensures { OnOk result (string_bytes out.new ≡ string_bytes out.old ++ row_of_call entry.now) }
 {
     let session = entry.session;
-    let op = op_word(&entry.call);
+    let op = entry.call.op().word();
     match entry.call {
         Call::Lock(resource, mode) | Call::Convert(resource, mode) | Call::Try(resource, mode) => {
             let name = mode.name();

@@ -3,14 +3,13 @@ use Rattle.std.proofs.Common.{◌≡◌, ℕ, zero, suc, ◌<◌, ◌≤◌, Boo
 use Rattle.std.specs.List.{IsDistinct, swap_remove}
 use Rattle.std.specs.Map.{keys_of, IsKeyTest}
 use Rattle.indexmap.specs.IndexMap.{set_value_at, insert_entry}
-use Rattle.indexmap.proofs.MapLemmas.{distinct-take, index-first, insert_entry-first}
+use Rattle.indexmap.proofs.MapLemmas.{distinct-take, index-first}
 use Rattle.indexmap.proofs.RemoveLemmas.{swap_out, own_first}
 use Rattle.lock_tree.specs.Paths.{same_path}
 use Rattle.lock_rules.proofs.Lists.{same_path-true, same_path_tells}
 use Rattle.session_locks.proofs.ResourceLists.{same_path-equivalence}
 use Rattle.lock_table.specs.declared.cells.Cell.{Cell}
-use Rattle.lock_table.specs.inner.Cells.{Cells, cell_at}
-use Rattle.lock_table.specs.inner.Tables.{in_use}
+use Rattle.lock_table.specs.inner.Cells.{in_use, Cells, cell_at}
 
 -- lists
 
@@ -46,13 +45,6 @@ resource-at [] xs i r x h = absurd (cc)
 resource-at (q ∷ rs) [] i r x h = absurd (cc)
 resource-at (q ∷ rs) (y ∷ xs) zero r x h = ap (λ (o : Option (List ℕ × Cell)). Some (unwrap_or o (r, x)).0) h
 resource-at (q ∷ rs) (y ∷ xs) (suc i) r x h = resource-at rs xs i r x h
-
--- an entry at an index is the cell at that index
-pub cell-at : (rs : List (List ℕ)) (xs : List Cell) (i : ℕ) (r : List ℕ) (x : Cell) → slice_get (zip rs xs) i ≡ Some (r, x) → slice_get xs i ≡ Some x
-cell-at [] xs i r x h = absurd (cc)
-cell-at (q ∷ rs) [] i r x h = absurd (cc)
-cell-at (q ∷ rs) (y ∷ xs) zero r x h = ap (λ (o : Option (List ℕ × Cell)). Some (unwrap_or o (r, x)).1) h
-cell-at (q ∷ rs) (y ∷ xs) (suc i) r x h = cell-at rs xs i r x h
 
 -- writing a cell writes its entry
 pub beside-written : (rs : List (List ℕ)) (xs : List Cell) (i : ℕ) (c : Cell) → zip rs (set xs i c) ≡ set_value_at (zip rs xs) i c
@@ -97,12 +89,6 @@ beside-cut (r ∷ rs) [] (suc n) h = refl
 beside-cut (r ∷ rs) (x ∷ xs) zero h = absurd (omega arith)
 beside-cut (r ∷ rs) (x ∷ xs) (suc n) h = ap (λ (es : Cells). (r, x) ∷ es) (beside-cut rs xs n (omega arith))
 
--- a cell added behind the resources changes no entry
-pub beside-more : (rs : List (List ℕ)) (xs : List Cell) (c : Cell) → length rs ≤ length xs → zip rs (xs ++ c ∷ []) ≡ zip rs xs
-beside-more [] xs c h = refl
-beside-more (r ∷ rs) [] c h = absurd (omega arith)
-beside-more (r ∷ rs) (x ∷ xs) c h = ap (λ (es : Cells). (r, x) ∷ es) (beside-more rs xs c (omega arith))
-
 -- the cell of a resource after a change of the entries
 
 -- a choice that gives `None` has not taken its first option, and the second one is `None`
@@ -131,7 +117,7 @@ cell-gone es r c i apart at q =
     (swap_out same_path same_path-equivalence (same_path r) (one r) es i (r, c) (index-first (same_path r) es i (own_first same_path same_path-equivalence es i r c apart at)) at apart (swap_remove es i (r, c)) refl).updated.0 q
 
 -- after a cell is written: its resource has the new cell, all others have theirs
-cell-inserted : (es : Cells) (r : List ℕ) (c : Cell) (q : List ℕ) → cell_at q (insert_entry same_path es r c) ≡ cond (same_path r q) (Some c) (cell_at q es)
+pub cell-inserted : (es : Cells) (r : List ℕ) (c : Cell) (q : List ℕ) → cell_at q (insert_entry same_path es r c) ≡ cond (same_path r q) (Some c) (cell_at q es)
 cell-inserted [] r c q = ap (λ (b : Bool). cond b (Some c) None) (same_path-equivalence.symm q r)
 cell-inserted ((k, x) ∷ es) r c q = elim (same_path_tells r k) [
   | inl p ↦ rw p.0 (rw (ap (λ (z : List ℕ). same_path z q) p.1 ∙ same_path-equivalence.symm k q) (twice (same_path q k) (cell_at q es)))
@@ -144,8 +130,3 @@ cell-inserted ((k, x) ∷ es) r c q = elim (same_path_tells r k) [
     twice : (b : Bool) (o : Option Cell) → cond b (Some c) o ≡ cond b (Some c) (cond b (Some x) o)
     twice true o = refl
     twice false o = refl
-
--- after the cell of an entry is written: its resource has it, all others have theirs
-pub cell-set : (es : Cells) (r : List ℕ) (x c : Cell) (i : ℕ) → IsDistinct same_path (keys_of es) → slice_get es i ≡ Some (r, x) → (q : List ℕ) → cell_at q (set_value_at es i c) ≡ cond (same_path r q) (Some c) (cell_at q es)
-cell-set es r x c i apart at q =
-    ap (cell_at q) (sym (insert_entry-first same_path r c es i (own_first same_path same_path-equivalence es i r x apart at))) ∙ cell-inserted es r c q

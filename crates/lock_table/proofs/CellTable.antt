@@ -1,6 +1,5 @@
 -- The cells after a change of one of them.
 use Rattle.std.proofs.Common.{◌≡◌, ℕ, Bool, true, false, cond, not, ◌&&◌, inl, inr, List, [], ◌∷◌, Option, Some, IfSome, refl, sym, ◌∙◌, ap, subst}
-use Rattle.std.specs.Map.{lookup}
 use Rattle.lock_tree.specs.Paths.{same_path}
 use Rattle.lock_rules.proofs.Lists.{same_path_tells}
 use Rattle.lock_holders.specs.declared.session_mode.SessionMode.{SessionMode}
@@ -27,29 +26,20 @@ became-view r v w cs new e h = subst (λ (x : View). CellsBecame r x cs new) e h
 
 -- a cell is written, added or removed
 
-module _ (eq : List ℕ → List ℕ → Bool) (same : (a b : List ℕ) → eq a b ≡ same_path a b) where
-  -- a look-up by an equal test finds the cell of the resource
-  pub found : (r : List ℕ) (cs : Cells) → lookup (eq r) cs ≡ cell_at r cs
-  found r cs = ap (λ (test : List ℕ → Bool). lookup test cs) (λ i q. same r q i)
+-- a cell of a resource that is written, added or removed changes the view of this resource alone
+pub became : (r : List ℕ) (now : Option Cell) (cs new : Cells) → AreKeptCells cs → IfSome now IsKeptCell → ((q : List ℕ) → cell_at q new ≡ cond (same_path r q) now (cell_at q cs)) → CellsBecame r (view_in now) cs new
+became r now cs new k kept at = record {
+  views = λ q. ap view_in (at q) ∙ said-cond (same_path r q) (cell_at q cs);
+  kept = λ q. subst (λ (o : Option Cell). IfSome o IsKeptCell) (sym (at q)) (kept-cond (same_path r q) (cell_at q cs) (k q));
+}
+  where
+    said-cond : (b : Bool) (o : Option Cell) → view_in (cond b now o) ≡ cond b (view_in now) (view_in o)
+    said-cond true o = refl
+    said-cond false o = refl
 
-  -- a cell of a resource that is written, added or removed changes the view of this resource alone
-  pub became : (r : List ℕ) (now : Option Cell) (cs new : Cells) → AreKeptCells cs → IfSome now IsKeptCell
-      → ((q : List ℕ) → lookup (eq q) new ≡ cond (eq r q) now (lookup (eq q) cs)) → CellsBecame r (view_in now) cs new
-  became r now cs new k kept updates = record {
-    views = λ q. ap view_in (at q) ∙ said-cond (same_path r q) (cell_at q cs);
-    kept = λ q. subst (λ (o : Option Cell). IfSome o IsKeptCell) (sym (at q)) (kept-cond (same_path r q) (cell_at q cs) (k q));
-  }
-    where
-      at : (q : List ℕ) → cell_at q new ≡ cond (same_path r q) now (cell_at q cs)
-      at q = sym (found q new) ∙ (updates q ∙ (λ i. cond (same r q i) now (found q cs i)))
-
-      said-cond : (b : Bool) (o : Option Cell) → view_in (cond b now o) ≡ cond b (view_in now) (view_in o)
-      said-cond true o = refl
-      said-cond false o = refl
-
-      kept-cond : (b : Bool) (o : Option Cell) → IfSome o IsKeptCell → IfSome (cond b now o) IsKeptCell
-      kept-cond true o h = kept
-      kept-cond false o h = h
+    kept-cond : (b : Bool) (o : Option Cell) → IfSome o IsKeptCell → IfSome (cond b now o) IsKeptCell
+    kept-cond true o h = kept
+    kept-cond false o h = h
 
 -- a view that is not busy is the empty one
 pub idle-view : (v : View) → is_busy v ≡ false → v ≡ no_view

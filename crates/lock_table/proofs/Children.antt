@@ -52,12 +52,6 @@ pub there-child : (s : ℕ) (r q : List ℕ) (cs : List rules.Claim) → is_some
 there-child s r q [] h a = absurd (cc)
 there-child s r q (c ∷ cs) h a = grind (arith, nat_tests, same_path_tells, there-child s r q cs)
 
--- two tests of which each implies the other are equal
-pub both-ways : (b c : Bool) → (b ≡ true → c ≡ true) → (c ≡ true → b ≡ true) → b ≡ c
-both-ways true c f g = sym (f refl)
-both-ways false true f g = g refl
-both-ways false false f g = refl
-
 -- a child of `r` that session `s` holds
 pub record HeldChild (s : ℕ) (r : List ℕ) (t : rules.Table) : Type 0 where
   pub path : List ℕ

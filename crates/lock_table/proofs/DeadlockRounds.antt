@@ -9,7 +9,7 @@ use Rattle.lock_rules.proofs.Settle.{victim-waits}
 use Rattle.lock_table.specs.Deadlocks.{Moment, deadlocked_states, moments_at}
 use Rattle.waits_for.specs.Pairs.{pairs_of}
 use Rattle.lock_table.specs.declared.table.LockTable.{LockTable}
-use Rattle.lock_table.specs.declared.waits.Waits.{Waits}
+use Rattle.lock_table.specs.declared.wait_graph.Waits.{Waits}
 use Rattle.lock_table.specs.inner.Blocking.{IsCurrent}
 use Rattle.lock_table.specs.Changes.{standings, IsWhole}
 use Rattle.lock_table.specs.Noting.{IsNotedAhead, AreChosen}

@@ -8,7 +8,7 @@ use Rattle.lock_table.specs.declared.lockers.Locker.{Locker}
 use Rattle.lock_table.specs.declared.table.LockTable.{LockTable}
 use Rattle.lock_table.specs.inner.Requests.{wanted_in}
 use Rattle.lock_table.specs.inner.Lockers.{Standing, standing_of, standings_of, standing_at}
-use Rattle.lock_holders.specs.Ended.{EndedView, is_ended}
+use Rattle.lock_holders.specs.Woken.{WokenListView, is_ended}
 use Rattle.lock_table.specs.inner.Ended.{waits_at, DoNoteEnded}
 use Rattle.lock_table.specs.Changes.{with_ended, IsWhole, DoesKeep, IsSameSeen, HasNotedEnded, HasCancelled}
 use Rattle.lock_table.specs.Ready.{IsReadyTable}
@@ -34,7 +34,7 @@ waits-own ws s new p =
 -- the list is unchanged
 
 -- no other session has begun or ceased to wait
-pub list-same : (s : ℕ) (old new : List Locker) (a : EndedView) → ((u : ℕ) → eqb u s ≡ false → waits_at u new ≡ waits_at u old) → DoNoteEnded s old new a a
+pub list-same : (s : ℕ) (old new : List Locker) (a : WokenListView) → ((u : ℕ) → eqb u s ≡ false → waits_at u new ≡ waits_at u old) → DoNoteEnded s old new a a
 list-same s old new a h = record { sized = refl; waits_ended = λ u. go u (eqb u s) refl; waits = λ u n w. sym (h u n) ∙ w }
   where
     still : (x o n : Bool) → n ≡ o → x ≡ (x || (true && (o && not n)))
@@ -48,19 +48,19 @@ list-same s old new a h = record { sized = refl; waits_ended = λ u. go u (eqb u
     go u false e = still (is_ended a u) (waits_at u old) (waits_at u new) (h u e)
 
 -- nothing has changed
-pub list-none : (s : ℕ) (ws : List Locker) (a : EndedView) → DoNoteEnded s ws ws a a
+pub list-none : (s : ℕ) (ws : List Locker) (a : WokenListView) → DoNoteEnded s ws ws a a
 list-none s ws a = list-same s ws ws a (λ u n. refl)
 
 -- the standings are unchanged
-pub list-standings : (s : ℕ) (old new : List Locker) (a : EndedView) → standings_of new ≡ standings_of old → DoNoteEnded s old new a a
+pub list-standings : (s : ℕ) (old new : List Locker) (a : WokenListView) → standings_of new ≡ standings_of old → DoNoteEnded s old new a a
 list-standings s old new a e = list-same s old new a (λ u n. ap (λ (ss : List Standing). is_some (standing_at u ss).wanted) e)
 
 -- the session's own locker is written
-pub list-own : (s : ℕ) (ws : List Locker) {i : ℕ} (new : Locker) (a : EndedView) → suc i ≡ s → DoNoteEnded s ws (set ws i new) a a
+pub list-own : (s : ℕ) (ws : List Locker) {i : ℕ} (new : Locker) (a : WokenListView) → suc i ≡ s → DoNoteEnded s ws (set ws i new) a a
 list-own s ws new a e = list-same s ws (set ws _ new) a (λ u n. waits-other ws s u new e n)
 
 -- a locker is written that waits as before
-pub list-wanted : (t s : ℕ) (ws : List Locker) {i : ℕ} (locker new : Locker) (a : EndedView) → IsPositionOf s i ws → locker ≡ get_or ws i locker → new.wanted ≡ locker.wanted → DoNoteEnded t ws (set ws i new) a a
+pub list-wanted : (t s : ℕ) (ws : List Locker) {i : ℕ} (locker new : Locker) (a : WokenListView) → IsPositionOf s i ws → locker ≡ get_or ws i locker → new.wanted ≡ locker.wanted → DoNoteEnded t ws (set ws i new) a a
 list-wanted t s ws {i} locker new a p at same = list-same t ws (set ws i new) a (λ u n. go u (eqb u s) refl)
   where
     go : (u : ℕ) (b : Bool) → eqb u s ≡ b → waits_at u (set ws i new) ≡ waits_at u ws
@@ -71,7 +71,7 @@ list-wanted t s ws {i} locker new a p at same = list-same t ws (set ws i new) a 
 
 -- changes one after another
 
-pub list-on : (s : ℕ) (old mid new : List Locker) (a b c : EndedView) → DoNoteEnded s old mid a b → DoNoteEnded s mid new b c → DoNoteEnded s old new a c
+pub list-on : (s : ℕ) (old mid new : List Locker) (a b c : WokenListView) → DoNoteEnded s old mid a b → DoNoteEnded s mid new b c → DoNoteEnded s old new a c
 list-on s old mid new a b c h k = record {
   sized = k.sized ∙ h.sized;
   waits_ended = λ u. k.waits_ended u ∙ (ap (λ (x : Bool). x || (not (eqb u s) && (waits_at u mid && not (waits_at u new)))) (h.waits_ended u)
@@ -89,7 +89,7 @@ list-on s old mid new a b c h k = record {
     go false false false false n f g = refl
 
 -- the session's own locker is written twice
-pub list-twice : (s : ℕ) (ws : List Locker) {i : ℕ} (new last : Locker) (a : EndedView) → suc i ≡ s → DoNoteEnded s ws (set (set ws i new) i last) a a
+pub list-twice : (s : ℕ) (ws : List Locker) {i : ℕ} (new last : Locker) (a : WokenListView) → suc i ≡ s → DoNoteEnded s ws (set (set ws i new) i last) a a
 list-twice s ws {i} new last a e = list-on s ws (set ws i new) (set (set ws i new) i last) a a a (list-own s ws new a e) (list-own s (set ws i new) last a e)
 
 -- with nobody left out, and with one session left out
@@ -104,12 +104,12 @@ every old n zero = refl
 every old n (suc u) = ap (λ (b : Bool). not b && (waits_at (suc u) old && not n)) (not-none u)
 
 -- who waits has waited before
-waited-before : (old new : List Locker) (a b : EndedView) → DoNoteEnded 0 old new a b → (u : ℕ) → waits_at u new ≡ true → waits_at u old ≡ true
+waited-before : (old new : List Locker) (a b : WokenListView) → DoNoteEnded 0 old new a b → (u : ℕ) → waits_at u new ≡ true → waits_at u old ≡ true
 waited-before old new a b h zero w = absurd (cc)
 waited-before old new a b h (suc u) w = h.waits (suc u) (not-none u) w
 
 -- the session that is left out did not wait
-pub list-all : (s : ℕ) (old new : List Locker) (a b : EndedView) → DoNoteEnded 0 old new a b → waits_at s old ≡ false → DoNoteEnded s old new a b
+pub list-all : (s : ℕ) (old new : List Locker) (a b : WokenListView) → DoNoteEnded 0 old new a b → waits_at s old ≡ false → DoNoteEnded s old new a b
 list-all s old new a b h idle = record {
   sized = h.sized;
   waits_ended = λ u. h.waits_ended u ∙ (ap (λ (x : Bool). is_ended a u || x) (every old (waits_at u new) u) ∙ go u (eqb u s) refl);
@@ -121,11 +121,11 @@ list-all s old new a b h idle = record {
     go u false e = refl
 
 -- a session's own locker is written, which doesn't wait then, and others are granted what they wait for
-pub list-freed : (s : ℕ) (ws : List Locker) {i : ℕ} (new : Locker) (after : List Locker) (a b : EndedView) → IsPositionOf s i ws → wanted_in new.wanted ≡ None → DoNoteEnded 0 (set ws i new) after a b → DoNoteEnded s ws after a b
+pub list-freed : (s : ℕ) (ws : List Locker) {i : ℕ} (new : Locker) (after : List Locker) (a b : WokenListView) → IsPositionOf s i ws → wanted_in new.wanted ≡ None → DoNoteEnded 0 (set ws i new) after a b → DoNoteEnded s ws after a b
 list-freed s ws {i} new after a b p idle h = list-on s ws (set ws i new) after a a b (list-own s ws new a p.session) (list-all s (set ws i new) after a b h (waits-own ws s new p ∙ ap is_some idle))
 
 -- one more session is listed, whose wait has ended
-pub list-also : (s : ℕ) (old new : List Locker) (a b c : EndedView) → DoNoteEnded s old new a b → waits_at s old ≡ true → waits_at s new ≡ false → length c.places ≡ length b.places → ((u : ℕ) → is_ended c u ≡ (is_ended b u || eqb u s)) → DoNoteEnded 0 old new a c
+pub list-also : (s : ℕ) (old new : List Locker) (a b c : WokenListView) → DoNoteEnded s old new a b → waits_at s old ≡ true → waits_at s new ≡ false → length c.places ≡ length b.places → ((u : ℕ) → is_ended c u ≡ (is_ended b u || eqb u s)) → DoNoteEnded 0 old new a c
 list-also s old new a b c h waited gone long adds = record {
   sized = long ∙ h.sized;
   waits_ended = λ u. adds u ∙ (ap (λ (x : Bool). x || eqb u s) (h.waits_ended u) ∙ (go u (eqb u s) refl ∙ ap (λ (x : Bool). is_ended a u || x) (sym (every old (waits_at u new) u))));
@@ -149,7 +149,7 @@ list-also s old new a b c h waited gone long adds = record {
     began u false e w = h.waits u e w
 
 -- the session that was left out did not wait before
-pub list-idle : (s : ℕ) (old new : List Locker) (a b : EndedView) → DoNoteEnded s old new a b → waits_at s old ≡ false → waits_at s new ≡ false → DoNoteEnded 0 old new a b
+pub list-idle : (s : ℕ) (old new : List Locker) (a b : WokenListView) → DoNoteEnded s old new a b → waits_at s old ≡ false → waits_at s new ≡ false → DoNoteEnded 0 old new a b
 list-idle s old new a b h idle gone = record {
   sized = h.sized;
   waits_ended = λ u. h.waits_ended u ∙ (go u (eqb u s) refl ∙ ap (λ (x : Bool). is_ended a u || x) (sym (every old (waits_at u new) u)));
@@ -165,11 +165,11 @@ list-idle s old new a b h idle gone = record {
     began u false e w = h.waits u e w
 
 -- a request is granted: its session waits no more, and is listed
-pub list-granted : (s : ℕ) (ws : List Locker) {i : ℕ} (new : Locker) (a b : EndedView) → IsPositionOf s i ws → waits_at s ws ≡ true → is_some (wanted_in new.wanted) ≡ false → length b.places ≡ length a.places → ((u : ℕ) → is_ended b u ≡ (is_ended a u || eqb u s)) → DoNoteEnded 0 ws (set ws i new) a b
+pub list-granted : (s : ℕ) (ws : List Locker) {i : ℕ} (new : Locker) (a b : WokenListView) → IsPositionOf s i ws → waits_at s ws ≡ true → is_some (wanted_in new.wanted) ≡ false → length b.places ≡ length a.places → ((u : ℕ) → is_ended b u ≡ (is_ended a u || eqb u s)) → DoNoteEnded 0 ws (set ws i new) a b
 list-granted s ws new a b p waited gone long adds = list-also s ws (set ws _ new) a a b (list-own s ws new a p.session) waited (waits-own ws s new p ∙ gone) long adds
 
 -- the caller's own wait, which a victim's end or its own doom has ended, is listed no further than before
-pub list-but : (s : ℕ) (old new : List Locker) (a b c : EndedView) → DoNoteEnded 0 old new a b → (was : Bool) → was ≡ is_ended a s → length c.places ≡ length b.places
+pub list-but : (s : ℕ) (old new : List Locker) (a b c : WokenListView) → DoNoteEnded 0 old new a b → (was : Bool) → was ≡ is_ended a s → length c.places ≡ length b.places
     → ((u : ℕ) → is_ended c u ≡ (is_ended b u && (was || not (eqb u s)))) → DoNoteEnded s old new a c
 list-but s old new a b c h was is long takes = record {
   sized = long ∙ h.sized;
@@ -202,24 +202,24 @@ pub waits_ended-none : (s : ℕ) (d : LockTable) → HasNotedEnded s d d
 waits_ended-none s d = list-none s d.lockers.items d.ended
 
 pub waits_ended-same : (s : ℕ) (d e : LockTable) → IsSameSeen d e → HasNotedEnded s d e
-waits_ended-same s d e k = subst (λ (v : EndedView). DoNoteEnded s d.lockers.items e.lockers.items d.ended v) (sym k.ended) (list-standings s d.lockers.items e.lockers.items d.ended k.standings_same)
+waits_ended-same s d e k = subst (λ (v : WokenListView). DoNoteEnded s d.lockers.items e.lockers.items d.ended v) (sym k.ended) (list-standings s d.lockers.items e.lockers.items d.ended k.standings_same)
 
 pub waits_ended-on : (s : ℕ) (d f e : LockTable) → HasNotedEnded s d f → HasNotedEnded s f e → HasNotedEnded s d e
 waits_ended-on s d f e h k = list-on s d.lockers.items f.lockers.items e.lockers.items d.ended f.ended e.ended h k
 
 -- another list of ended waits is no other change
 
-pub whole-relisted : (d : LockTable) (v : EndedView) → IsWhole d → IsWhole (with_ended v d)
+pub whole-relisted : (d : LockTable) (v : WokenListView) → IsWhole d → IsWhole (with_ended v d)
 whole-relisted d v w = record { cells = w.cells; agree = w.agree }
 
-pub ready-relisted : (d : LockTable) (v : EndedView) → length v.places ≡ length d.ended.places → IsReadyTable d → IsReadyTable (with_ended v d)
+pub ready-relisted : (d : LockTable) (v : WokenListView) → length v.places ≡ length d.ended.places → IsReadyTable d → IsReadyTable (with_ended v d)
 ready-relisted d v long k = record { long = k.long; ready = k.ready; waits_ended = long ∙ k.waits_ended; filled = k.filled }
 
-pub keeps-relisted : (d e : LockTable) (v : EndedView) → length v.places ≡ length e.ended.places → DoesKeep d e → DoesKeep d (with_ended v e)
+pub keeps-relisted : (d e : LockTable) (v : WokenListView) → length v.places ≡ length e.ended.places → DoesKeep d e → DoesKeep d (with_ended v e)
 keeps-relisted d e v long k = record { whole = whole-relisted e v k.whole; lockers = k.lockers; ready = ready-relisted e v long k.ready }
 
-pub cancelled-relisted : (s : ℕ) (d e : LockTable) (v : EndedView) → HasCancelled s d e → HasCancelled s d (with_ended v e)
+pub cancelled-relisted : (s : ℕ) (d e : LockTable) (v : WokenListView) → HasCancelled s d e → HasCancelled s d (with_ended v e)
 cancelled-relisted s d e v h = record { count = h.count; idle = h.idle; held = h.held; transactions = h.transactions; views = h.views }
 
-pub shows-relisted : (d : LockTable) (v : EndedView) (st : State) → Shows d st → Shows (with_ended v d) st
+pub shows-relisted : (d : LockTable) (v : WokenListView) (st : State) → Shows d st → Shows (with_ended v d) st
 shows-relisted d v st h = record { count = h.count; transactions = h.transactions; views = h.views }

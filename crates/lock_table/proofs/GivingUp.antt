@@ -1,5 +1,5 @@
 -- A session gives up one lock, wherever it is in its list, or its request.
-use Rattle.std.proofs.Common.{◌≡◌, ℕ, ◌+◌, ◌<◌, ◌≤◌, Bool, true, false, cond, not, eqb, ◌⊎◌, inl, inr, List, [], ◌∷◌, ◌++◌, length, get_or, set, Some, None, refl, sym, ◌∙◌, ap, arith, subst, vec_len}
+use Rattle.std.proofs.Common.{◌≡◌, ℕ, ◌+◌, ◌<◌, Bool, true, false, cond, not, eqb, ◌⊎◌, inl, inr, List, [], ◌∷◌, ◌++◌, length, get_or, set, Some, None, refl, sym, ◌∙◌, ap, arith, subst, vec_len}
 use Rattle.std.proofs.lemmas.Bool.{or_parts, cases_Bool}
 use Rattle.std.proofs.lemmas.Bool.Decides.{Decides-eqb}
 use Rattle.lock_tree.specs.Paths.{same_path}
@@ -48,11 +48,6 @@ apart-but r (p ∷ rs) a = go (same_path p r) (apart-but r rs a.1)
     go : (b : Bool) → AreApart (paths_but r rs) → AreApart (cond (not b) (p ∷ paths_but r rs) (paths_but r rs))
     go true rest = rest
     go false rest = (none-but p r rs a.0, rest)
-
--- they are no more than before
-pub few-but : (r : List ℕ) (rs : List (List ℕ)) → length (paths_but r rs) ≤ length rs
-few-but r [] = omega arith
-few-but r (p ∷ rs) = grind (arith, cases_Bool (same_path p r), few-but r rs)
 
 same-but : (r : List ℕ) (rs : List (List ℕ)) → has_path r rs ≡ false → paths_but r rs ≡ rs
 same-but r [] h = refl

@@ -7,7 +7,7 @@ use Rattle.waits_for.specs.Pairs.{pairs_of}
 use Rattle.lock_modes.specs.declared.Mode.{Mode}
 use Rattle.lock_modes.specs.Compatibility.{are_compatible}
 use Rattle.lock_holders.specs.declared.session_mode.SessionMode.{SessionMode}
-use Rattle.lock_table.specs.declared.waits.Waits.{Waits}
+use Rattle.lock_table.specs.declared.wait_graph.Waits.{Waits}
 use Rattle.lock_table.specs.inner.Cells.{View}
 use Rattle.lock_holders.specs.SessionModes.{has_session, mode_of, times, with_holder, Ascends, holder_blocks}
 use Rattle.lock_table.specs.inner.Blocking.{is_ahead, target_blocks, view_blocks, fits_beside, has_fitting_beside, with_holders, HasGranted, DoFollow}

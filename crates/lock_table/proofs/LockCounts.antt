@@ -17,8 +17,8 @@ use Rattle.session_locks.specs.Resources.{has_path, AreApart}
 use Rattle.lock_table.specs.inner.Lockers.{is_wanted, paths_but}
 use Rattle.lock_table.specs.Shows.{short, claims_on}
 use Rattle.lock_table.proofs.TableViews.{held-seen}
-use Rattle.lock_table.proofs.Children.{both-ways}
 use Rattle.lock_table.proofs.GivingUp.{apart-but, other-but, gone-but, less-but}
+use Rattle.lock_rules.proofs.Ranges.{both-ways}
 
 -- the waiting request of a session
 

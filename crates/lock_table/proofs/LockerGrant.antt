@@ -2,8 +2,8 @@
 use Rattle.std.proofs.Common.{◌≡◌, ℕ, Bool, true, false, cond, not, List, [], ◌∷◌, ◌++◌, length, length-append, Option, Some, None, sym, ◌∙◌, ap, arith, subst}
 use Rattle.std.specs.Prelude.{IfSome, IfNone, ◌≤◌}
 use Rattle.lock_rules.proofs.Lists.{same_path-true}
-use Rattle.lock_table.specs.declared.lockers.Request.{Request}
-use Rattle.lock_table.specs.declared.lockers.Request.TheVariants.{Fresh, Conversion}
+use Rattle.lock_table.specs.declared.lockers.LockRequest.{LockRequest}
+use Rattle.lock_table.specs.declared.lockers.LockRequest.TheVariants.{Fresh, Conversion}
 use Rattle.lock_table.specs.declared.lockers.Locker.{Locker}
 use Rattle.session_locks.specs.Resources.{has_path, AreApart}
 use Rattle.session_locks.specs.LockLists.{IsUnder}
@@ -17,7 +17,7 @@ module _ (r : List ℕ) (locker : Locker) (waits : is_wanted r (wanted_in locker
   kind-told : has_path r locker.held.items ≡ not (is_fresh locker.wanted)
   kind-told = go locker.wanted locker.kind waits
     where
-      go : (o : Option Request) → IsOfKind o locker.held.items → is_wanted r (wanted_in o) ≡ true → has_path r locker.held.items ≡ not (is_fresh o)
+      go : (o : Option LockRequest) → IsOfKind o locker.held.items → is_wanted r (wanted_in o) ≡ true → has_path r locker.held.items ≡ not (is_fresh o)
       go None k w = absurd (cc)
       go (Some q) k w = subst (λ (x : List ℕ). has_path x locker.held.items ≡ not (is_fresh (Some q))) (same_path-true (resource_asked q) r w) k
 
@@ -25,7 +25,7 @@ module _ (r : List ℕ) (locker : Locker) (waits : is_wanted r (wanted_in locker
   pub coming-under : is_fresh locker.wanted ≡ true → IsUnder locker.held.items r
   coming-under is = go locker.wanted locker.under waits is
     where
-      go : (o : Option Request) → IsComingUnder o locker.held.items → is_wanted r (wanted_in o) ≡ true → is_fresh o ≡ true → IsUnder locker.held.items r
+      go : (o : Option LockRequest) → IsComingUnder o locker.held.items → is_wanted r (wanted_in o) ≡ true → is_fresh o ≡ true → IsUnder locker.held.items r
       go None u w f = absurd (cc)
       go (Some (Conversion q)) u w f = absurd (cc)
       go (Some (Fresh q)) u w f = subst (IsUnder locker.held.items) (same_path-true q r w) u

@@ -7,7 +7,7 @@ use Rattle.std.proofs.Math.Bool.{and-true, and-false, or-false}
 use Rattle.waits_for.specs.Pairs.{pairs_of}
 use Rattle.lock_modes.specs.declared.Mode.{Mode}
 use Rattle.lock_holders.specs.declared.session_mode.SessionMode.{SessionMode}
-use Rattle.lock_table.specs.declared.waits.Waits.{Waits}
+use Rattle.lock_table.specs.declared.wait_graph.Waits.{Waits}
 use Rattle.lock_table.specs.declared.cells.GivenUp.{GivenUp}
 use Rattle.lock_table.specs.declared.cells.GivenUp.TheVariants as claim
 use Rattle.lock_table.specs.inner.Cells.{View, view_after_giving_up, is_request, IsOnce}

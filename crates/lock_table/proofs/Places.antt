@@ -1,23 +1,29 @@
 -- Places: the index of the cell of a resource, in the list of cells beside the list of resources.
-use Rattle.std.proofs.Common.{◌≡◌, ℕ, zero, suc, ◌+◌, ◌-◌, ◌<◌, ◌≤◌, Bool, true, false, cond, List, [], ◌∷◌, ◌++◌, length, take, set, swap, slice_get, get_or, zip, Option, None, Some, is_some, IfSome, unwrap_or, position, refl, sym, ◌∙◌, ap, subst, inl, inr, arith}
-use Rattle.std.proofs.lemmas.List.{get_or-set_other, length-take, length-set, length-append, take-set, take-append-le, take_all}
-use Rattle.std.proofs.lemmas.Option.{slice_get_within, get_or_from_slice_get, slice_get-get_or}
+use Rattle.std.proofs.Common.{◌≡◌, ℕ, zero, suc, ◌+◌, ◌-◌, ◌<◌, ◌≤◌, min, Bool, true, false, cond, not, nat_lt, List, [], ◌∷◌, ◌++◌, length, take, set, swap, slice_get, get_or, zip, Option, None, Some, is_some, IfSome, position, refl, sym, ◌∙◌, ap, subst, inl, inr, arith, lt-ltb, le-ltb}
+use Rattle.std.proofs.lemmas.List.{get_or-set_other, length-take, length-set, length-append, take-set}
+use Rattle.std.proofs.lemmas.Option.{slice_get_within, get_or_from_slice_get, slice_get-get_or, slice_get-map}
 use Rattle.std.proofs.lemmas.Bool.{or_parts, cases_lt}
-use Rattle.std.proofs.lemmas.Grind.{get_or-set_at}
+use Rattle.std.proofs.lemmas.Grind.{common_steps, get_or-set_at}
 use Rattle.std.proofs.lemmas.List.Edits.{length-swap}
 use Rattle.std.proofs.lemmas.List.Quantifiers.{position-Some}
+use Rattle.std.proofs.lemmas.List.Sums.{position_or_len_is, prefix_len-le-length}
+use Rattle.std.proofs.lemmas.Map.Keys.{apart_from_distinct}
 use Rattle.std.proofs.lemmas.Map.Made.{is_some-lookup}
-use Rattle.std.proofs.lemmas.Map.Entries.{lookup_from_place}
-use Rattle.std.specs.List.{IsDistinct, swap_remove, list_any}
+use Rattle.std.specs.List.{IsDistinct, swap_remove, list_any, position_or_len}
+use Rattle.std.specs.Map.{keys_of}
+use Rattle.std.specs.Option.{option_map}
+use Rattle.indexmap.proofs.MapLemmas.{Found-position, some_index, insert_entry-first, split_last, take_zero}
 use Rattle.indexmap.proofs.ReorderLemmas.{slice_get-zip_some, zip-take}
 use Rattle.lock_tree.specs.Paths.{same_path}
 use Rattle.lock_rules.proofs.Lists.{same_path-true}
+use Rattle.session_locks.specs.Resources.{has_path}
 use Rattle.session_locks.proofs.ResourceLists.{same_path-equivalence}
 use Rattle.lock_table.specs.declared.cells.Cell.{Cell}
-use Rattle.lock_table.specs.inner.Cells.{View, no_view, view_of, Cells, cell_at, CellsBecame, AreKeptCells, IsKeptCell, IsCellAt, IsPlace}
-use Rattle.lock_table.specs.inner.Tables.{in_use, AreIdleFrom}
+use Rattle.lock_table.specs.declared.cell_table.CellTable.TheInside.{Inside}
+use Rattle.lock_table.specs.inner.Cells.{View, no_view, view_of, Keys, in_use, Cells, Table, cell_at, CellsBecame, AreKeptCells, IsKeptCell, IsPlace}
+use Rattle.lock_table.specs.inner.Tables.{table_of, AreIdleFrom, IsKeptTable}
 use Rattle.lock_table.proofs.CellTable.{became, became-view}
-use Rattle.lock_table.proofs.CellEntries.{set-there, same-cell, keys-beside, resource-at, cell-at, beside-written, beside-pushed, beside-set, entry-last, length-beside, beside-cut, cell-pushed, cell-gone, cell-set}
+use Rattle.lock_table.proofs.CellEntries.{set-there, same-cell, keys-beside, resource-at, beside-written, beside-pushed, beside-set, entry-last, length-beside, beside-cut, cell-pushed, cell-gone, cell-inserted}
 
 -- the cells behind those in use
 
@@ -67,40 +73,7 @@ none-there : (o : Option Cell) → is_some o ≡ false → o ≡ None
 none-there None h = refl
 none-there (Some x) h = absurd (cc)
 
--- a resource that is not in use has no cell
-pub absent : (r : List ℕ) (rs : List (List ℕ)) (xs : List Cell) → length rs ≤ length xs → list_any (same_path r) rs ≡ false → cell_at r (zip rs xs) ≡ None
-absent r rs xs long h = none-there _ (is_some-lookup (same_path r) (zip rs xs) ∙ (ap (list_any (same_path r)) (keys-beside rs xs long) ∙ h))
-
--- the number of resources in use
-
--- with a provisional key, one less than there are keys
-pub count-but_one : (rs : List (List ℕ)) (b : Bool) → b ≡ true → length (in_use rs b) ≡ length rs - 1
-count-but_one rs true h = omega (arith, length-take (length rs - 1) rs)
-count-but_one rs false h = absurd (cc)
-
--- without one, as many as there are keys
-pub count-all : (rs : List (List ℕ)) (b : Bool) → b ≡ false → length (in_use rs b) ≡ length rs
-count-all rs true h = absurd (cc)
-count-all rs false h = refl
-
--- the keys in use are the first ones, as many as they are
-pub in_use-taken : (rs : List (List ℕ)) (b : Bool) (n : ℕ) → n ≡ length (in_use rs b) → take n rs ≡ in_use rs b
-in_use-taken rs true n h = ap (λ (k : ℕ). take k rs) (omega (arith, h, length-take (length rs - 1) rs))
-in_use-taken rs false n h = take_all n rs (omega (arith, h))
-
--- what a look-up says
-
--- a list whose last item is known is those before it and that item
-split-at : (rs : List (List ℕ)) (n : ℕ) (r : List ℕ) → length rs ≡ n + 1 → slice_get rs n ≡ Some r → rs ≡ take n rs ++ r ∷ []
-split-at [] n r e h = absurd (cc)
-split-at (q ∷ []) zero r e h = ap (λ (o : Option (List ℕ)). unwrap_or o q ∷ []) h
-split-at (q ∷ []) (suc n) r e h = absurd (cc)
-split-at (q ∷ k ∷ rs) zero r e h = absurd (omega (arith, e))
-split-at (q ∷ k ∷ rs) (suc n) r e h = ap (λ (ks : List (List ℕ)). q ∷ ks) (split-at (k ∷ rs) n r (omega (arith, e)) h)
-
--- the same by the length of the list
-pub split-at-last : (rs : List (List ℕ)) (r : List ℕ) → slice_get rs (length rs - 1) ≡ Some r → rs ≡ take (length rs - 1) rs ++ r ∷ []
-split-at-last rs r h = split-at rs (length rs - 1) r (omega (arith, slice_get_within rs (length rs - 1) r h)) h
+-- the keys in use among all keys
 
 -- the items at the indices of a front are those of the list
 slice_get-take : (n : ℕ) (rs : List (List ℕ)) (i : ℕ) → i < n → slice_get (take n rs) i ≡ slice_get rs i
@@ -114,59 +87,99 @@ pub in_use-at : (rs : List (List ℕ)) (b : Bool) (i : ℕ) → i < length (in_u
 in_use-at rs true i h = slice_get-take (length rs - 1) rs i (omega (arith, h, length-take (length rs - 1) rs))
 in_use-at rs false i h = refl
 
--- if a test fails for each of the first n items, it passes for none of them
-list_any-take : (test : List ℕ → Bool) (n : ℕ) (rs : List (List ℕ)) → ((k : ℕ) (d : List ℕ) → k < n → test (get_or rs k d) ≡ false) → list_any test (take n rs) ≡ false
-list_any-take test zero rs h = refl
-list_any-take test (suc n) [] h = refl
-list_any-take test (suc n) (r ∷ rs) h = rw (h 0 [] (omega arith)) (list_any-take test n rs (λ k d lt. h (suc k) d (omega (arith, lt))))
+-- the first index at which a test passes, as `position` gives it
+position-at : (test : List ℕ → Bool) (rs : List (List ℕ)) (i : ℕ) → i < length rs → position_or_len test rs ≡ i → Some i ≡ position test rs
+position-at test rs i h e = sym (ap (λ (n : ℕ). cond (nat_lt n (length rs)) (Some n) None) e ∙ ap (λ (b : Bool). cond b (Some i) None) (lt-ltb i (length rs) h))
 
--- if a test passes for no item of a list, it passes for none of the first n
-list_any-front : (test : List ℕ → Bool) (n : ℕ) (rs : List (List ℕ)) → list_any test rs ≡ false → list_any test (take n rs) ≡ false
-list_any-front test zero rs h = refl
-list_any-front test (suc n) [] h = refl
-list_any-front test (suc n) (r ∷ rs) h = let e = or_parts (test r) (list_any test rs) h in rw e.0 (list_any-front test n rs e.1)
+-- a resource in a list without repetition is found at its index
+pub position-apart : (rs : List (List ℕ)) (r : List ℕ) (i : ℕ) → IsDistinct same_path rs → slice_get rs i ≡ Some r → Some i ≡ position (same_path r) rs
+position-apart rs r i apart at =
+    let lt : i < length rs = slice_get_within rs i r at in
+    let e : get_or rs i r ≡ r = get_or_from_slice_get rs i r r at in
+    position-at (same_path r) rs i lt (position_or_len_is (same_path r) rs i r (omega (arith, lt))
+    (λ k h. same_path-equivalence.symm r (get_or rs k r) ∙ (ap (same_path (get_or rs k r)) (sym e) ∙ apart_from_distinct same_path rs k i r apart h lt))
+    (λ h. ap (same_path r) e ∙ same_path-equivalence.refl r))
 
-module _ (eq : List ℕ → List ℕ → Bool) (same : (a b : List ℕ) → eq a b ≡ same_path a b) (r : List ℕ) (rs : List (List ℕ)) where
-  -- if no key is the resource, it is not in use
-  pub unnamed : (b : Bool) → false ≡ list_any (eq r) rs → list_any (same_path r) (in_use rs b) ≡ false
-  unnamed true h = list_any-front (same_path r) (length rs - 1) rs (ap (λ (test : List ℕ → Bool). list_any test rs) (λ j q. sym (same r q) j) ∙ sym h)
-  unnamed false h = ap (λ (test : List ℕ → Bool). list_any test rs) (λ j q. sym (same r q) j) ∙ sym h
+-- a test that passes for no item fails up to the end
+none-passes : (test : List ℕ → Bool) (rs : List (List ℕ)) → list_any test rs ≡ false → length rs ≤ position_or_len test rs
+none-passes test [] h = omega arith
+none-passes test (r ∷ rs) h =
+    let e = or_parts (test r) (list_any test rs) h in
+    omega (arith, none-passes test rs e.1, ap (λ (b : Bool). cond (not b) (1 + position_or_len test rs) 0) e.0)
 
-  module _ (i : ℕ) (found : Some i ≡ position (eq r) rs) where
-    -- the resource is the key at the index at which it is found
-    pub named-at : slice_get rs i ≡ Some r
-    named-at =
-        let p = position-Some (eq r) rs i r (sym found) in
-        slice_get-get_or rs i r p.0 ∙ ap Some (sym (same_path-true r (get_or rs i r) (sym (same r (get_or rs i r)) ∙ p.1)))
+-- a test first passes among the first `n` items where it does among all, if that is one of them
+position-front : (test : List ℕ → Bool) (n : ℕ) (rs : List (List ℕ)) → position_or_len test (take n rs) ≡ min n (position_or_len test rs)
+position-front test zero rs = let z : 0 ≡ min 0 (position_or_len test rs) = omega arith in z
+position-front test (suc n) [] = let z : 0 ≡ min (suc n) 0 = omega arith in z
+position-front test (suc n) (r ∷ rs) = by (test r) (position-front test n rs)
+  where
+    by : (b : Bool) → position_or_len test (take n rs) ≡ min n (position_or_len test rs) → cond (not b) (1 + position_or_len test (take n rs)) 0 ≡ min (suc n) (cond (not b) (1 + position_or_len test rs) 0)
+    by true h = let z : 0 ≡ min (suc n) 0 = omega arith in z
+    by false h = let z : 1 + position_or_len test (take n rs) ≡ min (suc n) (1 + position_or_len test rs) = omega (arith, h) in z
 
-    -- if that index is not in use, the resource is not in use
-    pub unused-there : (b : Bool) → length (in_use rs b) ≤ i → list_any (same_path r) (in_use rs b) ≡ false
-    unused-there true h =
-        let p = position-Some (eq r) rs i r (sym found) in
-        list_any-take (same_path r) (length rs - 1) rs (λ k d lt. sym (same r (get_or rs k d)) ∙ (position-Some (eq r) rs i d (sym found)).2 k (omega (arith, lt, h, p.0, length-take (length rs - 1) rs)))
-    unused-there false h = absurd (let p = position-Some (eq r) rs i r (sym found) in omega (arith, h, p.0))
+module _ (eq : List ℕ → List ℕ → Bool) (same : (a b : List ℕ) → eq a b ≡ same_path a b) (rs : List (List ℕ)) (b : Bool) (k : Keys) (is : ◌≡◌ {A = Keys} (record { used = in_use rs b; has_provisional = b }) k) (r : List ℕ) where
+  -- a look-up among all keys gives what one among those in use does, if that is an index in use
+  first-used : (position_or_len (same_path r) k.used ≡ min (length k.used) (position_or_len (eq r) rs)) × (length k.used ≤ length rs)
+  first-used = subst (λ (k : Keys). (position_or_len (same_path r) k.used ≡ min (length k.used) (position_or_len (eq r) rs)) × (length k.used ≤ length rs)) is (by b)
+    where
+      by-path : position_or_len (eq r) rs ≡ position_or_len (same_path r) rs
+      by-path = ap (λ (test : List ℕ → Bool). position_or_len test rs) (λ j q. same r q j)
 
--- without a provisional key, all resources are in use
-pub still : (ns : List (List ℕ)) (b : Bool) (ys : List Cell) → b ≡ false → zip (in_use ns b) ys ≡ zip ns ys
-still ns true ys h = absurd (cc)
-still ns false ys h = refl
+      by : (c : Bool) → (position_or_len (same_path r) (in_use rs c) ≡ min (length (in_use rs c)) (position_or_len (eq r) rs)) × (length (in_use rs c) ≤ length rs)
+      by true = (omega (arith, position-front (same_path r) (length rs - 1) rs, length-take (length rs - 1) rs, by-path, prefix_len-le-length (λ q. not (same_path r q)) rs), omega (arith, length-take (length rs - 1) rs))
+      by false = (omega (arith, prefix_len-le-length (λ q. not (same_path r q)) rs, by-path), omega arith)
+
+  -- an index at which a key is found is the place of the resource, if it is in use
+  pub place-found : (i : ℕ) → Some i ≡ position (eq r) rs → i < length k.used → Some i ≡ position (same_path r) k.used
+  place-found i e lt =
+      let first : position_or_len (eq r) rs ≡ i = grind (arith, common_steps) in
+      position-at (same_path r) k.used i lt (omega (arith, first-used.0, lt, first))
+
+  none-before : length k.used ≤ position_or_len (eq r) rs → None ≡ position (same_path r) k.used
+  none-before h = sym (ap (λ (b : Bool). cond b (Some (position_or_len (same_path r) k.used)) None) (le-ltb (position_or_len (same_path r) k.used) (length k.used) (omega (arith, h, first-used.0))))
+
+  -- if it is not in use, the resource has no place
+  pub place-behind : (i : ℕ) → Some i ≡ position (eq r) rs → length k.used ≤ i → None ≡ position (same_path r) k.used
+  place-behind i e le =
+      let first : position_or_len (eq r) rs ≡ i = grind (arith, common_steps) in
+      none-before (omega (arith, le, first))
+
+  -- nor if no key is found
+  pub place-absent : list_any (eq r) rs ≡ false → None ≡ position (same_path r) k.used
+  place-absent h = none-before (omega (arith, none-passes (eq r) rs h, first-used.1))
+
+  -- the keys in use, after the resource is added behind them
+  pub key-added : b ≡ false → has_path r k.used ≡ false → (ns : List (List ℕ)) → ns ≡ cond (list_any (eq r) rs) rs (rs ++ r ∷ []) → in_use ns b ≡ k.used ++ r ∷ []
+  key-added still none ns come = ap (in_use ns) still ∙ (come ∙ (ap (λ (c : Bool). cond c rs (rs ++ r ∷ [])) absent ∙ ap (λ (qs : List (List ℕ)). qs ++ r ∷ []) (sym all)))
+    where
+      all : k.used ≡ rs
+      all = sym (ap (λ (k : Keys). k.used) is) ∙ ap (in_use rs) still
+
+      absent : list_any (eq r) rs ≡ false
+      absent = ap (λ (test : List ℕ → Bool). list_any test rs) (λ j q. (same r q ∙ same_path-equivalence.symm r q) j) ∙ (ap (has_path r) (sym all) ∙ none)
+
+-- a provisional key that is taken into use
+pub key-taken : (rs : List (List ℕ)) (b : Bool) (r : List ℕ) → b ≡ true → slice_get rs (length (in_use rs b)) ≡ Some r → rs ≡ in_use rs b ++ r ∷ []
+key-taken rs false r h at = absurd (cc)
+key-taken rs true r h at =
+    let n : length (take (length rs - 1) rs) ≡ length rs - 1 = omega (arith, length-take (length rs - 1) rs) in
+    let last = subst (λ (n : ℕ). slice_get rs n ≡ Some r) n at in
+    split_last rs r last (omega (arith, slice_get_within rs (length rs - 1) r last)) ∙ ap (λ (qs : List (List ℕ)). qs ++ r ∷ []) (sym (take_zero rs (length rs - 1)))
 
 -- after a removal, one resource fewer is in use
-pub fewer : (rs : List (List ℕ)) (i : ℕ) → i < length rs → (ks ns : List (List ℕ)) (b : Bool) → ks ≡ rs → b ≡ false → (out : Option (List ℕ)) → out ≡ slice_get ks i → IfSome out (λ k. ns ≡ swap_remove ks i k) → length (in_use ns b) + 1 ≡ length rs
-fewer rs i lt ks ns true e h out is after = absurd (cc)
-fewer rs i lt ks ns false e h out is after =
-    let at = is ∙ ap (λ (qs : List (List ℕ)). slice_get qs i) e ∙ slice_get-get_or rs i [] lt in
-    let named = subst (λ (o : Option (List ℕ)). IfSome o (λ k. ns ≡ swap_remove ks i k)) at after in
-    let m = length ks - 1 in
-    omega (arith, ap length named, length-take m (set ks i (get_or ks m (get_or rs i []))), length-set ks i (get_or ks m (get_or rs i [])), ap length e, lt)
+pub fewer : (rs : List (List ℕ)) (i : ℕ) → i < length rs → (ns : List (List ℕ)) → IfSome (slice_get rs i) (λ k. ns ≡ swap_remove rs i k) → length ns + 1 ≡ length rs
+fewer rs i lt ns after =
+    let m = length rs - 1 in
+    let named = subst (λ (o : Option (List ℕ)). IfSome o (λ k. ns ≡ swap_remove rs i k)) (slice_get-get_or rs i [] lt) after in
+    omega (arith, ap length named, length-take m (set rs i (get_or rs m (get_or rs i []))), length-set rs i (get_or rs m (get_or rs i [])), lt)
 
 -- removal: the resource goes, and its cell is swapped with the last one in use
 
 module _ (rs : List (List ℕ)) (xs : List Cell) (es : Cells) (e : zip rs xs ≡ es) (long : length rs ≤ length xs) (i : ℕ) (lt : i < length rs) where
   -- after the removal, the resource has no cell, and all others have theirs
-  pub gone-there : IsDistinct same_path rs → (ns : List (List ℕ)) (ys : List Cell) (out : Option (List ℕ)) → out ≡ slice_get rs i → IfSome out (λ k. ns ≡ swap_remove rs i k) → ys ≡ swap xs i (length rs - 1)
+  pub gone-there : IsDistinct same_path rs → (ns : List (List ℕ)) (ys : List Cell) → IfSome (slice_get rs i) (λ k. ns ≡ swap_remove rs i k) → ys ≡ swap xs i (length rs - 1)
       → (r : List ℕ) (c : Cell) → slice_get es i ≡ Some (r, c) → (q : List ℕ) → cell_at q (zip ns ys) ≡ cond (same_path r q) None (cell_at q es)
-  gone-there apart ns ys out is after swapped r c at q =
+  gone-there apart ns ys after swapped r c at q =
       (λ j. cell_at q (zip (named j) (swapped j)))
       ∙ ap (cell_at q) (beside-swapped rs xs i r c long lt)
       ∙ cell-gone (zip rs xs) r c i (subst (IsDistinct same_path) (sym (keys-beside rs xs long)) apart) there q
@@ -176,7 +189,7 @@ module _ (rs : List (List ℕ)) (xs : List Cell) (es : Cells) (e : zip rs xs ≡
       there = ap (λ (os : Cells). slice_get os i) e ∙ at
 
       named : ns ≡ swap_remove rs i r
-      named = subst (λ (o : Option (List ℕ)). IfSome o (λ k. ns ≡ swap_remove rs i k)) (is ∙ resource-at rs xs i r c there) after
+      named = subst (λ (o : Option (List ℕ)). IfSome o (λ k. ns ≡ swap_remove rs i k)) (resource-at rs xs i r c there) after
 
   -- then the cells behind those in use are idle
   pub idle-swapped : ((r : List ℕ) (c : Cell) → slice_get es i ≡ Some (r, c) → view_of c ≡ no_view) → ((j : ℕ) (d : Cell) → length rs ≤ j → j < length xs → view_of (get_or xs j d) ≡ no_view)
@@ -200,15 +213,6 @@ module _ (rs : List (List ℕ)) (xs : List Cell) (es : Cells) (e : zip rs xs ≡
           written : length (set (x ∷ zs) i (get_or (x ∷ zs) (length rs - 1) x)) ≡ length (x ∷ zs)
           written = length-set (x ∷ zs) i (get_or (x ∷ zs) (length rs - 1) x)
 
--- without the provisional key that was added, the resources in use are those of before
-pub last-off : (rs : List (List ℕ)) (r : List ℕ) (ks : List (List ℕ)) (b : Bool) → ks ≡ rs ++ r ∷ [] → b ≡ true → in_use ks b ≡ rs
-last-off rs r ks true e h = ap (λ (qs : List (List ℕ)). take (length qs - 1) qs) e ∙ ap (λ n. take n (rs ++ r ∷ [])) (omega (arith, length-append rs (r ∷ []))) ∙ take-append-le (length rs) rs (r ∷ []) (omega arith) ∙ take_all (length rs) rs (omega arith)
-last-off rs r ks false e h = absurd (cc)
-
--- the index of the added key is the number of resources in use before
-pub count-place : (rs : List (List ℕ)) (r : List ℕ) (ks : List (List ℕ)) (n : ℕ) → ks ≡ rs ++ r ∷ [] → n ≡ length ks → n - 1 ≡ length rs
-count-place rs r ks n come is = omega (arith, is, ap length come, length-append rs (r ∷ []))
-
 -- cells that agree up to the last resource give the same entries
 pub beside-front : (rs : List (List ℕ)) (xs ys : List Cell) → take (length rs) ys ≡ take (length rs) xs → zip rs ys ≡ zip rs xs
 beside-front rs xs ys h = sym (beside-cut rs ys (length rs) (omega arith)) ∙ ap (zip rs) h ∙ beside-cut rs xs (length rs) (omega arith)
@@ -217,14 +221,10 @@ beside-front rs xs ys h = sym (beside-cut rs ys (length rs) (omega arith)) ∙ a
 
 module _ (rs : List (List ℕ)) (xs ys : List Cell) (cs : Cells) (e : zip rs xs ≡ cs) (r : List ℕ) (n : ℕ) (is : n ≡ length rs) (front : take n ys ≡ take n xs) where
   -- the entries of the cells in use are unchanged
-  front-unchanged : zip rs ys ≡ cs
+  pub front-unchanged : zip rs ys ≡ cs
   front-unchanged = beside-front rs xs ys (subst (λ m. take m ys ≡ take m xs) is front) ∙ e
 
-  module _ (ks : List (List ℕ)) (b : Bool) (come : ks ≡ rs ++ r ∷ []) where
-    -- while its key is provisional, no entry changes
-    pub provisional-unchanged : b ≡ true → zip (in_use ks b) ys ≡ cs
-    provisional-unchanged h = ap (λ (qs : List (List ℕ)). zip qs ys) (last-off rs r ks b come h) ∙ front-unchanged
-
+  module _ (ks : List (List ℕ)) (come : ks ≡ rs ++ r ∷ []) where
     -- once its cell is in use, it has this cell, and all others have theirs
     pub cell-come : (c : Cell) → n < length ys → cell_at r cs ≡ None → (q : List ℕ) → cell_at q (zip ks (set ys n c)) ≡ cond (same_path r q) (Some c) (cell_at q cs)
     cell-come c lt none q =
@@ -243,66 +243,59 @@ module _ (rs : List (List ℕ)) (xs ys : List Cell) (cs : Cells) (e : zip rs xs 
         ap view_of (get_or-set_other ys n j c d (λ f. absurd (omega (arith, f, h, is, ap length come, length-append rs (r ∷ [])))))
         ∙ idle j d (omega (arith, h, is, ap length come, length-append rs (r ∷ []))) (omega (arith, g, length-set ys n c))
 
--- the place of a resource
-
--- the index at which a resource is found is its place
-pub found-place : (rs : List (List ℕ)) (xs : List Cell) (r : List ℕ) (i : ℕ) → IsDistinct same_path rs → length rs ≤ length xs → slice_get rs i ≡ Some r → IsCellAt r (zip rs xs) i
-found-place rs [] r i apart long at = absurd (let lt = slice_get_within rs i r at in omega (arith, lt, long))
-found-place rs (d ∷ ys) r i apart long at = record {
-  cell = get_or (d ∷ ys) i d;
-  entry = entry;
-  found = lookup_from_place same_path-equivalence (zip rs (d ∷ ys)) i r _ (subst (IsDistinct same_path) (sym (keys-beside rs (d ∷ ys) long)) apart) entry;
-}
+-- the index of a resource among those in use is its place
+pub placed : {a : Inside} (kept : IsKeptTable a) {t : Table} (e : table_of a ≡ t) (r : List ℕ) (o : Option ℕ) → o ≡ position (same_path r) a.keys.used → IsPlace r t.entries o
+placed {a} kept {t} e r o is = by o (is ∙ ap (position (same_path r)) (sym (keys-beside a.keys.used a.cells.items kept.long) ∙ ap (λ (s : Table). keys_of s.entries) e))
   where
-    lt : i < length rs
-    lt = slice_get_within rs i r at
-
-    entry : slice_get (zip rs (d ∷ ys)) i ≡ Some (r, get_or (d ∷ ys) i d)
-    entry = slice_get-zip_some rs (d ∷ ys) i r _ at (slice_get-get_or (d ∷ ys) i d (omega (arith, lt, long)))
+    by : (o : Option ℕ) → o ≡ position (same_path r) (keys_of t.entries) → IsPlace r t.entries o
+    by None h = none-there _ (sym (some_index (same_path r) t.entries) ∙ ap is_some (sym h))
+    by (Some i) h = h
 
 -- the cell at the place of a resource is read and written
-module _ (rs : List (List ℕ)) (xs : List Cell) (cs : Cells) (e : zip rs xs ≡ cs) (r : List ℕ) (o : Option ℕ) (i : ℕ) (is : o ≡ Some i) (place : IsPlace r cs o) where
-  -- the cell at the place
-  at : IsCellAt r cs i
-  at = subst (IsPlace r cs) is place
+module _ {a : Inside} (kept : IsKeptTable a) {t : Table} (e : table_of a ≡ t) (r : List ℕ) {o : Option ℕ} {i : ℕ} (is : o ≡ Some i) (place : IsPlace r t.entries o) where
+  named : position (same_path r) (keys_of (zip a.keys.used a.cells.items)) ≡ Some i
+  named = ap (λ (s : Table). position (same_path r) (keys_of s.entries)) e ∙ sym (subst (IsPlace r t.entries) is place)
 
-  -- the entry at the place
-  here : slice_get (zip rs xs) i ≡ Some (r, at.cell)
-  here = ap (λ (es : Cells). slice_get es i) e ∙ at.entry
-
-  -- the place is an index of the list of cells
-  pub cell-within : i < length xs
-  cell-within = slice_get_within xs i at.cell (cell-at rs xs i r at.cell here)
+  found : (i < length a.keys.used) × (same_path r (get_or a.keys.used i r) ≡ true) × ((k : ℕ) → k < i → same_path r (get_or a.keys.used k r) ≡ false)
+  found = position-Some (same_path r) a.keys.used i r (ap (position (same_path r)) (sym (keys-beside a.keys.used a.cells.items kept.long)) ∙ named)
 
   -- the place is an index of the resources
-  pub resource-within : i < length rs
-  resource-within = slice_get_within rs i r (resource-at rs xs i r at.cell here)
+  pub resource-within : i < length a.keys.used
+  resource-within = found.0
 
-  module _ (x : Cell) (read : x ≡ get_or xs i x) where
-    same-read : at.cell ≡ x
-    same-read = sym (read ∙ get_or_from_slice_get xs i at.cell x (cell-at rs xs i r at.cell here))
+  -- the place is an index of the list of cells
+  pub cell-within : i < length a.cells.items
+  cell-within = omega (arith, found.0, kept.long)
 
+  -- the entry there, with this cell
+  entry : (xs : List Cell) (c : Cell) → slice_get xs i ≡ Some c → slice_get (zip a.keys.used xs) i ≡ Some (r, c)
+  entry xs c at = slice_get-zip_some a.keys.used xs i r c (slice_get-get_or a.keys.used i r found.0 ∙ ap Some (sym (same_path-true r (get_or a.keys.used i r) found.1))) at
+
+  module _ {x : Cell} (read : x ≡ get_or a.cells.items i x) where
     -- the cell there is that of the resource
-    pub there : Some x ≡ cell_at r cs
-    there = ap Some (sym same-read) ∙ sym at.found
+    pub there : Some x ≡ cell_at r t.entries
+    there =
+        let es = zip a.keys.used a.cells.items in
+        let at = slice_get-get_or a.cells.items i x cell-within ∙ ap Some (sym read) in
+        sym ((Found-position (same_path r) es i named).value ∙ (slice_get-map (λ (p : List ℕ × Cell). p.1) es i ∙ ap (option_map (λ (p : List ℕ × Cell). p.1)) (entry a.cells.items x at)))
+        ∙ ap (λ (s : Table). cell_at r s.entries) e
 
-    module _ (c : Cell) where
-      -- the entry at the place has the cell that is written
-      pub written-entry : slice_get (zip rs (set xs i c)) i ≡ Some (r, c)
-      written-entry = slice_get-zip_some rs (set xs i c) i r c (resource-at rs xs i r at.cell here) (set-there xs i c cell-within)
+  module _ (c : Cell) where
+    -- the entry at the place has the cell that is written
+    pub written-entry : slice_get (zip a.keys.used (set a.cells.items i c)) i ≡ Some (r, c)
+    written-entry = entry (set a.cells.items i c) c (set-there a.cells.items i c cell-within)
 
-      -- the cell that is written there is that of the entry
-      pub written-cell : (q : List ℕ) (y : Cell) → slice_get (zip rs (set xs i c)) i ≡ Some (q, y) → c ≡ y
-      written-cell q y h = same-cell r q c y (sym written-entry ∙ h)
+    -- the cell that is written there is that of the entry
+    pub written-cell : (q : List ℕ) (y : Cell) → slice_get (zip a.keys.used (set a.cells.items i c)) i ≡ Some (q, y) → c ≡ y
+    written-cell q y h = same-cell r q c y (sym written-entry ∙ h)
 
-      module _ (apart : IsDistinct same_path rs) (long : length rs ≤ length xs) where
-        -- it is then the cell of the resource, and all others have theirs
-        pub wrote : (q : List ℕ) → cell_at q (zip rs (set xs i c)) ≡ cond (same_path r q) (Some c) (cell_at q cs)
-        wrote q =
-            ap (cell_at q) (beside-written rs xs i c)
-            ∙ (cell-set (zip rs xs) r at.cell c i (subst (IsDistinct same_path) (sym (keys-beside rs xs long)) apart) here q
-            ∙ ap (λ (es : Cells). cond (same_path r q) (Some c) (cell_at q es)) e)
+    -- it is then the cell of the resource, and all others have theirs
+    pub wrote : (q : List ℕ) → cell_at q (zip a.keys.used (set a.cells.items i c)) ≡ cond (same_path r q) (Some c) (cell_at q t.entries)
+    wrote q =
+        let es = zip a.keys.used a.cells.items in
+        ap (cell_at q) (beside-written a.keys.used a.cells.items i c ∙ sym (insert_entry-first same_path r c es i (Found-position (same_path r) es i named).first))
+        ∙ (cell-inserted es r c q ∙ ap (λ (s : Table). cond (same_path r q) (Some c) (cell_at q s.entries)) e)
 
-        -- so the view of the resource is that of the cell written there, and the others are unchanged
-        pub wrote-kept : (v : View) → AreKeptCells cs → IsKeptCell c → view_of c ≡ v → CellsBecame r v cs (zip rs (set xs i c))
-        wrote-kept v k kept h = became-view r (view_of c) v cs _ h (became same_path (λ a b. refl) r (Some c) cs _ k kept wrote)
+    -- so the view of the resource is that of the cell written there, and the others are unchanged
+    pub wrote-kept : (v : View) → AreKeptCells t.entries → IsKeptCell c → view_of c ≡ v → CellsBecame r v t.entries (zip a.keys.used (set a.cells.items i c))
+    wrote-kept v k kept h = became-view r (view_of c) v t.entries _ h (became r (Some c) t.entries _ k kept wrote)

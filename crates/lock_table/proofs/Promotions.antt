@@ -8,7 +8,7 @@ use Rattle.lock_table.specs.inner.Cells.{View, IsOnce}
 use Rattle.lock_holders.specs.SessionModes.{has_session}
 use Rattle.lock_table.specs.inner.Requests.{wanted_in}
 use Rattle.lock_table.specs.inner.Lockers.{Standing, standing_of, standings_of, standing_at, is_wanted, standing_after_grant, AreSameOrGranted, DoAgree}
-use Rattle.lock_holders.specs.Ended.{EndedView, is_ended}
+use Rattle.lock_holders.specs.Woken.{WokenListView, is_ended}
 use Rattle.lock_table.specs.inner.Ended.{DoNoteEnded}
 use Rattle.lock_table.proofs.EndedWaits.{list-granted}
 use Rattle.lock_table.proofs.ResourceViews.{IsNext, next-waits}
@@ -52,7 +52,7 @@ module _ (r : List ℕ) (v w : View) (c : SessionMode) (lockers : List Locker) (
       grant-same old h = subst (AreSameOrGranted r old) (sym grant-lockers) (same-next r old (standings_of lockers) c.session long grant-waits h)
 
       -- and its session is listed
-      pub grant-waits_ended : (a b : EndedView) → length b.places ≡ length a.places → ((u : ℕ) → is_ended b u ≡ (is_ended a u || eqb u c.session)) → DoNoteEnded 0 lockers (set lockers i new) a b
+      pub grant-waits_ended : (a b : WokenListView) → length b.places ≡ length a.places → ((u : ℕ) → is_ended b u ≡ (is_ended a u || eqb u c.session)) → DoNoteEnded 0 lockers (set lockers i new) a b
       grant-waits_ended a b sized adds = list-granted c.session lockers new a b (grant-within next) (wanted-some (standing_at c.session (standings_of lockers)).wanted grant-waits) (ap (λ (x : Standing). is_some x.wanted) e) sized adds
         where
           wanted-some : (o : Option (List ℕ)) → is_wanted r o ≡ true → is_some o ≡ true

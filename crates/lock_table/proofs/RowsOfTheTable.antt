@@ -14,14 +14,14 @@ use Rattle.lock_rules.specs.Waits.{doom}
 use Rattle.lock_rules.specs.Step.{restarted}
 use Rattle.lock_rules.proofs.Lists.{same_path-refl, same_path-true, same_path_tells}
 use Rattle.lock_table.specs.declared.table.LockTable.{LockTable}
-use Rattle.lock_table.specs.declared.waits.Waits.{Waits}
+use Rattle.lock_table.specs.declared.wait_graph.Waits.{Waits}
 use Rattle.lock_holders.specs.declared.session_mode.SessionMode.{SessionMode}
 use Rattle.lock_table.specs.inner.Cells.{View}
 use Rattle.lock_holders.specs.SessionModes.{has_session, mode_of, is_nobody}
 use Rattle.lock_table.specs.inner.Lockers.{Standing, standing_at, is_wanted, no_standing}
 use Rattle.lock_table.specs.Changes.{view_at, standings, standing, IsWhole, IsSameSeen}
 use Rattle.lock_table.specs.inner.Blocking.{target_blocks, view_blocks, blocks_at, blocks, IsSizedFor, AreWritten, IsWritten, DoFollow}
-use Rattle.lock_holders.specs.Ended.{EndedView}
+use Rattle.lock_holders.specs.Woken.{WokenListView}
 use Rattle.lock_table.specs.Ready.{IsReadyTable}
 use Rattle.lock_table.proofs.SessionsInRange.{numbered-whole, once-at}
 use Rattle.lock_table.proofs.WritingWaits.{blocks-none}
@@ -151,7 +151,7 @@ pub ready-same : (d e : LockTable) → IsSameSeen d e → vec_len e.lockers ≡ 
 ready-same d e same len waits k = record {
   long = ap (λ (x : Waits). x.rows.sessions) waits ∙ (k.long ∙ sym len);
   ready = subst (λ (x : Waits). IsSizedFor x.rows.sessions x) (sym waits) k.ready;
-  waits_ended = ap (λ (v : EndedView). length v.places) same.ended ∙ (k.waits_ended ∙ sym len);
+  waits_ended = ap (λ (v : WokenListView). length v.places) same.ended ∙ (k.waits_ended ∙ sym len);
   filled = record {
     pairs = λ a b. ap (λ (x : Waits). pairs_of x.rows a b) waits ∙ (k.filled.pairs a b ∙ sym (blocks-same (a + 1) (b + 1)));
     numbers = λ a. ap (λ (x : Waits). slice_index_or x.numbers.items a 0) waits ∙ (k.filled.numbers a ∙ sym (ap (λ (ss : List Standing). number_in (standing_at (a + 1) ss).transaction) same.standings_same));

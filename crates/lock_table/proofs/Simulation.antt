@@ -39,9 +39,10 @@ use Rattle.lock_table.proofs.LockCounts.{waits-told, locks-told}
 use Rattle.lock_rules.proofs.Sound.{under-parent}
 use Rattle.session_locks.specs.LockLists.{has_child, IsUnder}
 use Rattle.session_locks.proofs.ChildCounts.{child-path, path-child}
-use Rattle.lock_table.proofs.Children.{child-there, there-child, child-below, held-child, both-ways}
+use Rattle.lock_table.proofs.Children.{child-there, there-child, child-below, held-child}
 use Rattle.lock_table.proofs.AfterRelease.{released-seen}
 use Rattle.lock_table.proofs.AfterStep.{ended-seen, granted-seen, first_state, first-seen, cancelled-seen}
+use Rattle.lock_rules.proofs.Ranges.{both-ways}
 
 -- tests: what the lockers and the cells say is what the state says
 

@@ -15,7 +15,7 @@ use Rattle.lock_rules.proofs.Victims.{victim-most, one-victim}
 use Rattle.lock_rules.proofs.Owners.{victim-numbered}
 use Rattle.lock_holders.specs.declared.session_mode.SessionMode.{SessionMode}
 use Rattle.lock_table.specs.declared.table.LockTable.{LockTable}
-use Rattle.lock_table.specs.declared.waits.Waits.{Waits}
+use Rattle.lock_table.specs.declared.wait_graph.Waits.{Waits}
 use Rattle.lock_holders.specs.SessionModes.{mode_of, has_session}
 use Rattle.lock_table.specs.Changes.{view_at, standings, standing, view_after_cancel, IsWhole, DoesKeep, MayServe, HasDoomed}
 use Rattle.lock_table.specs.inner.Blocking.{blocks, blocks_at, target_blocks, IsCurrent}

@@ -21,7 +21,7 @@ use Rattle.lock_holders.specs.SessionModes.{has_session, mode_of}
 use Rattle.session_locks.specs.Resources.{has_path}
 use Rattle.session_locks.specs.LockLists.{has_child, IsUnder}
 use Rattle.lock_table.specs.inner.Lockers.{Standing, standings_of, standing_at, DoAgree}
-use Rattle.lock_holders.specs.Ended.{EndedView}
+use Rattle.lock_holders.specs.Woken.{WokenListView}
 use Rattle.lock_table.specs.inner.Ended.{DoNoteEnded}
 use Rattle.lock_table.specs.Ready.{IsReadyTable}
 
@@ -39,7 +39,7 @@ abbrev pub standing : ℕ → LockTable → Standing
 standing s d = standing_at s (standings d)
 
 -- the lock table with another list of ended waits
-abbrev pub with_ended : EndedView → LockTable → LockTable
+abbrev pub with_ended : WokenListView → LockTable → LockTable
 with_ended v d = record { count = d.count; lockers = d.lockers; cells = d.cells; waits = d.waits; ended = v }
 
 -- the lock table with `n` sessions listed, those at the front

@@ -18,18 +18,14 @@ mod resource_keys;
 use crate::cells::{Cell, GivenUp, RequestStatus};
 use crate::lockers::Locker;
 use crate::promotion::promote;
-use crate::waits::{Waits, follow_give_up, update_rows};
-use indexmap::IndexSet;
-use lock_holders::{EndedWaits, SessionMode};
+use crate::wait_graph::{Waits, follow_give_up, update_rows};
+use lock_holders::{SessionMode, WokenList};
 use lock_modes::Mode;
-use lock_tree::{Resource, same_path_is_equality};
-use resource_keys::{drop_provisional, insert_key, is_at};
-use session_locks::{Seeded, sort_resources};
+use lock_tree::Resource;
+use resource_keys::ResourceKeys;
+use session_locks::sort_resources;
 use std::alloc::{AllocError, Global};
 use std::marker::Model;
-
-/// Resources, each with a place.
-type Resources = IndexSet<Resource, Seeded>;
 
 /// The cells, each with the resource that it belongs to. Contracts see the cells in use: those of the resources that
 /// are held or waited for.
@@ -47,14 +43,10 @@ type Resources = IndexSet<Resource, Seeded>;
 #[derive(Drop)]
 pub struct CellTable {
     /// The resources whose cells are in use, and behind them the provisional key, if there is one.
-    resources: Resources,
+    keys: ResourceKeys,
     /// The cell of each resource in use, at the same index. The cells behind those in use are idle, and keep the
     /// memory of their lists.
     cells: Vec<Cell>,
-    /// Whether the last key is provisional: a lock has looked for this resource, which has no cell in use so far. If
-    /// the lock is granted at once, the key needn't be looked for again. If not, the next look-up for a lock removes
-    /// the key, or the next removal of a cell.
-    has_provisional: bool,
 }
 
 impl Model for CellTable {
@@ -116,9 +108,8 @@ impl CellTable {
         ensures { result.entries ≡ [] }
     {
         CellTable {
-            resources: IndexSet::with_hasher(alloc, Seeded::new(seed)),
+            keys: ResourceKeys::new(alloc, seed),
             cells: Vec::new(alloc),
-            has_provisional: false,
         }
     }
 
@@ -127,8 +118,7 @@ impl CellTable {
     pub(crate) fn reserve(&mut self, more: usize) -> Result<(), AllocError>
         ensures same { self.new ≡ self.old }
     {
-        drop_provisional(&mut self.resources, &mut self.has_provisional);
-        self.resources.reserve(more)?;
+        self.keys.reserve(more)?;
         self.cells.reserve(more)
     }
 
@@ -136,38 +126,21 @@ impl CellTable {
     pub(crate) fn shrink(&mut self)
         ensures same { self.new ≡ self.old }
     {
-        drop_provisional(&mut self.resources, &mut self.has_provisional);
-        self.resources.shrink_to_fit();
-        self.cells.truncate(self.resources.len());
+        self.keys.shrink();
+        self.cells.truncate(self.keys.len());
         self.cells.shrink_to_fit();
     }
 
     /// The number of cells that aren't in use, and keep their memory.
     pub(crate) fn idle(&self) -> usize {
-        self.cells.len().saturating_sub(self.len())
-    }
-
-    /// The number of cells in use.
-    fn len(&self) -> usize
-        ensures { result ≡ length self.now.entries }
-    {
-        let all = self.resources.len();
-        if self.has_provisional {
-            return all.saturating_sub(1);
-        }
-        all
+        self.cells.len().saturating_sub(self.keys.len())
     }
 
     /// The resources of the cells in use, in the order of resources. Fails if memory is refused.
     pub(crate) fn resources(&self, alloc: Global) -> Result<Vec<Resource>, AllocError>
         ensures { IfOk result (λ list. list.items ≡ in_order (keys_of self.now.entries)) }
     {
-        same_path_is_equality();
-        // Called for its contract: no key is in the set twice.
-        let _len = self.resources.len();
-        let used = self.len();
-        let keys = self.resources.as_slice();
-        let mut list = Vec::from_slice(alloc, &keys[..used])?;
+        let mut list = Vec::from_slice(alloc, self.keys.as_slice())?;
         sort_resources(&mut list);
         Ok(list)
     }
@@ -183,57 +156,37 @@ impl CellTable {
     }
 
     /// The place of the cell of `resource`, if it has one.
+    #[inline(always)]
     pub(crate) fn place_of(&self, resource: Resource) -> Option<usize>
         ensures { IsPlace resource self.now.entries result }
     {
-        same_path_is_equality();
-        // Called for its contract: no key is in the set twice.
-        let _len = self.resources.len();
-        match self.resources.get_index_of(&resource) {
-            Some(place) if place < self.len() => Some(place),
-            _ => None,
-        }
+        self.keys.place_of(resource)
     }
 
     /// Like `place_of`, for a lock. If `resource` has no cell, it becomes the provisional key, for which the set may grow. Where memory is
     /// refused for that, it doesn't.
+    #[inline(always)]
     pub(crate) fn find_or_insert_key(&mut self, resource: Resource) -> Option<usize>
         ensures place { IsPlace resource self.old.entries result }
         ensures same { self.new ≡ self.old }
     {
-        same_path_is_equality();
-        drop_provisional(&mut self.resources, &mut self.has_provisional);
-        // Called for its contract: no key is in the set twice.
-        let _len = self.resources.len();
-        let Ok((place, added)) = self.resources.insert_full(resource) else {
-            return self.place_of(resource);
-        };
-        if added {
-            self.has_provisional = true;
-            return None;
-        }
-        Some(place)
+        self.keys.find_or_insert(resource)
     }
 
     /// Like `place_of`, but looks at the place `likely` first.
+    #[inline(always)]
     pub(crate) fn place_near(&self, likely: usize, resource: Resource) -> Option<usize>
         ensures { IsPlace resource self.now.entries result }
     {
-        same_path_is_equality();
-        // Called for its contract: no key is in the set twice.
-        let _len = self.resources.len();
-        if likely < self.len() && is_at(&self.resources, likely, resource) {
-            return Some(likely);
-        }
-        self.place_of(resource)
+        self.keys.place_near(likely, resource)
     }
 
-    /// `place`, or the place of the last key if there is none. After `ask` has added a cell, that is the place of
+    /// `place`, or the place of the last key if there is none. After `ask_cell` has added a cell, that is the place of
     /// the new cell.
     pub(crate) fn place_or_last(&self, place: Option<usize>) -> usize {
         match place {
             Some(place) => place,
-            None => self.resources.len().saturating_sub(1),
+            None => self.keys.len().saturating_sub(1),
         }
     }
 
@@ -270,13 +223,11 @@ impl CellTable {
             self.old.entries self.new.entries) }
         ensures err { OnErr result (self.new ≡ self.old) }
     {
-        same_path_is_equality();
-        insert_key(&mut self.resources, &mut self.has_provisional, resource)?;
-        let place = self.resources.len() - 1;
+        let place = self.keys.len();
         ensure_cell(&mut self.cells, place)?;
+        self.keys.add(resource)?;
         let cell = &mut self.cells[place];
         cell.set_first_holder(holder);
-        self.has_provisional = false;
         Ok(())
     }
 
@@ -287,10 +238,7 @@ impl CellTable {
         ensures gone { (r : List ℕ) (c : CellValue) → slice_get self.old.entries place ≡ Some (r, c)
             → (q : List ℕ) → cell_at q self.new.entries ≡ (if same_path r q then None else cell_at q self.old.entries) }
     {
-        same_path_is_equality();
-        drop_provisional(&mut self.resources, &mut self.has_provisional);
-        let last = self.resources.len() - 1;
-        let _gone = self.resources.swap_remove_index(place);
+        let last = self.keys.swap_remove(place);
         self.cells.swap(place, last);
     }
 
@@ -299,7 +247,7 @@ impl CellTable {
     /// `place` is the place of the cell. Without a cell, adds one, with the session as its first holder. If memory
     /// is refused, holders, queues and rows are unchanged.
     #[inline(always)]
-    pub(crate) fn ask(
+    pub(crate) fn ask_cell(
         &mut self,
         place: Option<usize>,
         resource: Resource,
@@ -320,11 +268,8 @@ impl CellTable {
             OnOk result (DoFollow before (view_after_asking asker before) waits.old waits.new) }
         ensures unwritten { OnErr result (waits.new ≡ waits.old) }
     {
-        same_path_is_equality();
         match place {
             Some(place) => {
-                // Called for its contract: no key is in the set twice.
-                let _len = self.resources.len();
                 let cell = &mut self.cells[place];
                 let status = cell.ask(asker)?;
                 update_rows(waits, cell, asker, status);
@@ -345,7 +290,7 @@ impl CellTable {
         &mut self,
         lockers: &mut Vec<Locker>,
         waits: &mut Waits,
-        ended: &mut EndedWaits,
+        ended: &mut WokenList,
         place: Option<usize>,
         given: GivenUpClaim,
     )
@@ -369,12 +314,9 @@ impl CellTable {
         ensures rows { let before = cell_view given.resource self.old.entries in
             DoFollow before (view_after_freeing given.claim given.session before) waits.old waits.new }
     {
-        same_path_is_equality();
         let Some(place) = place else {
             return;
         };
-        // Called for its contract: no key is in the set twice.
-        let _len = self.resources.len();
         let cell = &mut self.cells[place];
         follow_give_up(waits, cell, given.session, given.claim);
         cell.give_up(given.session, given.claim);

@@ -4,7 +4,7 @@
 //! - `table.rt`, `table/`: all cells, all lockers and the waits-for graph. `calls.rt` serves each kind of call; `deadlocks.rt` dooms victims,
 //!   and tells each deadlock to the `DeadlockNotes` that come with the call.
 //! - A cell has the holders and the queue of a resource (`cells.rt`), a locker the transaction, request and locks of a session
-//!   (`lockers.rt`), `waits.rt` keeps the graph; `promotion.rt` and `cell_table.rt` change all three.
+//!   (`lockers.rt`), `wait_graph.rt` keeps the graph; `promotion.rt` and `cell_table.rt` change all three.
 //!
 //! Proved: each reply is that of the step in the state that the table shows, and the table shows the state after it; a call whose memory
 //! is refused changes nothing that contracts see. Only tested: that memory follows the resources in use, and that the fast ways are taken.
@@ -17,7 +17,7 @@ mod graph_copy;
 mod lockers;
 mod promotion;
 mod table;
-mod waits;
+mod wait_graph;
 
 pub use deadlock_notes::DeadlockNotes;
 pub use graph_copy::GraphCopy;

@@ -19,7 +19,7 @@ use std::alloc::{AllocError, Global};
 
 /// A waiting request.
 #[derive(Clone, Copy, Debug, PartialEq, Eq)]
-pub enum Request {
+pub enum LockRequest {
     /// For a lock on a resource that the session doesn't hold.
     Fresh(Resource),
     /// For a higher mode on a resource that the session holds.
@@ -46,7 +46,7 @@ pub struct Locker {
     /// The resources that the session holds outright. The modes are in the cells.
     held: Locks,
     /// The waiting request of the session, if it has one.
-    wanted: Option<Request>,
+    wanted: Option<LockRequest>,
     /// Where the cell of the next lock's parent may be.
     parent_hint: ParentHint,
     ghost apart: { AreApart held.items } by { AreApart-prop held.items },
@@ -65,11 +65,11 @@ pub struct ParentHint {
 }
 
 /// The resource of the request.
-fn resource_of(request: Request) -> Resource
+fn resource_of(request: LockRequest) -> Resource
     ensures { result ≡ resource_asked request }
 {
     match request {
-        Request::Fresh(resource) | Request::Conversion(resource) => resource,
+        LockRequest::Fresh(resource) | LockRequest::Conversion(resource) => resource,
     }
 }
 
@@ -120,10 +120,10 @@ fn restarted(transaction: Option<Transaction>) -> Option<Transaction>
 }
 
 /// Whether a request waits that is no conversion.
-fn is_fresh(wanted: Option<Request>) -> bool
+fn is_fresh(wanted: Option<LockRequest>) -> bool
     ensures { result ≡ is_fresh wanted }
 {
-    matches!(wanted, Some(Request::Fresh(_)))
+    matches!(wanted, Some(LockRequest::Fresh(_)))
 }
 
 impl Locker {
@@ -286,7 +286,7 @@ impl Locker {
     }
 
     /// Makes `request` the waiting request. For a fresh one there must be room for the lock.
-    pub(crate) fn wait_for(&mut self, request: Request)
+    pub(crate) fn wait_for(&mut self, request: LockRequest)
         requires kind { IsOfKind (Some request) self.old.held.items }
         requires under { IsComingUnder (Some request) self.old.held.items }
         requires few { length self.old.held.items + locks_to_come (Some request) ≤ MAX_LOCKS }

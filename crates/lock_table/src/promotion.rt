@@ -9,8 +9,8 @@ ghost use Rattle.lock_table.specs.inner.Ended.{DoNoteEnded};
 
 use crate::cells::Cell;
 use crate::lockers::Locker;
-use crate::waits::{Waits, clear_queue_rows, follow_grants, write_queue_rows};
-use lock_holders::{EndedWaits, position_of};
+use crate::wait_graph::{Waits, clear_queue_rows, follow_grants, write_queue_rows};
+use lock_holders::{WokenList, position_of};
 use lock_tree::Resource;
 
 /// After more grants than this at once, the rows of all requests that are left are written anew.
@@ -49,7 +49,7 @@ pub(crate) fn promote(
     resource: Resource,
     lockers: &mut Vec<Locker>,
     waits: &mut Waits,
-    ended: &mut EndedWaits,
+    ended: &mut WokenList,
 )
     requires room { HasRoom cell.old }
     requires once { IsOnce (view_of cell.old) }

@@ -10,7 +10,7 @@ ghost use Rattle.lock_table.specs.declared.cells.GivenUp.TheVariants as claim;
 ghost use Rattle.session_locks.specs.LockLists.{has_child};
 ghost use Rattle.lock_table.specs.inner.Lockers.{standing_of};
 ghost use Rattle.lock_table.specs.Changes.{view_at, standing, with_ended_count, IsWhole, DoesKeep, MayServe, IsSession, mode_held, CanRelease, HasFreed, HasGivenBack, HasGivenBackAll, HasCancelled, HasBegun, HasEnded, HasNotedEnded};
-ghost use Rattle.lock_holders.specs.Ended.{is_ended};
+ghost use Rattle.lock_holders.specs.Woken.{is_ended};
 ghost use Rattle.lock_table.specs.inner.Ended.{waits_at};
 ghost use Rattle.lock_table.specs.Noting.{AreChosen, IsCopyFor};
 ghost use Rattle.lock_table.specs.Ready.{IsReadyTable};
@@ -30,8 +30,8 @@ use crate::cell_table::{CellTable, GivenUpClaim};
 use crate::cells::GivenUp;
 use crate::graph_copy::GraphCopy;
 use crate::lockers::Locker;
-use crate::waits::{Waits, count_victims, edges, has_edge, new_waits, set_number};
-use lock_holders::{EndedWaits, position_of};
+use crate::wait_graph::{Waits, count_victims, edges, has_edge, new_waits, set_number};
+use lock_holders::{WokenList, position_of};
 use lock_modes::Mode;
 use lock_rules::{MAX_LOCKS, MAX_SESSIONS, Reply};
 use lock_tree::Resource;
@@ -49,7 +49,7 @@ use waits_for::Rows;
 ///  ├── cells: CellTable       a cell for each resource that is held or waited for
 ///  ├── lockers[session - 1]   a session's transaction, locks and request
 ///  ├── waits: Waits           the waits-for graph, and each transaction's number
-///  └── ended: EndedWaits      whose wait the last call or batch has ended
+///  └── ended: WokenList       whose wait the last call or batch has ended
 /// ```
 ///
 /// It shows the state that the history leads to (`specs/Shows.antt`). Locks are kept twice, by resource and by session: by cells alone, a
@@ -66,7 +66,7 @@ pub struct LockTable {
     /// The waits-for graph, and the number of each open transaction.
     waits: Waits,
     /// The sessions whose wait a call of another session has ended, since the list was cleared. None is listed twice.
-    ended: EndedWaits,
+    ended: WokenList,
 }
 
 impl LockTable {
@@ -82,7 +82,7 @@ impl LockTable {
         ensures none { IfOk result (λ lock_table. lock_table.ended.count ≡ 0) }
     {
         let waits = new_waits(alloc, sessions)?;
-        let ended = EndedWaits::new(alloc, sessions)?;
+        let ended = WokenList::new(alloc, sessions)?;
         let mut lockers = Vec::new(alloc);
         for _locker in 0..sessions {
             lockers.push(Locker::new(alloc, seed))?;

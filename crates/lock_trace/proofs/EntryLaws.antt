@@ -13,8 +13,7 @@ use Rattle.lock_trace.specs.declared.faults.TraceKind.TheVariants as kind
 use Rattle.lock_rules.specs.declared.kinds.ReplyKind.{ReplyKind}
 use Rattle.lock_rules.specs.declared.kinds.ReplyKind.TheVariants as reply_kind
 use Rattle.lock_trace.specs.declared.trace_row.TraceRow.{TraceRow}
-use Rattle.lock_rules.specs.Kinds.{kind_of_reply}
-use Rattle.lock_trace.specs.Words.{word_of_reply}
+use Rattle.lock_rules.specs.Kinds.{kind_of_reply, word_of_reply}
 use Rattle.lock_trace.specs.Fields.{place_in, reply_kind_in, or_value, number_in, granted_in, mode_in, why_in, max_u64, max_u32}
 use Rattle.lock_trace.specs.Rows.{fields_of_row, row_in, ◌>>=◌}
 use Rattle.lock_trace.specs.Tests.{field_of}
@@ -244,15 +243,3 @@ seven n place (a ∷ b ∷ c ∷ d ∷ e ∷ []) len = absurd (omega (arith, len
 seven n place (a ∷ b ∷ c ∷ d ∷ e ∷ f ∷ []) len = absurd (omega (arith, len))
 seven n place (a ∷ b ∷ c ∷ d ∷ e ∷ f ∷ g ∷ []) len = refl
 seven n place (a ∷ b ∷ c ∷ d ∷ e ∷ f ∷ g ∷ h ∷ hs) len = absurd (omega (arith, len))
-
--- A record that does not have seven fields has the fault Shape.
-pub not_seven : (n place : ℕ) (fs : List (List ℕ)) → (length fs ≡ 7 → ⊥) → Err kind.Shape ≡ entry_of n place fs
-not_seven n place [] no_more = refl
-not_seven n place (a ∷ []) no_more = refl
-not_seven n place (a ∷ b ∷ []) no_more = refl
-not_seven n place (a ∷ b ∷ c ∷ []) no_more = refl
-not_seven n place (a ∷ b ∷ c ∷ d ∷ []) no_more = refl
-not_seven n place (a ∷ b ∷ c ∷ d ∷ e ∷ []) no_more = refl
-not_seven n place (a ∷ b ∷ c ∷ d ∷ e ∷ f ∷ []) no_more = refl
-not_seven n place (a ∷ b ∷ c ∷ d ∷ e ∷ f ∷ g ∷ []) no_more = absurd (no_more refl)
-not_seven n place (a ∷ b ∷ c ∷ d ∷ e ∷ f ∷ g ∷ h ∷ hs) no_more = refl

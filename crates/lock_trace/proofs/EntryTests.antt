@@ -14,7 +14,7 @@ use Rattle.lock_rules.specs.declared.kinds.ReplyKind.{ReplyKind}
 use Rattle.lock_rules.specs.declared.kinds.ReplyKind.TheVariants as reply_kind
 use Rattle.lock_modes.specs.declared.TheConstants.{MODES}
 use Rattle.lock_rules.specs.declared.kinds.TheConstants.{REPLY_KINDS, REFUSALS}
-use Rattle.lock_trace.specs.Words.{word_of_reply}
+use Rattle.lock_rules.specs.Kinds.{word_of_reply}
 use Rattle.lock_trace.specs.Fields.{place_in, reply_kind_in, or_value, number_in, granted_in, mode_in, why_in, max_u64, max_u32}
 use Rattle.lock_trace.specs.Rows.{row_in, ◌>>=◌}
 use Rattle.lock_trace.specs.Entries.{IsEntry, value_in, reply_in, with_reply, entry_in, entry_of}

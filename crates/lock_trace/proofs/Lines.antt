@@ -1,5 +1,5 @@
 -- A resource is written number by number, a line field by field, and a history line by line.
-use Rattle.std.proofs.Common.{◌≡◌, ℕ, zero, suc, ◌+◌, ◌<◌, ◌≤◌, List, [], ◌∷◌, ◌++◌, length, take, take-suc, take_all, get_or, refl, ap, sym, ◌∙◌, append_assoc, add-one, length-take, arith, rules}
+use Rattle.std.proofs.Common.{◌≡◌, ℕ, ◌+◌, ◌<◌, ◌≤◌, List, [], ◌∷◌, ◌++◌, length, take, take-suc, take_all, get_or, refl, ap, sym, ◌∙◌, append_assoc, add-one, length-take, arith, rules}
 use Rattle.std.specs.Prelude.{decimal}
 use Rattle.std.proofs.lemmas.List.{append-nil}
 use Rattle.lock_tree.specs.Text.{text_of}
@@ -16,13 +16,6 @@ text_push (x ∷ []) y some = refl
 text_push (x ∷ z ∷ xs) y some =
     ap (λ (t : List ℕ). decimal x ++ (47 ∷ t)) (text_push (z ∷ xs) y (omega arith))
     ∙ sym (append_assoc (decimal x) (47 ∷ text_of (z ∷ xs)) (47 ∷ decimal y))
-
--- The first number of a path is its decimal text.
-pub first_number : (r old out out2 : List ℕ) (i : ℕ) → i ≤ 0 → i < length r → out ≡ old ++ text_of (take i r) → out2 ≡ out ++ decimal (get_or r i 0) → out2 ≡ old ++ text_of (take (i + 1) r)
-first_number r old out out2 zero none lt so_far more =
-    let one : take 1 r ≡ get_or r 0 0 ∷ [] = take-suc r 0 0 lt in
-    more ∙ ap (λ (t : List ℕ). t ++ decimal (get_or r 0 0)) (so_far ∙ append-nil old) ∙ ap (λ (xs : List ℕ). old ++ text_of xs) (sym one)
-first_number r old out out2 (suc i) none lt so_far more = absurd (omega arith)
 
 -- After a `/` and the next number, the path so far is one number longer.
 pub next_number : (r old out mid out2 : List ℕ) (i : ℕ) → 0 < i → i < length r → out ≡ old ++ text_of (take i r) → mid ≡ out ++ (47 ∷ []) → out2 ≡ mid ++ decimal (get_or r i 0) → out2 ≡ old ++ text_of (take (i + 1) r)
@@ -91,7 +84,3 @@ lines_append first (e ∷ front) rest =
 -- Taking as many entries as there are, or more, takes all.
 pub take_every : (es : List Entry) (i : ℕ) → length es ≤ i → take i es ≡ es
 take_every es i le = search (rules, take_all)
-
--- Taking as many numbers as there are, or more, takes all.
-pub take_all_numbers : (r : List ℕ) (i : ℕ) → length r ≤ i → take i r ≡ r
-take_all_numbers r i le = search (rules, take_all)

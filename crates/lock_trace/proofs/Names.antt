@@ -20,7 +20,7 @@ use Rattle.lock_rules.specs.declared.kinds.Op.{Op}
 use Rattle.lock_rules.specs.declared.kinds.ReplyKind.{ReplyKind}
 use Rattle.lock_modes.specs.declared.TheConstants.{MODES}
 use Rattle.lock_rules.specs.declared.kinds.TheConstants.{OPS, REPLY_KINDS, REFUSALS}
-use Rattle.lock_trace.specs.Words.{word_of, word_of_reply}
+use Rattle.lock_rules.specs.Kinds.{word_of, word_of_reply}
 use Rattle.lock_trace.specs.Fields.{find_named, op_in, mode_in, reply_kind_in, why_in}
 
 -- The field is the name of no item.
@@ -90,24 +90,6 @@ ascii_by_test (b ∷ bs) e =
 -- A list of bytes below 128 is UTF-8.
 pub is_text : (bs : List ℕ) → list_all (λ b. nat_lt b 128) bs ≡ true → is_utf8 bs ≡ true
 is_text bs e = is_utf8-from_IsUtf8 bs (IsUtf8-from_ascii bs (ascii_by_test bs e))
-
--- The names of modes are UTF-8.
-mode_text : (m : Mode) → is_utf8 (name_of m) ≡ true
-mode_text NL = is_text _ refl
-mode_text IS = is_text _ refl
-mode_text IX = is_text _ refl
-mode_text S = is_text _ refl
-mode_text SIX = is_text _ refl
-mode_text U = is_text _ refl
-mode_text X = is_text _ refl
-
--- A field that is no mode's name has the fault Mode.
-pub no_mode : (bs : List ℕ) → ((m : Mode) → bs ≡ name_of m → ⊥) → mode_in bs ≡ Err kind.Mode
-no_mode bs none = named_none name_of kind.Mode MODES bs (none NL, (none IS, (none IX, (none S, (none SIX, (none U, (none X, tt)))))))
-
--- A field that is not UTF-8 has the fault Mode.
-pub no_text_no_mode : (bs : List ℕ) → is_utf8 bs ≡ false → mode_in bs ≡ Err kind.Mode
-no_text_no_mode bs not = no_mode bs (λ m e. let is : is_utf8 bs ≡ true = ap is_utf8 e ∙ mode_text m in let bad : true ≡ false = sym is ∙ not in cc)
 
 -- The field of a kind of reply is its word.
 pub reply_word_is : (bs : List ℕ) (w : ReplyKind) → reply_kind_in bs ≡ Ok w → bs ≡ word_of_reply w

@@ -1,7 +1,7 @@
 -- What one read of a text with comments consumes of the text without them.
-use Rattle.std.proofs.Common.{rules, arith, ap, ap₂, sym, refl, subst, ◌≡◌, ◌∙◌, ◌++◌, ◌+◌, ◌-◌, ◌<◌, ◌≤◌, min, ℕ, Bool, true, false, List, [], Option, Some, None, length, take, drop, option_map, if◌then◌else◌, length-append, length-drop, length-take}
+use Rattle.std.proofs.Common.{rules, arith, ap, sym, subst, ◌≡◌, ◌∙◌, ◌++◌, ◌+◌, ◌-◌, ◌<◌, ◌≤◌, ℕ, List, Option, Some, None, length, take, drop, option_map, length-append, length-drop, length-take}
 use lib.Seq.{take-append-le}
-use Rattle.std.specs.Io.KnownBytes.{Consumes, IsAtEnd, Keeps}
+use Rattle.std.specs.Io.KnownBytes.{Consumes, IsAtEnd}
 use Rattle.lock_trace.specs.declared.spot.Spot.{Spot}
 use Rattle.lock_trace.specs.Comments.{spot_after, without_comments_from}
 use Rattle.lock_trace.proofs.Skipped.{consumes_shown}
@@ -26,16 +26,3 @@ read_shown_once s now old new count kept read part within h same few shown behin
       λ none some. at_end_shown now new (h.1 none
           (omega (arith, none, some, within, same, length-take count read, length-drop count read, length-append part (drop count read)))),
     )
-
--- known bytes that lose none stay
-pub none_consumed : (old new : Option (List ℕ)) (n : ℕ) (bytes : List ℕ) → Consumes old new (take n bytes) → n ≡ 0 → Keeps old new
-none_consumed None new n bytes h is = search rules
-none_consumed (Some xs) None n bytes h is = absurd h
-none_consumed (Some xs) (Some ys) n bytes h is = sym (h ∙ ap (λ (m : ℕ). take m bytes ++ ys) is)
-
--- known bytes that stayed, and then lost some
-pub consumed_later : (a b c : Option (List ℕ)) (bytes : List ℕ) → Keeps a b → Consumes b c bytes → Consumes a c bytes
-consumed_later None b c bytes k h = search rules
-consumed_later (Some xs) None c bytes k h = absurd k
-consumed_later (Some xs) (Some ys) None bytes k h = absurd h
-consumed_later (Some xs) (Some ys) (Some zs) bytes k h = sym k ∙ h

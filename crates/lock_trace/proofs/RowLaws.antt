@@ -11,8 +11,8 @@ use Rattle.lock_trace.specs.declared.faults.TraceKind.{TraceKind}
 use Rattle.lock_trace.specs.declared.faults.TraceKind.TheVariants as kind
 use Rattle.lock_rules.specs.declared.kinds.Op.{Op}
 use Rattle.lock_rules.specs.declared.kinds.Op.TheVariants as op
+use Rattle.lock_rules.specs.Kinds.{word_of}
 use Rattle.lock_trace.specs.declared.trace_row.TraceRow.{TraceRow}
-use Rattle.lock_trace.specs.Words.{word_of}
 use Rattle.lock_trace.specs.Fields.{session_in, op_in, resource_in, mode_in}
 use Rattle.lock_trace.specs.Tests.{field_of}
 use Rattle.lock_trace.specs.Rows.{fields_of_call, fields_of_row, HasResources, IsRow, ◌>>=◌, without_fields, resource_and_mode_in, call_in, row_in, row_of}
@@ -185,12 +185,3 @@ four n (x ∷ y ∷ []) len = absurd (omega (arith, len))
 four n (x ∷ y ∷ z ∷ []) len = absurd (omega (arith, len))
 four n (x ∷ y ∷ z ∷ w ∷ []) len = refl
 four n (x ∷ y ∷ z ∷ w ∷ v ∷ vs) len = absurd (omega (arith, len))
-
--- A record that does not have four fields has the fault Shape.
-pub not_four : (n : ℕ) (fs : List (List ℕ)) → (length fs ≡ 4 → ⊥) → Err kind.Shape ≡ row_of n fs
-not_four n [] h = refl
-not_four n (x ∷ []) h = refl
-not_four n (x ∷ y ∷ []) h = refl
-not_four n (x ∷ y ∷ z ∷ []) h = refl
-not_four n (x ∷ y ∷ z ∷ w ∷ []) h = absurd (h refl)
-not_four n (x ∷ y ∷ z ∷ w ∷ v ∷ vs) h = refl

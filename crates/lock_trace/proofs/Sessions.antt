@@ -9,10 +9,6 @@ use Rattle.lock_trace.specs.declared.faults.TraceKind.{TraceKind}
 use Rattle.lock_trace.specs.declared.faults.TraceKind.TheVariants as kind
 use Rattle.lock_trace.specs.Fields.{above_zero, session_in, IsSessionText}
 
--- A number that was parsed is at most the limit.
-pub number_within : (n s : ℕ) (field : List ℕ) → n < 2 ^ 16 → reading_of_numeral n field ≡ Ok s → s ≤ n
-number_within n s field lt e = ((reading_iff field n s (omega (arith, lt))).0 e).0
-
 -- An `Ok` with the fault type fixed.
 abbrev ok : ℕ → Result ℕ TraceKind
 ok a = Ok a

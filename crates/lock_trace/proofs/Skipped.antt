@@ -1,5 +1,5 @@
 -- What is left of a text without comments, piece by piece and byte by byte.
-use Rattle.std.proofs.Common.{rules, arith, ap, ap₂, sym, refl, subst, ◌≡◌, ◌∙◌, ◌++◌, ◌+◌, ◌<◌, ◌≤◌, ℕ, suc, Bool, true, false, List, [], ◌∷◌, Option, Some, None, length, take, drop, slice_set, slice_index, option_map, if◌then◌else◌, append_assoc, append-nil, length-set, drop-set-lt}
+use Rattle.std.proofs.Common.{rules, arith, ap, ap₂, sym, refl, ◌≡◌, ◌∙◌, ◌++◌, ◌+◌, ◌<◌, ◌≤◌, ℕ, Bool, true, false, List, [], ◌∷◌, Option, Some, None, length, take, drop, slice_set, slice_index, option_map, if◌then◌else◌, append_assoc, append-nil, length-set, drop-set-lt}
 use Rattle.std.proofs.lemmas.List.{at_drop_more, at_drop_all, take_more_set}
 use Rattle.std.specs.Io.KnownBytes.{Consumes}
 use Rattle.lock_trace.specs.declared.spot.Spot.{Spot}
@@ -47,10 +47,6 @@ pub record KeptUpTo (spot : Spot) (before after : List ℕ) (kept at : ℕ) (now
   pub same_length : length after ≡ length before
   pub shown : take kept after ++ without_comments_from now (drop at after) ≡ without_comments_from spot before
   pub spot_is : spot_after now (drop at after) ≡ spot_after spot before
-
--- nothing is moved at first
-pub kept_none : (spot : Spot) (before : List ℕ) → KeptUpTo spot before before 0 0 spot
-kept_none spot before = record { order = omega arith; same_length = refl; shown = refl; spot_is = refl }
 
 -- a byte that is shown is moved to the front
 pub kept_one : (spot : Spot) (before after : List ℕ) (kept at : ℕ) (now : Spot) → KeptUpTo spot before after kept at now → at < length after

@@ -19,8 +19,7 @@ use Rattle.lock_rules.specs.declared.kinds.Op.TheVariants as op
 use Rattle.lock_trace.specs.declared.trace_row.TraceRow.{TraceRow}
 use Rattle.lock_modes.specs.declared.TheConstants.{MODES}
 use Rattle.lock_rules.specs.declared.kinds.TheConstants.{OPS}
-use Rattle.lock_rules.specs.Kinds.{ops_with_resource, ops_with_mode}
-use Rattle.lock_trace.specs.Words.{word_of}
+use Rattle.lock_rules.specs.Kinds.{ops_with_resource, ops_with_mode, word_of}
 use Rattle.lock_trace.specs.Fields.{find_named, above_zero, session_in, op_in, mode_in, resource_in, or_path}
 use Rattle.lock_trace.specs.Tests.{is_session, is_word_of, is_resource, path_fault_of, is_mode, is_extra, tests_of_fields, tests_of_row, first_failing}
 use Rattle.lock_trace.specs.Rows.{IsRow, fields_of_row, ◌>>=◌, resource_and_mode_in, call_in, row_in, row_of}

@@ -9,6 +9,7 @@ use Rattle.lock_rules.specs.Names.{name_of_why}
 use Rattle.lock_rules.specs.declared.kinds.Op.{Op}
 use Rattle.lock_rules.specs.declared.kinds.ReplyKind.{ReplyKind}
 use Rattle.lock_rules.specs.declared.kinds.TheConstants.{OPS, REPLY_KINDS, REFUSALS}
+use Rattle.lock_rules.specs.Kinds.{word_of, word_of_reply}
 use Rattle.lock_tree.specs.declared.path_fault.PathFault.{PathFault}
 use Rattle.lock_tree.specs.declared.path_fault.PathFault.TheVariants as path
 use Rattle.lock_tree.specs.Readings.{reading_of}
@@ -16,7 +17,6 @@ use Rattle.lock_tree.specs.Numerals.{reading_of_numeral}
 use Rattle.lock_tree.specs.declared.numeral.NumeralFault.{NumeralFault}
 use Rattle.lock_trace.specs.declared.faults.TraceKind.{TraceKind}
 use Rattle.lock_trace.specs.declared.faults.TraceKind.TheVariants as kind
-use Rattle.lock_trace.specs.Words.{word_of, word_of_reply}
 
 -- A session number that was parsed: 0 is a fault, as is a parse fault.
 abbrev pub above_zero : Result ℕ NumeralFault → Result ℕ TraceKind

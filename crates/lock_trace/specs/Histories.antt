@@ -5,9 +5,8 @@ use Rattle.lock_rules.specs.declared.calls.Reply.{Reply}
 use Rattle.lock_rules.specs.declared.calls.Reply.TheVariants as reply
 use Rattle.lock_rules.specs.Entries.{Entry}
 use Rattle.lock_rules.specs.Names.{name_of_why}
-use Rattle.lock_rules.specs.Kinds.{kind_of_reply}
+use Rattle.lock_rules.specs.Kinds.{kind_of_reply, word_of_reply}
 use Rattle.lock_trace.specs.declared.trace_row.TraceRow.{TraceRow}
-use Rattle.lock_trace.specs.Words.{word_of_reply}
 use Rattle.lock_trace.specs.Rows.{HasResources, fields_of_row}
 use Rattle.lock_trace.specs.Files.{fields_from}
 

@@ -1,5 +1,4 @@
 -- What public contracts speak of.
-pub mod Words
 pub mod Fields
 pub mod Tests
 pub mod Rows

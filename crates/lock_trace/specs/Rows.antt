@@ -11,8 +11,7 @@ use Rattle.lock_trace.specs.declared.faults.TraceKind.TheVariants as kind
 use Rattle.lock_rules.specs.declared.kinds.Op.{Op}
 use Rattle.lock_rules.specs.declared.kinds.Op.TheVariants as op
 use Rattle.lock_trace.specs.declared.trace_row.TraceRow.{TraceRow}
-use Rattle.lock_rules.specs.Kinds.{op_of_call}
-use Rattle.lock_trace.specs.Words.{word_of}
+use Rattle.lock_rules.specs.Kinds.{op_of_call, word_of}
 use Rattle.lock_trace.specs.Fields.{session_in, op_in, resource_in, mode_in}
 
 -- The path of the resource that a call names, or the empty field.

@@ -12,11 +12,10 @@ use Rattle.lock_rules.specs.Names.{name_of_why}
 use Rattle.lock_trace.specs.declared.faults.TraceKind.{TraceKind}
 use Rattle.lock_trace.specs.declared.faults.TraceKind.TheVariants as kind
 use Rattle.lock_rules.specs.declared.kinds.TheConstants.{OPS, REPLY_KINDS, REFUSALS}
-use Rattle.lock_rules.specs.Kinds.{ops_with_resource, ops_with_mode}
+use Rattle.lock_rules.specs.Kinds.{ops_with_resource, ops_with_mode, word_of, word_of_reply}
 use Rattle.lock_rules.specs.declared.kinds.Op.{Op}
 use Rattle.lock_rules.specs.declared.kinds.ReplyKind.{ReplyKind}
 use Rattle.lock_rules.specs.declared.kinds.ReplyKind.TheVariants as reply_kind
-use Rattle.lock_trace.specs.Words.{word_of, word_of_reply}
 use Rattle.lock_trace.specs.Fields.{max_u64, max_u32}
 
 -- The field is the decimal text of a number of at most `most`.

@@ -7,7 +7,6 @@ ghost use Rattle.lock_trace.specs.Fields.{session_in, op_in, resource_in, mode_i
 
 use crate::fast_path::{fast_number, fast_resource};
 use crate::faults::TraceKind;
-use crate::words::{op_word, reply_word};
 use itoa::Buffer;
 use lock_modes::{MODES, Mode};
 use lock_rules::{OPS, Op, REPLY_KINDS, ReplyKind, Why};
@@ -47,7 +46,7 @@ pub(crate) fn op_of(field: &[u8]) -> Result<Op, TraceKind>
     ensures { result ≡ op_in field.now }
 {
     for op in OPS {
-        if field == op_word(op).as_bytes() {
+        if field == op.word().as_bytes() {
             return Ok(op);
         }
     }
@@ -125,7 +124,7 @@ pub(crate) fn reply_kind_of(field: &[u8]) -> Result<ReplyKind, TraceKind>
     ensures { result ≡ reply_kind_in field.now }
 {
     for kind in REPLY_KINDS {
-        if field == reply_word(kind).as_bytes() {
+        if field == kind.word().as_bytes() {
             return Ok(kind);
         }
     }

@@ -3,7 +3,7 @@
 //!
 //! To read, begin with `reading.rt` (a whole file, by the `csv` crate) or `history_reader.rt` (row by row). `trace_row.rt` and `entries.rt`
 //! read a row (`record.rt`) field by field (`fields.rt`, `fast_path.rt`); the first test that fails is the fault (`faults.rt`), and nothing
-//! of the file is returned. To write: `writing.rt`, a line at a time (`line.rt`) out of ready-made words (`tokens.rt`, `words.rt`).
+//! of the file is returned. To write: `writing.rt`, a line at a time (`line.rt`) out of ready-made words (`tokens.rt`).
 //! `comments.rt` is a reader behind which a line that begins with `#` is empty. `hints.rt` shows a bad row with what is expected.
 //!
 //! Proved: known bytes are read exactly as the rows of which they are the text, else the first bad row is reported with its fault; the
@@ -25,7 +25,6 @@ mod record;
 mod spot;
 mod tokens;
 mod trace_row;
-mod words;
 mod writing;
 
 pub use comments::SkipComments;

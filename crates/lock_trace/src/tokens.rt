@@ -2,8 +2,7 @@
 
 ghost use Rattle.std.specs.Prelude.{◌≡◌, ◌≤◌, ◌++◌, [], ◌∷◌, take};
 ghost use Rattle.lock_modes.specs.Codes.{name_of};
-ghost use Rattle.lock_rules.specs.Kinds.{op_of_call, kind_of_reply};
-ghost use Rattle.lock_trace.specs.Words.{word_of, word_of_reply};
+ghost use Rattle.lock_rules.specs.Kinds.{op_of_call, kind_of_reply, word_of, word_of_reply};
 
 use crate::line::TOKEN_BYTES;
 use lock_modes::Mode;

@@ -5,7 +5,7 @@ ghost use Rattle.publication.specs.Boards.{new_tickets};
 ghost use Rattle.combining.specs.Sessions.{IsSessionOf, IsIdle};
 ghost use Rattle.combining.specs.Rounds.{IsBound};
 
-use combining::{Answer, Nobody, Office, PassBound, Performed, Session, Told, Turn};
+use combining::{Answer, Listener, Nobody, Office, PassBound, Session, TryOutcome, Turn};
 use flat_combining::examples::Counter;
 use flat_combining::{Shared, shared};
 use sequential::MAX_SESSIONS;
@@ -20,7 +20,7 @@ type Counting = Shared<Counter>;
 #[derive(Clone, Copy)]
 struct Weighing;
 
-impl Told<Counting> for Weighing {
+impl Listener<Counting> for Weighing {
     ghost use Rattle.std.specs.Prelude.{[], None, min};
 
     ghost list = { λ _. [] };
@@ -264,7 +264,7 @@ fn want_performed(
     ensures ours { IsSessionOf office.now session.new }
 {
     assert!(rt; session.is_idle());
-    let want = Performed::Answered {
+    let want = TryOutcome::Answered {
         answer,
         served,
         starved: false,

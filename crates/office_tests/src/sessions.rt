@@ -3,10 +3,10 @@
 ghost use Rattle.std.specs.Prelude.{◌≡◌};
 ghost use Rattle.lock_office.specs.Sessions.{IsSessionOf};
 
-use combining::{Answer, Next, Performed};
+use combining::{Answer, CallOutcome, TryOutcome};
 use lock_desk::{Call, Mode, NO_BOUND, Reply, Resource, Why};
 use lock_office::{
-    Counted, Nobody, Office, PassBound, Posted, Program, Session, Stop, Ticket, Turn, UNBOUNDED,
+    Nobody, Office, PassBound, Posted, Program, Session, Stop, Ticket, Turn, UNBOUNDED, WithSeen,
     open_keeping, reply_of_one,
 };
 use std::process::Abort;
@@ -32,18 +32,18 @@ fn hold(
     requires ours { IsSessionOf office.now session.old }
     ensures ours { IsSessionOf office.now session.new }
 {
-    let told = &mut Counted::new(Nobody);
+    let listener = &mut WithSeen::new(Nobody);
     assert!(rt; session.is_idle());
-    let begun = session.call(office, Call::Begin, 0, UNBOUNDED, told);
+    let begun = session.call(office, Call::Begin, 0, UNBOUNDED, listener);
     let reply = Reply::Began(number);
-    assert!(rt; begun == Next::Answered(Answer { place, reply }));
+    assert!(rt; begun == CallOutcome::Answered(Answer { place, reply }));
     assert!(rt; session.is_idle());
     assert!(rt; session.publish(office, Call::Lock(database, Mode::X)) == Posted::Listed);
     assert!(rt; !session.is_idle() && !session.is_retired());
-    let locked = session.resume(office, 1, UNBOUNDED, told);
+    let locked = session.resume(office, 1, UNBOUNDED, listener);
     let place = place.wrapping_add(1);
     let reply = Reply::Granted(Mode::X);
-    assert!(rt; locked == Next::Answered(Answer { place, reply }));
+    assert!(rt; locked == CallOutcome::Answered(Answer { place, reply }));
 }
 
 /// The other session learns what this one knows: so many calls.
@@ -81,8 +81,8 @@ fn want_round(rt: &impl Abort, office: &Office, session: &mut Session, weight: u
         starved: false,
         left,
     };
-    let told = &mut Counted::new(Nobody);
-    assert!(rt; session.serve(office, bound, told) == want);
+    let listener = &mut WithSeen::new(Nobody);
+    assert!(rt; session.serve(office, bound, listener) == want);
 }
 
 /// Publishes a commit.
@@ -99,12 +99,12 @@ fn want_refused(rt: &impl Abort, office: &Office, session: &mut Session, place: 
     requires ours { IsSessionOf office.now session.old }
 {
     assert!(rt; session.is_idle());
-    let told = &mut Counted::new(Nobody);
-    let Performed::Answered { answer, .. } = session.perform_program(
+    let listener = &mut WithSeen::new(Nobody);
+    let TryOutcome::Answered { answer, .. } = session.perform_program(
         office,
         Program::one(Call::Poll),
         UNBOUNDED,
-        told,
+        listener,
     ) else {
         panic!(rt; "an answer");
     };

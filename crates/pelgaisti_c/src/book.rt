@@ -43,7 +43,7 @@ pub extern "C" fn pelgaisti_raw_book_open(
     ensures possible { (result ≤ NO_MEMORY) → IsClosed book.old.behind × (1 ≤ options.now.sessions) × (options.now.sessions ≤ MAX_SESSIONS) }
     ensures statuses { (result ≡ NULL_POINTER) ⊎ ((result ≤ NO_MEMORY) ⊎ ((result ≡ OPEN) ⊎ (result ≡ NO_SUCH_COUNT))) }
 {
-    let book = given!(book.get(), NULL_POINTER);
+    behind!(book);
     if book.has_table() {
         return OPEN;
     }
@@ -70,7 +70,7 @@ pub extern "C" fn pelgaisti_raw_book_close(alloc: Global, book: &mut BookPointer
     ensures looks { result ≢ NULL_POINTER → (result ≡ LOOKS ↔ (book.old.behind.is_open ≡ 2)) }
     ensures statuses { (result ≡ NULL_POINTER) ⊎ ((result ≡ OK) ⊎ ((result ≡ CLOSED) ⊎ (result ≡ LOOKS))) }
 {
-    let book = given!(book.get(), NULL_POINTER);
+    behind!(book);
     match book.take_own(alloc) {
         Some(_) => OK,
         None => book.refusal(),
@@ -98,13 +98,8 @@ pub extern "C" fn pelgaisti_raw_book_serve(
     ensures memory { result ≡ NO_MEMORY → (view : BookView) × (book.old.behind.held.book ≡ Some view) × IsSession view session × ((asked : Call) × IsCall call.old.behind asked) }
     ensures statuses { (result ≡ NULL_POINTER) ⊎ ((result ≡ LOOKS) ⊎ (result ≤ NO_SUCH_MODE)) }
 {
-    let book = given!(book.get(), NULL_POINTER);
-    let call = given!(call.get(), NULL_POINTER);
-    let reply = given!(reply.get(), NULL_POINTER);
-    let mut boxed = given!(book.take_own(alloc), book.refusal());
-    let status = book_calls::serve(&mut boxed, session, &call, reply);
-    book.put_own(alloc, boxed);
-    status
+    behind!(book, call, reply);
+    on!(boxed owned by book, alloc => book_calls::serve(&mut boxed, session, &call, reply))
 }
 
 /// Serves the calls that the numbers encode, in order, up to the first for which memory is refused. Writes the entry of each
@@ -127,16 +122,9 @@ pub extern "C" fn pelgaisti_raw_book_serve_batch(
     ensures memory { result ≡ NO_MEMORY → (view : BookView) × (book.old.behind.held.book ≡ Some view) × ((items : List Item) × AreItems view calls.old.behind items) }
     ensures statuses { (result ≡ NULL_POINTER) ⊎ ((result ≡ LOOKS) ⊎ (result ≤ NO_SUCH_MODE)) }
 {
-    let book = given!(book.get(), NULL_POINTER);
-    if calls.is_null() {
-        return NULL_POINTER;
-    }
-    let count = given!(count.get(), NULL_POINTER);
+    behind!(book, [calls], count);
     let calls = calls.items();
-    let mut boxed = given!(book.take_own(alloc), book.refusal());
-    let status = batch::serve(alloc, &mut boxed, calls, count);
-    book.put_own(alloc, boxed);
-    status
+    on!(boxed owned by book, alloc => batch::serve(alloc, &mut boxed, calls, count))
 }
 
 /// Writes the code of the mode that `session` holds on the resource, or that of NL if it holds none. A waiting request
@@ -159,13 +147,8 @@ pub extern "C" fn pelgaisti_raw_book_held(
     ensures level { result ≡ NO_SUCH_LEVEL → (view : BookView) × (shown book.old.behind ≡ Some view) × IsSession view session × ¬ (IsLevel resource.old.behind.level) }
     ensures statuses { (result ≡ NULL_POINTER) ⊎ ((result ≡ OK) ⊎ ((result ≡ CLOSED) ⊎ ((result ≡ NO_SUCH_SESSION) ⊎ (result ≡ NO_SUCH_LEVEL)))) }
 {
-    let book = given!(book.get(), NULL_POINTER);
-    let resource = given!(resource.get(), NULL_POINTER);
-    let mode = given!(mode.get(), NULL_POINTER);
-    let table = given!(book.take(alloc), CLOSED);
-    let status = book_calls::held(table.book(), session, &resource, mode);
-    book.put(alloc, table);
-    status
+    behind!(book, resource, mode);
+    on!(table shown by book, alloc => book_calls::held(table.book(), session, &resource, mode))
 }
 
 /// Writes the holders of the resource in the order of session numbers, as many as `list` has room for, and the number
@@ -189,17 +172,9 @@ pub extern "C" fn pelgaisti_raw_book_holders(
     ensures memory { result ≡ NO_MEMORY → IsOpen book.old.behind × IsLevel resource.old.behind.level }
     ensures statuses { (result ≡ NULL_POINTER) ⊎ ((result ≡ OK) ⊎ ((result ≡ NO_MEMORY) ⊎ ((result ≡ CLOSED) ⊎ (result ≡ NO_SUCH_LEVEL)))) }
 {
-    let book = given!(book.get(), NULL_POINTER);
-    let resource = given!(resource.get(), NULL_POINTER);
-    if list.is_null() {
-        return NULL_POINTER;
-    }
-    let count = given!(count.get(), NULL_POINTER);
+    behind!(book, resource, [list], count);
     let list = list.items();
-    let table = given!(book.take(alloc), CLOSED);
-    let status = book_calls::holders(alloc, table.book(), &resource, list, count);
-    book.put(alloc, table);
-    status
+    on!(table shown by book, alloc => book_calls::holders(alloc, table.book(), &resource, list, count))
 }
 
 /// Writes the sessions whose wait the last call or batch has ended, each once, as many as `list` has room for, and the number
@@ -220,11 +195,7 @@ pub extern "C" fn pelgaisti_raw_book_ended(
     ensures looks { result ≢ NULL_POINTER → (result ≡ LOOKS ↔ (book.old.behind.is_open ≡ 2)) }
     ensures statuses { (result ≡ NULL_POINTER) ⊎ ((result ≡ LOOKS) ⊎ ((result ≡ OK) ⊎ (result ≡ CLOSED))) }
 {
-    let book = given!(book.get(), NULL_POINTER);
-    if list.is_null() {
-        return NULL_POINTER;
-    }
-    let count = given!(count.get(), NULL_POINTER);
+    behind!(book, [list], count);
     let list = list.items();
     let boxed = given!(book.take_own(alloc), book.refusal());
     book_calls::ended(&boxed, list, count);

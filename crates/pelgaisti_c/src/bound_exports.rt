@@ -29,9 +29,6 @@ pub extern "C" fn pelgaisti_raw_session_bound_passes(
     ensures closed { result ≢ NULL_POINTER → (result ≡ CLOSED ↔ (session.old.behind.is_open ≢ 1)) }
     ensures statuses { (result ≡ NULL_POINTER) ⊎ ((result ≡ OK) ⊎ ((result ≡ CLOSED) ⊎ (result ≡ NO_SUCH_COUNT))) }
 {
-    let session = given!(session.get(), NULL_POINTER);
-    let mut share = given!(session.take(alloc), CLOSED);
-    let status = bound_passes(&mut share, calls, locks, rounds);
-    session.put(share);
-    status
+    behind!(session);
+    on!(share held by session, alloc => bound_passes(&mut share, calls, locks, rounds))
 }

@@ -38,8 +38,7 @@ pub extern "C" fn pelgaisti_raw_session_hand_in(
     ensures memory { result ≡ NO_MEMORY → (a b : ShareValue) × (session.old.behind.held.share ≡ Some a) × (to.old.behind.held.share ≡ Some b) × (a.mark ≡ b.mark) × HasNothingPending a.session }
     ensures statuses { (result ≡ NULL_POINTER) ⊎ ((result ≤ CLOSED) ⊎ ((result ≡ OTHER_OFFICE) ⊎ (result ≡ PENDING))) }
 {
-    let session = given!(session.get(), NULL_POINTER);
-    let to = given!(to.get(), NULL_POINTER);
+    behind!(session, to);
     if session.is_open != 1 || to.is_open != 1 {
         return CLOSED;
     }
@@ -82,8 +81,7 @@ pub extern "C" fn pelgaisti_raw_office_close(
     ensures whole { (result ≡ NO_MEMORY) ⊎ (result ≡ COPIED) → (share : ShareValue) × (session.old.behind.held.share ≡ Some share) × IsEachOnce share.sessions (all_of share) × HasNothingPending share.session }
     ensures statuses { (result ≡ NULL_POINTER) ⊎ ((result ≤ CLOSED) ⊎ ((result ≡ OPEN) ⊎ ((result ≡ MISSING) ⊎ ((result ≡ PENDING) ⊎ (result ≡ COPIED))))) }
 {
-    let session = given!(session.get(), NULL_POINTER);
-    let book = given!(book.get(), NULL_POINTER);
+    behind!(session, book);
     if book.has_table() {
         return OPEN;
     }

@@ -31,8 +31,7 @@ pub extern "C" fn pelgaisti_raw_book_counts(
     ensures closed { result ≢ NULL_POINTER → (result ≡ CLOSED ↔ IsClosed book.old.behind) }
     ensures statuses { (result ≡ NULL_POINTER) ⊎ ((result ≡ OK) ⊎ (result ≡ CLOSED)) }
 {
-    let book = given!(book.get(), NULL_POINTER);
-    let counts = given!(counts.get(), NULL_POINTER);
+    behind!(book, counts);
     let table = given!(book.take(alloc), CLOSED);
     *counts = count_numbers(&table.book().counts());
     book.put(alloc, table);
@@ -54,8 +53,7 @@ pub extern "C" fn pelgaisti_raw_book_gauges(
     ensures closed { result ≢ NULL_POINTER → (result ≡ CLOSED ↔ IsClosed book.old.behind) }
     ensures statuses { (result ≡ NULL_POINTER) ⊎ ((result ≡ OK) ⊎ (result ≡ CLOSED)) }
 {
-    let book = given!(book.get(), NULL_POINTER);
-    let gauges = given!(gauges.get(), NULL_POINTER);
+    behind!(book, gauges);
     let table = given!(book.take(alloc), CLOSED);
     let shown = table.book();
     *gauges = gauge_numbers(shown.gauges(), shown.idle_cells());
@@ -78,8 +76,7 @@ pub extern "C" fn pelgaisti_raw_book_passes(
     ensures closed { result ≢ NULL_POINTER → (result ≡ CLOSED ↔ IsClosed book.old.behind) }
     ensures statuses { (result ≡ NULL_POINTER) ⊎ ((result ≡ OK) ⊎ (result ≡ CLOSED)) }
 {
-    let book = given!(book.get(), NULL_POINTER);
-    let passes = given!(passes.get(), NULL_POINTER);
+    behind!(book, passes);
     let table = given!(book.take(alloc), CLOSED);
     *passes = table.passes();
     book.put(alloc, table);

@@ -35,27 +35,8 @@ pub extern "C" fn pelgaisti_raw_book_deadlocks(
     ensures closed { result ≢ NULL_POINTER → (result ≡ CLOSED ↔ IsClosed book.old.behind) }
     ensures statuses { (result ≡ NULL_POINTER) ⊎ ((result ≡ OK) ⊎ ((result ≡ NO_MEMORY) ⊎ (result ≡ CLOSED))) }
 {
-    let book = given!(book.get(), NULL_POINTER);
-    if list.is_null() {
-        return NULL_POINTER;
-    }
-    let count = given!(count.get(), NULL_POINTER);
-    if members.is_null() {
-        return NULL_POINTER;
-    }
-    let member_count = given!(member_count.get(), NULL_POINTER);
+    behind!(book, [list], count, [members], member_count);
     let list = list.items();
     let members = members.items();
-    let table = given!(book.take(alloc), CLOSED);
-    let status = deadlocks::told(
-        alloc,
-        table.book(),
-        most,
-        list,
-        count,
-        members,
-        member_count,
-    );
-    book.put(alloc, table);
-    status
+    on!(table shown by book, alloc => deadlocks::told(alloc, table.book(), most, list, count, members, member_count))
 }

@@ -32,15 +32,7 @@ pub extern "C" fn pelgaisti_raw_book_dump(
     ensures closed { result ≢ NULL_POINTER → (result ≡ CLOSED ↔ IsClosed book.old.behind) }
     ensures statuses { (result ≡ NULL_POINTER) ⊎ ((result ≡ OK) ⊎ ((result ≡ NO_MEMORY) ⊎ (result ≡ CLOSED))) }
 {
-    let book = given!(book.get(), NULL_POINTER);
-    if list.is_null() {
-        return NULL_POINTER;
-    }
-    let count = given!(count.get(), NULL_POINTER);
-    let place = given!(place.get(), NULL_POINTER);
+    behind!(book, [list], count, place);
     let list = list.items();
-    let table = given!(book.take(alloc), CLOSED);
-    let status = dump::dump_of_book(alloc, table.book(), list, count, place);
-    book.put(alloc, table);
-    status
+    on!(table shown by book, alloc => dump::dump_of_book(alloc, table.book(), list, count, place))
 }

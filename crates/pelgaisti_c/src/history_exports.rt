@@ -31,9 +31,7 @@ pub extern "C" fn pelgaisti_raw_book_length(
     ensures closed { result ≢ NULL_POINTER → (result ≡ CLOSED ↔ IsClosed book.old.behind) }
     ensures statuses { (result ≡ NULL_POINTER) ⊎ ((result ≡ OK) ⊎ (result ≡ CLOSED)) }
 {
-    let book = given!(book.get(), NULL_POINTER);
-    let first_kept = given!(first_kept.get(), NULL_POINTER);
-    let count = given!(count.get(), NULL_POINTER);
+    behind!(book, first_kept, count);
     let table = given!(book.take(alloc), CLOSED);
     let shown = table.book();
     *first_kept = shown.first_kept();
@@ -61,16 +59,9 @@ pub extern "C" fn pelgaisti_raw_book_history(
     ensures let_go { result ≢ NULL_POINTER → (result ≡ LET_GO ↔ ((view : BookView) × (shown book.old.behind ≡ Some view) × (first < first_kept_by view))) }
     ensures statuses { (result ≡ NULL_POINTER) ⊎ ((result ≡ OK) ⊎ ((result ≡ CLOSED) ⊎ (result ≡ LET_GO))) }
 {
-    let book = given!(book.get(), NULL_POINTER);
-    if entries.is_null() {
-        return NULL_POINTER;
-    }
-    let count = given!(count.get(), NULL_POINTER);
+    behind!(book, [entries], count);
     let entries = entries.items();
-    let table = given!(book.take(alloc), CLOSED);
-    let status = book_calls::history(table.book(), first, entries, count);
-    book.put(alloc, table);
-    status
+    on!(table shown by book, alloc => book_calls::history(table.book(), first, entries, count))
 }
 
 /// Keeps at most the newest `bound` entries of the history in memory from now on.
@@ -89,7 +80,7 @@ pub extern "C" fn pelgaisti_raw_book_keep_at_most(
     ensures looks { result ≢ NULL_POINTER → (result ≡ LOOKS ↔ (book.old.behind.is_open ≡ 2)) }
     ensures statuses { (result ≡ NULL_POINTER) ⊎ ((result ≡ LOOKS) ⊎ ((result ≡ OK) ⊎ (result ≡ CLOSED))) }
 {
-    let book = given!(book.get(), NULL_POINTER);
+    behind!(book);
     let mut boxed = given!(book.take_own(alloc), book.refusal());
     boxed.keep_at_most(bound);
     book.put_own(alloc, boxed);
@@ -117,12 +108,7 @@ pub extern "C" fn pelgaisti_raw_book_take_history(
     ensures looks { result ≢ NULL_POINTER → (result ≡ LOOKS ↔ (book.old.behind.is_open ≡ 2)) }
     ensures statuses { (result ≡ NULL_POINTER) ⊎ ((result ≡ LOOKS) ⊎ ((result ≡ OK) ⊎ (result ≡ CLOSED))) }
 {
-    let book = given!(book.get(), NULL_POINTER);
-    let first = given!(first.get(), NULL_POINTER);
-    if entries.is_null() {
-        return NULL_POINTER;
-    }
-    let count = given!(count.get(), NULL_POINTER);
+    behind!(book, first, [entries], count);
     let entries = entries.items();
     let mut boxed = given!(book.take_own(alloc), book.refusal());
     let place = boxed.first_kept();

@@ -27,8 +27,7 @@ pub extern "C" fn pelgaisti_raw_session_seen(
     ensures closed { result ≢ NULL_POINTER → (result ≡ CLOSED ↔ (session.old.behind.is_open ≢ 1)) }
     ensures statuses { (result ≡ NULL_POINTER) ⊎ ((result ≡ OK) ⊎ (result ≡ CLOSED)) }
 {
-    let session = given!(session.get(), NULL_POINTER);
-    let seen = given!(seen.get(), NULL_POINTER);
+    behind!(session, seen);
     let share = given!(session.take(alloc), CLOSED);
     *seen = share.session.seen();
     session.put(share);
@@ -51,8 +50,7 @@ pub extern "C" fn pelgaisti_raw_session_mark(
     ensures closed { result ≢ NULL_POINTER → (result ≡ CLOSED ↔ (session.old.behind.is_open ≢ 1)) }
     ensures statuses { (result ≡ NULL_POINTER) ⊎ ((result ≡ OK) ⊎ (result ≡ CLOSED)) }
 {
-    let session = given!(session.get(), NULL_POINTER);
-    let mark = given!(mark.get(), NULL_POINTER);
+    behind!(session, mark);
     let share = given!(session.take(alloc), CLOSED);
     *mark = share.mark;
     *number = u32::from(share.session.number());
@@ -74,7 +72,7 @@ pub extern "C" fn pelgaisti_raw_session_waker(
     ensures closed { result ≢ NULL_POINTER → (result ≡ CLOSED ↔ (session.old.behind.is_open ≢ 1)) }
     ensures statuses { (result ≡ NULL_POINTER) ⊎ ((result ≡ OK) ⊎ (result ≡ CLOSED)) }
 {
-    let session = given!(session.get(), NULL_POINTER);
+    behind!(session);
     let share = given!(session.take(alloc), CLOSED);
     *waker = share.waker;
     session.put(share);
@@ -93,13 +91,13 @@ pub extern "C" fn pelgaisti_raw_session_told(
 ) -> u32
     ensures null { result ≡ NULL_POINTER ↔ (session.old.at ≡ null_ptr) }
     ensures ok { result ≡ OK → (share : SessionShare) × (session.old.behind.held.share ≡ Some share)
-        × (list.new ≡ are_written (λ u. u) (drop first share.told.told.list) list.old) × (count.new ≡ length share.told.told.list) }
+        × (list.new ≡ are_written (λ u. u) (drop first share.told.listener.list) list.old) × (count.new ≡ length share.told.listener.list) }
     ensures failed { result ≢ OK → (list.new ≡ list.old) × (count.new ≡ count.old) }
     ensures same { (session.new.behind.is_open ≡ session.old.behind.is_open) × (session.new.behind.held.share ≡ session.old.behind.held.share) }
     ensures closed { result ≢ NULL_POINTER → (result ≡ CLOSED ↔ (session.old.behind.is_open ≢ 1)) }
     ensures statuses { (result ≡ NULL_POINTER) ⊎ ((result ≡ OK) ⊎ (result ≡ CLOSED)) }
 {
-    let session = given!(session.get(), NULL_POINTER);
+    behind!(session);
     let share = given!(session.take(alloc), CLOSED);
     session_calls::told(&share, first, list, count);
     session.put(share);
@@ -125,8 +123,7 @@ pub extern "C" fn pelgaisti_raw_session_hear(
     ensures other_office { result ≡ OTHER_OFFICE → (a b : SessionShare) × (session.old.behind.held.share ≡ Some a) × (other.old.behind.held.share ≡ Some b) × (a.mark ≢ b.mark) }
     ensures statuses { (result ≡ NULL_POINTER) ⊎ ((result ≡ OK) ⊎ ((result ≡ CLOSED) ⊎ (result ≡ OTHER_OFFICE))) }
 {
-    let session = given!(session.get(), NULL_POINTER);
-    let other = given!(other.get(), NULL_POINTER);
+    behind!(session, other);
     if session.is_open != 1 || other.is_open != 1 {
         return CLOSED;
     }

@@ -34,12 +34,8 @@ pub extern "C" fn pelgaisti_raw_book_transaction(
     ensures session { result ≡ NO_SUCH_SESSION → (view : BookView) × (shown book.old.behind ≡ Some view) × ¬ (IsSession view session) }
     ensures statuses { (result ≡ NULL_POINTER) ⊎ ((result ≡ OK) ⊎ ((result ≡ CLOSED) ⊎ (result ≡ NO_SUCH_SESSION))) }
 {
-    let book = given!(book.get(), NULL_POINTER);
-    let open = given!(open.get(), NULL_POINTER);
-    let table = given!(book.take(alloc), CLOSED);
-    let status = listing::transaction(table.book(), session, open);
-    book.put(alloc, table);
-    status
+    behind!(book, open);
+    on!(table shown by book, alloc => listing::transaction(table.book(), session, open))
 }
 
 /// Writes the session's waiting request, as a line of the listing. Kind 0 means that it doesn't wait.
@@ -59,12 +55,8 @@ pub extern "C" fn pelgaisti_raw_book_request(
     ensures session { result ≡ NO_SUCH_SESSION → (view : BookView) × (shown book.old.behind ≡ Some view) × ¬ (IsSession view session) }
     ensures statuses { (result ≡ NULL_POINTER) ⊎ ((result ≡ OK) ⊎ ((result ≡ CLOSED) ⊎ (result ≡ NO_SUCH_SESSION))) }
 {
-    let book = given!(book.get(), NULL_POINTER);
-    let waiting = given!(waiting.get(), NULL_POINTER);
-    let table = given!(book.take(alloc), CLOSED);
-    let status = listing::request(table.book(), session, waiting);
-    book.put(alloc, table);
-    status
+    behind!(book, waiting);
+    on!(table shown by book, alloc => listing::request(table.book(), session, waiting))
 }
 
 /// Writes the sessions for which `session` waits directly in the order of their numbers, as many as `list` has room for, and the
@@ -87,14 +79,7 @@ pub extern "C" fn pelgaisti_raw_book_blockers(
     ensures session { result ≡ NO_SUCH_SESSION → (view : BookView) × (shown book.old.behind ≡ Some view) × ¬ (IsSession view session) }
     ensures statuses { (result ≡ NULL_POINTER) ⊎ ((result ≡ OK) ⊎ ((result ≡ CLOSED) ⊎ (result ≡ NO_SUCH_SESSION))) }
 {
-    let book = given!(book.get(), NULL_POINTER);
-    if list.is_null() {
-        return NULL_POINTER;
-    }
-    let count = given!(count.get(), NULL_POINTER);
+    behind!(book, [list], count);
     let list = list.items();
-    let table = given!(book.take(alloc), CLOSED);
-    let status = listing::blockers(table.book(), session, list, count);
-    book.put(alloc, table);
-    status
+    on!(table shown by book, alloc => listing::blockers(table.book(), session, list, count))
 }

@@ -30,8 +30,7 @@ pub extern "C" fn pelgaisti_raw_session_look(
     ensures elsewhere { result ≡ ELSEWHERE → (share : SessionShare) × (session.old.behind.held.share ≡ Some share) × (2 ≤ share.sessions) }
     ensures statuses { (result ≡ NULL_POINTER) ⊎ ((result ≡ OK) ⊎ ((result ≡ OPEN) ⊎ ((result ≡ CLOSED) ⊎ (result ≡ ELSEWHERE)))) }
 {
-    let session = given!(session.get(), NULL_POINTER);
-    let view = given!(view.get(), NULL_POINTER);
+    behind!(session, view);
     if view.has_table() {
         return OPEN;
     }
@@ -61,8 +60,7 @@ pub extern "C" fn pelgaisti_raw_look_end(
     ensures not_a_look { result ≢ NULL_POINTER → (result ≡ NOT_A_LOOK ↔ ((session.old.behind.is_open ≢ 1) × (view.old.behind.is_open ≡ 1))) }
     ensures statuses { (result ≡ NULL_POINTER) ⊎ ((result ≡ OK) ⊎ ((result ≡ OPEN) ⊎ ((result ≡ CLOSED) ⊎ (result ≡ NOT_A_LOOK)))) }
 {
-    let session = given!(session.get(), NULL_POINTER);
-    let view = given!(view.get(), NULL_POINTER);
+    behind!(session, view);
     if session.is_open == 1 {
         return OPEN;
     }

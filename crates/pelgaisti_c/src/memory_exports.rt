@@ -24,7 +24,7 @@ pub extern "C" fn pelgaisti_raw_book_reserve(
     ensures closed { result ≢ NULL_POINTER → (result ≡ CLOSED ↔ IsClosed book.old.behind) }
     ensures statuses { (result ≡ NULL_POINTER) ⊎ ((result ≡ OK) ⊎ ((result ≡ NO_MEMORY) ⊎ (result ≡ CLOSED))) }
 {
-    let book = given!(book.get(), NULL_POINTER);
+    behind!(book);
     let mut table = given!(book.take(alloc), CLOSED);
     let made = table.tend(&mut Reserve { resources, entries });
     book.put(alloc, table);
@@ -39,7 +39,7 @@ pub extern "C" fn pelgaisti_raw_book_shrink(alloc: Global, book: &mut BookPointe
     ensures closed { result ≢ NULL_POINTER → (result ≡ CLOSED ↔ IsClosed book.old.behind) }
     ensures statuses { (result ≡ NULL_POINTER) ⊎ ((result ≡ OK) ⊎ (result ≡ CLOSED)) }
 {
-    let book = given!(book.get(), NULL_POINTER);
+    behind!(book);
     let mut table = given!(book.take(alloc), CLOSED);
     let _made = table.tend(&mut Shrink);
     book.put(alloc, table);

@@ -34,12 +34,8 @@ pub extern "C" fn pelgaisti_raw_book_locks_held(
     ensures session { result ≡ NO_SUCH_SESSION → (view : BookView) × (shown book.old.behind ≡ Some view) × ¬ (IsSession view session) }
     ensures statuses { (result ≡ NULL_POINTER) ⊎ ((result ≡ OK) ⊎ ((result ≡ CLOSED) ⊎ (result ≡ NO_SUCH_SESSION))) }
 {
-    let book = given!(book.get(), NULL_POINTER);
-    let count = given!(count.get(), NULL_POINTER);
-    let table = given!(book.take(alloc), CLOSED);
-    let status = pages::locks_held(table.book(), session, count);
-    book.put(alloc, table);
-    status
+    behind!(book, count);
+    on!(table shown by book, alloc => pages::locks_held(table.book(), session, count))
 }
 
 /// Writes the session's first locks behind the resource `after`, as many as `list` has room for, and how many they are to `count`. Level 0
@@ -64,15 +60,7 @@ pub extern "C" fn pelgaisti_raw_book_locks_of(
     ensures memory { result ≡ NO_MEMORY → (view : BookView) × (shown book.old.behind ≡ Some view) × IsSession view session × IsAfterLevel after.old.behind.level }
     ensures statuses { (result ≡ NULL_POINTER) ⊎ ((result ≡ OK) ⊎ ((result ≡ NO_MEMORY) ⊎ ((result ≡ CLOSED) ⊎ ((result ≡ NO_SUCH_SESSION) ⊎ (result ≡ NO_SUCH_LEVEL))))) }
 {
-    let book = given!(book.get(), NULL_POINTER);
-    let after = given!(after.get(), NULL_POINTER);
-    if list.is_null() {
-        return NULL_POINTER;
-    }
-    let count = given!(count.get(), NULL_POINTER);
+    behind!(book, after, [list], count);
     let list = list.items();
-    let table = given!(book.take(alloc), CLOSED);
-    let status = pages::locks_of(alloc, table.book(), session, &after, list, count);
-    book.put(alloc, table);
-    status
+    on!(table shown by book, alloc => pages::locks_of(alloc, table.book(), session, &after, list, count))
 }

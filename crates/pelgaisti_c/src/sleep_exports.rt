@@ -29,7 +29,7 @@ pub extern "C" fn pelgaisti_raw_session_begin_sleep(
     ensures closed { result ≢ NULL_POINTER → (result ≡ CLOSED ↔ (session.old.behind.is_open ≢ 1)) }
     ensures statuses { (result ≡ NULL_POINTER) ⊎ ((result ≡ OK) ⊎ (result ≡ CLOSED)) }
 {
-    let session = given!(session.get(), NULL_POINTER);
+    behind!(session);
     let mut share = given!(session.take(alloc), CLOSED);
     *may_sleep = sleep_calls::begin_sleep(&mut share, number);
     session.put(share);
@@ -51,7 +51,7 @@ pub extern "C" fn pelgaisti_raw_session_is_roused(
     ensures closed { result ≢ NULL_POINTER → (result ≡ CLOSED ↔ (session.old.behind.is_open ≢ 1)) }
     ensures statuses { (result ≡ NULL_POINTER) ⊎ ((result ≡ OK) ⊎ (result ≡ CLOSED)) }
 {
-    let session = given!(session.get(), NULL_POINTER);
+    behind!(session);
     let mut share = given!(session.take(alloc), CLOSED);
     *is_roused = sleep_calls::is_roused(&mut share);
     session.put(share);
@@ -77,9 +77,6 @@ pub extern "C" fn pelgaisti_raw_session_rouse(
     ensures closed { result ≢ NULL_POINTER → (result ≡ CLOSED ↔ (session.old.behind.is_open ≢ 1)) }
     ensures statuses { (result ≡ NULL_POINTER) ⊎ ((result ≡ OK) ⊎ ((result ≡ CLOSED) ⊎ (result ≡ NO_ROOM))) }
 {
-    let session = given!(session.get(), NULL_POINTER);
-    let mut share = given!(session.take(alloc), CLOSED);
-    let status = sleep_calls::rouse(&mut share, list, count);
-    session.put(share);
-    status
+    behind!(session);
+    on!(share held by session, alloc => sleep_calls::rouse(&mut share, list, count))
 }

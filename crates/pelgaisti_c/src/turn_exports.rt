@@ -1,4 +1,5 @@
-//! The exports of one turn of a session's call or program. A whole call is a loop of turns, with waits between them, which no archive may make.
+//! The exports of one turn of a session's call or program. `pelgaisti_session_perform` and `pelgaisti_session_run` are loops of turns, with
+//! waits between them, which no archive may make: `bindings/c/calls.c` has them.
 
 ghost use Rattle.std.specs.Prelude.{◌≡◌, ◌≢◌, ◌≤◌, ◌⊎◌, ◌↔◌, ◌==◌, true, length};
 ghost use denote.RawPtr.{null_ptr};
@@ -40,13 +41,8 @@ pub extern "C" fn pelgaisti_raw_session_turn(
     ensures closed { result ≢ NULL_POINTER → (result ≡ CLOSED ↔ (session.old.behind.is_open ≢ 1)) }
     ensures statuses { (result ≡ NULL_POINTER) ⊎ ((result ≡ CLOSED) ⊎ (IsMade result ⊎ ((result ≡ RETIRED) ⊎ ((result ≡ PENDING) ⊎ ((NO_SUCH_OP ≤ result) × (result ≤ NO_SUCH_MODE)))))) }
 {
-    let session = given!(session.get(), NULL_POINTER);
-    let call = given!(call.get(), NULL_POINTER);
-    let answer = given!(answer.get(), NULL_POINTER);
-    let mut share = given!(session.take(alloc), CLOSED);
-    let status = turn_calls::turn(&mut share, &call, made, turns, answer, wait, told);
-    session.put(share);
-    status
+    behind!(session, call, answer);
+    on!(share held by session, alloc => turn_calls::turn(&mut share, &call, made, turns, answer, wait, told))
 }
 
 /// Makes turn number `looked` of the session's pending call, of which the caller makes `turns` at most, counted from 0: serves, at every
@@ -70,12 +66,8 @@ pub extern "C" fn pelgaisti_raw_session_resume(
     ensures closed { result ≢ NULL_POINTER → (result ≡ CLOSED ↔ (session.old.behind.is_open ≢ 1)) }
     ensures statuses { (result ≡ NULL_POINTER) ⊎ ((result ≡ CLOSED) ⊎ (IsMade result ⊎ ((result ≡ NOTHING_PENDING) ⊎ (result ≡ PENDING)))) }
 {
-    let session = given!(session.get(), NULL_POINTER);
-    let answer = given!(answer.get(), NULL_POINTER);
-    let mut share = given!(session.take(alloc), CLOSED);
-    let status = turn_calls::look(&mut share, looked, turns, answer, wait, told);
-    session.put(share);
-    status
+    behind!(session, answer);
+    on!(share held by session, alloc => turn_calls::look(&mut share, looked, turns, answer, wait, told))
 }
 
 /// Makes turn number `made` of a program, of which the caller makes `turns` at most, counted from 0, as `pelgaisti_raw_session_turn` makes
@@ -102,13 +94,8 @@ pub extern "C" fn pelgaisti_raw_session_run_turn(
     ensures closed { result ≢ NULL_POINTER → (result ≡ CLOSED ↔ (session.old.behind.is_open ≢ 1)) }
     ensures statuses { (result ≡ NULL_POINTER) ⊎ ((result ≡ CLOSED) ⊎ (IsMade result ⊎ ((result ≡ RETIRED) ⊎ ((result ≡ PENDING) ⊎ IsFaultNumber result)))) }
 {
-    let session = given!(session.get(), NULL_POINTER);
-    let program = given!(program.get(), NULL_POINTER);
-    let answer = given!(answer.get(), NULL_POINTER);
-    let mut share = given!(session.take(alloc), CLOSED);
-    let status = turn_calls::turn(&mut share, &program, made, turns, answer, wait, told);
-    session.put(share);
-    status
+    behind!(session, program, answer);
+    on!(share held by session, alloc => turn_calls::turn(&mut share, &program, made, turns, answer, wait, told))
 }
 
 /// Makes turn number `looked` of what the session has pending, of which the caller makes `turns` at most, counted from 0, and tells the answer
@@ -132,10 +119,6 @@ pub extern "C" fn pelgaisti_raw_session_run_resume(
     ensures closed { result ≢ NULL_POINTER → (result ≡ CLOSED ↔ (session.old.behind.is_open ≢ 1)) }
     ensures statuses { (result ≡ NULL_POINTER) ⊎ ((result ≡ CLOSED) ⊎ (IsMade result ⊎ (result ≡ NOTHING_PENDING))) }
 {
-    let session = given!(session.get(), NULL_POINTER);
-    let answer = given!(answer.get(), NULL_POINTER);
-    let mut share = given!(session.take(alloc), CLOSED);
-    let status = turn_calls::look(&mut share, looked, turns, answer, wait, told);
-    session.put(share);
-    status
+    behind!(session, answer);
+    on!(share held by session, alloc => turn_calls::look(&mut share, looked, turns, answer, wait, told))
 }

@@ -1,27 +1,12 @@
 -- The calls of one session in the histories of programs and of calls.
-use Rattle.std.proofs.Common.{◌≡◌, ℕ, suc, ◌+◌, Bool, true, false, cond, eqb, List, [], ◌∷◌, ◌++◌, length, refl, sym, ap, ◌∙◌, arith}
+use Rattle.std.proofs.Common.{◌≡◌, ℕ, ◌+◌, Bool, true, false, cond, eqb, List, [], ◌∷◌, ◌++◌, length, refl, sym, ap, ◌∙◌}
 use Rattle.sequential.specs.declared.entry.Entry.{Entry}
 use Rattle.sequential.specs.Histories.{Answered, calls_from, calls_of}
+use Rattle.sequential.proofs.SessionCalls.{calls_from-append}
 use Rattle.programs.specs.Form.{Form}
 use Rattle.programs.specs.Flat.{entries, answers_from, entries_of, flat, flat_calls, AreRun}
 
 module _ {C R : Type 0} where
-  -- a head that may be left out, before a concatenation
-  head-append : (b : Bool) (x : Answered C R) (xs ys : List (Answered C R)) → cond b (x ∷ (xs ++ ys)) (xs ++ ys) ≡ cond b (x ∷ xs) xs ++ ys
-  head-append true x xs ys = refl
-  head-append false x xs ys = refl
-
-  -- the calls in two histories, one behind the other
-  calls_from-append : (s place : ℕ) (xs ys : List (Entry C R)) → calls_from s place (xs ++ ys) ≡ calls_from s place xs ++ calls_from s (place + length xs) ys
-  calls_from-append s place [] ys = let z : place ≡ place + 0 = omega arith in ap (λ (p : ℕ). calls_from s p ys) z
-  calls_from-append s place (x ∷ xs) ys =
-      let a : Answered C R = record { place = place; call = x.call; reply = x.reply } in
-      let n : place + 1 + length xs ≡ place + suc (length xs) = omega arith in
-      let next : calls_from s (place + 1) (xs ++ ys) ≡ calls_from s (place + 1) xs ++ calls_from s (place + suc (length xs)) ys
-      = calls_from-append s (place + 1) xs ys ∙ ap (λ (p : ℕ). calls_from s (place + 1) xs ++ calls_from s p ys) n in
-      ap (λ (l : List (Answered C R)). cond (eqb x.session s) (a ∷ l) l) next
-      ∙ head-append (eqb x.session s) a (calls_from s (place + 1) xs) (calls_from s (place + suc (length xs)) ys)
-
   -- the calls of a program are its session's
   calls_from-own : (t s place : ℕ) (cs : List C) (rs : List R) → eqb t s ≡ true → calls_from s place (entries t cs rs) ≡ answers_from place cs rs
   calls_from-own t s place [] rs e = refl

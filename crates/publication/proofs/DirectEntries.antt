@@ -17,7 +17,7 @@ use Rattle.publication.specs.Views.{Own, Combiner, Others, entry, answer, asks}
 use Rattle.publication.specs.Rule.{blank, BoardState, word, home, seat, fresh, own_at, announced, IsVacant, RecordState, HasObject, IsOpened, IsSession, IsMaker, AreTrue, HasPieces, calls_known, IsInTime, IsOrderly}
 use Rattle.publication.specs.Rule.RecordState.{vacant}
 use Rattle.publication.specs.List.{IsLinked, IsRuled, IsBounded}
-use Rattle.publication.specs.Kinds.{entering, enters}
+use Rattle.publication.specs.StepKinds.{entering, enters}
 use Rattle.publication.specs.declared.view.View.{View}
 use Rattle.publication.specs.declared.slot.SlotValue.{SlotValue}
 use Rattle.publication.proofs.Lists.{at_there, each_set, prefix_self, prefix_trans}
@@ -89,9 +89,6 @@ module _ {O C R : Type 0} {obj : Ghosts O C R} where
     seat_other : (j : ℕ) → j ≢ i → seat after j ≡ seat s j
     seat_other j ne = get_or-set_other s.views i j u blank ne
 
-    seat_here : seat after i ≡ u
-    seat_here = get_or-set_same s.views i u blank sits
-
     seats_kept : length (set s.views i u) ≡ length s.views
     seats_kept = length-set s.views i u
 
@@ -131,11 +128,7 @@ module _ {O C R : Type 0} {obj : Ghosts O C R} where
     announces_more = omega (arith, idle_announced v.own none, idle_announced w none, length-append v.own.collected (answer (length v.front) call reply ∷ []))
 
     announced_more : (j : ℕ) → announced (own_at o.owns j) ≤ announced (own_at owns_after j)
-    announced_more j = dite (ℕ_discrete j i)
-        (λ e. let a : announced (own_at o.owns j) ≡ announced v.own = ap (λ (m : ℕ). announced (own_at o.owns m)) e ∙ ap announced (sym session.own_is) in
-        let b : announced (own_at owns_after j) ≡ announced w = ap (λ (m : ℕ). announced (own_at owns_after m)) e ∙ ap announced own_here in
-        omega (arith, announces_more))
-        (λ ne. let a : announced (own_at owns_after j) ≡ announced (own_at o.owns j) = ap announced (own_other j ne) in omega arith)
+    announced_more = each_set o.owns i w fresh (λ j x. announced (own_at o.owns j) ≤ announced x) (omega (arith, o.owns_are)) (omega (arith, ap announced session.own_is, announces_more)) (λ j ne. omega arith)
 
     heard_after : (m j : ℕ) → get_or (seat after m).heard j 0 ≤ announced (own_at owns_after j)
     heard_after m j = each_set s.views i u blank (λ m x. get_or x.heard j 0 ≤ announced (own_at owns_after j)) sits (omega (arith, heard_few s o i v me j, announced_more j))
@@ -168,9 +161,7 @@ module _ {O C R : Type 0} {obj : Ghosts O C R} where
         (λ j ne has_too. absurd (ne (sym (o.combiners j has_too).lock_is ∙ object.lock_is)))
 
     pending_kept : (j : ℕ) → (own_at owns_after j).pending ≡ (own_at o.owns j).pending
-    pending_kept j = dite (ℕ_discrete j i)
-        (λ e. ap (λ (m : ℕ). (own_at owns_after m).pending) e ∙ (ap (λ (x : Own C R). x.pending) own_here ∙ (ap (λ (x : Own C R). x.pending) session.own_is ∙ ap (λ (m : ℕ). (own_at o.owns m).pending) (sym e))))
-        (λ ne. ap (λ (x : Own C R). x.pending) (own_other j ne))
+    pending_kept = each_set o.owns i w fresh (λ j x. x.pending ≡ (own_at o.owns j).pending) (omega (arith, o.owns_are)) (ap (λ (x : Own C R). x.pending) session.own_is) (λ j ne. refl)
 
     opens_after : (m j : ℕ) (c : C) → get_elem? (seat after m).combiner.opened j ≡ opt.some (Some c) → IsOpened after owns_after (seat after m).combiner j c
     opens_after m j c there =

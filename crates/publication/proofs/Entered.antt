@@ -1,5 +1,6 @@
 -- Each place of the history was entered by exactly one session.
 use Rattle.std.proofs.Common.{◌≡◌, ◌≢◌, ◌⊎◌, inl, inr, ⊎_elim, ℕ, zero, suc, ◌+◌, ◌<◌, ◌==◌, cond, Bool, true, Option, List, [], ◌∷◌, ◌++◌, length, get_or, set, refl, sym, ap, subst, ◌∙◌, arith, append-nil, length-append, length-set, eq-eqb, ne_eqb}
+use Rattle.std.proofs.lemmas.List.{get_or_push}
 use mathlib.Core.Option as opt
 use mathlib.Core.Logic.{dite}
 use native.Mathlib.Decide.{ℕ_discrete}
@@ -13,7 +14,7 @@ use Rattle.publication.specs.Words.{FREE, POSTED, SERVED, CLOSED, EMPTY}
 use Rattle.publication.specs.Views.{Pending, Handed}
 use Rattle.publication.specs.Rule.{blank, BoardState, seat}
 use Rattle.publication.specs.List.{IsRuled}
-use Rattle.publication.specs.Kinds.{Seated, handed_in}
+use Rattle.publication.specs.StepKinds.{Seated, handed_in}
 use Rattle.publication.specs.Collected.{HasCollected}
 use Rattle.publication.specs.BoardHistory.{history_of}
 use Rattle.publication.specs.Entered.{HasEnteredPlaces, AreRising, AreEnteredOnce}
@@ -292,11 +293,7 @@ module _ {O C R : Type 0} {obj : Ghosts O C R} where
 
         last : seat t (length s.views) ≡ c.right
         last = subst (λ (x : BoardState O C R). seat x (length s.views) ≡ c.right) (sym c.is)
-            (subst (λ (k : ℕ). get_or (set s.views c.id c.left ++ c.right ∷ []) k blank ≡ c.right) (length-set s.views c.id c.left) (at-seam (set s.views c.id c.left) c.right))
-          where
-            at-seam : (l : List (View C R)) (x : View C R) → get_or (l ++ x ∷ []) (length l) blank ≡ x
-            at-seam [] x = refl
-            at-seam (y ∷ ys) x = at-seam ys x
+            (get_or_push (set s.views c.id c.left) c.right blank (length s.views) (length-set s.views c.id c.left))
 
         -- A session that is made now has entered nothing.
         unmade : c.right.number ≢ 0 → (i : ℕ) → get_elem? o.by i ≢ opt.some c.right.number

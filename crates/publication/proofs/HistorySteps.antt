@@ -10,7 +10,7 @@ use Rattle.sequential.specs.declared.entry.Entry.{Entry}
 use Rattle.publication.specs.Words.{word_of, session_of_word, FREE, POSTED, SERVED, CLOSED, EMPTY}
 use Rattle.publication.specs.Views.{Own, entry, answer, asks}
 use Rattle.publication.specs.Rule.{blank, BoardState, word, home, seat, IsOrderly}
-use Rattle.publication.specs.Kinds.{Seated, started, asked, posting, linking, enlisting, losing_head, HasTaken, seizing, releasing, noted, routing, bypassing, none_unlinked, opened_in, opening, in_hand, called, call_at, replied, answering, putting_back, entering, longer, learning, retiring, leaving}
+use Rattle.publication.specs.StepKinds.{Seated, started, asked, posting, linking, enlisting, losing_head, HasTaken, seizing, releasing, noted, routing, bypassing, none_unlinked, opened_in, opening, in_hand, called, call_at, replied, answering, putting_back, entering, longer, learning, retiring, leaving}
 use Rattle.publication.specs.Collected.{IsSeated}
 use Rattle.publication.specs.BoardHistory.{history_in}
 use Rattle.publication.specs.Runs.{StepName, start, post, look_at_head, link, enlist, look_for_reply, take_reply, look_at_lock, seize, release, walk, walk_on, unlink, mark_out, relink, look_at_record, open_record, lay, pick, answer_record, put_back, enter, learn, compare, retire, leave, drowse, kind_of, LaysDownLoad, StepRequires, LaysDownItsOwn}

@@ -9,7 +9,7 @@ use Rattle.sequential.specs.Histories.{Answered}
 use Rattle.sequential.specs.Linearizable.{Event, invocation, response, calls_in, IsWellFormed, IsLinearization}
 use Rattle.publication.specs.Moments.{session_of, noted_from, noted_by}
 use Rattle.publication.specs.Views.{Pending, Own, Handed}
-use Rattle.publication.specs.Rule.{blank, BoardState, seat, own_at, IsOrderly}
+use Rattle.publication.specs.Rule.{blank, BoardState, seat, own_at}
 use Rattle.publication.specs.List.{IsRuled}
 use Rattle.publication.specs.Collected.{HasCollected}
 use Rattle.publication.specs.BoardHistory.{history_of}
@@ -63,9 +63,6 @@ module _ {C R : Type 0} where
 
 module _ {O C R : Type 0} {obj : Ghosts O C R} where
   module _ (s : BoardState O C R) (r : IsRuled obj s) where
-    abbrev o : IsOrderly obj s
-    o = r.records
-
     abbrev events : List (Event C R)
     events = r.records.in_time.events
 

@@ -11,7 +11,7 @@ use Rattle.sequential.specs.declared.entry.Entry.{Entry}
 use Rattle.publication.specs.Views.{IsAccountedIn}
 use Rattle.publication.specs.Rule.{blank, BoardState, word, seat, own_at, announced, AreTrue, IsOrderly}
 use Rattle.publication.specs.List.{IsLinked, IsRuled, IsBounded}
-use Rattle.publication.specs.Kinds.{longer, learning, learns, compares}
+use Rattle.publication.specs.StepKinds.{longer, learning, learns, compares}
 use Rattle.publication.specs.declared.view.View.{View}
 use Rattle.publication.specs.declared.slot.SlotValue.{SlotValue}
 use Rattle.publication.proofs.Lists.{at_there, each_set, prefix_whole}

@@ -10,11 +10,11 @@ use Rattle.sequential.specs.declared.object.Sequential.{Ghosts}
 use Rattle.sequential.specs.Histories.{Answered, calls_from, calls_of, IsEntryWithin}
 use Rattle.sequential.specs.Linearizable.{Event, Calls, calls_in, invoked, performed_by, IsCompletionOf, IsLinearization}
 use Rattle.sequential.proofs.Members.{Member, member-contains}
-use Rattle.sequential.proofs.SessionCalls.{contains-entry}
+use Rattle.sequential.proofs.SessionCalls.{calls_from-append, contains-entry}
 use Rattle.publication.specs.Views.{Pending, IsAccountedIn, entry, answer}
 use Rattle.publication.specs.Rule.{BoardState, IsOrderly}
 use Rattle.publication.specs.List.{IsRuled}
-use Rattle.publication.specs.Kinds.{replied}
+use Rattle.publication.specs.StepKinds.{replied}
 use Rattle.publication.specs.BoardHistory.{history_of, new_board}
 use Rattle.publication.specs.Runs.{StepName, answer_record, enter, IsStep, IsMove, IsRun, stop, move, calls_made}
 use Rattle.publication.specs.Linearizable.{told_in, IsOfPending, IsCarriedOut, AreEventsOfRun}
@@ -25,7 +25,7 @@ use Rattle.publication.proofs.BoardHistory.{is-history}
 use Rattle.publication.proofs.Collected.{own-of}
 use Rattle.publication.proofs.HistorySteps.{joins, hand-within}
 use Rattle.publication.proofs.ListLaws.{run_keeps}
-use Rattle.publication.proofs.RealTime.{is-answer, is-enter, step-enters, step-unchanged, seats-unchanged, still-ruled, begins, accounted, behind-all, calls-longer, there}
+use Rattle.publication.proofs.RealTime.{is-answer, is-enter, step-enters, step-unchanged, seats-unchanged, still-ruled, begins, accounted, behind-all, there}
 
 module _ {C R : Type 0} where
   -- Calls of a session, and what they say of its answers.
@@ -74,7 +74,7 @@ module _ {C R : Type 0} where
   placed : (h rest : List (Entry C R)) (i : ℕ) (answers : List (Answered C R)) (pending : Option (Pending C)) → IsAccountedIn h i answers pending → (x : Answered C R) (first others : List (Answered C R))
       → calls_of i (h ++ rest) ≡ first ++ x ∷ others → length first < length answers → x.place < length h
   placed h rest i answers pending stands x first others is lt =
-      let whole : calls_of i h ++ calls_from i (0 + length h) rest ≡ first ++ x ∷ others = sym (calls-longer i 0 h rest) ∙ is in
+      let whole : calls_of i h ++ calls_from i (0 + length h) rest ≡ first ++ x ∷ others = sym (calls_from-append i 0 h rest) ∙ is in
       let m = in-first (calls_of i h) (calls_from i (0 + length h) rest) first x others whole (enough stands) in
       there h x.place (entry i x.call x.reply) (contains-entry i h x (member-contains x (calls_of i h) m))
     where

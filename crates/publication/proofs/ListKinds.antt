@@ -14,7 +14,7 @@ use Rattle.publication.specs.Words.{word_of, link_of, session_of_word, END}
 use Rattle.publication.specs.Views.{Own, Listing}
 use Rattle.publication.specs.Rule.{blank, BoardState, word, home, seat, own_at, announced, RecordState, HasObject, IsOrderly}
 use Rattle.publication.specs.List.{IsOn, AreApart, Chain, link, belongs, is_listed, IsWalking, IsLinked, IsRuled, IsBounded}
-use Rattle.publication.specs.Kinds.{as_session, tried_head, heard_all, HasAnother, looks_at_head, linking, links, losing_head, enlisting, enlists, routing, MeetsAll, walks, walks_on_from, walks_on}
+use Rattle.publication.specs.StepKinds.{as_session, tried_head, heard_all, HasAnother, looks_at_head, linking, links, losing_head, enlisting, enlists, routing, MeetsAll, walks, walks_on_from, walks_on}
 use Rattle.publication.specs.declared.view.View.{View}
 use Rattle.publication.specs.declared.slot.SlotValue.{SlotValue}
 use Rattle.publication.proofs.Lists.{at_there, each_set, prefix_self}

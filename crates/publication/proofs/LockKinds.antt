@@ -19,7 +19,7 @@ use Rattle.publication.specs.Pieces.{pieces_of, HasAdded, added}
 use Rattle.publication.specs.Views.{Combiner, Taken, IsAccountedIn}
 use Rattle.publication.specs.declared.piece.Piece.{Piece}
 use Rattle.publication.specs.Sleep.{Sleep, having_freed}
-use Rattle.publication.specs.Kinds.{Seated, combiner, as_combiner, with_pieces, with_sleep, no_walk, HasOthers, looks_at_lock, seizing, Seized, seizes_within, releasing, releases}
+use Rattle.publication.specs.StepKinds.{Seated, combiner, as_combiner, with_pieces, with_sleep, no_walk, HasOthers, looks_at_lock, seizing, Seized, seizes_within, releasing, releases}
 use Rattle.publication.specs.declared.view.View.{View}
 use Rattle.publication.specs.declared.slot.Load.{Load}
 use Rattle.publication.specs.declared.slot.SlotValue.{SlotValue}

@@ -4,7 +4,7 @@ use Rattle.std.specs.Prelude.{nat_lt}
 use Rattle.std.proofs.lemmas.Bool.{ltb-true, ltb-false}
 use mathlib.Core.List.{IsPrefix}
 use Rattle.sequential.specs.declared.entry.Entry.{Entry}
-use Rattle.publication.specs.Kinds.{maxes, longer}
+use Rattle.publication.specs.StepKinds.{maxes, longer}
 use Rattle.publication.proofs.Lists.{prefix_self, prefix_both, prefix_whole}
 
 module _ {C R : Type 0} where

@@ -1,13 +1,10 @@
 -- What sessions note of events, and one event more.
-use Rattle.std.proofs.Common.{◌≡◌, ◌≢◌, ℕ, suc, ◌+◌, Bool, true, false, cond, eqb, Option, Some, None, List, [], ◌∷◌, ◌++◌, length, refl, ap, ◌∙◌, arith, eq-eqb, ne_eqb, append-nil}
+use Rattle.std.proofs.Common.{◌≡◌, ◌≢◌, ℕ, suc, ◌+◌, Bool, cond, eqb, Option, Some, None, List, [], ◌∷◌, ◌++◌, length, refl, ap, ◌∙◌, arith, eq-eqb, ne_eqb, append-nil}
 use Rattle.sequential.specs.Linearizable.{Event, invocation, response, Calls, after_response, after_event, after_events, calls_in}
+use Rattle.sequential.proofs.SessionCalls.{same-append}
 use Rattle.publication.specs.Moments.{session_of, noted_from, noted_by}
 
 module _ {C R : Type 0} where
-  same-append : (b : Bool) (x : ℕ × Event C R) (xs ys : List (ℕ × Event C R)) → cond b (x ∷ (xs ++ ys)) (xs ++ ys) ≡ cond b (x ∷ xs) xs ++ ys
-  same-append true x xs ys = refl
-  same-append false x xs ys = refl
-
   pub noted-append : (i at : ℕ) (xs ys : List (Event C R)) → noted_from i at (xs ++ ys) ≡ noted_from i at xs ++ noted_from i (at + length xs) ys
   noted-append i at [] ys = let z : at ≡ at + 0 = omega arith in ap (λ (p : ℕ). noted_from i p ys) z
   noted-append i at (e ∷ xs) ys =

@@ -1,6 +1,6 @@
 -- A new board has the rule, and keeps it while its sessions are made.
 use Rattle.std.proofs.Common.{◌≡◌, ◌≢◌, ℕ, zero, suc, ◌+◌, ◌<◌, ◌≤◌, Bool, true, false, Some, None, List, [], ◌∷◌, ◌++◌, length, map, replicate, get_or, set, sym, refl, ap, ◌∙◌, subst, arith, length-set, length-append, get_or-set_other, get_or-set_same, inl, inr}
-use Rattle.std.proofs.lemmas.List.{length-map, length-replicate}
+use Rattle.std.proofs.lemmas.List.{get_or_push, length-map, length-replicate}
 use mathlib.Core.Option as opt
 use mathlib.Core.List.{IsPrefix}
 use lib.ListN.{get_elem?}
@@ -48,11 +48,6 @@ module _ {C R : Type 0} where
   first_seats : (v : View C R) (P : View C R → Type 0) → P v → P blank → (k : ℕ) → P (get_or (v ∷ []) k blank)
   first_seats v P here else zero = here
   first_seats v P here else (suc k) = else
-
-  -- The last of more seats is the new one.
-  at_seam : (l : List (View C R)) (x : View C R) → get_or (l ++ x ∷ []) (length l) blank ≡ x
-  at_seam [] x = refl
-  at_seam (y ∷ ys) x = at_seam ys x
 
 module _ {O C R : Type 0} {obj : Ghosts O C R} where
   -- The board of n sessions before any is made.
@@ -273,7 +268,7 @@ module _ {O C R : Type 0} {obj : Ghosts O C R} where
         (λ k n was. was)
 
     newest : seat enrolled (length s.views) ≡ joined
-    newest = subst (λ (k : ℕ). get_or (set s.views 0 more ++ joined ∷ []) k blank ≡ joined) long_now (at_seam (set s.views 0 more) joined)
+    newest = subst (λ (k : ℕ). get_or (set s.views 0 more ++ joined ∷ []) k blank ≡ joined) long_now (get_or_push (set s.views 0 more) joined blank (length (set s.views 0 more)) refl)
 
     enrols_one : IsOrderly obj enrolled
     enrols_one = record {

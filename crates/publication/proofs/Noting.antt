@@ -12,7 +12,7 @@ use Rattle.publication.specs.Moments.{session_of, noted_from, noted_by}
 use Rattle.publication.specs.Views.{Handed}
 use Rattle.publication.specs.Rule.{blank, maker, new_session, BoardState, own_at}
 use Rattle.publication.specs.List.{IsRuled}
-use Rattle.publication.specs.Kinds.{copy_of, front_copy_of, joined, handed_in, gathered}
+use Rattle.publication.specs.StepKinds.{copy_of, front_copy_of, joined, handed_in, gathered}
 use Rattle.publication.specs.Instants.{HasView, Tells, AreEventsOf, AreFrom}
 use Rattle.publication.specs.Runs.{IsSeatSplit, IsSeatJoin}
 use Rattle.publication.specs.declared.view.View.{View}

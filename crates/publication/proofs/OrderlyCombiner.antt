@@ -16,7 +16,7 @@ use Rattle.publication.specs.Pieces.{pieces_of}
 use Rattle.publication.specs.Views.{Own, Combiner, Listing, Handed, Others, Taken, asks}
 use Rattle.publication.specs.Rule.{blank, BoardState, word, home, seat, fresh, own_at, announced, IsHome, RecordState, HasObject, IsOpened, IsSession, IsMaker, AreTrue, pieces_in, IsOfSession, HasPieces, ArePresent, calls_known, IsInTime, IsOrderly}
 use Rattle.publication.specs.Sleep.{Sleep}
-use Rattle.publication.specs.Kinds.{as_combiner, with_pieces, with_sleep}
+use Rattle.publication.specs.StepKinds.{as_combiner, with_pieces, with_sleep}
 use Rattle.publication.specs.declared.piece.Piece.{Piece}
 use Rattle.publication.specs.declared.view.View.{View}
 use Rattle.publication.specs.declared.slot.Load.{Load}

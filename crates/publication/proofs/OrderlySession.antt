@@ -9,7 +9,7 @@ use Rattle.sequential.specs.declared.entry.Entry.{Entry}
 use Rattle.publication.specs.Words.{word_of, BUSY}
 use Rattle.publication.specs.Views.{Own, Combiner, Listing, Others}
 use Rattle.publication.specs.Rule.{blank, BoardState, word, home, seat, fresh, own_at, announced, RecordState, HasObject, IsOpened, IsSession, IsMaker, AreTrue, HasPieces, IsInTime, IsOrderly}
-use Rattle.publication.specs.Kinds.{as_session}
+use Rattle.publication.specs.StepKinds.{as_session}
 use Rattle.publication.specs.declared.view.View.{View}
 use Rattle.publication.specs.declared.slot.SlotValue.{SlotValue}
 use Rattle.publication.proofs.Lists.{at_there, each_set, prefix_self}
@@ -74,9 +74,6 @@ module _ {O C R : Type 0} {obj : Ghosts O C R} where
     seat_other : (j : ℕ) → j ≢ i → seat after j ≡ seat s j
     seat_other j ne = get_or-set_other s.views i j u blank ne
 
-    seat_here : seat after i ≡ u
-    seat_here = get_or-set_same s.views i u blank sits
-
     seats_kept : length (set s.views i u) ≡ length s.views
     seats_kept = length-set s.views i u
 
@@ -87,23 +84,14 @@ module _ {O C R : Type 0} {obj : Ghosts O C R} where
     own_here = get_or-set_same o.owns i w fresh (omega (arith, o.owns_are))
 
     combiner_kept : (k : ℕ) → (seat after k).combiner ≡ (seat s k).combiner
-    combiner_kept k = dite (ℕ_discrete k i)
-        (λ e. ap (λ (j : ℕ). (seat after j).combiner) e
-        ∙ (ap (λ (x : View C R). x.combiner) seat_here ∙ (ap (λ (x : View C R). x.combiner) (sym is_me) ∙ ap (λ (j : ℕ). (seat s j).combiner) (sym e))))
-        (λ ne. ap (λ (x : View C R). x.combiner) (seat_other k ne))
+    combiner_kept = each_set s.views i u blank (λ j x. x.combiner ≡ (seat s j).combiner) sits (ap (λ (x : View C R). x.combiner) (sym is_me)) (λ j ne. refl)
 
     session_before : IsSession o.slots o.owns i v
     session_before = session_of s o i v me lives
 
     module _ (k : IsOwnStep) where
-      published_here : (j : ℕ) → j ≡ i → announced (own_at owns_after j) ≡ announced w
-      published_here j e = ap (λ (m : ℕ). announced (own_at owns_after m)) e ∙ ap announced own_here
-
       published_more : (j : ℕ) → announced (own_at o.owns j) ≤ announced (own_at owns_after j)
-      published_more j = dite (ℕ_discrete j i)
-          (λ e. let a : announced (own_at o.owns j) ≡ announced v.own = ap (λ (m : ℕ). announced (own_at o.owns m)) e ∙ ap announced (sym session_before.own_is) in
-          omega (arith, published_here j e, k.more))
-          (λ ne. let a : announced (own_at owns_after j) ≡ announced (own_at o.owns j) = ap announced (own_other j ne) in omega arith)
+      published_more = each_set o.owns i w fresh (λ j x. announced (own_at o.owns j) ≤ announced x) (omega (arith, o.owns_are)) (omega (arith, ap announced session_before.own_is, k.more)) (λ j ne. omega arith)
 
       makes_after : IsMaker o.slots (length (set s.views i u)) (seat after 0)
       makes_after = subst (λ (m : ℕ). IsMaker o.slots m (seat after 0)) (sym seats_kept)
@@ -118,9 +106,7 @@ module _ {O C R : Type 0} {obj : Ghosts O C R} where
           (λ j ne some_number. let t = o.sessions j some_number in record { own_is = t.own_is ∙ sym (own_other j ne); is = t.is; small = t.small; wide = t.wide })
 
       heard_here : (j : ℕ) → get_or heard j 0 ≤ announced (own_at owns_after j)
-      heard_here j = dite (ℕ_discrete j i)
-          (λ e. let a : get_or heard j 0 ≡ get_or heard i 0 = ap (λ (m : ℕ). get_or heard m 0) e in omega (arith, k.hears_own, published_here j e))
-          (λ ne. omega (arith, k.hears j ne, heard_few s o i v me j, published_more j))
+      heard_here = each_set o.owns i w fresh (λ j x. get_or heard j 0 ≤ announced x) (omega (arith, o.owns_are)) k.hears_own (λ j ne. omega (arith, k.hears j ne, heard_few s o i v me j))
 
       heard_after : (m j : ℕ) → get_or (seat after m).heard j 0 ≤ announced (own_at owns_after j)
       heard_after m j = each_set s.views i u blank (λ m x. get_or x.heard j 0 ≤ announced (own_at owns_after j)) sits (heard_here j)

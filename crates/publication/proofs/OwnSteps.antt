@@ -10,7 +10,7 @@ use Rattle.publication.specs.Words.{word_of, FREE, POSTED, BUSY, SERVED, CLOSED,
 use Rattle.publication.specs.Views.{Own, Combiner, answer, asks}
 use Rattle.publication.specs.Rule.{blank, BoardState, word, seat, own_at}
 use Rattle.publication.specs.List.{IsRuled}
-use Rattle.publication.specs.Kinds.{Seated, asked, opened_in}
+use Rattle.publication.specs.StepKinds.{Seated, asked, opened_in}
 use Rattle.publication.specs.BoardHistory.{history_of}
 use Rattle.publication.specs.PublishedRecords.{Published, HasCallPending, HoldsNothing, IsPublished, IsServedFurther, IsPublishedOrCollected}
 use Rattle.publication.specs.PublishedRecords.Published.{nothing, waiting, opened, answered}

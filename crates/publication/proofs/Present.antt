@@ -7,7 +7,7 @@ use lib.ListN.{get_elem?}
 use Rattle.publication.specs.Views.{Handed}
 use Rattle.publication.specs.Rule.{blank, maker, new_session, BoardState, seat, IsPresent, ArePresent}
 use Rattle.publication.specs.List.{IsRuled}
-use Rattle.publication.specs.Kinds.{copy_of, front_copy_of, joined, handed_in, gathered}
+use Rattle.publication.specs.StepKinds.{copy_of, front_copy_of, joined, handed_in, gathered}
 use Rattle.publication.specs.Runs.{IsSeatSplit, IsSeatJoin}
 use Rattle.publication.specs.declared.view.View.{View}
 use Rattle.publication.proofs.Lists.{at_there, at_pushed, each_set, each_snoc, past_end}

@@ -12,7 +12,7 @@ use Rattle.publication.specs.Rule.{blank, BoardState, word, home, seat, own_at, 
 use Rattle.publication.specs.Rule.RecordState.{vacant, posted, busy, served, retired}
 use Rattle.publication.specs.List.{IsOn, head_of, belongs, is_listed, link, IsRuled}
 use Rattle.publication.specs.PublicationList.{IsPublicationList, HasRoomForEnd, HasPending, IsUnlinkedNow}
-use Rattle.publication.specs.Kinds.{replied}
+use Rattle.publication.specs.StepKinds.{replied}
 use Rattle.publication.specs.BoardHistory.{history_of}
 use Rattle.publication.specs.PublishedRecords.{Published, HasCallPending, HoldsNothing, IsPublished, IsServedFurther, HasListedCall}
 use Rattle.publication.specs.PublishedRecords.Published.{nothing, waiting, opened, answered}

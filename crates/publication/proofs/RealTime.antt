@@ -9,12 +9,12 @@ use Rattle.atomic_table.specs.Table.{stepped}
 use Rattle.sequential.specs.declared.entry.Entry.{Entry}
 use Rattle.sequential.specs.Histories.{Answered, calls_from, calls_of}
 use Rattle.sequential.proofs.Members.{Member, contains-member, member-contains}
-use Rattle.sequential.proofs.SessionCalls.{contains-entry}
+use Rattle.sequential.proofs.SessionCalls.{calls_from-append, contains-entry}
 use Rattle.publication.specs.Words.{FREE}
 use Rattle.publication.specs.Views.{Pending, IsAccountedIn, entry, answer}
 use Rattle.publication.specs.Rule.{blank, BoardState, word, home, seat, own_at, IsOrderly}
 use Rattle.publication.specs.List.{IsRuled}
-use Rattle.publication.specs.Kinds.{replied}
+use Rattle.publication.specs.StepKinds.{replied}
 use Rattle.publication.specs.Collected.{IsSeated, HasCollected}
 use Rattle.publication.specs.BoardHistory.{history_of, IsAppended, IsEnteredDirectly, IsAccounted}
 use Rattle.publication.specs.Runs.{StepName, answer_record, enter, IsStep, IsSeatSplit, IsSeatJoin, IsMove, IsRun, stop, move, calls_made, RespectsRealTime}
@@ -228,20 +228,6 @@ module _ {O C R : Type 0} {obj : Ghosts O C R} where
       at m = there (history_of obj s) x.place (entry i x.call x.reply) (contains-entry i (history_of obj s) x (member-contains x (calls_of i (history_of obj s)) m))
 
 module _ {C R : Type 0} where
-  -- The calls of a longer history.
-  pub calls-longer : (i k : ℕ) (h rest : List (Entry C R)) → calls_from i k (h ++ rest) ≡ calls_from i k h ++ calls_from i (k + length h) rest
-  calls-longer i k [] rest = ap (λ (n : ℕ). calls_from i n rest) (let z : k ≡ k + 0 = omega arith in z)
-  calls-longer i k (x ∷ xs) rest =
-      let n : k + 1 + length xs ≡ k + suc (length xs) = omega arith in
-      let later = calls-longer i (k + 1) xs rest ∙ ap (λ (j : ℕ). calls_from i (k + 1) xs ++ calls_from i j rest) n in
-      go (eqb x.session i) later
-    where
-      go : (b : Bool) → calls_from i (k + 1) (xs ++ rest) ≡ calls_from i (k + 1) xs ++ calls_from i (k + suc (length xs)) rest
-          → cond b (answer k x.call x.reply ∷ calls_from i (k + 1) (xs ++ rest)) (calls_from i (k + 1) (xs ++ rest))
-          ≡ cond b (answer k x.call x.reply ∷ calls_from i (k + 1) xs) (calls_from i (k + 1) xs) ++ calls_from i (k + suc (length xs)) rest
-      go true e = ap (λ (l : List (Answered C R)). answer k x.call x.reply ∷ l) e
-      go false e = e
-
   late-place : (i k : ℕ) (h : List (Entry C R)) (y : Answered C R) → Member y (calls_from i k h) → k ≤ y.place
   late-place i k [] y m = absurd m
   late-place i k (x ∷ xs) y m = go (λ h. let n = late-place i (k + 1) xs y h in omega (arith, n)) (eqb x.session i) m
@@ -274,7 +260,7 @@ module _ {O C R : Type 0} {obj : Ghosts O C R} where
       let b = begins r leads in
       let n = few-made obj s j mine my_pending (accounted s r j mine my_pending has) in
       let whole : calls_from j 0 (history_of obj s) ++ calls_from j (0 + length (history_of obj s)) b.0 ≡ before ++ y ∷ behind
-      = sym (calls-longer j 0 (history_of obj s) b.0) ∙ (ap (calls_of j) b.1 ∙ is) in
+      = sym (calls_from-append j 0 (history_of obj s) b.0) ∙ (ap (calls_of j) b.1 ∙ is) in
       let m = in-second (calls_from j 0 (history_of obj s)) (calls_from j (0 + length (history_of obj s)) b.0) before y behind whole (omega (arith, n, le)) in
       let p = late-place j (0 + length (history_of obj s)) b.0 y m in
       omega (arith, p)

@@ -15,7 +15,7 @@ use Rattle.publication.specs.List.{belongs, IsLinked, IsBounded}
 use Rattle.publication.specs.Views.{Own, Combiner, IsAccountedIn, entry, answer, asks}
 use Rattle.publication.specs.Rule.{blank, BoardState, word, home, seat, own_at, announced, IsPosted, IsBusy, RecordState, HasObject, IsOpened, IsOrderly}
 use Rattle.publication.specs.Rule.RecordState.{posted, busy, served}
-use Rattle.publication.specs.Kinds.{Seated, combiner, as_combiner, opened_in, called, call_at, HasEntered, looks_at, looks_at_record, opening, Opened, opens_record, opens, in_hand, lays, picks_slot, picks, with_entered, answering, answers, putting_back, puts_back}
+use Rattle.publication.specs.StepKinds.{Seated, combiner, as_combiner, opened_in, called, call_at, HasEntered, looks_at, looks_at_record, opening, Opened, opens_record, opens, in_hand, lays, picks_slot, picks, with_entered, answering, answers, putting_back, puts_back}
 use Rattle.publication.specs.declared.view.View.{View}
 use Rattle.publication.specs.declared.slot.SlotValue.{SlotValue}
 use Rattle.publication.specs.declared.slot.SlotValue.TheVariants.{Empty, PostedCall, ServedReply}

@@ -1,7 +1,7 @@
 -- What the head word or a link word names, as a record's number.
 use Rattle.std.proofs.Common.{◌≡◌, ◌≢◌, inl, inr, ℕ, ◌<◌, ◌==◌, Bool, true, false, cond, Option, Some, None, List, [], ◌∷◌, refl, ap, ◌∙◌, arith, IfSome, IfNone}
 use Rattle.publication.specs.List.{IsOn, AreApart, head_of, first_of, behind}
-use Rattle.publication.specs.Kinds.{IsRoute}
+use Rattle.publication.specs.StepKinds.{IsRoute}
 
 -- Each record behind q on a route is on the route.
 pub on_behind : (p q : ℕ) (l : List ℕ) → IsOn p (behind q l) → IsOn p l

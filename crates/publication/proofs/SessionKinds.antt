@@ -17,7 +17,7 @@ use Rattle.publication.specs.Views.{Own, entry, answer, asks}
 use Rattle.publication.specs.Rule.{blank, BoardState, word, home, seat, own_at, announced, IsVacant, IsServed, RecordState, call_of, IsOrderly}
 use Rattle.publication.specs.Rule.RecordState.{vacant, posted, retired}
 use Rattle.publication.specs.List.{belongs, IsLinked, IsRuled, IsBounded}
-use Rattle.publication.specs.Kinds.{Seated, own, as_session, forget_head, heard_all, started, starts, posting, posts, IsUnanswered, looks_for_reply, taking, Took, takes_reply, retiring, retires, leaving, leaves}
+use Rattle.publication.specs.StepKinds.{Seated, own, as_session, forget_head, heard_all, started, starts, posting, posts, IsUnanswered, looks_for_reply, taking, Took, takes_reply, retiring, retires, leaving, leaves}
 use Rattle.publication.specs.declared.view.View.{View}
 use Rattle.publication.specs.declared.slot.SlotValue.{SlotValue}
 use Rattle.publication.specs.declared.slot.SlotValue.TheVariants.{Empty, PostedCall, ServedReply}

@@ -10,7 +10,7 @@ use Rattle.sequential.specs.Histories.{Answered}
 use Rattle.publication.specs.Words.{FREE, POSTED, SERVED, CLOSED, EMPTY}
 use Rattle.publication.specs.Views.{Pending, Handed, answer}
 use Rattle.publication.specs.Rule.{blank, BoardState, seat}
-use Rattle.publication.specs.Kinds.{Seated, joined, handed_in, gathered}
+use Rattle.publication.specs.StepKinds.{Seated, joined, handed_in, gathered}
 use Rattle.publication.specs.Collected.{IsSeated, IsHandedIn, HasCollected}
 use Rattle.publication.specs.Runs.{StepName, start, post, look_at_head, link, enlist, look_for_reply, take_reply, look_at_lock, seize, release, walk, walk_on, unlink, mark_out, relink, look_at_record, open_record, lay, pick, answer_record, put_back, enter, learn, compare, retire, leave, drowse, kind_of, IsStep, IsSeatSplit, IsSeatJoin, IsMove, IsRun, stop, move}
 use Rattle.publication.specs.declared.view.View.{View}

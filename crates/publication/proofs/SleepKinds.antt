@@ -15,7 +15,7 @@ use Rattle.publication.specs.Sleep.SleepStep.{lie_down, tell_sleepers, look_if_h
 use Rattle.publication.specs.Rule.{blank, BoardState, word, seat, AreTrue, IsOrderly}
 use Rattle.publication.specs.Sleepers.{sleep_word, sleep_at, AreHeeded, HasHeededSleepers}
 use Rattle.publication.specs.List.{link, belongs, IsLinked, IsRuled, IsBounded}
-use Rattle.publication.specs.Kinds.{with_sleep, sleeps_so, drowses}
+use Rattle.publication.specs.StepKinds.{with_sleep, sleeps_so, drowses}
 use Rattle.publication.specs.declared.view.View.{View}
 use Rattle.publication.specs.declared.slot.SlotValue.{SlotValue}
 use Rattle.publication.proofs.Lists.{at_there, each_set}

@@ -1,6 +1,6 @@
 -- The splits and joins by which one seat learns what another knows keep the rule.
 use Rattle.std.proofs.Common.{◌≡◌, ◌≢◌, ◌⊎◌, inl, inr, ⊎_elim, ℕ, ◌+◌, ◌<◌, ◌≤◌, ◌||◌, Bool, true, false, Some, None, List, [], ◌∷◌, ◌++◌, length, map, get_or, set, sym, refl, ap, ◌∙◌, subst, arith, length-set, length-append, get_or-set_same}
-use Rattle.std.proofs.lemmas.List.{map-append}
+use Rattle.std.proofs.lemmas.List.{get_or_push, map-append}
 use mathlib.Core.Option as opt
 use mathlib.Core.List.{IsPrefix}
 use lib.ListN.{get_elem?}
@@ -12,7 +12,7 @@ use Rattle.publication.specs.Sleep.{Sleep, taking_over}
 use Rattle.publication.specs.Views.{Own, Handed, Others}
 use Rattle.publication.specs.Rule.{blank, BoardState, word, home, seat, own_at, announced, RecordState, IsSession, IsMaker, IsHanded, AreTrue, HasPieces, ArePresent, IsOrderly}
 use Rattle.publication.specs.List.{belongs, IsLinked, IsRuled}
-use Rattle.publication.specs.Kinds.{copy_with, copy_of, front_copy_of, as_hearer, joined, handed_in, gathered}
+use Rattle.publication.specs.StepKinds.{copy_with, copy_of, front_copy_of, as_hearer, joined, handed_in, gathered}
 use Rattle.publication.specs.declared.view.View.{View}
 use Rattle.atomic_table.proofs.Lists.{set_again, set_else}
 use Rattle.publication.proofs.Lists.{at_there, at_pushed, each_set, each_snoc, past_end}
@@ -274,7 +274,7 @@ module _ {O C R : Type 0} {obj : Ghosts O C R} where
             })
             (sits-same s o vs (omega arith) gone))
             (present_more o.slots s (viewed s o vs) long (λ j ne. each (λ i x. i ≢ length s.views → IsAlike (seat s i) x) (λ z. absurd (z refl)) (λ i _. (refl, refl)) j ne)
-            (ap (λ (x : View C R). x.others.handed) (newest s.views b)) (λ few. absurd (omega (arith, few, enough))) o.present);
+            (ap (λ (x : View C R). x.others.handed) (get_or_push s.views b blank (length s.views) refl)) (λ few. absurd (omega (arith, few, enough))) o.present);
         list = seen_listed s l vs (each (Keeps s (viewed_as s l vs) l)
             (unseated s l vs (length s.views) b (ap (λ (x : View C R). x.own.listed) (sym (past_end s.views blank))) refl refl)
             (λ j. same_seat s (viewed_as s l vs) l j (λ c some. refl)));
@@ -283,10 +283,6 @@ module _ {O C R : Type 0} {obj : Ghosts O C R} where
       first_kept : (l : List (View C R)) (b : View C R) → 0 < length l → get_or (l ++ b ∷ []) 0 blank ≡ get_or l 0 blank
       first_kept [] b h = absurd (omega arith)
       first_kept (x ∷ xs) b h = refl
-
-      newest : (l : List (View C R)) (b : View C R) → get_or (l ++ b ∷ []) (length l) blank ≡ b
-      newest [] b = refl
-      newest (x ∷ xs) b = newest xs b
 
   -- Split copy: a new seat has a copy of what the seat knows.
   pub splits_copy : (id : ℕ) (v : View C R) → v.others.all_made ≡ true → Splits (IsRuled obj) id v v (copy_of v)

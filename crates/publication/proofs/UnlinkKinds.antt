@@ -15,7 +15,7 @@ use Rattle.publication.specs.Views.{Listing}
 use Rattle.publication.specs.Rule.{blank, BoardState, word, home, seat, IsOrderly}
 use Rattle.publication.specs.Rule.RecordState.{vacant}
 use Rattle.publication.specs.List.{IsOn, AreApart, head_of, first_of, behind, with_behind, Chain, link, belongs, is_listed, IsUnlinked, IsWalking, IsLinked, IsRuled, IsBounded}
-use Rattle.publication.specs.Kinds.{bypassing, unlinks_behind, unlinks, none_unlinked, marks_out, relinking, relinks}
+use Rattle.publication.specs.StepKinds.{bypassing, unlinks_behind, unlinks, none_unlinked, marks_out, relinking, relinks}
 use Rattle.publication.specs.declared.view.View.{View}
 use Rattle.publication.specs.declared.slot.SlotValue.{SlotValue}
 use Rattle.publication.proofs.Lists.{at_there, each_set, prefix_self}

@@ -22,11 +22,6 @@ pub falls_past : (told : List ℕ) (most j : ℕ) → AreFalling most j told →
 falls_past [] most j f = tt
 falls_past (x ∷ xs) most j f = (omega (arith, f.0), f.1, falls_past xs (x - 1) j f.2)
 
--- As many sessions as sleeps.
-pub sessions-length : (ended : List (ℕ × ℕ)) → length (sessions_of ended) ≡ length ended
-sessions-length [] = refl
-sessions-length (x ∷ xs) = length-append (sessions_of xs) (x.0 ∷ []) ∙ omega (arith, sessions-length xs)
-
 -- A further sleep is ended, and its session is written.
 pub roused_on : (most w : ℕ) (z y x : List (ℕ × ℕ)) (places written : List ℕ) (count n : ℕ) → 0 < w → w ≤ most → count < length places
     → x ≡ (w, n) ∷ y → AreRoused most w z y places written count → AreRoused most (w - 1) z x places (set written count w) (count + 1)

@@ -6,7 +6,7 @@ use lib.ListN.{get_elem?}
 use Rattle.publication.specs.Words.{FREE, OUT, POSTED, BUSY, SERVED, CLOSED, EMPTY}
 use Rattle.publication.specs.Views.{entry, asks}
 use Rattle.publication.specs.Rule.{BoardState, word, home, seat}
-use Rattle.publication.specs.Kinds.{opened_in}
+use Rattle.publication.specs.StepKinds.{opened_in}
 use Rattle.publication.specs.BoardHistory.{history_of}
 use Rattle.publication.specs.declared.slot.SlotValue.TheVariants.{Empty, PostedCall, ServedReply}
 use Rattle.sequential.specs.declared.object.Sequential.{Ghosts}

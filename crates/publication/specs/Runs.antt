@@ -10,7 +10,7 @@ use Rattle.publication.specs.Views.{Pending}
 use Rattle.publication.specs.Sleep.{SleepStep}
 use Rattle.publication.specs.Rule.{blank, maker, new_session, BoardState}
 use Rattle.publication.specs.List.{IsRuled}
-use Rattle.publication.specs.Kinds.{Seated, Kind, starts, posts, looks_at_head, links, enlists, looks_for_reply, takes_reply, looks_at_lock, seizes, releases, walks, walks_on, unlinks, marks_out, relinks, looks_at_record, opened_in, opens, lays, picks, answers, puts_back, enters, copy_of, front_copy_of, joined, learns, compares, retires, leaves, gathered, drowses}
+use Rattle.publication.specs.StepKinds.{Seated, Kind, starts, posts, looks_at_head, links, enlists, looks_for_reply, takes_reply, looks_at_lock, seizes, releases, walks, walks_on, unlinks, marks_out, relinks, looks_at_record, opened_in, opens, lays, picks, answers, puts_back, enters, copy_of, front_copy_of, joined, learns, compares, retires, leaves, gathered, drowses}
 use Rattle.publication.specs.Collected.{HasCollected}
 use Rattle.publication.specs.declared.view.View.{View}
 use Rattle.publication.specs.declared.slot.Load.{Load}

@@ -1,7 +1,7 @@
 -- What a step of the code tells: its outcome, and that what its kind requires was met.
 use Rattle.std.specs.Prelude.{ℕ, Option, Some, None}
 use Rattle.sequential.specs.declared.object.Sequential.{Ghosts}
-use Rattle.publication.specs.Kinds.{Seated, Kind, enters_named}
+use Rattle.publication.specs.StepKinds.{Seated, Kind, enters_named}
 use Rattle.publication.specs.Runs.{StepName, enter, kind_of, StepRequires}
 
 module _ {O C R : Type 0} (obj : Ghosts O C R) where

@@ -6,7 +6,7 @@ ghost use Rattle.sequential.specs.Histories.{calls_of};
 ghost use Rattle.publication.specs.inner.Tickets.{IsBoard};
 ghost use Rattle.publication.specs.Views.{entry, answer, asks};
 ghost use Rattle.publication.specs.Rule.{maker, new_session};
-ghost use Rattle.publication.specs.Kinds.{Took};
+ghost use Rattle.publication.specs.StepKinds.{Took};
 ghost use Rattle.publication.specs.Boards.{IsOf, heard_from, published_by, new_ticket, new_tickets, publishing, enlisted, tried, IsUnlisted};
 ghost use Rattle.publication.specs.inner.Closing.{is_settled};
 
@@ -15,15 +15,15 @@ mod gathering;
 mod knowledge;
 mod sleeping;
 
-use crate::kinds::{BoardKey, BoardRule, Start};
 use crate::new_board::{initial_slots, split_all};
 use crate::slot::{Load, SlotValue};
-use crate::steps::{Seat, Shared};
+use crate::step_kinds::{BoardKey, BoardRule, StartSession};
+use crate::steps::{Seat, Words};
 use crate::view::View;
 use crate::words::{END, HEAD, WORDS_APART};
 use crate::{list_steps, steps};
 use atomic_table::{Refused, Table};
-pub use knowledge::Knowledge;
+pub use knowledge::TicketKnowledge;
 use sequential::{GhostList, Sequential};
 use std::alloc::{AllocError as NoMemory, Global};
 use std::marker::Model;
@@ -147,7 +147,7 @@ fn turn_if<O: Sequential>(seat: &mut Seat<O>, turns: bool)
 /// Makes session `number` out of its new seat, once all sessions are made: the seat learns so from the first seat,
 /// and takes its record's slot.
 fn enrol<O: Sequential>(
-    shared: &Shared<O>,
+    shared: &Words<O>,
     first: &mut Seat<O>,
     seat: Seat<O>,
     sessions: u16,
@@ -165,7 +165,7 @@ fn enrol<O: Sequential>(
 {
     let mut seat = seat;
     steps::hear_seat(shared, &mut seat, first);
-    shared.load::<Start>(&mut seat, usize::from(number) * WORDS_APART);
+    shared.load::<StartSession>(&mut seat, usize::from(number) * WORDS_APART);
     Ticket {
         seat,
         number,
@@ -181,7 +181,7 @@ fn enrol<O: Sequential>(
 /// `enrol` splits copies too, and session i needs number i.
 fn enrol_all<O: Sequential>(
     alloc: Global,
-    shared: &Shared<O>,
+    shared: &Words<O>,
     first: &mut Seat<O>,
     sessions: u16,
 ) -> Result<Vec<Ticket<O>>, NoMemory>

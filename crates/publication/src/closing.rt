@@ -7,9 +7,9 @@ ghost use Rattle.publication.specs.Boards.{IsEachOnce};
 ghost use Rattle.publication.specs.inner.Closing.{is_settled, WereHanded, AreEnded, TookHanded};
 
 use crate::board::Ticket;
-use crate::kinds::{BoardKey, BoardRule};
 use crate::roll::Roll;
 use crate::slot::{Load, SlotValue};
+use crate::step_kinds::{BoardKey, BoardRule};
 use crate::steps::Seat;
 use crate::view::View;
 use atomic_table::Table;

@@ -15,7 +15,7 @@ ghost use Rattle.sequential.specs.Linearizable.{Event, calls_in, IsWellFormed, I
 ghost use Rattle.publication.specs.Views.{Pending, IsAccountedIn, entry, answer, asks};
 ghost use Rattle.publication.specs.Rule.{blank, maker, new_session, BoardState, seat, IsHome};
 ghost use Rattle.publication.specs.List.{IsRuled};
-ghost use Rattle.publication.specs.Kinds.{Seated, copy_of, front_copy_of, joined, gathered};
+ghost use Rattle.publication.specs.StepKinds.{Seated, copy_of, front_copy_of, joined, gathered};
 ghost use Rattle.publication.specs.Collected.{HasCollected};
 ghost use Rattle.publication.specs.BoardHistory.{new_board, history_of, IsAppended, IsEnteredDirectly, IsAccounted};
 ghost use Rattle.publication.specs.Entered.{AreEnteredOnce};
@@ -77,7 +77,7 @@ pub fn steps_of_the_table_are_such_steps<O: Sequential>()
 
 /// A split or join of seats is one of the model (`IsSeatSplit`, `IsSeatJoin`), if the rule holds before and after, as
 /// `atomic_table` demands of each: else a session would be lost. These are all that the code makes (`Split`, `Join` in
-/// `kinds.rt`): a seat makes a session (`makes`); a copy is made of what a seat knows, or of the front that it knows (`copies`,
+/// `step_kinds.rt`): a seat makes a session (`makes`); a copy is made of what a seat knows, or of the front that it knows (`copies`,
 /// `fronts`); a seat takes such a copy in (`joins`); the closing seat takes in a session's (`gathers`).
 pub fn splits_and_joins_of_the_table_are_such_moves<O: Sequential>()
     ensures makes { (s : BoardState O O.Call O.Reply) (id : ℕ) (v : View O.Call O.Reply) → IsRuled O.Sequential s → get_elem? s.views id ≡ opt.some v →

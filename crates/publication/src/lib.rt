@@ -14,7 +14,6 @@
 
 mod board;
 mod closing;
-mod kinds;
 pub mod laws;
 pub mod list_laws;
 mod list_steps;
@@ -26,11 +25,12 @@ mod sleep_kinds;
 pub mod sleep_laws;
 mod sleep_steps;
 mod slot;
+mod step_kinds;
 mod steps;
 mod view;
 mod words;
 
-pub use board::{Board, Knowledge, Posted, Ticket};
+pub use board::{Board, Posted, Ticket, TicketKnowledge};
 pub use closing::CloseFault;
 pub use piece::Piece;
 pub use roll::Roll;

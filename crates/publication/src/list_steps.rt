@@ -2,16 +2,16 @@
 
 ghost use Rattle.std.specs.Prelude.{◌≡◌, ◌≢◌, ◌+◌, ◌<◌, true, false, Some, None, IfSome, IfNone};
 ghost use Rattle.publication.specs.List.{IsOn, AreApart, first_of, behind};
-ghost use Rattle.publication.specs.Kinds.{HasAnother, enlisting, losing_head, routing, bypassing, none_unlinked, relinking, IsRoute, MeetsAll};
+ghost use Rattle.publication.specs.StepKinds.{HasAnother, enlisting, losing_head, routing, bypassing, none_unlinked, relinking, IsRoute, MeetsAll};
 ghost use Rattle.publication.specs.inner.Tickets.{IsBoard, IsAt, IsCombiner};
 
-use crate::kinds::{Enlist, Link, LookAtHead, MarkOut, Relink, Unlink, Walk, WalkOn};
-use crate::steps::{Seat, Shared};
+use crate::step_kinds::{Enlist, Link, LookAtHead, MarkOut, Relink, Unlink, Walk, WalkOn};
+use crate::steps::{Seat, Words};
 use crate::words::{CLOSED, EMPTY, END, HEAD, OUT, WORDS_APART};
 use sequential::Sequential;
 
 /// Reads the head word, for a session whose record isn't on the publication list.
-fn look_at_head<O: Sequential>(shared: &Shared<O>, seat: &mut Seat<O>, at: usize) -> u64
+fn look_at_head<O: Sequential>(shared: &Words<O>, seat: &mut Seat<O>, at: usize) -> u64
     requires ours { seat.old.table_id ≡ shared.now.table_id }
     requires board { IsBoard shared.now.table_id }
     requires at { IsAt shared.now.table_id at }
@@ -26,11 +26,7 @@ fn look_at_head<O: Sequential>(shared: &Shared<O>, seat: &mut Seat<O>, at: usize
 
 /// Tries once to put the session's record at the head of the publication list: links it to the head as seen, and
 /// exchanges the head word. Returns whether the exchange was won. Needs a pending call that isn't listed.
-pub(crate) fn enlist_record<O: Sequential>(
-    shared: &Shared<O>,
-    seat: &mut Seat<O>,
-    at: usize,
-) -> bool
+pub(crate) fn enlist_record<O: Sequential>(shared: &Words<O>, seat: &mut Seat<O>, at: usize) -> bool
     requires ours { seat.old.table_id ≡ shared.now.table_id }
     requires board { IsBoard shared.now.table_id }
     requires at { IsAt shared.now.table_id at }
@@ -59,7 +55,7 @@ fn record_named(found: u64) -> Option<u16>
 
 /// Begins the combiner's walk: reads the head word, after which the whole list is known. Returns the list's first
 /// record.
-pub(crate) fn walk_from_head<O: Sequential>(shared: &Shared<O>, seat: &mut Seat<O>) -> Option<u16>
+pub(crate) fn walk_from_head<O: Sequential>(shared: &Words<O>, seat: &mut Seat<O>) -> Option<u16>
     requires ours { seat.old.table_id ≡ shared.now.table_id }
     requires board { IsBoard shared.now.table_id }
     requires mine { IsCombiner seat.old.me.0 }
@@ -76,7 +72,7 @@ pub(crate) fn walk_from_head<O: Sequential>(shared: &Shared<O>, seat: &mut Seat<
 
 /// Reads the link of a record that the combiner's walk has met. Returns the next record.
 pub(crate) fn walk_on<O: Sequential>(
-    shared: &Shared<O>,
+    shared: &Words<O>,
     seat: &mut Seat<O>,
     at: usize,
 ) -> Option<u16>
@@ -95,7 +91,7 @@ pub(crate) fn walk_on<O: Sequential>(
 }
 
 /// Links the record `before` past `whose`, the record behind it, whose link is read first.
-fn bypass_record<O: Sequential>(shared: &Shared<O>, seat: &mut Seat<O>, before: usize, whose: usize)
+fn bypass_record<O: Sequential>(shared: &Words<O>, seat: &mut Seat<O>, before: usize, whose: usize)
     requires ours { seat.old.table_id ≡ shared.now.table_id }
     requires board { IsBoard shared.now.table_id }
     requires mine { IsCombiner seat.old.me.0 × (seat.old.me.0.listing.off ≡ 0) }
@@ -111,7 +107,7 @@ fn bypass_record<O: Sequential>(shared: &Shared<O>, seat: &mut Seat<O>, before: 
 
 /// Tries to mark the unlinked record OUT. Returns whether it is off the list for good: it was EMPTY, or it is CLOSED
 /// and stays so.
-fn mark_out<O: Sequential>(shared: &Shared<O>, seat: &mut Seat<O>, whose: usize) -> bool
+fn mark_out<O: Sequential>(shared: &Words<O>, seat: &mut Seat<O>, whose: usize) -> bool
     requires ours { seat.old.table_id ≡ shared.now.table_id }
     requires board { IsBoard shared.now.table_id }
     requires mine { IsCombiner seat.old.me.0 × (seat.old.me.0.listing.off ≡ whose) }
@@ -125,7 +121,7 @@ fn mark_out<O: Sequential>(shared: &Shared<O>, seat: &mut Seat<O>, whose: usize)
 }
 
 /// Links the unlinked record again, where it was.
-fn relink_record<O: Sequential>(shared: &Shared<O>, seat: &mut Seat<O>, before: usize, whose: usize)
+fn relink_record<O: Sequential>(shared: &Words<O>, seat: &mut Seat<O>, before: usize, whose: usize)
     requires ours { seat.old.table_id ≡ shared.now.table_id }
     requires board { IsBoard shared.now.table_id }
     requires mine { IsCombiner seat.old.me.0 }
@@ -144,7 +140,7 @@ fn relink_record<O: Sequential>(shared: &Shared<O>, seat: &mut Seat<O>, before: 
 /// No post is lost. If the session posts before the exchange, the exchange fails and the record is linked again. If
 /// it posts afterwards, it finds the record OUT and enlists it.
 pub(crate) fn unlink_record<O: Sequential>(
-    shared: &Shared<O>,
+    shared: &Words<O>,
     seat: &mut Seat<O>,
     before: usize,
     whose: usize,

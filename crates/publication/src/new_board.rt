@@ -3,9 +3,9 @@ ghost use Rattle.std.specs.Prelude.{◌≡◌, ◌+◌, ◌∷◌, [], IfOk, len
 ghost use Rattle.publication.specs.Rule.{maker};
 ghost use Rattle.publication.specs.inner.Tickets.{IsBoard, AreNewSeats};
 
-use crate::kinds::Enrol;
 use crate::slot::{Load, SlotValue};
-use crate::steps::{Seat, Shared};
+use crate::step_kinds::Enrol;
+use crate::steps::{Seat, Words};
 use sequential::Sequential;
 use std::alloc::{AllocError as NoMemory, Global};
 
@@ -28,7 +28,7 @@ pub(crate) fn initial_slots<O: Sequential>(
 /// Splits a seat for each session off the first seat, in order: seat i is session i's.
 pub(crate) fn split_all<O: Sequential>(
     alloc: Global,
-    shared: &Shared<O>,
+    shared: &Words<O>,
     first: &mut Seat<O>,
     sessions: u16,
 ) -> Result<Vec<Seat<O>>, NoMemory>

@@ -11,7 +11,7 @@ pub struct LieDown;
 
 impl<O: Sequential> Play<SlotValue<O>, View<O::Call, O::Reply>> for LieDown {
     ghost use Rattle.publication.specs.Sleep.SleepStep.{lie_down};
-    ghost use Rattle.publication.specs.Kinds.{drowses};
+    ghost use Rattle.publication.specs.StepKinds.{drowses};
 
     ghost then = { drowses lie_down };
 }
@@ -21,7 +21,7 @@ pub struct TellSleepers;
 
 impl<O: Sequential> Play<SlotValue<O>, View<O::Call, O::Reply>> for TellSleepers {
     ghost use Rattle.publication.specs.Sleep.SleepStep.{tell_sleepers};
-    ghost use Rattle.publication.specs.Kinds.{drowses};
+    ghost use Rattle.publication.specs.StepKinds.{drowses};
 
     ghost then = { drowses tell_sleepers };
 }
@@ -31,7 +31,7 @@ pub struct LookIfHeld;
 
 impl<O: Sequential> Play<SlotValue<O>, View<O::Call, O::Reply>> for LookIfHeld {
     ghost use Rattle.publication.specs.Sleep.SleepStep.{look_if_held};
-    ghost use Rattle.publication.specs.Kinds.{drowses};
+    ghost use Rattle.publication.specs.StepKinds.{drowses};
 
     ghost then = { drowses look_if_held };
 }
@@ -41,7 +41,7 @@ pub struct LookIfRoused;
 
 impl<O: Sequential> Play<SlotValue<O>, View<O::Call, O::Reply>> for LookIfRoused {
     ghost use Rattle.publication.specs.Sleep.SleepStep.{look_if_roused};
-    ghost use Rattle.publication.specs.Kinds.{drowses};
+    ghost use Rattle.publication.specs.StepKinds.{drowses};
 
     ghost then = { drowses look_if_roused };
 }
@@ -51,7 +51,7 @@ pub struct GetUp;
 
 impl<O: Sequential> Play<SlotValue<O>, View<O::Call, O::Reply>> for GetUp {
     ghost use Rattle.publication.specs.Sleep.SleepStep.{get_up};
-    ghost use Rattle.publication.specs.Kinds.{drowses};
+    ghost use Rattle.publication.specs.StepKinds.{drowses};
 
     ghost then = { drowses get_up };
 }
@@ -61,7 +61,7 @@ pub struct LookForSleepers;
 
 impl<O: Sequential> Play<SlotValue<O>, View<O::Call, O::Reply>> for LookForSleepers {
     ghost use Rattle.publication.specs.Sleep.SleepStep.{look_for_sleepers};
-    ghost use Rattle.publication.specs.Kinds.{drowses};
+    ghost use Rattle.publication.specs.StepKinds.{drowses};
 
     ghost then = { drowses look_for_sleepers };
 }
@@ -71,7 +71,7 @@ pub struct Sweep;
 
 impl<O: Sequential> Play<SlotValue<O>, View<O::Call, O::Reply>> for Sweep {
     ghost use Rattle.publication.specs.Sleep.SleepStep.{sweep};
-    ghost use Rattle.publication.specs.Kinds.{drowses};
+    ghost use Rattle.publication.specs.StepKinds.{drowses};
 
     ghost then = { drowses sweep };
 }
@@ -81,7 +81,7 @@ pub struct Rouse;
 
 impl<O: Sequential> Play<SlotValue<O>, View<O::Call, O::Reply>> for Rouse {
     ghost use Rattle.publication.specs.Sleep.SleepStep.{rouse};
-    ghost use Rattle.publication.specs.Kinds.{drowses};
+    ghost use Rattle.publication.specs.StepKinds.{drowses};
 
     ghost then = { drowses rouse };
 }

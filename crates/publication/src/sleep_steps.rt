@@ -3,19 +3,19 @@
 //!
 //! A record's sleep word lies in the cache line of its state word, the board's in that of the lock word.
 ghost use Rattle.std.specs.Prelude.{◌≡◌, ◌+◌, ◌<◌, ◌≤◌, ◌≢◌, ℕ, length, set, true, false};
-ghost use Rattle.publication.specs.Kinds.{with_sleep};
+ghost use Rattle.publication.specs.StepKinds.{with_sleep};
 ghost use Rattle.publication.specs.Sleep.{lain, having_told, having_seen, having_asked, risen, having_looked, sweeping, passing, rousing, IsAtRest, IsSameSleep, AreRoused};
 ghost use Rattle.publication.specs.inner.Tickets.{IsBoard, IsAt};
 
 use crate::sleep_kinds::{
     GetUp, LieDown, LookForSleepers, LookIfHeld, LookIfRoused, Rouse, Sweep, TellSleepers,
 };
-use crate::steps::{Seat, Shared};
+use crate::steps::{Seat, Words};
 use crate::words::{ASLEEP, AWAKE, FREE, SLEEP, WORDS_APART};
 use sequential::Sequential;
 
 /// Begins a sleep of the session: writes ASLEEP into its sleep word.
-fn lie_down<O: Sequential>(shared: &Shared<O>, seat: &mut Seat<O>, at: usize)
+fn lie_down<O: Sequential>(shared: &Words<O>, seat: &mut Seat<O>, at: usize)
     requires ours { seat.old.table_id ≡ shared.now.table_id }
     requires board { IsBoard shared.now.table_id }
     requires at { IsAt shared.now.table_id at }
@@ -28,7 +28,7 @@ fn lie_down<O: Sequential>(shared: &Shared<O>, seat: &mut Seat<O>, at: usize)
 }
 
 /// Writes ASLEEP into the board's sleep word.
-fn tell_sleepers<O: Sequential>(shared: &Shared<O>, seat: &mut Seat<O>)
+fn tell_sleepers<O: Sequential>(shared: &Words<O>, seat: &mut Seat<O>)
     requires ours { seat.old.table_id ≡ shared.now.table_id }
     requires board { IsBoard shared.now.table_id }
     requires mine { seat.old.me.0.number ≢ 0 }
@@ -40,7 +40,7 @@ fn tell_sleepers<O: Sequential>(shared: &Shared<O>, seat: &mut Seat<O>)
 }
 
 /// Whether the lock word is held, for a session that has told that it may sleep.
-fn sees_held<O: Sequential>(shared: &Shared<O>, seat: &mut Seat<O>) -> bool
+fn sees_held<O: Sequential>(shared: &Words<O>, seat: &mut Seat<O>) -> bool
     requires ours { seat.old.table_id ≡ shared.now.table_id }
     requires board { IsBoard shared.now.table_id }
     requires mine { seat.old.me.0.number ≢ 0 }
@@ -54,7 +54,7 @@ fn sees_held<O: Sequential>(shared: &Shared<O>, seat: &mut Seat<O>) -> bool
 }
 
 /// Begins a sleep of the session, and tells so. Returns whether the lock word was held since: only then the session's thread may sleep.
-pub(crate) fn begin_sleep<O: Sequential>(shared: &Shared<O>, seat: &mut Seat<O>, at: usize) -> bool
+pub(crate) fn begin_sleep<O: Sequential>(shared: &Words<O>, seat: &mut Seat<O>, at: usize) -> bool
     requires ours { seat.old.table_id ≡ shared.now.table_id }
     requires board { IsBoard shared.now.table_id }
     requires at { IsAt shared.now.table_id at }
@@ -70,7 +70,7 @@ pub(crate) fn begin_sleep<O: Sequential>(shared: &Shared<O>, seat: &mut Seat<O>,
 }
 
 /// Whether the session's sleep word is AWAKE: some seat has ended its sleep, or it got up.
-pub(crate) fn is_roused<O: Sequential>(shared: &Shared<O>, seat: &mut Seat<O>, at: usize) -> bool
+pub(crate) fn is_roused<O: Sequential>(shared: &Words<O>, seat: &mut Seat<O>, at: usize) -> bool
     requires ours { seat.old.table_id ≡ shared.now.table_id }
     requires board { IsBoard shared.now.table_id }
     requires at { IsAt shared.now.table_id at }
@@ -84,7 +84,7 @@ pub(crate) fn is_roused<O: Sequential>(shared: &Shared<O>, seat: &mut Seat<O>, a
 }
 
 /// Ends the session's sleep: writes AWAKE into its sleep word.
-pub(crate) fn get_up<O: Sequential>(shared: &Shared<O>, seat: &mut Seat<O>, at: usize)
+pub(crate) fn get_up<O: Sequential>(shared: &Words<O>, seat: &mut Seat<O>, at: usize)
     requires ours { seat.old.table_id ≡ shared.now.table_id }
     requires board { IsBoard shared.now.table_id }
     requires at { IsAt shared.now.table_id at }
@@ -97,7 +97,7 @@ pub(crate) fn get_up<O: Sequential>(shared: &Shared<O>, seat: &mut Seat<O>, at: 
 }
 
 /// Whether a session may sleep: reads the board's sleep word, and writes AWAKE if it is ASLEEP. Then all records are to be looked at.
-fn look_for_sleepers<O: Sequential>(shared: &Shared<O>, seat: &mut Seat<O>) -> bool
+fn look_for_sleepers<O: Sequential>(shared: &Words<O>, seat: &mut Seat<O>) -> bool
     requires ours { seat.old.table_id ≡ shared.now.table_id }
     requires board { IsBoard shared.now.table_id }
     requires mine { seat.old.me.0.number ≢ 0 }
@@ -115,7 +115,7 @@ fn look_for_sleepers<O: Sequential>(shared: &Shared<O>, seat: &mut Seat<O>) -> b
 
 /// Ends the sleep of the session of record `at`, if its sleep word is ASLEEP, and returns whether it was. Needs all records above
 /// to be looked at.
-fn rouse<O: Sequential>(shared: &Shared<O>, seat: &mut Seat<O>, at: usize) -> bool
+fn rouse<O: Sequential>(shared: &Words<O>, seat: &mut Seat<O>, at: usize) -> bool
     requires ours { seat.old.table_id ≡ shared.now.table_id }
     requires board { IsBoard shared.now.table_id }
     requires at { IsAt shared.now.table_id at }
@@ -140,7 +140,7 @@ fn write_session(list: &mut [u32], count: u16, whose: u16)
 /// The look behind a release: if a session may sleep, looks at each record and ends the sleeps of all sessions that sleep. Reads one word
 /// if none does. Writes whose sleeps it has ended to the front of `list`, and returns how many they are.
 pub(crate) fn rouse_sleepers<O: Sequential>(
-    shared: &Shared<O>,
+    shared: &Words<O>,
     seat: &mut Seat<O>,
     sessions: u16,
     list: &mut [u32],

@@ -8,15 +8,15 @@ ghost use Rattle.publication.specs.Views.{IsAccountedIn, entry};
 ghost use Rattle.publication.specs.Pieces.{HasAdded};
 ghost use Rattle.publication.specs.Rule.{IsHome};
 ghost use Rattle.publication.specs.List.{bound_of};
-ghost use Rattle.publication.specs.Kinds.{IsUnanswered, HasOthers, HasEntered, opened_in, call_at, posting, HasTaken, Seized, seizing, releasing, opening, Opened, in_hand, answering, putting_back, entering, copy_of, joined, hearing, comparing, Learned, retiring, gathered};
+ghost use Rattle.publication.specs.StepKinds.{IsUnanswered, HasOthers, HasEntered, opened_in, call_at, posting, HasTaken, Seized, seizing, releasing, opening, Opened, in_hand, answering, putting_back, entering, copy_of, joined, hearing, comparing, Learned, retiring, gathered};
 ghost use Rattle.publication.specs.inner.Tickets.{IsBoard, IsAt, IsCombiner};
 
-use crate::kinds::{
-    Answer, BoardKey, BoardRule, Compare, DirectEntry, Enter, Gather, JoinCopy, Keeping, Lay,
+use crate::slot::{Load, SlotValue};
+use crate::step_kinds::{
+    AnswerCall, BoardKey, BoardRule, Compare, DirectEntry, Enter, Gather, JoinCopy, Keeping, Lay,
     Learn, Leave, LookAtLock, LookAtRecord, LookForReply, Open, Pick, Post, PutBack, Release,
     Retire, Seize, SplitCopy, SplitFront, Take,
 };
-use crate::slot::{Load, SlotValue};
 use crate::view::View;
 use crate::words::{BUSY, CLOSED, EMPTY, FREE, OUT, POSTED, SERVED, WORDS_APART};
 use sequential::Sequential;
@@ -26,7 +26,7 @@ use sequential::Sequential;
 pub type Seat<O: Sequential> = atomic_table::Seat<SlotValue<O>, View<O::Call, O::Reply>>;
 
 /// The part of the table that all seats share.
-pub type Shared<O: Sequential> = atomic_table::Shared<
+pub type Words<O: Sequential> = atomic_table::Shared<
     SlotValue<O>,
     View<O::Call, O::Reply>,
     BoardKey<O>,
@@ -36,7 +36,7 @@ pub type Shared<O: Sequential> = atomic_table::Shared<
 /// Publishes a session's call in its own record, with one swap of the state word. Returns whether the record was on
 /// the publication list, so that the call is listed at once.
 pub(crate) fn publish_in_record<O: Sequential>(
-    shared: &Shared<O>,
+    shared: &Words<O>,
     seat: &mut Seat<O>,
     at: usize,
     call: O::Call,
@@ -57,7 +57,7 @@ pub(crate) fn publish_in_record<O: Sequential>(
 }
 
 /// Whether the session's own record is SERVED. It is a plain load, so waiting for a reply writes nothing.
-fn is_served<O: Sequential>(shared: &Shared<O>, seat: &mut Seat<O>, at: usize) -> bool
+fn is_served<O: Sequential>(shared: &Words<O>, seat: &mut Seat<O>, at: usize) -> bool
     requires ours { seat.old.table_id ≡ shared.now.table_id }
     requires board { IsBoard shared.now.table_id }
     requires at { IsAt shared.now.table_id at }
@@ -72,7 +72,7 @@ fn is_served<O: Sequential>(shared: &Shared<O>, seat: &mut Seat<O>, at: usize) -
 /// Takes the reply out of the session's own record; `None` if the record isn't SERVED. The record is then EMPTY if
 /// the call was listed, else OUT.
 pub(crate) fn collect_reply<O: Sequential>(
-    shared: &Shared<O>,
+    shared: &Words<O>,
     seat: &mut Seat<O>,
     at: usize,
     is_listed: bool,
@@ -101,7 +101,7 @@ pub(crate) fn collect_reply<O: Sequential>(
 }
 
 /// Whether the lock word is FREE. It is a plain load.
-fn is_free<O: Sequential>(shared: &Shared<O>, seat: &mut Seat<O>) -> bool
+fn is_free<O: Sequential>(shared: &Words<O>, seat: &mut Seat<O>) -> bool
     requires ours { seat.old.table_id ≡ shared.now.table_id }
     requires board { IsBoard shared.now.table_id }
     requires mine { seat.old.me.0.number ≢ 0 }
@@ -114,7 +114,7 @@ fn is_free<O: Sequential>(shared: &Shared<O>, seat: &mut Seat<O>) -> bool
 
 /// Tries once to become the combiner, and takes the load. Writes the lock word only after a load found it FREE.
 pub(crate) fn seize_load<O: Sequential, K: Keeping>(
-    shared: &Shared<O>,
+    shared: &Words<O>,
     seat: &mut Seat<O>,
     number: u64,
 ) -> Option<Box<Load<O>>>
@@ -142,11 +142,7 @@ pub(crate) fn seize_load<O: Sequential, K: Keeping>(
 }
 
 /// Gives the load back and frees the lock word. Needs a combiner with no record opened.
-pub(crate) fn release_load<O: Sequential>(
-    shared: &Shared<O>,
-    seat: &mut Seat<O>,
-    load: Box<Load<O>>,
-)
+pub(crate) fn release_load<O: Sequential>(shared: &Words<O>, seat: &mut Seat<O>, load: Box<Load<O>>)
     requires ours { seat.old.table_id ≡ shared.now.table_id }
     requires board { IsBoard shared.now.table_id }
     requires mine { (seat.old.me.0.number ≢ 0) × (seat.old.me.0.combiner.has_object ≡ true) }
@@ -167,7 +163,7 @@ pub(crate) fn release_load<O: Sequential>(
 
 /// Whether a call is posted in the record. It is a plain load, so a pass over idle records writes none of them.
 #[tactic(auto, using(crate::proofs::RecordKinds::session_of_its_word))]
-pub(crate) fn is_posted<O: Sequential>(shared: &Shared<O>, seat: &mut Seat<O>, at: usize) -> bool
+pub(crate) fn is_posted<O: Sequential>(shared: &Words<O>, seat: &mut Seat<O>, at: usize) -> bool
     requires ours { seat.old.table_id ≡ shared.now.table_id }
     requires board { IsBoard shared.now.table_id }
     requires at { IsAt shared.now.table_id at }
@@ -183,7 +179,7 @@ pub(crate) fn is_posted<O: Sequential>(shared: &Shared<O>, seat: &mut Seat<O>, a
 /// seat reaches only the slot that it took last.
 #[tactic(auto, using(crate::proofs::RecordKinds::session_of_its_word))]
 pub(crate) fn open_record<O: Sequential>(
-    shared: &Shared<O>,
+    shared: &Words<O>,
     seat: &mut Seat<O>,
     at: usize,
 ) -> Option<O::Call>
@@ -211,7 +207,7 @@ pub(crate) fn open_record<O: Sequential>(
 
 /// Answers a call that the combiner opened: the reply goes into the record, and the call's entry joins the history.
 pub(crate) fn answer_record<O: Sequential>(
-    shared: &Shared<O>,
+    shared: &Words<O>,
     seat: &mut Seat<O>,
     at: usize,
     place: u64,
@@ -232,12 +228,12 @@ pub(crate) fn answer_record<O: Sequential>(
     let SlotValue::Empty = shared.exchange(seat, at, SlotValue::ServedReply(place, reply)) else {
         unreachable!()
     };
-    shared.store::<Answer>(seat, at * WORDS_APART, SERVED);
+    shared.store::<AnswerCall>(seat, at * WORDS_APART, SERVED);
 }
 
 /// Posts a call again that the combiner opened and hasn't performed.
 pub(crate) fn put_back_record<O: Sequential>(
-    shared: &Shared<O>,
+    shared: &Words<O>,
     seat: &mut Seat<O>,
     at: usize,
     call: O::Call,
@@ -260,7 +256,7 @@ pub(crate) fn put_back_record<O: Sequential>(
 /// Enters a call of the combiner's own into the history, at a look at the lock word. No word is written. Needs a combiner
 /// with no call pending, and the reply that the object gives.
 pub(crate) fn enter_call<O: Sequential, E: DirectEntry<O::Call, O::Reply>>(
-    shared: &Shared<O>,
+    shared: &Words<O>,
     seat: &mut Seat<O>,
     _call: O::Call,
     _reply: O::Reply,
@@ -280,7 +276,7 @@ pub(crate) fn enter_call<O: Sequential, E: DirectEntry<O::Call, O::Reply>>(
 }
 
 /// Splits off a new seat that knows what this one knows of the history and of published calls.
-pub(crate) fn split_copy<O: Sequential>(shared: &Shared<O>, seat: &mut Seat<O>) -> Seat<O>
+pub(crate) fn split_copy<O: Sequential>(shared: &Words<O>, seat: &mut Seat<O>) -> Seat<O>
     requires ours { seat.old.table_id ≡ shared.now.table_id }
     requires board { IsBoard shared.now.table_id }
     requires made { seat.old.me.0.others.all_made ≡ true }
@@ -293,7 +289,7 @@ pub(crate) fn split_copy<O: Sequential>(shared: &Shared<O>, seat: &mut Seat<O>) 
 
 /// Lets a session learn what a copy of another seat knows. The copy is joined into the session's seat; a load afterwards
 /// shows that both fronts begin the history, so the longer one is a front of it.
-pub(crate) fn heed_seat<O: Sequential>(shared: &Shared<O>, seat: &mut Seat<O>, copy: Seat<O>)
+pub(crate) fn heed_seat<O: Sequential>(shared: &Words<O>, seat: &mut Seat<O>, copy: Seat<O>)
     requires ours { (seat.old.table_id ≡ shared.now.table_id) × (copy.table_id ≡ shared.now.table_id) }
     requires board { IsBoard shared.now.table_id }
     requires session { 0 < seat.old.me.0.number }
@@ -307,7 +303,7 @@ pub(crate) fn heed_seat<O: Sequential>(shared: &Shared<O>, seat: &mut Seat<O>, c
 }
 
 /// Lets a session learn what another seat knows: a copy is split off that seat, and heeded.
-pub(crate) fn hear_seat<O: Sequential>(shared: &Shared<O>, seat: &mut Seat<O>, other: &mut Seat<O>)
+pub(crate) fn hear_seat<O: Sequential>(shared: &Words<O>, seat: &mut Seat<O>, other: &mut Seat<O>)
     requires ours { (seat.old.table_id ≡ shared.now.table_id) × (other.old.table_id ≡ shared.now.table_id) }
     requires board { IsBoard shared.now.table_id }
     requires session { 0 < seat.old.me.0.number }
@@ -326,7 +322,7 @@ pub(crate) fn hear_seat<O: Sequential>(shared: &Shared<O>, seat: &mut Seat<O>, o
 /// its pending call. A copy of that front is joined into the session's seat, which learns nothing else; a load afterwards
 /// shows it.
 pub(crate) fn compare_fronts<O: Sequential>(
-    shared: &Shared<O>,
+    shared: &Words<O>,
     seat: &mut Seat<O>,
     other: &mut Seat<O>,
 )
@@ -348,7 +344,7 @@ pub(crate) fn compare_fronts<O: Sequential>(
 }
 
 /// Closes the session's own record: it publishes no more calls.
-pub(crate) fn retire_record<O: Sequential>(shared: &Shared<O>, seat: &mut Seat<O>, at: usize)
+pub(crate) fn retire_record<O: Sequential>(shared: &Words<O>, seat: &mut Seat<O>, at: usize)
     requires ours { seat.old.table_id ≡ shared.now.table_id }
     requires board { IsBoard shared.now.table_id }
     requires at { IsAt shared.now.table_id at }
@@ -363,7 +359,7 @@ pub(crate) fn retire_record<O: Sequential>(shared: &Shared<O>, seat: &mut Seat<O
 /// Joins the seat of a session into the closing one. The session lays its record's slot down first, because a seat
 /// that is joined may carry no slot. Needs a session with no call pending that isn't the combiner.
 pub(crate) fn gather_seat<O: Sequential>(
-    shared: &Shared<O>,
+    shared: &Words<O>,
     seat: &mut Seat<O>,
     other: Seat<O>,
     at: usize,

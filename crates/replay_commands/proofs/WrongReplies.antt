@@ -22,7 +22,7 @@ read entries = Ok entries
 
 -- an entry behind a legal history whose reply isn't the lock table's is the first wrong one
 pub wrong_here : (es : List Entry) (e : Entry) (given : Reply) (place : ℕ) → place ≡ length es → IsLegal es → given ≡ (step (state_of es) e.session e.call).reply
-    → ¬ (given ≡ e.reply) → IsWrongReply (es ++ e ∷ []) (record { place = place; told = e; given = given })
+    → ¬ (given ≡ e.reply) → IsWrongReply (es ++ e ∷ []) (record { place = place; said = e; given = given })
 wrong_here es e given place at legal by_step other =
     let long : length (es ++ e ∷ []) ≡ length es + 1 = length-append es (e ∷ []) in
     let front : take place (es ++ e ∷ []) ≡ es = ap (λ (k : ℕ). take k (es ++ e ∷ [])) at ∙ take-append_seam es (e ∷ []) in
@@ -49,8 +49,8 @@ wrong_before es more wrong is =
         wrong = λ legal. is.first.wrong (subst IsLegal there legal);
         least = λ q below. subst IsLegal (sym (take-append-le (q + 1) es more (omega (arith, below, is.first.within)))) (is.first.least q below);
       };
-      told = there ∙ is.told ∙ ap (λ (xs : List Entry). xs ++ wrong.told ∷ []) (sym here);
-      given = is.given ∙ ap (λ (xs : List Entry). (step (state_of xs) wrong.told.session wrong.told.call).reply) (sym here);
+      told = there ∙ is.told ∙ ap (λ (xs : List Entry). xs ++ wrong.said ∷ []) (sym here);
+      given = is.given ∙ ap (λ (xs : List Entry). (step (state_of xs) wrong.said.session wrong.said.call).reply) (sym here);
     }
 
 -- what was found in the first entries is found in the history, whatever entries follow

@@ -1,8 +1,12 @@
 -- The counters of a history as text: a line for each, with its group, its name and its number. The format is this project's own
 -- choice.
 use Rattle.std.specs.Prelude.{ℕ, ◌-◌, List, [], ◌∷◌, ◌++◌, length, replicate, codes, decimal}
+use Rattle.lock_rules.specs.declared.calls.Why.TheVariants as why
+use Rattle.lock_rules.specs.declared.kinds.Op.TheVariants as op
 use Rattle.lock_rules.specs.Entries.{Entry}
+use Rattle.lock_rules.specs.Kinds.{word_of}
 use Rattle.lock_rules.specs.Legal.{state_of}
+use Rattle.lock_rules.specs.Names.{name_of_why}
 use Rattle.lock_desk.specs.declared.counts.Calls.{Calls}
 use Rattle.lock_desk.specs.declared.counts.Counts.{Counts}
 use Rattle.lock_desk.specs.declared.counts.Refusals.{Refusals}
@@ -24,16 +28,16 @@ line_of _ group name number = padded 11 group ++ padded 15 name ++ decimal numbe
 -- how many calls of each operation there were
 abbrev pub lines_of_calls : Form → Calls → List ℕ
 lines_of_calls form c =
-    line_of form (codes "calls") (codes "begin") c.begin
-    ++ line_of form (codes "calls") (codes "lock") c.lock
-    ++ line_of form (codes "calls") (codes "convert") c.convert
-    ++ line_of form (codes "calls") (codes "poll") c.poll
-    ++ line_of form (codes "calls") (codes "release") c.release
-    ++ line_of form (codes "calls") (codes "commit") c.commit
-    ++ line_of form (codes "calls") (codes "abort") c.abort
-    ++ line_of form (codes "calls") (codes "try") c.try_lock
-    ++ line_of form (codes "calls") (codes "withdraw") c.withdraw
-    ++ line_of form (codes "calls") (codes "restart") c.restart
+    line_of form (codes "calls") (word_of op.Begin) c.begin
+    ++ line_of form (codes "calls") (word_of op.Lock) c.lock
+    ++ line_of form (codes "calls") (word_of op.Convert) c.convert
+    ++ line_of form (codes "calls") (word_of op.Poll) c.poll
+    ++ line_of form (codes "calls") (word_of op.Release) c.release
+    ++ line_of form (codes "calls") (word_of op.Commit) c.commit
+    ++ line_of form (codes "calls") (word_of op.Abort) c.abort
+    ++ line_of form (codes "calls") (word_of op.Try) c.try_lock
+    ++ line_of form (codes "calls") (word_of op.Withdraw) c.withdraw
+    ++ line_of form (codes "calls") (word_of op.Restart) c.restart
 
 -- the requests for locks, and how they were answered
 abbrev pub lines_of_requests : Form → Counts → List ℕ
@@ -63,17 +67,17 @@ lines_of_deadlocks form c =
 -- how many calls were refused, by reason
 abbrev pub lines_of_refusals : Form → Refusals → List ℕ
 lines_of_refusals form r =
-    line_of form (codes "refusals") (codes "AlreadyOpen") r.already_open
-    ++ line_of form (codes "refusals") (codes "NoTransaction") r.no_transaction
-    ++ line_of form (codes "refusals") (codes "IsWaiting") r.is_waiting
-    ++ line_of form (codes "refusals") (codes "IsDoomed") r.is_doomed
-    ++ line_of form (codes "refusals") (codes "NothingAsked") r.nothing_asked
-    ++ line_of form (codes "refusals") (codes "NotHeld") r.not_held
-    ++ line_of form (codes "refusals") (codes "ParentNotHeld") r.parent_not_held
-    ++ line_of form (codes "refusals") (codes "ChildHeld") r.child_held
-    ++ line_of form (codes "refusals") (codes "TooManyLocks") r.too_many_locks
-    ++ line_of form (codes "refusals") (codes "WouldWait") r.would_wait
-    ++ line_of form (codes "refusals") (codes "NotWaiting") r.not_waiting
+    line_of form (codes "refusals") (name_of_why why.AlreadyOpen) r.already_open
+    ++ line_of form (codes "refusals") (name_of_why why.NoTransaction) r.no_transaction
+    ++ line_of form (codes "refusals") (name_of_why why.IsWaiting) r.is_waiting
+    ++ line_of form (codes "refusals") (name_of_why why.IsDoomed) r.is_doomed
+    ++ line_of form (codes "refusals") (name_of_why why.NothingAsked) r.nothing_asked
+    ++ line_of form (codes "refusals") (name_of_why why.NotHeld) r.not_held
+    ++ line_of form (codes "refusals") (name_of_why why.ParentNotHeld) r.parent_not_held
+    ++ line_of form (codes "refusals") (name_of_why why.ChildHeld) r.child_held
+    ++ line_of form (codes "refusals") (name_of_why why.TooManyLocks) r.too_many_locks
+    ++ line_of form (codes "refusals") (name_of_why why.WouldWait) r.would_wait
+    ++ line_of form (codes "refusals") (name_of_why why.NotWaiting) r.not_waiting
 
 -- the open transactions, the locks, the waiting requests, and the length of the longest queue
 abbrev pub lines_of_gauges : Form → Gauges → List ℕ

@@ -21,8 +21,8 @@ pub record IsFirstWrong (history : List Entry) (place : ℕ) : Type 0 where
 -- `wrong` is the first wrong entry, with its place and the reply that the lock table gives there
 pub record IsWrongReply (history : List Entry) (wrong : WrongReply) : Type 0 where
   pub first : IsFirstWrong history wrong.place
-  pub told : take (wrong.place + 1) history ≡ take wrong.place history ++ wrong.told ∷ []
-  pub given : wrong.given ≡ (step (state_of (take wrong.place history)) wrong.told.session wrong.told.call).reply
+  pub told : take (wrong.place + 1) history ≡ take wrong.place history ++ wrong.said ∷ []
+  pub given : wrong.given ≡ (step (state_of (take wrong.place history)) wrong.said.session wrong.said.call).reply
 
 -- the verdict is right: the history is legal and has `count` entries, or `place` is its first wrong entry
 abbrev pub IsVerdict : List Entry → Verdict → Type 0

@@ -48,7 +48,7 @@ pub(crate) fn judge_entry(book: &mut Book, entry: &Entry) -> Result<Option<Wrong
     }
     Ok(Some(WrongReply {
         place,
-        told: *entry,
+        said: *entry,
         given,
     }))
 }

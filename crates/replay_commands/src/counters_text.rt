@@ -1,10 +1,13 @@
 //! The counters and the gauges of a book, a line for each.
 
-ghost use Rattle.std.specs.Prelude.{◌≡◌, ◌++◌, OnOk, IfOk, string_bytes};
+ghost use Rattle.std.specs.Prelude.{◌≡◌, ◌++◌, OnOk, IfOk, codes, string_bytes};
+ghost use Rattle.lock_rules.specs.Kinds.{word_of};
+ghost use Rattle.lock_rules.specs.Names.{name_of_why};
 ghost use Rattle.replay_commands.specs.StatsText.{padded, line_of, lines_of_calls, lines_of_requests, lines_of_waits, lines_of_deadlocks, lines_of_refusals, lines_of_gauges, text_of_stats};
 
 use command_line::Form;
 use lock_desk::{Book, Calls, Counts, Gauges, NoMemory, Refusals};
+use lock_rules::{Op, Why};
 use std::alloc::Global;
 use std::fmt::Write;
 
@@ -58,20 +61,27 @@ fn put_counter(
     }
 }
 
+/// Writes how many calls of an operation there were.
+fn put_op(out: &mut String, form: Form, op: Op, number: u64) -> Result<(), NoMemory>
+    ensures { OnOk result (string_bytes out.new ≡ string_bytes out.old ++ line_of form (codes "calls") (word_of op) number) }
+{
+    put_counter(out, form, "calls", op.word(), number)
+}
+
 /// Writes how many calls of each operation there were.
 fn put_calls(out: &mut String, form: Form, calls: &Calls) -> Result<(), NoMemory>
     ensures { OnOk result (string_bytes out.new ≡ string_bytes out.old ++ lines_of_calls form calls.now) }
 {
-    put_counter(out, form, "calls", "begin", calls.begin)?;
-    put_counter(out, form, "calls", "lock", calls.lock)?;
-    put_counter(out, form, "calls", "convert", calls.convert)?;
-    put_counter(out, form, "calls", "poll", calls.poll)?;
-    put_counter(out, form, "calls", "release", calls.release)?;
-    put_counter(out, form, "calls", "commit", calls.commit)?;
-    put_counter(out, form, "calls", "abort", calls.abort)?;
-    put_counter(out, form, "calls", "try", calls.try_lock)?;
-    put_counter(out, form, "calls", "withdraw", calls.withdraw)?;
-    put_counter(out, form, "calls", "restart", calls.restart)
+    put_op(out, form, Op::Begin, calls.begin)?;
+    put_op(out, form, Op::Lock, calls.lock)?;
+    put_op(out, form, Op::Convert, calls.convert)?;
+    put_op(out, form, Op::Poll, calls.poll)?;
+    put_op(out, form, Op::Release, calls.release)?;
+    put_op(out, form, Op::Commit, calls.commit)?;
+    put_op(out, form, Op::Abort, calls.abort)?;
+    put_op(out, form, Op::Try, calls.try_lock)?;
+    put_op(out, form, Op::Withdraw, calls.withdraw)?;
+    put_op(out, form, Op::Restart, calls.restart)
 }
 
 /// Writes how requests were answered.
@@ -105,45 +115,28 @@ fn put_deadlocks(out: &mut String, form: Form, counts: &Counts) -> Result<(), No
     put_counter(out, form, "deadlocks", "victims", counts.victims)
 }
 
+/// Writes how many calls were refused for a reason.
+fn put_why(out: &mut String, form: Form, why: Why, number: u64) -> Result<(), NoMemory>
+    ensures { OnOk result (string_bytes out.new ≡ string_bytes out.old ++ line_of form (codes "refusals") (name_of_why why) number) }
+{
+    put_counter(out, form, "refusals", why.name(), number)
+}
+
 /// Writes how many calls were refused, by reason.
 fn put_refusals(out: &mut String, form: Form, refusals: &Refusals) -> Result<(), NoMemory>
     ensures { OnOk result (string_bytes out.new ≡ string_bytes out.old ++ lines_of_refusals form refusals.now) }
 {
-    put_counter(out, form, "refusals", "AlreadyOpen", refusals.already_open)?;
-    put_counter(
-        out,
-        form,
-        "refusals",
-        "NoTransaction",
-        refusals.no_transaction,
-    )?;
-    put_counter(out, form, "refusals", "IsWaiting", refusals.is_waiting)?;
-    put_counter(out, form, "refusals", "IsDoomed", refusals.is_doomed)?;
-    put_counter(
-        out,
-        form,
-        "refusals",
-        "NothingAsked",
-        refusals.nothing_asked,
-    )?;
-    put_counter(out, form, "refusals", "NotHeld", refusals.not_held)?;
-    put_counter(
-        out,
-        form,
-        "refusals",
-        "ParentNotHeld",
-        refusals.parent_not_held,
-    )?;
-    put_counter(out, form, "refusals", "ChildHeld", refusals.child_held)?;
-    put_counter(
-        out,
-        form,
-        "refusals",
-        "TooManyLocks",
-        refusals.too_many_locks,
-    )?;
-    put_counter(out, form, "refusals", "WouldWait", refusals.would_wait)?;
-    put_counter(out, form, "refusals", "NotWaiting", refusals.not_waiting)
+    put_why(out, form, Why::AlreadyOpen, refusals.already_open)?;
+    put_why(out, form, Why::NoTransaction, refusals.no_transaction)?;
+    put_why(out, form, Why::IsWaiting, refusals.is_waiting)?;
+    put_why(out, form, Why::IsDoomed, refusals.is_doomed)?;
+    put_why(out, form, Why::NothingAsked, refusals.nothing_asked)?;
+    put_why(out, form, Why::NotHeld, refusals.not_held)?;
+    put_why(out, form, Why::ParentNotHeld, refusals.parent_not_held)?;
+    put_why(out, form, Why::ChildHeld, refusals.child_held)?;
+    put_why(out, form, Why::TooManyLocks, refusals.too_many_locks)?;
+    put_why(out, form, Why::WouldWait, refusals.would_wait)?;
+    put_why(out, form, Why::NotWaiting, refusals.not_waiting)
 }
 
 /// Writes what the lock table has now.

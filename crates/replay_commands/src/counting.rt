@@ -21,7 +21,7 @@ use std::io::{Read, Write};
 
 /// What is written of a history, and the verdict on it.
 #[derive(Drop)]
-struct Told {
+struct Tally {
     /// Whether the history is legal.
     verdict: Verdict,
     /// The counters, or the line of the verdict.
@@ -30,7 +30,7 @@ struct Told {
 
 /// Serves the calls of a history on a book that has served none. Returns the counters if the history is legal, else the line of its
 /// verdict. Fails if memory is refused.
-fn told_by(alloc: Global, book: &mut Book, entries: &[Entry], form: Form) -> Result<Told, NoMemory>
+fn told_by(alloc: Global, book: &mut Book, entries: &[Entry], form: Form) -> Result<Tally, NoMemory>
     requires within { All (IsEntry book.old.sessions) entries.now }
     requires empty { book.old.history ≡ [] }
     ensures { IfOk result (λ told. IsVerdict entries.now told.verdict × (string_bytes told.text ≡ text_counted form book.old.sessions entries.now told.verdict)) }
@@ -39,11 +39,11 @@ fn told_by(alloc: Global, book: &mut Book, entries: &[Entry], form: Form) -> Res
         Finding::Wrong(wrong) => {
             let verdict = Verdict::Illegal(wrong.place);
             let text = verdict_line(alloc, verdict)?;
-            Ok(Told { verdict, text })
+            Ok(Tally { verdict, text })
         }
         Finding::Legal(count) => {
             let text = stats_text(alloc, book, form)?;
-            Ok(Told {
+            Ok(Tally {
                 verdict: Verdict::Legal(count),
                 text,
             })
@@ -52,7 +52,7 @@ fn told_by(alloc: Global, book: &mut Book, entries: &[Entry], form: Form) -> Res
 }
 
 /// What is written of a history, by a fresh lock table that serves it. Fails if memory is refused.
-fn told_text(alloc: Global, entries: &[Entry], sessions: u16, form: Form) -> Result<Told, NoMemory>
+fn told_text(alloc: Global, entries: &[Entry], sessions: u16, form: Form) -> Result<Tally, NoMemory>
     requires some { 0 < sessions }
     requires few { sessions ≤ MAX_SESSIONS }
     requires within { All (IsEntry sessions) entries.now }

@@ -12,7 +12,7 @@ pub struct WrongReply {
     /// Its place, counted from 0.
     pub place: u64,
     /// The entry, with the reply that the history tells.
-    pub told: Entry,
+    pub said: Entry,
     /// The reply that the lock table gives there.
     pub given: Reply,
 }

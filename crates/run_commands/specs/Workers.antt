@@ -14,8 +14,8 @@ use Rattle.replay_commands.specs.declared.tool_fault.ToolFault.TheVariants as to
 use Rattle.run_commands.specs.declared.workers.Stop.{Stop}
 use Rattle.run_commands.specs.declared.workers.Stop.TheVariants as stop
 use Rattle.run_commands.specs.declared.threads.ThreadResult.{ThreadResult}
-use Rattle.run_commands.specs.declared.threads.Start.{Start}
-use Rattle.run_commands.specs.declared.threads.Start.TheVariants as start
+use Rattle.run_commands.specs.declared.threads.Started.{Started}
+use Rattle.run_commands.specs.declared.threads.Started.TheVariants as start
 
 -- the calls of a session: its number, its pending call, and the calls whose answers it collected
 pub record Calls : Type 0 where
@@ -58,12 +58,12 @@ abbrev pub IsWorkOf : BoardView → ℕ → List TraceRow → ThreadResult → T
 IsWorkOf office number rows worked = worked.stop ≡ None → (worked.session.number ≡ number) × IsPerformed office rows worked.session
 
 -- a thread that promises its session's work on these rows, or a session that has nothing left to perform of them
-abbrev pub IsStart : BoardView → List TraceRow → Start → Type 0
+abbrev pub IsStart : BoardView → List TraceRow → Started → Type 0
 IsStart office rows (start.Thread handle) = (handle.promise.office.now ≡ office) × (handle.promise.rows.now ≡ rows)
 IsStart office rows (start.Idle session) = IsPerformed office rows session
 
 -- the session number of a started session
-abbrev pub number_of_start : Start → ℕ
+abbrev pub number_of_start : Started → ℕ
 number_of_start (start.Thread handle) = handle.promise.number
 number_of_start (start.Idle session) = session.number
 
@@ -72,7 +72,7 @@ abbrev pub numbers_of : List TicketView → List ℕ
 numbers_of sessions = map (λ (session : TicketView). session.number) sessions
 
 -- the session numbers of started sessions, in order
-abbrev pub numbers_of_starts : List Start → List ℕ
+abbrev pub numbers_of_starts : List Started → List ℕ
 numbers_of_starts starts = map number_of_start starts
 
 -- the fault of a reason to stop

@@ -57,7 +57,7 @@ impl<'a> Promise<ThreadResult> for Performs<'a> {
 
 /// A started session: its thread, or the session itself if it has no row.
 #[derive(Drop)]
-pub(crate) enum Start<'a> {
+pub(crate) enum Started<'a> {
     /// The thread that performs the session's rows.
     Thread(PromisedHandle<ThreadResult, Performs<'a>>),
     /// A session without a row, which needs no thread.
@@ -114,7 +114,7 @@ fn start_session<'s, E, G: Gate>(
     session: Ticket,
     run: &Run<'s, G>,
     at_work: &'s AtomicUsize,
-) -> Option<Start<'s>>
+) -> Option<Started<'s>>
     requires { IsNewSession run.now.office.now session }
     ensures start { IfSome result (IsStart run.now.office.now run.now.rows.now) }
     ensures number { IfSome result (λ started. number_of_start started ≡ session.number) }
@@ -125,7 +125,7 @@ fn start_session<'s, E, G: Gate>(
     let gate = run.gate;
     let number = session.number();
     if !has_row(rows, number) {
-        return Some(Start::Idle(session));
+        return Some(Started::Idle(session));
     }
     let promise = Performs {
         office,
@@ -137,7 +137,7 @@ fn start_session<'s, E, G: Gate>(
     { work(office, session, rows, turns, gate, at_work) };
     at_work.fetch_add(1, Ordering::SeqCst);
     match scope.spawn_with(promise, worked) {
-        Ok(handle) => Some(Start::Thread(handle)),
+        Ok(handle) => Some(Started::Thread(handle)),
         Err(_) => {
             at_work.fetch_sub(1, Ordering::SeqCst);
             None
@@ -152,7 +152,7 @@ pub(crate) fn start_all<'s, E, G: Gate>(
     sessions: Vec<Ticket>,
     run: &Run<'s, G>,
     at_work: &'s AtomicUsize,
-    started: &mut Vec<Start<'s>>,
+    started: &mut Vec<Started<'s>>,
 ) -> Option<Stop>
     requires new { All (IsNewSession run.now.office.now) sessions.items }
     requires none { started.old.items ≡ [] }
@@ -171,12 +171,12 @@ pub(crate) fn start_all<'s, E, G: Gate>(
 }
 
 /// Waits for the thread and returns its result. An idle session is returned at once.
-fn join<R: Threads>(rt: &R, started: Start<'_>) -> ThreadResult
+fn join<R: Threads>(rt: &R, started: Started<'_>) -> ThreadResult
     ensures { (office : _) (rows : _) → IsStart office rows started.entry → IsWorkOf office (number_of_start started.entry) rows result }
 {
     match started {
-        Start::Thread(handle) => handle.join(rt),
-        Start::Idle(session) => ThreadResult {
+        Started::Thread(handle) => handle.join(rt),
+        Started::Idle(session) => ThreadResult {
             session,
             stop: None,
         },
@@ -220,7 +220,7 @@ fn append_finished(
 pub(crate) fn join_all<R: Threads>(
     rt: &R,
     alloc: Global,
-    started: Vec<Start<'_>>,
+    started: Vec<Started<'_>>,
     reason: Option<Stop>,
 ) -> Result<Vec<Ticket>, Stop>
     ensures all { IfOk result (λ _. reason ≡ None) }

@@ -5,14 +5,14 @@ ghost use Rattle.run_commands.specs.Calls.{calls_of_rows};
 ghost use Rattle.run_commands.specs.Workers.{TriedAtMost, fault_of_stop, rank_of_stop};
 
 use crate::call_gate::Gate;
-use combining::{Next as NextOf, Nobody, UNBOUNDED, back_off};
+use combining::{CallOutcome as CallOutcomeOf, Nobody, UNBOUNDED, back_off};
 use lock_desk::{Call, Reply};
-use lock_office::{Counted, Office, Session};
+use lock_office::{Office, Session, WithSeen};
 use lock_trace::TraceRow;
 use replay_commands::ToolFault;
 
 /// The outcome of one turn of a call.
-type Next = NextOf<Reply>;
+type CallOutcome = CallOutcomeOf<Reply>;
 
 /// Why a thread stopped before its last row, or why a run failed. If there are several reasons, the first in this order is
 /// reported.
@@ -54,7 +54,7 @@ impl Stop {
 pub(crate) trait Service: Sync {
     ghost use Rattle.std.specs.Prelude.{◌≡◌, ◌≢◌, ◌⊎◌, ℕ, ◌+◌, ◌++◌, ◌∷◌, [], Some, None};
     ghost use Rattle.std.specs.Option.{unwrap_or};
-    ghost use Rattle.combining.specs.declared.calling.Next.TheVariants as Next;
+    ghost use Rattle.combining.specs.declared.calling.CallOutcome.TheVariants as CallOutcome;
     ghost use Rattle.run_commands.specs.Workers.{Calls};
 
     /// A session's handle.
@@ -75,18 +75,18 @@ pub(crate) trait Service: Sync {
     /// Makes one turn of a call of the session, behind `made` turns. A session with a call pending goes on with that one,
     /// whatever `call` is. `Answered`: the answer is collected. `Starved`: memory was refused, and the call is pending. `Wait`:
     /// the call is pending, or not made yet; another turn goes on, after this wait.
-    fn turn(&self, session: &mut Self::Session, call: &Call, made: u64) -> Next
+    fn turn(&self, session: &mut Self::Session, call: &Call, made: u64) -> CallOutcome
         requires { is_of self.now session.old }
         ensures ours { is_of self.now session.new }
-        ensures answered { (answer : _) → result ≡ Next.Answered answer → calls session.new ≡ record (calls session.old) {
+        ensures answered { (answer : _) → result ≡ CallOutcome.Answered answer → calls session.new ≡ record (calls session.old) {
           pending = None;
           collected = (calls session.old).collected ++ unwrap_or (calls session.old).pending call.now ∷ [];
         } }
-        ensures pending { result ≡ Next.Starved → calls session.new ≡ record (calls session.old) { pending = Some (unwrap_or (calls session.old).pending call.now) } }
-        ensures starved { result ≡ Next.Starved → was_starved session.new }
-        ensures waits { (wait : _) → result ≡ Next.Wait wait → (calls session.new ≡ calls session.old)
+        ensures pending { result ≡ CallOutcome.Starved → calls session.new ≡ record (calls session.old) { pending = Some (unwrap_or (calls session.old).pending call.now) } }
+        ensures starved { result ≡ CallOutcome.Starved → was_starved session.new }
+        ensures waits { (wait : _) → result ≡ CallOutcome.Wait wait → (calls session.new ≡ calls session.old)
             ⊎ (calls session.new ≡ record (calls session.old) { pending = Some (unwrap_or (calls session.old).pending call.now) }) }
-        ensures tried { (tries : ℕ) → result ≢ Next.Starved → has_tried session.old tries → has_tried session.new (tries + 1) };
+        ensures tried { (tries : ℕ) → result ≢ CallOutcome.Starved → has_tried session.old tries → has_tried session.new (tries + 1) };
 }
 
 impl Service for Office {
@@ -109,8 +109,8 @@ impl Service for Office {
     ghost was_starved = { λ session. Unit {0} };
 
     /// Makes the turn, and tells nobody whose waits its passes have ended.
-    fn turn(&self, session: &mut Session, call: &Call, made: u64) -> Next {
-        session.turn(self, call, made, UNBOUNDED, &mut Counted::new(Nobody))
+    fn turn(&self, session: &mut Session, call: &Call, made: u64) -> CallOutcome {
+        session.turn(self, call, made, UNBOUNDED, &mut WithSeen::new(Nobody))
     }
 }
 
@@ -134,9 +134,9 @@ fn make_call<S: Service>(
 {
     for made in 0..turns {
         match service.turn(session, &call, made) {
-            Next::Answered(_) => return Ok(()),
-            Next::Starved => return Err(Stop::NoMemory),
-            Next::Wait(wait) => back_off(wait),
+            CallOutcome::Answered(_) => return Ok(()),
+            CallOutcome::Starved => return Err(Stop::NoMemory),
+            CallOutcome::Wait(wait) => back_off(wait),
         }
     }
     Err(Stop::TurnLimit)

@@ -5,6 +5,11 @@ use Rattle.sequential.specs.declared.entry.Entry.{Entry}
 use Rattle.sequential.specs.Histories.{Answered, calls_from, calls_of, IsEntryOf, ArePlacesRising}
 use Rattle.sequential.proofs.Members.{Member, contains-member, member-contains}
 
+-- a head that may be left out, before a concatenation
+pub same-append : {A : Type 0} (b : Bool) (x : A) (xs ys : List A) → cond b (x ∷ (xs ++ ys)) (xs ++ ys) ≡ cond b (x ∷ xs) xs ++ ys
+same-append true x xs ys = refl
+same-append false x xs ys = refl
+
 module _ {C R : Type 0} where
   -- the call and reply of an entry at this place
   abbrev answer : ℕ → Entry C R → Answered C R
@@ -16,24 +21,19 @@ module _ {C R : Type 0} where
   abbrev pub last_call : ℕ → ℕ → Entry C R → List (Answered C R)
   last_call s place e = cond (eqb e.session s) (answer place e ∷ []) []
 
-  -- a head that may be left out, before a concatenation
-  same-append : (b : Bool) (x : Answered C R) (xs ys : List (Answered C R)) → cond b (x ∷ (xs ++ ys)) (xs ++ ys) ≡ cond b (x ∷ xs) xs ++ ys
-  same-append true x xs ys = refl
-  same-append false x xs ys = refl
-
-  -- one more entry appends one call if it is the session's, with places counted from a start
-  calls_from-push : (s place : ℕ) (es : List (Entry C R)) (e : Entry C R) → calls_from s place (es ++ e ∷ []) ≡ calls_from s place es ++ last_call s (place + length es) e
-  calls_from-push s place [] e = let z : place ≡ place + 0 = omega arith in ap (λ (p : ℕ). last_call s p e) z
-  calls_from-push s place (f ∷ es) e =
-      let n : place + 1 + length es ≡ place + suc (length es) = omega arith in
-      let next : calls_from s (place + 1) (es ++ e ∷ []) ≡ calls_from s (place + 1) es ++ last_call s (place + suc (length es)) e
-      = calls_from-push s (place + 1) es e ∙ ap (λ (p : ℕ). calls_from s (place + 1) es ++ last_call s p e) n in
-      ap (λ (xs : List (Answered C R)). cond (eqb f.session s) (answer place f ∷ xs) xs) next
-      ∙ same-append (eqb f.session s) (answer place f) (calls_from s (place + 1) es) (last_call s (place + suc (length es)) e)
+  -- the calls in two histories, one behind the other, with places counted from a start
+  pub calls_from-append : (s place : ℕ) (xs ys : List (Entry C R)) → calls_from s place (xs ++ ys) ≡ calls_from s place xs ++ calls_from s (place + length xs) ys
+  calls_from-append s place [] ys = let z : place ≡ place + 0 = omega arith in ap (λ (p : ℕ). calls_from s p ys) z
+  calls_from-append s place (x ∷ xs) ys =
+      let n : place + 1 + length xs ≡ place + suc (length xs) = omega arith in
+      let next : calls_from s (place + 1) (xs ++ ys) ≡ calls_from s (place + 1) xs ++ calls_from s (place + suc (length xs)) ys
+      = calls_from-append s (place + 1) xs ys ∙ ap (λ (p : ℕ). calls_from s (place + 1) xs ++ calls_from s p ys) n in
+      ap (λ (l : List (Answered C R)). cond (eqb x.session s) (answer place x ∷ l) l) next
+      ∙ same-append (eqb x.session s) (answer place x) (calls_from s (place + 1) xs) (calls_from s (place + suc (length xs)) ys)
 
   -- one more entry of a history appends one call if it is the session's
   pub calls_of-push : (s : ℕ) (es : List (Entry C R)) (e : Entry C R) → calls_of s (es ++ e ∷ []) ≡ calls_of s es ++ last_call s (length es) e
-  calls_of-push s es e = calls_from-push s 0 es e ∙ ap (λ (p : ℕ). calls_of s es ++ last_call s p e) (let z : 0 + length es ≡ length es = omega arith in z)
+  calls_of-push s es e = calls_from-append s 0 es (e ∷ []) ∙ ap (λ (p : ℕ). calls_of s es ++ last_call s p e) (let z : 0 + length es ≡ length es = omega arith in z)
 
   -- the places rise
 

@@ -11,3 +11,4 @@ pub mod Recorded
 pub mod RecordingFields
 pub mod ReplyLaws
 pub mod inner
+pub mod Bits

@@ -47,7 +47,7 @@ impl<T> Model for TrimmedList<T> {
     ghost invariant = { HasTail };
 }
 
-impl<T: Drop> TrimmedList<T> {
+impl<T: Copy> TrimmedList<T> {
     /// A list without items, which keeps all that will be pushed.
     pub fn new(alloc: Global) -> TrimmedList<T>
         ensures items { result.items ≡ [] }
@@ -138,8 +138,8 @@ impl<T: Drop> TrimmedList<T> {
         if dead > MOST_DROPPED - self.dropped {
             return;
         }
-        let count = dead as usize;
-        self.tail.drain(..count);
+        self.tail.copy_within(dead as usize.., 0);
+        self.tail.truncate(self.tail.len() - dead as usize);
         self.dropped += dead;
     }
 

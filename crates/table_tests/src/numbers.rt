@@ -2,7 +2,7 @@
 //! and its answer take.
 
 use lock_desk::{Book, NO_BOUND, Resource};
-use lock_programs::{Answer, CALLS, Program};
+use lock_programs::{CALLS, Program, ProgramAnswer};
 use std::mem::size_of;
 use std::process::Abort;
 use std::test::Fail;
@@ -38,6 +38,6 @@ fn numbers_of_no_session_tell_nothing(rt: HostRuntime) -> Result<(), Fail> {
 /// A program of seven calls takes 40 bytes, and its answer 48.
 #[test]
 fn programs_and_answers_are_small(rt: HostRuntime) -> Result<(), Fail> {
-    assert!(rt; CALLS == 7 && size_of::<Program>() <= 40 && size_of::<Answer>() <= 48);
+    assert!(rt; CALLS == 7 && size_of::<Program>() <= 40 && size_of::<ProgramAnswer>() <= 48);
     Ok(())
 }

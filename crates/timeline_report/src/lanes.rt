@@ -30,33 +30,27 @@ fn put_name(out: &mut String, class: &str, x: u64, end: u64, y: u64, names: [&st
 }
 
 fn put_call(out: &mut String, call: Call) -> Written {
+    out.push_str(call.op().word())?;
     match call {
-        Call::Begin => out.push_str("begin"),
-        Call::Lock(resource, mode) => write!(out, "lock {resource} in {}", mode.name()),
-        Call::Convert(resource, mode) => write!(out, "convert {resource} to {}", mode.name()),
-        Call::Poll => out.push_str("poll"),
-        Call::Release(resource) => write!(out, "release {resource}"),
-        Call::Commit => out.push_str("commit"),
-        Call::Abort => out.push_str("abort"),
-        Call::Try(resource, mode) => write!(out, "try {resource} in {}", mode.name()),
-        Call::Withdraw => out.push_str("withdraw"),
-        Call::Restart => out.push_str("restart"),
+        Call::Lock(resource, mode) | Call::Try(resource, mode) => {
+            write!(out, " {resource} in {}", mode.name())
+        }
+        Call::Convert(resource, mode) => write!(out, " {resource} to {}", mode.name()),
+        Call::Release(resource) => write!(out, " {resource}"),
+        _ => Ok(()),
     }
 }
 
 fn put_reply(out: &mut String, reply: Reply) -> Written {
+    out.push_str(reply.kind().word())?;
     match reply {
-        Reply::Began(transaction) => write!(out, "began transaction {transaction}"),
-        Reply::Granted(mode) => write!(out, "granted {}", mode.name()),
-        Reply::Waiting => out.push_str("waiting"),
-        Reply::Deadlock => out.push_str("deadlock"),
-        Reply::Clear => out.push_str("clear"),
-        Reply::Released => out.push_str("released"),
-        Reply::Committed(locks) => write!(out, "committed, gave back {locks} locks"),
-        Reply::Aborted(locks) => write!(out, "aborted, gave back {locks} locks"),
-        Reply::Refused(why) => write!(out, "refused, {}", why.name()),
-        Reply::Withdrawn => out.push_str("withdrawn"),
-        Reply::Restarted(locks) => write!(out, "restarted, gave back {locks} locks"),
+        Reply::Began(transaction) => write!(out, " transaction {transaction}"),
+        Reply::Granted(mode) => write!(out, " {}", mode.name()),
+        Reply::Committed(locks) | Reply::Aborted(locks) | Reply::Restarted(locks) => {
+            write!(out, ", gave back {locks} locks")
+        }
+        Reply::Refused(why) => write!(out, ", {}", why.name()),
+        _ => Ok(()),
     }
 }
 

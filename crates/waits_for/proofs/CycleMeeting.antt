@@ -34,29 +34,23 @@ stays xs y j lt = get_or_append_left xs (y ∷ []) 0 j lt
 pub met-few : (p : Pairs) (met parents : List ℕ) (marks : Marking) → IsMeeting p met parents marks → length met ≤ p.sessions
 met-few p met parents marks h = length-le_from_distinct_below met p.sessions h.once h.within
 
+-- If those in a list are below a number, and one more, so are those in the longer list.
+within-more : (met : List ℕ) (u n : ℕ) → ((w : ℕ) → list_any (eqb w) met ≡ true → w < n) → u < n → (w : ℕ) → list_any (eqb w) (met ++ u ∷ []) ≡ true → w < n
+within-more met u n within below w e = elim (or_cases (list_any (eqb w) met) (eqb w u) (sym (any-push w u met) ∙ e)) [
+  | inl was ↦ within w was
+  | inr is ↦ rw (eqb-true w u is) below
+]
+
 -- A position that isn't met finds room.
 pub met-room : (p : Pairs) (met parents : List ℕ) (marks : Marking) (u : ℕ) → IsMeeting p met parents marks → u < p.sessions → is_marked marks u ≡ false → length met < p.sessions
 met-room p met parents marks u h below fresh =
-    let more = length-le_from_distinct_below (met ++ u ∷ []) p.sessions (IsDistinct-push nat_eq_equiv met u h.once (sym (h.marked u) ∙ fresh)) within in
+    let more = length-le_from_distinct_below (met ++ u ∷ []) p.sessions (IsDistinct-push nat_eq_equiv met u h.once (sym (h.marked u) ∙ fresh)) (within-more met u p.sessions h.within below) in
     omega (arith, more, length-append met (u ∷ []))
-  where
-    within : (w : ℕ) → list_any (eqb w) (met ++ u ∷ []) ≡ true → w < p.sessions
-    within w e = elim (or_cases (list_any (eqb w) met) (eqb w u) (sym (any-push w u met) ∙ e)) [
-      | inl was ↦ h.within w was
-      | inr is ↦ rw (eqb-true w u is) below
-    ]
 
 module _ (p : Pairs) (met parents : List ℕ) (old new : Marking) (u at : ℕ) (h : IsMeeting p met parents old) (fresh : is_marked old u ≡ false) (more : (a : ℕ) → is_marked new a ≡ (is_marked old a || eqb a u)) (lt : at < length met) (behind : (j : ℕ) → j < length met → get_or parents j 0 ≤ at) (edge : pairs_of p (get_or met at 0) u ≡ true) where
   -- the list of those met is longer by one
   longer : length (met ++ u ∷ []) ≡ length met + 1
   longer = length-append met (u ∷ [])
-
-  -- each of those met is below the number of sessions
-  all-within : (w : ℕ) → list_any (eqb w) (met ++ u ∷ []) ≡ true → w < p.sessions
-  all-within w e = elim (or_cases (list_any (eqb w) met) (eqb w u) (sym (any-push w u met) ∙ e)) [
-    | inl was ↦ h.within w was
-    | inr is ↦ rw (eqb-true w u is) (pairs_of-within p (get_or met at 0) u edge).1
-  ]
 
   -- each was met behind the one that waits for it
   all-before : (j : ℕ) → 0 < j → j < length (met ++ u ∷ []) → get_or (parents ++ at ∷ []) j 0 < j
@@ -84,7 +78,7 @@ module _ (p : Pairs) (met parents : List ℕ) (old new : Marking) (u at : ℕ) (
   met-more = record {
     long = omega (arith, longer, length-append parents (at ∷ []), h.long);
     once = IsDistinct-push nat_eq_equiv met u h.once (sym (h.marked u) ∙ fresh);
-    within = all-within;
+    within = within-more met u p.sessions h.within (pairs_of-within p (get_or met at 0) u edge).1;
     marked = λ a. more a ∙ (ap (λ (b : Bool). b || eqb a u) (h.marked a) ∙ sym (any-push a u met));
     before = all-before;
     rising = all-rising;

@@ -12,6 +12,10 @@ use Rattle.waits_for.proofs.Walks.{reaches-from, reaches-to, reaches-within}
 abbrev pub IsStacked : List ℕ → ℕ → ℕ → Type 0
 IsStacked order depth u = (k : ℕ) × (k < depth) × (get_or order k 0 ≡ u)
 
+-- A session that is put on the stack leaves those below it there.
+stays : (order : List ℕ) (depth u i : ℕ) → i < depth → get_or (set order depth u) i 0 ≡ get_or order i 0
+stays order depth u i lt = get_or-set_other order depth i u 0 (λ same. absurd (omega (arith, lt, same)))
+
 -- During the search from t, whose stack is the first `depth` of the list: stack and sessions met are t or reached
 -- from it, and each session met is on the stack, or waits for none that isn't met. The row of the top has none that
 -- isn't met before `from`, the row of each other one none up to the session above it.
@@ -78,7 +82,7 @@ module _ (pairs : ℕ → ℕ → Bool) (t : ℕ) (waiting : List ℕ) where
     depth_first-pushed less u step least one room = record {
       own = gone t s.own;
       stacked = λ i lt. elim (cases_lt i depth) [
-        | inl low ↦ rw (stays i low) (s.stacked i low)
+        | inl low ↦ rw (stays order depth u i low) (s.stacked i low)
         | inr high ↦ let same : i ≡ depth = omega (arith, lt, high) in rw same (rw at (inr here))
       ];
       seen = λ w now out. elim (less-either unseen less u one w out) [
@@ -88,18 +92,18 @@ module _ (pairs : ℕ → ℕ → Bool) (t : ℕ) (waiting : List ℕ) where
       done = λ w out. elim (less-either unseen less u one w out) [
         | inl same ↦ inl (depth, omega arith, at ∙ sym same)
         | inr was ↦ elim (s.done w was) [
-          | inl on ↦ inl (on.0, omega (arith, on.1), stays on.0 on.1 ∙ on.2)
+          | inl on ↦ inl (on.0, omega (arith, on.1), stays order depth u on.0 on.1 ∙ on.2)
           | inr all ↦ inr (λ x to. gone x (all x to))
         ]
       ];
       top = λ i is w lt to. absurd (omega (arith, lt));
       below = λ i lt w le to. elim (cases_lt (i + 1) depth) [
-        | inl low ↦ gone w (s.below i low w (rw (stays (i + 1) low) at le) (rw (stays i (omega (arith, low))) at to))
+        | inl low ↦ gone w (s.below i low w (rw (stays order depth u (i + 1) low) at le) (rw (stays order depth u i (omega (arith, low))) at to))
         | inr high ↦
             let same : i ≡ k = omega (arith, e, lt, high) in
             let above : i + 1 ≡ depth = omega (arith, e, same) in
             let to_it : w ≤ u = rw (ap (λ (n : ℕ). get_or (set order depth u) n 0) above ∙ at) at le in
-            let edge : pairs (get_or order k 0) w ≡ true = rw (ap (λ (n : ℕ). get_or (set order depth u) n 0) same ∙ stays k (omega (arith, e))) at to in
+            let edge : pairs (get_or order k 0) w ≡ true = rw (ap (λ (n : ℕ). get_or (set order depth u) n 0) same ∙ stays order depth u k (omega (arith, e))) at to in
             elim (cases_eq w u) [
               | inl is ↦ rw is (less-own unseen less u one)
               | inr ne ↦ gone w (elim (cases_lt w from) [
@@ -118,9 +122,6 @@ module _ (pairs : ℕ → ℕ → Bool) (t : ℕ) (waiting : List ℕ) where
 
         at : get_or (set order depth u) depth 0 ≡ u
         at = get_or-set_same order depth u 0 room
-
-        stays : (i : ℕ) → i < depth → get_or (set order depth u) i 0 ≡ get_or order i 0
-        stays i lt = let ne : i ≢ depth = λ same. absurd (omega (arith, lt, same)) in get_or-set_other order depth i u 0 ne
 
     -- The top is taken off the stack once all that it waits for are met.
     pub depth_first-popped : ((j : ℕ) → from ≤ j → pairs (get_or order k 0) j ≡ true → has_bit unseen j ≡ false) → IsDepthFirst pairs t waiting unseen order k (get_or order k 0 + 1)
@@ -146,20 +147,6 @@ module _ (pairs : ℕ → ℕ → Bool) (t : ℕ) (waiting : List ℕ) where
 
         all : (x : ℕ) → pairs (get_or order k 0) x ≡ true → has_bit unseen x ≡ false
         all x to = elim (cases_lt x from) [ inl before ↦ s.top k e x before to | inr at ↦ none x at to ]
-
-    -- The search of the top's row goes on from a session behind those that it hasn't met.
-    pub depth_first-ahead : (on : ℕ) → ((j : ℕ) → from ≤ j → j < on → pairs (get_or order k 0) j ≡ true → has_bit unseen j ≡ false) → IsDepthFirst pairs t waiting unseen order depth on
-    depth_first-ahead on least = record {
-      own = s.own;
-      stacked = s.stacked;
-      seen = s.seen;
-      done = s.done;
-      top = λ i is w lt to.
-          let same : i ≡ k = omega (arith, is, e) in
-          let edge : pairs (get_or order k 0) w ≡ true = rw (ap (λ (n : ℕ). get_or order n 0) same) at to in
-          elim (cases_lt w from) [ inl before ↦ s.top k e w before edge | inr behind ↦ least w behind lt edge ];
-      below = s.below;
-    }
 
   -- When the stack is empty, all that t reaches are met.
   pub depth_first-all : (unseen order : List ℕ) (from : ℕ) → IsDepthFirst pairs t waiting unseen order 0 from → (u : ℕ) → IsFrom pairs t u → has_bit unseen u ≡ false
@@ -202,16 +189,13 @@ module _ (pairs : ℕ → ℕ → Bool) (t : ℕ) where
       own = s.own;
       lead = s.lead;
       linked = λ i lt. elim (cases_lt (i + 1) depth) [
-        | inl low ↦ rw (stays i (omega (arith, low))) (rw (stays (i + 1) low) (s.linked i low))
+        | inl low ↦ rw (stays order depth u i (omega (arith, low))) (rw (stays order depth u (i + 1) low) (s.linked i low))
         | inr high ↦
             let same : i ≡ k = omega (arith, e, lt, high) in
             let above : i + 1 ≡ depth = omega (arith, e, same) in
-            rw (ap (λ (n : ℕ). get_or (set order depth u) n 0) above ∙ get_or-set_same order depth u 0 room) (rw (ap (λ (n : ℕ). get_or (set order depth u) n 0) same ∙ stays k (omega (arith, e))) step)
+            rw (ap (λ (n : ℕ). get_or (set order depth u) n 0) above ∙ get_or-set_same order depth u 0 room) (rw (ap (λ (n : ℕ). get_or (set order depth u) n 0) same ∙ stays order depth u k (omega (arith, e))) step)
       ];
     }
-      where
-        stays : (i : ℕ) → i < depth → get_or (set order depth u) i 0 ≡ get_or order i 0
-        stays i lt = let ne : i ≢ depth = λ same. absurd (omega (arith, lt, same)) in get_or-set_other order depth i u 0 ne
 
     -- A session that waits for a member of `circle` becomes one.
     pub leading-more : (v u : ℕ) (wide : List ℕ) → pairs v u ≡ true → has_bit circle u ≡ true → ((j : ℕ) → has_bit wide j ≡ (has_bit circle j || eqb j v)) → IsLeading pairs t wide order depth

@@ -5,14 +5,14 @@ ghost use Rattle.sequential.specs.Histories.{calls_of};
 ghost use Rattle.publication.specs.Rule.{IsHome};
 ghost use Rattle.publication.specs.Boards.{IsOf, OpensNone, HasCallsOf, heard_from};
 ghost use Rattle.combining.specs.Sessions.{IsSessionOf, IsPendingServed, HasTriedToList, IsPassed};
-ghost use Rattle.combining.specs.Ended.{HasAddedTold, HasRoom, entered_since};
+ghost use Rattle.combining.specs.Woken.{HasAddedTold, HasRoom, entered_since};
 ghost use Rattle.combining.specs.Rounds.{IsBound, IsUnmet, AreRounds, IsFull};
 ghost use Rattle.combining.specs.inner.Passes.{HasMadePass};
 
 use crate::bounds::PassBound;
+use crate::listener::Listener;
 use crate::office::{Office, Turn};
-use crate::rounds::{Pass, serve_rounds};
-use crate::told::Told;
+use crate::rounds::{Pass, make_rounds};
 use publication::{Load, Ticket as Session};
 use sequential::Batching;
 
@@ -40,15 +40,15 @@ impl<O: Batching> Office<O> {
 
     /// Has the session's call listed, tries once to become the combiner, and if it does, makes a pass. The session then has the object.
     #[inline(always)]
-    fn make_pass<T: Told<O>>(
+    fn make_pass<T: Listener<O>>(
         &self,
         session: &mut Session<O>,
         bound: PassBound,
-        told: &mut T,
+        listener: &mut T,
     ) -> Option<MadePass<O>>
         requires ours { IsSessionOf self.now session.old }
         requires bound { IsBound bound }
-        requires room { HasRoom (T.room told.old) self.now.sessions }
+        requires room { HasRoom (T.room listener.old) self.now.sessions }
         ensures ours { IsOf self.now session.new }
         ensures made { IfSome result (λ made. HasMadePass O.Sequential self.now.sessions session.old session.new made.load.value made.pass.served) }
         ensures bound { IfSome result (λ made. O.bound made.load.value.object ≡ self.now.bound) }
@@ -65,14 +65,14 @@ impl<O: Batching> Office<O> {
         ensures own { IfSome result (λ made. made.pass.starved ≡ false → session.old.pending ≢ None → IsPendingServed session.new) }
         ensures heard { IfSome result (λ made. made.pass.starved ≡ false → made.pass.left ≡ false → (j : _) → 0 < j → j ≤ self.now.sessions
             → heard_from session.old j ≤ length (calls_of j session.new.front)) }
-        ensures told { IfSome result (λ _. HasAddedTold T.ends self.now.sessions session.new.front (entered_since session.old session.new) (T.list told.old) (T.list told.new)) }
-        ensures untold { IfNone result (told.new ≡ told.old) }
-        ensures room { T.room told.new ≡ T.room told.old }
-        ensures noted { IfSome result (λ _. T.notes told.new session.new.front) }
+        ensures told { IfSome result (λ _. HasAddedTold T.ends self.now.sessions session.new.front (entered_since session.old session.new) (T.list listener.old) (T.list listener.new)) }
+        ensures untold { IfNone result (listener.new ≡ listener.old) }
+        ensures room { T.room listener.new ≡ T.room listener.old }
+        ensures noted { IfSome result (λ _. T.notes listener.new session.new.front) }
     {
         self.enlist(session);
         let mut load = self.board.seize(session)?;
-        let pass = serve_rounds(&self.board, session, &mut load, bound, told);
+        let pass = make_rounds(&self.board, session, &mut load, bound, listener);
         Some(MadePass { pass, load })
     }
 
@@ -99,15 +99,15 @@ impl<O: Batching> Office<O> {
 
     /// Serves as `serve` does, and adds the sessions whose waits the pass has ended to those that were told.
     #[inline(always)]
-    pub(crate) fn pass<T: Told<O>>(
+    pub(crate) fn pass<T: Listener<O>>(
         &self,
         session: &mut Session<O>,
         bound: PassBound,
-        told: &mut T,
+        listener: &mut T,
     ) -> Turn
         requires ours { IsSessionOf self.now session.old }
         requires bound { IsBound bound }
-        requires room { HasRoom (T.room told.old) self.now.sessions }
+        requires room { HasRoom (T.room listener.old) self.now.sessions }
         ensures ours { IsSessionOf self.now session.new }
         ensures elsewhere { result ≡ Turn.Elsewhere → HasTriedToList session.old session.new × (1 < self.now.sessions) }
         ensures pass { (served : _) (starved left : _) → result ≡ Turn.Pass served starved left → IsPassed O.Sequential session.old session.new served }
@@ -121,12 +121,12 @@ impl<O: Batching> Office<O> {
         ensures own { (served : _) (left : _) → result ≡ Turn.Pass served false left → session.old.pending ≢ None → IsPendingServed session.new }
         ensures heard { (served j : _) → result ≡ Turn.Pass served false false → 0 < j → j ≤ self.now.sessions
             → heard_from session.old j ≤ length (calls_of j session.new.front) }
-        ensures told { HasAddedTold T.ends self.now.sessions session.new.front (entered_since session.old session.new) (T.list told.old) (T.list told.new) }
-        ensures none { result ≡ Turn.Elsewhere → told.new ≡ told.old }
-        ensures room { T.room told.new ≡ T.room told.old }
-        ensures notes { T.notes told.old session.old.front → T.notes told.new session.new.front }
+        ensures told { HasAddedTold T.ends self.now.sessions session.new.front (entered_since session.old session.new) (T.list listener.old) (T.list listener.new) }
+        ensures none { result ≡ Turn.Elsewhere → listener.new ≡ listener.old }
+        ensures room { T.room listener.new ≡ T.room listener.old }
+        ensures notes { T.notes listener.old session.old.front → T.notes listener.new session.new.front }
     {
-        let Some(made) = self.make_pass(session, bound, told) else {
+        let Some(made) = self.make_pass(session, bound, listener) else {
             return Turn::Elsewhere;
         };
         self.end_pass(session, made)

@@ -4,19 +4,19 @@ ghost use Rattle.std.specs.Prelude.{◌≡◌, ◌+◌, ◌*◌, ◌<◌, ◌≤
 ghost use Rattle.sequential.specs.Histories.{calls_of};
 ghost use Rattle.publication.specs.Boards.{HasCallsOf, heard_from};
 ghost use Rattle.combining.specs.Sessions.{IsSessionOf, IsIdle, IsPerformed, IsRefused};
-ghost use Rattle.combining.specs.Ended.{AreToldBy, HasAddedTold, HasRoom, entered_since};
+ghost use Rattle.combining.specs.Woken.{AreToldBy, HasAddedTold, HasRoom, entered_since};
 ghost use Rattle.combining.specs.Rounds.{IsBound, IsUnmet};
 
 use crate::bounds::PassBound;
+use crate::listener::Listener;
 use crate::office::{Answer, Office};
-use crate::own_call::serve_with_own;
-use crate::told::Told;
+use crate::own_call::pass_with_own;
 use publication::Ticket as Session;
 use sequential::Batching;
 
 /// The outcome of one call of `perform`.
 #[derive(Clone, Copy, Debug, PartialEq, Eq)]
-pub enum Performed<R> {
+pub enum TryOutcome<R> {
     /// The session was the combiner: it performed the call, and made a pass.
     Answered {
         /// The place of the call's entry in the history, and the reply.
@@ -44,80 +44,80 @@ impl<O: Batching> Office<O> {
     /// may be performed again or published. The session is idle again in each case. Tells whose wait the pass and the call have ended, as
     /// `serve` does, also if memory was refused for the call. With `Nobody` it reports no ended waits: if threads sleep until a pass tells
     /// of them, every pass has to tell.
-    pub fn perform<T: Told<O>>(
+    pub fn perform<T: Listener<O>>(
         &self,
         session: &mut Session<O>,
         call: O::Call,
         bound: PassBound,
-        told: &mut T,
-    ) -> Performed<O::Reply>
+        listener: &mut T,
+    ) -> TryOutcome<O::Reply>
         requires ours { IsSessionOf self.now session.old }
         requires idle { IsIdle session.old }
         requires bound { IsBound bound }
-        requires room { HasRoom (T.room told.old) self.now.sessions }
+        requires room { HasRoom (T.room listener.old) self.now.sessions }
         ensures ours { IsSessionOf self.now session.new }
         ensures idle { IsIdle session.new }
-        ensures answered { (answer : _) (served : _) (starved : _) → result ≡ Performed.Answered answer served starved
+        ensures answered { (answer : _) (served : _) (starved : _) → result ≡ TryOutcome.Answered answer served starved
             → IsPerformed O.Sequential (O.goes_first call) session.old session.new call answer.place answer.reply served }
-        ensures put_back { (answer : _) (served : _) (starved : _) → result ≡ Performed.Answered answer served starved
+        ensures put_back { (answer : _) (served : _) (starved : _) → result ≡ TryOutcome.Answered answer served starved
             → IsTrue starved ↔ (session.old.put_backs < session.new.put_backs) }
         ensures few { length (entered_since session.old session.new) ≤ bound.rounds * bound.calls + 1 }
-        ensures heard { (answer : _) (served j : _) → IsUnmet bound → result ≡ Performed.Answered answer served false → 0 < j → j ≤ self.now.sessions
+        ensures heard { (answer : _) (served j : _) → IsUnmet bound → result ≡ TryOutcome.Answered answer served false → 0 < j → j ≤ self.now.sessions
             → heard_from session.old j ≤ length (calls_of j session.new.front) }
-        ensures elsewhere { result ≡ Performed.Elsewhere → (session.new ≡ session.old) × (1 < self.now.sessions) }
-        ensures refused { result ≡ Performed.Starved → IsRefused O.Sequential session.old session.new }
+        ensures elsewhere { result ≡ TryOutcome.Elsewhere → (session.new ≡ session.old) × (1 < self.now.sessions) }
+        ensures refused { result ≡ TryOutcome.Starved → IsRefused O.Sequential session.old session.new }
         ensures calls { HasCallsOf session.new.front session.new }
-        ensures told { AreToldBy T.ends self.now.sessions session.new.front (entered_since session.old session.new) (T.list told.new) }
-        ensures none { result ≡ Performed.Elsewhere → T.list told.new ≡ [] }
-        ensures room { T.room told.new ≡ T.room told.old }
-        ensures notes { T.notes told.old session.old.front → T.notes told.new session.new.front }
+        ensures told { AreToldBy T.ends self.now.sessions session.new.front (entered_since session.old session.new) (T.list listener.new) }
+        ensures none { result ≡ TryOutcome.Elsewhere → T.list listener.new ≡ [] }
+        ensures room { T.room listener.new ≡ T.room listener.old }
+        ensures notes { T.notes listener.old session.old.front → T.notes listener.new session.new.front }
     {
-        told.clear();
-        self.perform_adding(session, &call, bound, told)
+        listener.clear();
+        self.perform_adding(session, &call, bound, listener)
     }
 
     /// Performs as `perform` does, and adds the sessions whose waits the pass and the call have ended to those that were told.
     #[inline(always)]
-    pub(crate) fn perform_adding<T: Told<O>>(
+    pub(crate) fn perform_adding<T: Listener<O>>(
         &self,
         session: &mut Session<O>,
         call: &O::Call,
         bound: PassBound,
-        told: &mut T,
-    ) -> Performed<O::Reply>
+        listener: &mut T,
+    ) -> TryOutcome<O::Reply>
         requires ours { IsSessionOf self.now session.old }
         requires idle { IsIdle session.old }
         requires bound { IsBound bound }
-        requires room { HasRoom (T.room told.old) self.now.sessions }
+        requires room { HasRoom (T.room listener.old) self.now.sessions }
         ensures ours { IsSessionOf self.now session.new }
         ensures idle { IsIdle session.new }
-        ensures answered { (answer : _) (served : _) (starved : _) → result ≡ Performed.Answered answer served starved
+        ensures answered { (answer : _) (served : _) (starved : _) → result ≡ TryOutcome.Answered answer served starved
             → IsPerformed O.Sequential (O.goes_first call.now) session.old session.new call.now answer.place answer.reply served }
-        ensures put_back { (answer : _) (served : _) (starved : _) → result ≡ Performed.Answered answer served starved
+        ensures put_back { (answer : _) (served : _) (starved : _) → result ≡ TryOutcome.Answered answer served starved
             → IsTrue starved ↔ (session.old.put_backs < session.new.put_backs) }
         ensures few { length (entered_since session.old session.new) ≤ bound.rounds * bound.calls + 1 }
-        ensures heard { (answer : _) (served j : _) → IsUnmet bound → result ≡ Performed.Answered answer served false → 0 < j → j ≤ self.now.sessions
+        ensures heard { (answer : _) (served j : _) → IsUnmet bound → result ≡ TryOutcome.Answered answer served false → 0 < j → j ≤ self.now.sessions
             → heard_from session.old j ≤ length (calls_of j session.new.front) }
-        ensures elsewhere { result ≡ Performed.Elsewhere → (session.new ≡ session.old) × (1 < self.now.sessions) }
-        ensures refused { result ≡ Performed.Starved → IsRefused O.Sequential session.old session.new }
+        ensures elsewhere { result ≡ TryOutcome.Elsewhere → (session.new ≡ session.old) × (1 < self.now.sessions) }
+        ensures refused { result ≡ TryOutcome.Starved → IsRefused O.Sequential session.old session.new }
         ensures calls { HasCallsOf session.new.front session.new }
-        ensures told { HasAddedTold T.ends self.now.sessions session.new.front (entered_since session.old session.new) (T.list told.old) (T.list told.new) }
-        ensures none { result ≡ Performed.Elsewhere → told.new ≡ told.old }
-        ensures room { T.room told.new ≡ T.room told.old }
-        ensures notes { T.notes told.old session.old.front → T.notes told.new session.new.front }
+        ensures told { HasAddedTold T.ends self.now.sessions session.new.front (entered_since session.old session.new) (T.list listener.old) (T.list listener.new) }
+        ensures none { result ≡ TryOutcome.Elsewhere → listener.new ≡ listener.old }
+        ensures room { T.room listener.new ≡ T.room listener.old }
+        ensures notes { T.notes listener.old session.old.front → T.notes listener.new session.new.front }
     {
         let Some(mut load) = self.board.seize(session) else {
-            return Performed::Elsewhere;
+            return TryOutcome::Elsewhere;
         };
-        let (pass, own) = serve_with_own(&self.board, session, &mut load, call, bound, told);
+        let (pass, own) = pass_with_own(&self.board, session, &mut load, call, bound, listener);
         self.board.release(session, load);
         match own {
-            Some((place, reply)) => Performed::Answered {
+            Some((place, reply)) => TryOutcome::Answered {
                 answer: Answer { place, reply },
                 served: pass.served,
                 starved: pass.starved,
             },
-            None => Performed::Starved,
+            None => TryOutcome::Starved,
         }
     }
 }

@@ -32,11 +32,7 @@ impl CallPointer {
         ensures value { MatchOption result (self.old.at ≡ null_ptr) (λ r. (self.old.at ≢ null_ptr) × (r ≡ self.old.behind)) }
         ensures same { self.new ≡ self.old }
     {
-        let at = self.at;
-        if at == std::ptr::null() {
-            return None;
-        }
-        unsafe { Some(*at) }
+        copied!(self.at)
     }
 }
 
@@ -58,11 +54,7 @@ impl ProgramPointer {
         ensures value { MatchOption result (self.old.at ≡ null_ptr) (λ r. (self.old.at ≢ null_ptr) × (r ≡ self.old.behind)) }
         ensures same { self.new ≡ self.old }
     {
-        let at = self.at;
-        if at == std::ptr::null() {
-            return None;
-        }
-        unsafe { Some(*at) }
+        copied!(self.at)
     }
 }
 
@@ -84,10 +76,6 @@ impl ResourcePointer {
         ensures value { MatchOption result (self.old.at ≡ null_ptr) (λ r. (self.old.at ≢ null_ptr) × (r ≡ self.old.behind)) }
         ensures same { self.new ≡ self.old }
     {
-        let at = self.at;
-        if at == std::ptr::null() {
-            return None;
-        }
-        unsafe { Some(*at) }
+        copied!(self.at)
     }
 }

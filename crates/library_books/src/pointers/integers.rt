@@ -1,6 +1,7 @@
 //! Pointers of C to integers.
 
 ghost use Rattle.std.specs.Prelude.{◌≡◌, ◌≢◌, ℕ, MatchOption};
+ghost use Rattle.std.specs.Borrow.{sem, LendsIf};
 ghost use denote.Builtin.{usize, u32, u64};
 ghost use denote.RawPtr.{Testable, null_ptr};
 ghost use Rattle.library_books.specs.Behind.{maybe_at};
@@ -20,7 +21,6 @@ impl Model for SizePointer {
 }
 
 impl SizePointer {
-    ghost use Rattle.std.specs.Borrow.{sem, LendsIf};
     ghost use Rattle.library_books.specs.contracts.pointers.integers.SizePointer.{the_row};
 
     /// What lies behind the pointer, or `None` at null.
@@ -28,11 +28,7 @@ impl SizePointer {
         ensures* lends { sem 𝓛 (LendsIf the_row usize self.entry result (λ x. record self.entry.now { behind = x }) self.entry.now) }
         ensures value { MatchOption result (self.old.at ≡ null_ptr) (λ r. (self.old.at ≢ null_ptr) × (r.now ≡ self.old.behind)) }
     {
-        let at = self.at;
-        if at == std::ptr::null_mut() {
-            return None;
-        }
-        unsafe { Some(&mut *at) }
+        lent!(self.at)
     }
 }
 
@@ -49,7 +45,6 @@ impl Model for U32Pointer {
 }
 
 impl U32Pointer {
-    ghost use Rattle.std.specs.Borrow.{sem, LendsIf};
     ghost use Rattle.library_books.specs.contracts.pointers.integers.U32Pointer.{the_row};
 
     /// What lies behind the pointer, or `None` at null.
@@ -57,11 +52,7 @@ impl U32Pointer {
         ensures* lends { sem 𝓛 (LendsIf the_row u32 self.entry result (λ x. record self.entry.now { behind = x }) self.entry.now) }
         ensures value { MatchOption result (self.old.at ≡ null_ptr) (λ r. (self.old.at ≢ null_ptr) × (r.now ≡ self.old.behind)) }
     {
-        let at = self.at;
-        if at == std::ptr::null_mut() {
-            return None;
-        }
-        unsafe { Some(&mut *at) }
+        lent!(self.at)
     }
 }
 
@@ -78,7 +69,6 @@ impl Model for U64Pointer {
 }
 
 impl U64Pointer {
-    ghost use Rattle.std.specs.Borrow.{sem, LendsIf};
     ghost use Rattle.library_books.specs.contracts.pointers.integers.U64Pointer.{the_row};
 
     /// What lies behind the pointer, or `None` at null.
@@ -86,10 +76,6 @@ impl U64Pointer {
         ensures* lends { sem 𝓛 (LendsIf the_row u64 self.entry result (λ x. record self.entry.now { behind = x }) self.entry.now) }
         ensures value { MatchOption result (self.old.at ≡ null_ptr) (λ r. (self.old.at ≢ null_ptr) × (r.now ≡ self.old.behind)) }
     {
-        let at = self.at;
-        if at == std::ptr::null_mut() {
-            return None;
-        }
-        unsafe { Some(&mut *at) }
+        lent!(self.at)
     }
 }

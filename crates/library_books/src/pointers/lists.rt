@@ -2,6 +2,7 @@
 
 ghost use Rattle.std.specs.Prelude.{◌≡◌, ◌≢◌, ◌↔◌, ℕ, IsTrue, List};
 ghost use Rattle.std.specs.Coded.{coded_list};
+ghost use Rattle.std.specs.Borrow.{sem, Lends, Array};
 ghost use denote.Builtin.{u32};
 ghost use denote.RawPtr.{Testable, null_ptr};
 ghost use Rattle.library_books.specs.declared.claims.ClaimNumbers.{ClaimNumbers};
@@ -20,7 +21,6 @@ use crate::claims::ClaimNumbers;
 use crate::deadlock_numbers::{DeadlockNumbers, MemberNumbers};
 use crate::numbers::{EntryNumbers, HolderNumbers};
 use std::marker::Model;
-use std::slice;
 
 /// A pointer of C to `room` locks, or null.
 #[repr(C)]
@@ -36,7 +36,6 @@ impl Model for ClaimList {
 }
 
 impl ClaimList {
-    ghost use Rattle.std.specs.Borrow.{sem, Lends, Array};
     ghost use Rattle.library_books.specs.contracts.pointers.lists.ClaimList.{the_row};
 
     /// Whether the pointer is null and `room` is not 0.
@@ -44,11 +43,7 @@ impl ClaimList {
         ensures value { IsTrue result ↔ IsNullList self.old.at self.old.room }
         ensures same { self.new ≡ self.old }
     {
-        if self.room == 0 {
-            return false;
-        }
-        let at = self.at;
-        at == std::ptr::null_mut()
+        (self.room != 0) & (self.at == std::ptr::null_mut())
     }
 
     /// The `room` locks. If `room` is not 0, the pointer must not be null.
@@ -57,13 +52,7 @@ impl ClaimList {
         ensures* lends { sem 𝓛 (Lends the_row (Array claim_row 0) self.entry result (λ xs. record self.entry.now { behind = xs })) }
         ensures value { result.now ≡ self.old.behind }
     {
-        let room = self.room;
-        let mut at = self.at;
-        if room == 0 {
-            // A slice of no items must not begin at null either.
-            at = self as *mut ClaimList as *mut ClaimNumbers;
-        }
-        unsafe { slice::from_raw_parts_mut(at, room) }
+        items_of!(self)
     }
 }
 
@@ -81,7 +70,6 @@ impl Model for DeadlockList {
 }
 
 impl DeadlockList {
-    ghost use Rattle.std.specs.Borrow.{sem, Lends, Array};
     ghost use Rattle.library_books.specs.contracts.pointers.lists.DeadlockList.{the_row};
 
     /// Whether the pointer is null and `room` is not 0.
@@ -89,11 +77,7 @@ impl DeadlockList {
         ensures value { IsTrue result ↔ IsNullList self.old.at self.old.room }
         ensures same { self.new ≡ self.old }
     {
-        if self.room == 0 {
-            return false;
-        }
-        let at = self.at;
-        at == std::ptr::null_mut()
+        (self.room != 0) & (self.at == std::ptr::null_mut())
     }
 
     /// The `room` deadlocks. If `room` is not 0, the pointer must not be null.
@@ -102,13 +86,7 @@ impl DeadlockList {
         ensures* lends { sem 𝓛 (Lends the_row (Array deadlock_row 0) self.entry result (λ xs. record self.entry.now { behind = xs })) }
         ensures value { result.now ≡ self.old.behind }
     {
-        let room = self.room;
-        let mut at = self.at;
-        if room == 0 {
-            // A slice of no items must not begin at null either.
-            at = self as *mut DeadlockList as *mut DeadlockNumbers;
-        }
-        unsafe { slice::from_raw_parts_mut(at, room) }
+        items_of!(self)
     }
 }
 
@@ -126,7 +104,6 @@ impl Model for EntryList {
 }
 
 impl EntryList {
-    ghost use Rattle.std.specs.Borrow.{sem, Lends, Array};
     ghost use Rattle.library_books.specs.contracts.pointers.lists.EntryList.{the_row};
 
     /// Whether the pointer is null and `room` is not 0.
@@ -134,11 +111,7 @@ impl EntryList {
         ensures value { IsTrue result ↔ IsNullList self.old.at self.old.room }
         ensures same { self.new ≡ self.old }
     {
-        if self.room == 0 {
-            return false;
-        }
-        let at = self.at;
-        at == std::ptr::null_mut()
+        (self.room != 0) & (self.at == std::ptr::null_mut())
     }
 
     /// The `room` entries of the history. If `room` is not 0, the pointer must not be null.
@@ -147,13 +120,7 @@ impl EntryList {
         ensures* lends { sem 𝓛 (Lends the_row (Array entry_row 0) self.entry result (λ xs. record self.entry.now { behind = xs })) }
         ensures value { result.now ≡ self.old.behind }
     {
-        let room = self.room;
-        let mut at = self.at;
-        if room == 0 {
-            // A slice of no items must not begin at null either.
-            at = self as *mut EntryList as *mut EntryNumbers;
-        }
-        unsafe { slice::from_raw_parts_mut(at, room) }
+        items_of!(self)
     }
 }
 
@@ -171,7 +138,6 @@ impl Model for HolderList {
 }
 
 impl HolderList {
-    ghost use Rattle.std.specs.Borrow.{sem, Lends, Array};
     ghost use Rattle.library_books.specs.contracts.pointers.lists.HolderList.{the_row};
 
     /// Whether the pointer is null and `room` is not 0.
@@ -179,11 +145,7 @@ impl HolderList {
         ensures value { IsTrue result ↔ IsNullList self.old.at self.old.room }
         ensures same { self.new ≡ self.old }
     {
-        if self.room == 0 {
-            return false;
-        }
-        let at = self.at;
-        at == std::ptr::null_mut()
+        (self.room != 0) & (self.at == std::ptr::null_mut())
     }
 
     /// The `room` holders. If `room` is not 0, the pointer must not be null.
@@ -192,13 +154,7 @@ impl HolderList {
         ensures* lends { sem 𝓛 (Lends the_row (Array holder_row 0) self.entry result (λ xs. record self.entry.now { behind = xs })) }
         ensures value { result.now ≡ self.old.behind }
     {
-        let room = self.room;
-        let mut at = self.at;
-        if room == 0 {
-            // A slice of no items must not begin at null either.
-            at = self as *mut HolderList as *mut HolderNumbers;
-        }
-        unsafe { slice::from_raw_parts_mut(at, room) }
+        items_of!(self)
     }
 }
 
@@ -216,7 +172,6 @@ impl Model for MemberList {
 }
 
 impl MemberList {
-    ghost use Rattle.std.specs.Borrow.{sem, Lends, Array};
     ghost use Rattle.library_books.specs.contracts.pointers.lists.MemberList.{the_row};
 
     /// Whether the pointer is null and `room` is not 0.
@@ -224,11 +179,7 @@ impl MemberList {
         ensures value { IsTrue result ↔ IsNullList self.old.at self.old.room }
         ensures same { self.new ≡ self.old }
     {
-        if self.room == 0 {
-            return false;
-        }
-        let at = self.at;
-        at == std::ptr::null_mut()
+        (self.room != 0) & (self.at == std::ptr::null_mut())
     }
 
     /// The `room` members of cycles. If `room` is not 0, the pointer must not be null.
@@ -237,13 +188,7 @@ impl MemberList {
         ensures* lends { sem 𝓛 (Lends the_row (Array member_row 0) self.entry result (λ xs. record self.entry.now { behind = xs })) }
         ensures value { result.now ≡ self.old.behind }
     {
-        let room = self.room;
-        let mut at = self.at;
-        if room == 0 {
-            // A slice of no items must not begin at null either.
-            at = self as *mut MemberList as *mut MemberNumbers;
-        }
-        unsafe { slice::from_raw_parts_mut(at, room) }
+        items_of!(self)
     }
 }
 
@@ -261,7 +206,6 @@ impl Model for SessionList {
 }
 
 impl SessionList {
-    ghost use Rattle.std.specs.Borrow.{sem, Lends, Array};
     ghost use Rattle.library_books.specs.contracts.pointers.lists.SessionList.{the_row};
 
     /// Whether the pointer is null and `room` is not 0.
@@ -269,11 +213,7 @@ impl SessionList {
         ensures value { IsTrue result ↔ IsNullList self.old.at self.old.room }
         ensures same { self.new ≡ self.old }
     {
-        if self.room == 0 {
-            return false;
-        }
-        let at = self.at;
-        at == std::ptr::null_mut()
+        (self.room != 0) & (self.at == std::ptr::null_mut())
     }
 
     /// The `room` sessions, by their numbers. If `room` is not 0, the pointer must not be null.
@@ -282,12 +222,6 @@ impl SessionList {
         ensures* lends { sem 𝓛 (Lends the_row (Array u32 0) self.entry result (λ xs. record self.entry.now { behind = xs })) }
         ensures value { result.now ≡ self.old.behind }
     {
-        let room = self.room;
-        let mut at = self.at;
-        if room == 0 {
-            // A slice of no items must not begin at null either.
-            at = self as *mut SessionList as *mut u32;
-        }
-        unsafe { slice::from_raw_parts_mut(at, room) }
+        items_of!(self)
     }
 }

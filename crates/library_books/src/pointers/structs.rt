@@ -1,6 +1,7 @@
 //! Pointers of C to structs of numbers that an export writes.
 
 ghost use Rattle.std.specs.Prelude.{◌≡◌, ◌≢◌, MatchOption};
+ghost use Rattle.std.specs.Borrow.{sem, LendsIf};
 ghost use denote.RawPtr.{Testable, null_ptr};
 ghost use Rattle.library_books.specs.declared.numbers.AnswerNumbers.{AnswerNumbers};
 ghost use Rattle.library_books.specs.declared.claims.ClaimNumbers.{ClaimNumbers};
@@ -39,7 +40,6 @@ impl Model for AnswerPointer {
 }
 
 impl AnswerPointer {
-    ghost use Rattle.std.specs.Borrow.{sem, LendsIf};
     ghost use Rattle.library_books.specs.contracts.pointers.structs.AnswerPointer.{the_row};
 
     /// What lies behind the pointer, or `None` at null.
@@ -47,11 +47,7 @@ impl AnswerPointer {
         ensures* lends { sem 𝓛 (LendsIf the_row answer_row self.entry result (λ x. record self.entry.now { behind = x }) self.entry.now) }
         ensures value { MatchOption result (self.old.at ≡ null_ptr) (λ r. (self.old.at ≢ null_ptr) × (r.now ≡ self.old.behind)) }
     {
-        let at = self.at;
-        if at == std::ptr::null_mut() {
-            return None;
-        }
-        unsafe { Some(&mut *at) }
+        lent!(self.at)
     }
 }
 
@@ -68,7 +64,6 @@ impl Model for ClaimPointer {
 }
 
 impl ClaimPointer {
-    ghost use Rattle.std.specs.Borrow.{sem, LendsIf};
     ghost use Rattle.library_books.specs.contracts.pointers.structs.ClaimPointer.{the_row};
 
     /// What lies behind the pointer, or `None` at null.
@@ -76,11 +71,7 @@ impl ClaimPointer {
         ensures* lends { sem 𝓛 (LendsIf the_row claim_row self.entry result (λ x. record self.entry.now { behind = x }) self.entry.now) }
         ensures value { MatchOption result (self.old.at ≡ null_ptr) (λ r. (self.old.at ≢ null_ptr) × (r.now ≡ self.old.behind)) }
     {
-        let at = self.at;
-        if at == std::ptr::null_mut() {
-            return None;
-        }
-        unsafe { Some(&mut *at) }
+        lent!(self.at)
     }
 }
 
@@ -97,7 +88,6 @@ impl Model for CountsPointer {
 }
 
 impl CountsPointer {
-    ghost use Rattle.std.specs.Borrow.{sem, LendsIf};
     ghost use Rattle.library_books.specs.contracts.pointers.structs.CountsPointer.{the_row};
 
     /// What lies behind the pointer, or `None` at null.
@@ -105,11 +95,7 @@ impl CountsPointer {
         ensures* lends { sem 𝓛 (LendsIf the_row counts_row self.entry result (λ x. record self.entry.now { behind = x }) self.entry.now) }
         ensures value { MatchOption result (self.old.at ≡ null_ptr) (λ r. (self.old.at ≢ null_ptr) × (r.now ≡ self.old.behind)) }
     {
-        let at = self.at;
-        if at == std::ptr::null_mut() {
-            return None;
-        }
-        unsafe { Some(&mut *at) }
+        lent!(self.at)
     }
 }
 
@@ -126,7 +112,6 @@ impl Model for GaugesPointer {
 }
 
 impl GaugesPointer {
-    ghost use Rattle.std.specs.Borrow.{sem, LendsIf};
     ghost use Rattle.library_books.specs.contracts.pointers.structs.GaugesPointer.{the_row};
 
     /// What lies behind the pointer, or `None` at null.
@@ -134,11 +119,7 @@ impl GaugesPointer {
         ensures* lends { sem 𝓛 (LendsIf the_row gauges_row self.entry result (λ x. record self.entry.now { behind = x }) self.entry.now) }
         ensures value { MatchOption result (self.old.at ≡ null_ptr) (λ r. (self.old.at ≢ null_ptr) × (r.now ≡ self.old.behind)) }
     {
-        let at = self.at;
-        if at == std::ptr::null_mut() {
-            return None;
-        }
-        unsafe { Some(&mut *at) }
+        lent!(self.at)
     }
 }
 
@@ -155,7 +136,6 @@ impl Model for PassPointer {
 }
 
 impl PassPointer {
-    ghost use Rattle.std.specs.Borrow.{sem, LendsIf};
     ghost use Rattle.library_books.specs.contracts.pointers.structs.PassPointer.{the_row};
 
     /// What lies behind the pointer, or `None` at null.
@@ -163,11 +143,7 @@ impl PassPointer {
         ensures* lends { sem 𝓛 (LendsIf the_row pass_row self.entry result (λ x. record self.entry.now { behind = x }) self.entry.now) }
         ensures value { MatchOption result (self.old.at ≡ null_ptr) (λ r. (self.old.at ≢ null_ptr) × (r.now ≡ self.old.behind)) }
     {
-        let at = self.at;
-        if at == std::ptr::null_mut() {
-            return None;
-        }
-        unsafe { Some(&mut *at) }
+        lent!(self.at)
     }
 }
 
@@ -184,7 +160,6 @@ impl Model for ProgramAnswerPointer {
 }
 
 impl ProgramAnswerPointer {
-    ghost use Rattle.std.specs.Borrow.{sem, LendsIf};
     ghost use Rattle.library_books.specs.contracts.pointers.structs.ProgramAnswerPointer.{the_row};
 
     /// What lies behind the pointer, or `None` at null.
@@ -192,11 +167,7 @@ impl ProgramAnswerPointer {
         ensures* lends { sem 𝓛 (LendsIf the_row program_answer_row self.entry result (λ x. record self.entry.now { behind = x }) self.entry.now) }
         ensures value { MatchOption result (self.old.at ≡ null_ptr) (λ r. (self.old.at ≢ null_ptr) × (r.now ≡ self.old.behind)) }
     {
-        let at = self.at;
-        if at == std::ptr::null_mut() {
-            return None;
-        }
-        unsafe { Some(&mut *at) }
+        lent!(self.at)
     }
 }
 
@@ -213,7 +184,6 @@ impl Model for ReplyPointer {
 }
 
 impl ReplyPointer {
-    ghost use Rattle.std.specs.Borrow.{sem, LendsIf};
     ghost use Rattle.library_books.specs.contracts.pointers.structs.ReplyPointer.{the_row};
 
     /// What lies behind the pointer, or `None` at null.
@@ -221,11 +191,7 @@ impl ReplyPointer {
         ensures* lends { sem 𝓛 (LendsIf the_row reply_row self.entry result (λ x. record self.entry.now { behind = x }) self.entry.now) }
         ensures value { MatchOption result (self.old.at ≡ null_ptr) (λ r. (self.old.at ≢ null_ptr) × (r.now ≡ self.old.behind)) }
     {
-        let at = self.at;
-        if at == std::ptr::null_mut() {
-            return None;
-        }
-        unsafe { Some(&mut *at) }
+        lent!(self.at)
     }
 }
 
@@ -242,7 +208,6 @@ impl Model for TransactionPointer {
 }
 
 impl TransactionPointer {
-    ghost use Rattle.std.specs.Borrow.{sem, LendsIf};
     ghost use Rattle.library_books.specs.contracts.pointers.structs.TransactionPointer.{the_row};
 
     /// What lies behind the pointer, or `None` at null.
@@ -250,10 +215,6 @@ impl TransactionPointer {
         ensures* lends { sem 𝓛 (LendsIf the_row transaction_row self.entry result (λ x. record self.entry.now { behind = x }) self.entry.now) }
         ensures value { MatchOption result (self.old.at ≡ null_ptr) (λ r. (self.old.at ≢ null_ptr) × (r.now ≡ self.old.behind)) }
     {
-        let at = self.at;
-        if at == std::ptr::null_mut() {
-            return None;
-        }
-        unsafe { Some(&mut *at) }
+        lent!(self.at)
     }
 }

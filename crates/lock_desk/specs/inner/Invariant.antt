@@ -6,7 +6,7 @@ use Rattle.lock_rules.specs.Legal.{state_of, IsLegal}
 use Rattle.lock_desk.specs.BookView.{BookView}
 use Rattle.lock_desk.specs.Deadlocks.{AreDeadlocksTold, deadlocks_in, newest}
 use Rattle.sequential.specs.Histories.{IsEntryWithin}
-use Rattle.lock_holders.specs.Ended.{ended_in}
+use Rattle.lock_holders.specs.Woken.{ended_in}
 use Rattle.lock_table.specs.Changes.{IsWhole}
 use Rattle.lock_desk.specs.inner.Counting.{AreCallsCounted, AreWaitsCounted}
 use Rattle.lock_desk.specs.inner.Noting.{IsLogFor}

@@ -1,10 +1,10 @@
 -- Internal to this crate, cited by no public contract: the places of sessions in the list of all.
 use Rattle.std.specs.Prelude.{◌≡◌, ℕ, ◌+◌, ◌-◌, ◌<◌, ◌≤◌, List, length, slice_index_or}
-use Rattle.lock_holders.specs.declared.ended_waits.EndedWaits.TheInside.{Inside}
-use Rattle.lock_holders.specs.Ended.{EndedView}
+use Rattle.lock_holders.specs.declared.woken_list.WokenList.TheInside.{Inside}
+use Rattle.lock_holders.specs.Woken.{WokenListView}
 
 -- what contracts see of the list
-abbrev pub ended_view_of : Inside → EndedView
+abbrev pub ended_view_of : Inside → WokenListView
 ended_view_of a = record { places = a.places.items; count = a.count }
 
 -- each session from 1 on is once in the first list, and the second has its index there, by position

@@ -3,7 +3,7 @@ use Rattle.std.specs.Prelude.{◌≡◌, ◌⊎◌, ℕ, ◌+◌, ◌<◌, ◌�
 use Rattle.lock_rules.specs.declared.calls.Call.TheVariants.{Poll}
 use Rattle.lock_rules.specs.declared.calls.Reply.TheVariants.{Clear, Deadlock}
 use Rattle.sequential.specs.EndedWaits.{HasEndedAt as HasEndedAtBy}
-use Rattle.combining.specs.Ended.{AreToldBy as AreToldByAny}
+use Rattle.combining.specs.Woken.{AreToldBy as AreToldByAny}
 use Rattle.lock_rules.specs.Entries.{Entry}
 use Rattle.lock_rules.specs.State.{request_of}
 use Rattle.lock_rules.specs.Step.{step}

@@ -5,28 +5,28 @@ ghost use Rattle.lock_programs.specs.Answers.{replies_of};
 ghost use Rattle.lock_programs.specs.Calls.{calls_of};
 ghost use Rattle.lock_office.specs.Weights.{begins_with_an_end};
 
-use combining::{Next, Told};
+use combining::{CallOutcome, Listener};
 use lock_desk::{Book, Call};
-use lock_programs::{Answer as ProgramAnswer, Program};
+use lock_programs::{Program, ProgramAnswer};
 use programs::Programs;
 
 /// Who is told whose waits a session's passes have ended. It has besides what a pass notes for the session. A program weighs as many locks
 /// as it gives back.
 #[derive(Drop)]
-pub struct Counted<T> {
+pub struct WithSeen<T> {
     /// Who is told.
-    pub told: T,
+    pub listener: T,
     /// How many calls the history had when it was told last.
     pub(crate) seen: u64,
 }
 
-impl<T> Counted<T> {
+impl<T> WithSeen<T> {
     /// Tells this one.
     #[inline(always)]
-    pub fn new(told: T) -> Counted<T>
-        ensures { result.told ≡ told }
+    pub fn new(listener: T) -> WithSeen<T>
+        ensures { result.listener ≡ listener }
     {
-        Counted { told, seen: 0 }
+        WithSeen { listener, seen: 0 }
     }
 }
 
@@ -40,14 +40,14 @@ fn begins_with_an_end(program: &Program) -> bool
     matches!(program.call(0), Call::Commit | Call::Abort | Call::Restart)
 }
 
-impl<T: Told<Programs<Book>>> Told<Programs<Book>> for Counted<T> {
+impl<T: Listener<Programs<Book>>> Listener<Programs<Book>> for WithSeen<T> {
     ghost use Rattle.std.specs.Prelude.{◌≡◌};
     ghost use Rattle.lock_office.specs.Seen.{number_of_calls};
     ghost use Rattle.lock_office.specs.Weights.{locks_given_back};
 
-    ghost list = { λ c. T.list c.told };
+    ghost list = { λ c. T.list c.listener };
 
-    ghost room = { λ c. T.room c.told };
+    ghost room = { λ c. T.room c.listener };
 
     ghost ends = { T.ends };
 
@@ -65,12 +65,12 @@ impl<T: Told<Programs<Book>>> Told<Programs<Book>> for Counted<T> {
 
     #[inline(always)]
     fn clear(&mut self) {
-        self.told.clear();
+        self.listener.clear();
     }
 
     #[inline(always)]
     fn add(&mut self, object: &Programs<Book>, served: u32) {
-        self.told.add(object, served);
+        self.listener.add(object, served);
         self.seen = object.object().served();
     }
 }
@@ -86,14 +86,14 @@ pub(crate) fn seen_behind(seen: u64, program: &Program, answer: &ProgramAnswer) 
 
 /// The same once it has the answer, if a turn has brought it.
 #[inline(always)]
-pub(crate) fn seen_next(seen: u64, program: &Program, next: &Next<ProgramAnswer>) -> u64
-    ensures answered { (answer : _) → next.now ≡ Next.Answered answer
+pub(crate) fn seen_next(seen: u64, program: &Program, next: &CallOutcome<ProgramAnswer>) -> u64
+    ensures answered { (answer : _) → next.now ≡ CallOutcome.Answered answer
         → result ≡ max seen (min (answer.reply.first + length (replies_of program.now answer.reply)) (2 ^ 64 - 1)) }
-    ensures starved { next.now ≡ Next.Starved → result ≡ seen }
-    ensures waits { (w : _) → next.now ≡ Next.Wait w → result ≡ seen }
+    ensures starved { next.now ≡ CallOutcome.Starved → result ≡ seen }
+    ensures waits { (w : _) → next.now ≡ CallOutcome.Wait w → result ≡ seen }
 {
     match next {
-        Next::Answered(found) => seen_behind(seen, program, &found.reply),
-        Next::Starved | Next::Wait(_) => seen,
+        CallOutcome::Answered(found) => seen_behind(seen, program, &found.reply),
+        CallOutcome::Starved | CallOutcome::Wait(_) => seen,
     }
 }

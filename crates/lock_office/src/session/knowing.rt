@@ -2,7 +2,7 @@
 
 ghost use Rattle.std.specs.Prelude.{◌≡◌, max, slice_index};
 ghost use mathlib.Core.List.{IsPrefix};
-ghost use Rattle.publication.specs.Kinds.{longer, maxes};
+ghost use Rattle.publication.specs.StepKinds.{longer, maxes};
 ghost use Rattle.publication.specs.Boards.{HasCallsOf, heard_from, known_by};
 ghost use Rattle.lock_office.specs.ProgramBoards.{IsLegal};
 ghost use Rattle.lock_office.specs.Seen.{number_of_calls};
@@ -12,7 +12,7 @@ use crate::Office;
 use crate::session::Session;
 use lock_desk::Book;
 use programs::Programs;
-use publication::Knowledge as TicketKnowledge;
+use publication::TicketKnowledge;
 use std::marker::Model;
 
 /// What a session that makes single calls knew when its knowledge was taken. It is a value of its own that can move to another thread.

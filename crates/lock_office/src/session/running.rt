@@ -5,7 +5,7 @@ ghost use Rattle.publication.specs.Views.{asks};
 ghost use Rattle.combining.specs.declared.backoff.TheConstants.{LOOKS_PER_TRY};
 ghost use Rattle.combining.specs.Calls.{IsCalling};
 ghost use Rattle.combining.specs.Turns.{HasAwaited, HasTurned};
-ghost use Rattle.combining.specs.Ended.{HasAddedTold, HasRoom, entered_since};
+ghost use Rattle.combining.specs.Woken.{HasAddedTold, HasRoom, entered_since};
 ghost use Rattle.combining.specs.Rounds.{most_of};
 ghost use Rattle.combining.specs.Waits.{IsWaitAfterLook, IsWaitAfterTurn};
 ghost use Rattle.lock_programs.specs.declared.program.Program.{Program as ProgramValue};
@@ -15,10 +15,10 @@ ghost use Rattle.lock_office.specs.ProgramTurns.{IsCalled, IsAnswered, HasStarve
 
 use crate::Office;
 use crate::session::Session;
-use crate::session::counting::{Counted, seen_next};
-use combining::{Next, PassBound, Told};
+use crate::session::counting::{WithSeen, seen_next};
+use combining::{CallOutcome, Listener, PassBound};
 use lock_desk::Book;
-use lock_programs::{Answer as ProgramAnswer, Program};
+use lock_programs::{Program, ProgramAnswer};
 use programs::Programs;
 
 impl Session {
@@ -42,59 +42,59 @@ impl Session {
     /// Makes one turn of a program that makes a call, as `combining::turn` does: it goes on with the pending program, if there is one, whatever
     /// `program` is. The answer is read by the program that the turn goes on with.
     #[inline(always)]
-    pub fn run_turn<T: Told<Programs<Book>>>(
+    pub fn run_turn<T: Listener<Programs<Book>>>(
         &mut self,
         office: &Office,
         program: &Program,
         made: u64,
         bound: PassBound,
-        told: &mut Counted<T>,
-    ) -> Next<ProgramAnswer>
+        listener: &mut WithSeen<T>,
+    ) -> CallOutcome<ProgramAnswer>
         requires ours { IsSessionOf office.now self.old }
         requires live { self.old.retired ≡ false }
         requires some { 0 < length (calls_of program.now) }
-        requires room { HasRoom (T.room told.old.told) office.now.sessions }
+        requires room { HasRoom (T.room listener.old.listener) office.now.sessions }
         ensures ours { IsSessionOf office.now self.new }
         ensures turned { HasTurned self.old self.new office.now.sessions made (IsCalled self.old self.new program.now) (IsAnswered self.old self.new)
             (IsCalling self.old self.new program.now) (HasStarvedCalling self.old self.new program.now) result }
-        ensures wait { (w : _) → result ≡ Next.Wait w → IsWaitAfterTurn (self.old.pending ≡ None) made w }
+        ensures wait { (w : _) → result ≡ CallOutcome.Wait w → IsWaitAfterTurn (self.old.pending ≡ None) made w }
         ensures few { length (entered_since self.old self.new) ≤ most_of bound + 1 }
-        ensures told { HasAddedTold T.ends office.now.sessions self.new.front (entered_since self.old self.new) (T.list told.old.told) (T.list told.new.told) }
-        ensures room { T.room told.new.told ≡ T.room told.old.told }
+        ensures told { HasAddedTold T.ends office.now.sessions self.new.front (entered_since self.old self.new) (T.list listener.old.listener) (T.list listener.new.listener) }
+        ensures room { T.room listener.new.listener ≡ T.room listener.old.listener }
     {
         if !self.is_idle() {
-            return self.run_look(office, made, bound, told);
+            return self.run_look(office, made, bound, listener);
         }
         self.asked = *program;
-        told.seen = self.seen;
-        let next = combining::turn(office, &mut self.session, program, made, bound, told);
-        self.seen = seen_next(told.seen, program, &next);
+        listener.seen = self.seen;
+        let next = combining::turn(office, &mut self.session, program, made, bound, listener);
+        self.seen = seen_next(listener.seen, program, &next);
         next
     }
 
     /// Makes one turn of the pending program, as `combining::look` does.
-    pub fn run_look<T: Told<Programs<Book>>>(
+    pub fn run_look<T: Listener<Programs<Book>>>(
         &mut self,
         office: &Office,
         looked: u64,
         bound: PassBound,
-        told: &mut Counted<T>,
-    ) -> Next<ProgramAnswer>
+        listener: &mut WithSeen<T>,
+    ) -> CallOutcome<ProgramAnswer>
         requires ours { IsSessionOf office.now self.old }
         requires pending { self.old.pending ≢ None }
-        requires room { HasRoom (T.room told.old.told) office.now.sessions }
+        requires room { HasRoom (T.room listener.old.listener) office.now.sessions }
         ensures ours { IsSessionOf office.now self.new }
         ensures awaited { HasAwaited self.old self.new (IsAnswered self.old self.new) result }
-        ensures others { (w : _) → result ≡ Next.Wait w → looked % LOOKS_PER_TRY ≡ 0 → 1 < office.now.sessions }
-        ensures wait { (w : _) → result ≡ Next.Wait w → IsWaitAfterLook looked w }
+        ensures others { (w : _) → result ≡ CallOutcome.Wait w → looked % LOOKS_PER_TRY ≡ 0 → 1 < office.now.sessions }
+        ensures wait { (w : _) → result ≡ CallOutcome.Wait w → IsWaitAfterLook looked w }
         ensures few { length (entered_since self.old self.new) ≤ most_of bound }
-        ensures told { HasAddedTold T.ends office.now.sessions self.new.front (entered_since self.old self.new) (T.list told.old.told) (T.list told.new.told) }
-        ensures room { T.room told.new.told ≡ T.room told.old.told }
+        ensures told { HasAddedTold T.ends office.now.sessions self.new.front (entered_since self.old self.new) (T.list listener.old.listener) (T.list listener.new.listener) }
+        ensures room { T.room listener.new.listener ≡ T.room listener.old.listener }
     {
         let asked = self.asked;
-        told.seen = self.seen;
-        let next = combining::look(office, &mut self.session, looked, bound, told);
-        self.seen = seen_next(told.seen, &asked, &next);
+        listener.seen = self.seen;
+        let next = combining::look(office, &mut self.session, looked, bound, listener);
+        self.seen = seen_next(listener.seen, &asked, &next);
         next
     }
 

@@ -7,13 +7,13 @@ ghost use Rattle.lock_report.specs.Blockers.{first_blocker, is_waited_for, other
 
 use crate::blocking::contended::contended;
 use crate::blocking::requests::{request_of, requests_among};
-use crate::snapshot::{OpenTransaction, ToldWait, Wait};
+use crate::snapshot::{OpenTransaction, WaitFor, WaitLine};
 use lock_rules::Claim;
 use lock_tree::{Resource, same_path_is_equality};
 use std::alloc::{AllocError as NoMemory, Global};
 
 /// The waits of the session. Fails if memory is refused.
-fn waits_by(alloc: Global, waits: &[Wait], session: u16) -> Result<Vec<Wait>, NoMemory>
+fn waits_by(alloc: Global, waits: &[WaitFor], session: u16) -> Result<Vec<WaitFor>, NoMemory>
     ensures { IfOk result (λ own. own.items ≡ waits_by session waits.now) }
 {
     let mut own = Vec::new(alloc);
@@ -26,14 +26,14 @@ fn waits_by(alloc: Global, waits: &[Wait], session: u16) -> Result<Vec<Wait>, No
 }
 
 /// Whether one of the waits is for the session.
-pub(crate) fn is_waited_for(waits: &[Wait], session: u16) -> bool
+pub(crate) fn is_waited_for(waits: &[WaitFor], session: u16) -> bool
     ensures { result ≡ is_waited_for session waits.now }
 {
     waits.iter().any(|wait| wait.other == session)
 }
 
 /// Whether the claim is on the resource, and one of the waits is for its session.
-fn is_blocker(waits: &[Wait], resource: Resource, claim: &Claim) -> bool
+fn is_blocker(waits: &[WaitFor], resource: Resource, claim: &Claim) -> bool
     ensures { result ≡ (same_path claim.now.resource resource && is_waited_for claim.now.session waits.now) }
 {
     same_path_is_equality();
@@ -41,7 +41,7 @@ fn is_blocker(waits: &[Wait], resource: Resource, claim: &Claim) -> bool
 }
 
 /// The first session, in the order of the claims, that has a claim on the resource and that one of the waits is for.
-fn first_blocker(waits: &[Wait], resource: Resource, claims: &[Claim]) -> Option<u16>
+fn first_blocker(waits: &[WaitFor], resource: Resource, claims: &[Claim]) -> Option<u16>
     ensures { result ≡ first_blocker waits.now resource claims.now }
 {
     for claim in claims {
@@ -53,11 +53,11 @@ fn first_blocker(waits: &[Wait], resource: Resource, claims: &[Claim]) -> Option
 }
 
 /// Adds the wait to the list, unless it is for the first blocker. Fails if memory is refused.
-fn add_other(wait: &Wait, first: u16, told: &mut Vec<ToldWait>) -> Result<(), NoMemory>
+fn add_other(wait: &WaitFor, first: u16, told: &mut Vec<WaitLine>) -> Result<(), NoMemory>
     ensures { OnOk result (told.new.items ≡ told.old.items ++ other_wait first wait.now) }
 {
     if wait.other != first {
-        told.push(ToldWait {
+        told.push(WaitLine {
             wait: *wait,
             first: false,
             since: None,
@@ -67,7 +67,7 @@ fn add_other(wait: &Wait, first: u16, told: &mut Vec<ToldWait>) -> Result<(), No
 }
 
 /// Adds the waits to the list but that for the first blocker. Fails if memory is refused.
-fn add_others(waits: &[Wait], first: u16, told: &mut Vec<ToldWait>) -> Result<(), NoMemory>
+fn add_others(waits: &[WaitFor], first: u16, told: &mut Vec<WaitLine>) -> Result<(), NoMemory>
     ensures { OnOk result (told.new.items ≡ told.old.items ++ flat_map (other_wait first) waits.now) }
 {
     for wait in waits {
@@ -79,20 +79,20 @@ fn add_others(waits: &[Wait], first: u16, told: &mut Vec<ToldWait>) -> Result<()
 /// Adds the waits of the session to the list, that for the first blocker first. Fails if memory is refused.
 fn add_told(
     session: u16,
-    waits: &[Wait],
+    waits: &[WaitFor],
     first: Option<u16>,
-    told: &mut Vec<ToldWait>,
+    told: &mut Vec<WaitLine>,
 ) -> Result<(), NoMemory>
     ensures { OnOk result (told.new.items ≡ told.old.items ++ told_behind session waits.now first) }
 {
     let Some(first) = first else {
         return Ok(());
     };
-    let wait = Wait {
+    let wait = WaitFor {
         session,
         other: first,
     };
-    told.push(ToldWait {
+    told.push(WaitLine {
         wait,
         first: true,
         since: None,
@@ -104,9 +104,9 @@ fn add_told(
 fn add_waits_of(
     alloc: Global,
     claims: &[Claim],
-    waits: &[Wait],
+    waits: &[WaitFor],
     request: Option<Claim>,
-    told: &mut Vec<ToldWait>,
+    told: &mut Vec<WaitLine>,
 ) -> Result<(), NoMemory>
     ensures { OnOk result (told.new.items ≡ told.old.items ++ told_of claims.now waits.now request) }
 {
@@ -124,8 +124,8 @@ pub fn told_waits(
     alloc: Global,
     opens: &[OpenTransaction],
     claims: &[Claim],
-    waits: &[Wait],
-) -> Result<Vec<ToldWait>, NoMemory>
+    waits: &[WaitFor],
+) -> Result<Vec<WaitLine>, NoMemory>
     ensures { IfOk result (λ told. told.items ≡ told_waits opens.now claims.now waits.now) }
 {
     let requests = requests_among(alloc, claims)?;

@@ -6,13 +6,13 @@ ghost use Rattle.lock_report.specs.ReadRows.{IsWait};
 ghost use Rattle.lock_report.specs.Jam.{blocked_by, is_blocked};
 ghost use Rattle.lock_report.specs.inner.Graph.{AreWaitsOf};
 
-use crate::snapshot::Wait;
+use crate::snapshot::WaitFor;
 use crate::words::one_if;
 use std::alloc::{AllocError as NoMemory, Global};
 use waits_for::Rows;
 
 /// The waits-for graph of these waits, by position: position a is that of session a + 1. Fails if memory is refused.
-pub(crate) fn graph_of(alloc: Global, sessions: u16, waits: &[Wait]) -> Result<Rows, NoMemory>
+pub(crate) fn graph_of(alloc: Global, sessions: u16, waits: &[WaitFor]) -> Result<Rows, NoMemory>
     requires some { 1 ≤ sessions }
     requires few { sessions ≤ MAX_SESSIONS }
     requires within { All (IsWait sessions) waits.now }
@@ -27,7 +27,7 @@ pub(crate) fn graph_of(alloc: Global, sessions: u16, waits: &[Wait]) -> Result<R
 }
 
 /// Whether a walk of the graph leads from `session` to `other`. It is searched for only if `session` doesn't wait for `other` directly.
-fn leads_to(rows: &mut Rows, waits: &[Wait], session: u16, other: u16) -> bool
+fn leads_to(rows: &mut Rows, waits: &[WaitFor], session: u16, other: u16) -> bool
     requires session_some { 1 ≤ session }
     requires session_within { session ≤ rows.old.sessions }
     requires other_some { 1 ≤ other }
@@ -45,7 +45,7 @@ fn leads_to(rows: &mut Rows, waits: &[Wait], session: u16, other: u16) -> bool
 }
 
 /// How many sessions wait for `session`, directly or through others.
-pub(crate) fn count_blocked(rows: &mut Rows, waits: &[Wait], session: u16) -> u64
+pub(crate) fn count_blocked(rows: &mut Rows, waits: &[WaitFor], session: u16) -> u64
     requires some { 1 ≤ session }
     requires within { session ≤ rows.old.sessions }
     requires pairs { AreWaitsOf rows.old waits.now }

@@ -12,7 +12,7 @@ use crate::blocking::contended::jammed;
 use crate::blocking::grants::granted_by_abort;
 use crate::blocking::graph::{count_blocked, graph_of};
 use crate::blocking::requests::{request_of, requests_among};
-use crate::snapshot::{OpenTransaction, Root, Wait};
+use crate::snapshot::{OpenTransaction, Root, WaitFor};
 use lock_rules::Claim;
 use std::alloc::{AllocError as NoMemory, Global};
 use waits_for::Rows;
@@ -25,11 +25,11 @@ struct Jam<'a> {
     /// The claims on each resource that somebody waits for.
     jammed: &'a [Vec<Claim>],
     /// Who waits for whom.
-    waits: &'a [Wait],
+    waits: &'a [WaitFor],
 }
 
 /// Whether others wait for the session, which doesn't wait itself.
-fn is_root(requests: &[Claim], waits: &[Wait], session: u16) -> bool
+fn is_root(requests: &[Claim], waits: &[WaitFor], session: u16) -> bool
     ensures { result ≡ is_root requests.now waits.now session }
 {
     request_of(requests, session).is_none() && is_waited_for(waits, session)
@@ -87,7 +87,7 @@ pub(crate) fn roots_of(
     sessions: u16,
     opens: &[OpenTransaction],
     claims: &[Claim],
-    waits: &[Wait],
+    waits: &[WaitFor],
 ) -> Result<Vec<Root>, NoMemory>
     requires some { 1 ≤ sessions }
     requires few { sessions ≤ MAX_SESSIONS }

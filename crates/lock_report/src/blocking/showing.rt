@@ -6,7 +6,7 @@ ghost use Rattle.lock_report.specs.ReadRows.{IsSession, IsWait};
 ghost use Rattle.lock_report.specs.Shown.{text_of_lists};
 
 use crate::blocking::roots::roots_of;
-use crate::snapshot::{OpenTransaction, ToldWait, Wait};
+use crate::snapshot::{OpenTransaction, WaitFor, WaitLine};
 use crate::text::state_text;
 use lock_rules::Claim;
 use std::alloc::{AllocError as NoMemory, Global};
@@ -30,7 +30,7 @@ pub struct Lists {
     /// The locks and waiting requests.
     pub claims: Vec<Claim>,
     /// Who waits directly for whom.
-    pub waits: Vec<Wait>,
+    pub waits: Vec<WaitFor>,
 }
 
 /// The text for people of a state: how many requests wait, who blocks others and the victims, which transactions are open, who holds what,
@@ -40,7 +40,7 @@ pub fn lists_text(
     alloc: Global,
     moment: Moment,
     lists: &Lists,
-    told: &[ToldWait],
+    told: &[WaitLine],
 ) -> Result<String, NoMemory>
     requires some { 0 < moment.sessions }
     requires few { moment.sessions ≤ MAX_SESSIONS }

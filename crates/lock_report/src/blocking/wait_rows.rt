@@ -4,11 +4,11 @@ ghost use Rattle.std.specs.Prelude.{◌≡◌, ◌++◌, IfOk, OnOk};
 ghost use Rattle.std.specs.List.{position_or_len};
 ghost use Rattle.lock_report.specs.Blocking.{first_of, first_waits};
 
-use crate::snapshot::{FirstWait, ToldWait};
+use crate::snapshot::{FirstWait, WaitLine};
 use std::alloc::{AllocError as NoMemory, Global};
 
 /// How many waits are told in front of the next one for a first blocker.
-fn others_in(told: &[ToldWait]) -> u64
+fn others_in(told: &[WaitLine]) -> u64
     ensures { result ≡ position_or_len (λ w. w.first) told.now }
 {
     for index in 0..told.len() {
@@ -21,8 +21,8 @@ fn others_in(told: &[ToldWait]) -> u64
 
 /// Adds the row of the wait, if it is for a first blocker; `behind` is what is told behind it. Fails if memory is refused.
 fn add_first(
-    wait: &ToldWait,
-    behind: &[ToldWait],
+    wait: &WaitLine,
+    behind: &[WaitLine],
     rows: &mut Vec<FirstWait>,
 ) -> Result<(), NoMemory>
     ensures { OnOk result (rows.new.items ≡ rows.old.items ++ first_of wait.now behind.now) }
@@ -37,7 +37,7 @@ fn add_first(
 }
 
 /// The rows of these waits. Fails if memory is refused.
-pub fn first_waits(alloc: Global, told: &[ToldWait]) -> Result<Vec<FirstWait>, NoMemory>
+pub fn first_waits(alloc: Global, told: &[WaitLine]) -> Result<Vec<FirstWait>, NoMemory>
     ensures { IfOk result (λ rows. rows.items ≡ first_waits told.now) }
 {
     let mut rows = Vec::new(alloc);

@@ -7,7 +7,7 @@ ghost use Rattle.lock_report.specs.inner.Blocking.{wait_if};
 
 use crate::blocking::contended::contended;
 use crate::blocking::requests::{is_request, request_of, requests_among};
-use crate::snapshot::{OpenTransaction, Wait};
+use crate::snapshot::{OpenTransaction, WaitFor};
 use indexmap::IndexSet;
 use lock_modes::Mode;
 use lock_rules::Claim;
@@ -57,12 +57,12 @@ fn add_wait(
     blockers: &IndexSet<u16>,
     session: u16,
     other: u16,
-    waits: &mut Vec<Wait>,
+    waits: &mut Vec<WaitFor>,
 ) -> Result<(), NoMemory>
     ensures { OnOk result (waits.new.items ≡ waits.old.items ++ wait_if (list_any (λ k. other == k) blockers.now.keys) session other) }
 {
     if blockers.contains(&other) {
-        waits.push(Wait { session, other })?;
+        waits.push(WaitFor { session, other })?;
     }
     Ok(())
 }
@@ -73,7 +73,7 @@ fn add_waits_of(
     sessions: u16,
     claims: &[Claim],
     request: Option<Claim>,
-    waits: &mut Vec<Wait>,
+    waits: &mut Vec<WaitFor>,
 ) -> Result<(), NoMemory>
     ensures { OnOk result (waits.new.items ≡ waits.old.items ++ waits_of sessions claims.now request) }
 {
@@ -95,7 +95,7 @@ pub fn waits_among(
     sessions: u16,
     opens: &[OpenTransaction],
     claims: &[Claim],
-) -> Result<Vec<Wait>, NoMemory>
+) -> Result<Vec<WaitFor>, NoMemory>
     ensures { IfOk result (λ waits. waits.items ≡ waits_among sessions opens.now claims.now) }
 {
     let requests = requests_among(alloc, claims)?;

@@ -17,7 +17,7 @@ ghost use Rattle.lock_report.specs.ReadRows.{IsClaim, IsFirstWait, IsNumbered, I
 use crate::reading::fields::{
     front_of_plus, kind_of, mode_of, number_of, others_of, resource_of, session_of, victim_of,
 };
-use crate::snapshot::{FirstWait, OpenTransaction, Wait};
+use crate::snapshot::{FirstWait, OpenTransaction, WaitFor};
 use lock_rules::{Claim, Transaction};
 use std::alloc::{AllocError as NoMemory, Global};
 
@@ -98,7 +98,7 @@ fn wait_of(sessions: u16, session: &[u8], other: &[u8]) -> Option<FirstWait>
     let front = front_of_plus(other);
     let first = session_of(&other[..front], sessions)?;
     let others = others_of(&other[front..])?;
-    let wait = Wait {
+    let wait = WaitFor {
         session,
         other: first,
     };

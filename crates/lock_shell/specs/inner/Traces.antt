@@ -1,8 +1,7 @@
 -- The calls of a history as a trace.
 use Rattle.std.specs.Prelude.{ℕ, List, ◌++◌, codes, decimal}
 use Rattle.lock_rules.specs.Entries.{Entry}
-use Rattle.lock_rules.specs.Kinds.{op_of_call}
-use Rattle.lock_trace.specs.Words.{word_of}
+use Rattle.lock_rules.specs.Kinds.{op_of_call, word_of}
 use Rattle.lock_trace.specs.Rows.{mode_field, resource_field}
 
 -- the row of an entry's call

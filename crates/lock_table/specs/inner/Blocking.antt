@@ -9,7 +9,7 @@ use Rattle.lock_modes.specs.Compatibility.{are_compatible}
 use Rattle.lock_rules.specs.State.{number_in}
 use Rattle.lock_holders.specs.declared.session_mode.SessionMode.{SessionMode}
 use Rattle.lock_table.specs.declared.cells.Cell.{Cell}
-use Rattle.lock_table.specs.declared.waits.Waits.{Waits}
+use Rattle.lock_table.specs.declared.wait_graph.Waits.{Waits}
 use Rattle.lock_table.specs.inner.Cells.{Cells, View, view_of, can_grant, view_after_asking, cell_view}
 use Rattle.lock_holders.specs.SessionModes.{has_session, mode_of, with_holder, Ascends, holder_blocks, AreOfSessions}
 use Rattle.lock_table.specs.inner.Lockers.{Standing, standing_at}

@@ -1,7 +1,7 @@
 -- The view of a resource, which is its holders and its queue, what
 -- each operation makes of a view, and the cells.
-use Rattle.std.specs.Prelude.{◌≡◌, ℕ, ◌+◌, ◌≤◌, Bool, true, false, not, ◌&&◌, ◌||◌, if◌then◌else◌, List, [], ◌∷◌, ◌++◌, length, slice_get, Option, Some, None, IfSome, vec_len}
-use Rattle.std.specs.Map.{lookup}
+use Rattle.std.specs.Prelude.{◌≡◌, ℕ, ◌+◌, ◌-◌, ◌≤◌, Bool, true, false, not, ◌&&◌, ◌||◌, if◌then◌else◌, List, [], ◌∷◌, ◌++◌, length, take, position, Option, Some, None, IfSome, vec_len}
+use Rattle.std.specs.Map.{lookup, keys_of}
 use Rattle.lock_tree.specs.Paths.{same_path}
 use Rattle.lock_holders.specs.declared.session_mode.SessionMode.{SessionMode}
 use Rattle.lock_holders.specs.SessionModes.{has_session, times, with_holder, without, is_nobody, fits_among, Ascends}
@@ -134,18 +134,20 @@ pub record CellsBecame (r : List ℕ) (v : View) (old new : Cells) : Type 0 wher
 abbrev pub ViewBecame : List ℕ → (View → View) → Cells → Cells → Type 0
 ViewBecame r f old new = CellsBecame r (f (cell_view r old)) old new
 
--- places: indices of cells
-
--- the cell of resource `r` is at index `i`
-pub record IsCellAt (r : List ℕ) (cs : Cells) (i : ℕ) : Type 0 where
-  pub cell : Cell
-  pub entry : slice_get cs i ≡ Some (r, cell)
-  pub found : cell_at r cs ≡ Some cell
-
 -- the place of resource `r`: the index of its cell, or `None` if it has no cell
 abbrev pub IsPlace : List ℕ → Cells → Option ℕ → Type 0
 IsPlace r cs None = cell_at r cs ≡ None
-IsPlace r cs (Some i) = IsCellAt r cs i
+IsPlace r cs (Some i) = Some i ≡ position (same_path r) (keys_of cs)
+
+-- the resources whose cells are in use: all keys, without the last one if it is provisional
+abbrev pub in_use : List (List ℕ) → Bool → List (List ℕ)
+in_use rs true = take (length rs - 1) rs
+in_use rs false = rs
+
+-- what contracts see of the keys of a table of cells: the resources in use, and whether there is a provisional key
+pub record Keys : Type 0 where
+  pub used : List (List ℕ)
+  pub has_provisional : Bool
 
 -- what contracts see of the table of cells: the cells in use
 pub record Table : Type 0 where

@@ -104,7 +104,7 @@ impl LockTable {
             place,
             held,
         };
-        self.ask(session, found, mode, served, notes)
+        self.ask_lock(session, found, mode, served, notes)
     }
 
     /// Requests the conversion of a lock on `resource`, to the least mode at or above `mode` and what the session
@@ -147,7 +147,7 @@ impl LockTable {
             place,
             held,
         };
-        self.ask(session, found, mode, served, notes)
+        self.ask_lock(session, found, mode, served, notes)
     }
 
     /// Requests a lock as `serve_lock` does, but is refused if the request would wait. If memory is refused, nothing that
@@ -187,7 +187,7 @@ impl LockTable {
             place,
             held,
         };
-        self.ask(session, found, mode, served, notes)
+        self.ask_lock(session, found, mode, served, notes)
     }
 
     /// Takes the session's waiting request back.

@@ -10,7 +10,7 @@ ghost use Rattle.lock_table.specs.Shows.{Shows};
 
 use crate::deadlock_notes::DeadlockNotes;
 use crate::table::LockTable;
-use crate::waits::victim;
+use crate::wait_graph::victim;
 use lock_holders::position_of;
 
 impl LockTable {

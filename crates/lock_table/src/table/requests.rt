@@ -11,7 +11,7 @@ ghost use Rattle.lock_table.specs.Shows.{Shows, DoesAnswer};
 
 use crate::cells::RequestStatus;
 use crate::deadlock_notes::DeadlockNotes;
-use crate::lockers::Request;
+use crate::lockers::LockRequest;
 use crate::table::LockTable;
 use crate::table::refusals::target_of;
 use lock_holders::{SessionMode, position_of};
@@ -53,7 +53,7 @@ impl LockTable {
         let position = position_of(session);
         let locker = &mut self.lockers[position];
         locker.make_room()?;
-        let status = self.cells.ask(
+        let status = self.cells.ask_cell(
             place,
             resource,
             SessionMode { session, mode },
@@ -63,7 +63,7 @@ impl LockTable {
         let locker = &mut self.lockers[position];
         match status {
             RequestStatus::Granted => locker.hold(resource, newest),
-            RequestStatus::Waiting => locker.wait_for(Request::Fresh(resource)),
+            RequestStatus::Waiting => locker.wait_for(LockRequest::Fresh(resource)),
         }
         Ok(status)
     }
@@ -86,7 +86,7 @@ impl LockTable {
         ensures waits_ended { HasNotedEnded session self.old self.new }
         ensures kept { DoesKeep self.old self.new }
     {
-        let status = self.cells.ask(
+        let status = self.cells.ask_cell(
             place,
             resource,
             SessionMode { session, mode },
@@ -96,7 +96,7 @@ impl LockTable {
             RequestStatus::Granted => {}
             RequestStatus::Waiting => {
                 let locker = &mut self.lockers[position_of(session)];
-                locker.wait_for(Request::Conversion(resource));
+                locker.wait_for(LockRequest::Conversion(resource));
             }
         }
         Ok(status)
@@ -137,7 +137,7 @@ impl LockTable {
     /// If the request waits, resolves the deadlocks that it closes, and notes them in `notes`; `served` is the place of the call in the
     /// history. So the reply can be `Deadlock`, or `Granted` if the end of a victim's request has freed the resource.
     #[inline(always)]
-    pub(super) fn ask<N: DeadlockNotes>(
+    pub(super) fn ask_lock<N: DeadlockNotes>(
         &mut self,
         session: u16,
         found: LookedUp,

@@ -2,7 +2,7 @@
 
 ghost use Rattle.std.specs.Prelude.{◌≡◌, IfOk, map};
 ghost use Rattle.lock_modes.specs.Codes.{name_of};
-ghost use Rattle.lock_trace.specs.Words.{word_of, word_of_reply};
+ghost use Rattle.lock_rules.specs.Kinds.{word_of, word_of_reply};
 ghost use Rattle.lock_trace.specs.HintTexts.{IsHintText};
 ghost use Rattle.lock_trace.specs.inner.WordLists.{listed};
 

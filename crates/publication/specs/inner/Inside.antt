@@ -4,12 +4,12 @@ use Rattle.std.specs.Prelude.{◌≡◌, ◌+◌, ◌<◌, ◌≤◌, [], length
 use Rattle.sequential.specs.Bounds.{Bounds}
 use Rattle.sequential.specs.declared.entry.TheConstants.{MAX_SESSIONS}
 use Rattle.publication.specs.Views.{BoardView, TicketView, KnowledgeView}
-use Rattle.publication.specs.Kinds.{copy_of}
+use Rattle.publication.specs.StepKinds.{copy_of}
 use Rattle.publication.specs.List.{bound_of}
 use Rattle.publication.specs.inner.Tickets.{IsBoard, IsBetweenCalls}
 use Rattle.publication.specs.declared.board.Board.TheInside.{Inside as BoardInside}
 use Rattle.publication.specs.declared.board.Ticket.TheInside.{Inside as TicketInside}
-use Rattle.publication.specs.declared.board.knowledge.Knowledge.TheInside.{Inside as KnowledgeInside}
+use Rattle.publication.specs.declared.board.knowledge.TicketKnowledge.TheInside.{Inside as KnowledgeInside}
 
 module _ {O C R : Type 0} (bound : O → Bounds) where
   -- What contracts see of the board.

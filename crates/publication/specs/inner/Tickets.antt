@@ -7,7 +7,7 @@ use Rattle.atomic_table.specs.declared.shared.Seat.{Seat}
 use Rattle.publication.specs.Words.{word_of}
 use Rattle.publication.specs.Views.{IsAccountedIn}
 use Rattle.publication.specs.Rule.{new_session}
-use Rattle.publication.specs.Kinds.{Seated}
+use Rattle.publication.specs.StepKinds.{Seated}
 use Rattle.publication.specs.declared.view.View.{View}
 use Rattle.publication.specs.declared.slot.SlotValue.{SlotValue}
 use Rattle.publication.specs.declared.slot.SlotValue.TheVariants.{Empty}

@@ -8,7 +8,7 @@ ghost use Rattle.publication.specs.Views.{entry, answer};
 ghost use Rattle.publication.specs.Pieces.{pieces_of, HasAdded, added};
 ghost use Rattle.publication.specs.Rule.{IsHome};
 ghost use Rattle.publication.specs.List.{IsOn, first_of, behind, without};
-ghost use Rattle.publication.specs.Kinds.{IsRoute};
+ghost use Rattle.publication.specs.StepKinds.{IsRoute};
 ghost use Rattle.publication.specs.Boards.{IsOf, HasCallsOf, IsNumber, OpensNone, opened_at, asked_at, heard_from, published_by};
 
 use crate::board::{Board, Ticket};

@@ -2,7 +2,7 @@
 
 ghost use Rattle.std.specs.Prelude.{◌≡◌, length, max, slice_index};
 ghost use mathlib.Core.List.{IsPrefix};
-ghost use Rattle.publication.specs.Kinds.{longer, maxes};
+ghost use Rattle.publication.specs.StepKinds.{longer, maxes};
 ghost use Rattle.publication.specs.Boards.{IsOf, HasCallsOf, heard_from, known_by};
 
 use crate::board::{Board, Ticket};
@@ -14,12 +14,12 @@ use std::marker::Model;
 /// What a session knew when its knowledge was taken: a front of the history, and for each session the number of calls
 /// that it had heard of. It is a value of its own that can move to another thread.
 #[derive(Drop)]
-pub struct Knowledge<O: Sequential> {
+pub struct TicketKnowledge<O: Sequential> {
     seat: Seat<O>,
     seen: u64,
 }
 
-impl<O: Sequential> Model for Knowledge<O> {
+impl<O: Sequential> Model for TicketKnowledge<O> {
     ghost use Rattle.publication.specs.Views.{KnowledgeView};
 
     ghost Value = { KnowledgeView O.Call O.Reply };
@@ -31,7 +31,7 @@ impl<O: Sequential> Model for Knowledge<O> {
     ghost invariant = { IsCopy };
 }
 
-impl<O: Sequential> Knowledge<O> {
+impl<O: Sequential> TicketKnowledge<O> {
     /// The number of history entries that were known.
     pub fn seen(&self) -> u64
         ensures { result ≡ length self.now.front }
@@ -42,12 +42,12 @@ impl<O: Sequential> Knowledge<O> {
 
 impl<O: Sequential> Board<O> {
     /// What the session of `ticket` knows.
-    pub fn knowledge(&self, ticket: &mut Ticket<O>) -> Knowledge<O>
+    pub fn knowledge(&self, ticket: &mut Ticket<O>) -> TicketKnowledge<O>
         requires ours { IsOf self.now ticket.old }
         ensures same { ticket.new ≡ ticket.old }
         ensures knowledge { result ≡ known_by ticket.old }
     {
-        Knowledge {
+        TicketKnowledge {
             seat: steps::split_copy(&self.table.shared, &mut ticket.seat),
             seen: ticket.seen,
         }
@@ -55,7 +55,7 @@ impl<O: Sequential> Board<O> {
 
     /// Lets the session of `ticket` learn what `knowledge` says: the longer of both fronts of the history, and for each
     /// session the larger number of calls that either had heard of.
-    pub fn heed(&self, ticket: &mut Ticket<O>, knowledge: Knowledge<O>)
+    pub fn heed(&self, ticket: &mut Ticket<O>, knowledge: TicketKnowledge<O>)
         requires ours { IsOf self.now ticket.old × (knowledge.board ≡ self.now.id) }
         ensures ticket { ticket.new ≡ record ticket.old {
           front = longer ticket.old.front knowledge.front;
@@ -66,7 +66,7 @@ impl<O: Sequential> Board<O> {
         ensures heard { (j : _) → heard_from ticket.new j ≡ max (heard_from ticket.old j) (slice_index knowledge.heard j) }
         ensures calls { HasCallsOf ticket.new.front ticket.new }
     {
-        let Knowledge { seat, seen } = knowledge;
+        let TicketKnowledge { seat, seen } = knowledge;
         steps::heed_seat(&self.table.shared, &mut ticket.seat, seat);
         ticket.seen = u64::max(ticket.seen, seen);
     }

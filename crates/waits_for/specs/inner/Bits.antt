@@ -1,11 +1,7 @@
 -- Rows of bits, in words of 64. Only private contracts cite these definitions.
-use Rattle.std.specs.Prelude.{◌≡◌, ℕ, ◌+◌, ◌-◌, ◌*◌, ◌/◌, ◌%◌, ◌<◌, ◌≤◌, Bool, false, ◌&&◌, ◌||◌, ◌==◌, if◌then◌else◌, nat_le, nat_lt, zero, suc, List, slice_index, take}
+use Rattle.std.specs.Prelude.{◌≡◌, ℕ, ◌+◌, ◌-◌, ◌*◌, ◌/◌, ◌<◌, ◌≤◌, Bool, false, ◌&&◌, ◌||◌, if◌then◌else◌, nat_le, nat_lt, zero, suc, List, take}
 use Rattle.waits_for.specs.Pairs.{is_met}
-use Rattle.std.specs.Int.{bit_at}
-
--- Bit k is set in a row of words.
-abbrev pub has_bit : List ℕ → ℕ → Bool
-has_bit words k = bit_at (slice_index words (k / 64)) (k % 64) == 1
+pub use Rattle.sequential.specs.Bits.{has_bit}
 
 -- The number of words of a row with a bit for each of n sessions.
 abbrev pub words_for : ℕ → ℕ

@@ -50,8 +50,8 @@ returns-in-Answered-clause-told g c =
     let u = c.loop-made.session in
     let v = c.turn.new.session in
     let e = c.turn.ensures in
-    told-all n v.front _ [] (g.T.Told.list c.turn.new.told) refl
-    (told-on n t u v [] (g.T.Told.list c.loop-made.told) (g.T.Told.list c.turn.new.told) (gone n t u c.args.call c.loop-made.invariant.calling).entered e.turned.on.longer e.turned.on.entered c.loop-made.invariant.told e.told)
+    told-all n v.front _ [] (g.T.Listener.list c.turn.new.listener) refl
+    (told-on n t u v [] (g.T.Listener.list c.loop-made.listener) (g.T.Listener.list c.turn.new.listener) (gone n t u c.args.call c.loop-made.invariant.calling).entered e.turned.on.longer e.turned.on.entered c.loop-made.invariant.told e.told)
 
 pub returns-in-Starved-clause-starved : goal.returns-in-Starved-clause-starved
 returns-in-Starved-clause-starved g c _ =
@@ -71,8 +71,8 @@ returns-in-Starved-clause-told g c =
     let u = c.loop-made.session in
     let v = c.turn.new.session in
     let e = c.turn.ensures in
-    told-all n v.front _ [] (g.T.Told.list c.turn.new.told) refl
-    (told-on n t u v [] (g.T.Told.list c.loop-made.told) (g.T.Told.list c.turn.new.told) (gone n t u c.args.call c.loop-made.invariant.calling).entered e.turned.on.longer e.turned.on.entered c.loop-made.invariant.told e.told)
+    told-all n v.front _ [] (g.T.Listener.list c.turn.new.listener) refl
+    (told-on n t u v [] (g.T.Listener.list c.loop-made.listener) (g.T.Listener.list c.turn.new.listener) (gone n t u c.args.call c.loop-made.invariant.calling).entered e.turned.on.longer e.turned.on.entered c.loop-made.invariant.told e.told)
 
 pub loop-made-preserved : goal.loop-made-preserved
 loop-made-preserved g c =
@@ -97,7 +97,7 @@ loop-made-preserved g c =
       others = λ _. after.1;
       tries = tries-after c.loop-made.made t u v e.tries e.untried i.tries
           (⊎_elim (λ still. inl still) (λ calling. inr (calling-pending t u c.args.call calling.0)) i.calling);
-      told = told-on n t u v [] (g.T.Told.list c.loop-made.told) (g.T.Told.list c.turn.new.told) (gone n t u c.args.call i.calling).entered e.turned.on.longer e.turned.on.entered i.told e.told;
+      told = told-on n t u v [] (g.T.Listener.list c.loop-made.listener) (g.T.Listener.list c.turn.new.listener) (gone n t u c.args.call i.calling).entered e.turned.on.longer e.turned.on.entered i.told e.told;
       room = e.room ∙ i.room;
       notes = λ before. e.notes_waits next is (i.notes before);
     }
@@ -122,8 +122,8 @@ returns-clause-told g c =
     let t = c.args.session.now in
     let v = c.publish_if_idle.new.session in
     let e = c.publish_if_idle.ensures in
-    told-all n v.front _ [] (g.T.Told.list c.loop-made.told) refl
-    (told-same n t c.loop-made.session v [] (g.T.Told.list c.loop-made.told) e.known.0 e.known.1 c.loop-made.invariant.told)
+    told-all n v.front _ [] (g.T.Listener.list c.loop-made.listener) refl
+    (told-same n t c.loop-made.session v [] (g.T.Listener.list c.loop-made.listener) e.known.0 e.known.1 c.loop-made.invariant.told)
 
 pub returns-in-Starved-clause-refused : goal.returns-in-Starved-clause-refused
 returns-in-Starved-clause-refused g c _ =
@@ -172,4 +172,4 @@ returns-clause-tries g c =
 
 pub returns-clause-notes_waits : goal.returns-clause-notes_waits
 returns-clause-notes_waits g c _ _ before =
-    subst (λ (l : List _). g.T.Told.notes c.loop-made.told l) (sym c.publish_if_idle.ensures.known.0) (c.loop-made.invariant.notes (c.clear.ensures.notes c.args.session.now.front before))
+    subst (λ (l : List _). g.T.Listener.notes c.loop-made.listener l) (sym c.publish_if_idle.ensures.known.0) (c.loop-made.invariant.notes (c.clear.ensures.notes c.args.session.now.front before))

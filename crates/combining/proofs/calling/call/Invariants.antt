@@ -1,7 +1,7 @@
 use Rattle.std.proofs.Common.{◌≡◌, ◌⊎◌, ◌<◌, ◌-◌, []}
 use Rattle.combining.specs.Sessions.{IsSessionOf}
 use Rattle.combining.specs.Calls.{IsCalling}
-use Rattle.combining.specs.Ended.{HasAddedTold, entered_since}
+use Rattle.combining.specs.Woken.{HasAddedTold, entered_since}
 use Rattle.combining.specs.Waits.{FitIntoLooks}
 use Rattle.combining.proofs.calling.call.Given as goal
 
@@ -13,7 +13,7 @@ invariant-loop-made g l = record {
   calling : (l.session ≡ l.initial.session) ⊎ (IsCalling l.initial.session l.session l.asked × (1 < l.office.sessions));
   others : 0 < l.made → 1 < l.office.sessions;
   tries : FitIntoLooks (l.session.tries - l.initial.session.tries) l.made;
-  told : HasAddedTold g.T.Told.ends l.office.sessions l.session.front (entered_since l.initial.session l.session) [] (g.T.Told.list l.told);
-  room : g.T.Told.room l.told ≡ g.T.Told.room l.initial.told;
-  notes : g.T.Told.notes l.initial.told l.initial.session.front → g.T.Told.notes l.told l.session.front;
+  told : HasAddedTold g.T.Listener.ends l.office.sessions l.session.front (entered_since l.initial.session l.session) [] (g.T.Listener.list l.listener);
+  room : g.T.Listener.room l.listener ≡ g.T.Listener.room l.initial.listener;
+  notes : g.T.Listener.notes l.initial.listener l.initial.session.front → g.T.Listener.notes l.listener l.session.front;
 }

@@ -51,8 +51,8 @@ returns-in-Listed-clause-told g c =
     let e = c.look.ensures in
     let same = posted-same t u c.args.call (posted-cases c.publish.result p.listed p.unlisted) in
     let first = on-same t u same.0 same.1 in
-    told-on n t u v (g.T.Told.list c.args.told.now) (g.T.Told.list c.args.told.now) (g.T.Told.list c.look.new.told) first.entered e.awaited.on.longer e.awaited.on.entered
-    (told-self n t u (g.T.Told.list c.args.told.now) same.1) e.told
+    told-on n t u v (g.T.Listener.list c.args.listener.now) (g.T.Listener.list c.args.listener.now) (g.T.Listener.list c.look.new.listener) first.entered e.awaited.on.longer e.awaited.on.entered
+    (told-self n t u (g.T.Listener.list c.args.listener.now) same.1) e.told
 
 pub returns-in-Listed-clause-refused : goal.returns-in-Listed-clause-refused
 returns-in-Listed-clause-refused g c is =
@@ -79,16 +79,16 @@ pub returns-in-Listed-clause-noted : goal.returns-in-Listed-clause-noted
 returns-in-Listed-clause-noted g c answer is before =
     let p = c.publish.ensures in
     let same = posted-same c.args.session.now c.publish.new.session c.args.call (posted-cases c.publish.result p.listed p.unlisted) in
-    c.look.ensures.noted answer is (noted-published (g.T.Told.notes c.args.told.now) c.args.session.now c.publish.new.session same.0 before)
+    c.look.ensures.noted answer is (noted-published (g.T.Listener.notes c.args.listener.now) c.args.session.now c.publish.new.session same.0 before)
 
 pub returns-in-Listed-clause-notes_starved : goal.returns-in-Listed-clause-notes_starved
 returns-in-Listed-clause-notes_starved g c is before =
     let p = c.publish.ensures in
     let same = posted-same c.args.session.now c.publish.new.session c.args.call (posted-cases c.publish.result p.listed p.unlisted) in
-    c.look.ensures.notes_starved is (noted-published (g.T.Told.notes c.args.told.now) c.args.session.now c.publish.new.session same.0 before)
+    c.look.ensures.notes_starved is (noted-published (g.T.Listener.notes c.args.listener.now) c.args.session.now c.publish.new.session same.0 before)
 
 pub returns-in-Listed-clause-notes_waits : goal.returns-in-Listed-clause-notes_waits
 returns-in-Listed-clause-notes_waits g c w is before =
     let p = c.publish.ensures in
     let same = posted-same c.args.session.now c.publish.new.session c.args.call (posted-cases c.publish.result p.listed p.unlisted) in
-    c.look.ensures.notes_waits w is (noted-published (g.T.Told.notes c.args.told.now) c.args.session.now c.publish.new.session same.0 before)
+    c.look.ensures.notes_waits w is (noted-published (g.T.Listener.notes c.args.listener.now) c.args.session.now c.publish.new.session same.0 before)

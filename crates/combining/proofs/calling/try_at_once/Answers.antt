@@ -2,7 +2,7 @@ use Rattle.std.proofs.Common.{◌≡◌, ◌+◌, inl, inr, List, refl, sym, ap,
 use Rattle.publication.specs.Views.{TicketView}
 use Rattle.combining.specs.declared.office.Answer.{Answer}
 use Rattle.combining.specs.Calls.{IsCalled}
-use Rattle.combining.specs.Ended.{IsNotedUpTo}
+use Rattle.combining.specs.Woken.{IsNotedUpTo}
 use Rattle.combining.proofs.EndedWaits.{told-same}
 use Rattle.combining.proofs.Turns.{performed-called, called-on, refused-on, on-same, on-trans, posted-cases, posted-waits, posted-same, published, tries-posted, noted-performed}
 use Rattle.combining.proofs.calling.try_at_once.Goals as goal
@@ -38,7 +38,7 @@ returns-in-Starved-clause-told g c =
     let v = c.publish-posted.new.session in
     let p = c.publish-posted.ensures in
     let same = posted-same u v c.args.call.now (posted-cases c.publish-posted.result p.listed p.unlisted) in
-    told-same c.args.office.now.sessions c.args.session.now u v (g.T.Told.list c.args.told.now) (g.T.Told.list c.perform_adding.new.told) same.0 same.1 c.perform_adding.ensures.told
+    told-same c.args.office.now.sessions c.args.session.now u v (g.T.Listener.list c.args.listener.now) (g.T.Listener.list c.perform_adding.new.listener) same.0 same.1 c.perform_adding.ensures.told
 
 pub returns-in-Starved-clause-on : goal.returns-in-Starved-clause-on
 returns-in-Starved-clause-on g c =
@@ -79,8 +79,8 @@ pub returns-in-Answered-clause-noted : goal.returns-in-Answered-clause-noted
 returns-in-Answered-clause-noted g c answer is before =
     let a = c.in-Answered.answer in
     let same : a ≡ answer = cc is in
-    subst (λ (x : Answer _). IsNotedUpTo (g.T.Told.notes c.perform_adding.new.told) c.perform_adding.new.session.front (x.place + 1)) same
-    (noted-performed _ c.args.session.now c.perform_adding.new.session c.args.call.now a.place a.reply c.in-Answered.served (g.T.Told.notes c.perform_adding.new.told)
+    subst (λ (x : Answer _). IsNotedUpTo (g.T.Listener.notes c.perform_adding.new.listener) c.perform_adding.new.session.front (x.place + 1)) same
+    (noted-performed _ c.args.session.now c.perform_adding.new.session c.args.call.now a.place a.reply c.in-Answered.served (g.T.Listener.notes c.perform_adding.new.listener)
     (c.in-Answered.ensures.answered a c.in-Answered.served c.in-Answered.starved refl) (c.perform_adding.ensures.notes before))
 
 pub returns-in-Starved-clause-notes_starved : goal.returns-in-Starved-clause-notes_starved
@@ -89,4 +89,4 @@ returns-in-Starved-clause-notes_starved g c _ before =
     let v = c.publish-posted.new.session in
     let p = c.publish-posted.ensures in
     let same = posted-same u v c.args.call.now (posted-cases c.publish-posted.result p.listed p.unlisted) in
-    subst (λ (l : List _). g.T.Told.notes c.perform_adding.new.told l) (sym same.0) (c.perform_adding.ensures.notes before)
+    subst (λ (l : List _). g.T.Listener.notes c.perform_adding.new.listener l) (sym same.0) (c.perform_adding.ensures.notes before)

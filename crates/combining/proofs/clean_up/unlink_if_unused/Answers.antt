@@ -1,7 +1,8 @@
 use Rattle.std.proofs.Common.{rules, ◌≡◌, ◌∙◌, ⊎_elim, inl, inr, ◌<◌, ℕ, List, length, sym, ap, subst}
 use Rattle.publication.specs.Views.{TicketView}
 use Rattle.publication.specs.List.{IsOn, first_of, behind, without}
-use Rattle.combining.proofs.CleanUpWalk.{off-shorter, on-shorter, off-left, off-first}
+use Rattle.publication.proofs.ListLaws.{first_without}
+use Rattle.combining.proofs.CleanUpWalk.{off-shorter, on-shorter, off-left}
 use Rattle.combining.proofs.clean_up.unlink_if_unused.Goals as goal
 use Rattle.combining.proofs.clean_up.unlink_if_unused.Goals.{else-unused-via-then-unused+else-unlink, else-unused-via-else-unused}
 
@@ -16,7 +17,7 @@ pub returns-then-unlink-clause-first : goal.returns-then-unlink-clause-first
 returns-then-unlink-clause-first g c =
     let route = c.args.session.now.route in
     let is : c.unlink.new.ticket.route ≡ without c.args.before route = ap (λ (t : TicketView _ _). t.route) (c.unlink.ensures.off c.if-unlink.true) in
-    ap (λ (r : List ℕ). first_of r) is ∙ off-first c.args.before route
+    ap (λ (r : List ℕ). first_of r) is ∙ first_without c.args.before route
 
 pub returns-then-unlink-clause-left : goal.returns-then-unlink-clause-left
 returns-then-unlink-clause-left g c j on =

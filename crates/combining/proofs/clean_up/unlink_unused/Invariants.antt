@@ -1,7 +1,7 @@
 use Rattle.std.proofs.Common.{◌≡◌, ◌+◌, length}
 use Rattle.publication.specs.Boards.{IsNumber}
 use Rattle.publication.specs.List.{IsOn, first_of, behind}
-use Rattle.publication.specs.Kinds.{IsRoute}
+use Rattle.publication.specs.StepKinds.{IsRoute}
 use Rattle.combining.specs.inner.Ages.{IsCleaned}
 use Rattle.combining.proofs.clean_up.unlink_unused.Given as goal
 

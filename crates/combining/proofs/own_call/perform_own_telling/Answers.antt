@@ -1,6 +1,6 @@
 use Rattle.std.proofs.Common.{◌≡◌, ◌+◌, ◌∙◌, ℕ, List, length, ap, arith, length-append, subst, ◌∷◌, []}
 use Rattle.publication.specs.Views.{TicketView, entry}
-use Rattle.combining.specs.Ended.{HasRoom}
+use Rattle.combining.specs.Woken.{HasRoom}
 use Rattle.combining.proofs.EndedWaits.{told-step}
 use Rattle.combining.proofs.Places.{entered-step}
 use Rattle.combining.proofs.own_call.perform_own_telling.Goals as goal
@@ -10,7 +10,7 @@ add-requires g c =
     let sessions = c.perform_own.ensures.work.home.sessions in
     record {
       tells = λ some. (length c.args.session.now.front, c.in_ok-answer.ensures.tells);
-      room = subst (λ (n : ℕ). HasRoom (g.T.Told.room c.args.told.now) n) (omega (arith, sessions)) c.requires.room;
+      room = subst (λ (n : ℕ). HasRoom (g.T.Listener.room c.args.listener.now) n) (omega (arith, sessions)) c.requires.room;
     }
 
 pub returns-clause-told : goal.returns-clause-told

@@ -8,5 +8,5 @@ returns-then-opening-from-clause-within g c =
     let e = c.open_weighed.ensures in
     let room : vec_len old.row < c.args.bound.calls = search rules in
     let less : c.args.opening.now.weight < c.args.bound.weight = search rules in
-    within-further g.T.Told.weight c.args.bound (g.O.Sequential.history old.object) old.row c.open_weighed.new.load.row c.args.opening.now.weight c.open_weighed.new.opening.weight c.args.whose
+    within-further g.T.Listener.weight c.args.bound (g.O.Sequential.history old.object) old.row c.open_weighed.new.load.row c.args.opening.now.weight c.open_weighed.new.opening.weight c.args.whose
     c.requires.within room less e.grows e.opened

@@ -1,7 +1,7 @@
 use Rattle.std.proofs.Common.{◌≡◌, ◌+◌, ◌∙◌, ℕ, Option, List, sym, ap, subst, arith}
 use Rattle.publication.specs.Views.{TicketView}
 use Rattle.publication.specs.List.{IsOn, first_of, behind}
-use Rattle.publication.specs.Kinds.{IsRoute}
+use Rattle.publication.specs.StepKinds.{IsRoute}
 use Rattle.combining.specs.inner.Passes.{AreOpened, KeepsCalls, HasVisitedOpened, IsSameSession, IsNext, HasMet}
 use Rattle.combining.specs.inner.BoundedPasses.{IsWithin}
 use Rattle.publication.specs.declared.slot.Load.{Load}
@@ -57,7 +57,7 @@ loop-next-preserved g c =
       room = e.room;
       calls = subst (λ (x : TicketView _ _). KeepsCalls before x) (sym same) (keeps-trans before t u i.calls e.calls);
       visited = subst (λ (x : TicketView _ _). HasVisitedOpened x) (sym same) e.visited;
-      within = subst (λ (o : _). IsWithin g.T.Told.weight c.args.bound (g.O.Sequential.history o) c.open_if_room.new.load.row c.open_if_room.new.opening.weight) (ap (λ (x : Load _ _ _). x.object) i.load) e.within;
+      within = subst (λ (o : _). IsWithin g.T.Listener.weight c.args.bound (g.O.Sequential.history o) c.open_if_room.new.load.row c.open_if_room.new.opening.weight) (ap (λ (x : Load _ _ _). x.object) i.load) e.within;
       load = e.load ∙ ap (λ (x : Load _ _ _). record x { row = c.open_if_room.new.load.row }) i.load;
       met = subst (λ (m : Option ℕ). HasMet m v) (sym next) (subst (λ (x : TicketView _ _). HasMet (first_of (behind q t.route)) x) (sym same) met);
       kept = ap (λ (x : TicketView _ _). x.route) same ∙ (kept ∙ i.kept);

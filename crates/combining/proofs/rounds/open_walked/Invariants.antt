@@ -1,5 +1,5 @@
 use Rattle.std.proofs.Common.{◌≡◌, ◌≤◌, ◌+◌, length, vec_len, vec_capacity}
-use Rattle.publication.specs.Kinds.{IsRoute}
+use Rattle.publication.specs.StepKinds.{IsRoute}
 use Rattle.combining.specs.inner.Passes.{AreOpened, KeepsCalls, HasVisitedOpened, IsSameSession, ahead, IsNext, HasMet}
 use Rattle.combining.specs.inner.BoundedPasses.{IsWithin}
 use Rattle.combining.proofs.rounds.open_walked.Given as goal
@@ -14,7 +14,7 @@ invariant-loop-next g l = record {
   room : (l.board.sessions ≤ vec_capacity l.load.row) × (l.opening.going_first ≤ vec_len l.load.row);
   calls : KeepsCalls l.initial.session l.session;
   visited : HasVisitedOpened l.session;
-  within : IsWithin g.T.Told.weight l.bound (g.O.Sequential.history l.initial.load.object) l.load.row l.opening.weight;
+  within : IsWithin g.T.Listener.weight l.bound (g.O.Sequential.history l.initial.load.object) l.load.row l.opening.weight;
   load : l.load ≡ record l.initial.load { row = l.load.row };
   met : HasMet l.next l.session;
 }

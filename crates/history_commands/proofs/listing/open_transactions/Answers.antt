@@ -2,8 +2,8 @@ use Rattle.std.proofs.Common.{◌∙◌, ◌++◌, ◌+◌, List, ap, sym}
 use Rattle.lock_report.specs.declared.snapshot.OpenTransaction.{OpenTransaction}
 use Rattle.lock_rules.specs.Legal.{state_of}
 use Rattle.history_commands.specs.Showing.{open_of}
-use Rattle.lock_explain.proofs.ForSessions.{next-session}
 use Rattle.history_commands.proofs.listing.open_transactions.Goals as goal
+use Rattle.lock_rules.proofs.Ranges.{next-session}
 
 pub loop-before-preserved : goal.loop-before-preserved
 loop-before-preserved c =

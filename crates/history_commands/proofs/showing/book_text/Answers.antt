@@ -3,7 +3,7 @@ use Rattle.std.specs.Prelude.{All}
 use Rattle.lock_rules.specs.Legal.{state_of}
 use Rattle.lock_desk.specs.declared.gauges.Gauges.{Gauges}
 use Rattle.lock_report.specs.declared.snapshot.OpenTransaction.{OpenTransaction}
-use Rattle.lock_report.specs.declared.snapshot.Wait.{Wait}
+use Rattle.lock_report.specs.declared.snapshot.WaitFor.{WaitFor}
 use Rattle.lock_report.specs.ReadRows.{IsSession, IsWait}
 use Rattle.history_commands.specs.Forms.{form_of_lists}
 use Rattle.history_commands.specs.Showing.{opens_of, waits_of}
@@ -21,7 +21,7 @@ pub form_text-requires-clause-waits : goal.form_text-requires-clause-waits
 form_text-requires-clause-waits c =
     let book = c.args.book.now in
     let ws = waits_of book.sessions (state_of book.history) in
-    subst (λ (l : List Wait). All (IsWait c.sessions.result) l) (sym c.in_ok-lists.ensures.waits)
+    subst (λ (l : List WaitFor). All (IsWait c.sessions.result) l) (sym c.in_ok-lists.ensures.waits)
     (subst (λ (n : ℕ). All (IsWait n) ws) (sym c.sessions.ensures.sessions) (lists-within book.sessions book.history c.history.ensures.within).1)
 
 pub returns : goal.returns

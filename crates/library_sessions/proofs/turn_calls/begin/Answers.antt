@@ -27,7 +27,7 @@ returns-clause-begun g c =
       last = λ _ over. absurd (omega (arith, left, over));
       failed = c.write_next.ensures.failed;
       not_late = c.write_next.ensures.not_late;
-      told_is = to-wake _ _ c.deref-2.result.now.sessions _ c.clear.new.self.told.list many c.clear.ensures.none c.count.ensures.count made.ensures.told;
+      told_is = to-wake _ _ c.deref-2.result.now.sessions _ c.clear.new.self.listener.list many c.clear.ensures.none c.count.ensures.count made.ensures.told;
       office = record { office = refl; handed = refl; sessions = refl; mark = refl; waker = refl; bound = refl };
       statuses = c.write_next.ensures.statuses;
     }
@@ -47,7 +47,7 @@ returns-then-made-turns-clause-begun g c =
       last = λ _ _. (refl, made.ensures.published none);
       failed = λ _. refl;
       not_late = λ other. absurd (other refl);
-      told_is = to-wake _ _ _ _ c.clear.new.self.told.list refl c.clear.ensures.none (sym (ap length c.clear.ensures.none)) (told-self c.args.share.now.sessions c.args.share.now.session made.new.self c.clear.new.self.told.list made.ensures.known.1);
+      told_is = to-wake _ _ _ _ c.clear.new.self.listener.list refl c.clear.ensures.none (sym (ap length c.clear.ensures.none)) (told-self c.args.share.now.sessions c.args.share.now.session made.new.self c.clear.new.self.listener.list made.ensures.known.1);
       office = record { office = refl; handed = refl; sessions = refl; mark = refl; waker = refl; bound = refl };
       statuses = inr (inr refl);
     }

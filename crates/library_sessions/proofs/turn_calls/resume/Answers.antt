@@ -35,7 +35,7 @@ returns-clause-resumed g c =
       last = λ _ over. absurd (omega (arith, left, over));
       failed = c.write_next.ensures.failed;
       not_late = c.write_next.ensures.not_late;
-      told_is = to-wake _ _ c.deref.result.now.sessions _ c.clear.new.self.told.list many c.clear.ensures.none c.count.ensures.count made.ensures.told;
+      told_is = to-wake _ _ c.deref.result.now.sessions _ c.clear.new.self.listener.list many c.clear.ensures.none c.count.ensures.count made.ensures.told;
       office = record { office = refl; handed = refl; sessions = refl; mark = refl; waker = refl; bound = refl };
       statuses = c.write_next.ensures.statuses;
     }
@@ -52,7 +52,7 @@ returns-then-made-turns-clause-resumed g c =
       last = λ _ _. (refl, refl);
       failed = λ _. refl;
       not_late = λ other. absurd (other refl);
-      told_is = to-wake _ _ _ _ c.clear.new.self.told.list refl c.clear.ensures.none (sym (ap length c.clear.ensures.none)) (told-self c.args.share.now.sessions c.args.share.now.session c.args.share.now.session c.clear.new.self.told.list refl);
+      told_is = to-wake _ _ _ _ c.clear.new.self.listener.list refl c.clear.ensures.none (sym (ap length c.clear.ensures.none)) (told-self c.args.share.now.sessions c.args.share.now.session c.args.share.now.session c.clear.new.self.listener.list refl);
       office = record { office = refl; handed = refl; sessions = refl; mark = refl; waker = refl; bound = refl };
       statuses = inr (inr refl);
     }

@@ -4,9 +4,9 @@ use Rattle.lock_explain.specs.declared.explanation.Party.{Party}
 use Rattle.lock_explain.specs.Cycles.{party_on_cycle}
 use Rattle.lock_explain.specs.Waiting.{waiting_state}
 use Rattle.lock_explain.specs.inner.Asked.{claim_of}
-use Rattle.lock_explain.proofs.ForSessions.{next-session}
 use Rattle.lock_explain.proofs.OnCycle.{nobody}
 use Rattle.lock_explain.proofs.cycles.members_of.Goals as goal
+use Rattle.lock_rules.proofs.Ranges.{next-session}
 
 pub returns-then-not-on_circle-clause-members : goal.returns-then-not-on_circle-clause-members
 returns-then-not-on_circle-clause-members c =

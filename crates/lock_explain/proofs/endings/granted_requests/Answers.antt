@@ -3,8 +3,8 @@ use Rattle.lock_rules.specs.declared.listing.Claim.{Claim}
 use Rattle.lock_rules.specs.Legal.{state_of}
 use Rattle.lock_explain.specs.Endings.{granted_request}
 use Rattle.lock_explain.proofs.EndedNone.{none-granted}
-use Rattle.lock_explain.proofs.ForSessions.{next-session}
 use Rattle.lock_explain.proofs.endings.granted_requests.Goals as goal
+use Rattle.lock_rules.proofs.Ranges.{next-session}
 
 pub returns-then-ends_none : goal.returns-then-ends_none
 returns-then-ends_none c =

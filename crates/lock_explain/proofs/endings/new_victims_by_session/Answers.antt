@@ -2,8 +2,8 @@ use Rattle.std.proofs.Common.{◌∙◌, ◌++◌, ◌+◌, List, ap, sym}
 use Rattle.lock_rules.specs.Legal.{state_of}
 use Rattle.lock_explain.specs.declared.explanation.Party.{Party}
 use Rattle.lock_explain.specs.inner.NewVictims.{new_victim}
-use Rattle.lock_explain.proofs.ForSessions.{next-session}
 use Rattle.lock_explain.proofs.endings.new_victims_by_session.Goals as goal
+use Rattle.lock_rules.proofs.Ranges.{next-session}
 
 pub loop-position-preserved : goal.loop-position-preserved
 loop-position-preserved c =

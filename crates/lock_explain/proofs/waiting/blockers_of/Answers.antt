@@ -9,10 +9,10 @@ use Rattle.lock_rules.proofs.Steps.{state-lawful}
 use Rattle.lock_explain.specs.Waiting.{blocker_of, waiting_state}
 use Rattle.lock_explain.specs.inner.Asked.{claim_of}
 use Rattle.lock_explain.specs.inner.Holders.{mode_of_first}
-use Rattle.lock_explain.proofs.ForSessions.{session-more}
 use Rattle.lock_explain.proofs.HoldersInTurn.{AreBehind, from-first, first-told, behind-next}
 use Rattle.lock_explain.proofs.SessionsOfAHistory.{all-inside}
 use Rattle.lock_explain.proofs.waiting.blockers_of.Goals as goal
+use Rattle.lock_rules.proofs.Ranges.{session-more}
 
 pub loop-position-init : goal.loop-position-init
 loop-position-init c =

@@ -1,7 +1,7 @@
 use Rattle.lock_rules.specs.Legal.{state_of}
 use Rattle.lock_office.specs.Dump.{open_of}
-use Rattle.lock_office.proofs.Dumped.{session-more}
 use Rattle.lock_office.proofs.dump.list_opens.Goals as goal
+use Rattle.lock_rules.proofs.Ranges.{session-more}
 
 pub loop-before-preserved : goal.loop-before-preserved
 loop-before-preserved c =

@@ -1,6 +1,6 @@
 use Rattle.std.proofs.Common.{◌≡◌, drop}
+use Rattle.lock_rules.specs.Kinds.{word_of}
 use Rattle.lock_trace.specs.declared.faults.TraceKind.TheVariants as kind
-use Rattle.lock_trace.specs.Words.{word_of}
 use Rattle.lock_trace.specs.Fields.{find_named, op_in}
 use Rattle.lock_trace.proofs.fields.op_of.Given as goal
 

@@ -1,6 +1,6 @@
 use Rattle.std.proofs.Common.{◌≡◌, drop}
+use Rattle.lock_rules.specs.Kinds.{word_of_reply}
 use Rattle.lock_trace.specs.declared.faults.TraceKind.TheVariants as kind
-use Rattle.lock_trace.specs.Words.{word_of_reply}
 use Rattle.lock_trace.specs.Fields.{find_named, reply_kind_in}
 use Rattle.lock_trace.proofs.fields.reply_kind_of.Given as goal
 

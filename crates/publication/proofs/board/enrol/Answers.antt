@@ -4,7 +4,7 @@ use Rattle.atomic_table.specs.Table.{Allows, step}
 use Rattle.publication.specs.Words.{word_of}
 use Rattle.publication.specs.Rule.{maker, new_session}
 use Rattle.publication.specs.List.{IsBounded, bound_of}
-use Rattle.publication.specs.Kinds.{Seated, starts, hearing}
+use Rattle.publication.specs.StepKinds.{Seated, starts, hearing}
 use Rattle.publication.specs.declared.view.View.{View}
 use Rattle.publication.proofs.SessionKinds.{start_kept}
 use Rattle.publication.proofs.board.enrol.Goals as goal

@@ -1,5 +1,5 @@
 use Rattle.std.proofs.Common.{inl, inr, refl}
-use Rattle.publication.specs.Kinds.{copy_of, front_copy_of}
+use Rattle.publication.specs.StepKinds.{copy_of, front_copy_of}
 use Rattle.publication.proofs.Present.{makes-one, copies, joins-one, gathers-one}
 use Rattle.publication.proofs.laws.splits_and_joins_of_the_table_are_such_moves.Goals as goal
 

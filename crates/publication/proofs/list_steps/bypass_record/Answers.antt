@@ -3,7 +3,7 @@ use mathlib.Core.Option as opt
 use Rattle.atomic_table.specs.Table.{Allows, step}
 use Rattle.publication.specs.Words.{link_of}
 use Rattle.publication.specs.List.{IsOn, IsBounded, bound_of}
-use Rattle.publication.specs.Kinds.{Seated, walks_on_from, unlinks, bypassing}
+use Rattle.publication.specs.StepKinds.{Seated, walks_on_from, unlinks, bypassing}
 use Rattle.publication.proofs.Chains.{on_right, splits}
 use Rattle.publication.proofs.ListKinds.{walk_on_kept, session_of_its_link}
 use Rattle.publication.proofs.UnlinkKinds.{unlink_kept}

@@ -4,7 +4,7 @@ use prog.Atomic.{either}
 use Rattle.atomic_table.specs.Table.{Allows, step}
 use Rattle.publication.specs.Words.{link_of}
 use Rattle.publication.specs.List.{IsBounded, bound_of}
-use Rattle.publication.specs.Kinds.{Seated, linking, links, enlists}
+use Rattle.publication.specs.StepKinds.{Seated, linking, links, enlists}
 use Rattle.publication.proofs.ListKinds.{link_kept, enlist_kept}
 use Rattle.publication.proofs.list_steps.enlist_record.Goals as goal
 

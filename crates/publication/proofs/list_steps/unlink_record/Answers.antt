@@ -1,6 +1,6 @@
 use Rattle.std.proofs.Common.{rules, ◌≡◌, ◌∷◌, ◌∙◌, ℕ, Some, List, inl, refl, sym, ap, subst}
 use Rattle.publication.specs.List.{IsOn, AreApart, head_of, without, with_behind, behind}
-use Rattle.publication.specs.Kinds.{Seated, bypassing, relinking}
+use Rattle.publication.specs.StepKinds.{Seated, bypassing, relinking}
 use Rattle.publication.specs.inner.Tickets.{IsCombiner}
 use Rattle.publication.proofs.Chains.{on_right, splits, apart_front, inserts}
 use Rattle.publication.proofs.list_steps.unlink_record.Goals as goal
@@ -44,5 +44,5 @@ returns-clause-kept g c =
     let more = c.args.seat.now.me.1 in
     let me = c.mark_out.ensures.in_use (search rules) ∙ c.bypass_record.ensures.step in λ _.
     c.relink_record.ensures.step ∙ (ap (λ (x : Seated _ _ _). (relinking x.0, x.1)) me
-    ∙ ap (λ (r : List ℕ). (Rattle.publication.specs.Kinds.as_session v v.front v.own v.heard (record { head_seen = v.listing.head_seen; route = r; off = 0; before = 0; tries = v.listing.tries }), more))
+    ∙ ap (λ (r : List ℕ). (Rattle.publication.specs.StepKinds.as_session v v.front v.own v.heard (record { head_seen = v.listing.head_seen; route = r; off = 0; before = 0; tries = v.listing.tries }), more))
     (same_route c.args.before c.args.whose v.listing.route c.bypass_record.ensures.apart c.requires.before.1 c.requires.whose.1))

@@ -1,5 +1,5 @@
 use Rattle.std.proofs.Common.{rules, ◌≡◌, ℕ, List, sym, ap, subst}
-use Rattle.publication.specs.Kinds.{Seated}
+use Rattle.publication.specs.StepKinds.{Seated}
 use Rattle.publication.specs.List.{first_of}
 use Rattle.publication.proofs.ListKinds.{walk_kept}
 use Rattle.publication.proofs.Routes.{named_first, named_few}

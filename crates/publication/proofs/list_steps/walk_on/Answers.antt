@@ -1,5 +1,5 @@
 use Rattle.std.proofs.Common.{rules, ℕ, subst}
-use Rattle.publication.specs.Kinds.{walks_on_from}
+use Rattle.publication.specs.StepKinds.{walks_on_from}
 use Rattle.publication.proofs.ListKinds.{walk_on_kept, session_of_its_link}
 use Rattle.publication.proofs.Routes.{named_first, named_few, route_behind}
 use Rattle.publication.specs.List.{behind}

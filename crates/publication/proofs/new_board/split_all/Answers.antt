@@ -3,7 +3,7 @@ use Rattle.atomic_table.specs.Table.{Splits}
 use Rattle.atomic_table.specs.declared.shared.Seat.{Seat}
 use Rattle.publication.specs.Rule.{maker, new_session}
 use Rattle.publication.specs.List.{IsBounded, bound_of}
-use Rattle.publication.specs.Kinds.{Seated}
+use Rattle.publication.specs.StepKinds.{Seated}
 use Rattle.publication.specs.inner.Tickets.{AreNewSeats}
 use Rattle.publication.specs.declared.view.View.{View}
 use Rattle.publication.specs.declared.slot.SlotValue.{SlotValue}

@@ -1,5 +1,5 @@
 use Rattle.std.proofs.Common.{rules, ◌≡◌, ap, refl, arith}
-use Rattle.publication.specs.Kinds.{Seated}
+use Rattle.publication.specs.StepKinds.{Seated}
 use Rattle.publication.proofs.SleepKinds.{look_for_sleepers_kept, sweep_kept}
 use Rattle.publication.proofs.sleep_steps.look_for_sleepers.Goals as goal
 

@@ -1,5 +1,5 @@
 use Rattle.std.proofs.Common.{◌≡◌, ◌≤◌, ◌+◌, false}
-use Rattle.publication.specs.Kinds.{with_sleep}
+use Rattle.publication.specs.StepKinds.{with_sleep}
 use Rattle.publication.specs.Sleep.{IsSameSleep, AreRoused}
 use Rattle.publication.proofs.sleep_steps.rouse_sleepers.Given as goal
 

@@ -3,7 +3,7 @@ use mathlib.Core.Option as opt
 use Rattle.atomic_table.specs.Table.{Allows, step, rest}
 use Rattle.publication.specs.Words.{word_of, SERVED}
 use Rattle.publication.specs.List.{IsBounded, bound_of}
-use Rattle.publication.specs.Kinds.{Seated, answers, call_at, opened_in, replied, in_hand, answering}
+use Rattle.publication.specs.StepKinds.{Seated, answers, call_at, opened_in, replied, in_hand, answering}
 use Rattle.publication.specs.declared.slot.SlotValue.{SlotValue}
 use Rattle.publication.specs.declared.slot.SlotValue.TheVariants.{ServedReply}
 use Rattle.publication.proofs.RecordKinds.{in_hand_with, pick_kept, answer_kept}

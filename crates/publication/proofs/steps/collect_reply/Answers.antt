@@ -4,7 +4,7 @@ use prog.Atomic.{either}
 use Rattle.atomic_table.specs.Table.{Allows, step, rest}
 use Rattle.publication.specs.Words.{word_of, OUT, SERVED, EMPTY}
 use Rattle.publication.specs.List.{IsBounded, bound_of}
-use Rattle.publication.specs.Kinds.{Seated, takes_reply, taking}
+use Rattle.publication.specs.StepKinds.{Seated, takes_reply, taking}
 use Rattle.publication.specs.declared.slot.SlotValue.{SlotValue}
 use Rattle.publication.specs.declared.slot.SlotValue.TheVariants.{ServedReply}
 use Rattle.publication.proofs.SessionKinds.{take_kept}

@@ -4,7 +4,7 @@ use Rattle.sequential.specs.declared.entry.Entry.{Entry}
 use Rattle.publication.specs.Views.{IsAccountedIn}
 use Rattle.publication.specs.Rule.{blank}
 use Rattle.publication.specs.List.{IsBounded, bound_of}
-use Rattle.publication.specs.Kinds.{Seated, as_hearer, front_copy_of, joined, longer, comparing}
+use Rattle.publication.specs.StepKinds.{Seated, as_hearer, front_copy_of, joined, longer, comparing}
 use Rattle.publication.specs.declared.view.View.{View}
 use Rattle.publication.specs.declared.slot.SlotValue.{SlotValue}
 use Rattle.publication.proofs.LongerFronts.{maxes-none, longer-is}

@@ -4,7 +4,7 @@ use Rattle.atomic_table.specs.Table.{Allows, Joins, step, rest}
 use Rattle.publication.specs.Words.{word_of}
 use Rattle.publication.specs.Rule.{blank}
 use Rattle.publication.specs.List.{IsBounded, bound_of}
-use Rattle.publication.specs.Kinds.{Seated, leaving, leaves, gathered}
+use Rattle.publication.specs.StepKinds.{Seated, leaving, leaves, gathered}
 use Rattle.publication.specs.declared.slot.SlotValue.{SlotValue}
 use Rattle.publication.specs.declared.slot.SlotValue.TheVariants.{Empty}
 use Rattle.publication.proofs.RecordStates.{lacks}

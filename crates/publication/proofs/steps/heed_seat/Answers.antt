@@ -3,7 +3,7 @@ use mathlib.Core.Option as opt
 use Rattle.atomic_table.specs.Table.{Allows, Joins, step}
 use Rattle.publication.specs.Rule.{blank}
 use Rattle.publication.specs.List.{IsBounded, bound_of}
-use Rattle.publication.specs.Kinds.{Seated, copy_of, joined, learns}
+use Rattle.publication.specs.StepKinds.{Seated, copy_of, joined, learns}
 use Rattle.publication.proofs.LaidDown.{joins_bounded}
 use Rattle.publication.proofs.SplitsAndJoins.{joins_copy}
 use Rattle.publication.proofs.Learning.{learn_kept}

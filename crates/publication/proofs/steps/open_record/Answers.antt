@@ -3,7 +3,7 @@ use mathlib.Core.Option as opt
 use Rattle.atomic_table.specs.Table.{Allows, step, rest}
 use Rattle.publication.specs.Words.{word_of}
 use Rattle.publication.specs.List.{IsBounded, bound_of}
-use Rattle.publication.specs.Kinds.{Seated, opens_record, lays, opening}
+use Rattle.publication.specs.StepKinds.{Seated, opens_record, lays, opening}
 use Rattle.publication.specs.inner.Tickets.{IsCombiner}
 use Rattle.publication.specs.declared.slot.SlotValue.{SlotValue}
 use Rattle.publication.specs.declared.slot.SlotValue.TheVariants.{Empty, PostedCall}

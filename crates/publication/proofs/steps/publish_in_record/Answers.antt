@@ -3,7 +3,7 @@ use mathlib.Core.Option as opt
 use Rattle.atomic_table.specs.Table.{Allows, step, rest}
 use Rattle.publication.specs.Words.{word_of, POSTED}
 use Rattle.publication.specs.List.{IsBounded, bound_of}
-use Rattle.publication.specs.Kinds.{Seated, posts}
+use Rattle.publication.specs.StepKinds.{Seated, posts}
 use Rattle.publication.specs.Runs.{LaysDownItsOwn}
 use Rattle.publication.specs.declared.slot.SlotValue.TheVariants.{PostedCall}
 use Rattle.publication.proofs.RecordStates.{lacks}

@@ -3,7 +3,7 @@ use mathlib.Core.Option as opt
 use Rattle.atomic_table.specs.Table.{Allows, step}
 use Rattle.publication.specs.Words.{word_of, POSTED}
 use Rattle.publication.specs.List.{IsBounded, bound_of}
-use Rattle.publication.specs.Kinds.{Seated, puts_back, in_hand}
+use Rattle.publication.specs.StepKinds.{Seated, puts_back, in_hand}
 use Rattle.publication.specs.declared.slot.SlotValue.{SlotValue}
 use Rattle.publication.specs.declared.slot.SlotValue.TheVariants.{PostedCall}
 use Rattle.publication.proofs.RecordKinds.{in_hand_with, pick_kept, put_back_kept}

@@ -3,7 +3,7 @@ use mathlib.Core.Option as opt
 use Rattle.atomic_table.specs.Table.{Allows, step, rest}
 use Rattle.publication.specs.Words.{FREE}
 use Rattle.publication.specs.List.{IsBounded, bound_of}
-use Rattle.publication.specs.Kinds.{Seated, releases}
+use Rattle.publication.specs.StepKinds.{Seated, releases}
 use Rattle.publication.specs.Runs.{IsCombiner, LaysDownLoad}
 use Rattle.publication.proofs.LockKinds.{release_kept}
 use Rattle.publication.proofs.Lists.{none_there}

@@ -5,7 +5,7 @@ use prog.Atomic.{either}
 use Rattle.atomic_table.specs.Table.{Allows, step, rest}
 use Rattle.publication.specs.Words.{FREE}
 use Rattle.publication.specs.List.{IsBounded, bound_of}
-use Rattle.publication.specs.Kinds.{Seated, seizes_within}
+use Rattle.publication.specs.StepKinds.{Seated, seizes_within}
 use Rattle.publication.specs.declared.slot.SlotValue.{SlotValue}
 use Rattle.publication.specs.declared.slot.SlotValue.TheVariants.{ObjectLoad}
 use Rattle.publication.proofs.LockKinds.{seize_kept}

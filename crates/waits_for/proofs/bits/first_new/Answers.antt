@@ -1,6 +1,7 @@
 use Rattle.std.proofs.Common.{◌/◌, inl, inr, length, sym, ◌∙◌, arith}
 use Rattle.std.proofs.lemmas.Bool.{cases_lt, cases_eq, false≢true}
-use Rattle.waits_for.proofs.BitRows.{bit-new, no_bit-new, no_bit-past}
+use Rattle.sequential.proofs.BitRows.{no_bit-past}
+use Rattle.waits_for.proofs.BitRows.{bit-new, no_bit-new}
 use Rattle.waits_for.proofs.bits.first_new.Goals as goal
 
 pub returns-then-new-ne0-clause-some : goal.returns-then-new-ne0-clause-some

@@ -3,7 +3,7 @@ use Rattle.std.specs.List.{range_with_len}
 use mathlib.Core.List.{IsPrefix}
 use Rattle.sequential.specs.declared.entry.Entry.{Entry}
 use Rattle.publication.specs.Views.{TicketView}
-use Rattle.combining.specs.Ended.{HasAddedTold}
+use Rattle.combining.specs.Woken.{HasAddedTold}
 use Rattle.combining.proofs.TakenPieces.{made, tried-front, tried-rest}
 use Rattle.combining.proofs.office.Office.make_pass.Goals as goal
 
@@ -13,7 +13,7 @@ returns-clause-made g c =
     let between = c.enlist.new.session in
     let seized = c.in_ok-load.ensures in
     let old = c.in_ok-load.load.value in
-    let pass = c.serve_rounds-pass in
+    let pass = c.make_rounds-pass in
     let last = pass.new.session in
     let rounds = pass.ensures.rounds.2 in
     let rest = tried-rest before between c.enlist.ensures.tried in
@@ -46,10 +46,10 @@ pub returns-clause-told : goal.returns-clause-told
 returns-clause-told g c =
     let before = c.args.session.now in
     let seized = c.in_ok-load.ensures in
-    let last = c.serve_rounds-pass.new.session in
+    let last = c.make_rounds-pass.new.session in
     let rest = tried-rest before c.enlist.new.session c.enlist.ensures.tried in
     let n = c.self.inside.board.sessions in
     let same : n ≡ c.args.self.now.sessions = search rules in
     let entered = ap (λ (t : TicketView _ _). t.entered) seized.ticket ∙ rest.2 in
-    let told = subst (λ (l : List ℕ). HasAddedTold g.T.Told.ends n last.front (drop (length l) last.entered) (g.T.Told.list c.args.told.now) (g.T.Told.list c.serve_rounds-pass.new.told)) entered c.serve_rounds-pass.ensures.told in
-    subst (λ (m : ℕ). HasAddedTold g.T.Told.ends m last.front (drop (length before.entered) last.entered) (g.T.Told.list c.args.told.now) (g.T.Told.list c.serve_rounds-pass.new.told)) same told
+    let told = subst (λ (l : List ℕ). HasAddedTold g.T.Listener.ends n last.front (drop (length l) last.entered) (g.T.Listener.list c.args.listener.now) (g.T.Listener.list c.make_rounds-pass.new.listener)) entered c.make_rounds-pass.ensures.told in
+    subst (λ (m : ℕ). HasAddedTold g.T.Listener.ends m last.front (drop (length before.entered) last.entered) (g.T.Listener.list c.args.listener.now) (g.T.Listener.list c.make_rounds-pass.new.listener)) same told

@@ -2,7 +2,7 @@ use Rattle.std.proofs.Common.{◌≡◌, ℕ, List, length, drop, sym, ap, subst
 use Rattle.sequential.specs.declared.entry.Entry.{Entry}
 use Rattle.publication.specs.Views.{TicketView}
 use Rattle.combining.specs.Sessions.{IsPassed}
-use Rattle.combining.specs.Ended.{HasAddedTold}
+use Rattle.combining.specs.Woken.{HasAddedTold}
 use Rattle.combining.proofs.TakenPieces.{pass-ended}
 use Rattle.combining.proofs.office.Office.pass.Goals as goal
 
@@ -20,5 +20,5 @@ returns-clause-told g c =
     let made = c.make_pass.new.session in
     let after = c.end_pass.new.session in
     let both : (after.front, after.entered) ≡ (made.front, made.entered) = ap (λ (t : TicketView _ _). (t.front, t.entered)) c.end_pass.ensures.session in
-    subst (λ (k : List (Entry _ _) × List ℕ). HasAddedTold g.T.Told.ends c.args.self.now.sessions k.0 (drop (length before.entered) k.1) (g.T.Told.list c.args.told.now) (g.T.Told.list c.make_pass.new.told))
+    subst (λ (k : List (Entry _ _) × List ℕ). HasAddedTold g.T.Listener.ends c.args.self.now.sessions k.0 (drop (length before.entered) k.1) (g.T.Listener.list c.args.listener.now) (g.T.Listener.list c.make_pass.new.listener))
     (sym both) c.in-Some.ensures.told

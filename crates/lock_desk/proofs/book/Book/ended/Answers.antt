@@ -1,7 +1,7 @@
 use Rattle.std.proofs.Common.{ℕ, List, length, Contains, ◌∙◌, sym, ap, subst}
 use Rattle.lock_desk.specs.BookView.{BookView}
 use Rattle.lock_table.specs.declared.table.LockTable.{LockTable}
-use Rattle.lock_holders.specs.Ended.{is_ended, ended_in}
+use Rattle.lock_holders.specs.Woken.{is_ended, ended_in}
 use Rattle.lock_holders.proofs.EndedList.{waits_ended-within}
 use Rattle.lock_holders.proofs.FilteredNumbers.{among}
 use Rattle.lock_desk.proofs.book.Book.ended.Goals as goal

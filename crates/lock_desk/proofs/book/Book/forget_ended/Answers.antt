@@ -1,6 +1,6 @@
 use Rattle.std.proofs.Common.{refl, ap, ◌∙◌}
 use Rattle.lock_table.specs.declared.table.LockTable.{LockTable}
-use Rattle.lock_holders.specs.Ended.{ended_in}
+use Rattle.lock_holders.specs.Woken.{ended_in}
 use Rattle.lock_desk.proofs.BookInvariant.{behind, read_as, relisted-kept}
 use Rattle.lock_holders.proofs.EndedList.{none-in}
 use Rattle.lock_desk.proofs.book.Book.forget_ended.Goals as goal

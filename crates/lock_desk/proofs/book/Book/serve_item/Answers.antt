@@ -5,7 +5,7 @@ use Rattle.lock_rules.specs.Step.{step}
 use Rattle.lock_rules.specs.Legal.{state_of}
 use Rattle.lock_desk.specs.BookView.{BookView}
 use Rattle.lock_desk.specs.Batches.{Item}
-use Rattle.lock_holders.specs.Ended.{ended_in}
+use Rattle.lock_holders.specs.Woken.{ended_in}
 use Rattle.lock_desk.specs.inner.Served.{AreServed}
 use Rattle.lock_desk.proofs.Batches.{entry_of, with_reply, ended_also, waits_ended-also, served-next}
 use Rattle.lock_desk.proofs.BookInvariant.{behind, read_as, view-behind}

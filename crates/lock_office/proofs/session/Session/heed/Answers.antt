@@ -1,5 +1,5 @@
 use Rattle.std.proofs.Common.{◌≡◌, ◌∙◌, max, sym, ap}
-use Rattle.publication.specs.Kinds.{longer}
+use Rattle.publication.specs.StepKinds.{longer}
 use mathlib.Core.List.{IsPrefix}
 use Rattle.std.proofs.Common.{List, subst}
 use Rattle.lock_office.specs.ProgramBoards.{TicketView, ProgramEntry}

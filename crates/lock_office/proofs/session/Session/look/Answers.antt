@@ -1,4 +1,4 @@
-use Rattle.combining.specs.declared.calling.Next.{Next}
+use Rattle.combining.specs.declared.calling.CallOutcome.{CallOutcome}
 use Rattle.lock_office.specs.SingleCalls.{CallAnswer as Answer, IsAnswered}
 use Rattle.lock_office.proofs.Sessions.{pending-replies, pending-answered, read-next}
 use Rattle.lock_office.proofs.session.Session.look.Goals as goal

@@ -1,5 +1,5 @@
 use Rattle.std.proofs.Common.{◌≡◌, ◌∙◌, ℕ, Bool, false, subst, sym, refl}
-use Rattle.combining.specs.declared.office.perform.Performed.{Performed}
+use Rattle.combining.specs.declared.office.perform.TryOutcome.{TryOutcome}
 use Rattle.lock_office.specs.SingleCalls.{CallAnswer as Answer, IsPerformed}
 use Rattle.lock_office.proofs.Sessions.{performed-reply, read-performed}
 use Rattle.lock_office.proofs.session.Session.perform.Goals as goal
@@ -30,5 +30,5 @@ returns-in-Answered-clause-answered g c = λ answer served starved is.
 pub returns-in-Answered-clause-heard : goal.returns-in-Answered-clause-heard
 returns-in-Answered-clause-heard g c = λ answer served j unmet is some few.
     let unstarved : c.in-Answered.starved ≡ false = cc is in
-    let whole = subst (λ (b : Bool). c.perform_program.result ≡ Performed.Answered c.in-Answered.found c.in-Answered.served b) unstarved c.in-Answered.is in
+    let whole = subst (λ (b : Bool). c.perform_program.result ≡ TryOutcome.Answered c.in-Answered.found c.in-Answered.served b) unstarved c.in-Answered.is in
     c.perform_program.ensures.heard c.in-Answered.found c.in-Answered.served j unmet whole some few

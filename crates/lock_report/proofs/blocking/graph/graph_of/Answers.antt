@@ -1,7 +1,7 @@
 use Rattle.std.proofs.Common.{◌≡◌, ◌∙◌, ℕ, ◌+◌, List, ap, take}
 use Rattle.std.proofs.lemmas.List.{take_all}
 use Rattle.waits_for.specs.Pairs.{pairs_of}
-use Rattle.lock_report.specs.declared.snapshot.Wait.{Wait}
+use Rattle.lock_report.specs.declared.snapshot.WaitFor.{WaitFor}
 use Rattle.lock_report.specs.Jam.{does_wait}
 use Rattle.lock_report.proofs.Walks.{next-edge, some-waits}
 use Rattle.lock_report.proofs.blocking.graph.graph_of.Goals as goal
@@ -17,4 +17,4 @@ pub returns-clause-pairs : goal.returns-clause-pairs
 returns-clause-pairs c =
     let waits = c.args.waits.now in
     let all : take c.loop-wait.wait-index waits ≡ waits = take_all c.loop-wait.wait-index waits c.loop-wait-test.false in
-    record { pairs = λ a b. c.loop-wait.invariant.1 a b ∙ ap (λ (ws : List Wait). does_wait ws (a + 1) (b + 1)) all; some = some-waits c.args.sessions waits c.requires.within }
+    record { pairs = λ a b. c.loop-wait.invariant.1 a b ∙ ap (λ (ws : List WaitFor). does_wait ws (a + 1) (b + 1)) all; some = some-waits c.args.sessions waits c.requires.within }

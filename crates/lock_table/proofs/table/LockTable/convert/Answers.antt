@@ -10,11 +10,11 @@ use Rattle.lock_table.proofs.RowsOfTheTable.{ready-same, written-for}
 use Rattle.lock_table.proofs.EndedWaits.{list-none, list-own}
 use Rattle.lock_table.proofs.table.LockTable.convert.Goals as goal
 
-pub ask-requires-clause-written : goal.ask-requires-clause-written
-ask-requires-clause-written c = written-for c.args.self.now c.args.session c.args.resource c.requires.may_serve.whole c.requires.may_serve.ready c.requires.can.idle
+pub ask_cell-requires-clause-written : goal.ask_cell-requires-clause-written
+ask_cell-requires-clause-written c = written-for c.args.self.now c.args.session c.args.resource c.requires.may_serve.whole c.requires.may_serve.ready c.requires.can.idle
 
-pub ask-requires-clause-idle : goal.ask-requires-clause-idle
-ask-requires-clause-idle c = idle-there c.args.session c.args.resource c.args.self.now c.requires.may_serve.whole c.requires.can.idle
+pub ask_cell-requires-clause-idle : goal.ask_cell-requires-clause-idle
+ask_cell-requires-clause-idle c = idle-there c.args.session c.args.resource c.args.self.now c.requires.may_serve.whole c.requires.can.idle
 
 pub returns-in_err-status-clause-err : goal.returns-in_err-status-clause-err
 returns-in_err-status-clause-err c = on-err-from c.from_residual.result (there-same c.args.resource c.args.self.now _ refl refl refl c.in_err-status.ensures.err)

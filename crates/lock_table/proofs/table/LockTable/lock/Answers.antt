@@ -21,11 +21,11 @@ returns-in_err-make_room-clause-kept c =
       ready = ready-same c.args.self.now _ (room-same c.args.self.now c.args.session c.index_mut-locker.result.now c.make_room.new.self c.requires.may_serve.whole (within c.args.self.now c.args.session c.position_of-position.ensures c.requires.may_serve.session) c.index_mut-locker.ensures.value c.make_room.ensures.standing c.args.resource _ refl refl refl (became-same c.args.resource c.args.self.now.cells.entries c.requires.may_serve.whole.cells)) (search rules) refl c.requires.may_serve.ready;
     }
 
-pub ask-requires-clause-written : goal.ask-requires-clause-written
-ask-requires-clause-written c = written-for c.args.self.now c.args.session c.args.resource c.requires.may_serve.whole c.requires.may_serve.ready c.requires.can.idle
+pub ask_cell-requires-clause-written : goal.ask_cell-requires-clause-written
+ask_cell-requires-clause-written c = written-for c.args.self.now c.args.session c.args.resource c.requires.may_serve.whole c.requires.may_serve.ready c.requires.can.idle
 
-pub ask-requires-clause-idle : goal.ask-requires-clause-idle
-ask-requires-clause-idle c = idle-there c.args.session c.args.resource c.args.self.now c.requires.may_serve.whole c.requires.can.idle
+pub ask_cell-requires-clause-idle : goal.ask_cell-requires-clause-idle
+ask_cell-requires-clause-idle c = idle-there c.args.session c.args.resource c.args.self.now c.requires.may_serve.whole c.requires.can.idle
 
 pub returns-in_err-status-clause-err : goal.returns-in_err-status-clause-err
 returns-in_err-status-clause-err c =

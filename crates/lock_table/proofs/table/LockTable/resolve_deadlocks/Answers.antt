@@ -3,7 +3,7 @@ use Rattle.lock_rules.specs.Waits.{after_victims}
 use Rattle.waits_for.specs.Pairs.{pairs_of}
 use Rattle.waits_for.specs.Walks.{Reaches}
 use Rattle.waits_for.proofs.Walks.{reaches-trans}
-use Rattle.lock_table.specs.declared.waits.Waits.{Waits}
+use Rattle.lock_table.specs.declared.wait_graph.Waits.{Waits}
 use Rattle.lock_table.specs.inner.Blocking.{IsCurrent}
 use Rattle.lock_table.specs.Changes.{standings}
 use Rattle.lock_table.specs.Deadlocks.{moments_at}

@@ -1,6 +1,6 @@
 use Rattle.std.proofs.Common.{rules, true, false, refl, sym, arith}
 use Rattle.std.proofs.Math.Bool.{and-true}
-use Rattle.lock_holders.specs.Ended.{is_ended}
+use Rattle.lock_holders.specs.Woken.{is_ended}
 use Rattle.lock_table.proofs.EndedWaits.{list-but, shows-relisted, keeps-relisted}
 use Rattle.lock_table.proofs.table.LockTable.resolve_for.Goals as goal
 

@@ -23,8 +23,8 @@ returns-in-Some-convert_refusal-clause-step g c = λ st i j h.
     let none = first-none (idle_tests d s) (convert_tests d s c.args.resource c.args.mode) c.in_default.ensures in
     (refused-step d st s (Convert c.args.resource c.args.mode) c.in-Some-convert_refusal.why c.likely_converted-likely.ensures.kept.whole i (same-shown c.args.self.now d st c.likely_converted-likely.ensures.same h) (c.in-Some-convert_refusal.ensures ∙ sym none))
 
-pub ask-requires-clause-may : goal.ask-requires-clause-may
-ask-requires-clause-may g c =
+pub ask_lock-requires-clause-may : goal.ask_lock-requires-clause-may
+ask_lock-requires-clause-may g c =
     let d = c.likely_converted-likely.new.self in
     let s = c.args.session in
     convert-may d s c.args.resource c.args.mode c.likely_converted-likely.ensures.kept.whole (first-none (idle_tests d s) (convert_tests d s c.args.resource c.args.mode) c.in_default.ensures ∙ sym c.in_default-convert_refusal.ensures)
@@ -35,7 +35,7 @@ returns-clause-step g c = λ st i j h.
     let s = c.args.session in
     let shown = same-shown c.args.self.now d st c.likely_converted-likely.ensures.same h in
     let none = first-none (idle_tests d s) (convert_tests d s c.args.resource c.args.mode) c.in_default.ensures in
-    passed-steps d c.ask.new.self st s (Convert c.args.resource c.args.mode) c.ask.result c.likely_converted-likely.ensures.kept.whole i shown (c.in_default-convert_refusal.ensures ∙ sym none) (c.ask.ensures.ask st i j shown)
+    passed-steps d c.ask_lock.new.self st s (Convert c.args.resource c.args.mode) c.ask_lock.result c.likely_converted-likely.ensures.kept.whole i shown (c.in_default-convert_refusal.ensures ∙ sym none) (c.ask_lock.ensures.ask st i j shown)
 
 pub returns-in-Some-clause-noted : goal.returns-in-Some-clause-noted
 returns-in-Some-clause-noted g c = λ st i j h.
@@ -56,10 +56,10 @@ returns-clause-noted g c = λ st i j h.
     let s = c.args.session in
     let shown = same-shown c.args.self.now d st c.likely_converted-likely.ensures.same h in
     let none = first-none (idle_tests d s) (convert_tests d s c.args.resource c.args.mode) c.in_default.ensures in
-    passed-noted g.N.DeadlockNotes.noted d st s c.args.resource c.args.mode c.args.served c.args.notes.now c.ask.new.notes (Convert c.args.resource c.args.mode) c.ask.result c.likely_converted-likely.ensures.kept.whole i shown (c.in_default-convert_refusal.ensures ∙ sym none) (c.ask.ensures.noted st i j shown)
+    passed-noted g.N.DeadlockNotes.noted d st s c.args.resource c.args.mode c.args.served c.args.notes.now c.ask_lock.new.notes (Convert c.args.resource c.args.mode) c.ask_lock.result c.likely_converted-likely.ensures.kept.whole i shown (c.in_default-convert_refusal.ensures ∙ sym none) (c.ask_lock.ensures.noted st i j shown)
 
-pub ask-requires-clause-fits : goal.ask-requires-clause-fits
-ask-requires-clause-fits g c = subst (λ (n : ℕ). g.N.DeadlockNotes.fits n c.args.notes.now) (sym c.likely_converted-likely.ensures.kept.lockers) c.requires.fits
+pub ask_lock-requires-clause-fits : goal.ask_lock-requires-clause-fits
+ask_lock-requires-clause-fits g c = subst (λ (n : ℕ). g.N.DeadlockNotes.fits n c.args.notes.now) (sym c.likely_converted-likely.ensures.kept.lockers) c.requires.fits
 
 pub returns-clause-fits : goal.returns-clause-fits
-returns-clause-fits g c = subst (λ (n : ℕ). g.N.DeadlockNotes.fits n c.ask.new.notes) c.likely_converted-likely.ensures.kept.lockers c.ask.ensures.fits
+returns-clause-fits g c = subst (λ (n : ℕ). g.N.DeadlockNotes.fits n c.ask_lock.new.notes) c.likely_converted-likely.ensures.kept.lockers c.ask_lock.ensures.fits

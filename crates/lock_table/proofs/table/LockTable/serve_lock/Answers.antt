@@ -27,16 +27,16 @@ returns-in-Some-lock_refusal-clause-noted g c = λ st i j h. refused-then_noted 
 pub returns-in-Some-lock_refusal-clause-waits_ended : goal.returns-in-Some-lock_refusal-clause-waits_ended
 returns-in-Some-lock_refusal-clause-waits_ended g c = subst (HasNotedEnded c.args.session c.args.self.now) (sym c.find_or_insert_key-place.ensures.same) (waits_ended-none c.args.session c.args.self.now)
 
-pub ask-requires-clause-may : goal.ask-requires-clause-may
-ask-requires-clause-may g c =
+pub ask_lock-requires-clause-may : goal.ask_lock-requires-clause-may
+ask_lock-requires-clause-may g c =
     lock-may c.find_or_insert_key-place.new.self c.args.session c.args.resource c.args.mode (subst IsWhole (sym c.find_or_insert_key-place.ensures.same) c.requires.may_serve.whole)
     (sym (failing c.args.self.now c.find_or_insert_key-place.new.self c.find_or_insert_key-place.ensures.same c.args.session c.args.resource c.args.mode (Lock c.args.resource c.args.mode) (lock_tests c.find_or_insert_key-place.new.self c.args.session c.args.resource c.args.mode) refl c.requires.may_serve.whole c.in_default.ensures None c.in_default-lock_refusal.ensures))
 
 pub returns-clause-step : goal.returns-clause-step
-returns-clause-step g c = λ st i j h. passed-then c.args.self.now c.find_or_insert_key-place.new.self c.find_or_insert_key-place.ensures.same c.args.session c.args.resource c.args.mode (Lock c.args.resource c.args.mode) (lock_tests c.find_or_insert_key-place.new.self c.args.session c.args.resource c.args.mode) refl c.requires.may_serve.whole c.in_default.ensures st i h c.ask.result c.in_default-lock_refusal.ensures c.ask.new.self (c.ask.ensures.ask st i j)
+returns-clause-step g c = λ st i j h. passed-then c.args.self.now c.find_or_insert_key-place.new.self c.find_or_insert_key-place.ensures.same c.args.session c.args.resource c.args.mode (Lock c.args.resource c.args.mode) (lock_tests c.find_or_insert_key-place.new.self c.args.session c.args.resource c.args.mode) refl c.requires.may_serve.whole c.in_default.ensures st i h c.ask_lock.result c.in_default-lock_refusal.ensures c.ask_lock.new.self (c.ask_lock.ensures.ask st i j)
 
 pub returns-clause-noted : goal.returns-clause-noted
-returns-clause-noted g c = λ st i j h. passed-then_noted c.args.self.now c.find_or_insert_key-place.new.self c.find_or_insert_key-place.ensures.same c.args.session c.args.resource c.args.mode (Lock c.args.resource c.args.mode) (lock_tests c.find_or_insert_key-place.new.self c.args.session c.args.resource c.args.mode) refl c.requires.may_serve.whole c.in_default.ensures st i h c.ask.result c.in_default-lock_refusal.ensures g.N.DeadlockNotes.noted c.args.served c.args.notes.now c.ask.new.notes (c.ask.ensures.noted st i j)
+returns-clause-noted g c = λ st i j h. passed-then_noted c.args.self.now c.find_or_insert_key-place.new.self c.find_or_insert_key-place.ensures.same c.args.session c.args.resource c.args.mode (Lock c.args.resource c.args.mode) (lock_tests c.find_or_insert_key-place.new.self c.args.session c.args.resource c.args.mode) refl c.requires.may_serve.whole c.in_default.ensures st i h c.ask_lock.result c.in_default-lock_refusal.ensures g.N.DeadlockNotes.noted c.args.served c.args.notes.now c.ask_lock.new.notes (c.ask_lock.ensures.noted st i j)
 
 pub returns-clause-waits_ended : goal.returns-clause-waits_ended
-returns-clause-waits_ended g c = subst (λ (x : LockTable). HasNotedEnded c.args.session x c.ask.new.self) c.find_or_insert_key-place.ensures.same c.ask.ensures.waits_ended
+returns-clause-waits_ended g c = subst (λ (x : LockTable). HasNotedEnded c.args.session x c.ask_lock.new.self) c.find_or_insert_key-place.ensures.same c.ask_lock.ensures.waits_ended

@@ -1,6 +1,6 @@
 use Rattle.std.proofs.Common.{rules, ◌≡◌, ◌<◌, true, subst, sym}
 use Rattle.atomic_table.specs.Seated.{TableId}
-use Rattle.publication.specs.Kinds.{call_at}
+use Rattle.publication.specs.StepKinds.{call_at}
 use Rattle.publication.proofs.BetweenCalls.{answered-between}
 use Rattle.publication.proofs.board.Board.answer.Goals as goal
 

@@ -1,10 +1,11 @@
 use Rattle.std.proofs.Common.{rules, ◌≡◌, ◌+◌, ◌<◌, ℕ, Bool, true, false, length, get_or, refl, sym, subst, arith, length-set, get_or-set_same}
-use Rattle.publication.specs.Kinds.{Seated, enlisting, losing_head, heard_all}
+use Rattle.publication.specs.StepKinds.{Seated, enlisting, losing_head, heard_all}
 use Rattle.publication.specs.inner.Tickets.{IsBetweenCalls}
+use Rattle.publication.proofs.BetweenCalls.{still-between}
 use Rattle.publication.proofs.board.Board.exchange_head.Goals as goal
 
 module _ {O C R : Type 0} where
-  -- A try to have the call listed leaves the seat between two calls, whether or not the exchange of the head word is won.
+  -- A try to have the call listed leaves the seat between two calls, if the exchange of the head word is won.
   won : (m : Seated O C R) (number seen : ℕ) (has_object is_listed is_retired : Bool) → IsBetweenCalls m number seen has_object true is_listed is_retired
       → IsBetweenCalls (enlisting m.0, m.1) number seen has_object true true is_retired
   won m number seen has_object is_listed is_retired t =
@@ -35,31 +36,6 @@ module _ {O C R : Type 0} where
         carried = t.carried;
       }
 
-  lost : (m : Seated O C R) (number seen : ℕ) (has_object is_pending is_listed is_retired : Bool) → IsBetweenCalls m number seen has_object is_pending is_listed is_retired
-      → IsBetweenCalls (losing_head m.0, m.1) number seen has_object is_pending is_listed is_retired
-  lost m number seen has_object is_pending is_listed is_retired t = record {
-    number_is = t.number_is;
-    some_number = t.some_number;
-    seen_is = t.seen_is;
-    started = t.started;
-    retired = t.retired;
-    pending = t.pending;
-    object = t.object;
-    hand = t.hand;
-    listed = t.listed;
-    heard_few = t.heard_few;
-    heard = t.heard;
-    wide = t.wide;
-    all_made = t.all_made;
-    accounted = t.accounted;
-    no_head_seen = refl;
-    whole = t.whole;
-    routed = t.routed;
-    unknown = t.unknown;
-    sweeps = t.sweeps;
-    carried = t.carried;
-  }
-
 pub invariant_of-ticket : goal.invariant_of-ticket
 invariant_of-ticket g c =
     let a = c.ticket.inside in let t = c.ticket.invariant.settled in let r = c.enlist_record-ticket-inside.result in
@@ -73,6 +49,6 @@ invariant_of-ticket g c =
             (won a.seat.me a.number a.seen a.has_object a.is_listed a.is_retired (subst (λ (p : Bool). IsBetweenCalls a.seat.me a.number a.seen a.has_object p a.is_listed a.is_retired) waits t)))
         | false ↦ λ e. subst (λ (x : Seated _ _ _). IsBetweenCalls x a.number a.seen a.has_object a.is_pending false a.is_retired) (sym (c.enlist_record-ticket-inside.ensures.lost e).0)
             (subst (λ (l : Bool). IsBetweenCalls (losing_head a.seat.me.0, a.seat.me.1) a.number a.seen a.has_object a.is_pending l a.is_retired) unlisted
-            (lost a.seat.me a.number a.seen a.has_object a.is_pending a.is_listed a.is_retired t))
+            (still-between a.seat.me a.number a.seen a.seen a.has_object a.is_pending a.is_listed a.is_retired t a.seat.me.0.front a.seat.me.0.combiner (losing_head a.seat.me.0).listing a.seat.me.0.sleep t.seen_is t.accounted t.object t.hand refl t.whole t.routed t.sweeps))
       ]) refl;
     }

@@ -1,6 +1,6 @@
 use Rattle.std.proofs.Common.{rules, ◌≡◌, ◌||◌, ◌≤◌, ℕ, Bool, true, cond, max, get_or, sym, ap, ◌∙◌, subst, arith}
 use Rattle.publication.specs.Rule.{announced}
-use Rattle.publication.specs.Kinds.{Seated, maxes, longer}
+use Rattle.publication.specs.StepKinds.{Seated, maxes, longer}
 use Rattle.publication.proofs.RecordStates.{announced_both, announced_few}
 use Rattle.publication.specs.inner.Tickets.{IsBetweenCalls}
 use Rattle.publication.proofs.LongerFronts.{longer-length, maxes-at, maxes-wide}

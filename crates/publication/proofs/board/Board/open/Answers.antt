@@ -1,5 +1,5 @@
 use Rattle.std.proofs.Common.{rules, ◌≡◌, true, Some, None, IfSome, IfNone, Option, ℕ}
-use Rattle.publication.specs.Kinds.{Seated, opening, in_hand, Opened, HasEntered}
+use Rattle.publication.specs.StepKinds.{Seated, opening, in_hand, Opened, HasEntered}
 use Rattle.publication.proofs.BetweenCalls.{opened-between}
 use Rattle.publication.proofs.board.Board.open.Goals as goal
 

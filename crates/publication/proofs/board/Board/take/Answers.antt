@@ -1,7 +1,7 @@
 use Rattle.std.proofs.Common.{rules, inl, ◌≡◌, ◌∷◌, ℕ, List, [], Bool, true, false, cond, is_some, length-append, refl, sym, ap, ◌∙◌, subst, arith}
 use Rattle.atomic_table.specs.Table.{turned}
 use Rattle.publication.specs.Views.{answer}
-use Rattle.publication.specs.Kinds.{Seated, taking}
+use Rattle.publication.specs.StepKinds.{Seated, taking}
 use Rattle.publication.specs.inner.Tickets.{own_slot, object_slot, IsBetweenCalls}
 use Rattle.publication.specs.declared.slot.SlotValue.{SlotValue}
 use Rattle.publication.specs.declared.slot.SlotValue.TheVariants.{Empty}

@@ -1,4 +1,4 @@
-use Rattle.waits_for.proofs.BitRows.{no_bit-zeros}
+use Rattle.sequential.proofs.BitRows.{no_bit-zeros}
 use Rattle.waits_for.proofs.MarkBits.{marked-none}
 use Rattle.waits_for.proofs.marks.Marks.new.Goals as goal
 

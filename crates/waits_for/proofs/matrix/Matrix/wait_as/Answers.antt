@@ -5,7 +5,7 @@ use Rattle.std.proofs.lemmas.Nat.{row_fits}
 use Rattle.std.proofs.lemmas.List.{take_at}
 use Rattle.waits_for.specs.Pairs.{Pairs, pairs_of, seen_by}
 use Rattle.waits_for.specs.inner.Bits.{words_for, has_bit, marked_in, IsClearPast}
-use Rattle.waits_for.proofs.BitRows.{or-false}
+use Rattle.std.proofs.Math.Bool.{or-false}
 use Rattle.waits_for.proofs.Places.{pairs_of-unite, pairs_of-row, pairs_of-within, bit-more, past-more, seen-sessions}
 use Rattle.waits_for.proofs.matrix.Matrix.wait_as.Goals as goal
 
