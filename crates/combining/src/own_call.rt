@@ -88,7 +88,12 @@ fn make_rounds_if<O: Batching, T: Listener<O>>(
     ensures none { test ≡ false → (session.new ≡ session.old) × (load.new ≡ load.old) × (listener.new ≡ listener.old) }
 {
     if test {
-        return make_rounds(board, session, load, bound, listener);
+        if board.walk(session, None).is_some() {
+            return make_rounds(board, session, load, bound, listener);
+        }
+        // no record is listed, and the session has none of its own to serve: this is all that a round does then
+        load.passes = load.passes.saturating_add(1);
+        listener.add(&load.object, 0);
     }
     Pass {
         served: 0,
