@@ -1,7 +1,8 @@
 /* While one session makes a pass, which allocates, another makes a whole call or a program in so many turns, which are counted by the yields
-   behind them. The call is pending behind the last one, and its answer is there behind the pass. Link with
-   -Wl,--wrap=malloc,--wrap=sched_yield. */
+   behind them. The call is pending behind the last one, and its answer is there behind the pass. And a thread that has tried in vain
+   follows. Usage: embedding_turns [follows [SECONDS]], the last of these alone. Link with -Wl,--wrap=malloc,--wrap=sched_yield. */
 #include "open.h"
+#include <unistd.h>
 
 static long passed, failed, yields;
 static void (*meanwhile)(void);
@@ -90,9 +91,14 @@ static void finish_call(void) {
     CHECK(pelgaisti_session_perform(&sessions[1], &poll, 1, &answer) == PELGAISTI_OK && answer.place == 2);
 }
 
+static void close_all(void) {
+    pelgaisti_book book = PELGAISTI_EMPTY;
+    for (int k = 1; k < 3; k++) CHECK(pelgaisti_session_hand_in(&sessions[k], &sessions[0]) == PELGAISTI_OK);
+    CHECK(pelgaisti_office_close(&sessions[0], &book) == PELGAISTI_OK && pelgaisti_book_close(&book) == PELGAISTI_OK);
+}
+
 /* In a new office session 1 makes a pass, in which `work` runs. The call or program of session 2 is pending behind it. */
 static void in_a_pass(void (*work)(void), int is_published, int is_program) {
-    pelgaisti_book book = PELGAISTI_EMPTY;
     answer.place = 99;
     made.place = 99;
     CHECK(open_sessions(sessions, 3) == PELGAISTI_OK);
@@ -104,11 +110,65 @@ static void in_a_pass(void (*work)(void), int is_published, int is_program) {
     if (is_program) finish_program();
     else finish_call();
     CHECK(pelgaisti_session_collect(&sessions[0], &answer) == PELGAISTI_OK);
-    for (int k = 1; k < 3; k++) CHECK(pelgaisti_session_hand_in(&sessions[k], &sessions[0]) == PELGAISTI_OK);
-    CHECK(pelgaisti_office_close(&sessions[0], &book) == PELGAISTI_OK && pelgaisti_book_close(&book) == PELGAISTI_OK);
+    close_all();
 }
 
-int main(void) {
+static uint32_t woken;
+
+static void note_woken(void *engine, uint32_t session) { *(uint32_t *)engine = session; }
+
+/* So many times session 2 makes a call in so many turns beside a look. Session 1 serves it behind that. */
+static void call_in_vain(int times, uint64_t each, long yields_behind) {
+    pelgaisti_book view = PELGAISTI_EMPTY;
+    for (; times > 0; times--) {
+        look(&sessions[0], &view);
+        yields = 0;
+        CHECK(pelgaisti_session_perform(&sessions[1], &poll, each, &answer) == PELGAISTI_NOT_SERVED && yields == yields_behind);
+        end_look(&sessions[0], &view);
+        CHECK(pelgaisti_session_serve(&sessions[0], NULL) == PELGAISTI_OK && pelgaisti_session_collect(&sessions[1], &answer) == PELGAISTI_OK);
+    }
+}
+
+static uint64_t served_so_far(void) {
+    pelgaisti_pass_counts passes = {0, 0, 0};
+    pelgaisti_book view = PELGAISTI_EMPTY;
+    look(&sessions[0], &view);
+    CHECK(pelgaisti_book_passes(&view, &passes) == PELGAISTI_OK);
+    end_look(&sessions[0], &view);
+    return passes.served;
+}
+
+/* Session 2 makes a call, or with NULL the program, while nobody has the lock table. Whether it published that. */
+static int follows(const pelgaisti_call *call, uint64_t most) {
+    const uint64_t before = served_so_far();
+    CHECK((call ? pelgaisti_session_perform(&sessions[1], call, most, &answer)
+                : pelgaisti_session_run(&sessions[1], &program, most, &made)) == PELGAISTI_OK);
+    return served_so_far() > before;
+}
+
+/* Behind eight tries in vain a call of more than eight turns is published without a try. If nobody serves it, the ninth turn does, and wakes;
+   the next call is tried at once. Who follows makes no more turns than others. */
+static void threads_follow(void) {
+    static const pelgaisti_call commit = {PELGAISTI_COMMIT, 0, {0, {0}}}, lock = {PELGAISTI_LOCK, PELGAISTI_X, {1, {7}}};
+    static const pelgaisti_waker waker = {note_woken, &woken};
+    CHECK(open_office_with(sessions, 3, UINT64_MAX, &waker, 0) == PELGAISTI_OK && !follows(&begin, 9) && !follows(&lock, 9));
+    CHECK(pelgaisti_session_perform(&sessions[2], &begin, 9, &answer) == PELGAISTI_OK);
+    CHECK(pelgaisti_session_perform(&sessions[2], &lock, 9, &answer) == PELGAISTI_OK && answer.reply.kind == PELGAISTI_WAITING);
+    call_in_vain(12, 0, 0);
+    CHECK(!follows(&poll, 9));
+    call_in_vain(8, 1, 0);
+    CHECK(!follows(&poll, 8));
+    call_in_vain(1, 1, 0);
+    CHECK(woken == 0 && follows(&commit, 9) && answer.reply.kind == PELGAISTI_COMMITTED && woken == 3 && !follows(&poll, 9));
+    call_in_vain(24, 1, 0);
+    CHECK(follows(NULL, 9) && made.served == 2);
+    for (size_t k = 0; k < sizeof calls / sizeof *calls; k++) call_in_vain(24, 1, 0), call_in_vain(1, calls[k].turns, calls[k].yields);
+    close_all();
+}
+
+int main(int count, char **words) {
+    alarm(count > 2 ? (unsigned)atoi(words[2]) : 60);
+    threads_follow();
     for (size_t k = 0; k < sizeof calls / sizeof *calls; k++) {
         turns = calls[k].turns;
         wanted = calls[k].yields;

@@ -318,8 +318,9 @@ pelgaisti_status pelgaisti_book_serve(pelgaisti_book *book, uint32_t session, co
 pelgaisti_status pelgaisti_book_serve_batch(pelgaisti_book *book, pelgaisti_entry *calls, size_t length, size_t *count);
 
 /* Makes a call of an office's session, in at most `turns` turns: tries to perform it at once; then publishes it, serves at every eighth
-   turn, and looks for the answer. Between turns the thread pauses or yields, and behind 128 turns it sleeps until the lock table is
-   given back. With 0 turns the call is published and nothing else. With NULL for `call` goes on with the call that is pending. The
+   turn, and looks for the answer. Where such tries were often in vain, it doesn't try, if it may make more than eight turns. Between turns
+   the thread pauses or yields, and behind 128 turns it sleeps until the lock table is given back. With 0 turns the call is published and
+   nothing else. With NULL for `call` goes on with the call that is pending. The
    answer may be WAITING: the call waits for an answer, and not for a lock, as pelgaisti_session_wait does.
    -> NULL, CLOSED, NO_SUCH_OP, NO_SUCH_LEVEL, NO_SUCH_MODE, RETIRED, PENDING; with NULL for `call` NOTHING_PENDING; NOT_SERVED (no
       answer in so many turns), NO_MEMORY (refused, for the call or in a pass of this session): with both the call is pending */

@@ -46,10 +46,12 @@ static void *words_for(uint64_t mark) {
     return &words[mark % 1024];
 }
 
-static void *words_of(pelgaisti_session *session) {
+/* By a copy of the handle, whose note stays. */
+static void *words_of(const pelgaisti_session *session) {
+    pelgaisti_session own = *session, *copy = &own;
     uint64_t mark = 0, *at = &mark;
     uint32_t number;
-    pelgaisti_raw_session_mark(&session, &at, &number);
+    pelgaisti_raw_session_mark(&copy, &at, &number);
     return words_for(mark);
 }
 
@@ -71,11 +73,24 @@ static COLD pelgaisti_status end_use(void *handle, int order, uint32_t status) {
     return (pelgaisti_status)status;
 }
 
+#define ORDERED(handle, order, call) \
+    (IS_WATCHED ? (begin_use(handle, order), end_use(handle, order, call)) : (pelgaisti_status)(call))
+
 /* The status of a call of the archive that uses the handle, or COPIED. */
-#define ORDERING_CALL(handle, order, call) \
-    (is_astray(handle) ? PELGAISTI_COPIED \
-     : noting(handle, IS_WATCHED ? (begin_use(handle, order), end_use(handle, order, call)) : (pelgaisti_status)(call)))
+#define ORDERING_CALL(handle, order, call) (is_astray(handle) ? PELGAISTI_COPIED : noting(handle, ORDERED(handle, order, call)))
 #define CALL(handle, call) ORDERING_CALL(handle, ORDERS_NOTHING, call)
+
+/* Takes over what the archive left in a copy of the session's handle, if that is another value. */
+static inline pelgaisti_status put_back(pelgaisti_session *session, const pelgaisti_session *copy, pelgaisti_status status) {
+    if (copy->is_open_ != session->is_open_) session->is_open_ = copy->is_open_;
+    if (copy->at_ != session->at_) session->at_ = copy->at_;
+    return status;
+}
+
+/* The same by a copy of a session's handle, which isn't NULL. The archive writes a handle at the begin and the end of a call, and threads whose
+   handles lie on one cache line would take it from one another. */
+#define CALL_BY_COPY(session, copy, order, call) \
+    (is_astray(session) ? PELGAISTI_COPIED : (*(copy) = *(session), put_back(session, copy, ORDERED(session, order, call))))
 
 /* Notes the use of a further handle of a call. Whether it is astray. */
 static inline int use_too(void *handle) {
@@ -274,7 +289,8 @@ static const pelgaisti_waker *waker_of(pelgaisti_session *session) {
 }
 
 pelgaisti_status place_of(pelgaisti_session *session, uint64_t *mark, uint32_t *number) {
-    return CALL(session, pelgaisti_raw_session_mark(&session, &mark, number));
+    pelgaisti_session own, *copy = &own;
+    return session ? CALL_BY_COPY(session, copy, ORDERS_NOTHING, pelgaisti_raw_session_mark(&copy, &mark, number)) : PELGAISTI_NULL;
 }
 
 static uint64_t mark_of(pelgaisti_session *session) {
@@ -334,8 +350,7 @@ static inline pelgaisti_status behind_hold(pelgaisti_session *session, pelgaisti
 }
 
 /* The status of a call of the archive by which the session may have had the lock table. */
-#define ORDERING_HOLD(session, order, call) behind_hold(session, ORDERING_CALL(session, order, call))
-#define HOLDING(session, call) ORDERING_HOLD(session, ORDERS_NOTHING, call)
+#define HOLDING(session, call) behind_hold(session, CALL(session, call))
 
 /* Sleeps until another session's thread has ended the sleep. Returns at once if the lock table is free. The count of wake-ups is read
    before the look whether the sleep is ended: a wake-up behind the look changes it, and the thread doesn't sleep past it. */
@@ -379,72 +394,138 @@ pelgaisti_status pelgaisti_session_collect(pelgaisti_session *session, pelgaisti
     return WRITING(answer, ORDERING_CALL(session, ACQUIRES, pelgaisti_raw_session_collect(&session, &answer)));
 }
 
-/* A whole call, and what its last turn has written. It lies in memory, so that a call that is answered by its first turn saves no
-   registers. */
+/* A whole call or program, NULL to go on with what is pending, and what its last turn has written. It lies in memory, so that a call that is
+   answered by its first turn saves no registers. */
 struct whole_call {
     pelgaisti_session *session;
-    const pelgaisti_call *call;
+    union {
+        const pelgaisti_call *call;
+        const pelgaisti_program *program;
+    } asked;
+    union {
+        pelgaisti_answer *call;
+        pelgaisti_program_answer *program;
+    } answer;
     uint64_t turns;
-    pelgaisti_answer *answer;
     size_t told;
     uint32_t wait;
 };
 
-/* Makes one turn, behind `made` turns. */
-static inline __attribute__((always_inline)) pelgaisti_status make_turn(struct whole_call *it, uint64_t made) {
+/* Makes one turn, behind `made` turns of at most `turns`; or, if none is left, publishes what is asked. */
+typedef pelgaisti_status turn_maker(struct whole_call *it, uint64_t made, uint64_t turns);
+
+#define TURN(it, copy, order, call) behind_hold((it)->session, CALL_BY_COPY((it)->session, copy, order, call))
+
+static inline __attribute__((always_inline)) pelgaisti_status make_turn(struct whole_call *it, uint64_t made, uint64_t turns) {
+    pelgaisti_session own, *copy = &own;
     it->told = 0;
-    if (!it->call)
-        return ORDERING_HOLD(it->session, ACQUIRES,
-                             pelgaisti_raw_session_resume(&it->session, made, it->turns, &it->answer, &it->wait, &it->told));
-    return ORDERING_HOLD(it->session, RELEASES | ACQUIRES,
-                         pelgaisti_raw_session_turn(&it->session, &it->call, made, it->turns, &it->answer, &it->wait, &it->told));
+    if (!it->asked.call)
+        return TURN(it, copy, ACQUIRES, pelgaisti_raw_session_resume(&copy, made, turns, &it->answer.call, &it->wait, &it->told));
+    return TURN(it, copy, RELEASES | ACQUIRES,
+                pelgaisti_raw_session_turn(&copy, &it->asked.call, made, turns, &it->answer.call, &it->wait, &it->told));
 }
 
-/* Goes on behind the first turn, which had this status. */
-static COLD pelgaisti_status go_on(struct whole_call *it, pelgaisti_status status) {
-    uint64_t made;
-    for (made = 1;; made++) {
+static inline __attribute__((always_inline)) pelgaisti_status make_run_turn(struct whole_call *it, uint64_t made, uint64_t turns) {
+    pelgaisti_session own, *copy = &own;
+    it->told = 0;
+    if (!it->asked.program)
+        return TURN(it, copy, ACQUIRES, pelgaisti_raw_session_run_resume(&copy, made, turns, &it->answer.program, &it->wait, &it->told));
+    return TURN(it, copy, RELEASES | ACQUIRES,
+                pelgaisti_raw_session_run_turn(&copy, &it->asked.program, made, turns, &it->answer.program, &it->wait, &it->told));
+}
+
+/* ---- Following. Whoever gets the lock table fetches it into its own cache. So a thread whose tries are often in vain follows the others: it
+   publishes its calls without a try, and the thread that has the lock table serves them and keeps it. Figures:
+   bench/results/by_hand.md. ---- */
+
+/* The turns between two tries for the lock table, as the archive makes them; the processor's ticks before a follower's first look, which fit a
+   pass over a few calls, and before its other looks, of which the eighth tries. */
+enum { TURNS_BETWEEN_TRIES = 8, TICKS_BEFORE_LOOK = 6000, TICKS_BETWEEN_LOOKS = 1500 };
+
+/* What a try in vain adds to a thread's score; by what one that has the lock table brings it nearer to 0, where all is forgotten; and the score
+   from which on the thread follows. So it follows where more than a third of its tries are in vain. It tries anew behind so many calls; and
+   earlier if nobody has served one: then with such a score. */
+enum { IN_VAIN = 2, IN_TIME = 1, FOLLOWS = 16, CALLS_FOLLOWING = 512, NOT_SERVED_IN_TIME = -32 };
+
+/* The session of this thread that last tried in vain, its score, and the calls in which it has followed. */
+static _Thread_local __attribute__((tls_model("initial-exec"))) struct {
+    const pelgaisti_session *session;
+    int32_t score, followed;
+} contended;
+
+static void note_in_vain(const pelgaisti_session *session) {
+    if (contended.session != session) contended.score = contended.followed = 0;
+    contended.session = session;
+    if (contended.score < FOLLOWS) contended.score += IN_VAIN;
+}
+
+static void note_in_time(void) {
+    if (contended.score != 0) contended.score -= contended.score > 0 ? IN_TIME : -IN_TIME;
+    if (contended.score == 0) contended.session = NULL;
+}
+
+/* Goes on behind `made` turns, the last of which had this status. The first one of a call that may make any has tried for the lock table. */
+static COLD pelgaisti_status go_on(struct whole_call *it, pelgaisti_status status, uint64_t made, turn_maker *make) {
+    if (made == 1 && status == PELGAISTI_NOT_SERVED && it->turns > 0) note_in_vain(it->session);
+    for (;; made++) {
         if (it->told > 0) wake_told(it->session);
         if (status != PELGAISTI_NOT_SERVED || it->wait == 0) return status;
         wait_or_sleep(it->session, it->wait, made, it->turns);
-        status = make_turn(it, made);
+        status = make(it, made, it->turns);
     }
 }
+
+/* Makes the call of a session that follows. */
+static pelgaisti_status follow(struct whole_call *it, turn_maker *make) {
+    pelgaisti_status status = make(it, 0, 0);
+    uint64_t made;
+    for (made = 1; made <= TURNS_BETWEEN_TRIES && status == PELGAISTI_NOT_SERVED; made++) {
+        wait_for_ticks(made == 1 ? TICKS_BEFORE_LOOK : TICKS_BETWEEN_LOOKS);
+        status = make(it, made, it->turns);
+    }
+    contended.followed = (contended.followed + 1) % CALLS_FOLLOWING;
+    if (made > TURNS_BETWEEN_TRIES) contended.score = NOT_SERVED_IN_TIME;
+    else if (contended.followed == 0) contended.score = 0;
+    return go_on(it, status, made, make);
+}
+
+/* Makes the call of a session that has tried in vain. */
+static COLD pelgaisti_status make_contended(struct whole_call *it, turn_maker *make) {
+    pelgaisti_status status;
+    if (contended.score >= FOLLOWS && it->asked.call && it->turns > TURNS_BETWEEN_TRIES) return follow(it, make);
+    status = make(it, 0, it->turns);
+    if (status <= PELGAISTI_NO_MEMORY) note_in_time();
+    return go_on(it, status, 1, make);
+}
+
+#define IS_CONTENDED(it) __builtin_expect(contended.session == (it).session, 0)
 
 pelgaisti_status pelgaisti_session_perform(pelgaisti_session *session, const pelgaisti_call *call, uint64_t turns,
                                            pelgaisti_answer *answer) {
     struct whole_call it;
     pelgaisti_status status;
+    if (!session) return PELGAISTI_NULL;
     it.session = session;
-    it.call = call;
+    it.asked.call = call;
     it.turns = turns;
-    it.answer = answer;
-    status = make_turn(&it, 0);
-    return WRITING(answer, status == PELGAISTI_OK && it.told == 0 ? status : go_on(&it, status));
-}
-
-/* Makes one turn of the program, or with NULL of what is pending, behind `made` turns. */
-static pelgaisti_status run_turn(pelgaisti_session *session, const pelgaisti_program *program, uint64_t made, uint64_t turns,
-                                 pelgaisti_program_answer *answer, uint32_t *wait, size_t *told) {
-    if (!program)
-        return ORDERING_HOLD(session, ACQUIRES, pelgaisti_raw_session_run_resume(&session, made, turns, &answer, wait, told));
-    return ORDERING_HOLD(session, RELEASES | ACQUIRES,
-                         pelgaisti_raw_session_run_turn(&session, &program, made, turns, &answer, wait, told));
+    it.answer.call = answer;
+    if (IS_CONTENDED(it)) return WRITING(answer, make_contended(&it, make_turn));
+    status = make_turn(&it, 0, turns);
+    return WRITING(answer, status == PELGAISTI_OK && it.told == 0 ? status : go_on(&it, status, 1, make_turn));
 }
 
 pelgaisti_status pelgaisti_session_run(pelgaisti_session *session, const pelgaisti_program *program, uint64_t turns,
                                        pelgaisti_program_answer *answer) {
+    struct whole_call it;
     pelgaisti_status status;
-    uint64_t made;
-    uint32_t wait = 0;
-    size_t told;
-    for (made = 0;; made++) {
-        told = 0;
-        status = run_turn(session, program, made, turns, answer, &wait, &told);
-        if (told > 0) wake_told(session);
-        if (status != PELGAISTI_NOT_SERVED || wait == 0) return WRITING(answer, status);
-        wait_or_sleep(session, wait, made + 1, turns);
-    }
+    if (!session) return PELGAISTI_NULL;
+    it.session = session;
+    it.asked.program = program;
+    it.turns = turns;
+    it.answer.program = answer;
+    if (IS_CONTENDED(it)) return WRITING(answer, make_contended(&it, make_run_turn));
+    status = make_run_turn(&it, 0, turns);
+    return WRITING(answer, status == PELGAISTI_OK && it.told == 0 ? status : go_on(&it, status, 1, make_run_turn));
 }
 
 pelgaisti_status pelgaisti_session_take_history(pelgaisti_session *session, uint64_t *first, pelgaisti_entry *entries,

@@ -42,6 +42,14 @@ void wait_before_turn(uint32_t wait) {
     for (; wait > 0; wait--) __builtin_ia32_pause();
 }
 
+/* Pauses for so many ticks of the processor's clock; where that stands still, as many times. */
+void wait_for_ticks(uint32_t ticks) {
+    const uint64_t begun = __builtin_ia32_rdtsc();
+    uint32_t left = ticks;
+    do __builtin_ia32_pause();
+    while (--left > 0 && __builtin_ia32_rdtsc() - begun < ticks);
+}
+
 uint32_t sleepers;
 
 /* How many wake-ups were made for the session of the office with this mark. Its thread asks before it looks whether it has to sleep. */

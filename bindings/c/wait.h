@@ -10,6 +10,7 @@ extern uint32_t sleepers;
 
 uint64_t draw_mark(size_t sessions);
 void wait_before_turn(uint32_t wait);
+void wait_for_ticks(uint32_t ticks);
 uint32_t wake_ups_so_far(uint64_t mark, uint32_t session);
 int sleep_since(uint64_t mark, uint32_t session, uint32_t seen, const struct timespec *until);
 void wake_thread(uint64_t mark, uint32_t session);
