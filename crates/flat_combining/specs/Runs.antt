@@ -1,5 +1,5 @@
 -- The runs of a machine: the states that histories lead to, and the replies in them.
-use Rattle.std.specs.Prelude.{ℕ, List, [], ◌∷◌}
+use Rattle.std.specs.Prelude.{◌≡◌, ℕ, List, [], ◌∷◌}
 use Rattle.sequential.specs.declared.entry.Entry.{Entry}
 use Rattle.flat_combining.specs.declared.machine.Machine.{Ghosts}
 
@@ -16,3 +16,8 @@ module _ {S C R : Type 0} (machine : Ghosts S C R) where
   -- The reply to a call of a session behind a history.
   abbrev pub reply_behind : List (Entry C R) → ℕ → C → R
   reply_behind history session call = machine.reply (state_behind history) session call
+
+-- The first call of the history is this one.
+abbrev pub BeginsWith : {C R : Type 0} → C → List (Entry C R) → Type 0
+BeginsWith call [] = ⊥
+BeginsWith call (e ∷ es) = e.call ≡ call

@@ -4,6 +4,6 @@ mod bounded_queue;
 mod counter;
 mod ordered_map;
 
-pub use bounded_queue::{BoundedQueue, CAPACITY, QueueCall, QueueReply};
+pub use bounded_queue::{BoundedQueue, QueueCall, QueueReply};
 pub use counter::Counter;
 pub use ordered_map::{MapCall, MapReply, OrderedMap};

@@ -3,7 +3,7 @@
 //!
 //! Begin with `machine.rt`, the trait of a state machine, and `examples/bounded_queue.rt`, a machine whose meaning is in
 //! `specs/examples/Queues.antt`. `of.rt` makes an object of any machine, and `specs/Runs.antt` says what its histories are; `lawful.rt`
-//! has what holds of every state. `calling.rt` makes a call of an office of `combining`, and `threads.rt` the calls of many threads.
+//! has what holds of every state. `calling.rt` makes a call of an office of `combining`, `opening.rt` the first, and `threads.rt` the calls of many threads.
 #![tactic(auto)]
 
 mod calling;
@@ -12,6 +12,7 @@ mod lawful;
 pub mod laws;
 mod machine;
 mod of;
+mod opening;
 mod threads;
 
 pub use calling::{apply, finish};
@@ -19,4 +20,5 @@ pub use combining::{Office, Session};
 pub use lawful::Lawful;
 pub use machine::Machine;
 pub use of::{Of, Shared, machine_of, shared};
+pub use opening::begin;
 pub use threads::{Caller, run};

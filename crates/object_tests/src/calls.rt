@@ -2,12 +2,12 @@
 
 use crate::asking::{ask, ask_all, item};
 use flat_combining::examples::{
-    BoundedQueue, CAPACITY, Counter, MapCall, MapReply, OrderedMap, QueueCall, QueueReply,
+    BoundedQueue, Counter, MapCall, MapReply, OrderedMap, QueueCall, QueueReply,
 };
 use flat_combining::{Shared, machine_of, shared};
 use lock_desk::{Book, Call, Mode, Reply, Resource};
 use sequential::{Entry, Fresh, NO_BOUND, Sequential, Serving, Telling, Trimming, are_within};
-use std::alloc::{AllocError, Global};
+use std::alloc::Global;
 use std::process::Abort;
 use std::test::Fail;
 
@@ -42,16 +42,24 @@ fn counters_reply_with_the_sum_before(rt: HostRuntime) -> Result<(), Fail> {
 }
 
 /// A queue of two sessions, with the history of its calls.
-fn new_queue(alloc: Global) -> Result<Shared<BoundedQueue>, AllocError> {
-    let mut queue = shared(alloc, BoundedQueue::new(alloc)?, 2);
+fn new_queue(alloc: Global) -> Shared<BoundedQueue> {
+    let mut queue = shared(alloc, BoundedQueue::new(alloc), 2);
     queue.keep_at_most(NO_BOUND);
-    Ok(queue)
+    queue
 }
 
-/// Fills the queue: each item has room, up to `CAPACITY`, and one more hasn't. The first item comes out first.
+/// Fills the queue: each item has room, up to the number that was said first, and one more hasn't. The first item comes out first.
 fn want_queued(rt: &impl Abort, queue: &mut Shared<BoundedQueue>) {
     assert_eq!(rt; ask(queue, 1, QueueCall::Pop), Some(QueueReply::Empty));
-    for number in 0..CAPACITY as u64 {
+    assert_eq!(rt;
+        ask(queue, 1, QueueCall::Limit(64)),
+        Some(QueueReply::Limited)
+    );
+    assert_eq!(rt;
+        ask(queue, 2, QueueCall::Limit(99)),
+        Some(QueueReply::Limited)
+    );
+    for number in 0..64 {
         assert_eq!(rt;
             ask(queue, 2, QueueCall::Push(number)),
             Some(QueueReply::Pushed)
@@ -65,28 +73,28 @@ fn want_queued(rt: &impl Abort, queue: &mut Shared<BoundedQueue>) {
     assert_eq!(rt; second.reply, Some(QueueReply::Popped(1)));
 }
 
-/// The queue has served 68 calls. Its history is kept, let go and handed out.
+/// The queue has served 70 calls. Its history is kept, let go and handed out.
 fn want_kept(rt: &impl Abort, alloc: Global, queue: &mut Shared<BoundedQueue>) {
     assert_eq!(rt; queue.sessions(), 2);
-    assert_eq!(rt; queue.served(), 68);
+    assert_eq!(rt; queue.served(), 70);
     assert_eq!(rt; queue.kept_from(), 0);
-    assert_eq!(rt; queue.kept().len(), 68);
-    queue.keep_at_most(67);
+    assert_eq!(rt; queue.kept().len(), 70);
+    queue.keep_at_most(69);
     assert_eq!(rt; queue.kept_from(), 1);
-    assert_eq!(rt; queue.let_go(65), 65);
-    assert_eq!(rt; queue.kept_from(), 66);
+    assert_eq!(rt; queue.let_go(67), 67);
+    assert_eq!(rt; queue.kept_from(), 68);
     let last = entry(2, QueueCall::Pop, QueueReply::Popped(1));
     assert_eq!(rt; queue.kept().last().copied(), Some(last));
     let kept = queue.take_kept(alloc);
     assert_eq!(rt; kept.len(), 2);
-    assert_eq!(rt; queue.kept_from(), 68);
+    assert_eq!(rt; queue.kept_from(), 70);
     assert!(rt; !Shared::<BoundedQueue>::goes_first(&QueueCall::Pop));
 }
 
 /// An object that is given by one function keeps the history of its calls.
 #[test]
 fn queues_keep_the_history_of_their_calls(rt: HostRuntime) -> Result<(), Fail> {
-    let mut queue = new_queue(rt.alloc())?;
+    let mut queue = new_queue(rt.alloc());
     want_queued(&rt, &mut queue);
     want_kept(&rt, rt.alloc(), &mut queue);
     let _behind: &BoundedQueue = machine_of(&queue);

@@ -4,8 +4,10 @@ ghost use Rattle.std.specs.Prelude.{◌≡◌};
 
 use crate::asking::ask;
 use crate::choices::Chosen;
-use flat_combining::examples::{BoundedQueue, Counter, MapReply, OrderedMap, QueueReply};
-use flat_combining::{Caller, Machine, Shared, run, shared};
+use flat_combining::examples::{
+    BoundedQueue, Counter, MapCall, MapReply, OrderedMap, QueueCall, QueueReply,
+};
+use flat_combining::{Caller, Machine, Office, Shared, begin, run, shared};
 use sequential::{Entry, NO_BOUND, Sequential, Serving, Trimming};
 use std::alloc::{AllocError, Global};
 use std::process::Abort;
@@ -95,13 +97,14 @@ where
     }
 }
 
-/// Eight threads share the machine, which keeps the history of their calls. Each finds its calls in it with the replies that it got, and
-/// the fresh machine gives the same replies. Returns the object.
+/// Eight threads share the machine, which keeps the history of their calls, behind this first one. Each finds its calls in it with the
+/// replies that it got, and the fresh machine gives the same replies. Returns the object.
 fn want_one_history<R: Threads + Sync + Abort, M: Machine + Send>(
     rt: &R,
     alloc: Global,
     machine: M,
     fresh: M,
+    first: M::Call,
 ) -> Result<Shared<M>, AllocError>
 where
     M::Call: Chosen + Send + PartialEq,
@@ -111,10 +114,20 @@ where
 {
     let mut object = shared(alloc, machine, CALLERS);
     object.keep_at_most(NO_BOUND);
-    let (object, all) = run(rt, alloc, object, &|number: u16| no_notes(alloc, number))?;
-    assert!(rt; object.served() == u64::from(CALLERS) * CALLS);
+    let (office, mut sessions) = Office::share(alloc, object)?;
+    let Some(own) = sessions.pop() else {
+        panic!(rt; "an office has a session");
+    };
+    let sessions = begin(alloc, &office, own, sessions, first)?;
+    let start = |number: u16| no_notes(alloc, number);
+    let (object, all) = run(rt, alloc, office, sessions, &start)?;
+    assert!(rt; object.served() == u64::from(CALLERS) * CALLS + 1);
+    let Some((begun, made)) = object.kept().split_first() else {
+        panic!(rt; "a history has its first call");
+    };
+    assert!(rt; begun.call == first);
     for noted in &all {
-        want_noted(rt, object.kept(), noted);
+        want_noted(rt, made, noted);
     }
     want_replies(rt, &mut shared(alloc, fresh, CALLERS), object.kept());
     Ok(object)
@@ -133,7 +146,7 @@ fn has<C: Copy, Y: Copy + PartialEq>(history: &[Entry<C, Y>], reply: &Y) -> bool
 /// Eight threads add to one counter.
 #[test]
 fn eight_threads_add_to_one_counter(rt: HostRuntime) -> Result<(), Fail> {
-    let _counter = want_one_history(&rt, rt.alloc(), Counter::new(), Counter::new())?;
+    let _counter = want_one_history(&rt, rt.alloc(), Counter::new(), Counter::new(), 7)?;
     Ok(())
 }
 
@@ -143,8 +156,8 @@ fn eight_threads_add_to_one_counter(rt: HostRuntime) -> Result<(), Fail> {
 #[test]
 fn eight_threads_fill_and_empty_one_queue(rt: HostRuntime) -> Result<(), Fail> {
     let alloc = rt.alloc();
-    let machine = BoundedQueue::new(alloc)?;
-    let queue = want_one_history(&rt, alloc, machine, BoundedQueue::new(alloc)?)?;
+    let (queue, fresh) = (BoundedQueue::new(alloc), BoundedQueue::new(alloc));
+    let queue = want_one_history(&rt, alloc, queue, fresh, QueueCall::Limit(64))?;
     assert!(rt; has(queue.kept(), &QueueReply::Full) && has(queue.kept(), &QueueReply::Empty));
     Ok(())
 }
@@ -153,7 +166,8 @@ fn eight_threads_fill_and_empty_one_queue(rt: HostRuntime) -> Result<(), Fail> {
 #[test]
 fn eight_threads_share_one_map(rt: HostRuntime) -> Result<(), Fail> {
     let alloc = rt.alloc();
-    let map = want_one_history(&rt, alloc, OrderedMap::new(alloc), OrderedMap::new(alloc))?;
+    let (map, fresh) = (OrderedMap::new(alloc), OrderedMap::new(alloc));
+    let map = want_one_history(&rt, alloc, map, fresh, MapCall::First)?;
     assert!(rt; has(map.kept(), &MapReply::Absent));
     Ok(())
 }

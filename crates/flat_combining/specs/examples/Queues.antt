@@ -1,19 +1,24 @@
 -- What a bounded queue is.
-use Rattle.std.specs.Prelude.{ℕ, if◌then◌else◌, List, [], ◌∷◌, ◌++◌, length, nat_lt}
-use Rattle.flat_combining.specs.declared.examples.bounded_queue.TheConstants.{CAPACITY}
+use Rattle.std.specs.Prelude.{ℕ, if◌then◌else◌, ◌==◌, List, [], ◌∷◌, ◌++◌, length, drop, nat_lt}
 use Rattle.flat_combining.specs.declared.examples.bounded_queue.QueueCall.{QueueCall}
-use Rattle.flat_combining.specs.declared.examples.bounded_queue.QueueCall.TheVariants.{Push, Pop}
+use Rattle.flat_combining.specs.declared.examples.bounded_queue.QueueCall.TheVariants.{Limit, Push, Pop}
 use Rattle.flat_combining.specs.declared.examples.bounded_queue.QueueReply.{QueueReply}
-use Rattle.flat_combining.specs.declared.examples.bounded_queue.QueueReply.TheVariants.{Pushed, Full, Popped, Empty}
+use Rattle.flat_combining.specs.declared.examples.bounded_queue.QueueReply.TheVariants.{Limited, Pushed, Full, Popped, Empty}
 
--- The items after a call.
-abbrev pub items_after : List ℕ → QueueCall → List ℕ
-items_after items (Push item) = if nat_lt (length items) CAPACITY then items ++ item ∷ [] else items
-items_after [] Pop = []
-items_after (item ∷ items) Pop = items
+-- How many items the queue may have, 0 if nobody has said so, and its items, oldest first.
+pub record Queue : Type 0 where
+  pub capacity : ℕ
+  pub items : List ℕ
+
+-- The queue of this capacity and these items after a call.
+abbrev pub queue_after : ℕ → List ℕ → QueueCall → Queue
+queue_after capacity items (Limit most) = record { capacity = if capacity == 0 then most else capacity; items = items }
+queue_after capacity items (Push item) = record { capacity = capacity; items = if nat_lt (length items) capacity then items ++ item ∷ [] else items }
+queue_after capacity items Pop = record { capacity = capacity; items = drop 1 items }
 
 -- The reply to a call.
-abbrev pub reply_of : List ℕ → QueueCall → QueueReply
-reply_of items (Push item) = if nat_lt (length items) CAPACITY then Pushed else Full
-reply_of [] Pop = Empty
-reply_of (item ∷ items) Pop = Popped item
+abbrev pub reply_of : ℕ → List ℕ → QueueCall → QueueReply
+reply_of capacity items (Limit most) = Limited
+reply_of capacity items (Push item) = if nat_lt (length items) capacity then Pushed else Full
+reply_of capacity [] Pop = Empty
+reply_of capacity (item ∷ items) Pop = Popped item

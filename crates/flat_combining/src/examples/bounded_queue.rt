@@ -1,6 +1,6 @@
 //! A queue of bounded length, in the order of arrival.
 
-ghost use Rattle.std.specs.Prelude.{◌≡◌, [], IfOk};
+ghost use Rattle.std.specs.Prelude.{◌≡◌, []};
 
 use crate::lawful::Lawful;
 use crate::machine::Machine;
@@ -8,12 +8,11 @@ use std::alloc::{AllocError as NoMemory, Global};
 use std::collections::VecDeque;
 use std::marker::Model;
 
-/// The greatest number of items in the queue.
-pub const CAPACITY: usize = 64;
-
 /// What a session may call.
 #[derive(Clone, Copy, Debug, PartialEq, Eq)]
 pub enum QueueCall {
+    /// Have at most so many items, if nobody has said how many.
+    Limit(usize),
     /// Put an item behind the others.
     Push(u64),
     /// Take the first item.
@@ -23,6 +22,8 @@ pub enum QueueCall {
 /// What it gets back.
 #[derive(Clone, Copy, Debug, PartialEq, Eq)]
 pub enum QueueReply {
+    /// The queue has a capacity.
+    Limited,
     /// The item is in the queue.
     Pushed,
     /// The item isn't in the queue, which is full.
@@ -33,30 +34,32 @@ pub enum QueueReply {
     Empty,
 }
 
-/// A queue of at most `CAPACITY` items.
+/// A queue of a capacity that is known only at run time: the first call sets it.
 #[derive(Drop)]
 pub struct BoundedQueue {
+    /// The greatest number of items, 0 before it is set.
+    capacity: usize,
     /// The items, oldest first.
     items: VecDeque<u64, Global>,
 }
 
 impl Model for BoundedQueue {
-    ghost use Rattle.std.specs.Prelude.{ℕ, List};
+    ghost use Rattle.flat_combining.specs.examples.Queues.{Queue};
 
-    ghost Value = { List ℕ };
+    ghost Value = { Queue };
 
     ghost use Rattle.flat_combining.specs.declared.examples.bounded_queue.BoundedQueue.TheInside.{Inside};
 
-    ghost view = { λ (queue : Inside). queue.items.items };
+    ghost view = { λ (queue : Inside). record { capacity = queue.capacity; items = queue.items.items } };
 }
 
 impl BoundedQueue {
-    /// A queue with no items. Fails with `NoMemory` if memory is refused.
-    pub fn new(alloc: Global) -> Result<BoundedQueue, NoMemory>
-        ensures { IfOk result (λ queue. queue ≡ []) }
+    /// A queue with no items, and no capacity.
+    pub fn new(alloc: Global) -> BoundedQueue
+        ensures { result ≡ record { capacity = 0; items = [] } }
     {
-        let items = VecDeque::with_capacity(alloc, CAPACITY)?;
-        Ok(BoundedQueue { items })
+        let items = VecDeque::new(alloc);
+        BoundedQueue { capacity: 0, items }
     }
 }
 
@@ -65,21 +68,27 @@ impl Machine for BoundedQueue {
 
     type Reply = QueueReply;
 
-    ghost use Rattle.flat_combining.specs.examples.Queues.{items_after, reply_of};
+    ghost use Rattle.flat_combining.specs.examples.Queues.{queue_after, reply_of};
     ghost use Rattle.flat_combining.specs.declared.examples.bounded_queue.QueueCall.TheVariants.{Pop};
 
-    ghost initial = { [] };
+    ghost initial = { record { capacity = 0; items = [] } };
 
-    ghost after = { λ items _ call. items_after items call };
+    ghost after = { λ queue _ call. queue_after queue.capacity queue.items call };
 
-    ghost reply = { λ items _ call. reply_of items call };
+    ghost reply = { λ queue _ call. reply_of queue.capacity queue.items call };
 
     ghost any_call = { Pop };
 
     fn step(&mut self, _session: u16, call: QueueCall) -> Result<QueueReply, NoMemory> {
         match call {
+            QueueCall::Limit(most) => {
+                if self.capacity == 0 {
+                    self.capacity = most;
+                }
+                Ok(QueueReply::Limited)
+            }
             QueueCall::Push(item) => {
-                if self.items.len() >= CAPACITY {
+                if self.items.len() >= self.capacity {
                     return Ok(QueueReply::Full);
                 }
                 self.items.push_back(item)?;
@@ -96,13 +105,12 @@ impl Machine for BoundedQueue {
 }
 
 impl Lawful for BoundedQueue {
-    ghost use Rattle.std.specs.Prelude.{◌≤◌, length, List, ℕ};
-    ghost use Rattle.flat_combining.specs.declared.examples.bounded_queue.TheConstants.{CAPACITY};
+    ghost use Rattle.std.specs.Prelude.{◌≤◌, length};
     ghost use Rattle.flat_combining.specs.examples.QueueLaws.{empty_is_short, stays_short};
 
-    ghost holds = { λ items. length items ≤ CAPACITY };
+    ghost holds = { λ queue. length queue.items ≤ queue.capacity };
 
     ghost initially = { empty_is_short };
 
-    ghost kept = { λ items _ call. stays_short items call };
+    ghost kept = { λ queue _ call. stays_short queue.capacity queue.items call };
 }
