@@ -121,9 +121,9 @@ DEAREST = [
 # What a thread alone does through the library for C: what it is, what checks/instructions.c does, the function of which the
 # instructions are counted, how often it is called, how many calls it makes each time, the most instructions of one.
 THROUGH_C = [
-    ("locks are granted by a pass of an office", "locks", "pass_of_locks", 200, 32, 1410),
-    ("a call is performed at once", "performs", "perform_transaction", 2000, 3, 1140),
-    ("a call is performed at once in an office with a waker", "wakes", "perform_transaction", 2000, 3, 1140),
+    ("locks are granted by a pass of an office", "locks", "pass_of_locks", 200, 32, 1250),
+    ("a call is performed at once", "performs", "perform_transaction", 2000, 3, 870),
+    ("a call is performed at once in an office with a waker", "wakes", "perform_transaction", 2000, 3, 870),
 ]
 
 # Dear calls through the library for C: what it is, what checks/dear_calls.c does, how many calls or items it counts as, the most
@@ -135,13 +135,13 @@ DEAR_THROUGH_C = [
     ("a pass that serves 63 commits of 4,096 locks, for each lock", "commits", 63 * 4096, 280),
     ("a commit before 1,023 readers", "readers", 1, 375_000),
     ("a withdrawal from the front of a queue of 1,023", "withdraw", 1, 32_000),
-    ("a poll of 4,096, of which 1,024 are kept", "history", 4096, 360),
+    ("a poll of 4,096, of which 1,024 are kept", "history", 4096, 310),
     ("a shrink of 8,192 idle cells, for each", "idle", 8192, 22),
 ]
 
 # A transfer of seven calls: by single calls and by two programs of an office, each with how a book is called for the same, and a bound.
 # What an office takes beyond the book is its hand-over: that of programs is bounded by so much of that of calls.
-TRANSFERS = ("calls", "served", 9800), ("programs", "ran", 7900)
+TRANSFERS = ("calls", "served", 7800), ("programs", "ran", 6300)
 MOST_OF_CALLS = 0.3
 
 
