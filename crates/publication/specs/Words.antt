@@ -1,4 +1,4 @@
--- The board's atomic words: where each word lies in the table, and what its values mean. Kinds.antt has who changes which word.
+-- The board's atomic words: where each word lies in the table, and what its values mean. StepKinds.antt has who changes which word.
 use Rattle.std.specs.Prelude.{ℕ, ◌+◌, ◌*◌, ◌/◌}
 
 -- The index of the lock word (number 0) or of the state word of session `number`'s record. One record takes eight
