@@ -1,135 +1,8 @@
 /* The functions that pelgaisti.h declares. Each tells ThreadSanitizer of the call and MemorySanitizer what it has written, and gives the
    export of the proved crate the addresses of its pointers: the export tests them for NULL and does the rest. Nothing here is proved. */
-#include "pelgaisti_raw.h"
+#include "handles.h"
 #include "seed.h"
 #include "wait.h"
-
-/* ---- Where handles lie: an open one has a note of its own address, by which a copy of it, or one that moved, is told. ---- */
-
-/* Addresses with the same note are a multiple of 32 GiB apart. */
-static inline uint32_t note_of(const void *handle) { return (uint32_t)((uintptr_t)handle >> 3); }
-
-/* By the first word of a handle: 1 means open, and 2 a book that is the view of a look. */
-static inline int is_in_use(const uint32_t *words) { return words[0] - 1 < 2; }
-
-/* Whether a handle, of a book or of a session, is open and isn't where it was opened. */
-static inline int is_astray(const void *handle) {
-    const uint32_t *words = (const uint32_t *)handle;
-    return __builtin_expect(words && words[1] != note_of(handle) && is_in_use(words), 0);
-}
-
-/* Writes the note of an open handle, behind each call of the archive, which knows of none and may leave anything there. */
-static inline pelgaisti_status noting(void *handle, pelgaisti_status status) {
-    uint32_t *words = (uint32_t *)handle;
-    if (words && is_in_use(words)) words[1] = note_of(handle);
-    return status;
-}
-
-/* ---- ThreadSanitizer, which can't see the steps of the archive. A program that is built with it has these functions. ---- */
-
-__attribute__((weak)) void __tsan_acquire(void *at);
-__attribute__((weak)) void __tsan_release(void *at);
-__attribute__((weak)) void __tsan_write8(void *at);
-__attribute__((weak)) void AnnotateIgnoreReadsBegin(const char *file, int line);
-__attribute__((weak)) void AnnotateIgnoreReadsEnd(const char *file, int line);
-
-#define COLD __attribute__((cold, noinline))
-#define IS_WATCHED __builtin_expect(__tsan_acquire != NULL, 0)
-
-/* What a call of a session orders: behind a call that acquires, and returns OK, a thread sees what others wrote before their calls that
-   release. */
-enum { ORDERS_NOTHING = 0, RELEASES = 1, ACQUIRES = 2 };
-
-/* What stands for the words of the office with this mark: an address. Nothing is written there. */
-static void *words_for(uint64_t mark) {
-    static uint64_t words[1024];
-    return &words[mark % 1024];
-}
-
-/* By a copy of the handle, whose note stays. */
-static void *words_of(const pelgaisti_session *session) {
-    pelgaisti_session own = *session, *copy = &own;
-    uint64_t mark = 0, *at = &mark;
-    uint32_t number;
-    pelgaisti_raw_session_mark(&copy, &at, &number);
-    return words_for(mark);
-}
-
-/* A call uses the handle, unless it is NULL: two threads that use it without an order between them race. */
-static COLD void note_use(void *handle) {
-    if (handle) __tsan_write8(handle);
-}
-
-/* What the archive does between these two, such as to free what another thread has allocated, is ordered by the archive. */
-static COLD void begin_use(void *handle, int order) {
-    note_use(handle);
-    AnnotateIgnoreReadsBegin("pelgaisti", 0);
-    if (handle && (order & RELEASES)) __tsan_release(words_of(handle));
-}
-
-static COLD pelgaisti_status end_use(void *handle, int order, uint32_t status) {
-    if ((order & ACQUIRES) && status == PELGAISTI_OK) __tsan_acquire(words_of(handle));
-    AnnotateIgnoreReadsEnd("pelgaisti", 0);
-    return (pelgaisti_status)status;
-}
-
-#define ORDERED(handle, order, call) \
-    (IS_WATCHED ? (begin_use(handle, order), end_use(handle, order, call)) : (pelgaisti_status)(call))
-
-/* The status of a call of the archive that uses the handle, or COPIED. */
-#define ORDERING_CALL(handle, order, call) (is_astray(handle) ? PELGAISTI_COPIED : noting(handle, ORDERED(handle, order, call)))
-#define CALL(handle, call) ORDERING_CALL(handle, ORDERS_NOTHING, call)
-
-/* Takes over what the archive left in a copy of the session's handle, if that is another value. */
-static inline pelgaisti_status put_back(pelgaisti_session *session, const pelgaisti_session *copy, pelgaisti_status status) {
-    if (copy->is_open_ != session->is_open_) session->is_open_ = copy->is_open_;
-    if (copy->at_ != session->at_) session->at_ = copy->at_;
-    return status;
-}
-
-/* The same by a copy of a session's handle, which isn't NULL. The archive writes a handle at the begin and the end of a call, and threads whose
-   handles lie on one cache line would take it from one another. */
-#define CALL_BY_COPY(session, copy, order, call) \
-    (is_astray(session) ? PELGAISTI_COPIED : (*(copy) = *(session), put_back(session, copy, ORDERED(session, order, call))))
-
-/* Notes the use of a further handle of a call. Whether it is astray. */
-static inline int use_too(void *handle) {
-    if (IS_WATCHED) note_use(handle);
-    return is_astray(handle);
-}
-
-/* ---- MemorySanitizer, which can't see what the archive writes. A program that is built with it has this function. ---- */
-
-__attribute__((weak)) void __msan_unpoison(const volatile void *at, size_t size);
-
-#define IS_MARKED __builtin_expect(__msan_unpoison != NULL, 0)
-
-static COLD void note_written(void *at, size_t size) {
-    if (at) __msan_unpoison(at, size);
-}
-
-static COLD void note_listed(void *list, size_t size, size_t room, size_t *count) {
-    note_written(count, sizeof *count);
-    note_written(list, size * (*count < room ? *count : room));
-}
-
-/* The status of a call that has written so much there, if it returns OK or NO_MEMORY. */
-static inline pelgaisti_status writing(pelgaisti_status status, void *at, size_t size) {
-    if (IS_MARKED && status <= PELGAISTI_NO_MEMORY) note_written(at, size);
-    return status;
-}
-
-/* The status of a call that then has written the first elements of an array, and to `count` how many there are in all. */
-static inline pelgaisti_status listing(pelgaisti_status status, void *list, size_t size, size_t room, size_t *count) {
-    if (IS_MARKED && status <= PELGAISTI_NO_MEMORY) note_listed(list, size, room, count);
-    return status;
-}
-
-#define WRITING(at, call) writing(call, at, sizeof *(at))
-#define LISTING(list, room, count, call) listing(call, list, sizeof *(list), room, count)
-
-/* What an export is given for an array of the caller's: where it is, and how many elements it has room for. */
-#define LIST(at, room) (&(pelgaisti_raw_list){(at), (room)})
 
 /* ---- Functions without a handle. ---- */
 
@@ -293,7 +166,7 @@ pelgaisti_status place_of(pelgaisti_session *session, uint64_t *mark, uint32_t *
     return session ? CALL_BY_COPY(session, copy, ORDERS_NOTHING, pelgaisti_raw_session_mark(&copy, &mark, number)) : PELGAISTI_NULL;
 }
 
-static uint64_t mark_of(pelgaisti_session *session) {
+uint64_t mark_of(pelgaisti_session *session) {
     uint64_t mark = 0;
     uint32_t number;
     place_of(session, &mark, &number);
@@ -312,66 +185,11 @@ static COLD void wake_all(pelgaisti_session *session, const uint32_t *list, size
 }
 
 /* Wakes the sessions that the session's last pass has told of. */
-static COLD void wake_told(pelgaisti_session *session) {
+COLD void wake_told(pelgaisti_session *session) {
     uint32_t list[PELGAISTI_MAX_SESSIONS];
     size_t count = 0;
     CALL(session, pelgaisti_raw_session_told(&session, 0, list, PELGAISTI_MAX_SESSIONS, &count));
     wake_all(session, list, count);
-}
-
-/* ---- Sleep: a session that has waited for long in a whole call sleeps, and whoever had the lock table wakes it. The archive says who may
-   sleep, and whom to wake. ---- */
-
-/* The turns that a whole call makes before its thread sleeps, and the turns between two sleeps: the first of them tries for the lock
-   table. */
-enum { TURNS_AWAKE = 128, TURNS_BETWEEN_SLEEPS = 8 };
-
-/* Ends the sleeps of all sessions of the office, and wakes their threads. */
-static COLD void rouse_all(pelgaisti_session *session) {
-    uint32_t list[PELGAISTI_MAX_SESSIONS];
-    uint64_t mark;
-    size_t k, count = 0;
-    CALL(session, pelgaisti_raw_session_rouse(&session, list, PELGAISTI_MAX_SESSIONS, &count));
-    if (count == 0) return;
-    mark = mark_of(session);
-    for (k = 0; k < count; k++) wake_thread(mark, list[k]);
-}
-
-/* Wakes who sleeps, behind a call by which the session may have had the lock table: so each turn of a whole call, and the end of a look. A
-   thread is among the sleepers before its sleep begins, and looks whether the lock table is free behind that. So if there are none here,
-   whoever is one later finds the lock table as this session has left it, or taken by another session, which comes here too. */
-static inline void wake_sleepers(pelgaisti_session *session) {
-    if (__builtin_expect(__atomic_load_n(&sleepers, __ATOMIC_SEQ_CST) > 0, 0)) rouse_all(session);
-}
-
-static inline pelgaisti_status behind_hold(pelgaisti_session *session, pelgaisti_status status) {
-    wake_sleepers(session);
-    return status;
-}
-
-/* The status of a call of the archive by which the session may have had the lock table. */
-#define HOLDING(session, call) behind_hold(session, CALL(session, call))
-
-/* Sleeps until another session's thread has ended the sleep. Returns at once if the lock table is free. The count of wake-ups is read
-   before the look whether the sleep is ended: a wake-up behind the look changes it, and the thread doesn't sleep past it. */
-static COLD void sleep_until_roused(pelgaisti_session *session) {
-    const uint64_t mark = mark_of(session);
-    uint32_t number = 0, may_sleep = 0, is_roused = 0, seen;
-    __atomic_add_fetch(&sleepers, 1, __ATOMIC_SEQ_CST);
-    CALL(session, pelgaisti_raw_session_begin_sleep(&session, &number, &may_sleep));
-    while (may_sleep && !is_roused) {
-        seen = wake_ups_so_far(mark, number);
-        CALL(session, pelgaisti_raw_session_is_roused(&session, &is_roused));
-        if (!is_roused) sleep_since(mark, number, seen, NULL);
-    }
-    __atomic_sub_fetch(&sleepers, 1, __ATOMIC_SEQ_CST);
-}
-
-/* What comes between two turns, behind `made` turns of at most `turns`, the last of which said so: a wait, or a sleep. Behind the last turn
-   no call sleeps. */
-static void wait_or_sleep(pelgaisti_session *session, uint32_t wait, uint64_t made, uint64_t turns) {
-    if (made >= TURNS_AWAKE && made < turns && made % TURNS_BETWEEN_SLEEPS == 0) sleep_until_roused(session);
-    else wait_before_turn(wait);
 }
 
 /* ---- Sessions. ---- */
@@ -381,157 +199,8 @@ pelgaisti_status pelgaisti_session_publish(pelgaisti_session *session, const pel
     return WRITING(at, ORDERING_CALL(session, RELEASES, pelgaisti_raw_session_publish(&session, &call, &at)));
 }
 
-pelgaisti_status pelgaisti_session_serve(pelgaisti_session *session, pelgaisti_pass *pass) {
-    pelgaisti_pass unread, *made = pass ? pass : &unread;
-    pelgaisti_status status;
-    size_t told = 0;
-    status = HOLDING(session, pelgaisti_raw_session_serve(&session, &made, &told));
-    if (told > 0) wake_told(session);
-    return WRITING(made, status);
-}
-
 pelgaisti_status pelgaisti_session_collect(pelgaisti_session *session, pelgaisti_answer *answer) {
     return WRITING(answer, ORDERING_CALL(session, ACQUIRES, pelgaisti_raw_session_collect(&session, &answer)));
-}
-
-/* A whole call or program, NULL to go on with what is pending, and what its last turn has written. It lies in memory, so that a call that is
-   answered by its first turn saves no registers. */
-struct whole_call {
-    pelgaisti_session *session;
-    union {
-        const pelgaisti_call *call;
-        const pelgaisti_program *program;
-    } asked;
-    union {
-        pelgaisti_answer *call;
-        pelgaisti_program_answer *program;
-    } answer;
-    uint64_t turns;
-    size_t told;
-    uint32_t wait;
-};
-
-/* Makes one turn, behind `made` turns of at most `turns`; or, if none is left, publishes what is asked. */
-typedef pelgaisti_status turn_maker(struct whole_call *it, uint64_t made, uint64_t turns);
-
-#define TURN(it, copy, order, call) behind_hold((it)->session, CALL_BY_COPY((it)->session, copy, order, call))
-
-static inline __attribute__((always_inline)) pelgaisti_status make_turn(struct whole_call *it, uint64_t made, uint64_t turns) {
-    pelgaisti_session own, *copy = &own;
-    it->told = 0;
-    if (!it->asked.call)
-        return TURN(it, copy, ACQUIRES, pelgaisti_raw_session_resume(&copy, made, turns, &it->answer.call, &it->wait, &it->told));
-    return TURN(it, copy, RELEASES | ACQUIRES,
-                pelgaisti_raw_session_turn(&copy, &it->asked.call, made, turns, &it->answer.call, &it->wait, &it->told));
-}
-
-static inline __attribute__((always_inline)) pelgaisti_status make_run_turn(struct whole_call *it, uint64_t made, uint64_t turns) {
-    pelgaisti_session own, *copy = &own;
-    it->told = 0;
-    if (!it->asked.program)
-        return TURN(it, copy, ACQUIRES, pelgaisti_raw_session_run_resume(&copy, made, turns, &it->answer.program, &it->wait, &it->told));
-    return TURN(it, copy, RELEASES | ACQUIRES,
-                pelgaisti_raw_session_run_turn(&copy, &it->asked.program, made, turns, &it->answer.program, &it->wait, &it->told));
-}
-
-/* ---- Following. Whoever gets the lock table fetches it into its own cache. So a thread whose tries are often in vain follows the others: it
-   publishes its calls without a try, and the thread that has the lock table serves them and keeps it. Figures:
-   bench/results/by_hand.md. ---- */
-
-/* The turns between two tries for the lock table, as the archive makes them; the processor's ticks before a follower's first look, which fit a
-   pass over a few calls, and before its other looks, of which the eighth tries. */
-enum { TURNS_BETWEEN_TRIES = 8, TICKS_BEFORE_LOOK = 6000, TICKS_BETWEEN_LOOKS = 1500 };
-
-/* What a try in vain adds to a thread's score; by what one that has the lock table brings it nearer to 0, where all is forgotten; and the score
-   from which on the thread follows. So it follows where more than a third of its tries are in vain. It tries anew behind so many calls; and
-   earlier if nobody has served one: then with such a score. */
-enum { IN_VAIN = 2, IN_TIME = 1, FOLLOWS = 16, CALLS_FOLLOWING = 512, NOT_SERVED_IN_TIME = -32 };
-
-/* The session of this thread that last tried in vain, its score, and the calls in which it has followed. */
-static _Thread_local __attribute__((tls_model("initial-exec"))) struct {
-    const pelgaisti_session *session;
-    int32_t score, followed;
-} contended;
-
-static void note_in_vain(const pelgaisti_session *session) {
-    if (contended.session != session) contended.score = contended.followed = 0;
-    contended.session = session;
-    if (contended.score < FOLLOWS) contended.score += IN_VAIN;
-}
-
-static void note_in_time(void) {
-    if (contended.score != 0) contended.score -= contended.score > 0 ? IN_TIME : -IN_TIME;
-    if (contended.score == 0) contended.session = NULL;
-}
-
-/* Goes on behind `made` turns, the last of which had this status. The first one of a call that may make any has tried for the lock table. */
-static COLD pelgaisti_status go_on(struct whole_call *it, pelgaisti_status status, uint64_t made, turn_maker *make) {
-    if (made == 1 && status == PELGAISTI_NOT_SERVED && it->turns > 0) note_in_vain(it->session);
-    for (;; made++) {
-        if (it->told > 0) wake_told(it->session);
-        if (status != PELGAISTI_NOT_SERVED || it->wait == 0) return status;
-        wait_or_sleep(it->session, it->wait, made, it->turns);
-        status = make(it, made, it->turns);
-    }
-}
-
-/* Makes the call of a session that follows. */
-static pelgaisti_status follow(struct whole_call *it, turn_maker *make) {
-    pelgaisti_status status = make(it, 0, 0);
-    uint64_t made;
-    for (made = 1; made <= TURNS_BETWEEN_TRIES && status == PELGAISTI_NOT_SERVED; made++) {
-        wait_for_ticks(made == 1 ? TICKS_BEFORE_LOOK : TICKS_BETWEEN_LOOKS);
-        status = make(it, made, it->turns);
-    }
-    contended.followed = (contended.followed + 1) % CALLS_FOLLOWING;
-    if (made > TURNS_BETWEEN_TRIES) contended.score = NOT_SERVED_IN_TIME;
-    else if (contended.followed == 0) contended.score = 0;
-    return go_on(it, status, made, make);
-}
-
-/* Makes the call of a session that has tried in vain. */
-static COLD pelgaisti_status make_contended(struct whole_call *it, turn_maker *make) {
-    pelgaisti_status status;
-    if (contended.score >= FOLLOWS && it->asked.call && it->turns > TURNS_BETWEEN_TRIES) return follow(it, make);
-    status = make(it, 0, it->turns);
-    if (status <= PELGAISTI_NO_MEMORY) note_in_time();
-    return go_on(it, status, 1, make);
-}
-
-#define IS_CONTENDED(it) __builtin_expect(contended.session == (it).session, 0)
-
-pelgaisti_status pelgaisti_session_perform(pelgaisti_session *session, const pelgaisti_call *call, uint64_t turns,
-                                           pelgaisti_answer *answer) {
-    struct whole_call it;
-    pelgaisti_status status;
-    if (!session) return PELGAISTI_NULL;
-    it.session = session;
-    it.asked.call = call;
-    it.turns = turns;
-    it.answer.call = answer;
-    if (IS_CONTENDED(it)) return WRITING(answer, make_contended(&it, make_turn));
-    status = make_turn(&it, 0, turns);
-    return WRITING(answer, status == PELGAISTI_OK && it.told == 0 ? status : go_on(&it, status, 1, make_turn));
-}
-
-pelgaisti_status pelgaisti_session_run(pelgaisti_session *session, const pelgaisti_program *program, uint64_t turns,
-                                       pelgaisti_program_answer *answer) {
-    struct whole_call it;
-    pelgaisti_status status;
-    if (!session) return PELGAISTI_NULL;
-    it.session = session;
-    it.asked.program = program;
-    it.turns = turns;
-    it.answer.program = answer;
-    if (IS_CONTENDED(it)) return WRITING(answer, make_contended(&it, make_run_turn));
-    status = make_run_turn(&it, 0, turns);
-    return WRITING(answer, status == PELGAISTI_OK && it.told == 0 ? status : go_on(&it, status, 1, make_run_turn));
-}
-
-pelgaisti_status pelgaisti_session_take_history(pelgaisti_session *session, uint64_t *first, pelgaisti_entry *entries,
-                                                size_t room, size_t *count) {
-    return WRITING(first, LISTING(entries, room, count,
-                   HOLDING(session, pelgaisti_raw_session_take_history(&session, &first, LIST(entries, room), &count))));
 }
 
 pelgaisti_status pelgaisti_session_bound_passes(pelgaisti_session *session, uint32_t calls, uint32_t locks, uint32_t rounds) {
@@ -549,35 +218,6 @@ pelgaisti_status pelgaisti_session_mark(pelgaisti_session *session, uint64_t *ma
 
 pelgaisti_status pelgaisti_session_retire(pelgaisti_session *session) {
     return CALL(session, pelgaisti_raw_session_retire(&session));
-}
-
-/* ---- Looks. A view and its session change places: while the one is open, the other is closed. ---- */
-
-/* For ThreadSanitizer it notes in the closed handle of the session of which office it is. */
-static COLD pelgaisti_status acquire_look(pelgaisti_session *session, uint64_t mark, pelgaisti_status status) {
-    if (status != PELGAISTI_OK) return status;
-    __tsan_acquire(words_for(mark));
-    session->note_ = (uint32_t)mark;
-    return status;
-}
-
-pelgaisti_status pelgaisti_session_look(pelgaisti_session *session, pelgaisti_book *view) {
-    const uint64_t mark = IS_WATCHED && session ? mark_of(session) : 0;
-    pelgaisti_status status;
-    uint64_t made;
-    if (use_too(view)) return PELGAISTI_COPIED;
-    for (made = 1;; made++) {
-        status = CALL(session, pelgaisti_raw_session_look(&session, &view));
-        if (status != PELGAISTI_ELSEWHERE) break;
-        wait_or_sleep(session, made < 8 ? 1u << made : UINT32_MAX, made, UINT64_MAX);
-    }
-    return noting(view, IS_WATCHED ? acquire_look(session, mark, status) : status);
-}
-
-pelgaisti_status pelgaisti_look_end(pelgaisti_session *session, pelgaisti_book *view) {
-    if (use_too(view)) return PELGAISTI_COPIED;
-    if (IS_WATCHED && session) __tsan_release(words_for(session->note_));
-    return HOLDING(session, pelgaisti_raw_look_end(&session, &view));
 }
 
 /* ---- Calls that use two handles. ---- */

@@ -1,11 +1,10 @@
-/* What Rattle can't do for C: to pause and yield, to put threads to sleep and wake them, to call a function of the engine's, to count
+/* What Rattle can't do for C: to put threads to sleep and wake them, to call a function of the engine's, to count
    openings for the whole process. Nothing here is proved. */
 #define _GNU_SOURCE
 #include "wait.h"
 #include <errno.h>
 #include <limits.h>
 #include <linux/futex.h>
-#include <sched.h>
 #include <stddef.h>
 #include <sys/syscall.h>
 #include <unistd.h>
@@ -32,25 +31,6 @@ uint64_t draw_mark(size_t sessions) {
     const uint64_t most = sessions > 0 && sessions <= PELGAISTI_MAX_SESSIONS ? sessions : 1;
     return ((uint64_t)(uintptr_t)lines << 17) + __atomic_fetch_add(&drawn, most, __ATOMIC_RELAXED);
 }
-
-/* Waits as pelgaisti_raw_session_turn says: yields the processor for UINT32_MAX, else makes so many pause instructions. */
-void wait_before_turn(uint32_t wait) {
-    if (wait == UINT32_MAX) {
-        sched_yield();
-        return;
-    }
-    for (; wait > 0; wait--) __builtin_ia32_pause();
-}
-
-/* Pauses for so many ticks of the processor's clock; where that stands still, as many times. */
-void wait_for_ticks(uint32_t ticks) {
-    const uint64_t begun = __builtin_ia32_rdtsc();
-    uint32_t left = ticks;
-    do __builtin_ia32_pause();
-    while (--left > 0 && __builtin_ia32_rdtsc() - begun < ticks);
-}
-
-uint32_t sleepers;
 
 /* How many wake-ups were made for the session of the office with this mark. Its thread asks before it looks whether it has to sleep. */
 uint32_t wake_ups_so_far(uint64_t mark, uint32_t session) {

@@ -32,7 +32,7 @@ build_over_gate() {
 # pelgaisti.h declares are the only global ones.
 link_object() {
     local file objects=()
-    for file in calls deadlock_text dump lock names programs seed wait; do
+    for file in calls deadlock_text dump lock names programs seed turns wait; do
         $compiler $strict "$2" -I"$top/include" -c "$top/bindings/c/$file.c" -o "$work/$file.o" || return 1
         objects+=("$work/$file.o")
     done
