@@ -150,6 +150,7 @@ pelgaisti_status pelgaisti_office_open(pelgaisti_session *sessions, const pelgai
     for (k = 1; sessions && k < count && count <= PELGAISTI_MAX_SESSIONS; k++)
         if (use_too(&sessions[k])) return PELGAISTI_COPIED;
     status = CALL(sessions, pelgaisti_raw_office_open(LIST(sessions, count), draw_mark(count), &own));
+    note_opening();
     for (k = 1; k < count && status == PELGAISTI_OK; k++) noting(&sessions[k], status);
     return status;
 }

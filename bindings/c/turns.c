@@ -43,7 +43,7 @@ enum {
     MORE = 17, FEWER = 14,
     /* The slices, if there are several: four threads, which serve one another's calls, outdo one; two don't. Beyond MOST_SLICES all begin
        without a slice. */
-    LEAST_SLICES = 4, MOST_SLICES = 7, ALL_BEGIN = 0,
+    LEAST_SLICES = 4, MOST_SLICES = 7, ALL_BEGIN = 1 << 20,
     /* One call of so many is measured, with the time to the next one: a number that no pattern of calls has. A thread that slept, or had no
        processor, counts for MOST_SAMPLE at most. What was measured counts half after MEASURED; before LEAST_MEASURED all begin. */
     CALLS_PER_SAMPLE = 13, MOST_SAMPLE = 200 * US, MEASURED = 2000 * US, LEAST_MEASURED = MEASURED / 32,
@@ -72,12 +72,12 @@ struct slice {
     uint32_t is_passed, is_quiet;
 };
 
-/* A thread that waits: the slice that it was given; whether it was called up, and on which processor. It lies on its thread's stack, so
+/* A thread that waits: the slice that it was given; whether its call is published; whether it was called up, and on which processor. It lies on its thread's stack, so
    whoever is being called up waits until it has been. */
 struct waiter {
     struct waiter *next;
     struct slice *slice;
-    uint32_t is_called, processor;
+    uint32_t is_published, is_called, processor;
 };
 
 struct queue {
@@ -98,8 +98,9 @@ static struct admission {
     struct slice slice[MOST_SLICES + 1]; /* the last one is everybody's: it has no time, and nobody has it */
 } admissions[64];
 
-/* How many threads of the process wait asleep for the table, how many want a table itself, and how many of an office may wait awake. */
-static uint32_t sleepers, wanted, most_awake;
+/* How many threads of the process wait asleep for the table, how many want a table itself, how many of an office may wait awake, and how many
+   offices were opened: what a thread knows of a handle is of one opening. */
+static uint32_t sleepers, wanted, most_awake, openings;
 
 /* What this thread knows: the session of its last begin, or of its last try in vain; the slice that it has or had. Of the measured call: how many
    calls until it, when it began, and how long it took. Its score, and the calls in which it has followed. */
@@ -109,6 +110,7 @@ static _Thread_local __attribute__((tls_model("initial-exec"))) struct {
     struct admission *admission;
     struct slice *slice;
     uint64_t number, began, took;
+    uint32_t openings, index;
     int32_t until_sample, score, followed;
 } mine;
 
@@ -134,17 +136,13 @@ static void lock(struct admission *a) {
 
 static void unlock(struct admission *a) { __atomic_store_n(&a->lock, 0, __ATOMIC_RELEASE); }
 
-static void put_first(struct queue *q, struct waiter *it) {
-    it->next = q->first;
-    if (!q->first) q->last = &it->next;
-    q->first = it;
-}
-
-static void put_last(struct queue *q, struct waiter *it) {
-    if (!q->first) q->last = &q->first;
-    it->next = NULL;
-    *q->last = it;
-    q->last = &it->next;
+/* Who has published comes before who hasn't: an answer may be there. */
+static void put(struct queue *q, struct waiter *it) {
+    struct waiter **at = q->first && !it->is_published ? q->last : &q->first;
+    while (*at && (*at)->is_published) at = &(*at)->next;
+    it->next = *at;
+    *at = it;
+    if (!it->next) q->last = &it->next;
 }
 
 static struct waiter *take_first(struct queue *q) {
@@ -186,20 +184,22 @@ static void wait_until_called(struct waiter *self) {
     while (!is_called(self)) sleep_until_called(self, UINT64_MAX);
 }
 
-/* A child process has one thread, and nobody whom it could wait for. */
-static void forget_others(void) {
+/* Nobody waits: when the library is loaded, and in a child process, which has one thread. */
+static void forget_all(void) {
+    uint32_t k;
     memset(admissions, 0, sizeof admissions);
-    WRITE(sleepers, 0);
-    WRITE(wanted, 0);
+    for (k = 0; k < sizeof admissions / sizeof *admissions; k++) admissions[k].slices = ALL_BEGIN;
+    sleepers = wanted = 0;
     mine.session = NULL;
+    mine.admission = NULL;
 }
 
-/* When the library is loaded. */
 __attribute__((constructor)) static void prepare(void) {
     cpu_set_t processors;
     const int count = sched_getaffinity(0, sizeof processors, &processors) == 0 ? CPU_COUNT(&processors) : MOST_AWAKE;
     most_awake = count < LEAST_AWAKE ? LEAST_AWAKE : count < MOST_AWAKE ? (uint32_t)count : MOST_AWAKE;
-    pthread_atfork(NULL, NULL, forget_others);
+    forget_all();
+    pthread_atfork(NULL, NULL, forget_all);
 }
 
 /* ---- Slices. ---- */
@@ -241,6 +241,7 @@ static void sample_next_instead(void) {
 /* Takes the slice. Under the lock, as the next three. */
 static void take_slice(struct admission *a, struct slice *it) {
     mine.slice = it;
+    mine.index = (uint32_t)(it - a->slice);
     mine.number = ++a->given;
     if (it == &a->slice[MOST_SLICES]) return;
     WRITE(it->end, NOW() + time_of_slice(a));
@@ -280,7 +281,7 @@ static struct waiter *give_slice(struct admission *a, struct slice *slice) {
 /* Waits until the thread is given a slice; under the lock, which it opens meanwhile. Whoever came last watches, and so is called up last. */
 static void wait_in_line(struct admission *a, struct waiter *self) {
     struct waiter *next;
-    put_last(&a->for_slice, self);
+    put(&a->for_slice, self);
     WRITE(a->waiting, a->waiting + 1);
     a->watcher = self;
     while (!self->slice) {
@@ -299,7 +300,7 @@ static void wait_in_line(struct admission *a, struct waiter *self) {
 /* Waits until the thread may begin. Whoever comes up calls up the next one, if there is a further slice. If it comes up on the processor of
    who called it up, that one goes first: it is on its way to sleep. */
 static void wait_for_slice(struct admission *a) {
-    struct waiter self = {NULL, NULL, 0, 0}, *next;
+    struct waiter self = {NULL, NULL, 0, 0, 0}, *next;
     lock(a);
     self.slice = a->for_slice.first ? NULL : slice_to_have(a);
     if (!self.slice) wait_in_line(a, &self);
@@ -317,7 +318,7 @@ static COLD int pass_slice(int waits) {
     struct waiter *next = NULL;
     int is_surplus, goes_on;
     lock(a);
-    is_surplus = mine.slice - a->slice >= (ptrdiff_t)READ(a->slices); /* also if all begin */
+    is_surplus = mine.index >= READ(a->slices);
     goes_on = !waits && !is_surplus;
     if (mine.slice->number == mine.number) {
         if (!is_surplus && !mine.slice->is_passed) next = give_slice(a, mine.slice);
@@ -329,7 +330,11 @@ static COLD int pass_slice(int waits) {
     return goes_on;
 }
 
-static int is_mine(const pelgaisti_session *session) { return mine.session == session && mine.at == session->at_; }
+static int is_mine(const pelgaisti_session *session) {
+    return mine.session == session && mine.at == session->at_ && mine.openings == READ(openings);
+}
+
+void note_opening(void) { __atomic_add_fetch(&openings, 1, __ATOMIC_RELAXED); }
 
 /* What the session's office waits by; NULL if the handle isn't open. */
 static struct admission *admission_of(pelgaisti_session *session) {
@@ -353,16 +358,19 @@ static struct admission *know(pelgaisti_session *session) {
     }
     mine.session = session;
     mine.at = session->at_;
+    mine.openings = READ(openings);
     mine.score = mine.followed = 0;
     return a;
 }
 
-/* Before a begin of a thread that has no slice for this session, or whose slice is over. */
+/* Whether the time of the thread's slice is over, somebody waits for one, and nobody was called up yet to have it next. */
+static int is_over(void) { return READ(mine.admission->waiting) > 0 && !READ(mine.slice->is_passed) && NOW() >= READ(mine.slice->end); }
+
+/* Before a begin of a thread that has no slice for this session, or none that may go on. */
 static COLD void wait_to_begin(pelgaisti_session *session) {
-    const int had = is_mine(session) && has_slice();
     struct admission *a = know(session);
-    if (!a || (had && pass_slice(0)) || (!had && has_slice()) || READ(a->slices) == ALL_BEGIN) return;
-    wait_for_slice(a);
+    if (!a || READ(a->slices) == ALL_BEGIN) return;
+    if (!has_slice() || ((mine.index >= READ(a->slices) || is_over()) && !pass_slice(0))) wait_for_slice(a);
 }
 
 /* ---- Waiting for the table. ---- */
@@ -391,13 +399,13 @@ static void sleep_in_line(struct admission *a, struct waiter *self) {
 
 /* Waits until the thread may wait awake. Returns whether it slept. */
 static int come_in(struct admission *a) {
-    struct waiter self = {NULL, NULL, 0, 0};
+    struct waiter self = {NULL, NULL, 0, 0, 0};
     int has_room;
     lock(a);
     has_room = a->awake < most_awake;
     if (has_room) WRITE(a->awake, a->awake + 1);
     else {
-        put_last(&a->for_table, &self);
+        put(&a->for_table, &self);
         __atomic_add_fetch(&sleepers, 1, __ATOMIC_SEQ_CST);
     }
     unlock(a);
@@ -467,12 +475,12 @@ static void pause_before_turn(uint64_t made) {
 /* Sleeps until the thread is called up, in front of those that have published nothing, and tries again; but if a last try before that is not
    in vain, it goes on at once. */
 static pelgaisti_status sleep_published(struct whole_call *it, struct admission *a, turn_maker *make) {
-    struct waiter self = {NULL, NULL, 0, 0};
+    struct waiter self = {NULL, NULL, 1, 0, 0};
     pelgaisti_status status;
     int is_in_line;
     lock(a);
     WRITE(a->awake, a->awake - 1);
-    put_first(&a->for_table, &self);
+    put(&a->for_table, &self);
     __atomic_add_fetch(&sleepers, 1, __ATOMIC_SEQ_CST);
     unlock(a);
     status = make(it, 1);
@@ -586,8 +594,7 @@ static inline void before_call(pelgaisti_session *session, int begins) {
     if (SELDOM(READ(wanted) > 0)) stand_back(session);
     if (has && SELDOM(READ(mine.slice->is_quiet))) WRITE(mine.slice->is_quiet, 0);
     if (begins) {
-        if (has ? SELDOM(READ(mine.admission->waiting) > 0) && !READ(mine.slice->is_passed) && NOW() >= READ(mine.slice->end)
-                : !is_known || READ(mine.admission->slices) != ALL_BEGIN)
+        if (!is_known || (has ? SELDOM(mine.index >= READ(mine.admission->slices) || is_over()) : READ(mine.admission->slices) != ALL_BEGIN))
             wait_to_begin(session);
     }
     if (SELDOM(mine.until_sample == 1)) mine.began = NOW();
@@ -691,7 +698,7 @@ pelgaisti_status pelgaisti_session_serve(pelgaisti_session *session, pelgaisti_p
    long looks, too. */
 static COLD pelgaisti_status want(struct whole_call *it, turn_maker *make, uint64_t most) {
     struct admission *a = admission_of(it->session);
-    struct waiter nobody = {NULL, NULL, 0, 0};
+    struct waiter nobody = {NULL, NULL, 0, 0, 0};
     const uint64_t begun = NOW();
     pelgaisti_status status;
     uint64_t made = 1;

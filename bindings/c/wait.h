@@ -14,6 +14,8 @@ void wake_each(const pelgaisti_waker *waker, uint64_t mark, const uint32_t *list
 /* Writes the mark of the session's office, and the session's number. NULL, CLOSED, COPIED: nothing is written. */
 pelgaisti_status place_of(pelgaisti_session *session, uint64_t *mark, uint32_t *number);
 uint64_t mark_of(pelgaisti_session *session);
+/* An office was opened. */
+void note_opening(void);
 /* Wakes the sessions that the session's last pass has told of. */
 void wake_told(pelgaisti_session *session);
 
