@@ -463,9 +463,10 @@ struct whole_call {
     int is_published;
 };
 
-/* Makes one turn of what is asked: tries for the table first, or doesn't. A call that isn't published is published by a turn that doesn't try,
-   which makes no look. */
-typedef pelgaisti_status turn_maker(struct whole_call *it, int tries);
+/* Makes one turn of what is asked: tries for the table first, or only looks for the answer, or does neither. A call that isn't published is
+   published by a turn that only looks. */
+enum { LOOKS_ONLY = 0, TRIES = 1, DOES_NEITHER = 2 };
+typedef pelgaisti_status turn_maker(struct whole_call *it, int how);
 
 static void pause_before_turn(uint64_t made) {
     if (made % TURNS_PER_YIELD == 0) sched_yield();
@@ -483,10 +484,10 @@ static pelgaisti_status sleep_published(struct whole_call *it, struct admission 
     put(&a->for_table, &self);
     __atomic_add_fetch(&sleepers, 1, __ATOMIC_SEQ_CST);
     unlock(a);
-    status = make(it, 1);
+    status = make(it, TRIES);
     if (status == PELGAISTI_NOT_SERVED) {
         sleep_in_line(a, &self);
-        return make(it, 1);
+        return make(it, TRIES);
     }
     lock(a);
     is_in_line = take_out(&a->for_table, &self);
@@ -509,14 +510,14 @@ static void wake_outside(struct whole_call *it, struct admission *a) {
 /* Makes turns until the call is answered or none is left; behind `made` of them, the last of which had this status. If no turn is left, the
    call is published. Without an admission the thread doesn't sleep. */
 static pelgaisti_status make_turns(struct whole_call *it, struct admission *a, pelgaisti_status status, uint64_t made, turn_maker *make) {
-    if (status == PELGAISTI_NOT_SERVED && !it->is_published) status = make(it, 0);
+    if (status == PELGAISTI_NOT_SERVED && !it->is_published) status = make(it, LOOKS_ONLY);
     for (; status == PELGAISTI_NOT_SERVED && made < it->turns; made++) {
         if (it->told > 0) wake_outside(it, a);
         if (a && made >= TURNS_AWAKE && made % TURNS_PER_SLEEP == 0) {
             status = sleep_published(it, a, make);
         } else {
             pause_before_turn(made);
-            status = make(it, made % TURNS_PER_TRY == 1);
+            status = make(it, made % TURNS_PER_TRY == 1 ? TRIES : LOOKS_ONLY);
         }
     }
     return status;
@@ -539,7 +540,7 @@ static COLD pelgaisti_status go_on(struct whole_call *it, pelgaisti_status statu
         a = know(it->session);
         note_in_vain();
         if (it->turns <= MOST_TURNS_AWAKE) a = NULL;
-        if (a && come_in(a)) status = make(it, 1);
+        if (a && come_in(a)) status = make(it, TRIES);
     }
     status = make_turns(it, a, status, 1, make);
     if (a) leave(a);
@@ -554,10 +555,10 @@ static pelgaisti_status follow(struct whole_call *it, turn_maker *make) {
     uint64_t made;
     sample_next_instead();
     if (a) come_in(a);
-    status = make(it, 0);
+    status = make(it, LOOKS_ONLY);
     for (made = 1; made <= TURNS_PER_TRY && status == PELGAISTI_NOT_SERVED; made++) {
         pause_for(made == 1 ? TICKS_BEFORE_LOOK : TICKS_BETWEEN_LOOKS);
-        status = make(it, made == TURNS_PER_TRY);
+        status = make(it, made == TURNS_PER_TRY ? TRIES : LOOKS_ONLY);
     }
     mine.followed = (mine.followed + 1) % CALLS_FOLLOWING;
     if (made > TURNS_PER_TRY) mine.score = NOT_SERVED_IN_TIME;
@@ -568,11 +569,14 @@ static pelgaisti_status follow(struct whole_call *it, turn_maker *make) {
     return status;
 }
 
+/* What the first turn does, or with no turn what is done in its place. */
+static inline int first_of(const struct whole_call *it) { return it->turns > 0 ? TRIES : it->is_published ? DOES_NEITHER : LOOKS_ONLY; }
+
 /* Makes the call of a session that has tried in vain. */
 static COLD pelgaisti_status make_contended(struct whole_call *it, turn_maker *make) {
     pelgaisti_status status;
     if (mine.score >= FOLLOWS && !it->is_published && it->turns > TURNS_PER_TRY) return follow(it, make);
-    status = make(it, it->turns > 0);
+    status = make(it, first_of(it));
     if (status <= PELGAISTI_NO_MEMORY) note_in_time();
     return go_on(it, status, make);
 }
@@ -612,38 +616,38 @@ static inline void after_call(pelgaisti_session *session, int waits) {
 static inline __attribute__((always_inline)) pelgaisti_status make_whole_call(struct whole_call *it, turn_maker *make) {
     pelgaisti_status status;
     if (SELDOM(is_mine(it->session) && mine.score != 0)) return make_contended(it, make);
-    status = make(it, it->turns > 0);
+    status = make(it, first_of(it));
     return status == PELGAISTI_OK && it->told == 0 ? status : go_on(it, status, make);
 }
 
 /* The archive's turn, by a copy of the handle. */
-#define TURN(it, tries, copy, order, call) \
-    ((tries) ? after_hold((it)->session, CALL_BY_COPY((it)->session, copy, order, call)) : CALL_BY_COPY((it)->session, copy, order, call))
+#define TURN(it, how, copy, order, call) \
+    ((how) == TRIES ? after_hold((it)->session, CALL_BY_COPY((it)->session, copy, order, call)) : CALL_BY_COPY((it)->session, copy, order, call))
 #define ANY UINT64_MAX
 
-static inline __attribute__((always_inline)) pelgaisti_status make_turn(struct whole_call *it, int tries) {
+static inline __attribute__((always_inline)) pelgaisti_status make_turn(struct whole_call *it, int how) {
     pelgaisti_session own, *copy = &own;
     pelgaisti_status status;
     uint32_t wait;
     it->told = 0;
     if (it->is_published)
-        return TURN(it, tries, copy, ACQUIRES, pelgaisti_raw_session_resume(&copy, tries ? 8 : 1, ANY, &it->answer.call, &wait, &it->told));
-    status = TURN(it, tries, copy, RELEASES | ACQUIRES,
-                  pelgaisti_raw_session_turn(&copy, &it->asked.call, 0, tries ? 1 : 0, &it->answer.call, &wait, &it->told));
-    it->is_published = !tries;
+        return TURN(it, how, copy, ACQUIRES, pelgaisti_raw_session_resume(&copy, how == TRIES ? 8 : 1, how == DOES_NEITHER ? 0 : ANY, &it->answer.call, &wait, &it->told));
+    status = TURN(it, how, copy, RELEASES | ACQUIRES,
+                  pelgaisti_raw_session_turn(&copy, &it->asked.call, 0, how == TRIES ? 1 : 0, &it->answer.call, &wait, &it->told));
+    it->is_published = how != TRIES;
     return status;
 }
 
-static inline __attribute__((always_inline)) pelgaisti_status make_run_turn(struct whole_call *it, int tries) {
+static inline __attribute__((always_inline)) pelgaisti_status make_run_turn(struct whole_call *it, int how) {
     pelgaisti_session own, *copy = &own;
     pelgaisti_status status;
     uint32_t wait;
     it->told = 0;
     if (it->is_published)
-        return TURN(it, tries, copy, ACQUIRES, pelgaisti_raw_session_run_resume(&copy, tries ? 8 : 1, ANY, &it->answer.program, &wait, &it->told));
-    status = TURN(it, tries, copy, RELEASES | ACQUIRES,
-                  pelgaisti_raw_session_run_turn(&copy, &it->asked.program, 0, tries ? 1 : 0, &it->answer.program, &wait, &it->told));
-    it->is_published = !tries;
+        return TURN(it, how, copy, ACQUIRES, pelgaisti_raw_session_run_resume(&copy, how == TRIES ? 8 : 1, how == DOES_NEITHER ? 0 : ANY, &it->answer.program, &wait, &it->told));
+    status = TURN(it, how, copy, RELEASES | ACQUIRES,
+                  pelgaisti_raw_session_run_turn(&copy, &it->asked.program, 0, how == TRIES ? 1 : 0, &it->answer.program, &wait, &it->told));
+    it->is_published = how != TRIES;
     return status;
 }
 
@@ -704,7 +708,7 @@ static COLD pelgaisti_status want(struct whole_call *it, turn_maker *make, uint6
     uint64_t made = 1;
     __atomic_add_fetch(&a->wants, 1, __ATOMIC_SEQ_CST);
     __atomic_add_fetch(&wanted, 1, __ATOMIC_SEQ_CST);
-    while ((status = make(it, 1)) == PELGAISTI_NOT_SERVED && NOW() - begun < most)
+    while ((status = make(it, TRIES)) == PELGAISTI_NOT_SERVED && NOW() - begun < most)
         if (++made > TRIES_AWAKE && made % TRIES_PER_SLEEP == 0) sleep_until_called(&nobody, SLEEP_OF_WANT);
         else pause_for(PAUSE_OF_WANT);
     __atomic_sub_fetch(&wanted, 1, __ATOMIC_SEQ_CST);
@@ -712,10 +716,10 @@ static COLD pelgaisti_status want(struct whole_call *it, turn_maker *make, uint6
     return status;
 }
 
-static pelgaisti_status make_take(struct whole_call *it, int tries) {
+static pelgaisti_status make_take(struct whole_call *it, int how) {
     pelgaisti_session *session = it->session;
     pelgaisti_status status;
-    (void)tries;
+    (void)how;
     status = HOLDING(session, pelgaisti_raw_session_take_history(&session, &it->answer.first, it->asked.entries, &it->count));
     return status == PELGAISTI_ELSEWHERE ? PELGAISTI_NOT_SERVED : status;
 }
@@ -723,7 +727,7 @@ static pelgaisti_status make_take(struct whole_call *it, int tries) {
 pelgaisti_status pelgaisti_session_take_history(pelgaisti_session *session, uint64_t *first, pelgaisti_entry *entries,
                                                 size_t room, size_t *count) {
     struct whole_call it = {session, {.entries = LIST(entries, room)}, {.first = first}, 0, 0, count, 0};
-    pelgaisti_status status = make_take(&it, 1);
+    pelgaisti_status status = make_take(&it, TRIES);
     if (status == PELGAISTI_NOT_SERVED) status = want(&it, make_take, TRIES_FOR);
     if (status == PELGAISTI_NOT_SERVED) status = PELGAISTI_ELSEWHERE;
     return WRITING(first, LISTING(entries, room, count, status));
@@ -739,10 +743,10 @@ static COLD pelgaisti_status acquire_look(pelgaisti_session *session, uint64_t m
     return status;
 }
 
-static pelgaisti_status make_look(struct whole_call *it, int tries) {
+static pelgaisti_status make_look(struct whole_call *it, int how) {
     pelgaisti_session *session = it->session;
     pelgaisti_status status;
-    (void)tries;
+    (void)how;
     status = CALL(session, pelgaisti_raw_session_look(&session, &it->asked.view));
     return status == PELGAISTI_ELSEWHERE ? PELGAISTI_NOT_SERVED : status;
 }
@@ -760,7 +764,7 @@ pelgaisti_status pelgaisti_session_look(pelgaisti_session *session, pelgaisti_bo
     pelgaisti_status status;
     if (use_too(view)) return PELGAISTI_COPIED;
     if (session && !is_astray(session)) let_others_first(session);
-    status = make_look(&it, 1);
+    status = make_look(&it, TRIES);
     if (status == PELGAISTI_NOT_SERVED) status = want(&it, make_look, ANY);
     return noting(view, IS_WATCHED ? acquire_look(session, mark, status) : status);
 }
