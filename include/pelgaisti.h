@@ -317,11 +317,11 @@ pelgaisti_status pelgaisti_book_serve(pelgaisti_book *book, uint32_t session, co
    status is returned, and none is served. -> NULL, CLOSED, LOOKS, NO_SUCH_SESSION, NO_SUCH_OP, NO_SUCH_LEVEL, NO_SUCH_MODE, NO_MEMORY */
 pelgaisti_status pelgaisti_book_serve_batch(pelgaisti_book *book, pelgaisti_entry *calls, size_t length, size_t *count);
 
-/* Makes a call of an office's session, in at most `turns` turns: tries to perform it at once; then publishes it, serves at every eighth
-   turn, and looks for the answer. Where such tries were often in vain, it doesn't try, if it may make more than eight turns. Between turns
-   the thread pauses or yields, and behind 128 turns it sleeps until the lock table is given back. With 0 turns the call is published and
-   nothing else. With NULL for `call` goes on with the call that is pending. The
-   answer may be WAITING: the call waits for an answer, and not for a lock, as pelgaisti_session_wait does.
+/* Makes a call of an office's session, in at most `turns` turns: tries to perform it at once, and else publishes it and looks for the answer;
+   one look in eight tries first to serve. Where such tries were often in vain, the call is published at once, if it may make more than eight
+   turns. A call that may make more than 128 may sleep until the lock table is given back; before it begins a transaction, until its thread's
+   turn among others comes. With 0 turns the call is published and nothing else. With NULL for `call` goes on with the call that is pending.
+   The answer may be WAITING: the call waits for an answer, and not for a lock, as pelgaisti_session_wait does.
    -> NULL, CLOSED, NO_SUCH_OP, NO_SUCH_LEVEL, NO_SUCH_MODE, RETIRED, PENDING; with NULL for `call` NOTHING_PENDING; NOT_SERVED (no
       answer in so many turns), NO_MEMORY (refused, for the call or in a pass of this session): with both the call is pending */
 pelgaisti_status pelgaisti_session_perform(pelgaisti_session *session, const pelgaisti_call *call, uint64_t turns,
@@ -393,8 +393,8 @@ pelgaisti_status pelgaisti_session_mark(pelgaisti_session *session, uint64_t *ma
 pelgaisti_status pelgaisti_session_bound_passes(pelgaisti_session *session, uint32_t calls, uint32_t locks, uint32_t rounds);
 
 /* ---- Look. What a view can't do returns LOOKS. A list gets the first `room` of its elements, and `count` the number of all. ---- */
-/* Waits for the lock table as pelgaisti_session_perform does without a limit of turns, takes it, and opens `view`: a book on which every
-   question may be asked, with answers of one moment. A call may be pending. Until pelgaisti_look_end `session` is closed, and other calls
+/* Waits for the lock table, for which other calls stand back, takes it, and opens `view`: a book on which every question may be asked, with
+   answers of one moment. A call may be pending. Until pelgaisti_look_end `session` is closed, and other calls
    for the table wait, also those with a time-out: one that this thread makes by another session, or another look, for ever.
        pelgaisti_book view = PELGAISTI_EMPTY;
        pelgaisti_session_look(session, &view);
@@ -457,8 +457,8 @@ pelgaisti_status pelgaisti_book_length(pelgaisti_book *book, uint64_t *first_kep
 /* Writes up to `room` entries from the place `first` on, and to `count` how many. -> NULL, CLOSED, LET_GO (the entry at `first`) */
 pelgaisti_status pelgaisti_book_history(pelgaisti_book *book, uint64_t first, pelgaisti_entry *entries, size_t room, size_t *count);
 
-/* Take the oldest entries that are kept, up to `room`, out of the library's memory: the first has the place `first`. Of a session: tries
-   once for the lock table; a call may be pending. -> NULL, CLOSED, LOOKS; of a session NULL, CLOSED, ELSEWHERE, NO_MEMORY */
+/* Take the oldest entries that are kept, up to `room`, out of the library's memory: the first has the place `first`. Of a session: waits
+   for the lock table as a look does, but no longer than some 5 milliseconds; a call may be pending. -> NULL, CLOSED, LOOKS; of a session NULL, CLOSED, ELSEWHERE, NO_MEMORY */
 pelgaisti_status pelgaisti_book_take_history(pelgaisti_book *book, uint64_t *first, pelgaisti_entry *entries, size_t room, size_t *count);
 pelgaisti_status pelgaisti_session_take_history(pelgaisti_session *session, uint64_t *first, pelgaisti_entry *entries, size_t room,
                                                 size_t *count);

@@ -30,7 +30,7 @@ pub struct View<'a> {
 }
 
 impl Session {
-    /// Waits for the lock table, as [`Session::perform`] does without a bound on its turns, takes it, and looks. A call may be pending.
+    /// Waits for the lock table, for which other calls stand back, takes it, and looks. A call may be pending.
     /// Behind the look the session knows the history up to it. If the [`View`] is leaked, by [`std::mem::forget`], nobody has the table
     /// any more, and each call of this session panics.
     ///

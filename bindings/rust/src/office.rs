@@ -280,9 +280,9 @@ impl Session {
     /// Makes a whole call, and returns its answer. The answer may be [`Reply::Waiting`]: this waits for an answer, not for a lock, as
     /// [`Session::lock`] does.
     ///
-    /// It makes turns, between which the thread pauses or yields the processor; behind 128 turns it sleeps while another session has the
-    /// lock table. In the first turn it tries to perform the call at once; in the next it publishes it, and from then on it serves, at
-    /// every eighth turn and within the bound of [`Session::bound_passes`], and looks for the answer.
+    /// It tries to perform the call at once; if another session has the lock table, it publishes the call, and from then on looks for
+    /// the answer, and one time in eight tries to serve, within the bound of [`Session::bound_passes`]. The thread sleeps while many
+    /// others wait; before it begins a transaction, until its turn among them comes.
     ///
     /// [`Error::NoMemory`]: memory was refused, for the call or in a pass of this session, and there is no answer yet. The call is pending
     /// then, and [`Session::resume`] goes on with it.
