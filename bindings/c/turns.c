@@ -228,9 +228,22 @@ static void add_sample(struct admission *a, uint64_t in_calls, uint64_t in_all) 
     reckon(a);
 }
 
-static COLD void end_sample(void) {
+/* The thread makes calls: nobody may have its slice. */
+static void keep_slice(void) {
+    if (mine.slice && READ(mine.slice->is_quiet) && has_slice()) WRITE(mine.slice->is_quiet, 0);
+}
+
+/* A call that is to be measured begins now. */
+static void begin_sample(void) {
+    if (mine.until_sample == 1) mine.began = NOW();
+}
+
+/* Before one call of CALLS_PER_SAMPLE, which is measured, and before the next one, which ends that. */
+static void sample(void) {
+    if (mine.until_sample == 1) return;
     if (mine.until_sample == 0 && mine.admission) add_sample(mine.admission, mine.took, NOW() - mine.began);
     mine.until_sample = CALLS_PER_SAMPLE;
+    keep_slice();
 }
 
 /* A call that waits tells nothing of how long calls take: if this one is to be measured, the next one is. */
@@ -299,7 +312,7 @@ static void wait_in_line(struct admission *a, struct waiter *self) {
 
 /* Waits until the thread may begin. Whoever comes up calls up the next one, if there is a further slice. If it comes up on the processor of
    who called it up, that one goes first: it is on its way to sleep. */
-static void wait_for_slice(struct admission *a) {
+static COLD void wait_for_slice(struct admission *a) {
     struct waiter self = {NULL, NULL, 0, 0, 0}, *next;
     lock(a);
     self.slice = a->for_slice.first ? NULL : slice_to_have(a);
@@ -366,11 +379,12 @@ static struct admission *know(pelgaisti_session *session) {
 /* Whether the time of the thread's slice is over, somebody waits for one, and nobody was called up yet to have it next. */
 static int is_over(void) { return READ(mine.admission->waiting) > 0 && !READ(mine.slice->is_passed) && NOW() >= READ(mine.slice->end); }
 
-/* Before a begin of a thread that has no slice for this session, or none that may go on. */
-static COLD void wait_to_begin(pelgaisti_session *session) {
-    struct admission *a = know(session);
+/* Before a begin, unless all begin. */
+static void wait_to_begin(pelgaisti_session *session) {
+    struct admission *a = is_mine(session) ? mine.admission : know(session);
     if (!a || READ(a->slices) == ALL_BEGIN) return;
-    if (!has_slice() || ((mine.index >= READ(a->slices) || is_over()) && !pass_slice(0))) wait_for_slice(a);
+    keep_slice();
+    if (!has_slice() || (SELDOM(mine.index >= READ(a->slices) || is_over()) && !pass_slice(0))) wait_for_slice(a);
 }
 
 /* ---- Waiting for the table. ---- */
@@ -569,18 +583,6 @@ static pelgaisti_status follow(struct whole_call *it, turn_maker *make) {
     return status;
 }
 
-/* What the first turn does, or with no turn what is done in its place. */
-static inline int first_of(const struct whole_call *it) { return it->turns > 0 ? TRIES : it->is_published ? DOES_NEITHER : LOOKS_ONLY; }
-
-/* Makes the call of a session that has tried in vain. */
-static COLD pelgaisti_status make_contended(struct whole_call *it, turn_maker *make) {
-    pelgaisti_status status;
-    if (mine.score >= FOLLOWS && !it->is_published && it->turns > TURNS_PER_TRY) return follow(it, make);
-    status = make(it, first_of(it));
-    if (status <= PELGAISTI_NO_MEMORY) note_in_time();
-    return go_on(it, status, make);
-}
-
 /* Waits until nobody wants the table itself, or for long enough; first awake, and then it yields, as whoever wants it may need a processor. */
 static COLD void stand_back(pelgaisti_session *session) {
     const struct admission *a = admission_of(session);
@@ -591,33 +593,45 @@ static COLD void stand_back(pelgaisti_session *session) {
         else sched_yield();
 }
 
-/* Before a call. */
-static inline void before_call(pelgaisti_session *session, int begins) {
-    const int is_known = is_mine(session), has = is_known && has_slice();
-    if (SELDOM(--mine.until_sample <= 0)) end_sample();
-    if (SELDOM(READ(wanted) > 0)) stand_back(session);
-    if (has && SELDOM(READ(mine.slice->is_quiet))) WRITE(mine.slice->is_quiet, 0);
-    if (begins) {
-        if (!is_known || (has ? SELDOM(mine.index >= READ(mine.admission->slices) || is_over()) : READ(mine.admission->slices) != ALL_BEGIN))
-            wait_to_begin(session);
-    }
-    if (SELDOM(mine.until_sample == 1)) mine.began = NOW();
+/* Whether the thread may begin a transaction of this session at once. */
+static inline int may_begin(const pelgaisti_session *session) {
+    const struct admission *a = mine.admission;
+    if (!is_mine(session)) return 0;
+    return READ(a->slices) == ALL_BEGIN || (has_slice() && !READ(mine.slice->is_quiet) && mine.index < READ(a->slices) && !is_over());
 }
 
-/* After a call; `waits`: its reply tells of a wait for a lock, in which the thread makes no calls. */
-static inline void after_call(pelgaisti_session *session, int waits) {
-    if (SELDOM(mine.until_sample == 1)) mine.took = NOW() - mine.began;
-    if (SELDOM(waits)) {
-        sample_next_instead();
-        if (is_mine(session) && has_slice()) pass_slice(1);
-    }
+/* Whether a call's first turn may be made with nothing before it. Then it is counted among those to be measured, and isn't the one. */
+static inline int goes_straight(const pelgaisti_session *session, uint64_t turns, int begins) {
+    if (SELDOM(turns == 0 || mine.score != 0 || mine.until_sample <= 2 || READ(wanted) > 0)) return 0;
+    if (begins && turns > MOST_TURNS_AWAKE && !may_begin(session)) return 0;
+    mine.until_sample--;
+    return 1;
 }
 
-static inline __attribute__((always_inline)) pelgaisti_status make_whole_call(struct whole_call *it, turn_maker *make) {
+/* Makes a call that doesn't go straight. */
+static COLD pelgaisti_status make_otherwise(struct whole_call *it, turn_maker *make, int begins) {
+    int is_contended;
     pelgaisti_status status;
-    if (SELDOM(is_mine(it->session) && mine.score != 0)) return make_contended(it, make);
-    status = make(it, first_of(it));
-    return status == PELGAISTI_OK && it->told == 0 ? status : go_on(it, status, make);
+    if (--mine.until_sample <= 1) sample();
+    if (READ(wanted) > 0) stand_back(it->session);
+    if (begins && it->turns > MOST_TURNS_AWAKE) wait_to_begin(it->session);
+    begin_sample();
+    is_contended = is_mine(it->session) && mine.score != 0;
+    if (is_contended && mine.score >= FOLLOWS && !it->is_published && it->turns > TURNS_PER_TRY) {
+        status = follow(it, make);
+    } else {
+        status = make(it, it->turns > 0 ? TRIES : it->is_published ? DOES_NEITHER : LOOKS_ONLY);
+        if (is_contended && status <= PELGAISTI_NO_MEMORY) note_in_time();
+        if (status != PELGAISTI_OK || it->told > 0) status = go_on(it, status, make);
+    }
+    if (mine.until_sample == 1) mine.took = NOW() - mine.began;
+    return status;
+}
+
+/* After a call whose reply tells of a wait for a lock, in which the thread makes no calls. */
+static COLD void give_up_slice(const pelgaisti_session *session) {
+    sample_next_instead();
+    if (is_mine(session) && has_slice()) pass_slice(1);
 }
 
 /* The archive's turn, by a copy of the handle. */
@@ -625,46 +639,67 @@ static inline __attribute__((always_inline)) pelgaisti_status make_whole_call(st
     ((how) == TRIES ? after_hold((it)->session, CALL_BY_COPY((it)->session, copy, order, call)) : CALL_BY_COPY((it)->session, copy, order, call))
 #define ANY UINT64_MAX
 
-static inline __attribute__((always_inline)) pelgaisti_status make_turn(struct whole_call *it, int how) {
+#define MAKES static inline __attribute__((always_inline)) pelgaisti_status
+
+/* Begins the call: tries to perform it at once, or publishes it. */
+MAKES begin_call(struct whole_call *it, int how) {
     pelgaisti_session own, *copy = &own;
-    pelgaisti_status status;
     uint32_t wait;
     it->told = 0;
-    if (it->is_published)
-        return TURN(it, how, copy, ACQUIRES, pelgaisti_raw_session_resume(&copy, how == TRIES ? 8 : 1, how == DOES_NEITHER ? 0 : ANY, &it->answer.call, &wait, &it->told));
-    status = TURN(it, how, copy, RELEASES | ACQUIRES,
-                  pelgaisti_raw_session_turn(&copy, &it->asked.call, 0, how == TRIES ? 1 : 0, &it->answer.call, &wait, &it->told));
-    it->is_published = how != TRIES;
-    return status;
+    return TURN(it, how, copy, RELEASES | ACQUIRES,
+                pelgaisti_raw_session_turn(&copy, &it->asked.call, 0, how == TRIES ? 1 : 0, &it->answer.call, &wait, &it->told));
 }
 
-static inline __attribute__((always_inline)) pelgaisti_status make_run_turn(struct whole_call *it, int how) {
+MAKES make_turn(struct whole_call *it, int how) {
     pelgaisti_session own, *copy = &own;
     pelgaisti_status status;
     uint32_t wait;
+    if (!it->is_published) {
+        status = begin_call(it, how);
+        it->is_published = how != TRIES;
+        return status;
+    }
     it->told = 0;
-    if (it->is_published)
-        return TURN(it, how, copy, ACQUIRES, pelgaisti_raw_session_run_resume(&copy, how == TRIES ? 8 : 1, how == DOES_NEITHER ? 0 : ANY, &it->answer.program, &wait, &it->told));
-    status = TURN(it, how, copy, RELEASES | ACQUIRES,
-                  pelgaisti_raw_session_run_turn(&copy, &it->asked.program, 0, how == TRIES ? 1 : 0, &it->answer.program, &wait, &it->told));
-    it->is_published = how != TRIES;
-    return status;
+    return TURN(it, how, copy, ACQUIRES,
+                pelgaisti_raw_session_resume(&copy, how == TRIES ? 8 : 1, how == DOES_NEITHER ? 0 : ANY, &it->answer.call, &wait, &it->told));
+}
+
+MAKES begin_program(struct whole_call *it, int how) {
+    pelgaisti_session own, *copy = &own;
+    uint32_t wait;
+    it->told = 0;
+    return TURN(it, how, copy, RELEASES | ACQUIRES,
+                pelgaisti_raw_session_run_turn(&copy, &it->asked.program, 0, how == TRIES ? 1 : 0, &it->answer.program, &wait, &it->told));
+}
+
+MAKES make_run_turn(struct whole_call *it, int how) {
+    pelgaisti_session own, *copy = &own;
+    pelgaisti_status status;
+    uint32_t wait;
+    if (!it->is_published) {
+        status = begin_program(it, how);
+        it->is_published = how != TRIES;
+        return status;
+    }
+    it->told = 0;
+    return TURN(it, how, copy, ACQUIRES,
+                pelgaisti_raw_session_run_resume(&copy, how == TRIES ? 8 : 1, how == DOES_NEITHER ? 0 : ANY, &it->answer.program, &wait, &it->told));
 }
 
 pelgaisti_status pelgaisti_session_perform(pelgaisti_session *session, const pelgaisti_call *call, uint64_t turns,
                                            pelgaisti_answer *answer) {
-    struct whole_call it;
+    struct whole_call it = {session, {.call = call}, {.call = answer}, turns, 0, NULL, !call};
+    const int begins = call && call->op == PELGAISTI_BEGIN;
     pelgaisti_status status;
     if (!session) return PELGAISTI_NULL;
-    before_call(session, call && call->op == PELGAISTI_BEGIN && turns > MOST_TURNS_AWAKE);
-    it.session = session;
-    it.asked.call = call;
-    it.turns = turns;
-    it.answer.call = answer;
-    it.is_published = !call;
-    status = make_whole_call(&it, make_turn);
-    after_call(session, status == PELGAISTI_OK && answer->reply.kind == PELGAISTI_WAITING);
-    return WRITING(answer, status);
+    if (call && goes_straight(session, turns, begins)) {
+        status = begin_call(&it, TRIES);
+        if (status != PELGAISTI_OK || it.told > 0) status = go_on(&it, status, make_turn);
+    } else {
+        status = make_otherwise(&it, make_turn, begins);
+    }
+    if (SELDOM(status == PELGAISTI_OK && it.answer.call->reply.kind == PELGAISTI_WAITING)) give_up_slice(it.session);
+    return WRITING(it.answer.call, status);
 }
 
 /* Whether a program with this start begins a transaction. */
@@ -673,18 +708,18 @@ pelgaisti_status pelgaisti_session_perform(pelgaisti_session *session, const pel
 
 pelgaisti_status pelgaisti_session_run(pelgaisti_session *session, const pelgaisti_program *program, uint64_t turns,
                                        pelgaisti_program_answer *answer) {
-    struct whole_call it;
+    struct whole_call it = {session, {.program = program}, {.program = answer}, turns, 0, NULL, !program};
+    const int begins = program && BEGINS(program->start);
     pelgaisti_status status;
     if (!session) return PELGAISTI_NULL;
-    before_call(session, program && BEGINS(program->start) && turns > MOST_TURNS_AWAKE);
-    it.session = session;
-    it.asked.program = program;
-    it.turns = turns;
-    it.answer.program = answer;
-    it.is_published = !program;
-    status = make_whole_call(&it, make_run_turn);
-    after_call(session, status == PELGAISTI_OK && answer->stop == PELGAISTI_WAITING);
-    return WRITING(answer, status);
+    if (program && goes_straight(session, turns, begins)) {
+        status = begin_program(&it, TRIES);
+        if (status != PELGAISTI_OK || it.told > 0) status = go_on(&it, status, make_run_turn);
+    } else {
+        status = make_otherwise(&it, make_run_turn, begins);
+    }
+    if (SELDOM(status == PELGAISTI_OK && it.answer.program->stop == PELGAISTI_WAITING)) give_up_slice(it.session);
+    return WRITING(it.answer.program, status);
 }
 
 pelgaisti_status pelgaisti_session_serve(pelgaisti_session *session, pelgaisti_pass *pass) {
