@@ -272,6 +272,7 @@ int main(int argc, char **argv) {
     threads = (unsigned)atoi(argv[2]);
     if (argc > 5) row_count = (unsigned)atoi(argv[5]) / PAGE * PAGE;
     if ((!is_office && strcmp(argv[1], "mutex")) || threads < 1 || threads > MOST || row_count < PAGE || row_count > MOST_ROWS) return 2;
+    prefer();
     if (is_busy) start_busy();
     alarm(30 + 2 * (unsigned)milliseconds / 1000);
     printf("%s %s threads=%u rows=%u ", argv[1], beside, threads, row_count);

@@ -72,6 +72,12 @@ static inline moment since(moment from, moment to) {
     return (moment){to.ns - from.ns, to.processor - from.processor, to.voluntary - from.voluntary, to.involuntary - from.involuntary};
 }
 
+/* Makes this process a session of its own, which the scheduler prefers to others if it lets this one ask. */
+static inline void prefer(void) {
+    FILE *group = setsid() > 0 ? fopen("/proc/self/autogroup", "w") : NULL;
+    if (group) fputs("-20", group), fclose(group);
+}
+
 /* Starts three processes that are never idle, which end with this one if it doesn't end them. No other thread runs yet. */
 static pid_t busy[3];
 
