@@ -260,8 +260,8 @@ static void run(unsigned milliseconds) {
         timeouts += workers[t].timeouts;
     }
     close_table();
-    printf("median=%.0f 99th=%.0f 999th=%.0f longest=%lu ", time_at(&times, 500), time_at(&times, 990), time_at(&times, 999), times.longest);
-    printf("victims=%lu timeouts=%lu\n", victims, timeouts);
+    printf("median=%.0f 99th=%.0f 999th=%.0f ", time_at(&times, 500), time_at(&times, 990), time_at(&times, 999));
+    printf("longest=%lu victims=%lu timeouts=%lu\n", times.longest, victims, timeouts);
 }
 
 int main(int argc, char **argv) {
