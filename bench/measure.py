@@ -16,8 +16,11 @@ The sections, with the minutes that they take on 4 free processors:
     worst         the dearest calls, with 256 and with 1,024 sessions, by bench/worst.py                     3
     memory        the peak memory of a whole process, by bench/memory.c                                      1/2
     growth        a new book and a new office of 256 and of 1,024 sessions, by bench/memory.c                0
-    threads       an office beside ten other ways to share a lock table, by bench/threads.c                  1/2
-    loads         the same with hot rows, shared reads, own files, work between calls, on any processor      1
+    threads       an office beside ten other ways to share a lock table, up to 64 threads, pinned or not,
+                  beside busy processes, by bench/threads.c                                                  2
+    loads         the same with hot rows, shared reads, own files, work between calls                        1
+    engine        an engine of up to 64 threads that wait, beside busy processes, too, by bench/engine.c     1/2
+    looks         how long a monitor waits for a look at an office of many threads, by bench/looks.c         1/4
     store         examples/store over offices, RocksDB's own transactions and Berkeley DB, by bench/store.cpp  15
     hash_table    its orders over a hash table, by these, a mutex and reader-writer locks, by bench/store.cpp  15
     waiting       three ways to wait for locks, by bench/waiting.c                                           1

@@ -316,12 +316,17 @@ class Threads(Section):
     name, heading, needs = "threads", "How threads share a lock table: `bench/threads.c`", (LIBRARY,)
     how = (
         "NORM: transactions, for one of a single thread by *mutex each program* in the same milliseconds; thousands of transactions a"
-        " second; µs of processors; 50th and 99th of 100, µs; involuntary switches of a run and, as a mean, ticks stolen in it."
+        " second; µs of processors; switches of 1,000 transactions; 50th and 99th of 100, 999th of 1,000, µs; transactions of the thread"
+        " that made least and most in a run; as a mean, ticks stolen in it."
     )
-    short_how = "Of NORM the three quartiles."
-    is_by_runs, MILLISECONDS, THREADS = True, 25, (1, 2, 4, 8, 16)
+    short_how = "NORM/µs of processors for a transaction/switches of 1,000 transactions."
+    is_by_runs, THREADS = True, (1, 2, 4, 8, 16, 32, 64)
+    # the ways that are measured up to this number of threads alone
+    FEW, UP_TO = ("adaptive", "mcs", "mutexes", "berkeley"), 16
     # workload, nanoseconds of work before each path, place of the threads
-    LOADS = {("bank", "0", "pinned"): "bank"}
+    LOADS = {("bank", "0", place): place for place in ("pinned", "free", "robbed")}
+    # the numbers of threads that bench/README.md has of each place
+    SHOWN_COUNTS = {"pinned": THREADS, "free": (4, 16, 64), "robbed": (4, 16, 64)}
     WAYS = {
         "calls": "office, single calls",
         "programs": "**office, programs**",
@@ -337,9 +342,10 @@ class Threads(Section):
         "berkeley": "Berkeley DB",
     }
     # those that bench/README.md has
-    SHOWN = ("calls", "programs", "mutex-calls", "mutex", "barging", "ccsynch", "server", "mutexes", "spins", "berkeley")
+    SHOWN = ("calls", "programs", "mutex-calls", "mutex", "barging", "ccsynch", "server", "spins", "berkeley")
     # what is told of a run: the digits behind the point, and by how much it is divided
-    NUMBERS = {"second": (0, 1000), "processor": (1, 1000), "median": (1, 1000), "99th": (1, 1000), "switches": (0,)}
+    TIMES = {name: (1, 1000) for name in ("median", "99th", "999th")}
+    NUMBERS = {"second": (0, 1000), "processor": (1, 1000), "switches": (0,), **TIMES, "least": (0,), "most": (0,)}
 
     def cases(self):
         try:
@@ -347,18 +353,21 @@ class Threads(Section):
         except subprocess.CalledProcessError:
             program, self.WAYS = self.built("threads"), {way: told for way, told in self.WAYS.items() if way != "berkeley"}
         keys = [(load, count, way) for load in self.LOADS for count in self.counts(load) for way in self.WAYS]
+        return [(key, lambda k=key: self.told(program, *k)) for key in keys if self.is_measured(*key)]
+
+    def is_measured(self, load, count, way):
         # a transaction of several books can't wait for those of `hot`
-        asked = [key for key in keys if key[0][0] != "hot" or key[2] not in ("mutexes", "spins")]
-        return [(key, lambda k=key: self.told(program, *k)) for key in asked]
+        return (load[0] != "hot" or way not in ("mutexes", "spins")) and (count <= self.UP_TO or way not in self.FEW)
 
     def told(self, program, load, count, way):
-        words = [program, way, load[0], str(count), *load[1:], str(self.few(self.MILLISECONDS))]
+        # the turns of many threads on few processors are of milliseconds
+        words = [program, way, load[0], str(count), *load[1:], str(self.few(25 if count <= 16 else 100))]
         # a run in which a tick was stolen is made again, twice at most
         for _ in range(3):
             told = {name: float(number) for name, number in re.findall(r"(\w+)=([\d.]+)", output_of(words))}
             if not told["stolen"]:
                 break
-        return told
+        return told | {"switches": told["voluntary"] + told["involuntary"]}
 
     def rows(self, head, columns, cell, ways=WAYS):
         """A table with a row for each way, and columns of loads and numbers of threads by their titles."""
@@ -391,8 +400,16 @@ class Threads(Section):
         return self.rows(head, columns, cell, self.SHOWN)
 
     def short_tables(self, found):
-        columns = self.columns({load: "" for load in self.LOADS})
-        return self.shown("NORM, threads", columns, found, ("norm", 2))[1:]
+        ways, medians = [way for way in self.SHOWN if way in self.WAYS], found.medians()
+
+        def cell(key):
+            if (key, "norm") not in found.found:
+                return "-"
+            return "/".join(medians.text(key, *of) for of in (("norm", 2), ("processor", 1, 1000), ("switches",)))
+
+        shown = [(load, count) for load in self.LOADS for count in self.SHOWN_COUNTS[load[2]]]
+        rows = [[f"{load[2]}, {count}", *(cell((load, count, way)) for way in ways)] for load, count in shown]
+        return table(["threads", *(self.WAYS[way] for way in ways)], rows)
 
 
 class Loads(Threads):
@@ -401,16 +418,89 @@ class Loads(Threads):
     SHOWN = ("calls", "programs", "mutex-calls", "mutex", "barging", "ccsynch", "server", "mutexes")
     LOADS = {
         **{(load, "0", "pinned"): load for load in ("hot", "reads", "own")},
-        **{("bank", "0", place): place for place in ("free", "robbed")},
         **{(load, work, "pinned"): f"{load}, {int(work) / 1000:g} µs" for work in ("500", "2000") for load in ("bank", "hot", "reads", "own")},
     }
 
     def counts(self, load):
-        return (2, 4, 8) if load[2] == "robbed" else (4, 16) if load[0] == "bank" or load[1] == "0" else (4,)
+        return (4, 16) if load[0] == "bank" or load[1] == "0" else (4,)
 
     def short_tables(self, found):
         shown = {told: (load, 4) for load, told in self.LOADS.items() if load[0] == "bank" or load[1] == "0"}
         return self.shown("way", shown, found.medians(), ("norm", 2), ("99th", 0))[1:]
+
+
+class Engine(Section):
+    name, heading, needs = "engine", "An engine with many threads: `bench/engine.c`", (LIBRARY,)
+    how = (
+        "Thousands of commits a second; for a commit µs of processors; for 1,000 commits switches, victims and time-outs; commits of the"
+        " thread that made least, and most, in a quarter of a second; 50th and 99th of 100, 999th of 1,000, and the longest transaction, ms."
+    )
+    short_how = (
+        "Thousands of commits a second/µs of processors for a commit/commits of the thread that made least–most in a quarter of a second/"
+        "the 999th of 1,000 transactions, ms."
+    )
+    MILLISECONDS, THREADS = 250, (1, 4, 8, 16, 32, 64)
+    COLUMNS = {(way, beside): f"{way}, {beside}" for beside in ("quiet", "busy") for way in ("office", "mutex")}
+    PER_COMMITS = ("switches", "victims", "timeouts")
+    MS = {name: (2, 1e6) for name in ("median", "99th", "999th", "longest")}
+    NUMBERS = {"processor": (1, 1000), **dict.fromkeys(PER_COMMITS, (0,)), "least": (0,), "most": (0,), **MS}
+
+    def cases(self):
+        program = self.built("engine")
+        keys = [(*column, count) for count in self.THREADS for column in self.COLUMNS]
+        return [(key, lambda k=key: self.told(program, *k)) for key in keys]
+
+    def told(self, program, way, beside, count):
+        milliseconds = self.few(self.MILLISECONDS)
+        told = numbers_of([program, way, str(count), str(milliseconds), beside])
+        commits = max(1, told["second"] * milliseconds / 1000)
+        told["switches"] = told["voluntary"] + told["involuntary"]
+        return told | {name: 1000 * told[name] / commits for name in ("victims", "timeouts")}
+
+    def rows(self, cell):
+        rows = [[count, *(cell((*column, count)) for column in self.COLUMNS)] for count in self.THREADS]
+        return table(["threads", *self.COLUMNS.values()], rows)
+
+    def tables(self, found):
+        def cell(key):
+            told = (found.medians().text(key, name, *of) for name, of in self.NUMBERS.items())
+            return "; ".join([found.text(key, "second", 1, 1000), *told])
+
+        return self.rows(cell)
+
+    def short_tables(self, found):
+        def cell(key):
+            told = {name: found.medians().text(key, name, *of) for name, of in self.NUMBERS.items()}
+            ends = f"{told['least']}–{told['most']}"
+            return "/".join([found.medians().text(key, "second", 1, 1000), told["processor"], ends, told["999th"]])
+
+        return self.rows(cell)
+
+
+class Looks(Section):
+    name, heading, needs = "looks", "How long a monitor waits: `bench/looks.c`", (LIBRARY,)
+    how = "Looks at an office whose threads make transfers by programs, one each 200 µs if none took longer, for a quarter of a second."
+    MILLISECONDS, THREADS = 250, (1, 4, 16, 64)
+    COLUMNS = {
+        "looks": ("looks", 0, 1),
+        "median, µs": ("median", 1, 1000),
+        "99th of 100": ("99th", 1, 1000),
+        "longest": ("longest", 1, 1000),
+        "thousands of transfers a second": ("second", 0, 1000),
+        "of 100 tries to take history, OK": ("taken", 0, 10),
+    }
+
+    def cases(self):
+        program = self.built("looks")
+        return [(count, lambda n=count: self.told(program, str(n))) for count in self.THREADS]
+
+    def told(self, program, count):
+        words = [program, count, str(self.few(self.MILLISECONDS))]
+        return numbers_of(words) | {"taken": numbers_of([*words, "take"])["taken"]}
+
+    def tables(self, found):
+        rows = [[count, *(found.text(count, *of) for of in self.COLUMNS.values())] for count in self.THREADS]
+        return table(["threads", *self.COLUMNS], rows)
 
 
 class Store(Section):
@@ -551,5 +641,5 @@ class Instructions(Section):
         return table(["calls", "instructions", "at most"], [[told, f"{int(a):,}", f"{int(b):,}"] for told, a, b in self.lines])
 
 
-SECTIONS = [Replay, Worst, Memory, Growth, Threads, Loads, Store, StoreInMemory, Waiting, Embedding, Instructions]
+SECTIONS = [Replay, Worst, Memory, Growth, Threads, Loads, Engine, Looks, Store, StoreInMemory, Waiting, Embedding, Instructions]
 

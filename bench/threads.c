@@ -10,34 +10,30 @@
        hot    transfers between two of 40 accounts of a page, in any order: threads wait and sleep, and deadlocks have victims
        reads  four records of one of 16 pages in S, the page, its file and the database in IS
        own    ten records of a page of the thread's own file in X, in one database of all
-   Before each path a thread works for WORK nanoseconds. PLACE is `pinned`, to processors of their own as far as there are, `free`, or
-   `robbed`: free beside three processes that are never idle. A run lasts so long, behind some milliseconds; before and behind it one
-   thread does the same for 5 ms by `mutex`. Prints the rate over the greater of these two, transactions a second, the time of one
-   (median and 99th of 100) and its processor time, in ns; and the involuntary switches of the run, yields among them, and the ticks
-   that the host gave to others in all three. Fails if money was made or lost.
+   There are up to 256 threads. Before each path a thread works for WORK nanoseconds. PLACE is `pinned`, to processors of their own as far
+   as there are, `free`, or `robbed`: free beside three processes that are never idle. A run lasts so long, after some milliseconds; before
+   and after it one thread does the same for 5 ms by `mutex`. Prints the rate over the greater of these two, transactions a second, those
+   of the thread that made least in the run, and most, the time of one (median, 99th of 100, 999th of 1,000) and its processor time, in
+   ns; for 1,000 of them the voluntary switches of context and the involuntary ones, yields among them; and the ticks that the host gave
+   to others in all three. Fails if money was made or lost, and by SIGALRM if it hangs.
        ./embed && cc -O2 bench/threads.c -Iout -Lout -lpelgaisti -lpthread -o threads
        ./embed && cc -O2 -DBERKELEY_DB bench/threads.c -Iout -Lout -lpelgaisti -lpthread -ldb -o threads */
 #define _GNU_SOURCE
+#include "runs.h"
 #include "pelgaisti.h"
 #include <linux/futex.h>
 #include <pthread.h>
 #include <sched.h>
 #include <semaphore.h>
-#include <signal.h>
 #include <stdatomic.h>
-#include <stdio.h>
 #include <stdlib.h>
 #include <string.h>
-#include <sys/prctl.h>
-#include <sys/resource.h>
 #include <sys/syscall.h>
-#include <time.h>
-#include <unistd.h>
 #ifdef BERKELEY_DB
 #include <db.h>
 #endif
 
-enum { MOST = 64, BOOKS = 16, ACCOUNTS = 100000, HOT = 40, PAGE = 50, START = 1000, STEPS = 32, BUCKETS = 1280, LINE = 128 };
+enum { MOST = 256, BOOKS = 16, ACCOUNTS = 100000, HOT = 40, PAGE = 50, START = 1000, SERVES = 64 };
 
 /* The words by which threads hand programs over: of a record, or of a node of CC-Synch. */
 enum { POSTED = 1, SERVED, LEADS };
@@ -48,10 +44,11 @@ typedef struct worker {
     pelgaisti_program program;
     _Alignas(LINE) pelgaisti_program_answer answer;
     _Alignas(LINE) _Atomic uint64_t made;
+    uint64_t made_before;
     uint32_t session, random, told[2 * MOST], books, book;
     int is_open; /* its transaction: 1, to be committed; 2, to be aborted */
     struct node *node;
-    uint32_t times[BUCKETS]; /* how many transactions took so long */
+    times times;
 #ifdef BERKELEY_DB
     u_int32_t locker;
 #endif
@@ -93,17 +90,6 @@ static _Alignas(LINE) _Atomic int phase; /* of a run: it warms up, is measured, 
 #ifdef BERKELEY_DB
 static DB_ENV *environment;
 #endif
-
-static _Noreturn void fail(const char *what) {
-    fprintf(stderr, "threads: %s\n", what);
-    exit(4);
-}
-
-static uint64_t now(clockid_t clock) {
-    struct timespec t;
-    clock_gettime(clock, &t);
-    return (uint64_t)t.tv_sec * 1000000000u + (uint64_t)t.tv_nsec;
-}
 
 static void wake(void *engine, uint32_t session) {
     (void)engine;
@@ -297,7 +283,7 @@ static void by_ccsynch(worker *w) {
     atomic_store_explicit(&at->next, fresh, memory_order_release);
     while (see(&at->word) == POSTED) look_again(&looks, 512);
     if (see(&at->word) == SERVED) return;
-    for (unsigned count = 0; count < MOST && (next = atomic_load(&at->next)); count++, at = next) {
+    for (unsigned count = 0; count < SERVES && (next = atomic_load(&at->next)); count++, at = next) {
         run_on(books, at->asks, w->told, &ended);
         if (at != w->node) set(&at->word, SERVED);
     }
@@ -413,11 +399,6 @@ static int lock(worker *w, uint32_t level, uint32_t mode, uint32_t file, uint32_
     return finish(w);
 }
 
-static uint32_t draw(worker *w, uint32_t below) {
-    w->random = w->random * 1664525u + 1013904223u;
-    return (w->random >> 8) % below;
-}
-
 /* Each makes a transaction, which the next one commits. 0: it was a deadlock's victim, has undone what it did, and is to be made again. */
 
 static int transfer(worker *w, uint32_t from, uint32_t to) {
@@ -432,50 +413,30 @@ static int transfer(worker *w, uint32_t from, uint32_t to) {
 }
 
 static int bank(worker *w) {
-    uint32_t from = draw(w, ACCOUNTS - 1), to = draw(w, ACCOUNTS - 1);
+    uint32_t from = draw(&w->random, ACCOUNTS - 1), to = draw(&w->random, ACCOUNTS - 1);
     return from < to ? transfer(w, from, to) : transfer(w, to, from + 1);
 }
 
 static int hot(worker *w) {
-    uint32_t from = draw(w, HOT), to = draw(w, HOT - 1);
+    uint32_t from = draw(&w->random, HOT), to = draw(&w->random, HOT - 1);
     return transfer(w, from, to + (to >= from));
 }
 
 /* Neither of these waits. */
 
 static int reads(worker *w) {
-    uint32_t page = draw(w, 16);
-    for (uint32_t k = 0; k < 4; k++) lock(w, k ? 3 : 0, PELGAISTI_S, 1, page, draw(w, 100));
+    uint32_t page = draw(&w->random, 16);
+    for (uint32_t k = 0; k < 4; k++) lock(w, k ? 3 : 0, PELGAISTI_S, 1, page, draw(&w->random, 100));
     return 1;
 }
 
 static int own(worker *w) {
-    uint32_t page = draw(w, 64), record = draw(w, 1000);
+    uint32_t page = draw(&w->random, 64), record = draw(&w->random, 1000);
     for (uint32_t k = 0; k < 10; k++) lock(w, k ? 3 : 0, PELGAISTI_X, w->session, page, record + k);
     return 1;
 }
 
 /* ---- Runs. ---- */
-
-/* The bucket of a time: STEPS of them for each doubling. */
-static unsigned bucket_of(uint64_t ns) {
-    unsigned shift = ns < 2 * STEPS ? 0 : 58 - (unsigned)__builtin_clzll(ns), at = STEPS * shift + (unsigned)(ns >> shift);
-    return at < BUCKETS ? at : BUCKETS - 1;
-}
-
-/* The time that so many of 100 transactions took at most. */
-static double time_at(double part) {
-    uint64_t all = 0, seen = 0;
-    unsigned at = 0, shift;
-    for (unsigned t = 0; t < threads; t++)
-        for (unsigned k = 0; k < BUCKETS; k++) all += workers[t].times[k];
-    for (; at < BUCKETS; at++) {
-        for (unsigned t = 0; t < threads; t++) seen += workers[t].times[at];
-        if ((double)seen >= (double)all * part / 100) break;
-    }
-    shift = at < 2 * STEPS ? 0 : at / STEPS - 1;
-    return (double)((uint64_t)(at - STEPS * shift) << shift);
-}
 
 static void *work(void *argument) {
     worker *w = (worker *)argument;
@@ -485,7 +446,7 @@ static void *work(void *argument) {
     for (from = now(CLOCK_MONOTONIC); (at = atomic_load_explicit(&phase, memory_order_relaxed)) < 2; from = to) {
         while (!transaction(w)) w->is_open = 2;
         to = now(CLOCK_MONOTONIC);
-        if (at == 1) w->times[bucket_of(to - from)]++;
+        if (at == 1) add_time(&w->times, to - from);
         atomic_store_explicit(&w->made, w->made + 1, memory_order_relaxed);
     }
     if (w->is_open) {
@@ -518,7 +479,7 @@ static void open_all(void) {
 #ifdef BERKELEY_DB
     if (how->make == by_berkeley) open_environment();
 #endif
-    memset(workers, 0, sizeof workers);
+    memset(workers, 0, threads * sizeof *workers);
     for (unsigned t = 0; t < threads; t++) {
         workers[t].session = workers[t].random = t + 1;
         workers[t].node = &nodes[t];
@@ -541,29 +502,42 @@ static void close_all(void) {
     if (money != (long)ACCOUNTS * START) fail("money was made or lost");
 }
 
-/* What has happened up to a moment: nanoseconds, transactions, those of processors, involuntary switches, ticks given to others. */
-typedef struct moment {
-    double ns, made, used, switches, stolen;
-} moment;
+/* What happened in a run: what was used, transactions, those of the threads that made least and most, ticks given to others. */
+typedef struct happened {
+    moment used;
+    double made, least, most, stolen;
+} happened;
 
-static moment moment_now(void) {
-    struct rusage used;
-    moment m = {0, 0, 0, 0, 0};
+static double stolen_so_far(void) {
+    double ticks;
     FILE *stat = fopen("/proc/stat", "r");
-    if (!stat || fscanf(stat, "cpu %*d %*d %*d %*d %*d %*d %*d %lf", &m.stolen) != 1 || fclose(stat)) fail("/proc/stat can't be read");
-    for (unsigned t = 0; t < threads; t++) m.made += (double)atomic_load_explicit(&workers[t].made, memory_order_relaxed);
-    m.ns = (double)now(CLOCK_MONOTONIC);
-    m.used = (double)now(CLOCK_PROCESS_CPUTIME_ID);
-    getrusage(RUSAGE_SELF, &used);
-    m.switches = (double)used.ru_nivcsw;
-    return m;
+    if (!stat || fscanf(stat, "cpu %*d %*d %*d %*d %*d %*d %*d %lf", &ticks) != 1 || fclose(stat)) fail("/proc/stat can't be read");
+    return ticks;
+}
+
+static happened measure(unsigned milliseconds) {
+    happened it = {{0, 0, 0, 0}, 0, 1e18, 0, stolen_so_far()};
+    moment from;
+    for (unsigned t = 0; t < threads; t++) workers[t].made_before = workers[t].made;
+    from = moment_now();
+    atomic_store(&phase, 1);
+    usleep(1000 * milliseconds);
+    it.used = since(from, moment_now());
+    for (unsigned t = 0; t < threads; t++) {
+        double made = (double)(workers[t].made - workers[t].made_before);
+        it.made += made;
+        if (made < it.least) it.least = made;
+        if (made > it.most) it.most = made;
+    }
+    it.stolen = stolen_so_far() - it.stolen;
+    return it;
 }
 
 /* One run, and what happened in it. */
-static moment run(const way *of, unsigned count, unsigned warm, unsigned milliseconds) {
+static happened run(const way *of, unsigned count, unsigned warm, unsigned milliseconds) {
     pthread_t running[MOST], server;
     _Atomic uint32_t is_over = 0;
-    moment from, to;
+    happened it;
     how = of;
     threads = count;
     open_all();
@@ -572,37 +546,33 @@ static moment run(const way *of, unsigned count, unsigned warm, unsigned millise
     for (unsigned t = 0; t < threads; t++)
         if (pthread_create(&running[t], NULL, work, &workers[t])) fail("no thread");
     usleep(1000 * warm);
-    from = moment_now();
-    atomic_store(&phase, 1);
-    usleep(1000 * milliseconds);
-    to = moment_now();
+    it = measure(milliseconds);
     atomic_store(&phase, 2);
     for (unsigned t = 0; t < threads; t++) pthread_join(running[t], NULL);
     atomic_store(&is_over, 1);
     if (how->make == by_server) pthread_join(server, NULL);
     close_all();
-    /* on a machine that others use a run may make nothing */
-    if (to.made == from.made) to.made++;
-    return (moment){to.ns - from.ns, to.made - from.made, to.used - from.used, to.switches - from.switches, to.stolen - from.stolen};
+    return it;
 }
 
-/* Starts a process that is never idle. */
-static void burn(void) {
-    pid_t parent = getpid();
-    if (fork()) return;
-    prctl(PR_SET_PDEATHSIG, SIGKILL);
-    while (getppid() == parent) continue;
-    _exit(0);
+/* The time that so many of 1,000 transactions took at most. */
+static double time_of(unsigned part) {
+    times all = {0, {0}};
+    for (unsigned t = 0; t < threads; t++) add_times(&all, &workers[t].times);
+    return time_at(&all, part);
 }
+
+/* On a machine that others use a run may make none: then they are those of one. */
+static double per(double much, double of) { return of > 0 ? much / of : much; }
+static double rate_of(happened it) { return it.made / it.used.ns; }
 
 int main(int argc, char **argv) {
     static const char *const names[] = {"bank", "hot", "reads", "own"};
     static int (*const workloads[])(worker *) = {bank, hot, reads, own};
     const way *of = NULL;
     unsigned count = argc == 7 ? (unsigned)atoi(argv[3]) : 0;
-    double median, late, norm;
-    moment m, before, behind;
-    FILE *group;
+    double median, late, later, norm;
+    happened it, before, after;
     for (unsigned k = 0; argc == 7 && k < sizeof ways / sizeof *ways; k++)
         if (!strcmp(ways[k].name, argv[1])) of = &ways[k];
     for (unsigned k = 0; argc == 7 && k < sizeof names / sizeof *names; k++)
@@ -611,18 +581,22 @@ int main(int argc, char **argv) {
     if (!of || !transaction || count < 1 || count > MOST || atoi(argv[6]) < 1 || (of->books > 1 && transaction == hot)) return 2;
     work_ns = strtoul(argv[4], NULL, 10);
     is_pinned = !strcmp(argv[5], "pinned");
-    /* a session of its own, which the scheduler prefers to others if it lets this one ask */
-    if (setsid() > 0 && (group = fopen("/proc/self/autogroup", "w"))) fputs("-20", group), fclose(group);
-    for (unsigned k = 0; k < 3 && !strcmp(argv[5], "robbed"); k++) burn();
+    prefer();
+    if (!strcmp(argv[5], "robbed")) start_busy();
+    alarm(60 + (unsigned)atoi(argv[6]) / 1000);
     for (unsigned k = 0; k < ACCOUNTS; k++) accounts[k] = START;
     before = run(&ways[0], 1, 1, 5);
-    m = run(of, count, 5, (unsigned)atoi(argv[6]));
-    median = time_at(50);
-    late = time_at(99);
-    behind = run(&ways[0], 1, 1, 5);
-    norm = behind.made / behind.ns > before.made / before.ns ? behind.made / behind.ns : before.made / before.ns;
-    printf("%s %s threads=%u work=%s %s norm=%.3f second=%.0f median=%.0f 99th=%.0f processor=%.0f switches=%.0f stolen=%.0f\n", of->name,
-           argv[2], count, argv[4], argv[5], m.made / m.ns / norm, m.made / m.ns * 1e9, median, late,
-           m.used / m.made, m.switches, before.stolen + m.stolen + behind.stolen);
+    it = run(of, count, 5, (unsigned)atoi(argv[6]));
+    median = time_of(500);
+    late = time_of(990);
+    later = time_of(999);
+    after = run(&ways[0], 1, 1, 5);
+    end_busy();
+    norm = rate_of(after) > rate_of(before) ? rate_of(after) : rate_of(before);
+    printf("%s %s threads=%u work=%s %s norm=%.3f second=%.0f least=%.0f most=%.0f ", of->name, argv[2], count, argv[4], argv[5],
+           per(rate_of(it), norm), 1e9 * rate_of(it), it.least, it.most);
+    printf("median=%.0f 99th=%.0f 999th=%.0f processor=%.0f voluntary=%.0f involuntary=%.0f stolen=%.0f\n", median, late, later,
+           per(it.used.processor, it.made), per(1000 * it.used.voluntary, it.made), per(1000 * it.used.involuntary, it.made),
+           before.stolen + it.stolen + after.stolen);
     return 0;
 }
