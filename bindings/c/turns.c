@@ -194,7 +194,7 @@ static void forget_all(void) {
     mine.admission = NULL;
 }
 
-__attribute__((constructor)) static void prepare(void) {
+__attribute__((constructor(101))) static void prepare(void) {
     cpu_set_t processors;
     const int count = sched_getaffinity(0, sizeof processors, &processors) == 0 ? CPU_COUNT(&processors) : MOST_AWAKE;
     most_awake = count < LEAST_AWAKE ? LEAST_AWAKE : count < MOST_AWAKE ? (uint32_t)count : MOST_AWAKE;
